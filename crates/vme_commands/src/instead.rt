@@ -3,9 +3,8 @@
 
 use std::alloc::{AllocError, Global};
 use vcd_read::{Variable, Variables, read_definitions};
-use vme_explain::push_shown;
 use vme_faults::nearest;
-use vme_text::Text;
+use vme_text::{Text, push_shown};
 
 /// How many paths are told, at most.
 const MOST: usize = 3;

@@ -12,10 +12,9 @@ use std::alloc::{AllocError, Global};
 use vcd_read::FaultKind;
 use vme_answer::{Refusal, refusal_line};
 use vme_bind::BindKind;
-use vme_explain::push_shown;
 use vme_faults::{FileKind, Kind, push_page};
 use vme_stream::complain;
-use vme_text::Text;
+use vme_text::{Text, push_shown};
 use vme_trace::Sink;
 
 /// How many columns a line has, at most.

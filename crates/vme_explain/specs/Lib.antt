@@ -2,4 +2,3 @@ pub mod Marks
 pub mod Others
 pub mod Rows
 pub mod Saving
-pub mod Visible

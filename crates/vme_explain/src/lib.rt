@@ -10,8 +10,7 @@
 //! - `rows`: what the rows of a listing say together.
 //! - `excerpt`, `shown`, `values`: the levels around an instant, which lines are shown, and several
 //!   lines as one value.
-//! - `sources`, `visible`, `wrapping`: what lines are bound to; names as they are shown; lines that
-//!   fit a page.
+//! - `sources`, `wrapping`: what lines are bound to; lines that fit a page.
 //! - `viewer`, `saving`: the save file, and whether it may be written where something stands.
 //!
 //! # What is proved
@@ -21,7 +20,8 @@
 //! and [`marks_of`] their characters, [`time_at`] the time of an instant. [`asked_first`] and
 //! [`asked_second`] say of which other events a rule speaks, and [`instant_of`] finds these by the
 //! definitions of vme_trace. [`save_refusal`] refuses to write over an input and over what this
-//! program didn't write; [`is_save_file`] knows what [`save_file`] writes.
+//! program didn't write; [`is_save_file`] knows what [`save_file`] writes. An [`explanation`] has
+//! visible characters, spaces and line feeds alone, whatever the names are.
 //!
 //! # What isn't proved
 //!
@@ -45,7 +45,6 @@ mod sources;
 mod summary;
 mod values;
 mod viewer;
-mod visible;
 mod wrapping;
 
 pub use excerpt::{levels_from, marks_of, time_at};
@@ -56,4 +55,3 @@ pub use page::{Subject, explanation};
 pub use rows::{Part, RowKind, count_of, open_row};
 pub use saving::{FileId, Present, SaveRefusal, save_refusal, save_refusal_text};
 pub use viewer::{is_save_file, save_file};
-pub use visible::push_shown;

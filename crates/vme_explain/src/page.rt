@@ -1,5 +1,8 @@
 //! The text that explains a verdict.
 
+ghost use Rattle.std.specs.Prelude.{IfOk};
+ghost use Rattle.vme_text.specs.Visible.{IsVisible};
+
 use crate::broken::{push_driver, push_others};
 use crate::excerpt::{levels_from, marks_of, time_at};
 use crate::rows::{Part, open_row};
@@ -12,7 +15,7 @@ use std::alloc::{AllocError, Global};
 use vcd_read::Variable;
 use vme_listing::{AnswerLine, Direction, Row, data_digits};
 use vme_rules::push_rule;
-use vme_text::Text;
+use vme_text::{Text, shown_text};
 use vme_trace::{Break, Capture, Class, Lanes, Line, Lines, Verdict};
 
 /// How many instants an excerpt shows before and behind the break.
@@ -40,8 +43,10 @@ pub struct Subject<'a> {
     pub time_unit: u64,
 }
 
-/// Why a recording is judged as it is: what is said behind the line of its verdict.
-pub fn explanation(alloc: Global, subject: &Subject<'_>) -> Result<Text, AllocError> {
+/// Why a recording is judged as it is: what is said behind the line of its verdict, in visible characters alone.
+pub fn explanation(alloc: Global, subject: &Subject<'_>) -> Result<Text, AllocError>
+    ensures { IfOk result (λ text. IsVisible text) }
+{
     let mut text = Text::new(alloc);
     match subject.verdict {
         Verdict::Broken(found) | Verdict::Unreadable(found) => {
@@ -50,7 +55,9 @@ pub fn explanation(alloc: Global, subject: &Subject<'_>) -> Result<Text, AllocEr
         Verdict::Conforming => push_summary(&mut text, alloc, subject)?,
         Verdict::NeverIdle => push_never_idle(&mut text, alloc, subject)?,
     }
-    wrapped(alloc, text.as_bytes())
+    // names are shown already, as lines are wrapped by what is shown; so is whatever else stands there
+    let lines = wrapped(alloc, text.as_bytes())?;
+    shown_text(alloc, lines.as_bytes())
 }
 
 /// Why and where a rule is broken.

@@ -3,9 +3,8 @@
 ghost use Rattle.std.specs.Prelude.{◌≡◌};
 ghost use Rattle.vme_explain.specs.Saving.{is_same, save_refusal};
 
-use crate::visible::push_shown;
 use std::alloc::{AllocError, Global};
-use vme_text::Text;
+use vme_text::{Text, push_shown};
 
 /// Which file of the system a file is, whatever path or link leads to it: its device, and its number there.
 #[derive(Clone, Copy, Debug, PartialEq, Eq)]

@@ -1,9 +1,8 @@
 //! What the lines of a backplane are bound to, read off the text of a binding.
 
-use crate::visible::push_shown;
 use std::alloc::{AllocError, Global};
 use vcd_read::Variable;
-use vme_text::Text;
+use vme_text::{Text, push_shown};
 use vme_trace::{Line, MOST_SLOTS};
 
 /// What a line is bound to.

@@ -7,10 +7,9 @@ ghost use Rattle.vme_explain.specs.Marks.{save_file_mark};
 use crate::excerpt::time_at;
 use crate::page::Subject;
 use crate::sources::{assignment_in, bits_before, bound_to, path_of, variable_of};
-use crate::visible::push_shown;
 use std::alloc::{AllocError, Global};
 use vcd_read::Variable;
-use vme_text::Text;
+use vme_text::{Text, push_shown};
 use vme_trace::{Break, Verdict};
 
 /// How many instants before the break the picture begins.
@@ -154,18 +153,30 @@ fn push_heading(text: &mut Text, name: &str) -> Result<(), AllocError> {
     text.push(b"\n")
 }
 
-/// Appends the name of the dump as it is, since the viewer opens it. A name with a quotation mark, a line feed or
-/// another control character is left out: the viewer can't read it in a save file, and is given the dump by hand.
+/// Appends the name of the dump as it is, since the viewer opens it, and knows no escapes. A name with a quotation mark,
+/// a control character or a mark that turns the direction of a line is left out: the viewer is given the dump by hand.
 fn push_dump(text: &mut Text, name: &[u8]) -> Result<(), AllocError> {
-    if name
-        .iter()
-        .any(|byte| *byte < 0x20 || *byte == 0x7F || *byte == b'"')
-    {
-        return Ok(());
+    for at in 0..name.len() {
+        if begins_unfit(name.get(at..).unwrap_or(b"")) {
+            return Ok(());
+        }
     }
     text.push(b"[dumpfile] \"")?;
     text.push(name)?;
     text.push(b"\"\n")
+}
+
+/// Whether some bytes begin with a character that no name in a save file has: a quotation mark, a control character, or
+/// one that turns the direction of a line, in UTF-8.
+fn begins_unfit(bytes: &[u8]) -> bool {
+    match bytes {
+        [0x00..=0x1F | b'"' | 0x7F, ..] => true,
+        [0xC2, 0x80..=0x9F, ..] => true,
+        [0xD8, 0x9C, ..] => true,
+        [0xE2, 0x80, 0x8E | 0x8F | 0xAA..=0xAE, ..] => true,
+        [0xE2, 0x81, 0xA6..=0xA9, ..] => true,
+        _ => false,
+    }
 }
 
 /// Appends where the picture begins, its scale, and the marker. The viewer counts them in the unit of the time scale.

@@ -110,6 +110,11 @@ fn the_viewer_counts_in_units_and_by_bits(rt: HostRuntime) -> Result<(), Fail> {
     let traces = b"\n@200\n-the broken line\n@28\nb.AS\n@200\n-handshake\n@28\nb.AS\n\
 @200\n-address and data\n@22\nb.AM[5:0]\n[pattern_trace] 1\n[pattern_trace] 0\n";
     assert!(rt; text.as_bytes().ends_with(traces));
+    let unnamed = b"[*] written by vmecheck explain\n[sst_expanded] 0\n";
+    for name in ["a\u{202E}.vcd", "\u{2066}", "b\u{9B}", "\"", "\n"] {
+        let text = save_file(rt.alloc(), &subject, name.as_bytes())?;
+        assert!(rt; text.as_bytes().starts_with(unnamed));
+    }
     assert!(rt; is_save_file(text.as_bytes()));
     assert!(rt; !is_save_file(b"[*] GTKWave Analyzer\n"));
     Ok(())

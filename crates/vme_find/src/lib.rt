@@ -25,7 +25,8 @@
 //!   missing exactly where a dump without a fault lacks it (`err`). So any other dump has a
 //!   binding.
 //! - [`variables_text`] comes only of a dump without a fault (`ok`), and else names the first
-//!   (`err`).
+//!   (`err`). It has visible characters, spaces and line feeds alone (`visible`), whatever the names
+//!   are; so has what is told of a binding.
 //! - [`time_unit`] is at least 1.
 //!
 //! # What isn't proved

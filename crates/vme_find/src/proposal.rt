@@ -5,7 +5,7 @@ use crate::fitting::{AtRest, Fitted};
 use crate::groups::group_of;
 use crate::paths::{Naming, Paths, selection_of};
 use std::alloc::{AllocError, Global};
-use vme_text::Text;
+use vme_text::{Text, push_shown};
 use vme_trace::{LINE_COUNT, Line, MOST_SLOTS};
 
 /// What to know of a line that wasn't found, by the beginning of its name.
@@ -210,16 +210,16 @@ impl<'a> Proposal<'a> {
         let fitted = self.fitted;
         if self.is_any_named() {
             self.text.push(b"# Found by the names in the scope ")?;
-            push_scope(&mut self.text, &fitted.found.scope)?;
+            push_scope(&mut self.text, self.alloc, &fitted.found.scope)?;
             self.text.push(b": look each line over.\n")?;
         } else {
             self.text.push(b"# NOTHING IS BOUND: no variable ")?;
-            push_searched(&mut self.text, &fitted.found)?;
+            push_searched(&mut self.text, self.alloc, &fitted.found)?;
             self.text.push(NOTHING_BOUND.as_bytes())?;
         }
         for scope in &fitted.found.others {
             self.text.push(b"# Names of lines stand also in ")?;
-            push_scope(&mut self.text, scope)?;
+            push_scope(&mut self.text, self.alloc, scope)?;
             self.text.push(b".\n")?;
         }
         self.text.push(b"slots ")?;
@@ -444,7 +444,9 @@ impl<'a> Proposal<'a> {
         self.text.push(b" was found, but the dump has different variables of the path ")?;
         let paths = self.paths;
         if let Some(variable) = paths.variable(variable) {
-            paths.push_path(&mut self.text, variable)?;
+            let mut path = Text::new(self.alloc);
+            paths.push_path(&mut path, variable)?;
+            push_shown(&mut self.text, self.alloc, path.as_bytes())?;
         }
         self.text.push(AMBIGUOUS.as_bytes())?;
         self.push_hint(name)
@@ -473,23 +475,27 @@ impl<'a> Proposal<'a> {
     }
 }
 
-/// Appends the path of a scope.
-fn push_scope(text: &mut Text, scope: &[u8]) -> Result<(), AllocError> {
+/// Appends the path of a scope, as it is shown to people.
+fn push_scope(text: &mut Text, alloc: Global, scope: &[u8]) -> Result<(), AllocError> {
     if scope.is_empty() {
         text.push(b"(none)")
     } else {
-        text.push(scope)
+        push_shown(text, alloc, scope)
     }
 }
 
 /// Appends where lines were looked for: in the whole dump, or in the scope that was asked.
-pub(crate) fn push_searched(text: &mut Text, found: &Findings) -> Result<(), AllocError> {
+pub(crate) fn push_searched(
+    text: &mut Text,
+    alloc: Global,
+    found: &Findings,
+) -> Result<(), AllocError> {
     if !found.is_asked {
         text.push(b"of the dump")
     } else if found.scope.is_empty() {
         text.push(b"outside of all scopes")
     } else {
         text.push(b"in scope ")?;
-        text.push(&found.scope)
+        push_shown(text, alloc, &found.scope)
     }
 }

@@ -1,10 +1,13 @@
 //! What was found for the lines of a backplane, in one line for people.
 
+ghost use Rattle.std.specs.Prelude.{IfOk};
+ghost use Rattle.vme_text.specs.Visible.{IsVisible};
+
 use crate::fitting::Fitted;
 use crate::groups::group_of;
 use crate::proposal::{Proposal, push_searched};
 use std::alloc::{AllocError, Global};
-use vme_text::Text;
+use vme_text::{Text, shown_text};
 use vme_trace::{Line, MOST_SLOTS};
 
 /// How many groups of lines a binding names.
@@ -104,7 +107,15 @@ pub(crate) fn is_bus(proposal: &Proposal<'_>) -> bool {
 
 /// The line that says how many groups are bound, in which scope, of how many slots, and which aren't; and why a check
 /// by the binding judges nothing, if so.
-pub(crate) fn told(alloc: Global, proposal: &Proposal<'_>, slots: u8) -> Result<Text, AllocError> {
+pub(crate) fn told(alloc: Global, proposal: &Proposal<'_>, slots: u8) -> Result<Text, AllocError>
+    ensures { IfOk result (λ text. IsVisible text) }
+{
+    let line = line_told(alloc, proposal, slots)?;
+    shown_text(alloc, line.as_bytes())
+}
+
+/// The same, with the path of a scope as it is.
+fn line_told(alloc: Global, proposal: &Proposal<'_>, slots: u8) -> Result<Text, AllocError> {
     let mut text = Text::new(alloc);
     text.push(b"vmecheck: bound ")?;
     let bound = count(proposal, slots, GroupState::Bound);
@@ -114,7 +125,7 @@ pub(crate) fn told(alloc: Global, proposal: &Proposal<'_>, slots: u8) -> Result<
     text.push(b" groups")?;
     if proposal.fitted().named == 0 {
         text.push(b": no variable ")?;
-        push_searched(&mut text, &proposal.fitted().found)?;
+        push_searched(&mut text, alloc, &proposal.fitted().found)?;
         text.push(b" is named as a line of a VMEbus")?;
         text.push(REMEDY.as_bytes())?;
         text.push(b"\n")?;
@@ -136,12 +147,14 @@ pub(crate) fn told(alloc: Global, proposal: &Proposal<'_>, slots: u8) -> Result<
 }
 
 /// The line that says that even what was found makes no recording of the dump.
-pub(crate) fn told_constants(alloc: Global) -> Result<Text, AllocError> {
-    let mut text = Text::new(alloc);
-    text.push(b"vmecheck: bound 0 of 19 groups: what was found makes no recording of the dump")?;
-    text.push(REMEDY.as_bytes())?;
-    text.push(b"\n")?;
-    Ok(text)
+pub(crate) fn told_constants(alloc: Global) -> Result<Text, AllocError>
+    ensures { IfOk result (λ text. IsVisible text) }
+{
+    let mut line = Text::new(alloc);
+    line.push(b"vmecheck: bound 0 of 19 groups: what was found makes no recording of the dump")?;
+    line.push(REMEDY.as_bytes())?;
+    line.push(b"\n")?;
+    shown_text(alloc, line.as_bytes())
 }
 
 /// How many groups are bound so.

@@ -1,24 +1,26 @@
 //! The variables of a dump as text.
 
-ghost use Rattle.std.specs.Prelude.{◌≡◌, List, IfErr, Ok, OnOk};
+ghost use Rattle.std.specs.Prelude.{◌≡◌, List, IfErr, IfOk, Ok, OnOk};
 ghost use Rattle.vcd_read.specs.Meaning.{ReadFails, dump_of, instants_from};
 ghost use Rattle.vcd_read.specs.declared.dump.Instant.{Instant};
 ghost use Rattle.vcd_read.specs.declared.fault.FaultKind.TheVariants.{Memory};
 ghost use Rattle.vme_find.specs.Recordings.{IsDump};
+ghost use Rattle.vme_text.specs.Visible.{IsVisible};
 
 use crate::changes::ChangeCounts;
 use crate::timescale::push_timescale;
 use std::alloc::{AllocError, Global};
 use vcd_read::{FaultKind, Head, Variable, Variables, VcdFault, read_definitions};
-use vme_text::Text;
+use vme_text::{Text, shown_text};
 
 /// The variables of the text of a dump, one a line in the order of their declaration: how many changes the dump has of
 /// each, how many bits it has, and its path with its index, as a binding names it. Before them stand the time scale and
-/// the last time.
+/// the last time. A byte of a name that isn't a visible character is written as `\xHH`.
 ///
 /// A text comes only of a dump without a fault. A fault is the dump's first one; at line 0 it is want of memory.
 pub fn variables_text(alloc: Global, dump: &[u8]) -> Result<Text, VcdFault>
     ensures ok { OnOk result (IsDump dump.now) }
+    ensures visible { IfOk result (λ text. IsVisible text) }
     ensures err { IfErr result (λ fault. ReadFails fault (dump_of dump.now)) }
 {
     match read_definitions(alloc, dump, Variables::new(alloc)) {
@@ -35,6 +37,7 @@ fn variables_behind(
     variables: &[Variable],
 ) -> Result<Text, VcdFault>
     ensures ok { OnOk result ((instants : List Instant) × instants_from head.now.nets head.now.body ≡ Ok instants) }
+    ensures visible { IfOk result (λ text. IsVisible text) }
     ensures err { IfErr result (λ fault. ReadFails fault (instants_from head.now.nets head.now.body)) }
 {
     match changes_in(alloc, head) {
@@ -66,7 +69,21 @@ fn no_memory() -> VcdFault
     }
 }
 
+/// The text as it is shown to people.
 fn written(
+    alloc: Global,
+    dump: &[u8],
+    variables: &[Variable],
+    changes: &ChangeCounts,
+) -> Result<Text, AllocError>
+    ensures { IfOk result (λ text. IsVisible text) }
+{
+    let lines = lines_of(alloc, dump, variables, changes)?;
+    shown_text(alloc, lines.as_bytes())
+}
+
+/// The lines of the text, with the names as they are.
+fn lines_of(
     alloc: Global,
     dump: &[u8],
     variables: &[Variable],

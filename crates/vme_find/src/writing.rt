@@ -7,6 +7,7 @@ ghost use Rattle.vcd_read.specs.declared.fault.FaultKind.TheVariants.{Memory};
 ghost use Rattle.vme_find.specs.Recordings.{AreSlots, HasSlots, IsDump, IsFindFault, MakesRecording};
 ghost use Rattle.vme_find.specs.Scopes.{HasScope};
 ghost use Rattle.vme_find.specs.declared.writing.FindFault.TheVariants.{Dump};
+ghost use Rattle.vme_text.specs.Visible.{IsVisible};
 
 use crate::constants::constant_text;
 use crate::declared::{DeclaredNames, NamesReader};
@@ -28,11 +29,12 @@ pub struct FoundBinding {
     /// The text of the binding.
     pub text: Text,
     /// A line for people, from `vmecheck: ` to its end: how many of the 19 groups of lines are bound to variables, in
-    /// which scope, which aren't, and why a check by the binding judges nothing, if so.
+    /// which scope, which aren't, and why a check by the binding judges nothing, if so. It has visible characters alone.
     pub told: Text,
     /// Whether AS, a strobe and DTACK are bound to variables, and AS moves in the dump: else a check by the binding
     /// judges no cycle.
     pub is_bus: bool,
+    ghost visible: { IsVisible told },
 }
 
 /// Why there is no binding for a dump.

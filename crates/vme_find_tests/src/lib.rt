@@ -2,8 +2,9 @@
 //!
 //! The lines of the bindings and of the texts stand beside the dumps: names of several styles,
 //! escaped names, ambiguous paths, data lines, SYSRESET found and left out, dumps without a bus,
-//! and what is bound where a line wasn't found. `each_growth_fails_once` is made for
-//! `tests/memory/run`, which refuses each of its allocations in turn.
+//! what is bound where a line wasn't found, and names that steer a terminal.
+//! `each_growth_fails_once` is made for `tests/memory/run`, which refuses each of its allocations in
+//! turn.
 //!
 //! Not tried here: the names of 32 styles, which `tests/bindings/run` has, and whether what is
 //! found is judged right.

@@ -322,3 +322,35 @@ fn a_scope_that_is_not_there_is_told(rt: HostRuntime) -> Result<(), Fail> {
     }
     Ok(())
 }
+
+/// Names that turn the direction of a line and steer a terminal.
+const STEERING: &str =
+    "$scope module \u{202e}bus $end\n$var wire 1 p AS $end\n$var wire 1 q a\x1b[31m $end\n$upscope $end\n\
+$enddefinitions $end\n#0 1p 1q\n#5 0p\n";
+
+#[test]
+fn names_are_shown_by_visible_characters(rt: HostRuntime) -> Result<(), Fail> {
+    let alloc = rt.alloc();
+    let shown =
+        "time scale none\nlast time 5\nchanges bits variable\n      2     1 \\xE2\\x80\\xAEbus.AS\n\
+\x20     1     1 \\xE2\\x80\\xAEbus.a\\x1B[31m\n";
+    match variables_text(alloc, STEERING.as_bytes()) {
+        Ok(text) => assert_eq!(rt; text.as_bytes(), shown.as_bytes()),
+        Err(_) => assert!(rt; false),
+    }
+    let head = "# Found by the names in the scope \\xE2\\x80\\xAEbus: look";
+    assert!(rt; binding_has(alloc, STEERING, head));
+    // a path is bound by its bytes
+    assert!(rt; binding_has(alloc, STEERING, "\nAS = \u{202e}bus.AS\n"));
+    match write_binding(alloc, STEERING.as_bytes(), None, None) {
+        Ok(found) => {
+            let told = memmem::find(
+                found.told.as_bytes(),
+                b" in scope \\xE2\\x80\\xAEbus, 1 slot",
+            );
+            assert!(rt; told.is_some());
+        }
+        Err(_) => assert!(rt; false),
+    }
+    Ok(())
+}

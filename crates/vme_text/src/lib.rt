@@ -1,11 +1,16 @@
 //! Text for people, made piece by piece.
 //!
-//! The one module is `text`: a [`Text`] grows by bytes, decimal numbers and spaces.
+//! # Parts
+//!
+//! - `text`: a [`Text`] grows by bytes, decimal numbers and spaces.
+//! - `visible`: [`push_shown`], names as they are shown to people; [`shown_text`], whole texts.
 //!
 //! # What is proved
 //!
 //! A text grows by exactly what was pushed (`ok`), and every call leaves it as it was where there
-//! is no memory (`err`).
+//! is no memory (`err`). What isn't a visible character or a space is shown as `\xHH` (`ok` of
+//! `push_shown`, `items`), but for the line feeds of a whole text, which then has nothing else
+//! (`visible`).
 //!
 //! # What isn't proved
 //!
@@ -13,5 +18,7 @@
 #![tactic(auto)]
 
 mod text;
+mod visible;
 
 pub use text::Text;
+pub use visible::{push_shown, shown_text};

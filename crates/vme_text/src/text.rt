@@ -27,6 +27,13 @@ impl Text {
         }
     }
 
+    /// The text of some bytes.
+    pub(crate) fn from_bytes(bytes: Vec<u8>) -> Text
+        ensures { result ≡ bytes.items }
+    {
+        Text { bytes }
+    }
+
     /// The bytes.
     pub fn as_bytes(&self) -> &[u8]
         ensures { result.now ≡ self.now }

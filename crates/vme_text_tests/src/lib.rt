@@ -1,6 +1,8 @@
-//! Tests of vme_text: bytes, spaces and a number, compared with the text that they make.
+//! Tests of vme_text: bytes, spaces and a number, compared with the text that they make, and what
+//! is shown of a byte of each kind.
 //!
-//! Memory that is refused isn't tried here: the contracts say what is left then.
+//! `each_growth_fails_once` is made for `tests/memory/run`, which refuses each of its allocations in
+//! turn.
 #![tactic(auto)]
 
 #[cfg(test)]

@@ -1,0 +1,51 @@
+-- What is shown to people has visible characters and line feeds alone.
+use Rattle.std.proofs.Common.{◌≡◌, ℕ, ◌+◌, ◌/◌, ◌%◌, ◌<◌, ◌≤◌, ◌++◌, ◌∷◌, ◌&&◌, ◌==◌, Bool, List, [], true, false}
+use Rattle.std.proofs.Common.{◌∙◌, arith, flat_map, if◌then◌else◌, le-leb, nat_le, nat_lt, refl}
+use Rattle.std.proofs.lemmas.Bool.{and_from, or_left, or_right}
+use Rattle.std.proofs.lemmas.List.Folds.{list_all-append}
+use Rattle.std.specs.List.{list_all}
+use Rattle.vme_text.specs.Visible.{digit_of, is_visible, shown_byte, shown_in_text}
+
+visible-character : (b : ℕ) → 32 ≤ b → b ≤ 126 → is_visible b ≡ true
+visible-character b least most =
+    or_left (nat_le 32 b && nat_le b 126) (b == 10) (and_from (nat_le 32 b) (nat_le b 126) (le-leb 32 b least)
+    (le-leb b 126 most))
+
+visible-digit : (n : ℕ) → n < 16 → is_visible (digit_of n) ≡ true
+visible-digit n low = by_test (nat_lt n 10)
+  where
+    by_test : (t : Bool) → is_visible (if t then 48 + n else 55 + n) ≡ true
+    by_test true = visible-character (48 + n) (omega arith) (omega (arith, low))
+    by_test false = visible-character (55 + n) (omega arith) (omega (arith, low))
+
+visible-first : (b : ℕ) (bs : List ℕ) → is_visible b ≡ true → list_all is_visible bs ≡ true
+    → list_all is_visible (b ∷ bs) ≡ true
+visible-first b bs first rest = and_from (is_visible b) (list_all is_visible bs) first rest
+
+visible-both : (xs ys : List ℕ) → list_all is_visible xs ≡ true → list_all is_visible ys ≡ true
+    → list_all is_visible (xs ++ ys) ≡ true
+visible-both xs ys first rest =
+    list_all-append is_visible xs ys ∙ and_from (list_all is_visible xs) (list_all is_visible ys) first rest
+
+visible-byte : (b : ℕ) → list_all is_visible (shown_byte b) ≡ true
+visible-byte b = by_test (nat_le 32 b && nat_le b 126) refl
+  where
+    by_test : (t : Bool) → (nat_le 32 b && nat_le b 126) ≡ t
+        → list_all is_visible
+        (if t then b ∷ [] else 92 ∷ 120 ∷ digit_of (b / 16 % 16) ∷ digit_of (b % 16) ∷ []) ≡ true
+    by_test true e = visible-first b [] (or_left (nat_le 32 b && nat_le b 126) (b == 10) e) refl
+    by_test false e =
+        let last = visible-first (digit_of (b % 16)) [] (visible-digit (b % 16) (omega arith)) refl in
+        visible-first (digit_of (b / 16 % 16)) (digit_of (b % 16) ∷ []) (visible-digit (b / 16 % 16) (omega arith)) last
+
+visible-in_text : (b : ℕ) → list_all is_visible (shown_in_text b) ≡ true
+visible-in_text b = by_test (b == 10) refl
+  where
+    by_test : (t : Bool) → (b == 10) ≡ t → list_all is_visible (if t then b ∷ [] else shown_byte b) ≡ true
+    by_test true e = visible-first b [] (or_right (nat_le 32 b && nat_le b 126) (b == 10) e) refl
+    by_test false e = visible-byte b
+
+pub text_is_visible : (bs : List ℕ) → list_all is_visible (flat_map shown_in_text bs) ≡ true
+text_is_visible [] = refl
+text_is_visible (b ∷ bs) =
+    visible-both (shown_in_text b) (flat_map shown_in_text bs) (visible-in_text b) (text_is_visible bs)

@@ -1,0 +1,25 @@
+-- Bytes as they are shown to people.
+use Rattle.std.specs.Prelude.{◌≡◌, ℕ, ◌+◌, ◌/◌, ◌%◌, Bool, true, ◌&&◌, ◌||◌, ◌==◌, ◌∷◌, [], List, nat_le, nat_lt}
+use Rattle.std.specs.Prelude.{if◌then◌else◌}
+use Rattle.std.specs.List.{list_all}
+
+-- the hexadecimal digit of a number below 16: 0 to 9 from 48 on, A to F from 65 on
+abbrev pub digit_of : ℕ → ℕ
+digit_of n = if nat_lt n 10 then 48 + n else 55 + n
+
+-- a space or a visible character as it is, any other byte as a backslash, an x and its last two digits
+abbrev pub shown_byte : ℕ → List ℕ
+shown_byte b =
+    if nat_le 32 b && nat_le b 126 then b ∷ [] else 92 ∷ 120 ∷ digit_of (b / 16 % 16) ∷ digit_of (b % 16) ∷ []
+
+-- in a text of several lines their ends stay
+abbrev pub shown_in_text : ℕ → List ℕ
+shown_in_text b = if b == 10 then b ∷ [] else shown_byte b
+
+-- a byte is a space, a visible character or a line feed
+abbrev pub is_visible : ℕ → Bool
+is_visible b = (nat_le 32 b && nat_le b 126) || b == 10
+
+-- nothing else stands in the text
+abbrev pub IsVisible : List ℕ → Type 0
+IsVisible text = list_all is_visible text ≡ true
