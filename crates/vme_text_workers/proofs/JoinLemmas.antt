@@ -1,7 +1,7 @@
 -- Pieces that are joined in order, and what comes of the text.
 use Rattle.std.proofs.Common.{◌≡◌, ℕ, suc, ◌+◌, ◌<◌, add-one, drop, List, [], ◌∷◌, ◌++◌, length, get_or, Option, None}
-use Rattle.std.proofs.Common.{Some, ◌⊎◌, inl, inr, refl, sym, ap, subst, ◌∙◌, arith, append_assoc}
-use Rattle.std.specs.Prelude.{IfSome}
+use Rattle.std.proofs.Common.{Some, ◌⊎◌, inl, inr, refl, sym, ap, subst, ◌∙◌, append_assoc}
+use Rattle.std.specs.Prelude.{IfSome, slice_get}
 use Rattle.std.proofs.Math.Seq.{drop-cons}
 use Rattle.vme_trace.specs.Followed.{with_steps}
 use Rattle.vme_trace.specs.Levels.{Levels}
@@ -74,12 +74,14 @@ module _ (pieces : List DumpPiece) (t u : TextReached) (piece : DumpPiece) (left
 -- ---- pieces that were read ahead
 
 pub are-ahead : (w : WaveReached) (pieces : List DumpPiece) (all : List (Option (ReadSpeculatively × Trace)))
-    → ((place : ℕ) → place < length pieces → IsAheadAt w pieces place (get_or all place None)) → AreAhead w.body.nets
-    w.line_bits pieces all
+    → ((place : ℕ) (one : ReadSpeculatively × Trace) → slice_get all place ≡ Some (Some one)
+    → IsAheadAt w pieces place (Some one)) → AreAhead w.body.nets w.line_bits pieces all
 are-ahead w [] all h = tt
 are-ahead w (piece ∷ pieces) [] h = tt
-are-ahead w (piece ∷ pieces) (one ∷ all) h =
-    (h 0 (omega arith) piece refl, are-ahead w pieces all (λ place lt p at. h (suc place) (omega arith) p at))
+are-ahead w (piece ∷ pieces) (None ∷ all) h =
+    (tt, are-ahead w pieces all (λ place one is p at. h (suc place) one is p at))
+are-ahead w (piece ∷ pieces) (Some one ∷ all) h =
+    (h 0 one refl piece refl, are-ahead w pieces all (λ place one is p at. h (suc place) one is p at))
 
 module _ (nets : List Net) (taps : NetLines) (pieces left : List DumpPiece) (piece : DumpPiece)
     (all rest : List (Option (ReadSpeculatively × Trace))) (one : Option (ReadSpeculatively × Trace))

@@ -1,4 +1,5 @@
 pub mod CutLemmas
 pub mod JoinLemmas
+pub mod PlaceLemmas
 pub mod ReadLemmas
 pub mod RunLemmas

@@ -7,6 +7,9 @@ use memchr::{memchr, memrchr};
 use std::alloc::{AllocError, Global};
 use vcd_read::{line_feeds, whole_tokens};
 
+/// How many pieces of a text there are for each worker, at most.
+const PIECES_A_WORKER: u32 = 4;
+
 /// A piece of a text, and the line that it begins on.
 #[derive(Clone, Copy)]
 pub(crate) struct DumpPiece<'t> {
@@ -66,21 +69,35 @@ pub(crate) fn cut_at_last_time(text: &[u8]) -> Option<(&[u8], &[u8])>
     Some(cut_before(text, place))
 }
 
-/// A text that begins on this line, cut into so many pieces at most, of about the same size. Each but the first begins
+/// How long the next piece is to be, behind so many that were cut off, where each worker's share is so long: half of it
+/// for each worker's first, a quarter for its second, and an eighth for the others. So all begin with long pieces, and
+/// end with short ones.
+fn piece_size(share: usize, workers: usize, before: usize) -> usize {
+    if before < workers {
+        share / 2
+    } else if before < workers.saturating_mul(2) {
+        share / 4
+    } else {
+        share / 8
+    }
+}
+
+/// A text that begins on this line, cut into pieces for so many workers, the longest first. Each but the first begins
 /// with a time.
 pub(crate) fn cut<'t>(
     alloc: Global,
     text: &'t [u8],
     line: u64,
-    most: u32,
+    workers: u32,
 ) -> Result<Vec<DumpPiece<'t>>, AllocError>
     ensures { IfOk result (λ pieces. ArePiecesOf text.now pieces.items) }
 {
-    let size = text.len() / (most as usize).max(1);
+    let share = text.len() / (workers as usize).max(1);
     let mut pieces = Vec::new(alloc);
     let mut left = text;
     let mut line = line;
-    for _ in 1..most {
+    for _ in 1..workers.saturating_mul(PIECES_A_WORKER) {
+        let size = piece_size(share, workers as usize, pieces.len());
         let Some((bytes, behind)) = cut_at_time(left, size) else {
             break;
         };

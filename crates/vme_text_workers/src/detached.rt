@@ -1,10 +1,12 @@
 //! Calls that are made side by side.
 
-ghost use Rattle.std.specs.Prelude.{◌≡◌, ◌<◌, ℕ, length, IfOk, vec_len};
+ghost use Rattle.std.specs.Prelude.{◌≡◌, ◌<◌, ℕ, All, length, IfOk, IfSome, vec_len};
 ghost use Rattle.std.specs.Fork.{GivesEach};
 ghost use Rattle.std.specs.Thread.{IsSync, IsSend};
+ghost use Rattle.vme_text_workers.specs.Calls.{AreOfPlaces, StandAsGiven};
 
 use std::alloc::{AllocError, Global};
+use std::sync::atomic::{AtomicUsize, Ordering};
 use std::thread::{Threads, join_mut};
 
 /// Calls `f` at this place, and keeps what it returns. It stands apart, so that `call_both` takes no room for it.
@@ -65,7 +67,7 @@ fn call_each<R: Threads + Sync, X: Send + Drop, F: Fn(usize) -> Option<X> + Sync
 /// where one can be made. The calling thread starts all of them and waits, so that each finds a processor: the system
 /// is late to spread threads that start one another, or of which one works where it started the others. There is room
 /// for what is given before a thread is started. The only error is want of memory.
-pub(crate) fn map_places<R: Threads + Sync, X: Send + Drop, F: Fn(usize) -> Option<X> + Sync>(
+fn map_threads<R: Threads + Sync, X: Send + Drop, F: Fn(usize) -> Option<X> + Sync>(
     rt: &R,
     alloc: Global,
     count: usize,
@@ -79,4 +81,151 @@ pub(crate) fn map_places<R: Threads + Sync, X: Send + Drop, F: Fn(usize) -> Opti
     all.resize_with(count, || None)?;
     call_each(rt, f, all.as_mut_slice());
     Ok(all)
+}
+
+/// Calls `f` at this place, and keeps what it gives beside the place. For want of memory it isn't kept.
+fn take_place<X: Drop, F: Fn(usize) -> Option<X>>(f: &F, place: usize, taken: &mut Vec<(usize, X)>)
+    requires place { F.pre f.now place }
+    requires taken { AreOfPlaces (F.post f.now) taken.old.items }
+    ensures { AreOfPlaces (F.post f.now) taken.new.items }
+{
+    let Some(given) = f(place) else {
+        return;
+    };
+    let _ = taken.push((place, given));
+}
+
+/// Calls `f` at each place that the counter hands out, as long as these are below this count, and keeps what it gives.
+fn take_places<X: Drop, F: Fn(usize) -> Option<X>>(
+    alloc: Global,
+    next: &AtomicUsize,
+    count: usize,
+    f: &F,
+) -> Vec<(usize, X)>
+    requires { (i : ℕ) → i < count → F.pre f.now i }
+    ensures { AreOfPlaces (F.post f.now) result.items }
+{
+    let mut taken = Vec::new(alloc);
+    for _ in 0..count {
+        let place = next.fetch_add(1, Ordering::SeqCst);
+        if place >= count {
+            break;
+        }
+        take_place(f, place, &mut taken);
+    }
+    taken
+}
+
+/// So many places at which nothing stands. The only error is want of memory.
+fn empty_places<X: Drop>(alloc: Global, count: usize) -> Result<Vec<Option<X>>, AllocError>
+    ensures { IfOk result (λ all. All (λ one. one ≡ None) all.items) }
+{
+    let mut all = Vec::with_capacity(alloc, count)?;
+    for _ in 0..count {
+        all.push(None)?;
+    }
+    Ok(all)
+}
+
+/// Puts what a call gave at its place, if there is such a place.
+fn put<X: Drop, F: Fn(usize) -> Option<X>>(_f: &F, all: &mut [Option<X>], place: usize, given: X)
+    requires given { F.post _f.now place (Some given) }
+    requires all { StandAsGiven (F.post _f.now) all.old }
+    ensures { StandAsGiven (F.post _f.now) all.new }
+{
+    if place >= all.len() {
+        return;
+    }
+    all[place] = Some(given);
+}
+
+/// Puts what a thread took at its places.
+fn put_taken<X: Drop, F: Fn(usize) -> Option<X>>(
+    _f: &F,
+    all: &mut [Option<X>],
+    taken: Vec<(usize, X)>,
+)
+    requires taken { AreOfPlaces (F.post _f.now) taken.items }
+    requires all { StandAsGiven (F.post _f.now) all.old }
+    ensures { StandAsGiven (F.post _f.now) all.new }
+{
+    let mut left = taken;
+    while let Some((place, given)) = left.pop() {
+        put(_f, all, place, given);
+    }
+}
+
+/// The same, if the thread took anything.
+fn put_if_taken<X: Drop, F: Fn(usize) -> Option<X>>(
+    _f: &F,
+    all: &mut [Option<X>],
+    taken: Option<Vec<(usize, X)>>,
+)
+    requires taken { IfSome taken (λ ones. AreOfPlaces (F.post _f.now) ones.items) }
+    requires all { StandAsGiven (F.post _f.now) all.old }
+    ensures { StandAsGiven (F.post _f.now) all.new }
+{
+    let Some(ones) = taken else {
+        return;
+    };
+    put_taken(_f, all, ones);
+}
+
+/// Puts what each of several threads took at its places.
+fn put_each<X: Drop, F: Fn(usize) -> Option<X>>(
+    _f: &F,
+    all: &mut [Option<X>],
+    takers: Vec<Option<Vec<(usize, X)>>>,
+)
+    requires takers { All (λ taken. IfSome taken (λ ones. AreOfPlaces (F.post _f.now) ones.items)) takers.items }
+    requires all { StandAsGiven (F.post _f.now) all.old }
+    ensures { StandAsGiven (F.post _f.now) all.new }
+{
+    let mut left = takers;
+    while let Some(taken) = left.pop() {
+        put_if_taken(_f, all, taken);
+    }
+}
+
+/// What several threads took, each at its place among so many. The only error is want of memory. It stands apart, so
+/// that the threads are started where the stack has no room for it yet.
+#[inline(never)]
+fn in_places<X: Drop, F: Fn(usize) -> Option<X>>(
+    alloc: Global,
+    count: usize,
+    _f: &F,
+    takers: Vec<Option<Vec<(usize, X)>>>,
+) -> Result<Vec<Option<X>>, AllocError>
+    requires { All (λ taken. IfSome taken (λ ones. AreOfPlaces (F.post _f.now) ones.items)) takers.items }
+    ensures { IfOk result (λ all. StandAsGiven (F.post _f.now) all.items) }
+{
+    let mut all = empty_places(alloc, count)?;
+    put_each(_f, all.as_mut_slice(), takers);
+    Ok(all)
+}
+
+/// Calls `f` at places below this count, and gives what it returns, each at its place. So many threads, as far as they
+/// can be made, take the places in order, each the next one as soon as it is done with one: so one on a processor that
+/// is slower takes fewer. For want of memory nothing stands at some places. The only error is want of memory.
+pub(crate) fn map_places<R: Threads + Sync, X: Send + Drop, F: Fn(usize) -> Option<X> + Sync>(
+    rt: &R,
+    alloc: Global,
+    threads: usize,
+    count: usize,
+    f: &F,
+) -> Result<Vec<Option<X>>, AllocError>
+    requires { (i : ℕ) → i < count → F.pre f.now i }
+    ensures { IfOk result (λ all. StandAsGiven (F.post f.now) all.items) }
+{
+    let next = AtomicUsize::new(0);
+    let takers = map_threads(
+        rt,
+        alloc,
+        threads.min(count),
+        &|_: usize| -> Option<Vec<(usize, X)>>
+            requires { (i : ℕ) → i < count → F.pre f.now i }
+            ensures { IfSome result (λ taken. AreOfPlaces (F.post f.entry.now) taken.items) }
+        { Some(take_places(alloc, &next, count, f)) },
+    )?;
+    in_places(alloc, count, f, takers)
 }

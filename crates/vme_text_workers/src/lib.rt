@@ -9,8 +9,9 @@
 //!   likely stand there, and judged as it is read.
 //! - `speculation`: whether these were guessed wrong. What the parts do to the lines is then read
 //!   first.
-//! - `detached`: calls that are made side by side, each in a thread of its own where one can be
-//!   made.
+//! - `detached`: calls that are made side by side, by as many threads as there are workers, where
+//!   these can be made. There are four parts for each, the longest first, and a thread that is done
+//!   with one takes the next.
 //! - `joining`: the parts joined in order. One that was read from other levels than really stand
 //!   before it is read again, from those.
 //! - `in_order`: from the first part that doesn't fit on, they are read in order.
@@ -23,9 +24,9 @@
 //!
 //! # What isn't proved
 //!
-//! That workers overlap, how fast they are, how often a guess is right, and that memory suffices.
-//! `tests/workers/run` compares what the program answers by 1, 2, 3, 4 and 64 workers; this crate
-//! has no tests of its own.
+//! That workers overlap, how fast they are, that each part is taken by one of them, how often a
+//! guess is right, and that memory suffices. `tests/workers/run` compares what the program answers
+//! by 1, 2, 3, 4 and 64 workers; this crate has no tests of its own.
 //!
 //! # Limits
 //!

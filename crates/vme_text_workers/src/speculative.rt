@@ -75,10 +75,11 @@ fn read_ahead<J: ChunkJudge>(
     }
 }
 
-/// Reads each piece ahead from the levels that likely stand before it, by a thread of its own.
+/// Reads each piece ahead from the levels that likely stand before it, by so many threads.
 pub(crate) fn read_each_guessed<R: Threads + Sync, J: ChunkJudge + Send>(
     rt: &R,
     alloc: Global,
+    threads: usize,
     wave: &SpeculativeReader,
     pieces: &[DumpPiece<'_>],
 ) -> Result<Vec<Option<(SpeculativeChunk, JudgedChunks<J>)>>, AllocError>
@@ -87,6 +88,7 @@ pub(crate) fn read_each_guessed<R: Threads + Sync, J: ChunkJudge + Send>(
     let all = map_places(
         rt,
         alloc,
+        threads,
         pieces.len(),
         &|place: usize| -> Option<(SpeculativeChunk, JudgedChunks<J>)>
             requires { place < length pieces.now }
@@ -114,12 +116,13 @@ fn behind(ahead: &SpeculativeChunk, before: &Lines) -> Option<Lines>
     Some(ahead.levels_behind(before))
 }
 
-/// The levels before each piece: what the pieces before it do to the lines is read first, each by a thread of its own.
+/// The levels before each piece: what the pieces before it do to the lines is read first, by so many threads.
 /// They aren't known behind a piece that can't be read ahead. Whether a guess would have been wrong is noted. The only
 /// error is want of memory.
 pub(crate) fn levels_before_each<R: Threads + Sync>(
     rt: &R,
     alloc: Global,
+    threads: usize,
     wave: &SpeculativeReader,
     pieces: &[DumpPiece<'_>],
     speculation: &Speculation,
@@ -129,6 +132,7 @@ pub(crate) fn levels_before_each<R: Threads + Sync>(
     let read = map_places(
         rt,
         alloc,
+        threads,
         pieces.len().saturating_sub(1),
         &|place: usize| -> Option<(SpeculativeChunk, Lines)>
             requires { place < length pieces.now }
@@ -185,10 +189,11 @@ pub(crate) fn levels_to_read_again<J: ChunkJudge>(
     Ok(again)
 }
 
-/// Reads each piece from its levels, if there are any, by a thread of its own. Where there are none, nothing is read.
+/// Reads each piece from its levels, if there are any, by so many threads. Where there are none, nothing is read.
 pub(crate) fn read_from<R: Threads + Sync, J: ChunkJudge + Send>(
     rt: &R,
     alloc: Global,
+    threads: usize,
     wave: &SpeculativeReader,
     pieces: &[DumpPiece<'_>],
     levels: &[Option<Lines>],
@@ -202,6 +207,7 @@ pub(crate) fn read_from<R: Threads + Sync, J: ChunkJudge + Send>(
     let all = map_places(
         rt,
         alloc,
+        threads,
         pieces.len(),
         &|place: usize| -> Option<(SpeculativeChunk, JudgedChunks<J>)>
             requires { (place < length pieces.now) × AreWhole levels.now }

@@ -39,6 +39,7 @@ fn want_of_memory() -> CaptureFault
 fn read_each_ahead<R: Threads + Sync, J: ChunkJudge + Send>(
     rt: &R,
     alloc: Global,
+    threads: usize,
     wave: &SpeculativeReader,
     pieces: &[DumpPiece<'_>],
     speculation: &Speculation,
@@ -46,10 +47,10 @@ fn read_each_ahead<R: Threads + Sync, J: ChunkJudge + Send>(
     ensures { IfOk result (λ all. AreAhead wave.now.body.nets wave.now.line_bits pieces.now all.items) }
 {
     if speculation.is_wrong() {
-        let levels = levels_before_each(rt, alloc, wave, pieces, speculation)?;
-        return read_from(rt, alloc, wave, pieces, &levels);
+        let levels = levels_before_each(rt, alloc, threads, wave, pieces, speculation)?;
+        return read_from(rt, alloc, threads, wave, pieces, &levels);
     }
-    read_each_guessed(rt, alloc, wave, pieces)
+    read_each_guessed(rt, alloc, threads, wave, pieces)
 }
 
 /// Reads and judges the pieces ahead of one another, those that were read from other levels than really stand before
@@ -58,6 +59,7 @@ fn read_each_ahead<R: Threads + Sync, J: ChunkJudge + Send>(
 fn take_ahead<R: Threads + Sync, J: ChunkJudge + Send>(
     rt: &R,
     alloc: Global,
+    threads: usize,
     wave: SpeculativeReader,
     watch: StreamJudge<J>,
     pieces: &[DumpPiece<'_>],
@@ -67,12 +69,12 @@ fn take_ahead<R: Threads + Sync, J: ChunkJudge + Send>(
     ensures taken { IfOk result (λ taken.
         AreTaken pieces.now (with_recording watch wave) (text_reached taken.0) (drop taken.1 pieces.now)) }
 {
-    let all = read_each_ahead(rt, alloc, &wave, pieces, speculation)?;
+    let all = read_each_ahead(rt, alloc, threads, &wave, pieces, speculation)?;
     let levels = levels_to_read_again(alloc, &wave, &all)?;
     if levels.iter().any(|one| one.is_some()) {
         speculation.note(true);
     }
-    let again = read_from(rt, alloc, &wave, pieces, &levels)?;
+    let again = read_from(rt, alloc, threads, &wave, pieces, &levels)?;
     let JoinedPieces { wave, watch, count } = join_in_order(
         alloc, wave, watch, pieces, all, again,
     )?;
@@ -99,7 +101,15 @@ fn read_body<R: Threads + Sync, J: ChunkJudge + Send>(
     let Ok(pieces) = cut(alloc, piece, wave.line(), workers) else {
         return Err(want_of_memory());
     };
-    match take_ahead(rt, alloc, wave, watch, &pieces, speculation) {
+    match take_ahead(
+        rt,
+        alloc,
+        workers as usize,
+        wave,
+        watch,
+        &pieces,
+        speculation,
+    ) {
         Ok((text, count)) => read_in_order(alloc, text, &pieces[count..]),
         Err(_) => Err(want_of_memory()),
     }

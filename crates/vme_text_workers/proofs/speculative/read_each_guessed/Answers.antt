@@ -1,8 +1,7 @@
-use Rattle.std.proofs.Common.{None}
 use Rattle.vme_text_workers.proofs.JoinLemmas.{are-ahead}
 use Rattle.vme_text_workers.proofs.speculative.read_each_guessed.Goals as goal
 
 pub returns : goal.returns
 returns g c =
     are-ahead c.args.wave.now c.args.pieces.now c.in_ok-all.all.items
-    (λ place lt. (c.in_ok-all.ensures.each place None lt).1.met)
+    (λ place one is. c.in_ok-all.ensures place one is)

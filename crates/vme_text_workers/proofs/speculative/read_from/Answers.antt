@@ -1,4 +1,4 @@
-use Rattle.std.proofs.Common.{None, subst, sym}
+use Rattle.std.proofs.Common.{subst, sym}
 use Rattle.vme_text_workers.specs.SpeculativeChunks.{AreAhead}
 use Rattle.vme_text_workers.proofs.JoinLemmas.{are-ahead, none-ahead}
 use Rattle.vme_text_workers.proofs.speculative.read_from.Goals as goal
@@ -11,4 +11,4 @@ returns-then-all g c =
 pub returns : goal.returns
 returns g c =
     are-ahead c.args.wave.now c.args.pieces.now c.in_ok-all.all.items
-    (λ place lt. (c.in_ok-all.ensures.each place None lt).1.met)
+    (λ place one is. c.in_ok-all.ensures place one is)
