@@ -99,7 +99,7 @@ impl<S: RowSource> Checker<S> {
         self.stage = Stage::Ended;
     }
 
-    /// IsStateOf an instant of a stretch.
+    /// Judges an instant of a stretch.
     fn judge(&mut self, state: &State, changes: &[Change])
         requires lead { LeadToInstant self.old.bus changes.now }
         requires few { self.old.rows.compared.taken ≤ 4 * self.old.bus.instant }

@@ -153,8 +153,9 @@ fn push_heading(text: &mut Text, name: &str) -> Result<(), AllocError> {
     text.push(b"\n")
 }
 
-/// Appends the name of the dump as it is, since the viewer opens it, and knows no escapes. A name with a quotation mark,
-/// a control character or a mark that turns the direction of a line is left out: the viewer is given the dump by hand.
+/// Appends the name of the dump as it is, since the viewer opens it, and knows no escapes. A name with a quotation
+/// mark, a control character or a mark that turns the direction of a line is left out: the viewer is given the dump by
+/// hand.
 fn push_dump(text: &mut Text, name: &[u8]) -> Result<(), AllocError> {
     for at in 0..name.len() {
         if begins_unfit(name.get(at..).unwrap_or(b"")) {

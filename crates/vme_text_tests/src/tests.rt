@@ -12,8 +12,8 @@ fn a_text_grows(rt: HostRuntime) -> Result<(), Fail> {
     Ok(())
 }
 
-/// Bytes at the bounds of what is visible, a control sequence of a terminal, a line feed, a tab, and the mark that turns
-/// the direction of a line.
+/// Bytes at the bounds of what is visible, a control sequence of a terminal, a line feed, a tab, and the mark that
+/// turns the direction of a line.
 const BYTES: &[u8] = b"\x1F ~\x7F\x80\xFF\x00\x1B[31m\n\t\\\xE2\x80\xAE";
 
 #[test]
