@@ -1,14 +1,1 @@
-pub mod AcknowledgesAgree
-pub mod CyclesAgree
-pub mod DumpsAgree
 pub mod Everything
-pub mod GrantsAgree
-pub mod HeldLinesAgree
-pub mod LenienciesAgree
-pub mod ResetsAgree
-pub mod SameInstantAgree
-pub mod ShownRules
-pub mod TableRows
-pub mod TenuresAgree
-pub mod TransfersAgree
-pub mod WriteDataAgree

@@ -1,0 +1,3 @@
+pub mod AcknowledgesAgree
+pub mod GrantsAgree
+pub mod TenuresAgree

@@ -1,5 +1,0 @@
-use Rattle.vme_eval.proofs.AcknowledgesAgree.{acknowledges_agree}
-use Rattle.vme_eval.proofs.acknowledges.Goals as goal
-
-pub returns : goal.returns
-returns c = acknowledges_agree

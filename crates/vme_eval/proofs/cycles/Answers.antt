@@ -1,5 +1,0 @@
-use Rattle.vme_eval.proofs.CyclesAgree.{cycles_agree}
-use Rattle.vme_eval.proofs.cycles.Goals as goal
-
-pub returns : goal.returns
-returns c = cycles_agree

@@ -1,5 +1,0 @@
-use Rattle.vme_eval.proofs.DumpsAgree.{dumps_agree}
-use Rattle.vme_eval.proofs.dumps.Goals as goal
-
-pub returns : goal.returns
-returns c = dumps_agree

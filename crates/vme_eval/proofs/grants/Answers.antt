@@ -1,5 +1,0 @@
-use Rattle.vme_eval.proofs.GrantsAgree.{grants_agree}
-use Rattle.vme_eval.proofs.grants.Goals as goal
-
-pub returns : goal.returns
-returns c = grants_agree

@@ -1,5 +1,0 @@
-use Rattle.vme_eval.proofs.HeldLinesAgree.{held_lines_agree}
-use Rattle.vme_eval.proofs.held_lines.Goals as goal
-
-pub returns : goal.returns
-returns c = held_lines_agree

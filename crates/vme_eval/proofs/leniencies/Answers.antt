@@ -1,5 +1,0 @@
-use Rattle.vme_eval.proofs.LenienciesAgree.{leniencies_agree}
-use Rattle.vme_eval.proofs.leniencies.Goals as goal
-
-pub returns : goal.returns
-returns c = leniencies_agree

@@ -1,5 +1,0 @@
-use Rattle.vme_eval.proofs.ResetsAgree.{resets_agree}
-use Rattle.vme_eval.proofs.resets.Goals as goal
-
-pub returns : goal.returns
-returns c = resets_agree

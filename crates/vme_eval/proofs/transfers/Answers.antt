@@ -1,5 +1,0 @@
-use Rattle.vme_eval.proofs.TransfersAgree.{transfers_agree}
-use Rattle.vme_eval.proofs.transfers.Goals as goal
-
-pub returns : goal.returns
-returns c = transfers_agree

@@ -1,0 +1,4 @@
+pub mod DumpsAgree
+pub mod LenienciesAgree
+pub mod ResetsAgree
+pub mod SameInstantAgree

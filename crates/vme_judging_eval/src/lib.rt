@@ -1,0 +1,73 @@
+//! What the definitions say of where judging starts and ends, and of which break is named, on
+//! worked recordings, by computing them.
+//!
+//! Each function is a law: its contract is what it says, and the prover computes it. The recordings
+//! stand in vme_eval, with the verdict and the listing that each should get.
+//!
+//! - [`malformed_steps`]: steps that may not stand where they stand.
+//! - [`least_of_two`]: the lesser of two levels, and of two malformed steps.
+//! - [`judged_stretches`]: what is judged.
+//! - [`dumps`]: recordings as from a dump, and where judging starts and ends (U1).
+//! - [`resets`]: resets of the bus, and the starts after them.
+//! - [`same_instant`]: which of two breaks of one instant is named.
+//! - [`leniencies`]: what conforms though the standard's order of edges forbids it.
+//!
+//! Nothing is said of recordings that don't stand there. Start reading at the law of interest.
+#![tactic(auto)]
+
+ghost use Rattle.std.specs.Prelude.{◌≡◌, ◌∷◌, [], Some};
+ghost use Rattle.vme_trace.specs.LineNumbers.{AS, BBSY, DS0, grant};
+ghost use Rattle.vme_trace.specs.Tenures.{tenure_level};
+ghost use Rattle.vme_trace.specs.WellFormed.{malformed_step};
+ghost use Rattle.vme_eval.specs.Recording.{AllAgree, judged};
+ghost use Rattle.vme_eval.specs.Steps.{at, dumped_at, high, low};
+ghost use Rattle.vme_eval.specs.Dumps.{dumps};
+ghost use Rattle.vme_eval.specs.Grants.{two_levels_granted_at_once};
+ghost use Rattle.vme_eval.specs.Resets.{resets, reset_after_a_lost_strobe, two_resets};
+ghost use Rattle.vme_eval.specs.SameInstant.{same_instant};
+ghost use Rattle.vme_eval.specs.Leniencies.{leniencies};
+
+/// Steps that may not stand where they stand: one that changes nothing, one that is no later than the one before, and
+/// ones that change a line that one slot doesn't have, a line to the level that it has, and lines out of order.
+pub fn malformed_steps()
+    ensures no_change { malformed_step (dumped_at (at 5 [] ∷ [])) ≡ Some 0 }
+    ensures no_later { malformed_step (dumped_at (at 5 (low AS ∷ []) ∷ at 5 (low DS0 ∷ []) ∷ [])) ≡ Some 1 }
+    ensures no_line { malformed_step (dumped_at (at 5 (low (grant 0 2) ∷ []) ∷ [])) ≡ Some 0 }
+    ensures no_level { malformed_step (dumped_at (at 5 (low BBSY ∷ []) ∷ [])) ≡ Some 0 }
+    ensures no_order { malformed_step (dumped_at (at 5 (low DS0 ∷ low AS ∷ []) ∷ [])) ≡ Some 0 }
+    ensures one_line_twice { malformed_step (dumped_at (at 5 (low AS ∷ high AS ∷ []) ∷ [])) ≡ Some 0 }
+{}
+
+/// Of two levels that are granted the lesser one is a tenure's, and of two malformed steps the first is named. No
+/// verdict and no listing shows the one, since two such levels break a rule, and none speaks of the other.
+pub fn least_of_two()
+    ensures level { tenure_level two_levels_granted_at_once.trace 3 ≡ Some 2 }
+    ensures step { malformed_step (dumped_at (at 5 [] ∷ at 3 [] ∷ [])) ≡ Some 0 }
+{}
+
+/// What is judged: up to each reset and from the next idle instant on, and nothing more once a line was lost. The last
+/// no verdict and no listing shows, since the loss is the least break.
+pub fn judged_stretches()
+    ensures after_resets { judged two_resets.trace ≡ (1, 2) ∷ (3, 4) ∷ (5, 6) ∷ [] }
+    ensures after_a_loss { judged reset_after_a_lost_strobe.trace ≡ (1, 2) ∷ [] }
+{}
+
+/// Recordings of one slot, as from a dump, and where judging starts and ends.
+pub fn dumps()
+    ensures { AllAgree dumps }
+{}
+
+/// Resets, which end what is judged and name no break, and the starts after them.
+pub fn resets()
+    ensures { AllAgree resets }
+{}
+
+/// Recordings that break two rules at one instant: the one that stands first is named.
+pub fn same_instant()
+    ensures { AllAgree same_instant }
+{}
+
+/// What conforms though the standard's order of edges forbids it.
+pub fn leniencies()
+    ensures { AllAgree leniencies }
+{}

@@ -1,0 +1,2 @@
+pub mod HeldLinesAgree
+pub mod WriteDataAgree

@@ -1,0 +1,26 @@
+//! What the definitions say of worked recordings of lines that are known and held, by computing
+//! them.
+//!
+//! Each function is a law: its contract is what it says, and the prover computes it. The recordings
+//! stand in vme_eval, in the module of the law's name, with the verdict and the listing that each
+//! should get.
+//!
+//! - [`held_lines`]: the address, its modifier and the direction (U2, U3, S1, S2).
+//! - [`write_data`]: the data of a write (U4, S3), and what a listing tells of it.
+//!
+//! Nothing is said of recordings that don't stand there. Start reading at the law of interest.
+#![tactic(auto)]
+
+ghost use Rattle.vme_eval.specs.Recording.{AllAgree};
+ghost use Rattle.vme_eval.specs.HeldLines.{held_lines};
+ghost use Rattle.vme_eval.specs.WriteData.{write_data};
+
+/// Lines that are known and held while a cycle or a transfer lasts.
+pub fn held_lines()
+    ensures { AllAgree held_lines }
+{}
+
+/// Data lines that a write moves: known as its strobes fall, and held until the answer.
+pub fn write_data()
+    ensures { AllAgree write_data }
+{}

@@ -1,0 +1,3 @@
+pub mod CyclesAgree
+pub mod TableRows
+pub mod TransfersAgree
