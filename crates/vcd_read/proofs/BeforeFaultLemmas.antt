@@ -8,8 +8,8 @@ use Rattle.vcd_read.specs.declared.fault.VcdFault.{VcdFault}
 use Rattle.vcd_read.specs.Contents.{TimesAscend}
 use Rattle.vcd_read.specs.Numbers.{number}
 use Rattle.vcd_read.specs.Header.{◌>>=◌, Net}
-use Rattle.vcd_read.specs.Body.{BodyItem, time_item, change, skipped, bracket_open, bracket_end, wrong, BodyStanding}
-use Rattle.vcd_read.specs.Body.{first_standing, stand_after}
+use Rattle.vcd_read.specs.Body.{BodyItem, time_item, change, skipped, bracket_open, bracket_end, wrong, BodyContext}
+use Rattle.vcd_read.specs.Body.{first_context, context_after}
 use Rattle.vcd_read.specs.Meaning.{instants_of, items_before_fault}
 use Rattle.vcd_read.specs.DumpProgress.{DumpProgress, DumpState, ended, flushed, progress_after, step, steps}
 use Rattle.vcd_read.specs.DumpProgress.{values_from}
@@ -23,14 +23,14 @@ whole_before nets s (item ∷ items) = elim (step nets s item) [
   | Err fault ↦ s
 ]
 
-abbrev whole_of : DumpProgress → Result BodyStanding VcdFault → Result DumpState VcdFault
-whole_of p r = r >>= λ next. Ok (record { standing = next; progress = p })
+abbrev whole_of : DumpProgress → Result BodyContext VcdFault → Result DumpState VcdFault
+whole_of p r = r >>= λ next. Ok (record { context = next; progress = p })
 
 -- ---- the items before the first fault have none
 
 before_step : (nets : List Net) (s : DumpState) (item : BodyItem) (items : List BodyItem)
-    (stood : Result BodyStanding VcdFault) → stand_after nets s.standing item ≡ stood
-    → ((next : DumpState) → steps nets next (items_before_fault nets next.standing items)
+    (stood : Result BodyContext VcdFault) → context_after nets s.context item ≡ stood
+    → ((next : DumpState) → steps nets next (items_before_fault nets next.context items)
     ≡ Ok (whole_before nets next items))
     → steps nets s (elim stood [
       | Ok next ↦ item ∷ items_before_fault nets next items
@@ -42,14 +42,14 @@ before_step : (nets : List Net) (s : DumpState) (item : BodyItem) (items : List 
     ])
 unfolding steps
 before_step nets s item items (Ok next) e rest =
-    rw e (rest (record { standing = next; progress = progress_after nets s.progress item }))
+    rw e (rest (record { context = next; progress = progress_after nets s.progress item }))
 before_step nets s item items (Err fault) e rest = refl
 
 steps_before : (nets : List Net) (s : DumpState) (items : List BodyItem) → steps nets s
-    (items_before_fault nets s.standing items) ≡ Ok (whole_before nets s items)
+    (items_before_fault nets s.context items) ≡ Ok (whole_before nets s items)
 unfolding steps items_before_fault
 steps_before nets s [] = refl
-steps_before nets s (item ∷ items) = before_step nets s item items (stand_after nets s.standing item) refl
+steps_before nets s (item ∷ items) = before_step nets s item items (context_after nets s.context item) refl
     (λ next. steps_before nets next items)
 
 -- ---- where no instant is begun, none stands before it
@@ -71,21 +71,21 @@ item_starts nets p (bracket_end line) h = h
 item_starts nets p (wrong line kind) h = h
 
 begins_step : (nets : List Net) (s : DumpState) (item : BodyItem) (items : List BodyItem)
-    (stood : Result BodyStanding VcdFault) → Starts s.progress
+    (stood : Result BodyContext VcdFault) → Starts s.progress
     → ((next : DumpState) → Starts next.progress → Starts (whole_before nets next items).progress)
     → Starts (elim (whole_of (progress_after nets s.progress item) stood) as (λ _. DumpState) [
       | Ok next ↦ whole_before nets next items
       | Err fault ↦ s
     ]).progress
 begins_step nets s item items (Ok next) h rest =
-    rest (record { standing = next; progress = progress_after nets s.progress item })
+    rest (record { context = next; progress = progress_after nets s.progress item })
     (item_starts nets s.progress item h)
 begins_step nets s item items (Err fault) h rest = h
 
 begins : (nets : List Net) (s : DumpState) (items : List BodyItem) → Starts s.progress
     → Starts (whole_before nets s items).progress
 begins nets s [] h = h
-begins nets s (item ∷ items) h = begins_step nets s item items (stand_after nets s.standing item) h
+begins nets s (item ∷ items) h = begins_step nets s item items (context_after nets s.context item) h
     (λ next started. begins nets next items started)
 
 -- ---- the instant at hand is the last
@@ -99,14 +99,14 @@ at_hand false done x h = let e = ap (λ (xs : List Instant). length xs) (h refl)
 
 -- those before the first fault are those that are done, and the one at hand
 pub before_fault : (nets : List Net) (items : List BodyItem)
-    → (rest : List Instant) × (instants_of nets (items_before_fault nets first_standing items)
+    → (rest : List Instant) × (instants_of nets (items_before_fault nets first_context items)
     ≡ (whole_before nets (at_start nets) items).progress.done ++ rest)
     × (length (whole_before nets (at_start nets) items).progress.done
-    ≡ length (instants_of nets (items_before_fault nets first_standing items)) - 1)
+    ≡ length (instants_of nets (items_before_fault nets first_context items)) - 1)
 before_fault nets items =
     let w : DumpState = whole_before nets (at_start nets) items in
-    let law : ended w.progress ≡ instants_of nets (items_before_fault nets first_standing items) = instants_law nets
-    (items_before_fault nets first_standing items) w (steps_before nets (at_start nets) items) in
+    let law : ended w.progress ≡ instants_of nets (items_before_fault nets first_context items) = instants_law nets
+    (items_before_fault nets first_context items) w (steps_before nets (at_start nets) items) in
     let hand = at_hand w.progress.begun w.progress.done
     (record { time = w.progress.time; values = values_from 0 w.progress.current })
     (begins nets (at_start nets) items (λ e. refl)) in (
@@ -117,6 +117,6 @@ before_fault nets items =
 
 -- their times ascend
 pub before_fault_rises : (nets : List Net) (items : List BodyItem) → TimesAscend
-    (instants_of nets (items_before_fault nets first_standing items))
-before_fault_rises nets items = instants_rise nets (items_before_fault nets first_standing items)
+    (instants_of nets (items_before_fault nets first_context items))
+before_fault_rises nets items = instants_rise nets (items_before_fault nets first_context items)
     (whole_before nets (at_start nets) items) (steps_before nets (at_start nets) items)

@@ -256,15 +256,16 @@ module _ {A : Type 0} (with_change : A → ℕ → List Bit → A) (with_instant
   nothing_left nets s place before after e e2 more = rw (e, e2) refl
 
   -- what is ahead where what was read to is the same
-  pub same_left : (nets nets2 : List Net) (text text2 : BodyPiece) (timed waves2 : Taking A)
-      (bracket bracket2 : Option Start) (place place2 : BodyPlace) (at : ℕ) → nets2 ≡ nets → text2 ≡ text → waves2
+  pub same_left : (nets nets2 : List Net) (text text2 : BodyPiece) (timed visitor2 : Taking A)
+      (bracket bracket2 : Option Start) (place place2 : BodyPlace) (at : ℕ) → nets2 ≡ nets → text2 ≡ text → visitor2
       ≡ timed
       → bracket2 ≡ bracket → place2 ≡ place
       → (more : List Token) → until_fault with_change with_instant nets (state_of text timed bracket)
       (body_from place (left_at text at ++ more))
-      ≡ until_fault with_change with_instant nets2 (state_of text2 waves2 bracket2)
+      ≡ until_fault with_change with_instant nets2 (state_of text2 visitor2 bracket2)
       (body_from place2 (left_at text2 at ++ more))
-  same_left nets nets2 text text2 timed waves2 bracket bracket2 place place2 at n t w b p more = rw (n, t, w, b, p) refl
+  same_left nets nets2 text text2 timed visitor2 bracket bracket2 place place2 at n t w b p more =
+      rw (n, t, w, b, p) refl
 
   -- a piece that is read to its end leaves what is behind it
   pub nothing_behind : (nets nets2 : List Net) (s : State A) (place : BodyPlace) (left : List Token) → nets2 ≡ nets

@@ -19,9 +19,9 @@ StaysAs line UnfinishedSection longer = Unit {0}
 StaysAs line kind longer = longer ≡ Err (record { line = line; kind = kind })
 
 -- the header of a text, and that of one that goes on
-IsFrontOf : {V : Type 0} → List Token → Result (Defined V) VcdFault → Result (Defined V) VcdFault → Type 0
-IsFrontOf more (Ok d) longer = longer ≡ Ok (defined (going_on d.head more) d.variables)
-IsFrontOf more (Err fault) longer = StaysAs fault.line fault.kind longer
+IsPrefixOf : {V : Type 0} → List Token → Result (Defined V) VcdFault → Result (Defined V) VcdFault → Type 0
+IsPrefixOf more (Ok d) longer = longer ≡ Ok (defined (going_on d.head more) d.variables)
+IsPrefixOf more (Err fault) longer = StaysAs fault.line fault.kind longer
 
 module _ {V : Type 0} (with_variable : V → Variable → V) (text longer : List ℕ) (more : List Token) where
   abbrev short : Declared V → Header → Result (Defined V) VcdFault
@@ -31,7 +31,7 @@ module _ {V : Type 0} (with_variable : V → Variable → V) (text longer : List
   long d h = rest_of_header with_variable longer d h
 
   abbrev Both : Declared V → Header → Header → Type 0
-  Both d h h2 = IsFrontOf more (short d h) (long d h2)
+  Both d h h2 = IsPrefixOf more (short d h) (long d h2)
 
   stays : (line : ℕ) (kind : FaultKind) → StaysAs {V = V} line kind (Err (record { line = line; kind = kind }))
   unfolding StaysAs
@@ -40,11 +40,11 @@ module _ {V : Type 0} (with_variable : V → Variable → V) (text longer : List
   stays line kind = refl
 
   section_step : (h h2 : Header) (r : Result (Declared V) VcdFault) → ((next : Declared V) → Both next h h2)
-      → IsFrontOf more ((r >>= λ next. declare_all with_variable next h.items) >>= λ declared. body_of text h.body >>=
+      → IsPrefixOf more ((r >>= λ next. declare_all with_variable next h.items) >>= λ declared. body_of text h.body >>=
       λ body. Ok (headed declared body))
       ((r >>= λ next. declare_all with_variable next h2.items) >>= λ declared. body_of longer h2.body >>= λ body. Ok
       (headed declared body))
-  unfolding IsFrontOf
+  unfolding IsPrefixOf
   section_step h h2 (Ok next) both = both next
   section_step h h2 (Err fault) both = stays fault.line fault.kind
 
@@ -60,7 +60,7 @@ module _ {V : Type 0} (with_variable : V → Variable → V) (text longer : List
         | false ↦ with_item
             (whole section) (header_from between (ts ++ more))
       ])
-  unfolding IsFrontOf declare_all
+  unfolding IsPrefixOf declare_all
   ending section ts d true both = refl
   ending section ts d false both = section_step (header_from between ts) (header_from between (ts ++ more))
       (at_line section.line (declare_section with_variable d section)) both
@@ -98,13 +98,13 @@ module _ {V : Type 0} (with_variable : V → Variable → V) (text longer : List
         | false ↦ with_item
             (stray t.line) (header_from between (ts ++ more))
       ])
-  unfolding IsFrontOf StaysAs declare_all
+  unfolding IsPrefixOf StaysAs declare_all
   between_step t ts d true goes_on = goes_on
   between_step t ts d false goes_on = refl
 
   front : (ts : List Token) (place : HeaderPlace) (d : Declared V) → Both d (header_from place ts)
       (header_from place (ts ++ more))
-  unfolding IsFrontOf StaysAs header_from declare_all
+  unfolding IsPrefixOf StaysAs header_from declare_all
   front [] between d = tt
   front [] (inside section) d = tt
   front (t ∷ ts) between d = between_step t ts d (opens_section t.bytes) (front ts (inside (opened t)) d)
@@ -115,19 +115,19 @@ module _ {V : Type 0} (with_variable : V → Variable → V) (text longer : List
   pub found-front : (d : Declared V) (ts : List Token) (found : Defined V) → header_of with_variable text d ts
       ≡ Ok found
       → header_of with_variable longer d (ts ++ more) ≡ Ok (defined (going_on found.head more) found.variables)
-  unfolding IsFrontOf
-  found-front d ts found is = subst (λ (r : Result (Defined V) VcdFault). IsFrontOf more r
+  unfolding IsPrefixOf
+  found-front d ts found is = subst (λ (r : Result (Defined V) VcdFault). IsPrefixOf more r
       (header_of with_variable longer d (ts ++ more))) is (front ts between d)
 
   -- a fault that isn't met at the end is that of every text that goes on so
   pub failed-front : (d : Declared V) (ts : List Token) (line : ℕ) (kind : FaultKind) → (IsMetAtTheEnd kind → ⊥)
       → ReadFailsAs line kind (header_of with_variable text d ts)
       → ReadFailsAs line kind (header_of with_variable longer d (ts ++ more))
-  unfolding IsFrontOf StaysAs
+  unfolding IsPrefixOf StaysAs
   failed-front d ts line Memory other fails = fails
   failed-front d ts line NoEndDefinitions other fails = absurd (other tt)
   failed-front d ts line UnfinishedSection other fails = absurd (other tt)
-  failed-front d ts line kind other fails = subst (λ (r : Result (Defined V) VcdFault). IsFrontOf more r
+  failed-front d ts line kind other fails = subst (λ (r : Result (Defined V) VcdFault). IsPrefixOf more r
       (header_of with_variable longer d (ts ++ more))) fails (front ts between d)
 
 -- a fault that is none of the two

@@ -16,8 +16,8 @@ use Rattle.vcd_read.specs.declared.fault.VcdFault.{VcdFault}
 use Rattle.vcd_read.specs.Contents.{TimesAscend}
 use Rattle.vcd_read.specs.Numbers.{number, time_of}
 use Rattle.vcd_read.specs.Header.{◌>>=◌, at_line, Net, net_of}
-use Rattle.vcd_read.specs.Body.{BodyItem, time_item, change, skipped, bracket_open, bracket_end, wrong, BodyStanding}
-use Rattle.vcd_read.specs.Body.{stand_after, time_after, fitting, opened_at, closed}
+use Rattle.vcd_read.specs.Body.{BodyItem, time_item, change, skipped, bracket_open, bracket_end, wrong, BodyContext}
+use Rattle.vcd_read.specs.Body.{context_after, time_after, fitting, opened_at, closed}
 use Rattle.vcd_read.specs.Meaning.{NetChange, change_of, changes_from, times_from, last_at, value_of, value_at}
 use Rattle.vcd_read.specs.Meaning.{instant_at, instants_of}
 use Rattle.vcd_read.specs.DumpProgress.{DumpProgress, values_from, advanced, ended, progress_after, DumpState, step}
@@ -49,15 +49,15 @@ abbrev now_after : ℕ → BodyItem → ℕ
 now_after now (time_item line digits) = number digits
 now_after now item = now
 
-stays : {A : Type 0} (r : Result A FaultKind) (line : ℕ) (s next : BodyStanding) (f : A → BodyStanding)
+stays : {A : Type 0} (r : Result A FaultKind) (line : ℕ) (s next : BodyContext) (f : A → BodyContext)
     → ((x : A) → (f x).now ≡ s.now) → at_line line (r >>= λ x. Ok (f x)) ≡ Ok next → (next.now ≡ s.now)
     × (s.now ≤ s.now)
 stays r line s next f same h =
     let a = bind_ok r _ next (at_line_ok line _ next h) in
     let e : f a.0 ≡ next = cc in
-    (sym (ap (λ (s : BodyStanding). s.now) e) ∙ same a.0, omega arith)
+    (sym (ap (λ (s : BodyContext). s.now) e) ∙ same a.0, omega arith)
 
-stands : (nets : List Net) (s next : BodyStanding) (item : BodyItem) → stand_after nets s item ≡ Ok next
+stands : (nets : List Net) (s next : BodyContext) (item : BodyItem) → context_after nets s item ≡ Ok next
     → (next.now ≡ now_after s.now item) × (s.now ≤ now_after s.now item)
 stands nets s next (time_item line digits) h =
     let a = bind_ok (time_of digits) _ next (at_line_ok line _ next h) in
@@ -65,7 +65,7 @@ stands nets s next (time_item line digits) h =
     let n : number digits ≡ a.0 = passed _ _ _ _ _ _ a.1 in
     let t = not_before (ltb a.0 s.now) a.0 b.0 _ b.1 in
     let e : record s { now = b.0 } ≡ next = cc in
-    (sym (ap (λ (s : BodyStanding). s.now) e) ∙ sym (n ∙ t.1), omega (arith, ltb-false a.0 s.now t.0, n))
+    (sym (ap (λ (s : BodyContext). s.now) e) ∙ sym (n ∙ t.1), omega (arith, ltb-false a.0 s.now t.0, n))
 stands nets s next (change line digits code) h = stays (fitting nets (length digits) (net_of nets code)) line s next
     (λ net. s) (λ net. refl) h
 stands nets s next (skipped line code) h = stays (fitting nets 0 (net_of nets code)) line s next (λ net. s)
@@ -77,12 +77,12 @@ stands nets s next (bracket_end line) h = stays (closed s.bracket) line s next
 stands nets s next (wrong line kind) h = absurd cc
 
 step_is : (nets : List Net) (s next : DumpState) (item : BodyItem) → step nets s item ≡ Ok next
-    → (stand_after nets s.standing item ≡ Ok next.standing) × (next.progress ≡ progress_after nets s.progress item)
+    → (context_after nets s.context item ≡ Ok next.context) × (next.progress ≡ progress_after nets s.progress item)
 step_is nets s next item h =
-    let a = bind_ok (stand_after nets s.standing item) _ next h in
-    let made : DumpState = record { standing = a.0; progress = progress_after nets s.progress item } in
+    let a = bind_ok (context_after nets s.context item) _ next h in
+    let made : DumpState = record { context = a.0; progress = progress_after nets s.progress item } in
     let e : made ≡ next = cc in
-    (a.1 ∙ ap (λ (n : DumpState). Ok n.standing) e, sym (ap (λ (n : DumpState). n.progress) e))
+    (a.1 ∙ ap (λ (n : DumpState). Ok n.context) e, sym (ap (λ (n : DumpState). n.progress) e))
 
 -- no time goes back
 abbrev Ascends : ℕ → List BodyItem → Type 0
@@ -94,7 +94,7 @@ progress_after_all nets p [] = p
 progress_after_all nets p (item ∷ items) = progress_after_all nets (progress_after nets p item) items
 
 all_is : (nets : List Net) (s end : DumpState) (items : List BodyItem) → steps nets s items ≡ Ok end
-    → Ascends s.standing.now items × (end.progress ≡ progress_after_all nets s.progress items)
+    → Ascends s.context.now items × (end.progress ≡ progress_after_all nets s.progress items)
 unfolding steps
 all_is nets s end [] h =
     let e : s ≡ end = cc in
@@ -102,7 +102,7 @@ all_is nets s end [] h =
 all_is nets s end (item ∷ items) h =
     let a = bind_ok (step nets s item) (λ next. steps nets next items) end h in
     let b = step_is nets s a.0 item a.1 in
-    let c = stands nets s.standing a.0.standing item b.0 in
+    let c = stands nets s.context a.0.context item b.0 in
     let rest = all_is nets a.0 end items a.2 in (
       (c.1, subst (λ (n : ℕ). Ascends n items) c.0 rest.0),
       rest.1 ∙ ap (λ (p : DumpProgress). progress_after_all nets p
@@ -463,7 +463,7 @@ times_of f same (t ∷ times) = ap (λ (u : ℕ). u ∷ map (λ (i : Instant). i
 abbrev pub at_start : List Net → DumpState
 at_start nets =
     record {
-      standing = record { now = 0; bracket = None };
+      context = record { now = 0; bracket = None };
       progress = record { done = []; time = 0; begun = false; current = replicate (length nets) None };
     }
 

@@ -4,7 +4,7 @@ pub mod BodyLemmas
 pub mod CodesLemmas
 pub mod CodeIndexLemmas
 pub mod Fill
-pub mod WavesLemmas
+pub mod TimedVisitorLemmas
 pub mod InstantsLaw
 pub mod BeforeFaultLemmas
 pub mod ReadLemmas
@@ -18,5 +18,5 @@ pub mod SectionLemmas
 pub mod HeaderLemmas
 pub mod FrontLemmas
 pub mod PieceLemmas
-pub mod ApartLemmas
+pub mod DetachedLemmas
 pub mod RunLemmas

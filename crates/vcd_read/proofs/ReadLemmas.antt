@@ -7,8 +7,8 @@ use Rattle.vcd_read.specs.declared.fault.FaultKind.TheVariants.{Memory}
 use Rattle.vcd_read.specs.declared.fault.VcdFault.{VcdFault}
 use Rattle.vcd_read.specs.Tokens.{Token}
 use Rattle.vcd_read.specs.Header.{◌>>=◌, Net}
-use Rattle.vcd_read.specs.Body.{BodyItem, BodyStanding, ready, body_from, stand_after, stand_after_all, at_the_end}
-use Rattle.vcd_read.specs.Body.{first_standing}
+use Rattle.vcd_read.specs.Body.{BodyItem, BodyContext, ready, body_from, context_after, context_after_all, at_the_end}
+use Rattle.vcd_read.specs.Body.{first_context}
 use Rattle.vcd_read.specs.Meaning.{ReadFails, ReadFailsAs, ReadGives, instants_from, instants_of}
 use Rattle.vcd_read.specs.DumpProgress.{DumpProgress, DumpState, steps, progress_after, ended}
 use Rattle.vcd_read.specs.Contents.{TimesAscend}
@@ -16,42 +16,42 @@ use Rattle.vcd_read.proofs.InstantsLaw.{at_start, instants_law, instants_rise}
 
 -- what a body gives that is read to its end
 abbrev pub at_end : DumpState → Result (List Instant) VcdFault
-at_end s = at_the_end s.standing >>= λ stood. Ok (ended s.progress)
+at_end s = at_the_end s.context >>= λ stood. Ok (ended s.progress)
 
-abbrev with_standing : DumpProgress → BodyStanding → DumpState
-with_standing progress standing = record { standing = standing; progress = progress }
+abbrev with_context : DumpProgress → BodyContext → DumpState
+with_context progress context = record { context = context; progress = progress }
 
-stand_step : (nets : List Net) (items : List BodyItem) (progress : DumpProgress) (r : Result BodyStanding VcdFault)
-    → ((s : DumpState) → stand_after_all nets s.standing items ≡ (steps nets s items >>= λ end. Ok end.standing))
-    → (r >>= λ next. stand_after_all nets next items)
-    ≡ (((r >>= λ next. Ok (with_standing progress next)) >>= λ next. steps nets next items) >>= λ end. Ok
-    end.standing)
-stand_step nets items progress (Ok next) rest = rest (with_standing progress next)
+stand_step : (nets : List Net) (items : List BodyItem) (progress : DumpProgress) (r : Result BodyContext VcdFault)
+    → ((s : DumpState) → context_after_all nets s.context items ≡ (steps nets s items >>= λ end. Ok end.context))
+    → (r >>= λ next. context_after_all nets next items)
+    ≡ (((r >>= λ next. Ok (with_context progress next)) >>= λ next. steps nets next items) >>= λ end. Ok
+    end.context)
+stand_step nets items progress (Ok next) rest = rest (with_context progress next)
 stand_step nets items progress (Err fault) rest = refl
 
 -- where the items leave a body that is read, without the values
-stands : (nets : List Net) (s : DumpState) (items : List BodyItem) → stand_after_all nets s.standing items
-    ≡ (steps nets s items >>= λ end. Ok end.standing)
-unfolding stand_after_all steps
+stands : (nets : List Net) (s : DumpState) (items : List BodyItem) → context_after_all nets s.context items
+    ≡ (steps nets s items >>= λ end. Ok end.context)
+unfolding context_after_all steps
 stands nets s [] = refl
 stands nets s (item ∷ items) = stand_step nets items (progress_after nets s.progress item)
-    (stand_after nets s.standing item) (λ s2. stands nets s2 items)
+    (context_after nets s.context item) (λ s2. stands nets s2 items)
 
 abbrev result_of : Result DumpState VcdFault → Result (List Instant) VcdFault
 result_of r = r >>= at_end
 
 read_by : (nets : List Net) (items : List BodyItem) (r : Result DumpState VcdFault) → steps nets (at_start nets) items
     ≡ r
-    → (stand_after_all nets first_standing items >>= λ end. at_the_end end >>= λ stood. Ok (instants_of nets items))
+    → (context_after_all nets first_context items >>= λ end. at_the_end end >>= λ stood. Ok (instants_of nets items))
     ≡ result_of r
 read_by nets items (Ok s) e =
-    let stand : stand_after_all nets first_standing items ≡ Ok s.standing = stands nets (at_start nets) items
-    ∙ ap (λ (r : Result DumpState VcdFault). r >>= λ end. Ok end.standing) e in
+    let stand : context_after_all nets first_context items ≡ Ok s.context = stands nets (at_start nets) items
+    ∙ ap (λ (r : Result DumpState VcdFault). r >>= λ end. Ok end.context) e in
     let law = instants_law nets items s e in
     rw (stand, ← law) refl
 read_by nets items (Err fault) e =
-    let stand : stand_after_all nets first_standing items ≡ Err fault = stands nets (at_start nets) items
-    ∙ ap (λ (r : Result DumpState VcdFault). r >>= λ end. Ok end.standing) e in
+    let stand : context_after_all nets first_context items ≡ Err fault = stands nets (at_start nets) items
+    ∙ ap (λ (r : Result DumpState VcdFault). r >>= λ end. Ok end.context) e in
     rw stand refl
 
 -- the instants of a body are what its items come to at their end
@@ -80,14 +80,14 @@ pub gives_err : {X Y : Type 0} (view : X → Y) (r : Result X VcdFault) (fault :
 gives_err view (Ok x) fault read is h = absurd is
 gives_err view (Err e) fault read is h = rw is h
 
-same_ok : (r : Result BodyStanding VcdFault) (xs ys : List Instant) → (r >>= λ stood. Ok xs) ≡ Ok ys → xs ≡ ys
+same_ok : (r : Result BodyContext VcdFault) (xs ys : List Instant) → (r >>= λ stood. Ok xs) ≡ Ok ys → xs ≡ ys
 same_ok (Ok stood) xs ys h = cc
 same_ok (Err fault) xs ys h = absurd cc
 
 rise_by : (nets : List Net) (items : List BodyItem) (r : Result DumpState VcdFault) (instants : List Instant)
     → steps nets (at_start nets) items ≡ r → result_of r ≡ Ok instants → TimesAscend instants
 rise_by nets items (Ok s) instants e whole = subst TimesAscend (sym (instants_law nets items s e)
-    ∙ same_ok (at_the_end s.standing) (ended s.progress) instants whole) (instants_rise nets items s e)
+    ∙ same_ok (at_the_end s.context) (ended s.progress) instants whole) (instants_rise nets items s e)
 rise_by nets items (Err fault) instants e whole = absurd cc
 
 -- the times of the instants of a body ascend

@@ -10,8 +10,8 @@ use Rattle.vcd_read.specs.declared.fault.VcdFault.{VcdFault}
 use Rattle.vcd_read.specs.Tokens.{Token}
 use Rattle.vcd_read.specs.Numbers.{number, extended}
 use Rattle.vcd_read.specs.Header.{◌>>=◌, at_line, Net, net_of, size_of}
-use Rattle.vcd_read.specs.Body.{BodyItem, time_item, change, skipped, bracket_open, bracket_end, wrong, BodyStanding}
-use Rattle.vcd_read.specs.Body.{stand_after, at_the_end, fitting, ready, body_from}
+use Rattle.vcd_read.specs.Body.{BodyItem, time_item, change, skipped, bracket_open, bracket_end, wrong, BodyContext}
+use Rattle.vcd_read.specs.Body.{context_after, at_the_end, fitting, ready, body_from}
 use Rattle.vcd_read.specs.Meaning.{ReadFails, ReadFailsAs, instants_from}
 use Rattle.vcd_read.specs.DumpProgress.{DumpProgress, values_from, flushed}
 use Rattle.vcd_read.specs.DumpProgress.{DumpState as Whole, ended as instants_at, steps as whole_steps}
@@ -27,7 +27,7 @@ use Rattle.vcd_read.proofs.ReadLemmas.{read_whole}
 abbrev pub Current : Type 0
 Current = List (Option (List Bit))
 
-some_net : (nets : List Net) (digits line : ℕ) (found : Option ℕ) (s next : BodyStanding)
+some_net : (nets : List Net) (digits line : ℕ) (found : Option ℕ) (s next : BodyContext)
     → at_line line (fitting nets digits found >>= λ net. Ok s) ≡ Ok next → IsSome found
 some_net nets digits line None s next h = absurd cc
 some_net nets digits line (Some net) s next h = refl
@@ -81,7 +81,7 @@ module _ {A : Type 0} (with_change : A → ℕ → List Bit → A) (with_instant
   taking_at p a = record { taken = a; time = p.time; begun = p.begun }
 
   abbrev state_at : Whole → A → State A
-  state_at s a = record { standing = s.standing; progress = taking_at s.progress a }
+  state_at s a = record { context = s.context; progress = taking_at s.progress a }
 
   abbrev Keeps : DumpProgress → Taking A → Type 0
   Keeps p t = (a : A) × (t ≡ taking_at p a) × R p.done p.current a
@@ -97,7 +97,7 @@ module _ {A : Type 0} (with_change : A → ℕ → List Bit → A) (with_instant
   on_time true p a t r = (with_instant a p.time, refl, on_instant p.done p.current a p.time r)
   on_time false p a t r = (a, refl, r)
 
-  on_item : (item : BodyItem) (s next : BodyStanding) (p : DumpProgress) (a : A) → stand_after nets s item ≡ Ok next
+  on_item : (item : BodyItem) (s next : BodyContext) (p : DumpProgress) (a : A) → context_after nets s item ≡ Ok next
       → R p.done p.current a
       → Keeps (whole_after nets p item) (progress_after with_change with_instant nets (taking_at p a) item)
   on_item (time_item line digits) s next p a ok r = on_time (p.begun && not (number digits == p.time)) p a
@@ -115,39 +115,39 @@ module _ {A : Type 0} (with_change : A → ℕ → List Bit → A) (with_instant
   on_item (bracket_end line) s next p a ok r = (a, refl, r)
   on_item (wrong line kind) s next p a ok r = (a, refl, r)
 
-  abbrev whole_of : DumpProgress → Result BodyStanding VcdFault → Result Whole VcdFault
-  whole_of p r = r >>= λ next. Ok (record { standing = next; progress = p })
+  abbrev whole_of : DumpProgress → Result BodyContext VcdFault → Result Whole VcdFault
+  whole_of p r = r >>= λ next. Ok (record { context = next; progress = p })
 
-  abbrev taken_of : Taking A → Result BodyStanding VcdFault → Result (State A) VcdFault
-  taken_of t r = r >>= λ next. Ok (record { standing = next; progress = t })
+  abbrev taken_of : Taking A → Result BodyContext VcdFault → Result (State A) VcdFault
+  taken_of t r = r >>= λ next. Ok (record { context = next; progress = t })
 
-  step-follows : (items : List BodyItem) (item : BodyItem) (s : Whole) (a : A) (stood : Result BodyStanding VcdFault)
-      → stand_after nets s.standing item ≡ stood → R s.progress.done s.progress.current a
+  step-follows : (items : List BodyItem) (item : BodyItem) (s : Whole) (a : A) (stood : Result BodyContext VcdFault)
+      → context_after nets s.context item ≡ stood → R s.progress.done s.progress.current a
       → ((s2 : Whole) (b : A) → R s2.progress.done s2.progress.current b → KeepsState (whole_steps nets s2 items)
       (steps with_change with_instant nets (state_at s2 b) items))
       → KeepsState (whole_of (whole_after nets s.progress item) stood >>= λ next. whole_steps nets next items)
       (taken_of (progress_after with_change with_instant nets (taking_at s.progress a) item) stood >>= λ next. steps
       with_change with_instant nets next items)
   step-follows items item s a (Ok next) e r rest =
-      let kept = on_item item s.standing next s.progress a e r in
-      let after : Whole = record { standing = next; progress = whole_after nets s.progress item } in
+      let kept = on_item item s.context next s.progress a e r in
+      let after : Whole = record { context = next; progress = whole_after nets s.progress item } in
       subst (λ (t : Taking A). KeepsState (whole_steps nets after items) (steps with_change with_instant nets
-      (record { standing = next; progress = t }) items)) (sym kept.1) (rest after kept.0 kept.2)
+      (record { context = next; progress = t }) items)) (sym kept.1) (rest after kept.0 kept.2)
   step-follows items item s a (Err fault) e r rest = refl
 
   steps-follow : (items : List BodyItem) (s : Whole) (a : A) → R s.progress.done s.progress.current a
       → KeepsState (whole_steps nets s items) (steps with_change with_instant nets (state_at s a) items)
   unfolding whole_steps steps
   steps-follow [] s a r = (a, refl, r)
-  steps-follow (item ∷ items) s a r = step-follows items item s a (stand_after nets s.standing item) refl r
+  steps-follow (item ∷ items) s a r = step-follows items item s a (context_after nets s.context item) refl r
       (λ s2 b kept. steps-follow items s2 b kept)
 
   -- the same up to the first fault
   abbrev KeepsBefore : Whole → State A → Type 0
   KeepsBefore w t = (a : A) × (t ≡ state_at w a) × R w.progress.done w.progress.current a
 
-  before-follows : (items : List BodyItem) (item : BodyItem) (s : Whole) (a : A) (stood : Result BodyStanding VcdFault)
-      → stand_after nets s.standing item ≡ stood → R s.progress.done s.progress.current a
+  before-follows : (items : List BodyItem) (item : BodyItem) (s : Whole) (a : A) (stood : Result BodyContext VcdFault)
+      → context_after nets s.context item ≡ stood → R s.progress.done s.progress.current a
       → ((s2 : Whole) (b : A) → R s2.progress.done s2.progress.current b → KeepsBefore (whole_before nets s2 items)
       (reached_before with_change with_instant nets (state_at s2 b) items))
       → KeepsBefore (elim (whole_of (whole_after nets s.progress item) stood) [
@@ -159,17 +159,17 @@ module _ {A : Type 0} (with_change : A → ℕ → List Bit → A) (with_instant
         | Err fault ↦ state_at s a
       ])
   before-follows items item s a (Ok next) e r rest =
-      let kept = on_item item s.standing next s.progress a e r in
-      let after : Whole = record { standing = next; progress = whole_after nets s.progress item } in
+      let kept = on_item item s.context next s.progress a e r in
+      let after : Whole = record { context = next; progress = whole_after nets s.progress item } in
       subst (λ (t : Taking A). KeepsBefore (whole_before nets after items) (reached_before with_change with_instant nets
-      (record { standing = next; progress = t }) items)) (sym kept.1) (rest after kept.0 kept.2)
+      (record { context = next; progress = t }) items)) (sym kept.1) (rest after kept.0 kept.2)
   before-follows items item s a (Err fault) e r rest = (a, refl, r)
 
   pub reached-follows : (items : List BodyItem) (s : Whole) (a : A) → R s.progress.done s.progress.current a
       → KeepsBefore (whole_before nets s items) (reached_before with_change with_instant nets (state_at s a) items)
   unfolding reached_before
   reached-follows [] s a r = (a, refl, r)
-  reached-follows (item ∷ items) s a r = before-follows items item s a (stand_after nets s.standing item) refl r
+  reached-follows (item ∷ items) s a r = before-follows items item s a (context_after nets s.context item) refl r
       (λ s2 b kept. reached-follows items s2 b kept)
 
   on_end : (begun : Bool) (p : DumpProgress) (a : A) → R p.done p.current a
@@ -186,18 +186,18 @@ module _ {A : Type 0} (with_change : A → ℕ → List Bit → A) (with_instant
   )
   on_end false p a r = (a, refl, (p.current, r))
 
-  end-follows : (s : Whole) (a : A) (stood : Result BodyStanding VcdFault) → R s.progress.done s.progress.current a
+  end-follows : (s : Whole) (a : A) (stood : Result BodyContext VcdFault) → R s.progress.done s.progress.current a
       → Follows (Ends R) (stood >>= λ end. Ok (instants_at s.progress))
       (stood >>= λ end. Ok (ended with_instant (taking_at s.progress a)))
   end-follows s a (Ok stood) r = let e = on_end s.progress.begun s.progress a r in (e.0, ap Ok e.1, e.2)
   end-follows s a (Err fault) r = refl
 
   ends-follow : (w : Result Whole VcdFault) (t : Result (State A) VcdFault) → KeepsState w t
-      → Follows (Ends R) (w >>= λ s. at_the_end s.standing >>= λ end. Ok (instants_at s.progress))
+      → Follows (Ends R) (w >>= λ s. at_the_end s.context >>= λ end. Ok (instants_at s.progress))
       (t >>= at_end with_instant)
   ends-follow (Ok s) t k =
-      subst (λ (t : Result (State A) VcdFault). Follows (Ends R) (at_the_end s.standing >>= λ end. Ok
-      (instants_at s.progress)) (t >>= at_end with_instant)) (sym k.1) (end-follows s k.0 (at_the_end s.standing) k.2)
+      subst (λ (t : Result (State A) VcdFault). Follows (Ends R) (at_the_end s.context >>= λ end. Ok
+      (instants_at s.progress)) (t >>= at_end with_instant)) (sym k.1) (end-follows s k.0 (at_the_end s.context) k.2)
   ends-follow (Err fault) t k = ap (λ (t : Result (State A) VcdFault). t >>= at_end with_instant) k
 
   -- what is taken of a body and its instants

@@ -6,8 +6,8 @@ use Rattle.vcd_read.specs.declared.dump.Bit.{Bit}
 use Rattle.vcd_read.specs.declared.fault.VcdFault.{VcdFault}
 use Rattle.vcd_read.specs.Numbers.{number}
 use Rattle.vcd_read.specs.Header.{◌>>=◌, Net}
-use Rattle.vcd_read.specs.Body.{BodyItem, time_item, change, skipped, bracket_open, bracket_end, wrong, BodyStanding}
-use Rattle.vcd_read.specs.Body.{stand_after}
+use Rattle.vcd_read.specs.Body.{BodyItem, time_item, change, skipped, bracket_open, bracket_end, wrong, BodyContext}
+use Rattle.vcd_read.specs.Body.{context_after}
 use Rattle.vcd_read.specs.Meaning.{items_before_fault, last_time}
 use Rattle.vcd_read.specs.Taking.{State, Taking, progress_after, reached_before}
 
@@ -33,12 +33,12 @@ module _ {A : Type 0} (with_change : A → ℕ → List Bit → A) (with_instant
   item_time p (bracket_end line) items = refl
   item_time p (wrong line kind) items = refl
 
-  abbrev state_of : Taking A → Result BodyStanding VcdFault → Result (State A) VcdFault
-  state_of p stood = stood >>= λ next. Ok (record { standing = next; progress = p })
+  abbrev state_of : Taking A → Result BodyContext VcdFault → Result (State A) VcdFault
+  state_of p stood = stood >>= λ next. Ok (record { context = next; progress = p })
 
-  time_step : (s : State A) (item : BodyItem) (items : List BodyItem) (stood : Result BodyStanding VcdFault)
+  time_step : (s : State A) (item : BodyItem) (items : List BodyItem) (stood : Result BodyContext VcdFault)
       → ((next : State A) → (reached_before with_change with_instant nets next items).progress.time
-      ≡ last_time next.progress.time (items_before_fault nets next.standing items))
+      ≡ last_time next.progress.time (items_before_fault nets next.context items))
       → (elim (state_of (progress_after with_change with_instant nets s.progress item) stood) as (λ _. State A) [
         | Ok next ↦ reached_before with_change with_instant nets next items
         | Err fault ↦ s
@@ -50,7 +50,7 @@ module _ {A : Type 0} (with_change : A → ℕ → List Bit → A) (with_instant
   unfolding last_time
   time_step s item items (Ok next) rest =
       let after : State A = record {
-        standing = next;
+        context = next;
         progress = progress_after with_change with_instant nets s.progress item;
       } in
       rest after ∙ item_time s.progress item (items_before_fault nets next items)
@@ -59,8 +59,8 @@ module _ {A : Type 0} (with_change : A → ℕ → List Bit → A) (with_instant
   -- how far items come, up to the first that is a fault, is where the last time before it is told
   pub reached_time : (s : State A) (items : List BodyItem)
       → (reached_before with_change with_instant nets s items).progress.time
-      ≡ last_time s.progress.time (items_before_fault nets s.standing items)
+      ≡ last_time s.progress.time (items_before_fault nets s.context items)
   unfolding reached_before items_before_fault last_time
   reached_time s [] = refl
-  reached_time s (item ∷ items) = time_step s item items (stand_after nets s.standing item)
+  reached_time s (item ∷ items) = time_step s item items (context_after nets s.context item)
       (λ next. reached_time next items)

@@ -96,7 +96,7 @@ body_from (in_comment line) (t ∷ ts) = elim (is_end t.bytes) [
 -- ---- the first fault
 
 -- the current time, and the line of the bracket that is open
-pub record BodyStanding : Type 0 where
+pub record BodyContext : Type 0 where
   pub now : ℕ
   pub bracket : Option ℕ
 
@@ -116,26 +116,26 @@ abbrev pub fitting : List Net → ℕ → Option ℕ → Result ℕ FaultKind
 fitting nets digits None = Err UndeclaredCode
 fitting nets digits (Some net) = if nat_lt (size_of nets net) digits then Err TooWide else Ok net
 
-abbrev pub stand_after : List Net → BodyStanding → BodyItem → Result BodyStanding VcdFault
-stand_after nets s (time_item line digits) = at_line line
+abbrev pub context_after : List Net → BodyContext → BodyItem → Result BodyContext VcdFault
+context_after nets s (time_item line digits) = at_line line
     (time_of digits >>= λ n. time_after s.now n >>= λ now. Ok (record s { now = now }))
-stand_after nets s (change line digits code) = at_line line
+context_after nets s (change line digits code) = at_line line
     (fitting nets (length digits) (net_of nets code) >>= λ net. Ok s)
-stand_after nets s (skipped line code) = at_line line (fitting nets 0 (net_of nets code) >>= λ net. Ok s)
-stand_after nets s (bracket_open line) = at_line line
+context_after nets s (skipped line code) = at_line line (fitting nets 0 (net_of nets code) >>= λ net. Ok s)
+context_after nets s (bracket_open line) = at_line line
     (opened_at line s.bracket >>= λ bracket. Ok (record s { bracket = bracket }))
-stand_after nets s (bracket_end line) = at_line line
+context_after nets s (bracket_end line) = at_line line
     (closed s.bracket >>= λ bracket. Ok (record s { bracket = bracket }))
-stand_after nets s (wrong line kind) = Err (record { line = line; kind = kind })
+context_after nets s (wrong line kind) = Err (record { line = line; kind = kind })
 
-unfoldable pub stand_after_all : List Net → BodyStanding → List BodyItem → Result BodyStanding VcdFault
-stand_after_all nets s [] = Ok s
-stand_after_all nets s (item ∷ items) = stand_after nets s item >>= λ next. stand_after_all nets next items
+unfoldable pub context_after_all : List Net → BodyContext → List BodyItem → Result BodyContext VcdFault
+context_after_all nets s [] = Ok s
+context_after_all nets s (item ∷ items) = context_after nets s item >>= λ next. context_after_all nets next items
 
 -- an open bracket is met at the end of the text
-abbrev pub at_the_end : BodyStanding → Result BodyStanding VcdFault
+abbrev pub at_the_end : BodyContext → Result BodyContext VcdFault
 at_the_end s = elim s.bracket [ None ↦ Ok s | Some line ↦ Err (record { line = line; kind = UnfinishedSection }) ]
 
 -- a body is read from time 0, with no bracket open
-abbrev pub first_standing : BodyStanding
-first_standing = record { now = 0; bracket = None }
+abbrev pub first_context : BodyContext
+first_context = record { now = 0; bracket = None }

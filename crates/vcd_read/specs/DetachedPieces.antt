@@ -1,4 +1,4 @@
--- A piece that is read apart from what stands before it, and where it fits.
+-- A piece that is read without what stands before it, and where it fits.
 use Rattle.std.specs.Prelude.{◌≡◌, ℕ, ◌≤◌, false, ◌&&◌, ◌==◌, not, if◌then◌else◌, List, [], ◌∷◌, Option, Some, None, Ok}
 use Rattle.vcd_read.specs.declared.dump.Bit.{Bit}
 use Rattle.vcd_read.specs.declared.detached_piece.DetachedPiece.{DetachedPiece}
@@ -11,7 +11,7 @@ use Rattle.vcd_read.specs.Taking.{Taking, State, taking, state_at, steps}
 use Rattle.vcd_read.specs.Reached.{Reached}
 
 -- What came of a piece that was read as if between two items, outside of brackets, at the time that it begins with.
-pub record ReadApart (A : Type 0) : Type 0 where
+pub record ReadDetached (A : Type 0) : Type 0 where
   -- the time that it begins with
   pub time : ℕ
   -- the line that it begins on
@@ -22,9 +22,9 @@ pub record ReadApart (A : Type 0) : Type 0 where
   -- the line that it ends on
   pub line : ℕ
 
--- a piece that is read apart, by what was taken
-abbrev pub read_apart : {T A : Type 0} → (T → A) → DetachedPiece T → ReadApart A
-read_apart taken a =
+-- a piece that is read by itself, by what was taken
+abbrev pub read_detached : {T A : Type 0} → (T → A) → DetachedPiece T → ReadDetached A
+read_detached taken a =
     record {
       time = a.time;
       first_line = a.first_line;
@@ -44,23 +44,24 @@ abbrev pub before_piece : {A : Type 0} → A → ℕ → State A
 before_piece before time = state_at (record { taken = before; time = time; begun = false }) None
 
 -- the items of a piece that begins on this line, between two items
-abbrev pub items_apart : ℕ → List ℕ → List BodyItem
-items_apart line bytes = body_from ready (tokens_from line bytes)
+abbrev pub detached_items : ℕ → List ℕ → List BodyItem
+detached_items line bytes = body_from ready (tokens_from line bytes)
 
--- these bytes were read apart, by a taker that had taken this before
-pub record IsReadApart {A : Type 0} (with_change : A → ℕ → List Bit → A) (with_instant : A → ℕ → A)
-    (nets : List Net) (bytes : List ℕ) (before : A) (apart : ReadApart A) : Type 0 where
-  pub begins : time_first (items_apart apart.first_line bytes) ≡ Some apart.time
-  pub whole : steps with_change with_instant nets (before_piece before apart.time)
-      (items_apart apart.first_line bytes) ≡ Ok (state_at apart.progress apart.bracket)
-  pub line : apart.line ≡ line_behind apart.first_line bytes
+-- these bytes were read by themselves, by a taker that had taken this before
+pub record IsReadDetached {A : Type 0} (with_change : A → ℕ → List Bit → A) (with_instant : A → ℕ → A)
+    (nets : List Net) (bytes : List ℕ) (before : A) (detached : ReadDetached A) : Type 0 where
+  pub begins : time_first (detached_items detached.first_line bytes) ≡ Some detached.time
+  pub whole : steps with_change with_instant nets (before_piece before detached.time)
+      (detached_items detached.first_line bytes) ≡ Ok (state_at detached.progress detached.bracket)
+  pub line : detached.line ≡ line_behind detached.first_line bytes
 
--- what was read apart fits behind what is read so far: between two items, outside of brackets, at no later time
-pub record MayFollow {A B : Type 0} (r : Reached B) (apart : ReadApart A) : Type 0 where
+-- a piece that was read by itself fits behind what is read so far: between two items, outside of brackets, at no later
+-- time
+pub record MayFollow {A B : Type 0} (r : Reached B) (detached : ReadDetached A) : Type 0 where
   pub place : r.place ≡ ready
   pub bracket : r.bracket ≡ None
-  pub time : r.progress.time ≤ apart.time
-  pub line : r.line ≡ apart.first_line
+  pub time : r.progress.time ≤ detached.time
+  pub line : r.line ≡ detached.first_line
 
 -- the time of the instant that a time ends, where it ends one
 abbrev pub ended_at : {A : Type 0} → Taking A → ℕ → Option ℕ
@@ -71,10 +72,17 @@ abbrev pub entered : {A : Type 0} → (A → ℕ → A) → A → Option ℕ →
 entered with_instant a None = a
 entered with_instant a (Some time) = with_instant a time
 
--- how far the body is read behind a piece that was read apart
-abbrev pub behind_piece : {A : Type 0} → List Net → ReadApart A → Reached A
-behind_piece nets apart =
-    record { nets = nets; progress = apart.progress; bracket = apart.bracket; place = ready; line = apart.line }
+-- how far the body is read behind a piece that was read by itself
+abbrev pub behind_piece : {A : Type 0} → List Net → ReadDetached A → Reached A
+behind_piece nets detached =
+    record {
+      nets = nets;
+      progress = detached.progress;
+      bracket = detached.bracket;
+      place = ready;
+      line =
+          detached.line;
+    }
 
 -- the same place, with something else taken
 abbrev pub with_taken : {A B : Type 0} → B → Reached A → Reached B
@@ -88,8 +96,8 @@ with_taken b r =
     }
 
 -- the same piece, with something else taken
-abbrev pub apart_with : {A B : Type 0} → B → ReadApart A → ReadApart B
-apart_with b a =
+abbrev pub detached_with : {A B : Type 0} → B → ReadDetached A → ReadDetached B
+detached_with b a =
     record {
       time = a.time;
       first_line = a.first_line;

@@ -7,7 +7,7 @@ use Rattle.vcd_read.specs.declared.dump.Instant.{Instant}
 use Rattle.vcd_read.specs.declared.fault.VcdFault.{VcdFault}
 use Rattle.vcd_read.specs.Numbers.{number, extended}
 use Rattle.vcd_read.specs.Header.{◌>>=◌, Net, net_of, size_of}
-use Rattle.vcd_read.specs.Body.{BodyItem, time_item, change, BodyStanding, stand_after}
+use Rattle.vcd_read.specs.Body.{BodyItem, time_item, change, BodyContext, context_after}
 
 -- The instants before the current time, and the last value of each net at it.
 pub record DumpProgress : Type 0 where
@@ -51,12 +51,12 @@ progress_after nets p item = p
 -- ---- both together
 
 pub record DumpState : Type 0 where
-  pub standing : BodyStanding
+  pub context : BodyContext
   pub progress : DumpProgress
 
 abbrev pub step : List Net → DumpState → BodyItem → Result DumpState VcdFault
-step nets s item = stand_after nets s.standing item
-    >>= λ next. Ok (record { standing = next; progress = progress_after nets s.progress item })
+step nets s item = context_after nets s.context item
+    >>= λ next. Ok (record { context = next; progress = progress_after nets s.progress item })
 
 unfoldable pub steps : List Net → DumpState → List BodyItem → Result DumpState VcdFault
 steps nets s [] = Ok s

@@ -13,8 +13,8 @@ use Rattle.vcd_read.specs.Tokens.{Token, tokens, line_after}
 use Rattle.vcd_read.specs.Numbers.{number, extended}
 use Rattle.vcd_read.specs.Header.{◌>>=◌, Net, net_of, size_of, between, header_from, declare_all, nothing_declared}
 use Rattle.vcd_read.specs.Header.{appended}
-use Rattle.vcd_read.specs.Body.{BodyItem, time_item, change, ready, body_from, first_standing, stand_after_all}
-use Rattle.vcd_read.specs.Body.{BodyStanding, at_the_end, stand_after}
+use Rattle.vcd_read.specs.Body.{BodyItem, time_item, change, ready, body_from, first_context, context_after_all}
+use Rattle.vcd_read.specs.Body.{BodyContext, at_the_end, context_after}
 
 -- ---- the instants
 
@@ -75,21 +75,21 @@ body_of text (Some body) = Ok body
 -- the instants of a body, or else its first fault
 abbrev pub instants_from : List Net → List Token → Result (List Instant) VcdFault
 instants_from nets body = do
-  end ← stand_after_all nets first_standing (body_from ready body)
+  end ← context_after_all nets first_context (body_from ready body)
   stood ← at_the_end end
   Ok (instants_of nets (body_from ready body))
 
 -- the items before the first that is a fault, or all of them
-unfoldable pub items_before_fault : List Net → BodyStanding → List BodyItem → List BodyItem
+unfoldable pub items_before_fault : List Net → BodyContext → List BodyItem → List BodyItem
 items_before_fault nets s [] = []
-items_before_fault nets s (item ∷ items) = elim (stand_after nets s item) [
+items_before_fault nets s (item ∷ items) = elim (context_after nets s item) [
   | Ok next ↦ item ∷ items_before_fault nets next items
   | Err fault ↦ []
 ]
 
 -- the instants before the first fault of a body, or all of them
 abbrev pub instants_before_fault : List Net → List Token → List Instant
-instants_before_fault nets body = instants_of nets (items_before_fault nets first_standing (body_from ready body))
+instants_before_fault nets body = instants_of nets (items_before_fault nets first_context (body_from ready body))
 
 -- the last time that these items tell, or else this one
 unfoldable pub last_time : ℕ → List BodyItem → ℕ
@@ -99,7 +99,7 @@ last_time now (item ∷ items) = last_time now items
 
 -- the last time that a body tells before its first fault, or its end; 0 where it tells none
 abbrev pub last_time_before_fault : List Net → List Token → ℕ
-last_time_before_fault nets body = last_time 0 (items_before_fault nets first_standing (body_from ready body))
+last_time_before_fault nets body = last_time 0 (items_before_fault nets first_context (body_from ready body))
 
 -- the dump that a text is, or else its first fault
 unfoldable pub dump_of : List ℕ → Result Contents VcdFault

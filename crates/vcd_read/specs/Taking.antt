@@ -10,7 +10,7 @@ use Rattle.vcd_read.specs.Reading.{line_of}
 use Rattle.vcd_read.specs.declared.body_piece.BodyPiece.{BodyPiece}
 use Rattle.vcd_read.specs.declared.body_piece.Start.{Start}
 use Rattle.vcd_read.specs.Header.{◌>>=◌, Net, net_of, size_of}
-use Rattle.vcd_read.specs.Body.{BodyItem, time_item, change, BodyStanding, stand_after, at_the_end, ready, body_from}
+use Rattle.vcd_read.specs.Body.{BodyItem, time_item, change, BodyContext, context_after, at_the_end, ready, body_from}
 
 -- what came of the changes, with the current time
 pub record Taking (A : Type 0) : Type 0 where
@@ -23,12 +23,12 @@ abbrev pub taking : {A : Type 0} → A → Clock → Taking A
 taking a clock = record { taken = a; time = clock.time; begun = clock.begun }
 
 pub record State (A : Type 0) : Type 0 where
-  pub standing : BodyStanding
+  pub context : BodyContext
   pub progress : Taking A
 
 -- how far a body is read, with the line of the bracket that is open
 abbrev pub state_at : {A : Type 0} → Taking A → Option ℕ → State A
-state_at timed bracket = record { standing = record { now = timed.time; bracket = bracket }; progress = timed }
+state_at timed bracket = record { context = record { now = timed.time; bracket = bracket }; progress = timed }
 
 -- the same, where it starts in the piece that is read, or before it
 abbrev pub state_of : {A : Type 0} → BodyPiece → Taking A → Option Start → State A
@@ -37,7 +37,7 @@ state_of text timed bracket = state_at timed (option_map (line_of text) bracket)
 -- before any item
 abbrev pub at_first : {A : Type 0} → A → State A
 at_first a = record {
-  standing = record { now = 0; bracket = None };
+  context = record { now = 0; bracket = None };
   progress = record { taken = a; time = 0; begun = false };
 }
 
@@ -53,7 +53,7 @@ module _ {A : Type 0} (with_instant : A → ℕ → A) where
 
   -- what comes of a body that is read to its end
   abbrev pub at_end : State A → Result A VcdFault
-  at_end s = at_the_end s.standing >>= λ stood. Ok (ended s.progress)
+  at_end s = at_the_end s.context >>= λ stood. Ok (ended s.progress)
 
 abbrev pub changed : {A : Type 0} → (A → ℕ → List Bit → A) → Taking A → ℕ → List Bit → Taking A
 changed with_change p net bits = record p { taken = with_change p.taken net bits; begun = true }
@@ -67,8 +67,8 @@ module _ {A : Type 0} (with_change : A → ℕ → List Bit → A) (with_instant
   progress_after p item = p
 
   abbrev pub step : State A → BodyItem → Result (State A) VcdFault
-  step s item = stand_after nets s.standing item
-      >>= λ next. Ok (record { standing = next; progress = progress_after s.progress item })
+  step s item = context_after nets s.context item
+      >>= λ next. Ok (record { context = next; progress = progress_after s.progress item })
 
   unfoldable pub steps : State A → List BodyItem → Result (State A) VcdFault
   steps s [] = Ok s

@@ -6,7 +6,7 @@ use Rattle.vcd_read.specs.declared.fault.FaultKind.TheVariants.{TimeBackwards, N
 use Rattle.vcd_read.specs.declared.dump.Bit.TheVariants.{Zero, One, X, Z}
 use Rattle.vcd_read.specs.Tokens.{cut_from}
 use Rattle.vcd_read.specs.Header.{header_from, declare_all, size_of}
-use Rattle.vcd_read.specs.Body.{body_from, stand_after_all}
+use Rattle.vcd_read.specs.Body.{body_from, context_after_all}
 use Rattle.vcd_read.specs.Numbers.{extended}
 use Rattle.vcd_read.specs.Contents.{Contents}
 use Rattle.vcd_read.specs.Meaning.{dump_of, changes_from, times_from, last_at}
@@ -20,47 +20,47 @@ abbrev head : List ℕ
 head = codes "$var wire 1 p AS $end\n$enddefinitions $end\n"
 
 undeclared_code : dump_of (head ++ codes "1q") ≡ fault_at 3 UndeclaredCode
-unfolding dump_of declare_all header_from cut_from body_from stand_after_all changes_from times_from last_at size_of
+unfolding dump_of declare_all header_from cut_from body_from context_after_all changes_from times_from last_at size_of
 undeclared_code = refl
 
 too_wide : dump_of (head ++ codes "b10 p") ≡ fault_at 3 TooWide
-unfolding dump_of declare_all header_from cut_from body_from stand_after_all changes_from times_from last_at size_of
+unfolding dump_of declare_all header_from cut_from body_from context_after_all changes_from times_from last_at size_of
 too_wide = refl
 
 time_backwards : dump_of (head ++ codes "#5\n#4") ≡ fault_at 4 TimeBackwards
-unfolding dump_of declare_all header_from cut_from body_from stand_after_all changes_from times_from last_at size_of
+unfolding dump_of declare_all header_from cut_from body_from context_after_all changes_from times_from last_at size_of
 time_backwards = refl
 
 number_too_large : dump_of (head ++ codes "#18446744073709551616") ≡ fault_at 3 NumberTooLarge
-unfolding dump_of declare_all header_from cut_from body_from stand_after_all changes_from times_from last_at size_of
+unfolding dump_of declare_all header_from cut_from body_from context_after_all changes_from times_from last_at size_of
 number_too_large = refl
 
 bad_token : dump_of (head ++ codes "2p") ≡ fault_at 3 BadToken
-unfolding dump_of declare_all header_from cut_from body_from stand_after_all changes_from times_from last_at size_of
+unfolding dump_of declare_all header_from cut_from body_from context_after_all changes_from times_from last_at size_of
 bad_token = refl
 
 unfinished_section : dump_of (head ++ codes "$dumpvars 1p") ≡ fault_at 3 UnfinishedSection
-unfolding dump_of declare_all header_from cut_from body_from stand_after_all changes_from times_from last_at size_of
+unfolding dump_of declare_all header_from cut_from body_from context_after_all changes_from times_from last_at size_of
 unfinished_section = refl
 
 scope_underflow : dump_of (codes "$upscope $end") ≡ fault_at 1 ScopeUnderflow
-unfolding dump_of declare_all header_from cut_from body_from stand_after_all changes_from times_from last_at size_of
+unfolding dump_of declare_all header_from cut_from body_from context_after_all changes_from times_from last_at size_of
 scope_underflow = refl
 
 bad_variable : dump_of (codes "$var wire 1 p $end") ≡ fault_at 1 BadVar
-unfolding dump_of declare_all header_from cut_from body_from stand_after_all changes_from times_from last_at size_of
+unfolding dump_of declare_all header_from cut_from body_from context_after_all changes_from times_from last_at size_of
 bad_variable = refl
 
 no_end_of_definitions : dump_of (codes "$var wire 1 p AS $end\n") ≡ fault_at 2 NoEndDefinitions
-unfolding dump_of declare_all header_from cut_from body_from stand_after_all changes_from times_from last_at size_of
+unfolding dump_of declare_all header_from cut_from body_from context_after_all changes_from times_from last_at size_of
 no_end_of_definitions = refl
 
 size_conflict : dump_of (codes "$var wire 1 p AS $end\n$var wire 2 p B $end") ≡ fault_at 2 SizeConflict
-unfolding dump_of declare_all header_from cut_from body_from stand_after_all changes_from times_from last_at size_of
+unfolding dump_of declare_all header_from cut_from body_from context_after_all changes_from times_from last_at size_of
 size_conflict = refl
 
 empty_text : dump_of [] ≡ fault_at 1 NoEndDefinitions
-unfolding dump_of declare_all header_from cut_from body_from stand_after_all changes_from times_from last_at size_of
+unfolding dump_of declare_all header_from cut_from body_from context_after_all changes_from times_from last_at size_of
 empty_text = refl
 
 zero_extends_one : extended 6 (codes "1x") ≡ Zero ∷ Zero ∷ Zero ∷ Zero ∷ One ∷ X ∷ []
@@ -90,5 +90,5 @@ whole : dump_of (codes "$timescale 1 ns $end $scope module bus $end $var wire 2 
           }
           ∷ [];
     })
-unfolding dump_of declare_all header_from cut_from body_from stand_after_all changes_from times_from last_at size_of
+unfolding dump_of declare_all header_from cut_from body_from context_after_all changes_from times_from last_at size_of
 whole = refl

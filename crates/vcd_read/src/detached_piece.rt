@@ -1,8 +1,8 @@
-//! Pieces of a body that are read apart from one another, and joined in order.
+//! Pieces of a body that are read by themselves, and joined in order.
 
 ghost use Rattle.std.specs.Prelude.{◌≡◌, ◌↔◌, IsTrue, IfSome, None, Some};
-ghost use Rattle.vcd_read.specs.DetachedPieces.{MayFollow, IsReadApart, read_apart, time_first};
-ghost use Rattle.vcd_read.specs.DetachedPieces.{apart_with, behind_piece, ended_at, with_taken};
+ghost use Rattle.vcd_read.specs.DetachedPieces.{MayFollow, IsReadDetached, read_detached, time_first};
+ghost use Rattle.vcd_read.specs.DetachedPieces.{detached_with, behind_piece, ended_at, with_taken};
 ghost use Rattle.vcd_read.specs.Body.{body_from, ready};
 ghost use Rattle.vcd_read.specs.Reached.{reached};
 ghost use Rattle.vcd_read.specs.Reading.{left_at};
@@ -53,8 +53,9 @@ fn first_time(text: BodyPiece<'_>) -> Option<u64>
 impl<T: ChangeVisitor> DetachedPiece<T> {
     /// The same piece, with another taker. The one before is handed back.
     pub fn with_visitor<N: ChangeVisitor>(self, visitor: N) -> (DetachedPiece<N>, T)
-        ensures apart { read_apart N.taken result.0 ≡ apart_with (N.taken visitor) (read_apart T.taken self) }
-        ensures visitor { T.taken result.1 ≡ (read_apart T.taken self).progress.taken }
+        ensures detached { read_detached N.taken result.0
+            ≡ detached_with (N.taken visitor) (read_detached T.taken self) }
+        ensures visitor { T.taken result.1 ≡ (read_detached T.taken self).progress.taken }
     {
         let DetachedPiece {
             time,
@@ -68,14 +69,14 @@ impl<T: ChangeVisitor> DetachedPiece<T> {
             clock,
         } = timed;
         let timed = TimedVisitor { visitor, clock };
-        let apart = DetachedPiece {
+        let detached = DetachedPiece {
             time,
             first_line,
             timed,
             bracket,
             line,
         };
-        (apart, before)
+        (detached, before)
     }
 }
 
@@ -83,16 +84,16 @@ impl<T: ChangeVisitor> Pieces<T> {
     /// Reads a piece that begins on this line and ends behind a space, or where the text does, and gives its changes to
     /// a taker of its own. None is given of a piece that begins with no time, has a fault or ends within an item, nor
     /// where memory runs out.
-    pub fn apart<N: ChangeVisitor>(
+    pub fn detached<N: ChangeVisitor>(
         &self,
         alloc: Global,
         piece: &[u8],
         line: u64,
         visitor: N,
     ) -> Option<DetachedPiece<N>>
-        ensures line { IfSome result (λ apart. (read_apart N.taken apart).first_line ≡ line) }
-        ensures read { IfSome result (λ apart. IsReadApart N.with_change N.with_instant
-            (reached T.taken self.now).nets piece.now (N.taken visitor) (read_apart N.taken apart)) }
+        ensures line { IfSome result (λ detached. (read_detached N.taken detached).first_line ≡ line) }
+        ensures read { IfSome result (λ detached. IsReadDetached N.with_change N.with_instant
+            (reached T.taken self.now).nets piece.now (N.taken visitor) (read_detached N.taken detached)) }
     {
         if u64::MAX - line <= piece.len() as u64 {
             return None;
@@ -130,7 +131,7 @@ impl<T: ChangeVisitor> Pieces<T> {
     }
 
     /// Whether what is read so far ends between two items, and outside of brackets. Elsewhere no piece that is read
-    /// apart may be joined.
+    /// by itself may be joined.
     pub fn is_between_items(&self) -> bool
         ensures { IsTrue result ↔ ((reached T.taken self.now).place ≡ ready)
             × ((reached T.taken self.now).bracket ≡ None) }
@@ -138,34 +139,34 @@ impl<T: ChangeVisitor> Pieces<T> {
         matches!(self.underway.place, OpenItem::Ready) && self.underway.bracket.is_none()
     }
 
-    /// Whether a piece that was read apart may be joined: what is read so far ends on the line that it begins on,
+    /// Whether a piece that was read by itself may be joined: what is read so far ends on the line that it begins on,
     /// between two items, outside of brackets and at no later time.
-    pub fn may_join<N: ChangeVisitor>(&self, apart: &DetachedPiece<N>) -> bool
-        ensures { IsTrue result ↔ MayFollow (reached T.taken self.now) (read_apart N.taken apart.now) }
+    pub fn may_join<N: ChangeVisitor>(&self, detached: &DetachedPiece<N>) -> bool
+        ensures { IsTrue result ↔ MayFollow (reached T.taken self.now) (read_detached N.taken detached.now) }
     {
         self.is_between_items()
-            && self.underway.timed.clock.time <= apart.time
-            && self.line == apart.first_line
+            && self.underway.timed.clock.time <= detached.time
+            && self.line == detached.first_line
     }
 
     /// The time of the instant that a piece ends by the time that it begins with, if it ends one.
-    pub fn ended_by<N: ChangeVisitor>(&self, apart: &DetachedPiece<N>) -> Option<u64>
-        ensures { result ≡ ended_at (reached T.taken self.now).progress (read_apart N.taken apart.now).time }
+    pub fn ended_by<N: ChangeVisitor>(&self, detached: &DetachedPiece<N>) -> Option<u64>
+        ensures { result ≡ ended_at (reached T.taken self.now).progress (read_detached N.taken detached.now).time }
     {
         let clock = self.underway.timed.clock;
-        if clock.begun && apart.time != clock.time {
+        if clock.begun && detached.time != clock.time {
             Some(clock.time)
         } else {
             None
         }
     }
 
-    /// Goes on behind a piece that was read apart, with the taker of that. The taker of what stands before it is handed
-    /// back; it was told nothing of the piece, nor of the end of an instant that the piece ends.
-    pub fn join<N: ChangeVisitor>(self, apart: DetachedPiece<N>) -> (Pieces<N>, T)
-        requires { MayFollow (reached T.taken self) (read_apart N.taken apart) }
+    /// Goes on behind a piece that was read by itself, with the taker of that. The taker of what stands before it is
+    /// handed back; it was told nothing of the piece, nor of the end of an instant that the piece ends.
+    pub fn join<N: ChangeVisitor>(self, detached: DetachedPiece<N>) -> (Pieces<N>, T)
+        requires { MayFollow (reached T.taken self) (read_detached N.taken detached) }
         ensures behind { reached N.taken result.0
-            ≡ behind_piece (reached T.taken self).nets (read_apart N.taken apart) }
+            ≡ behind_piece (reached T.taken self).nets (read_detached N.taken detached) }
         ensures visitor { T.taken result.1 ≡ (reached T.taken self).progress.taken }
     {
         let Pieces {
@@ -179,7 +180,7 @@ impl<T: ChangeVisitor> Pieces<T> {
             timed,
             bracket,
             line,
-        } = apart;
+        } = detached;
         let visitor = underway.timed.visitor;
         let underway = BodyState {
             timed,

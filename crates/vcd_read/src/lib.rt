@@ -26,8 +26,8 @@
 //!   comes what took all that stands before it, and the last time there ([`Stopped`],
 //!   `ContinuesOrStops`).
 //! - A piece that is read apart is read as it is in its place, where it fits, and `may_join` says
-//!   yes exactly there (`IsReadApart`, `MayFollow`).
-//! - [`whole_tokens`] cuts a text where no token goes on (`apart`).
+//!   yes exactly there (`IsReadDetached`, `MayFollow`).
+//! - [`whole_tokens`] cuts a text where no token goes on (`detached`).
 //!
 //! # What isn't proved
 //!

@@ -255,7 +255,7 @@ struct KeptPiece<'a> {
 }
 
 /// Reads each piece of a body apart from the others.
-fn read_apart<'a>(
+fn read_detached<'a>(
     alloc: Global,
     pieces: &Pieces<Telling>,
     body: &'a [u8],
@@ -267,7 +267,7 @@ fn read_apart<'a>(
     for end in ends {
         let piece = body.get(from..*end).unwrap_or(&[]);
         let visits = Vec::new(alloc);
-        let apart = pieces.apart(alloc, piece, line, Keeping { visits });
+        let apart = pieces.detached(alloc, piece, line, Keeping { visits });
         all.push(KeptPiece { piece, apart })?;
         line = line.saturating_add(line_feeds(piece));
         from = *end;
@@ -319,7 +319,7 @@ fn shown_by_joining(
     let Some((pieces, _)) = begun(alloc, front)? else {
         return Ok(None);
     };
-    let all = read_apart(alloc, &pieces, body, ends)?;
+    let all = read_detached(alloc, &pieces, body, ends)?;
     let mut so_far = Joined { pieces, count: 0 };
     for kept in all {
         so_far = join_piece(alloc, so_far, kept)?;

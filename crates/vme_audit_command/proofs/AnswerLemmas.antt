@@ -35,7 +35,7 @@ use Rattle.vme_audit_command.specs.declared.told.NoOutcome.TheVariants.{CannotRe
 use Rattle.vme_audit_command.specs.declared.told.TellFault.{TellFault}
 use Rattle.vme_audit_command.specs.declared.told.TellFault.TheVariants.{Memory, CannotWrite}
 use Rattle.vme_audit_command.proofs.LastLemmas.{some-of}
-use Rattle.vme_audit_command.proofs.Underway.{all-left, left_of}
+use Rattle.vme_audit_command.proofs.BodyPieces.{all-left, left_of}
 use Rattle.vme_audit_command.proofs.WriteLemmas.{fails-after, fails-longer, some-after, some-longer, writes-both}
 use Rattle.vme_audit_command.proofs.WriteLemmas.{writes-nothing}
 

@@ -11,7 +11,7 @@ use Rattle.vme_audit_command.specs.declared.dump_input.ReadFault.{ReadFault}
 use Rattle.vme_audit_command.specs.declared.dump_input.ReadFault.TheVariants as read
 use Rattle.vme_audit_command.specs.declared.told.NoOutcome.{NoOutcome}
 use Rattle.vme_audit_command.specs.declared.told.NoOutcome.TheVariants.{CannotRead, Refused, Untold}
-use Rattle.vme_audit_command.proofs.Underway.{all-at-end, all-left, all-of, left_of}
+use Rattle.vme_audit_command.proofs.BodyPieces.{all-at-end, all-left, all-of, left_of}
 
 -- all that was read is held
 pub all-held : (a b c : Option (List ℕ)) (held more now : List ℕ) → Consumes a b held → Consumes b c more

@@ -22,7 +22,7 @@ use Rattle.vme_audit_command.specs.DumpAudits.{break_lines}
 use Rattle.vme_audit_command.specs.SettledReadings.{settled_by, skew_of}
 use Rattle.vme_audit_command.specs.DumpAnswers.{AuditsDump, DumpAnswer, DumpRules, answer_by, dump_answer, dump_outcome}
 use Rattle.vme_audit_command.specs.DumpEnds.{AuditsNamed, EndsWith, RefusesAs, TellsEnd}
-use Rattle.vme_audit_command.specs.SeveralDumps.{IsEndOf, IsErrorLine, IsTextFront, NamedReading}
+use Rattle.vme_audit_command.specs.SeveralDumps.{IsEndOf, IsErrorLine, IsTextPrefix, NamedReading}
 use Rattle.vme_audit_command.specs.SeveralDumps.{TriesEach, answer_to, end_by, memory_line, refusal_line_of}
 use Rattle.vme_audit_command.specs.declared.told.NoOutcome.{NoOutcome}
 use Rattle.vme_audit_command.specs.declared.told.NoOutcome.TheVariants.{CannotRead, Refused, Untold}
@@ -61,10 +61,10 @@ ended-other rules head (Err fault) status is five = not-five 0 refl (ap status_o
 
 -- ---- what is told of a dump without an outcome
 
-pub whole-is-front : (text : List ℕ) → IsTextFront text text
+pub whole-is-front : (text : List ℕ) → IsTextPrefix text text
 whole-is-front text = (length text, sym (take-length text))
 
-module _ (name : List ℕ) (answer : DumpAnswer) (out : List ℕ) (is_front : IsTextFront out answer.out) where
+module _ (name : List ℕ) (answer : DumpAnswer) (out : List ℕ) (is_front : IsTextPrefix out answer.out) where
   -- there was no memory
   lacks : (before : List (List ℕ)) (last : List ℕ) (status : ℕ) → All (IsErrorLine name) before
       → (last ≡ memory_line) ⊎ (last ≡ refusal_line_of name refusal.Memory) → status ≡ 4
@@ -142,7 +142,7 @@ module _ (name : List ℕ) (answer : DumpAnswer) (out : List ℕ) (is_front : Is
 
 module _ (rules : DumpRules) (bound : BoundLines) (named : NamedReading) (u v e p : Writing) (status : ℕ) where
   ends-so : (bytes : List ℕ) → AreAll named.dump bytes → (out : List ℕ) → Writes u v out
-      → (is_front : IsTextFront out (answer_to rules bound named.name bytes).out)
+      → (is_front : IsTextPrefix out (answer_to rules bound named.name bytes).out)
       → EndsSo named.name (answer_to rules bound named.name bytes) out is_front e p status
       → AuditsNamed rules bound named (u, v) (e, p) status
   ends-so bytes all out writes is_front (errors, is, tries, other) = inl (record {

@@ -4,8 +4,8 @@ pub mod Onward
 pub mod BodyLemmas
 pub mod LastLemmas
 pub mod PieceLemmas
-pub mod Underway
-pub mod Given
+pub mod BodyPieces
+pub mod GivenPieces
 pub mod Refused
 pub mod DefinitionLemmas
 pub mod Later

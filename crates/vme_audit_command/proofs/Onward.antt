@@ -22,7 +22,7 @@ use Rattle.vme_step_reader.specs.StepReading.{StepReading, whole_reading}
 use Rattle.vme_step_reader.specs.Stops.{StopsBehind}
 use Rattle.vme_step_reader.specs.declared.stopped_steps.StoppedSteps.{StoppedSteps}
 use Rattle.vme_audit_command.specs.Bodies.{HasGiven}
-use Rattle.vme_audit_command.specs.Definitions.{GivenIsFront, IsFormed}
+use Rattle.vme_audit_command.specs.Definitions.{GivenIsPrefix, IsFormed}
 use Rattle.vme_audit_command.specs.SettledReadings.{settled_before, settled_by, settled_so_far, settled_whole}
 use Rattle.vme_audit_command.specs.SettledSteps.{ComesOut, GoOnFrom, GoOnTo}
 use Rattle.vme_step_auditor.specs.ReadBy.{GivenSteps}
@@ -169,7 +169,7 @@ module _ (skew : Option ℕ) (settler : Option Settling) (given : Trace) (from :
 
 -- ---- what reading comes to
 
-module _ (front : GivenIsFront) (follows : StepsFollow) (on : TimeGoesOn) (skew : Option ℕ) (r : StepReading)
+module _ (front : GivenIsPrefix) (follows : StepsFollow) (on : TimeGoesOn) (skew : Option ℕ) (r : StepReading)
     (rest : List ℕ) where
   -- from a time that is known
   pub reading-on : (known : ℕ) → known ≤ (whole_reading r []).time → r.given.opening.slots ≤ 21
@@ -280,7 +280,7 @@ module _ (follows : StepsFollow) (within : StepsWithin) (on : TimeGoesOn) (skew 
         (subst (λ (v : Levels). v.slots ≤ 21) (sym (whole-opens skew (with_steps r.given steps))) h.few))
 
   -- a piece more
-  module _ (front : GivenIsFront) (next : StepReading) (steps : List Step) (piece : List ℕ)
+  module _ (front : GivenIsPrefix) (next : StepReading) (steps : List Step) (piece : List ℕ)
       (taken : (rest : List ℕ) → whole_reading r (piece ++ rest) ≡ whole_reading next rest)
       (given : next.given ≡ with_steps r.given steps) where
     piece-is : (more : List Step)

@@ -18,8 +18,8 @@ use Rattle.vme_audit_command.specs.declared.told.NoOutcome.TheVariants.{CannotRe
 use Rattle.vme_audit_command.specs.declared.told.TellFault.TheVariants.{Memory, CannotWrite}
 
 -- what is given is a front of what is recorded, whatever follows
-abbrev pub GivenIsFront : Type 0
-GivenIsFront = (r : StepReading) (rest : List ℕ)
+abbrev pub GivenIsPrefix : Type 0
+GivenIsPrefix = (r : StepReading) (rest : List ℕ)
     → (more : List Step) × ((whole_reading r rest).recorded ≡ with_steps r.given more)
 
 -- whatever follows, each step that is recorded may stand where it stands

@@ -10,7 +10,7 @@ use Rattle.vme_stream.specs.Outputs.{Writes, FailsToWrite}
 use Rattle.vme_answer.specs.Texts.{line_of}
 use Rattle.vme_audit.specs.Parts.{breaks}
 use Rattle.vme_audit.specs.declared.allowance.Allowance.{Allowance}
-use Rattle.vme_audit_lines.specs.AuditLines.{audit_break_text, standing_of}
+use Rattle.vme_audit_lines.specs.AuditLines.{audit_break_text, category_of}
 use Rattle.vme_step_auditor.specs.ReadBy.{GivenSteps, read_by}
 use Rattle.vme_audit_command.specs.declared.told.TellFault.{TellFault}
 use Rattle.vme_audit_command.specs.declared.told.TellFault.TheVariants.{Memory, CannotWrite}
@@ -18,7 +18,7 @@ use Rattle.vme_audit_command.specs.declared.told.TellFault.TheVariants.{Memory, 
 module _ (allowances : List Allowance) (stop : Option ℕ) (head : List ℕ) where
   -- the line that tells a break
   abbrev pub line_of_break : Break → List ℕ
-  line_of_break b = head ++ line_of (audit_break_text (standing_of allowances b) b)
+  line_of_break b = head ++ line_of (audit_break_text (category_of allowances b) b)
 
   -- the lines of the breaks of a recording, as far as it is audited
   unfoldable pub break_lines : Trace → List ℕ

@@ -67,8 +67,8 @@ end_by name out (Err why) =
     record { out = out; errors = refusal_line_of name why ∷ []; status = refusal_status why }
 
 -- the first bytes of a text, however many
-abbrev pub IsTextFront : List ℕ → List ℕ → Type 0
-IsTextFront front text = (n : ℕ) × (front ≡ take n text)
+abbrev pub IsTextPrefix : List ℕ → List ℕ → Type 0
+IsTextPrefix front text = (n : ℕ) × (front ≡ take n text)
 
 -- all of an answer is told
 abbrev pub IsTold : List ℕ → DumpAnswer → DumpEnd → Type 0
@@ -77,7 +77,7 @@ IsTold name answer end = end ≡ end_by name answer.out answer.ended
 -- the dump can't be read to its end: the first bytes of the text are told, and why there is no outcome
 abbrev pub IsUnread : List ℕ → DumpAnswer → DumpEnd → Type 0
 IsUnread name answer end =
-    (front : List ℕ) × IsTextFront front answer.out × (end ≡ end_by name front (Err (CannotRead Dump)))
+    (front : List ℕ) × IsTextPrefix front answer.out × (end ≡ end_by name front (Err (CannotRead Dump)))
 
 -- a line says why there is no outcome of a dump, or that there is no memory
 abbrev pub IsErrorLine : List ℕ → List ℕ → Type 0
@@ -85,7 +85,7 @@ IsErrorLine name line = (line ≡ memory_line) ⊎ ((why : Refusal) × (line ≡
 
 -- memory runs out: the first bytes of the text are told, and the last line on standard error says so
 pub record EndsWithoutMemory (name : List ℕ) (answer : DumpAnswer) (end : DumpEnd) : Type 0 where
-  pub out : IsTextFront end.out answer.out
+  pub out : IsTextPrefix end.out answer.out
   pub before : List (List ℕ)
   pub last : List ℕ
   pub errors : end.errors ≡ before ++ last ∷ []

@@ -26,7 +26,7 @@ use vcd_read::{FaultKind, VcdFault};
 use vme_answer::Refusal;
 use vme_skew::StepSettler;
 use vme_step_auditor::{StepAuditor, reading_goes_on, stop_is_final};
-use vme_step_reader::{StepReader, StoppedSteps, given_is_a_front, times_go_on};
+use vme_step_reader::{StepReader, StoppedSteps, given_is_a_prefix, times_go_on};
 use vme_trace::{Sink, Source, Step};
 
 /// Audits the steps that follow once the dump has told a time.
@@ -118,7 +118,7 @@ fn audit_stopped<O: Sink>(
         auditor.new.recording (O.writing out.old) (O.writing out.new) result }
 {
     reading_goes_on();
-    given_is_a_front();
+    given_is_a_prefix();
     times_go_on();
     match stopped.fault.kind {
         FaultKind::Memory => Err(NoOutcome::Untold(TellFault::Memory)),
@@ -163,7 +163,7 @@ fn audit_piece<O: Sink>(
         (O.writing out.new) result }
 {
     reading_goes_on();
-    given_is_a_front();
+    given_is_a_prefix();
     times_go_on();
     stop_is_final();
     match reader.take(alloc, bytes) {
@@ -202,7 +202,7 @@ pub(crate) fn audit_last<O: Sink>(
         (O.writing out.new) result }
 {
     reading_goes_on();
-    given_is_a_front();
+    given_is_a_prefix();
     times_go_on();
     match reader.finish(alloc, bytes) {
         Ok(steps) => match audit_ended(alloc, auditor, settler, steps, head, case, out) {
@@ -257,7 +257,7 @@ pub(crate) fn audit_body<D: Source, O: Sink>(
         (O.writing out.new) result }
 {
     reading_goes_on();
-    given_is_a_front();
+    given_is_a_prefix();
     times_go_on();
     let mut reader = reader;
     for _ in 0..u64::MAX {

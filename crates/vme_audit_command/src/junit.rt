@@ -3,7 +3,7 @@
 use std::alloc::{AllocError, Global};
 use vme_answer::Refusal;
 use vme_audit::Outcome;
-use vme_audit_lines::{Standing, break_line, count_lines, outcome_line, refusal_text};
+use vme_audit_lines::{BreakCategory, break_line, count_lines, outcome_line, refusal_text};
 use vme_auditor::{AuditBreak, AuditFindings, BreakCounts};
 use vme_text::Text;
 
@@ -83,24 +83,24 @@ impl TestCase {
     pub fn take(
         &mut self,
         alloc: Global,
-        standing: Standing,
+        category: BreakCategory,
         found: &AuditBreak,
     ) -> Result<(), AllocError> {
         if !self.is_wanted {
             return Ok(());
         }
-        match standing {
-            Standing::Allowed => {
+        match category {
+            BreakCategory::Allowed => {
                 if self.allowed < MOST_NAMED {
                     self.allowed += 1;
-                    let line = break_line(alloc, b"", standing, found)?;
+                    let line = break_line(alloc, b"", category, found)?;
                     self.told.push(line.as_bytes())?;
                 }
             }
-            Standing::Broken | Standing::Unreadable => {
+            BreakCategory::Broken | BreakCategory::Unreadable => {
                 if self.failed < MOST_NAMED {
                     self.failed += 1;
-                    let line = break_line(alloc, b"", standing, found)?;
+                    let line = break_line(alloc, b"", category, found)?;
                     push_message(&mut self.failures, b"failure", line.as_bytes())?;
                 }
             }

@@ -12,7 +12,7 @@ use crate::junit::TestCase;
 use std::alloc::{AllocError, Global};
 use vme_answer::Refusal;
 use vme_audit_lines::break_line;
-use vme_step_auditor::{StandingBreak, StepAuditor, reading_goes_on};
+use vme_step_auditor::{CategorizedBreak, StepAuditor, reading_goes_on};
 use vme_stream::write_all;
 use vme_trace::{Sink, Step};
 
@@ -54,17 +54,17 @@ pub(crate) fn tell<O: Sink>(out: &mut O, bytes: &[u8]) -> Result<(), TellFault>
 /// Tells a break.
 fn tell_break<O: Sink>(
     alloc: Global,
-    told: &StandingBreak,
+    told: &CategorizedBreak,
     head: &[u8],
     case: &mut TestCase,
     out: &mut O,
 ) -> Result<(), TellFault>
     ensures { TellsText (O.writing out.old) (O.writing out.new) result
-        (head.now ++ line_of (audit_break_text told.now.standing (as_break told.now.found))) }
+        (head.now ++ line_of (audit_break_text told.now.category (as_break told.now.found))) }
 {
-    let line = break_line(alloc, head, told.standing, &told.found)?;
+    let line = break_line(alloc, head, told.category, &told.found)?;
     tell(out, line.as_bytes())?;
-    case.take(alloc, told.standing, &told.found)?;
+    case.take(alloc, told.category, &told.found)?;
     Ok(())
 }
 

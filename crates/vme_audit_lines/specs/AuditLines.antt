@@ -21,8 +21,8 @@ use Rattle.vme_auditor.specs.Events.{asks_by}
 use Rattle.vme_auditor.specs.declared.asked.AskedEvents.{AskedEvents}
 use Rattle.vme_auditor.specs.declared.findings.AuditFindings.{AuditFindings}
 use Rattle.vme_auditor.specs.declared.findings.BreakCounts.{BreakCounts}
-use Rattle.vme_audit_lines.specs.declared.standing.Standing.{Standing}
-use Rattle.vme_audit_lines.specs.declared.standing.Standing.TheVariants as standing
+use Rattle.vme_audit_lines.specs.declared.category.BreakCategory.{BreakCategory}
+use Rattle.vme_audit_lines.specs.declared.category.BreakCategory.TheVariants as category
 
 -- ---- the name of a dump
 
@@ -37,19 +37,19 @@ head_of name = map shown name ++ codes ": "
 -- ---- breaks
 
 -- how a break counts where some deviations are allowed
-abbrev pub standing_of : List Allowance → Break → Standing
-standing_of allowances b =
-    if is_allowed allowances b then standing.Allowed
-    else if is_unreadable b.rule then standing.Unreadable
-    else standing.Broken
+abbrev pub category_of : List Allowance → Break → BreakCategory
+category_of allowances b =
+    if is_allowed allowances b then category.Allowed
+    else if is_unreadable b.rule then category.Unreadable
+    else category.Broken
 
-abbrev pub standing_name : Standing → List ℕ
-standing_name standing.Broken = codes "broken "
-standing_name standing.Unreadable = codes "unreadable "
-standing_name standing.Allowed = codes "allowed "
+abbrev pub category_name : BreakCategory → List ℕ
+category_name category.Broken = codes "broken "
+category_name category.Unreadable = codes "unreadable "
+category_name category.Allowed = codes "allowed "
 
-abbrev pub audit_break_text : Standing → Break → List ℕ
-audit_break_text s b = break_text (standing_name s) b
+abbrev pub audit_break_text : BreakCategory → Break → List ℕ
+audit_break_text s b = break_text (category_name s) b
 
 -- ---- counts
 

@@ -2,7 +2,7 @@
 //!
 //! # Parts
 //!
-//! - `standing`: [`Standing`] is how a break counts, [`Standing::of`] says it by the deviations
+//! - `category`: [`BreakCategory`] is how a break counts, [`BreakCategory::of`] says it by the deviations
 //!   that are allowed, and [`is_allowed`] whether one of them allows it.
 //! - `telling`: [`dump_head`] is what each line about a dump begins with, its name; [`break_line`]
 //!   is the line that tells a break, and [`refusal_text`] says why there is no outcome.
@@ -33,14 +33,14 @@ ghost use Rattle.vme_auditor.specs.Events.{asks_by};
 ghost use Rattle.vme_auditor.specs.declared.asked.AskedEvents.{AskedEvents};
 ghost use Rattle.vme_audit_lines.specs.AuditLines.{unasked};
 
+mod category;
 mod counts;
 mod outcome;
-mod standing;
 mod telling;
 
+pub use category::{BreakCategory, is_allowed};
 pub use counts::count_lines;
 pub use outcome::{outcome_line, outcome_status};
-pub use standing::{Standing, is_allowed};
 pub use telling::{break_line, dump_head, refusal_text};
 
 /// The rules that are named as never asked are those of the definitions, where the events are.

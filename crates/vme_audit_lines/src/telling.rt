@@ -4,9 +4,9 @@ ghost use Rattle.std.specs.Prelude.{◌≡◌, ◌++◌, IfOk, OnOk};
 ghost use Rattle.vme_answer.specs.Texts.{line_of};
 ghost use Rattle.vme_auditor.specs.Breaks.{as_break};
 ghost use Rattle.vme_audit_lines.specs.AuditLines.{audit_break_text, cannot_text, head_of, refusal_behind};
-ghost use Rattle.vme_audit_lines.specs.AuditLines.{shown as shown_byte, standing_name as name_of};
+ghost use Rattle.vme_audit_lines.specs.AuditLines.{shown as shown_byte, category_name as name_of};
 
-use crate::standing::Standing;
+use crate::category::BreakCategory;
 use std::alloc::{AllocError, Global};
 use vme_answer::{Input, Refusal, refusal_line};
 use vme_auditor::AuditBreak;
@@ -36,13 +36,13 @@ pub fn dump_head(alloc: Global, name: &[u8]) -> Result<Text, AllocError>
 }
 
 /// The word for how a break counts, and a space.
-fn standing_name(standing: Standing) -> &'static [u8]
-    ensures { result.now ≡ name_of standing }
+fn category_name(category: BreakCategory) -> &'static [u8]
+    ensures { result.now ≡ name_of category }
 {
-    match standing {
-        Standing::Broken => b"broken ",
-        Standing::Unreadable => b"unreadable ",
-        Standing::Allowed => b"allowed ",
+    match category {
+        BreakCategory::Broken => b"broken ",
+        BreakCategory::Unreadable => b"unreadable ",
+        BreakCategory::Allowed => b"allowed ",
     }
 }
 
@@ -50,16 +50,16 @@ fn standing_name(standing: Standing) -> &'static [u8]
 pub fn break_line(
     alloc: Global,
     head: &[u8],
-    standing: Standing,
+    category: BreakCategory,
     found: &AuditBreak,
 ) -> Result<Text, AllocError>
-    ensures { IfOk result (λ text. text ≡ head.now ++ line_of (audit_break_text standing (as_break found.now))) }
+    ensures { IfOk result (λ text. text ≡ head.now ++ line_of (audit_break_text category (as_break found.now))) }
 {
     let rule = found.rule.name();
     let line = found.line.name();
     let mut text = Text::new(alloc);
     text.push(head)?;
-    text.push(standing_name(standing))?;
+    text.push(category_name(category))?;
     text.push(rule.as_bytes())?;
     text.push(b" at instant ")?;
     text.push_decimal(alloc, found.instant)?;

@@ -4,7 +4,7 @@ use vcd_read::{FaultKind, VcdFault};
 use vme_answer::{Input, Refusal};
 use vme_audit::{Allowance, Counts, CoverageGap, Outcome};
 use vme_audit_lines::{
-    Standing, break_line, count_lines, dump_head, is_allowed, outcome_line, outcome_status,
+    BreakCategory, break_line, count_lines, dump_head, is_allowed, outcome_line, outcome_status,
     refusal_text,
 };
 use vme_auditor::{AskedEvents, AuditBreak, AuditFindings, BreakCounts};
@@ -68,24 +68,24 @@ fn names_are_shown(rt: HostRuntime) -> Result<(), Fail> {
 #[test]
 fn breaks_are_told(rt: HostRuntime) -> Result<(), Fail> {
     let alloc = rt.alloc();
-    for (standing, found, line) in [
+    for (category, found, line) in [
         (
-            Standing::Broken,
+            BreakCategory::Broken,
             STRAY,
             "-: broken H4 at instant 14 time 79 line BERR\n",
         ),
         (
-            Standing::Allowed,
+            BreakCategory::Allowed,
             STRAY,
             "-: allowed H4 at instant 14 time 79 line BERR\n",
         ),
         (
-            Standing::Unreadable,
+            BreakCategory::Unreadable,
             LATE,
             "-: unreadable U1 at instant 18446744073709551615 time 18446744073709551615 line DTACK\n",
         ),
     ] {
-        expect_text(&rt, &break_line(alloc, b"-: ", standing, &found)?, line);
+        expect_text(&rt, &break_line(alloc, b"-: ", category, &found)?, line);
     }
     Ok(())
 }
@@ -97,51 +97,51 @@ fn allowed(rule: Rule, line: Option<Line>) -> Allowance {
 
 #[test]
 fn breaks_count_by_what_is_allowed(rt: HostRuntime) {
-    for (one, other, found, standing) in [
+    for (one, other, found, category) in [
         (
             allowed(Rule::H5, None),
             allowed(Rule::H5, None),
             STRAY,
-            Standing::Broken,
+            BreakCategory::Broken,
         ),
         (
             allowed(Rule::H4, None),
             allowed(Rule::H5, None),
             STRAY,
-            Standing::Allowed,
+            BreakCategory::Allowed,
         ),
         (
             allowed(Rule::H4, Some(Line::DTACK)),
             allowed(Rule::H5, Some(Line::BERR)),
             STRAY,
-            Standing::Broken,
+            BreakCategory::Broken,
         ),
         (
             allowed(Rule::H4, Some(Line::DTACK)),
             allowed(Rule::H4, Some(Line::BERR)),
             STRAY,
-            Standing::Allowed,
+            BreakCategory::Allowed,
         ),
         (
             allowed(Rule::H4, None),
             allowed(Rule::U2, None),
             LATE,
-            Standing::Unreadable,
+            BreakCategory::Unreadable,
         ),
         (
             allowed(Rule::U1, Some(Line::DTACK)),
             allowed(Rule::H4, None),
             LATE,
-            Standing::Allowed,
+            BreakCategory::Allowed,
         ),
     ] {
         let allowances = [one, other];
-        assert!(rt; Standing::of(&allowances, &found) == standing);
+        assert!(rt; BreakCategory::of(&allowances, &found) == category);
         let is = is_allowed(&allowances, &found);
-        assert!(rt; is == (standing == Standing::Allowed));
+        assert!(rt; is == (category == BreakCategory::Allowed));
     }
-    assert!(rt; Standing::of(&[], &STRAY) == Standing::Broken);
-    assert!(rt; Standing::of(&[], &LATE) == Standing::Unreadable);
+    assert!(rt; BreakCategory::of(&[], &STRAY) == BreakCategory::Broken);
+    assert!(rt; BreakCategory::of(&[], &LATE) == BreakCategory::Unreadable);
 }
 
 /// What an audit found of a recording with these events.
@@ -309,7 +309,7 @@ fn a_line_is_whole_or_there_is_none(rt: HostRuntime) {
     if let Ok(head) = dump_head(alloc, b"recordings/crate-2/boot.vcd") {
         expect_text(&rt, &head, "recordings/crate-2/boot.vcd: ");
     }
-    if let Ok(line) = break_line(alloc, b"-: ", Standing::Broken, &STRAY) {
+    if let Ok(line) = break_line(alloc, b"-: ", BreakCategory::Broken, &STRAY) {
         expect_text(&rt, &line, "-: broken H4 at instant 14 time 79 line BERR\n");
     }
     if let Ok(lines) = count_lines(alloc, b"", BREAKS, &found_with(MANY_EVENTS)) {

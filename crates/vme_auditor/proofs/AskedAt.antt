@@ -37,7 +37,7 @@ use Rattle.vme_monitor.specs.declared.tracking.Pending.{Pending}
 use Rattle.vme_monitor.proofs.Alongside.{changes_fit, levels_step}
 use Rattle.vme_monitor.proofs.SpanFacts.{IsSpan}
 use Rattle.vme_dtb.specs.CycleState.{cycle_entered, is_acknowledge, is_acknowledged, unanswered_of}
-use Rattle.vme_dtb.specs.Edge.{asked_of, edges_between}
+use Rattle.vme_dtb.specs.Edge.{cycle_start_of, edges_between}
 use Rattle.vme_dtb.specs.Machine.{answer_in, dtb_next}
 use Rattle.vme_dtb.specs.declared.cycle.Cycle.{Cycle}
 use Rattle.vme_dtb.specs.declared.cycle.Cycle.TheVariants.{Block, BlockReading, BlockWriting, Free, Interrupt}
@@ -218,14 +218,14 @@ module _ (t : Trace) (ok : malformed_step t ≡ None) (few : t.opening.slots ≤
   seen = edges_between v w
 
   abbrev pub shown : StepMarks
-  shown = (dtb_next m v w seen).kinds
+  shown = (dtb_next m v w seen).shown
 
   abbrev inside : Pending
   inside = entered m.pending v w
 
   cycle_event : is_some shown.cycle ≡ cycle_starts t span (suc n)
   cycle_event =
-      some_if (falls_between v w AS) (asked_of w) ∙ sym (cycle_starts_is t span facts.reads n from before m holds)
+      some_if (falls_between v w AS) (cycle_start_of w) ∙ sym (cycle_starts_is t span facts.reads n from before m holds)
 
   cycle_end_event : rises_between v w AS ≡ rises t AS (suc n)
   cycle_end_event = sym (rises_is t n AS)

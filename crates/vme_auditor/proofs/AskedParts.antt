@@ -1,4 +1,4 @@
--- What an audit has heard is what the parts of a recording ask.
+-- What has happened by an audit's record is what the parts of a recording ask.
 use Rattle.std.proofs.Common.{◌≡◌, ℕ, zero, suc, ◌+◌, ◌-◌, ◌≤◌, Bool, true, false, ◌||◌, List, [], ◌∷◌, ◌++◌}
 use Rattle.std.proofs.Common.{length}
 use Rattle.std.proofs.Common.{take, drop, refl, sym, ◌∙◌, ap, subst, arith, add-one, inl, inr, ◌⊎◌, Option, None, Some}
@@ -43,7 +43,7 @@ use Rattle.vme_auditor.specs.FirstEvent.{first_event}
 use Rattle.vme_auditor.specs.Memories.{first_fault_of, handshake_at, known_at, memories_at, memories_next}
 use Rattle.vme_auditor.specs.declared.asked.AskedEvents.{AskedEvents}
 use Rattle.vme_auditor.specs.declared.memories.Memories.{Memories}
-use Rattle.vme_auditor.proofs.AskedSteps.{asked_to, heard, heard_last, heard_to, known_phase, phase_at}
+use Rattle.vme_auditor.proofs.AskedSteps.{asked_to, happened_by, happened_last, happened_to, known_phase, phase_at}
 use Rattle.vme_auditor.proofs.AskedSteps.{stretch_alone, stretch_to}
 use Rattle.vme_auditor.proofs.FirstBreaks.{first_within}
 use Rattle.vme_auditor.proofs.ToldBreaks.{FindsFirst, levels_next, memories_behind, memories_stepped, recorded}
@@ -56,7 +56,7 @@ abbrev then_step : Memories → Levels → AskedEvents → Step → AskedEvents
 then_step m o e s =
     let after = changed o s.changes in
     events_by e m.handshake (end_among after s.changes) o after s.changes
-    (known_at m.known o after s.changes).kinds (handshake_at m.handshake o after s.changes).kinds
+    (known_at m.known o after s.changes).shown (handshake_at m.handshake o after s.changes).shown
 
 -- at its break judging starts anew
 abbrev events_behind : Option Fault → Levels → AskedEvents → AskedEvents
@@ -189,7 +189,7 @@ module _ (o : Levels) (x : List Step) where
 
   abbrev by_all : AskedEvents → StretchPhase HandshakeMemory → StretchPhase Stateless → Levels → Levels → List Change
       → AskedEvents
-  by_all e h k v w cs = events_by e h (end_among w cs) v w cs (known_at k v w cs).kinds (handshake_at h v w cs).kinds
+  by_all e h k v w cs = events_by e h (end_among w cs) v w cs (known_at k v w cs).shown (handshake_at h v w cs).shown
 
   module _ (ok : malformed_step t ≡ None) (few : o.slots ≤ 21) where
     -- the events of the first steps are those up to an instant
@@ -265,18 +265,18 @@ module _ (o : Levels) (x : List Step) (ok : malformed_step (recorded o x) ≡ No
   whole = recorded o x
 
   -- by an event up to the end of the asking
-  asks_heard : (r : Rule) (own : ends_span r ≡ false) → list_any (asks_in whole found r) (judged_spans whole)
-      ≡ list_any (heard whole ok few r own k) (started whole k)
+  asks_happened : (r : Rule) (own : ends_span r ≡ false) → list_any (asks_in whole found r) (judged_spans whole)
+      ≡ list_any (happened_by whole ok few r own k) (started whole k)
   unfolding asks_in
-  asks_heard r own =
+  asks_happened r own =
       let far : k + (length x - k) ≡ length x = omega arith in
-      any_alike (asks_in whole found r) (heard whole ok few r own k) (judged_spans whole)
+      any_alike (asks_in whole found r) (happened_by whole ok few r own k) (judged_spans whole)
       (λ span. or_fails (ends_span r) (any (happens whole span r) (span.start + 1)
       (min span.end (asking_end whole found))) own
       ∙ ap (λ j. any (happens whole span r) (span.start + 1) (min span.end j)) asking)
-      ∙ ap (list_any (heard whole ok few r own k)) (spans_started whole
+      ∙ ap (list_any (happened_by whole ok few r own k)) (spans_started whole
       ∙ ap (started whole) (sym far))
-      ∙ heard_last whole ok few r own k (length x - k)
+      ∙ happened_last whole ok few r own k (length x - k)
 
   asks_stretch : (spans : List Stretch) → list_any (asks_in whole found rule.U1) spans ≡ has_span spans
   unfolding asks_in
@@ -300,10 +300,10 @@ module _ (o : Levels) (x : List Step) (ok : malformed_step (recorded o x) ≡ No
     other_asked : (r : Rule) → ends_span r ≡ false → Asks r
     other_asked r own =
         ap (λ (e : AskedEvents). asks_by e r) (quiet_to o x ok few opened k within)
-        ∙ heard_to whole ok few r own opened k within
-        ∙ ap (λ b. b || list_any (heard whole ok few r own k) (started whole k))
+        ∙ happened_to whole ok few r own opened k within
+        ∙ ap (λ b. b || list_any (happened_by whole ok few r own k) (started whole k))
         (stretch_alone r e (has_started (memories_at o).known) own)
-        ∙ ap (λ b. asks_by e r || b) (sym (asks_heard r own))
+        ∙ ap (λ b. asks_by e r || b) (sym (asks_happened r own))
 
     -- what a part asks
     part_asked : (r : Rule) → Asks r
@@ -385,8 +385,8 @@ module _ (finds : FindsFirst) (starts : KnowsStart) where
 
   module _ (r : Rule) where
     -- what an audit has heard where a part opens, and what that part and those behind it ask
-    abbrev AreHeard : ℕ → Type 0
-    AreHeard n = (start : ℕ) (o : Levels) (x : List Step) (e : AskedEvents) → length x ≤ n
+    abbrev HaveHappened : ℕ → Type 0
+    HaveHappened n = (start : ℕ) (o : Levels) (x : List Step) (e : AskedEvents) → length x ≤ n
         → malformed_step (recorded o x) ≡ None → o.slots ≤ 21
         → asks_by (events_from (memories_at o) o (with_stretch e (has_started (memories_at o).known)) x) r
         ≡ (asks_by e r || list_any (asks r) (parts_from n (record { start = start; trace = recorded o x })))
@@ -399,10 +399,10 @@ module _ (finds : FindsFirst) (starts : KnowsStart) where
       abbrev fresh : AskedEvents
       fresh = with_stretch e (has_started (memories_at o).known)
 
-      last_heard : first_event (memories_at o) o x ≡ None
+      last_happened : first_event (memories_at o) o x ≡ None
           → asks_by (quiet_events (memories_at o) o fresh x) r
           ≡ (asks_by e r || (list_any (asks_in (recorded o x) None r) (judged_spans (recorded o x)) || false))
-      last_heard found =
+      last_happened found =
           ap (λ (y : List Step). asks_by (quiet_events (memories_at o) o fresh y) r)
           (sym (take_all (length x) x (omega arith)))
           ∙ part_asked o x ok few None (length x) (omega arith) (add-one (length x)) e (begun_last o x ok few) r
@@ -416,12 +416,12 @@ module _ (finds : FindsFirst) (starts : KnowsStart) where
         fewer : length (drop b.instant x) ≤ n
         fewer = simp length-drop (omega arith)
 
-        broken_heard : AreHeard n → first_event (memories_at o) o x ≡ Some b
+        broken_happened : HaveHappened n → first_event (memories_at o) o x ≡ Some b
             → asks_by (events_to (memories_at o) o fresh x (Some b)) r
             ≡ (asks_by e r || (list_any (asks_in (recorded o x) (Some b) r) (judged_spans (recorded o x))
             || list_any (asks r) (parts_from n (part_behind here b))))
-        broken_heard heard found =
-            heard (start + b.instant) left (drop b.instant x)
+        broken_happened happened_by found =
+            happened_by (start + b.instant) left (drop b.instant x)
             (quiet_events (memories_at o) o fresh (take b.instant x)) fewer (rest_sound (recorded o x) b.instant ok)
             (subst (λ k. k ≤ 21) (sym (rest_slots (recorded o x) b.instant)) few)
             ∙ ap (λ c. c || list_any (asks r) (parts_from n (part_behind here b)))
@@ -429,23 +429,23 @@ module _ (finds : FindsFirst) (starts : KnowsStart) where
             ∙ or_assoc (asks_by e r) (list_any (asks_in (recorded o x) (Some b) r) (judged_spans (recorded o x)))
             (list_any (asks r) (parts_from n (part_behind here b)))
 
-      heard_by : (n : ℕ) → length x ≤ suc n → AreHeard n → (found : Option Break) → EventWithin (length x) found
+      happened_for : (n : ℕ) → length x ≤ suc n → HaveHappened n → (found : Option Break) → EventWithin (length x) found
           → first_event (memories_at o) o x ≡ found
           → asks_by (events_to (memories_at o) o fresh x found) r
           ≡ (asks_by e r || (list_any (asks_in (recorded o x) found r) (judged_spans (recorded o x))
           || list_any (asks r) (option_map_or (λ b. parts_from n (part_behind here b)) found [])))
-      heard_by n short heard None w found = last_heard found
-      heard_by n short heard (Some b) w found = broken_heard n short b w heard found
+      happened_for n short happened_by None w found = last_happened found
+      happened_for n short happened_by (Some b) w found = broken_happened n short b w happened_by found
 
-    pub parts_heard : (n : ℕ) → AreHeard n
+    pub parts_happened : (n : ℕ) → HaveHappened n
     unfolding parts_from own_break asks first_event events_from quiet_events
-    parts_heard zero start o [] e short ok few =
-        rw (finds (recorded o []) ok few) (last_heard start o [] e ok few refl)
-    parts_heard zero start o (s ∷ x) e short ok few = absurd (omega arith)
-    parts_heard (suc n) start o x e short ok few =
+    parts_happened zero start o [] e short ok few =
+        rw (finds (recorded o []) ok few) (last_happened start o [] e ok few refl)
+    parts_happened zero start o (s ∷ x) e short ok few = absurd (omega arith)
+    parts_happened (suc n) start o x e short ok few =
         rw (
           finds (recorded o x) ok few,
           events_first x (memories_at o) o (with_stretch e (has_started (memories_at o).known)),
         )
-        (heard_by start o x e ok few n short (parts_heard n) (first_event (memories_at o) o x)
+        (happened_for start o x e ok few n short (parts_happened n) (first_event (memories_at o) o x)
         (first_within x (memories_at o) o) refl)

@@ -21,7 +21,7 @@ use Rattle.vme_trace.proofs.Ranges.{fails-any}
 use Rattle.vme_monitor.specs.Along.{changes_of, memory_from, next_at}
 use Rattle.vme_monitor.specs.Ends.{end_among}
 use Rattle.vme_monitor.specs.KnownSpec.{known_begin, known_ends, known_next, known_opens, known_resets}
-use Rattle.vme_monitor.specs.OverStretches.{has_started, judging, spanned, start_in}
+use Rattle.vme_monitor.specs.OverStretches.{has_started, judging, phase_step, start_in}
 use Rattle.vme_monitor.specs.Run.{nothing, quiet}
 use Rattle.vme_monitor.specs.declared.known.Stateless.{Stateless}
 use Rattle.vme_monitor.specs.declared.mark.Next.{Next}
@@ -36,13 +36,13 @@ use Rattle.vme_monitor.proofs.SpanFacts.{IsSpan, span_facts}
 use Rattle.vme_monitor.proofs.SpanLists.{AreOver, started, started_none, started_one}
 use Rattle.vme_monitor.proofs.Spans.{IsAtWork, JudgesOn, Loses, Resets, Stands, inner_at, moves, outer_next, stands}
 use Rattle.vme_monitor.proofs.Transitions.{outer_judging, waits}
-use Rattle.vme_dtb.specs.Machine.{dtb_begin, dtb_ends, dtb_opens, dtb_sight, dtb_step}
+use Rattle.vme_dtb.specs.Machine.{dtb_begin, dtb_ends, dtb_opens, dtb_observation, dtb_step}
 use Rattle.vme_dtb.specs.declared.handshake.HandshakeEdge.{HandshakeEdge}
 use Rattle.vme_dtb.specs.declared.memory.HandshakeMemory.{HandshakeMemory}
 use Rattle.vme_dtb.proofs.Held.{Holds}
 use Rattle.vme_dtb.proofs.Holding.{holds_at}
 use Rattle.vme_dtb.proofs.Searches.{any_more}
-use Rattle.vme_dtb.proofs.StillSteps.{noticed_is}
+use Rattle.vme_dtb.proofs.StillSteps.{machine_step_is}
 use Rattle.vme_audit.specs.Asked.{happens}
 use Rattle.vme_auditor.specs.Audited.{events_by, events_in, with_stretch}
 use Rattle.vme_auditor.specs.Events.{asks_by, at_step}
@@ -92,15 +92,15 @@ stretch_alone rule.I5 e b h = refl
 
 -- judging starts, or has started
 abbrev StartsBy : StretchPhase Stateless → Next (StretchPhase Stateless) → Type 0
-StartsBy m n = has_started n.memory ≡ (has_started m || n.kinds.start)
+StartsBy m n = has_started n.memory ≡ (has_started m || n.shown.start)
 
-abbrev known_spanned : StretchPhase Stateless → Levels → Levels → StretchObservation Stateless
+abbrev known_phase_step : StretchPhase Stateless → Levels → Levels → StretchObservation Stateless
     → Next (StretchPhase Stateless)
-known_spanned = spanned known_begin known_opens known_resets known_ends known_next
+known_phase_step = phase_step known_begin known_opens known_resets known_ends known_next
 
 abbrev known_waiting : StretchPhase Stateless → Levels → Bool → Next (StretchPhase Stateless)
 known_waiting m w idle =
-    cond idle (record { memory = phase.Judging (known_begin w); fault = None; kinds = known_opens w }) (quiet m)
+    cond idle (record { memory = phase.Judging (known_begin w); fault = None; shown = known_opens w }) (quiet m)
 
 waiting_starts : (w : Levels) (idle : Bool) → StartsBy phase.Waiting (known_waiting phase.Waiting w idle)
 waiting_starts w true = refl
@@ -116,20 +116,20 @@ judging_starts p v w (Some end.Reset) = refl
 judging_starts p v w (Some (end.Lost l)) = refl
 judging_starts p v w None = refl
 
-spanned_starts : (m : StretchPhase Stateless) (v w : Levels) (e : Option End) → StartsBy m
-    (known_spanned m v w (record { end = e; inner = None }))
-spanned_starts phase.Waiting v w e = waiting_starts w (is_idle w)
-spanned_starts (phase.Judging p) v w e = judging_starts p v w e
-spanned_starts phase.Reset v w e = reset_starts w (is_idle w)
-spanned_starts phase.Ended v w e = refl
+phase_step_starts : (m : StretchPhase Stateless) (v w : Levels) (e : Option End) → StartsBy m
+    (known_phase_step m v w (record { end = e; inner = None }))
+phase_step_starts phase.Waiting v w e = waiting_starts w (is_idle w)
+phase_step_starts (phase.Judging p) v w e = judging_starts p v w e
+phase_step_starts phase.Reset v w e = reset_starts w (is_idle w)
+phase_step_starts phase.Ended v w e = refl
 
-noted_starts : (m : StretchPhase Stateless) (v w : Levels) (e : Option End) (b : Bool) → StartsBy m
-    (option_map_or (known_spanned m v w) (cond b (Some (record { end = e; inner = None })) None) (quiet m))
-noted_starts m v w e true = spanned_starts m v w e
-noted_starts m v w e false = sym (or-false (has_started m))
+observed_starts : (m : StretchPhase Stateless) (v w : Levels) (e : Option End) (b : Bool) → StartsBy m
+    (option_map_or (known_phase_step m v w) (cond b (Some (record { end = e; inner = None })) None) (quiet m))
+observed_starts m v w e true = phase_step_starts m v w e
+observed_starts m v w e false = sym (or-false (has_started m))
 
 pub starts_shown : (m : StretchPhase Stateless) (v w : Levels) (cs : List Change) → StartsBy m (known_at m v w cs)
-starts_shown m v w cs = noted_starts m v w (end_among w cs) (touches_control w.slots cs || false)
+starts_shown m v w cs = observed_starts m v w (end_among w cs) (touches_control w.slots cs || false)
 
 -- an event only happens in a phase that judges, where no span ends
 in_stretch : (e : AskedEvents) (m : StretchPhase HandshakeMemory) (o : Option End) (v w : Levels) (cs : List Change)
@@ -199,7 +199,7 @@ module _ (t : Trace) (ok : malformed_step t ≡ None) (few : t.opening.slots ≤
   then_at e n =
       events_by e (phase_at n) (end_among (levels_at t (suc n)) (cs_at n)) (levels_at t n) (levels_at t (suc n))
       (cs_at n)
-      (next_at known_at t (known_phase n) n).kinds (next_at handshake_at t (phase_at n) n).kinds
+      (next_at known_at t (known_phase n) n).shown (next_at handshake_at t (phase_at n) n).shown
 
   -- those up to an instant
   abbrev pub asked_to : AskedEvents → ℕ → AskedEvents
@@ -213,10 +213,10 @@ module _ (t : Trace) (ok : malformed_step t ≡ None) (few : t.opening.slots ≤
   stretch_to e zero h = refl
   stretch_to e (suc n) h =
       let from = asked_to (with_stretch e (has_started (start_in known_begin t.opening))) n in
-      let kinds = (next_at known_at t (known_phase n) n).kinds in
+      let kinds = (next_at known_at t (known_phase n) n).shown in
       ap (λ b. b || kinds.start)
       (in_stretch from (phase_at n) (end_among (levels_at t (suc n)) (cs_at n)) (levels_at t n) (levels_at t (suc n))
-      (cs_at n) (next_at handshake_at t (phase_at n) n).kinds
+      (cs_at n) (next_at handshake_at t (phase_at n) n).shown
       ∙ stretch_to e n (omega arith))
       ∙ or_assoc e.stretch (has_started (known_phase n)) kinds.start
       ∙ ap (λ b. e.stretch || b)
@@ -224,51 +224,52 @@ module _ (t : Trace) (ok : malformed_step t ≡ None) (few : t.opening.slots ≤
 
   module _ (r : Rule) (own : ends_span r ≡ false) where
     -- the event of the rule happens in a span, up to an instant
-    abbrev pub heard : ℕ → Stretch → Bool
-    heard n span = any (happens t span r) (span.start + 1) (min span.end (suc n))
+    abbrev pub happened_by : ℕ → Stretch → Bool
+    happened_by n span = any (happens t span r) (span.start + 1) (min span.end (suc n))
 
-    unheard : (n : ℕ) (span : Stretch) → n ≤ span.start → heard n span ≡ false
-    unheard n span h =
+    not_happened : (n : ℕ) (span : Stretch) → n ≤ span.start → happened_by n span ≡ false
+    not_happened n span h =
         fails-any (happens t span r) (span.start + 1) (min span.end (suc n)) (λ i a b. absurd (omega arith))
 
-    heard_over : (n : ℕ) (span : Stretch) → span.end ≤ suc n → heard (suc n) span ≡ heard n span
-    heard_over n span h =
+    happened_over : (n : ℕ) (span : Stretch) → span.end ≤ suc n → happened_by (suc n) span ≡ happened_by n span
+    happened_over n span h =
         let same : min span.end (suc (suc n)) ≡ min span.end (suc n) = omega arith in
         ap (any (happens t span r) (span.start + 1)) same
 
-    heard_on : (n : ℕ) (span : Stretch) → span.start ≤ n → suc n < span.end → heard (suc n) span
-        ≡ (heard n span || happens t span r (suc n))
-    heard_on n span from before =
+    happened_on : (n : ℕ) (span : Stretch) → span.start ≤ n → suc n < span.end → happened_by (suc n) span
+        ≡ (happened_by n span || happens t span r (suc n))
+    happened_on n span from before =
         let later : min span.end (suc (suc n)) ≡ suc (suc n) = omega arith in
         let now : suc n ≡ min span.end (suc n) = omega arith in
         ap (any (happens t span r) (span.start + 1)) later
         ∙ any_more (happens t span r) (span.start + 1) (suc n) (omega arith)
         ∙ ap (λ k. any (happens t span r) (span.start + 1) k || happens t span r (suc n)) now
 
-    all_over : (n : ℕ) (spans : List Stretch) → AreOver n spans → list_any (heard (suc n)) spans
-        ≡ list_any (heard n) spans
+    all_over : (n : ℕ) (spans : List Stretch) → AreOver n spans → list_any (happened_by (suc n)) spans
+        ≡ list_any (happened_by n) spans
     all_over n [] h = refl
     all_over n (span ∷ spans) h =
-        ap (λ b. b || list_any (heard (suc n)) spans) (heard_over n span (omega (arith, h.0)))
-        ∙ ap (λ b. heard n span || b) (all_over n spans h.1)
+        ap (λ b. b || list_any (happened_by (suc n)) spans) (happened_over n span (omega (arith, h.0)))
+        ∙ ap (λ b. happened_by n span || b) (all_over n spans h.1)
 
     -- a span that starts adds nothing yet
-    heard_more : (k n : ℕ) → k ≤ suc n → list_any (heard k) (started t (suc n)) ≡ list_any (heard k) (started t n)
-    heard_more k n h = by_start (span_starts t (suc n)) refl
+    happened_more : (k n : ℕ) → k ≤ suc n → list_any (happened_by k) (started t (suc n))
+        ≡ list_any (happened_by k) (started t n)
+    happened_more k n h = by_start (span_starts t (suc n)) refl
       where
-        by_start : (b : Bool) → span_starts t (suc n) ≡ b → list_any (heard k) (started t (suc n))
-            ≡ list_any (heard k) (started t n)
+        by_start : (b : Bool) → span_starts t (suc n) ≡ b → list_any (happened_by k) (started t (suc n))
+            ≡ list_any (happened_by k) (started t n)
         by_start true e =
-            ap (list_any (heard k)) (spans_more t (suc n) e)
-            ∙ any_both (heard k) (started t n) (span_from t (suc n) ∷ [])
-            ∙ ap (λ b. list_any (heard k) (started t n) || (b || false)) (unheard k (span_from t (suc n)) h)
-            ∙ or-false (list_any (heard k) (started t n))
-        by_start false e = ap (list_any (heard k)) (spans_kept t (suc n) e)
+            ap (list_any (happened_by k)) (spans_more t (suc n) e)
+            ∙ any_both (happened_by k) (started t n) (span_from t (suc n) ∷ [])
+            ∙ ap (λ b. list_any (happened_by k) (started t n) || (b || false)) (not_happened k (span_from t (suc n)) h)
+            ∙ or-false (list_any (happened_by k) (started t n))
+        by_start false e = ap (list_any (happened_by k)) (spans_kept t (suc n) e)
 
-    abbrev AreHeard : AskedEvents → ℕ → Type 0
-    AreHeard e n = asks_by (asked_to e n) r ≡ (asks_by e r || list_any (heard n) (started t n))
+    abbrev HaveHappened : AskedEvents → ℕ → Type 0
+    HaveHappened e n = asks_by (asked_to e n) r ≡ (asks_by e r || list_any (happened_by n) (started t n))
 
-    module _ (e : AskedEvents) (n : ℕ) (within : n < length t.steps) (so_far : AreHeard e n) where
+    module _ (e : AskedEvents) (n : ℕ) (within : n < length t.steps) (so_far : HaveHappened e n) where
       abbrev v : Levels
       v = levels_at t n
 
@@ -279,7 +280,7 @@ module _ (t : Trace) (ok : malformed_step t ≡ None) (few : t.opening.slots ≤
       ends = end_among w (cs_at n)
 
       abbrev kinds : StepMarks
-      kinds = (next_at handshake_at t (phase_at n) n).kinds
+      kinds = (next_at handshake_at t (phase_at n) n).shown
 
       abbrev before : AskedEvents
       before = asked_to e n
@@ -288,43 +289,43 @@ module _ (t : Trace) (ok : malformed_step t ≡ None) (few : t.opening.slots ≤
       now = events_in before (phase_at n) ends v w (cs_at n) kinds
 
       next_is : asks_by (asked_to e (suc n)) r ≡ asks_by now r
-      next_is = stretch_alone r now (next_at known_at t (known_phase n) n).kinds.start own
+      next_is = stretch_alone r now (next_at known_at t (known_phase n) n).shown.start own
 
       -- nothing is judged at the next instant
-      unjudged : now ≡ before → list_any (heard (suc n)) (started t n) ≡ list_any (heard n) (started t n)
-          → AreHeard e (suc n)
+      unjudged : now ≡ before → list_any (happened_by (suc n)) (started t n) ≡ list_any (happened_by n) (started t n)
+          → HaveHappened e (suc n)
       unjudged quiet over =
           next_is ∙ ap (λ (e : AskedEvents). asks_by e r) quiet ∙ so_far
-          ∙ ap (λ b. asks_by e r || b) (sym over ∙ sym (heard_more (suc n) n (omega arith)))
+          ∙ ap (λ b. asks_by e r || b) (sym over ∙ sym (happened_more (suc n) n (omega arith)))
 
       step_of : (p : HandshakeMemory) → phase_at n ≡ phase.Judging p
-          → outer_next dtb_begin dtb_opens nothing dtb_ends dtb_sight dtb_step t few ok n
-          ≡ judging dtb_begin dtb_opens nothing dtb_ends dtb_step p v w ends (dtb_sight v w (cs_at n))
-      step_of p at = rw at (outer_judging dtb_begin dtb_opens nothing dtb_ends dtb_sight dtb_step v w (cs_at n) p)
+          → outer_next dtb_begin dtb_opens nothing dtb_ends dtb_observation dtb_step t few ok n
+          ≡ judging dtb_begin dtb_opens nothing dtb_ends dtb_step p v w ends (dtb_observation v w (cs_at n))
+      step_of p at = rw at (outer_judging dtb_begin dtb_opens nothing dtb_ends dtb_observation dtb_step v w (cs_at n) p)
 
       -- it ends the span
       ended : (p : HandshakeMemory) (l : End) → phase_at n ≡ phase.Judging p → ends ≡ Some l → now ≡ before
       ended p l at e = rw (at, e) refl
 
-      module _ (work : IsAtWork dtb_begin dtb_opens nothing dtb_ends dtb_sight dtb_step t few ok n) where
+      module _ (work : IsAtWork dtb_begin dtb_opens nothing dtb_ends dtb_observation dtb_step t few ok n) where
         abbrev here : Stretch
         here = span_from t work.start
 
         abbrev p : HandshakeMemory
-        p = inner_at dtb_begin dtb_opens nothing dtb_ends dtb_sight dtb_step t few ok work.start n
+        p = inner_at dtb_begin dtb_opens nothing dtb_ends dtb_observation dtb_step t few ok work.start n
 
-        past_and_here : (k : ℕ) → list_any (heard k) (started t n)
-            ≡ (list_any (heard k) work.past || heard k here)
+        past_and_here : (k : ℕ) → list_any (happened_by k) (started t n)
+            ≡ (list_any (happened_by k) work.past || happened_by k here)
         past_and_here k =
-            ap (list_any (heard k)) work.spans ∙ any_both (heard k) work.past (here ∷ [])
-            ∙ ap (λ b. list_any (heard k) work.past || b) (or-false (heard k here))
+            ap (list_any (happened_by k)) work.spans ∙ any_both (happened_by k) work.past (here ∷ [])
+            ∙ ap (λ b. list_any (happened_by k) work.past || b) (or-false (happened_by k here))
 
-        stopped : (l : End) → ends ≡ Some l → here.end ≤ suc n → AreHeard e (suc n)
+        stopped : (l : End) → ends ≡ Some l → here.end ≤ suc n → HaveHappened e (suc n)
         stopped l at last =
             unjudged (ended p l work.memory at)
             (past_and_here (suc n)
-            ∙ ap (λ b. b || heard (suc n) here) (all_over n work.past work.over)
-            ∙ ap (λ b. list_any (heard n) work.past || b) (heard_over n here last)
+            ∙ ap (λ b. b || happened_by (suc n) here) (all_over n work.past work.over)
+            ∙ ap (λ b. list_any (happened_by n) work.past || b) (happened_over n here last)
             ∙ sym (past_and_here n))
 
         is_span : IsSpanOf t here
@@ -334,10 +335,10 @@ module _ (t : Trace) (ok : malformed_step t ≡ None) (few : t.opening.slots ≤
           ends = refl;
         }
 
-        module _ (on : JudgesOn dtb_begin dtb_opens nothing dtb_ends dtb_sight dtb_step t few ok n work) where
+        module _ (on : JudgesOn dtb_begin dtb_opens nothing dtb_ends dtb_observation dtb_step t few ok n work) where
           none_ends : ends ≡ None
           none_ends =
-              goes_here p v w ends (dtb_sight v w (cs_at n))
+              goes_here p v w ends (dtb_observation v w (cs_at n))
               (ap (λ (x : Next (StretchPhase HandshakeMemory)). is_judging x.memory)
               (sym (step_of p work.memory) ∙ on.step))
 
@@ -349,8 +350,8 @@ module _ (t : Trace) (ok : malformed_step t ≡ None) (few : t.opening.slots ≤
 
           kinds_are : kinds ≡ shown t ok few here facts n work.running.from on.before within p holds
           kinds_are =
-              ap (λ (x : Next (StretchPhase HandshakeMemory)). x.kinds) on.step
-              ∙ ap (λ (x : Next HandshakeMemory). x.kinds) (noticed_is t here n p holds (cs_at n))
+              ap (λ (x : Next (StretchPhase HandshakeMemory)). x.shown) on.step
+              ∙ ap (λ (x : Next HandshakeMemory). x.shown) (machine_step_is t here n p holds (cs_at n))
 
           now_is : now ≡ at_step before p v w (cs_at n)
               (shown t ok few here facts n work.running.from on.before within p holds)
@@ -358,36 +359,40 @@ module _ (t : Trace) (ok : malformed_step t ≡ None) (few : t.opening.slots ≤
               ap (λ (k : StepMarks). events_in before (phase_at n) ends v w (cs_at n) k) kinds_are
               ∙ rw (work.memory, none_ends) refl
 
-          judged_on : AreHeard e (suc n)
+          judged_on : HaveHappened e (suc n)
           judged_on =
               next_is ∙ ap (λ (e : AskedEvents). asks_by e r) now_is
               ∙ asked_here t ok few here facts n work.running.from on.before within p holds before r
               ∙ ap (λ b. b || happens t here r (suc n)) (so_far ∙ ap (λ b. asks_by e r || b) (past_and_here n))
-              ∙ or_assoc (asks_by e r) (list_any (heard n) work.past || heard n here) (happens t here r (suc n))
+              ∙ or_assoc (asks_by e r) (list_any (happened_by n) work.past || happened_by n here)
+              (happens t here r (suc n))
               ∙ ap (λ b. asks_by e r || b)
-              (or_assoc (list_any (heard n) work.past) (heard n here) (happens t here r (suc n))
-              ∙ ap (λ b. list_any (heard n) work.past || b)
-              (sym (heard_on n here work.running.from on.before))
-              ∙ ap (λ b. b || heard (suc n) here) (sym (all_over n work.past work.over))
-              ∙ sym (past_and_here (suc n)) ∙ sym (heard_more (suc n) n (omega arith)))
+              (or_assoc (list_any (happened_by n) work.past) (happened_by n here) (happens t here r (suc n))
+              ∙ ap (λ b. list_any (happened_by n) work.past || b)
+              (sym (happened_on n here work.running.from on.before))
+              ∙ ap (λ b. b || happened_by (suc n) here) (sym (all_over n work.past work.over))
+              ∙ sym (past_and_here (suc n)) ∙ sym (happened_more (suc n) n (omega arith)))
 
-        reset_on : Resets dtb_begin dtb_opens nothing dtb_ends dtb_sight dtb_step t few ok n work → AreHeard e (suc n)
+        reset_on : Resets dtb_begin dtb_opens nothing dtb_ends dtb_observation dtb_step t few ok n work
+            → HaveHappened e (suc n)
         reset_on reset =
-            let end = ends_here p v w ends (dtb_sight v w (cs_at n))
+            let end = ends_here p v w ends (dtb_observation v w (cs_at n))
             (ap (λ (x : Next (StretchPhase HandshakeMemory)). waits x.memory)
             (sym (step_of p work.memory) ∙ reset.step)) in
             stopped end.0 end.1 (omega (arith, reset.last))
 
-        lost_on : Loses dtb_begin dtb_opens nothing dtb_ends dtb_sight dtb_step t few ok n work → AreHeard e (suc n)
+        lost_on : Loses dtb_begin dtb_opens nothing dtb_ends dtb_observation dtb_step t few ok n work
+            → HaveHappened e (suc n)
         lost_on loses =
-            let end = lost_here p v w ends (dtb_sight v w (cs_at n))
+            let end = lost_here p v w ends (dtb_observation v w (cs_at n))
             (ap (λ (x : Next (StretchPhase HandshakeMemory)). is_over x.memory)
             (sym (step_of p work.memory) ∙ loses.step)) in
             stopped end.0 end.1 (omega (arith, loses.last))
 
       -- no span runs
-      idle_on : AreOver n (started t n) → Stands dtb_begin dtb_opens nothing dtb_ends dtb_sight dtb_step t few ok n
-          → AreHeard e (suc n)
+      idle_on : AreOver n (started t n)
+          → Stands dtb_begin dtb_opens nothing dtb_ends dtb_observation dtb_step t few ok n
+          → HaveHappened e (suc n)
       idle_on over (inl rest) =
           unjudged (waits_on before (phase_at n) ends v w (cs_at n) kinds rest.waiting) (all_over n (started t n) over)
       idle_on over (inr (inl work)) =
@@ -395,15 +400,15 @@ module _ (t : Trace) (ok : malformed_step t ≡ None) (few : t.opening.slots ≤
           absurd (omega (arith, past_end, work.running.before))
       idle_on over (inr (inr ended)) = unjudged (rw ended.ended refl) (all_over n (started t n) over)
 
-      heard_next : AreHeard e (suc n)
-      heard_next =
-          elim (moves dtb_begin dtb_opens nothing dtb_ends dtb_sight dtb_step t few ok n within) [
+      happened_next : HaveHappened e (suc n)
+      happened_next =
+          elim (moves dtb_begin dtb_opens nothing dtb_ends dtb_observation dtb_step t few ok n within) [
             | inl stays ↦ idle_on stays.over
-                (stands dtb_begin dtb_opens nothing dtb_ends dtb_sight dtb_step t few ok n (omega arith))
+                (stands dtb_begin dtb_opens nothing dtb_ends dtb_observation dtb_step t few ok n (omega arith))
             | inr moving ↦
                 elim moving [
                   | inl starts ↦ idle_on starts.over
-                      (stands dtb_begin dtb_opens nothing dtb_ends dtb_sight dtb_step t few ok n (omega arith))
+                      (stands dtb_begin dtb_opens nothing dtb_ends dtb_observation dtb_step t few ok n (omega arith))
                   | inr works ↦
                       elim works.does [
                         | inl on ↦ judged_on works.work on
@@ -416,24 +421,25 @@ module _ (t : Trace) (ok : malformed_step t ≡ None) (few : t.opening.slots ≤
                 ]
           ]
 
-    heard_first : (e : AskedEvents) → AreHeard e 0
-    heard_first e = sym (ap (λ b. asks_by e r || b) (none_heard (span_starts t 0) refl) ∙ or-false (asks_by e r))
+    happened_first : (e : AskedEvents) → HaveHappened e 0
+    happened_first e = sym (ap (λ b. asks_by e r || b) (none_happened (span_starts t 0) refl) ∙ or-false (asks_by e r))
       where
-        none_heard : (b : Bool) → span_starts t 0 ≡ b → list_any (heard 0) (started t 0) ≡ false
-        none_heard true e = ap (list_any (heard 0)) (started_one t e)
-            ∙ ap (λ b. b || false) (unheard 0 (span_from t 0) (omega arith))
-        none_heard false e = ap (list_any (heard 0)) (started_none t e)
+        none_happened : (b : Bool) → span_starts t 0 ≡ b → list_any (happened_by 0) (started t 0) ≡ false
+        none_happened true e = ap (list_any (happened_by 0)) (started_one t e)
+            ∙ ap (λ b. b || false) (not_happened 0 (span_from t 0) (omega arith))
+        none_happened false e = ap (list_any (happened_by 0)) (started_none t e)
 
     -- what was asked up to an instant
-    pub heard_to : (e : AskedEvents) (n : ℕ) → n ≤ length t.steps → AreHeard e n
-    heard_to e zero h = heard_first e
-    heard_to e (suc n) h = heard_next e n (omega arith) (heard_to e n (omega arith))
+    pub happened_to : (e : AskedEvents) (n : ℕ) → n ≤ length t.steps → HaveHappened e n
+    happened_to e zero h = happened_first e
+    happened_to e (suc n) h = happened_next e n (omega arith) (happened_to e n (omega arith))
 
     -- later spans add nothing
-    pub heard_last : (k d : ℕ) → list_any (heard k) (started t (k + d)) ≡ list_any (heard k) (started t k)
-    heard_last k zero =
+    pub happened_last : (k d : ℕ) → list_any (happened_by k) (started t (k + d))
+        ≡ list_any (happened_by k) (started t k)
+    happened_last k zero =
         let none : k + 0 ≡ k = omega arith in
-        ap (λ n. list_any (heard k) (started t n)) none
-    heard_last k (suc d) =
+        ap (λ n. list_any (happened_by k) (started t n)) none
+    happened_last k (suc d) =
         let one : k + suc d ≡ suc (k + d) = omega arith in
-        ap (λ n. list_any (heard k) (started t n)) one ∙ heard_more k (k + d) (omega arith) ∙ heard_last k d
+        ap (λ n. list_any (happened_by k) (started t n)) one ∙ happened_more k (k + d) (omega arith) ∙ happened_last k d

@@ -182,13 +182,13 @@ module _ (cycle : Cycle) where
   answer_interrupt e (Some s) (Some a) = refl
 
 -- each event at a step to a judged instant
-module _ (e : AskedEvents) (m : HandshakeMemory) (v w : Levels) (cs : List Change) (kinds : StepMarks) where
+module _ (e : AskedEvents) (m : HandshakeMemory) (v w : Levels) (cs : List Change) (shown : StepMarks) where
   abbrev stepped : AskedEvents
-  stepped = at_step e m v w cs kinds
+  stepped = at_step e m v w cs shown
 
   -- before the nets
   abbrev cycles : AskedEvents
-  cycles = cycle_taken e v w kinds
+  cycles = cycle_taken e v w shown
 
   abbrev strobes : AskedEvents
   strobes = strobes_taken cycles m.pending v w
@@ -200,92 +200,92 @@ module _ (e : AskedEvents) (m : HandshakeMemory) (v w : Levels) (cs : List Chang
   }
 
   abbrev answers : AskedEvents
-  answers = answer_taken answering m.cycle kinds.cycle kinds.answer
+  answers = answer_taken answering m.cycle shown.cycle shown.answer
 
-  pub on_cycle : stepped.cycle ≡ (e.cycle || is_some kinds.cycle)
+  pub on_cycle : stepped.cycle ≡ (e.cycle || is_some shown.cycle)
   on_cycle =
       nets_kept v w (λ e. e.cycle) (λ e c. refl) cs (tenure_taken answers v w)
-      ∙ answer_kept (λ e. e.cycle) (λ e b. refl) (λ e. refl) (λ e. refl) (λ e. refl) answering m.cycle kinds.cycle
-      kinds.answer
+      ∙ answer_kept (λ e. e.cycle) (λ e b. refl) (λ e. refl) (λ e. refl) (λ e. refl) answering m.cycle shown.cycle
+      shown.answer
 
   pub on_cycle_end : stepped.cycle_end ≡ (e.cycle_end || rises_between v w AS)
   on_cycle_end =
       nets_kept v w (λ e. e.cycle_end) (λ e c. refl) cs (tenure_taken answers v w)
-      ∙ answer_kept (λ e. e.cycle_end) (λ e b. refl) (λ e. refl) (λ e. refl) (λ e. refl) answering m.cycle kinds.cycle
-      kinds.answer
+      ∙ answer_kept (λ e. e.cycle_end) (λ e b. refl) (λ e. refl) (λ e. refl) (λ e. refl) answering m.cycle shown.cycle
+      shown.answer
 
-  pub on_transfer : stepped.transfer ≡ (e.transfer || is_some kinds.transfer)
+  pub on_transfer : stepped.transfer ≡ (e.transfer || is_some shown.transfer)
   on_transfer =
       nets_kept v w (λ e. e.transfer) (λ e c. refl) cs (tenure_taken answers v w)
-      ∙ answer_kept (λ e. e.transfer) (λ e b. refl) (λ e. refl) (λ e. refl) (λ e. refl) answering m.cycle kinds.cycle
-      kinds.answer
+      ∙ answer_kept (λ e. e.transfer) (λ e b. refl) (λ e. refl) (λ e. refl) (λ e. refl) answering m.cycle shown.cycle
+      shown.answer
 
-  pub on_write : stepped.write ≡ (e.write || option_map_or (λ write. write) kinds.transfer false)
+  pub on_write : stepped.write ≡ (e.write || option_map_or (λ write. write) shown.transfer false)
   on_write =
       nets_kept v w (λ e. e.write) (λ e c. refl) cs (tenure_taken answers v w)
-      ∙ answer_kept (λ e. e.write) (λ e b. refl) (λ e. refl) (λ e. refl) (λ e. refl) answering m.cycle kinds.cycle
-      kinds.answer
+      ∙ answer_kept (λ e. e.write) (λ e b. refl) (λ e. refl) (λ e. refl) (λ e. refl) answering m.cycle shown.cycle
+      shown.answer
 
   pub on_strobe_rise : stepped.strobe_rise ≡ (e.strobe_rise || (is_within m.pending && strobe_rises_between v w))
   on_strobe_rise =
       nets_kept v w (λ e. e.strobe_rise) (λ e c. refl) cs (tenure_taken answers v w)
-      ∙ answer_kept (λ e. e.strobe_rise) (λ e b. refl) (λ e. refl) (λ e. refl) (λ e. refl) answering m.cycle kinds.cycle
-      kinds.answer
+      ∙ answer_kept (λ e. e.strobe_rise) (λ e b. refl) (λ e. refl) (λ e. refl) (λ e. refl) answering m.cycle shown.cycle
+      shown.answer
 
   pub on_strobe_fall : stepped.strobe_fall ≡ (e.strobe_fall || (is_within m.pending && strobe_falls_between v w))
   on_strobe_fall =
       nets_kept v w (λ e. e.strobe_fall) (λ e c. refl) cs (tenure_taken answers v w)
-      ∙ answer_kept (λ e. e.strobe_fall) (λ e b. refl) (λ e. refl) (λ e. refl) (λ e. refl) answering m.cycle kinds.cycle
-      kinds.answer
+      ∙ answer_kept (λ e. e.strobe_fall) (λ e b. refl) (λ e. refl) (λ e. refl) (λ e. refl) answering m.cycle shown.cycle
+      shown.answer
 
   pub on_answer_fall : stepped.answer_fall ≡ (e.answer_fall || answer_between v w)
   on_answer_fall =
       nets_kept v w (λ e. e.answer_fall) (λ e c. refl) cs (tenure_taken answers v w)
-      ∙ answer_kept (λ e. e.answer_fall) (λ e b. refl) (λ e. refl) (λ e. refl) (λ e. refl) answering m.cycle kinds.cycle
-      kinds.answer
+      ∙ answer_kept (λ e. e.answer_fall) (λ e b. refl) (λ e. refl) (λ e. refl) (λ e. refl) answering m.cycle shown.cycle
+      shown.answer
 
   pub on_answer_rise : stepped.answer_rise ≡ (e.answer_rise || (rises_between v w DTACK || rises_between v w BERR))
   on_answer_rise =
       nets_kept v w (λ e. e.answer_rise) (λ e c. refl) cs (tenure_taken answers v w)
-      ∙ answer_kept (λ e. e.answer_rise) (λ e b. refl) (λ e. refl) (λ e. refl) (λ e. refl) answering m.cycle kinds.cycle
-      kinds.answer
+      ∙ answer_kept (λ e. e.answer_rise) (λ e b. refl) (λ e. refl) (λ e. refl) (λ e. refl) answering m.cycle shown.cycle
+      shown.answer
       ∙ or_assoc e.answer_rise (rises_between v w DTACK) (rises_between v w BERR)
 
-  pub on_answer : stepped.answer ≡ (e.answer || is_some kinds.answer)
+  pub on_answer : stepped.answer ≡ (e.answer || is_some shown.answer)
   on_answer =
       nets_kept v w (λ e. e.answer) (λ e c. refl) cs (tenure_taken answers v w)
-      ∙ answer_answer m.cycle answering kinds.cycle kinds.answer
+      ∙ answer_answer m.cycle answering shown.cycle shown.answer
 
   pub on_interrupt : stepped.interrupt
-      ≡ (e.interrupt || (is_some kinds.answer && is_interrupt_entered m.cycle kinds.cycle))
+      ≡ (e.interrupt || (is_some shown.answer && is_interrupt_entered m.cycle shown.cycle))
   on_interrupt =
       nets_kept v w (λ e. e.interrupt) (λ e c. refl) cs (tenure_taken answers v w)
-      ∙ answer_interrupt m.cycle answering kinds.cycle kinds.answer
+      ∙ answer_interrupt m.cycle answering shown.cycle shown.answer
 
   pub on_single_again : stepped.single_again
-      ≡ (e.single_again || goes_on is_single_answered m.cycle kinds.cycle kinds.answer)
+      ≡ (e.single_again || goes_on is_single_answered m.cycle shown.cycle shown.answer)
   on_single_again =
       nets_kept v w (λ e. e.single_again) (λ e c. refl) cs (tenure_taken answers v w)
-      ∙ single_taken m.cycle answering kinds.cycle kinds.answer
+      ∙ single_taken m.cycle answering shown.cycle shown.answer
 
   pub on_block_again : stepped.block_again
-      ≡ (e.block_again || goes_on is_block_answered m.cycle kinds.cycle kinds.answer)
+      ≡ (e.block_again || goes_on is_block_answered m.cycle shown.cycle shown.answer)
   on_block_again =
       nets_kept v w (λ e. e.block_again) (λ e c. refl) cs (tenure_taken answers v w)
-      ∙ block_taken m.cycle answering kinds.cycle kinds.answer
+      ∙ block_taken m.cycle answering shown.cycle shown.answer
 
   pub on_interrupt_again : stepped.interrupt_again
-      ≡ (e.interrupt_again || goes_on is_interrupt_answered m.cycle kinds.cycle kinds.answer)
+      ≡ (e.interrupt_again || goes_on is_interrupt_answered m.cycle shown.cycle shown.answer)
   on_interrupt_again =
       nets_kept v w (λ e. e.interrupt_again) (λ e c. refl) cs (tenure_taken answers v w)
-      ∙ interrupt_again_taken m.cycle answering kinds.cycle kinds.answer
+      ∙ interrupt_again_taken m.cycle answering shown.cycle shown.answer
 
   pub on_tenure : stepped.tenure ≡ (e.tenure || falls_between v w BBSY)
   on_tenure =
       nets_kept v w (λ e. e.tenure) (λ e c. refl) cs (tenure_taken answers v w)
       ∙ ap (λ b. b || falls_between v w BBSY)
-      (answer_kept (λ e. e.tenure) (λ e b. refl) (λ e. refl) (λ e. refl) (λ e. refl) answering m.cycle kinds.cycle
-      kinds.answer)
+      (answer_kept (λ e. e.tenure) (λ e b. refl) (λ e. refl) (λ e. refl) (λ e. refl) answering m.cycle shown.cycle
+      shown.answer)
 
   -- a net of some nets falls, or rises
   abbrev pub any_falls : (ℕ → Bool) → Bool
@@ -300,7 +300,7 @@ module _ (e : AskedEvents) (m : HandshakeMemory) (v w : Levels) (cs : List Chang
       (tenure_taken answers v w)
       ∙ ap (λ b. b || any_falls is_slot_grant)
       (answer_kept (λ e. e.slot_grant_fall) (λ e b. refl) (λ e. refl) (λ e. refl) (λ e. refl) answering m.cycle
-      kinds.cycle kinds.answer)
+      shown.cycle shown.answer)
 
   pub on_slot_grant_rise : stepped.slot_grant_rise ≡ (e.slot_grant_rise || any_rises is_slot_grant)
   on_slot_grant_rise =
@@ -308,15 +308,15 @@ module _ (e : AskedEvents) (m : HandshakeMemory) (v w : Levels) (cs : List Chang
       (tenure_taken answers v w)
       ∙ ap (λ b. b || any_rises is_slot_grant)
       (answer_kept (λ e. e.slot_grant_rise) (λ e b. refl) (λ e. refl) (λ e. refl) (λ e. refl) answering m.cycle
-      kinds.cycle kinds.answer)
+      shown.cycle shown.answer)
 
   pub on_arbiter_fall : stepped.arbiter_fall ≡ (e.arbiter_fall || any_falls is_arbiter_grant)
   on_arbiter_fall =
       nets_any v w (λ e. e.arbiter_fall) (λ c. is_arbiter_grant c.line && net_falls v w c.line) (λ e c. refl) cs
       (tenure_taken answers v w)
       ∙ ap (λ b. b || any_falls is_arbiter_grant)
-      (answer_kept (λ e. e.arbiter_fall) (λ e b. refl) (λ e. refl) (λ e. refl) (λ e. refl) answering m.cycle kinds.cycle
-      kinds.answer)
+      (answer_kept (λ e. e.arbiter_fall) (λ e b. refl) (λ e. refl) (λ e. refl) (λ e. refl) answering m.cycle shown.cycle
+      shown.answer)
 
   pub on_acknowledge_fall : stepped.acknowledge_fall ≡ (e.acknowledge_fall || any_falls is_slot_iack)
   on_acknowledge_fall =
@@ -324,10 +324,10 @@ module _ (e : AskedEvents) (m : HandshakeMemory) (v w : Levels) (cs : List Chang
       (tenure_taken answers v w)
       ∙ ap (λ b. b || any_falls is_slot_iack)
       (answer_kept (λ e. e.acknowledge_fall) (λ e b. refl) (λ e. refl) (λ e. refl) (λ e. refl) answering m.cycle
-      kinds.cycle kinds.answer)
+      shown.cycle shown.answer)
 
   pub on_stretch : stepped.stretch ≡ e.stretch
   on_stretch =
       nets_kept v w (λ e. e.stretch) (λ e c. refl) cs (tenure_taken answers v w)
-      ∙ answer_kept (λ e. e.stretch) (λ e b. refl) (λ e. refl) (λ e. refl) (λ e. refl) answering m.cycle kinds.cycle
-      kinds.answer
+      ∙ answer_kept (λ e. e.stretch) (λ e b. refl) (λ e. refl) (λ e. refl) (λ e. refl) answering m.cycle shown.cycle
+      shown.answer

@@ -8,7 +8,7 @@ use Rattle.vme_trace.specs.Trace.{Trace}
 use Rattle.vme_trace.specs.Verdict.{verdict}
 use Rattle.vme_trace.specs.declared.verdict.Break.{Break}
 use Rattle.vme_trace.specs.declared.verdict.Verdict.TheVariants as verdict_is
-use Rattle.vme_monitor.proofs.Seats.{same_value}
+use Rattle.vme_monitor.proofs.LastSeen.{same_value}
 use Rattle.vme_audit.specs.Allowances.{faults, is_allowed, unreadables, wrongs}
 use Rattle.vme_audit.specs.Counted.{counts}
 use Rattle.vme_audit.specs.Covered.{answered, any_of, gap, hang, hang_from, is_judged_part, never_idle, outcome}

@@ -8,10 +8,11 @@ use Rattle.vme_trace.specs.declared.data.Lanes.{Lanes}
 use Rattle.vme_trace.specs.declared.step.Change.{Change}
 use Rattle.vme_monitor.specs.BothSpec.{kind_number}
 use Rattle.vme_monitor.specs.Ends.{end_among}
-use Rattle.vme_monitor.specs.OverStretches.{judging, noted, spanned}
-use Rattle.vme_monitor.specs.Run.{answer_kind, answered_kind, cycle_kind, kinds_of, noticed, nothing, quiet}
+use Rattle.vme_monitor.specs.OverStretches.{judging, observed, phase_step}
+use Rattle.vme_monitor.specs.Run.{answer_kind, answered_kind, cycle_kind, kinds_of, machine_step, nothing, quiet}
 use Rattle.vme_monitor.specs.Run.{when}
-use Rattle.vme_monitor.specs.KnownSpec.{known_begin, known_ends, known_next, known_opens, known_resets, known_sight}
+use Rattle.vme_monitor.specs.KnownSpec.{known_begin, known_ends, known_next, known_opens, known_resets}
+use Rattle.vme_monitor.specs.KnownSpec.{known_observation}
 use Rattle.vme_monitor.specs.declared.mark.BusGrant.{BusGrant}
 use Rattle.vme_monitor.specs.declared.mark.CycleStart.{CycleStart}
 use Rattle.vme_monitor.specs.declared.mark.Fault.{Fault}
@@ -25,12 +26,12 @@ use Rattle.vme_monitor.specs.declared.over_stretches.StretchPhase.{StretchPhase}
 use Rattle.vme_monitor.specs.declared.over_stretches.StretchPhase.TheVariants as phase
 use Rattle.vme_monitor.specs.declared.view.End.{End}
 use Rattle.vme_monitor.specs.declared.view.End.TheVariants as end
-use Rattle.vme_dtb.specs.Machine.{dtb_begin, dtb_ends, dtb_opens, dtb_sight, dtb_step}
+use Rattle.vme_dtb.specs.Machine.{dtb_begin, dtb_ends, dtb_opens, dtb_observation, dtb_step}
 use Rattle.vme_stability.specs.StabilitySpec.{stability_begin, stability_ends, stability_next, stability_opens}
-use Rattle.vme_stability.specs.StabilitySpec.{stability_sight}
-use Rattle.vme_chains.specs.GrantSpec.{grant_begin, grant_ends, grant_next, grant_opens, grant_sight}
+use Rattle.vme_stability.specs.StabilitySpec.{stability_observation}
+use Rattle.vme_chains.specs.GrantSpec.{grant_begin, grant_ends, grant_next, grant_opens, grant_observation}
 use Rattle.vme_chains.specs.AcknowledgeSpec.{acknowledge_begin, acknowledge_ends, acknowledge_next, acknowledge_opens}
-use Rattle.vme_chains.specs.AcknowledgeSpec.{acknowledge_sight}
+use Rattle.vme_chains.specs.AcknowledgeSpec.{acknowledge_observation}
 use Rattle.vme_auditor.specs.Memories.{acknowledge_at, grant_at, handshake_at, known_at, stability_at}
 use Rattle.vme_auditor.specs.declared.memories.Memories.{Memories}
 
@@ -38,40 +39,40 @@ use Rattle.vme_auditor.specs.declared.memories.Memories.{Memories}
 module _ {P S : Type 0} (begin : Levels → P) (opens : Levels → StepMarks) (resets : StepMarks) (ends : ℕ → Option Fault)
     (next : P → Levels → Levels → S → Next P) (IsOwn : StepMarks → Type 0) (none : IsOwn nothing)
     (opened : (v : Levels) → IsOwn (opens v)) (reset : IsOwn resets)
-    (stepped : (p : P) (v w : Levels) (s : S) → IsOwn (next p v w s).kinds) where
+    (stepped : (p : P) (v w : Levels) (s : S) → IsOwn (next p v w s).shown) where
   waiting_own : (m : StretchPhase P) (w : Levels) (b : Bool)
-      → IsOwn (cond b (record { memory = phase.Judging (begin w); fault = None; kinds = opens w }) (quiet m)).kinds
+      → IsOwn (cond b (record { memory = phase.Judging (begin w); fault = None; shown = opens w }) (quiet m)).shown
   waiting_own m w true = opened w
   waiting_own m w false = none
 
-  seen_own : (p : P) (v w : Levels) (s : Option S) → IsOwn (option_map_or (next p v w) s (quiet p)).kinds
+  seen_own : (p : P) (v w : Levels) (s : Option S) → IsOwn (option_map_or (next p v w) s (quiet p)).shown
   seen_own p v w None = none
   seen_own p v w (Some s) = stepped p v w s
 
   judging_own : (p : P) (v w : Levels) (e : Option End) (s : Option S)
-      → IsOwn (judging begin opens resets ends next p v w e s).kinds
+      → IsOwn (judging begin opens resets ends next p v w e s).shown
   judging_own p v w (Some end.Reset) s = reset
   judging_own p v w (Some (end.Lost l)) s = none
   judging_own p v w None s = seen_own p v w s
 
   module _ (observation : Levels → Levels → List Change → Option S) (v w : Levels) (cs : List Change) where
-    spanned_own : (m : StretchPhase P)
-        → IsOwn (spanned begin opens resets ends next m v w
-        (record { end = end_among w cs; inner = observation v w cs })).kinds
-    spanned_own phase.Waiting = waiting_own phase.Waiting w (is_idle w)
-    spanned_own (phase.Judging p) = judging_own p v w (end_among w cs) (observation v w cs)
-    spanned_own phase.Reset = waiting_own phase.Reset w (is_idle w)
-    spanned_own phase.Ended = none
+    phase_step_own : (m : StretchPhase P)
+        → IsOwn (phase_step begin opens resets ends next m v w
+        (record { end = end_among w cs; inner = observation v w cs })).shown
+    phase_step_own phase.Waiting = waiting_own phase.Waiting w (is_idle w)
+    phase_step_own (phase.Judging p) = judging_own p v w (end_among w cs) (observation v w cs)
+    phase_step_own phase.Reset = waiting_own phase.Reset w (is_idle w)
+    phase_step_own phase.Ended = none
 
-    noted_own : (m : StretchPhase P) (b : Bool)
-        → IsOwn (option_map_or (spanned begin opens resets ends next m v w)
-        (cond b (Some (record { end = end_among w cs; inner = observation v w cs })) None) (quiet m)).kinds
-    noted_own m true = spanned_own m
-    noted_own m false = none
+    observed_own : (m : StretchPhase P) (b : Bool)
+        → IsOwn (option_map_or (phase_step begin opens resets ends next m v w)
+        (cond b (Some (record { end = end_among w cs; inner = observation v w cs })) None) (quiet m)).shown
+    observed_own m true = phase_step_own m
+    observed_own m false = none
 
     pub shown_own : (m : StretchPhase P)
-        → IsOwn (noticed (noted observation) (spanned begin opens resets ends next) m v w cs).kinds
-    shown_own m = noted_own m (touches_control w.slots cs || is_some (observation v w cs))
+        → IsOwn (machine_step (observed observation) (phase_step begin opens resets ends next) m v w cs).shown
+    shown_own m = observed_own m (touches_control w.slots cs || is_some (observation v w cs))
 
 -- the kinds of the stretch, of the tenure, and of the cycle and the transfer
 abbrev pub OfStretch : StepMarks → Type 0
@@ -93,30 +94,30 @@ abbrev IsNothing : StepMarks → Type 0
 IsNothing k = k ≡ nothing
 
 module _ (m : Memories) (v w : Levels) (cs : List Change) where
-  pub known_own : OfStretch (known_at m.known v w cs).kinds
+  pub known_own : OfStretch (known_at m.known v w cs).shown
   known_own =
       shown_own known_begin known_opens known_resets known_ends known_next OfStretch refl (λ v. refl) refl
-      (λ p v w s. refl) known_sight v w cs m.known
+      (λ p v w s. refl) known_observation v w cs m.known
 
-  pub grant_own : OfTenure (grant_at m.grant v w cs).kinds
+  pub grant_own : OfTenure (grant_at m.grant v w cs).shown
   grant_own =
       shown_own grant_begin grant_opens nothing grant_ends grant_next OfTenure refl (λ v. refl) refl (λ p v w s. refl)
-      grant_sight v w cs m.grant
+      grant_observation v w cs m.grant
 
-  pub handshake_own : OfTransfer (handshake_at m.handshake v w cs).kinds
+  pub handshake_own : OfTransfer (handshake_at m.handshake v w cs).shown
   handshake_own =
       shown_own dtb_begin dtb_opens nothing dtb_ends dtb_step OfTransfer refl (λ v. refl) refl (λ p v w s. refl)
-      dtb_sight v w cs m.handshake
+      dtb_observation v w cs m.handshake
 
-  pub stability_own : IsNothing (stability_at m.stability v w cs).kinds
+  pub stability_own : IsNothing (stability_at m.stability v w cs).shown
   stability_own =
       shown_own stability_begin stability_opens nothing stability_ends stability_next IsNothing refl (λ v. refl) refl
-      (λ p v w s. refl) stability_sight v w cs m.stability
+      (λ p v w s. refl) stability_observation v w cs m.stability
 
-  pub acknowledge_own : IsNothing (acknowledge_at m.acknowledge v w cs).kinds
+  pub acknowledge_own : IsNothing (acknowledge_at m.acknowledge v w cs).shown
   acknowledge_own =
       shown_own acknowledge_begin acknowledge_opens nothing acknowledge_ends acknowledge_next IsNothing refl (λ v. refl)
-      refl (λ p v w s. refl) acknowledge_sight v w cs m.acknowledge
+      refl (λ p v w s. refl) acknowledge_observation v w cs m.acknowledge
 
 -- numbers of kinds below a bound, and from one on
 abbrev pub AllBelow : ℕ → List MarkKind → Type 0

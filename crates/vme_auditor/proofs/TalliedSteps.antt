@@ -152,12 +152,12 @@ module _ (at : ℕ → StartedTransfer) (i : ℕ) where
 -- a step's marks add what the step does
 step_tallied : (at : ℕ → StartedTransfer) (m : Memories) (o after : Levels) (s : Step) (a : Tally)
     → fold (mark_tallied at) a (map (mark_at 1) (kinds_shown m o after s.changes))
-    ≡ tallied suc a (at 1).instant (at 1).time (known_at m.known o after s.changes).kinds
-    (grant_at m.grant o after s.changes).kinds (handshake_at m.handshake o after s.changes).kinds
+    ≡ tallied suc a (at 1).instant (at 1).time (known_at m.known o after s.changes).shown
+    (grant_at m.grant o after s.changes).shown (handshake_at m.handshake o after s.changes).shown
 step_tallied at m o after s a =
-    let k = (known_at m.known o after s.changes).kinds in
-    let g = (grant_at m.grant o after s.changes).kinds in
-    let d = (handshake_at m.handshake o after s.changes).kinds in
+    let k = (known_at m.known o after s.changes).shown in
+    let g = (grant_at m.grant o after s.changes).shown in
+    let d = (handshake_at m.handshake o after s.changes).shown in
     let b = cond k.reset (at_reset suc a) a in
     let c = option_map_or (at_tenure suc b) g.tenure b in
     marks_of_kinds at 1 (kinds_shown m o after s.changes) a
@@ -180,22 +180,22 @@ tally_by more m o n a (s ∷ x) =
     let after = changed o s.changes in
     let fault = first_fault_of m o after s.changes in
     tally_by more (memories_behind fault after (memories_next m o after s.changes)) after (n + 1)
-    (tally_behind more fault a (n + 1) s.time (known_at m.known o after s.changes).kinds
-    (grant_at m.grant o after s.changes).kinds (handshake_at m.handshake o after s.changes).kinds) x
+    (tally_behind more fault a (n + 1) s.time (known_at m.known o after s.changes).shown
+    (grant_at m.grant o after s.changes).shown (handshake_at m.handshake o after s.changes).shown) x
 
 tally_stepped : (r : AuditReached) (s : Step) → (with_step r s).audit.tally
     ≡ tally_behind counted (first_fault_of r.audit.memories r.levels (changed r.levels s.changes) s.changes)
     r.audit.tally (r.instant + 1) s.time (known_at r.audit.memories.known r.levels (changed r.levels s.changes)
-    s.changes).kinds (grant_at r.audit.memories.grant r.levels (changed r.levels s.changes) s.changes).kinds
-    (handshake_at r.audit.memories.handshake r.levels (changed r.levels s.changes) s.changes).kinds
+    s.changes).shown (grant_at r.audit.memories.grant r.levels (changed r.levels s.changes) s.changes).shown
+    (handshake_at r.audit.memories.handshake r.levels (changed r.levels s.changes) s.changes).shown
 tally_stepped r s = by_fault (first_fault_of r.audit.memories r.levels (changed r.levels s.changes) s.changes) refl
   where
     by_fault : (f : Option Fault) → first_fault_of r.audit.memories r.levels (changed r.levels s.changes) s.changes ≡ f
         → (with_step r s).audit.tally
         ≡ tally_behind counted f r.audit.tally (r.instant + 1) s.time
-        (known_at r.audit.memories.known r.levels (changed r.levels s.changes) s.changes).kinds
-        (grant_at r.audit.memories.grant r.levels (changed r.levels s.changes) s.changes).kinds
-        (handshake_at r.audit.memories.handshake r.levels (changed r.levels s.changes) s.changes).kinds
+        (known_at r.audit.memories.known r.levels (changed r.levels s.changes) s.changes).shown
+        (grant_at r.audit.memories.grant r.levels (changed r.levels s.changes) s.changes).shown
+        (handshake_at r.audit.memories.handshake r.levels (changed r.levels s.changes) s.changes).shown
     by_fault None e = rw e refl
     by_fault (Some f) e = rw e refl
 
@@ -217,8 +217,8 @@ quiet_tally m o n a [] = a
 quiet_tally m o n a (s ∷ x) =
     let after = changed o s.changes in
     quiet_tally (memories_next m o after s.changes) after (n + 1)
-    (tallied suc a (n + 1) s.time (known_at m.known o after s.changes).kinds
-    (grant_at m.grant o after s.changes).kinds (handshake_at m.handshake o after s.changes).kinds) x
+    (tallied suc a (n + 1) s.time (known_at m.known o after s.changes).shown
+    (grant_at m.grant o after s.changes).shown (handshake_at m.handshake o after s.changes).shown) x
 
 -- up to the first break, and behind it
 abbrev pub tally_from : Memories → Levels → ℕ → Tally → List Step → Option Break → Tally
@@ -236,8 +236,8 @@ module _ (m : Memories) (o : Levels) (s : Step) (x : List Step) (n : ℕ) (a : T
   next = memories_next m o after s.changes
 
   abbrev more : Tally
-  more = tallied suc a (n + 1) s.time (known_at m.known o after s.changes).kinds
-      (grant_at m.grant o after s.changes).kinds (handshake_at m.handshake o after s.changes).kinds
+  more = tallied suc a (n + 1) s.time (known_at m.known o after s.changes).shown
+      (grant_at m.grant o after s.changes).shown (handshake_at m.handshake o after s.changes).shown
 
   from_later : (e : Option Break) → EventWithin (length x) e
       → tally_from next after (n + 1) more x e ≡ tally_from m o n a (s ∷ x) (option_map (shifted_break 1) e)
@@ -251,8 +251,8 @@ module _ (m : Memories) (o : Levels) (s : Step) (x : List Step) (n : ℕ) (a : T
   from_stepped : (f : Option Fault) → tally_by suc next after (n + 1) more x
       ≡ tally_from next after (n + 1) more x (first_event next after x)
       → tally_by suc (memories_behind f after next) after (n + 1)
-      (tally_behind suc f a (n + 1) s.time (known_at m.known o after s.changes).kinds
-      (grant_at m.grant o after s.changes).kinds (handshake_at m.handshake o after s.changes).kinds) x
+      (tally_behind suc f a (n + 1) s.time (known_at m.known o after s.changes).shown
+      (grant_at m.grant o after s.changes).shown (handshake_at m.handshake o after s.changes).shown) x
       ≡ tally_from m o n a (s ∷ x)
       (earlier (option_map (break_at 1 s.time) f) (option_map (shifted_break 1) (first_event next after x)))
   unfolding levels_at quiet_tally
@@ -301,9 +301,9 @@ quiet_marks [] m o n a at starts = refl
 quiet_marks (s ∷ x) m o n a at starts =
     let after = changed o s.changes in
     let next = memories_next m o after s.changes in
-    let k = (known_at m.known o after s.changes).kinds in
-    let g = (grant_at m.grant o after s.changes).kinds in
-    let d = (handshake_at m.handshake o after s.changes).kinds in
+    let k = (known_at m.known o after s.changes).shown in
+    let g = (grant_at m.grant o after s.changes).shown in
+    let d = (handshake_at m.handshake o after s.changes).shown in
     let first : fold (mark_tallied at) a (map (mark_at 1) (kinds_shown m o after s.changes))
     ≡ tallied suc a (n + 1) s.time k g d = step_tallied at m o after s a
     ∙ ap (λ (t : StartedTransfer). tallied suc a t.instant t.time k g d) (starts 0) in

@@ -67,14 +67,14 @@ ended_with a after n time stretch tenure transfer (Some fault) = begun_anew a af
 -- an audit goes on past a step, at its instant and time
 abbrev pub stepped : Audit → Levels → Levels → List Change → ℕ → ℕ → Audit
 stepped a before after changes n time =
-    let stretch = (known_at a.memories.known before after changes).kinds in
-    let transfer = (handshake_at a.memories.handshake before after changes).kinds in
+    let stretch = (known_at a.memories.known before after changes).shown in
+    let transfer = (handshake_at a.memories.handshake before after changes).shown in
     ended_with
     (record a {
       memories = memories_next a.memories before after changes;
       events = events_by a.events a.memories.handshake (end_among after changes) before after changes stretch transfer;
     })
-    after n time stretch (grant_at a.memories.grant before after changes).kinds transfer
+    after n time stretch (grant_at a.memories.grant before after changes).shown transfer
     (first_fault_of a.memories before after changes)
 
 -- how far an audit has come: the levels, the instant, what it has come to, and the breaks that it told

@@ -100,11 +100,11 @@ net_rises before after l = has_line before.slots l && has_line after.slots l && 
 -- ---- the events with those of one step more
 
 abbrev pub cycle_taken : AskedEvents → Levels → Levels → StepMarks → AskedEvents
-cycle_taken e before after kinds = record e {
-  cycle = e.cycle || is_some kinds.cycle;
+cycle_taken e before after shown = record e {
+  cycle = e.cycle || is_some shown.cycle;
   cycle_end = e.cycle_end || rises_between before after AS;
-  transfer = e.transfer || is_some kinds.transfer;
-  write = e.write || option_map_or (λ write. write) kinds.transfer false;
+  transfer = e.transfer || is_some shown.transfer;
+  write = e.write || option_map_or (λ write. write) shown.transfer false;
 }
 
 abbrev pub strobes_taken : AskedEvents → Pending → Levels → Levels → AskedEvents
@@ -133,13 +133,13 @@ answer_taken e cycle starts (Some answer) =
     (record e { answer = true; interrupt = e.interrupt || is_interrupt_entered cycle starts }) cycle starts
 
 abbrev pub answers_taken : AskedEvents → Cycle → Levels → Levels → StepMarks → AskedEvents
-answers_taken e cycle before after kinds =
+answers_taken e cycle before after shown =
     answer_taken
     (record e {
       answer_fall = e.answer_fall || answer_between before after;
       answer_rise = e.answer_rise || rises_between before after DTACK || rises_between before after BERR;
     })
-    cycle kinds.cycle kinds.answer
+    cycle shown.cycle shown.answer
 
 abbrev pub net_taken : Levels → Levels → AskedEvents → Change → AskedEvents
 net_taken before after e c = record e {
@@ -156,8 +156,8 @@ abbrev pub tenure_taken : AskedEvents → Levels → Levels → AskedEvents
 tenure_taken e before after = record e { tenure = e.tenure || falls_between before after BBSY }
 
 abbrev pub at_step : AskedEvents → HandshakeMemory → Levels → Levels → List Change → StepMarks → AskedEvents
-at_step e entered before after changes kinds =
-    let a = cycle_taken e before after kinds in
+at_step e entered before after changes shown =
+    let a = cycle_taken e before after shown in
     let b = strobes_taken a entered.pending before after in
-    let c = answers_taken b entered.cycle before after kinds in
+    let c = answers_taken b entered.cycle before after shown in
     nets_taken before after (tenure_taken c before after) changes

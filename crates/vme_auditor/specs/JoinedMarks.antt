@@ -15,9 +15,9 @@ use Rattle.vme_auditor.specs.declared.memories.Memories.{Memories}
 -- what is shown at a step
 abbrev pub kinds_shown : Memories → Levels → Levels → List Change → List MarkKind
 kinds_shown m before after changes =
-    kinds_of (known_at m.known before after changes).kinds
-    ++ (kinds_of (grant_at m.grant before after changes).kinds
-    ++ kinds_of (handshake_at m.handshake before after changes).kinds)
+    kinds_of (known_at m.known before after changes).shown
+    ++ (kinds_of (grant_at m.grant before after changes).shown
+    ++ kinds_of (handshake_at m.handshake before after changes).shown)
 
 -- the marks of steps after an opening, from these memories on
 unfoldable pub joined_marks : Memories → Levels → List Step → List Mark

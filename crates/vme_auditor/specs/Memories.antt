@@ -5,46 +5,49 @@ use Rattle.vme_trace.specs.Levels.{Levels}
 use Rattle.vme_trace.specs.declared.step.Change.{Change}
 use Rattle.vme_trace.specs.Names.{rule_number}
 use Rattle.vme_trace.specs.declared.verdict.Break.{Break}
-use Rattle.vme_monitor.specs.OverStretches.{noted, spanned, start_in}
-use Rattle.vme_monitor.specs.Run.{break_at, nothing, noticed}
-use Rattle.vme_monitor.specs.KnownSpec.{known_begin, known_ends, known_next, known_opens, known_resets, known_sight}
+use Rattle.vme_monitor.specs.OverStretches.{observed, phase_step, start_in}
+use Rattle.vme_monitor.specs.Run.{break_at, nothing, machine_step}
+use Rattle.vme_monitor.specs.KnownSpec.{known_begin, known_ends, known_next, known_opens, known_resets}
+use Rattle.vme_monitor.specs.KnownSpec.{known_observation}
 use Rattle.vme_monitor.specs.declared.known.Stateless.{Stateless}
 use Rattle.vme_monitor.specs.declared.mark.Fault.{Fault}
 use Rattle.vme_monitor.specs.declared.mark.Next.{Next}
 use Rattle.vme_monitor.specs.declared.over_stretches.StretchPhase.{StretchPhase}
-use Rattle.vme_dtb.specs.Machine.{dtb_begin, dtb_ends, dtb_opens, dtb_sight, dtb_step}
+use Rattle.vme_dtb.specs.Machine.{dtb_begin, dtb_ends, dtb_opens, dtb_observation, dtb_step}
 use Rattle.vme_dtb.specs.declared.memory.HandshakeMemory.{HandshakeMemory}
 use Rattle.vme_stability.specs.StabilitySpec.{stability_begin, stability_ends, stability_next, stability_opens}
-use Rattle.vme_stability.specs.StabilitySpec.{stability_sight}
+use Rattle.vme_stability.specs.StabilitySpec.{stability_observation}
 use Rattle.vme_stability.specs.declared.holding.Holding.{Holding}
-use Rattle.vme_chains.specs.GrantSpec.{grant_begin, grant_ends, grant_next, grant_opens, grant_sight}
+use Rattle.vme_chains.specs.GrantSpec.{grant_begin, grant_ends, grant_next, grant_opens, grant_observation}
 use Rattle.vme_chains.specs.declared.grant_memory.Arbitration.{Arbitration}
 use Rattle.vme_chains.specs.AcknowledgeSpec.{acknowledge_begin, acknowledge_ends, acknowledge_next, acknowledge_opens}
-use Rattle.vme_chains.specs.AcknowledgeSpec.{acknowledge_sight}
+use Rattle.vme_chains.specs.AcknowledgeSpec.{acknowledge_observation}
 use Rattle.vme_chains.specs.declared.acknowledge.Acknowledgement.{Acknowledgement}
 use Rattle.vme_auditor.specs.declared.memories.AllShown.{AllShown}
 use Rattle.vme_auditor.specs.declared.memories.Memories.{Memories}
 
 -- what a step is to each monitor
 abbrev pub known_at : StretchPhase Stateless → Levels → Levels → List Change → Next (StretchPhase Stateless)
-known_at = noticed (noted known_sight) (spanned known_begin known_opens known_resets known_ends known_next)
+known_at = machine_step (observed known_observation)
+    (phase_step known_begin known_opens known_resets known_ends known_next)
 
 abbrev pub handshake_at : StretchPhase HandshakeMemory → Levels → Levels → List Change
     → Next (StretchPhase HandshakeMemory)
-handshake_at = noticed (noted dtb_sight) (spanned dtb_begin dtb_opens nothing dtb_ends dtb_step)
+handshake_at = machine_step (observed dtb_observation) (phase_step dtb_begin dtb_opens nothing dtb_ends dtb_step)
 
 abbrev pub stability_at : StretchPhase Holding → Levels → Levels → List Change → Next (StretchPhase Holding)
 stability_at =
-    noticed (noted stability_sight) (spanned stability_begin stability_opens nothing stability_ends stability_next)
+    machine_step (observed stability_observation)
+    (phase_step stability_begin stability_opens nothing stability_ends stability_next)
 
 abbrev pub grant_at : StretchPhase Arbitration → Levels → Levels → List Change → Next (StretchPhase Arbitration)
-grant_at = noticed (noted grant_sight) (spanned grant_begin grant_opens nothing grant_ends grant_next)
+grant_at = machine_step (observed grant_observation) (phase_step grant_begin grant_opens nothing grant_ends grant_next)
 
 abbrev pub acknowledge_at : StretchPhase Acknowledgement → Levels → Levels → List Change
     → Next (StretchPhase Acknowledgement)
 acknowledge_at =
-    noticed (noted acknowledge_sight)
-    (spanned acknowledge_begin acknowledge_opens nothing acknowledge_ends acknowledge_next)
+    machine_step (observed acknowledge_observation)
+    (phase_step acknowledge_begin acknowledge_opens nothing acknowledge_ends acknowledge_next)
 
 -- where the monitors begin
 abbrev pub memories_at : Levels → Memories
@@ -96,6 +99,6 @@ pub record AllGoOn (old : Memories) (before after : Levels) (changes : List Chan
     : Type 0 where
   pub memories : new ≡ memories_next old before after changes
   pub fault : shown.fault ≡ first_fault_of old before after changes
-  pub stretch : shown.stretch ≡ (known_at old.known before after changes).kinds
-  pub tenure : shown.tenure ≡ (grant_at old.grant before after changes).kinds
-  pub transfer : shown.transfer ≡ (handshake_at old.handshake before after changes).kinds
+  pub stretch : shown.stretch ≡ (known_at old.known before after changes).shown
+  pub tenure : shown.tenure ≡ (grant_at old.grant before after changes).shown
+  pub transfer : shown.transfer ≡ (handshake_at old.handshake before after changes).shown

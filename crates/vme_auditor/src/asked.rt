@@ -71,10 +71,10 @@ fn net_rises(before: &Lines, after: &Lines, net: Line) -> bool
 }
 
 /// Whether the cycle in which an answer at a step is is an interrupt acknowledge.
-fn is_interrupt_entered(cycle: Cycle, kinds: &StepMarks) -> bool
-    ensures { result ≡ is_interrupt_entered_by cycle kinds.now.cycle }
+fn is_interrupt_entered(cycle: Cycle, shown: &StepMarks) -> bool
+    ensures { result ≡ is_interrupt_entered_by cycle shown.now.cycle }
 {
-    match kinds.cycle {
+    match shown.cycle {
         Some(start) => matches!(start.class, Class::I),
         None => matches!(cycle, Cycle::Interrupt | Cycle::InterruptDone),
     }
@@ -116,24 +116,24 @@ impl AskedEvents {
         before: &Lines,
         after: &Lines,
         changes: &[Change],
-        kinds: &StepMarks,
+        shown: &StepMarks,
     )
-        ensures { self.new ≡ at_step self.old entered before.now after.now changes.now kinds.now }
+        ensures { self.new ≡ at_step self.old entered before.now after.now changes.now shown.now }
     {
-        self.take_cycle(before, after, kinds);
+        self.take_cycle(before, after, shown);
         self.take_strobes(entered.pending, before, after);
-        self.take_answers(entered.cycle, before, after, kinds);
+        self.take_answers(entered.cycle, before, after, shown);
         self.tenure = self.tenure || falls(before, after, Line::BBSY);
         self.take_nets(before, after, changes);
     }
 
-    fn take_cycle(&mut self, before: &Lines, after: &Lines, kinds: &StepMarks)
-        ensures { self.new ≡ cycle_taken self.old before.now after.now kinds.now }
+    fn take_cycle(&mut self, before: &Lines, after: &Lines, shown: &StepMarks)
+        ensures { self.new ≡ cycle_taken self.old before.now after.now shown.now }
     {
-        self.cycle = self.cycle || kinds.cycle.is_some();
+        self.cycle = self.cycle || shown.cycle.is_some();
         self.cycle_end = self.cycle_end || rises(before, after, Line::AS);
-        self.transfer = self.transfer || kinds.transfer.is_some();
-        self.write = self.write || matches!(kinds.transfer, Some(true));
+        self.transfer = self.transfer || shown.transfer.is_some();
+        self.write = self.write || matches!(shown.transfer, Some(true));
     }
 
     fn take_strobes(&mut self, pending: Pending, before: &Lines, after: &Lines)
@@ -144,17 +144,17 @@ impl AskedEvents {
         self.strobe_fall = self.strobe_fall || (is_within && strobe_falls(before, after));
     }
 
-    fn take_answers(&mut self, cycle: Cycle, before: &Lines, after: &Lines, kinds: &StepMarks)
-        ensures { self.new ≡ answers_taken self.old cycle before.now after.now kinds.now }
+    fn take_answers(&mut self, cycle: Cycle, before: &Lines, after: &Lines, shown: &StepMarks)
+        ensures { self.new ≡ answers_taken self.old cycle before.now after.now shown.now }
     {
         self.answer_fall = self.answer_fall || answer_falls(before, after);
         self.answer_rise = self.answer_rise
             || rises(before, after, Line::DTACK)
             || rises(before, after, Line::BERR);
-        if kinds.answer.is_some() {
+        if shown.answer.is_some() {
             self.answer = true;
-            self.interrupt = self.interrupt || is_interrupt_entered(cycle, kinds);
-            if kinds.cycle.is_none() {
+            self.interrupt = self.interrupt || is_interrupt_entered(cycle, shown);
+            if shown.cycle.is_none() {
                 self.take_further(cycle);
             }
         }

@@ -2,7 +2,7 @@
 
 ghost use Rattle.std.specs.Prelude.{◌≡◌};
 ghost use Rattle.vme_monitor.specs.OverStretches.{has_started};
-ghost use Rattle.vme_monitor.specs.Run.{noticed};
+ghost use Rattle.vme_monitor.specs.Run.{machine_step};
 ghost use Rattle.vme_monitor.specs.StepRuns.{seen_in};
 ghost use Rattle.vme_auditor.specs.Memories.{AllGoOn, comes_before as comes_before_by, first_fault as first_fault_by};
 ghost use Rattle.vme_auditor.specs.Memories.{memories_at};
@@ -45,7 +45,7 @@ pub(crate) struct Memories {
 #[derive(Clone, Copy, Debug, PartialEq, Eq)]
 struct StepOutcome {
     fault: Option<Fault>,
-    kinds: StepMarks,
+    shown: StepMarks,
 }
 
 /// What a step shows to all monitors: the first rule that it breaks, and what happens to the stretch, to the tenure,
@@ -86,16 +86,16 @@ fn first_fault(first: Option<Fault>, second: Option<Fault>) -> Option<Fault>
     }
 }
 
-/// Leads a machine past a step.
+/// Advances a machine past a step.
 #[inline(always)]
-fn lead<M: Machine>(memory: &mut M::Memory, view: &StepView, changes: &[Change]) -> StepOutcome
+fn advance<M: Machine>(memory: &mut M::Memory, view: &StepView, changes: &[Change]) -> StepOutcome
     requires { view.now ≡ seen_in view.now.before changes.now }
     ensures memory { memory.new
-        ≡ (noticed M.observation M.next memory.old view.now.before view.now.after changes.now).memory }
+        ≡ (machine_step M.observation M.next memory.old view.now.before view.now.after changes.now).memory }
     ensures fault { result.fault
-        ≡ (noticed M.observation M.next memory.old view.now.before view.now.after changes.now).fault }
-    ensures kinds { result.kinds
-        ≡ (noticed M.observation M.next memory.old view.now.before view.now.after changes.now).kinds }
+        ≡ (machine_step M.observation M.next memory.old view.now.before view.now.after changes.now).fault }
+    ensures shown { result.shown
+        ≡ (machine_step M.observation M.next memory.old view.now.before view.now.after changes.now).shown }
 {
     match M::observe_step(view, changes) {
         Some(seen) => {
@@ -103,12 +103,12 @@ fn lead<M: Machine>(memory: &mut M::Memory, view: &StepView, changes: &[Change])
             *memory = next.memory;
             StepOutcome {
                 fault: next.fault,
-                kinds: next.kinds,
+                shown: next.shown,
             }
         }
         None => StepOutcome {
             fault: None,
-            kinds: NOTHING,
+            shown: NOTHING,
         },
     }
 }
@@ -127,25 +127,25 @@ impl Memories {
         }
     }
 
-    /// Leads all monitors past a step.
+    /// Advances all monitors past a step.
     #[inline(always)]
     pub fn go_on(&mut self, view: &StepView, changes: &[Change]) -> AllShown
         requires { view.now ≡ seen_in view.now.before changes.now }
         ensures { AllGoOn self.old view.now.before view.now.after changes.now self.new result }
     {
-        let known = lead::<KnownMachine>(&mut self.known, view, changes);
-        let handshake = lead::<HandshakeMachine>(&mut self.handshake, view, changes);
-        let stability = lead::<StabilityMachine>(&mut self.stability, view, changes);
-        let grant = lead::<GrantMachine>(&mut self.grant, view, changes);
-        let acknowledge = lead::<AcknowledgeMachine>(&mut self.acknowledge, view, changes);
+        let known = advance::<KnownMachine>(&mut self.known, view, changes);
+        let handshake = advance::<HandshakeMachine>(&mut self.handshake, view, changes);
+        let stability = advance::<StabilityMachine>(&mut self.stability, view, changes);
+        let grant = advance::<GrantMachine>(&mut self.grant, view, changes);
+        let acknowledge = advance::<AcknowledgeMachine>(&mut self.acknowledge, view, changes);
         let chains = first_fault(grant.fault, acknowledge.fault);
         let held = first_fault(stability.fault, chains);
         let started = first_fault(handshake.fault, held);
         AllShown {
             fault: first_fault(known.fault, started),
-            stretch: known.kinds,
-            tenure: grant.kinds,
-            transfer: handshake.kinds,
+            stretch: known.shown,
+            tenure: grant.shown,
+            transfer: handshake.shown,
         }
     }
 

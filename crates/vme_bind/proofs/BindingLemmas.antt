@@ -6,7 +6,7 @@ use Rattle.vme_bind.specs.declared.fault.BindFault.{BindFault}
 use Rattle.vme_bind.specs.declared.fault.BindKind.{BindKind}
 use Rattle.vme_bind.specs.declared.fault.BindKind.TheVariants.{Memory, SlotsFirst, Unbound}
 use Rattle.vme_bind.specs.Answers.{at_line, BindFailsAs, BindFails, BindGives}
-use Rattle.vme_bind.specs.Text.{Saying, all_said, end_line}
+use Rattle.vme_bind.specs.Text.{StatementText, statements_of, end_line}
 use Rattle.vme_bind.specs.Binding.{BoundLines, slots_behind, bound, bound_all, all_bound, finished, least_unbound}
 use Rattle.vme_bind.specs.Binding.{unless_unbound, no_assignments, with_left_out, binding_from, binding_of}
 
@@ -26,7 +26,7 @@ pub gives_err : {X Y : Type 0} (view : X → Y) (r : Result X BindFault) (fault 
 gives_err view (Ok x) fault whole is h = absurd is
 gives_err view (Err e) fault whole is h = rw is h
 
-pub bound_more : (b : BoundLines) (s : Saying) (ss : List Saying) → bound_all b (s ∷ ss)
+pub bound_more : (b : BoundLines) (s : StatementText) (ss : List StatementText) → bound_all b (s ∷ ss)
     ≡ (at_line s.line (bound b s) >>= λ next. bound_all next ss)
 unfolding bound_all
 bound_more b s ss = refl
@@ -36,7 +36,7 @@ unfolding bound_all
 bound_end b = refl
 
 -- a text that says nothing
-pub says_nothing : (text : List ℕ) (line : ℕ) → all_said text ≡ [] → line ≡ end_line text → binding_of text
+pub says_nothing : (text : List ℕ) (line : ℕ) → statements_of text ≡ [] → line ≡ end_line text → binding_of text
     ≡ Err (record { line = line; kind = SlotsFirst })
 unfolding binding_of
 says_nothing text line e h = rw (e, ← h) refl
@@ -44,17 +44,18 @@ says_nothing text line e h = rw (e, ← h) refl
 abbrev pub rest_bound : List ℕ → Result BoundLines BindFault → Result BoundLines BindFault
 rest_bound text r = r >>= finished (end_line text)
 
-says_slots : (text : List ℕ) (s : Saying) (ss : List Saying) → all_said text ≡ s ∷ ss
+says_slots : (text : List ℕ) (s : StatementText) (ss : List StatementText) → statements_of text ≡ s ∷ ss
     → binding_of text ≡ (at_line s.line (slots_behind s.first s.others) >>= λ slots. bound_all (no_assignments slots) ss
     >>= finished (end_line text))
 unfolding binding_of
 says_slots text s ss e = ap (binding_from (end_line text)) e
 
-pub no_slots : (text : List ℕ) (s : Saying) (ss : List Saying) → all_said text ≡ s ∷ ss → slots_behind s.first s.others
+pub no_slots : (text : List ℕ) (s : StatementText) (ss : List StatementText) → statements_of text ≡ s ∷ ss
+    → slots_behind s.first s.others
     ≡ Err SlotsFirst → binding_of text ≡ Err (record { line = s.line; kind = SlotsFirst })
 no_slots text s ss e h = says_slots text s ss e ∙ rw h refl
 
-pub some_slots : (text : List ℕ) (s : Saying) (ss : List Saying) (slots : ℕ) → all_said text ≡ s ∷ ss
+pub some_slots : (text : List ℕ) (s : StatementText) (ss : List StatementText) (slots : ℕ) → statements_of text ≡ s ∷ ss
     → slots_behind s.first s.others ≡ Ok slots
     → binding_of text ≡ (bound_all (no_assignments slots) ss >>= finished (end_line text))
 some_slots text s ss slots e h = says_slots text s ss e ∙ rw h refl
@@ -73,7 +74,8 @@ lacks line last r b whole l e w h k =
     ∙ ap (λ (n : ℕ). Err (record { line = n; kind = Unbound l })) (sym k)
 
 -- a statement more is bound
-pub bound_step : (b next : BoundLines) (s : Saying) (ss : List Saying) → at_line s.line (bound b s) ≡ Ok next
+pub bound_step : (b next : BoundLines) (s : StatementText) (ss : List StatementText) → at_line s.line (bound b s)
+    ≡ Ok next
     → bound_all b (s ∷ ss) ≡ bound_all next ss
 bound_step b next s ss h = bound_more b s ss ∙ ap (λ (r : Result BoundLines BindFault). r >>= λ next. bound_all next ss)
     h

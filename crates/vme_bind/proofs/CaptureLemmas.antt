@@ -29,7 +29,7 @@ use Rattle.vme_bind.specs.BoundGroups.{line_source}
 use Rattle.vme_bind.specs.NetLines.{line_bits_of, is_on, place_in, is_line_bit, line_bit_at, line_bits_below}
 use Rattle.vme_bind.specs.Capture.{level_in, last_bits, values_of, bits_at, last_change, level_by, level_after}
 use Rattle.vme_bind.specs.Capture.{levels_after}
-use Rattle.vme_bind.specs.Recording.{tapped, valued}
+use Rattle.vme_bind.specs.Recording.{line_change, valued}
 use Rattle.vme_bind.proofs.RecorderLemmas.{map-more, same_levels, set_other, set_same, those-no, those-yes, zero_le}
 
 -- ---- changes to those of a range
@@ -147,30 +147,32 @@ nothing_said l None base = refl
 nothing_said l (Some (Always level)) base = refl
 nothing_said l (Some (AtBit bit)) base = refl
 
--- the taps are those of some wires
-abbrev pub AreTaps : ℕ → List BoundGroup → NetLines → Type 0
-AreTaps slots bound_groups line_bits = (net : ℕ) → line_bits_of line_bits net ≡ line_bits_below slots bound_groups net
+-- the line bits are those of some bound groups
+abbrev pub AreLineBits : ℕ → List BoundGroup → NetLines → Type 0
+AreLineBits slots bound_groups line_bits = (net : ℕ) → line_bits_of line_bits net
+    ≡ line_bits_below slots bound_groups net
     line_count
 
-tapped_twice : (slots : ℕ) (bound_groups : List BoundGroup) (bits : List Bit) (xs : List ℕ) → map (tapped bits)
+line_change_twice : (slots : ℕ) (bound_groups : List BoundGroup) (bits : List Bit) (xs : List ℕ)
+    → map (line_change bits)
     (map (line_bit_at slots bound_groups) xs)
     ≡ map (to_level (λ l. line_bit_level l (line_source slots bound_groups l) bits)) xs
-tapped_twice slots bound_groups bits [] = refl
-tapped_twice slots bound_groups bits (x ∷ xs) = ap
+line_change_twice slots bound_groups bits [] = refl
+line_change_twice slots bound_groups bits (x ∷ xs) = ap
     (λ (cs : List Change). to_level (λ l. line_bit_level l (line_source slots bound_groups l) bits) x ∷ cs)
-    (tapped_twice slots bound_groups bits xs)
+    (line_change_twice slots bound_groups bits xs)
 
 abbrev pub one_valued : NetLines → Value → Levels → Levels
-one_valued line_bits v now = changed now (map (tapped v.bits) (line_bits_of line_bits v.net))
+one_valued line_bits v now = changed now (map (line_change v.bits) (line_bits_of line_bits v.net))
 
-pub one_valued-at : (slots : ℕ) (bound_groups : List BoundGroup) (line_bits : NetLines) → AreTaps slots bound_groups
+pub one_valued-at : (slots : ℕ) (bound_groups : List BoundGroup) (line_bits : NetLines) → AreLineBits slots bound_groups
     line_bits → (v : Value) (now : Levels) → length now.levels ≡ line_count → (l : ℕ) → l < line_count
     → level_at (one_valued line_bits v now) l ≡ cond (is_on v.net (line_source slots bound_groups l))
     (line_bit_level l (line_source slots bound_groups l) v.bits) (level_at now l)
 unfolding is_line_bit
 one_valued-at slots bound_groups line_bits all v now e l lt =
-    ap (λ (ts : List LineBit). level_at (changed now (map (tapped v.bits) ts)) l) (all v.net)
-    ∙ ap (λ (cs : List Change). level_at (changed now cs) l) (tapped_twice slots bound_groups v.bits
+    ap (λ (ts : List LineBit). level_at (changed now (map (line_change v.bits) ts)) l) (all v.net)
+    ∙ ap (λ (cs : List Change). level_at (changed now cs) l) (line_change_twice slots bound_groups v.bits
     (those (is_line_bit slots bound_groups v.net) 0 line_count))
     ∙ changed-those (is_line_bit slots bound_groups v.net) (λ k. line_bit_level k (line_source slots bound_groups k)
     v.bits) now line_count (omega (arith, e)) l
@@ -181,22 +183,22 @@ pub length-valued : (line_bits : NetLines) (values : List Value) (now : Levels)
     → length (valued line_bits values now).levels ≡ length now.levels
 length-valued line_bits [] now = refl
 length-valued line_bits (v ∷ values) now = length-valued line_bits values (one_valued line_bits v now)
-    ∙ length-changed now (map (tapped v.bits) (line_bits_of line_bits v.net))
+    ∙ length-changed now (map (line_change v.bits) (line_bits_of line_bits v.net))
 
 pub slots-valued : (line_bits : NetLines) (values : List Value) (now : Levels) → (valued line_bits values now).slots
     ≡ now.slots
 slots-valued line_bits [] now = refl
 slots-valued line_bits (v ∷ values) now = slots-valued line_bits values (one_valued line_bits v now)
-    ∙ slots-kept now (map (tapped v.bits) (line_bits_of line_bits v.net))
+    ∙ slots-kept now (map (line_change v.bits) (line_bits_of line_bits v.net))
 
-pub valued-at : (slots : ℕ) (bound_groups : List BoundGroup) (line_bits : NetLines) → AreTaps slots bound_groups
+pub valued-at : (slots : ℕ) (bound_groups : List BoundGroup) (line_bits : NetLines) → AreLineBits slots bound_groups
     line_bits → (values : List Value) (now : Levels) → length now.levels ≡ line_count → (l : ℕ) → l < line_count
     → level_at (valued line_bits values now) l ≡ by_values l (line_source slots bound_groups l) values (level_at now l)
 valued-at slots bound_groups line_bits all [] now e l lt = sym (nothing_said l (line_source slots bound_groups l)
     (level_at now l))
 valued-at slots bound_groups line_bits all (v ∷ values) now e l lt =
     valued-at slots bound_groups line_bits all values (one_valued line_bits v now)
-    (length-changed now (map (tapped v.bits) (line_bits_of line_bits v.net)) ∙ e) l lt
+    (length-changed now (map (line_change v.bits) (line_bits_of line_bits v.net)) ∙ e) l lt
     ∙ ap (by_values l (line_source slots bound_groups l) values) (one_valued-at slots bound_groups line_bits all v now e
     l lt)
     ∙ one_value l (line_source slots bound_groups l) v values (level_at now l)
@@ -254,7 +256,7 @@ module _ (slots : ℕ) (bound_groups : List BoundGroup) (instants : List Instant
   levels-slots n = refl
 
   -- the values of an instant lead from the levels before it to those after it
-  pub valued-more : (line_bits : NetLines) → AreTaps slots bound_groups line_bits → (n : ℕ) (values : List Value)
+  pub valued-more : (line_bits : NetLines) → AreLineBits slots bound_groups line_bits → (n : ℕ) (values : List Value)
       → values ≡ values_of (slice_get instants n)
       → valued line_bits values (levels_after slots bound_groups instants n) ≡ levels_after slots bound_groups instants
       (n + 1)

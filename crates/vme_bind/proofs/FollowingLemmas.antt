@@ -6,78 +6,84 @@ use Rattle.vme_trace.specs.Levels.{Levels}
 use Rattle.vme_trace.specs.Trace.{Trace}
 use Rattle.vme_trace.specs.declared.step.Step.{Step}
 use Rattle.vcd_read.specs.Bodies.{until_fault}
-use Rattle.vcd_read.specs.Body.{BodyItem, BodyStanding, at_the_end, body_from}
+use Rattle.vcd_read.specs.Body.{BodyItem, BodyContext, at_the_end, body_from}
 use Rattle.vcd_read.specs.Header.{◌>>=◌, Net}
 use Rattle.vcd_read.specs.Taking.{State, Taking, at_end, ended, reached_before, state_at, steps}
 use Rattle.vcd_read.specs.Tokens.{Token}
 use Rattle.vcd_read.specs.declared.fault.VcdFault.{VcdFault}
-use Rattle.vcd_read.proofs.ApartLemmas.{learned_state, learned_taking, reached-learned, steps-learned}
-use Rattle.vme_bind.specs.Made.{Made, made_change, made_instant}
-use Rattle.vme_bind.specs.SpeculativeReading.{WaveReached, with_recording}
+use Rattle.vcd_read.proofs.DetachedLemmas.{learned_state, learned_taking, reached-learned, steps-learned}
+use Rattle.vme_bind.specs.BuilderState.{BuilderState, builder_change, builder_instant}
+use Rattle.vme_bind.specs.SpeculativeReading.{SpeculativeReached, with_recording}
 use Rattle.vme_bind.specs.TextReading.{following, reading_ahead, reading_made, reading_until_fault}
-use Rattle.vme_bind.proofs.WaveLemmas.{behind, behind-change, behind-instant}
+use Rattle.vme_bind.proofs.SpeculativeReadingLemmas.{behind, behind-change, behind-instant}
 
 module _ (t : Trace) where
-  abbrev taking_behind : Taking Made → Taking Made
-  taking_behind p = learned_taking made_change made_instant made_change made_instant (behind t) (behind-change t)
+  abbrev taking_behind : Taking BuilderState → Taking BuilderState
+  taking_behind p = learned_taking builder_change builder_instant builder_change builder_instant (behind t)
+      (behind-change t)
       (behind-instant t) p
 
-  abbrev state_behind : State Made → State Made
-  state_behind s = learned_state made_change made_instant made_change made_instant (behind t) (behind-change t)
+  abbrev state_behind : State BuilderState → State BuilderState
+  state_behind s = learned_state builder_change builder_instant builder_change builder_instant (behind t)
+      (behind-change t)
       (behind-instant t) s
 
   -- ---- at the end of a body
 
-  ended-behind : (begun : Bool) (m : Made) (time : ℕ) → cond begun (made_instant (behind t m) time) (behind t m)
-      ≡ behind t (cond begun (made_instant m time) m)
+  ended-behind : (begun : Bool) (m : BuilderState) (time : ℕ) → cond begun (builder_instant (behind t m) time)
+      (behind t m)
+      ≡ behind t (cond begun (builder_instant m time) m)
   ended-behind true m time = sym (behind-instant t m time)
   ended-behind false m time = refl
 
-  stood-behind : (p : Taking Made) (stood : Result BodyStanding VcdFault)
-      → (stood >>= λ end. Ok (ended made_instant (taking_behind p)))
-      ≡ ((stood >>= λ end. Ok (ended made_instant p)) >>= λ made. Ok (behind t made))
+  stood-behind : (p : Taking BuilderState) (stood : Result BodyContext VcdFault)
+      → (stood >>= λ end. Ok (ended builder_instant (taking_behind p)))
+      ≡ ((stood >>= λ end. Ok (ended builder_instant p)) >>= λ made. Ok (behind t made))
   stood-behind p (Ok end) = ap Ok (ended-behind p.begun p.taken p.time)
   stood-behind p (Err fault) = refl
 
-  outcome-behind : (read : Result (State Made) VcdFault)
-      → ((read >>= λ end. Ok (state_behind end)) >>= at_end made_instant)
-      ≡ ((read >>= at_end made_instant) >>= λ made. Ok (behind t made))
-  outcome-behind (Ok s) = stood-behind s.progress (at_the_end s.standing)
+  outcome-behind : (read : Result (State BuilderState) VcdFault)
+      → ((read >>= λ end. Ok (state_behind end)) >>= at_end builder_instant)
+      ≡ ((read >>= at_end builder_instant) >>= λ made. Ok (behind t made))
+  outcome-behind (Ok s) = stood-behind s.progress (at_the_end s.context)
   outcome-behind (Err fault) = refl
 
   -- ---- a body
 
-  made-behind : (complete : Trace) (time : ℕ) (made : Result Made VcdFault)
+  made-behind : (complete : Trace) (time : ℕ) (made : Result BuilderState VcdFault)
       → reading_made (with_steps t complete.steps) time (made >>= λ m. Ok (behind t m))
       ≡ following t (reading_made complete time made)
   made-behind complete time (Ok m) = refl
   made-behind complete time (Err fault) = refl
 
-  items-behind : (nets : List Net) (s : State Made) (items : List BodyItem)
-      → reading_until_fault (until_fault made_change made_instant nets (state_behind s) items)
-      ≡ following t (reading_until_fault (until_fault made_change made_instant nets s items))
+  items-behind : (nets : List Net) (s : State BuilderState) (items : List BodyItem)
+      → reading_until_fault (until_fault builder_change builder_instant nets (state_behind s) items)
+      ≡ following t (reading_until_fault (until_fault builder_change builder_instant nets s items))
   items-behind nets s items =
-      let reached : State Made = reached_before made_change made_instant nets s items in
-      let read : Result (State Made) VcdFault = steps made_change made_instant nets s items in
-      ap (λ (r : State Made). reading_made r.progress.taken.recorded r.progress.time
-      (steps made_change made_instant nets (state_behind s) items >>= at_end made_instant))
-      (reached-learned made_change made_instant made_change made_instant (behind t) (behind-change t) (behind-instant t)
+      let reached : State BuilderState = reached_before builder_change builder_instant nets s items in
+      let read : Result (State BuilderState) VcdFault = steps builder_change builder_instant nets s items in
+      ap (λ (r : State BuilderState). reading_made r.progress.taken.recorded r.progress.time
+      (steps builder_change builder_instant nets (state_behind s) items >>= at_end builder_instant))
+      (reached-learned builder_change builder_instant builder_change builder_instant (behind t) (behind-change t)
+      (behind-instant t)
       nets s items)
-      ∙ ap (λ (r : Result (State Made) VcdFault). reading_made (with_steps t reached.progress.taken.recorded.steps)
-      reached.progress.time (r >>= at_end made_instant))
-      (steps-learned made_change made_instant made_change made_instant (behind t) (behind-change t) (behind-instant t)
+      ∙ ap (λ (r : Result (State BuilderState) VcdFault). reading_made
+      (with_steps t reached.progress.taken.recorded.steps)
+      reached.progress.time (r >>= at_end builder_instant))
+      (steps-learned builder_change builder_instant builder_change builder_instant (behind t) (behind-change t)
+      (behind-instant t)
       nets s items)
       ∙ ap (reading_made (with_steps t reached.progress.taken.recorded.steps) reached.progress.time)
       (outcome-behind read)
-      ∙ made-behind reached.progress.taken.recorded reached.progress.time (read >>= at_end made_instant)
+      ∙ made-behind reached.progress.taken.recorded reached.progress.time (read >>= at_end builder_instant)
 
   -- what comes of tokens behind a recording
-  pub ahead-behind : (w : WaveReached) (opening : Levels) (tokens more : List Token)
+  pub ahead-behind : (w : SpeculativeReached) (opening : Levels) (tokens more : List Token)
       → reading_ahead (with_recording t w) tokens more
       ≡ following t (reading_ahead (with_recording (record { opening = opening; steps = [] }) w) tokens more)
   ahead-behind w opening tokens more =
       let none : Trace = record { opening = opening; steps = [] } in
-      let s : State Made = state_at (with_recording none w).body.progress w.body.bracket in
+      let s : State BuilderState = state_at (with_recording none w).body.progress w.body.bracket in
       ap (λ (x : List Step). reading_ahead (with_recording (record t { steps = x }) w) tokens more)
       (sym (append-nil t.steps))
       ∙ items-behind w.body.nets s (body_from w.body.place (tokens ++ more))

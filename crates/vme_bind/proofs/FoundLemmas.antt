@@ -1,4 +1,4 @@
--- What is found, once all variables are looked at, and the wires of it.
+-- What is found, once all variables are looked at, and the bound groups of it.
 use Rattle.std.proofs.Common.{◌≡◌, ℕ, ◌<◌, eqb, Bool, true, false, cond, ◌&&◌, List, [], ◌∷◌, map, drop, get_or, length}
 use Rattle.std.proofs.Common.{◌+◌, ◌≤◌, ◌++◌, Option, Some, None, Result, Ok, Err, refl, sym, ap, ◌∙◌, arith}
 use Rattle.std.specs.Prelude.{bytes_eq}
@@ -27,8 +27,8 @@ use Rattle.vme_bind.specs.PathSearch.{with_candidate, with_variable, seen_in, un
 use Rattle.vme_bind.specs.PathSearch.{bound_groups_of}
 use Rattle.vme_bind.specs.BoundGroups.{bits_meant, candidate, same_bits, only, source_by, source_in, bound_group_by}
 use Rattle.vme_bind.specs.BoundGroups.{bound_group_in, bound_groups_in}
-use Rattle.vme_bind.proofs.SoughtLemmas.{path_test}
-use Rattle.vme_bind.proofs.WiresLemmas.{behind_bound_groups, push_in, from_place}
+use Rattle.vme_bind.proofs.PathSearchLemmas.{path_test}
+use Rattle.vme_bind.proofs.BoundGroupLemmas.{behind_bound_groups, push_in, from_place}
 use Rattle.std.proofs.Math.ListN.{drop_of_length-le}
 use Rattle.std.proofs.lemmas.List.{append-nil}
 
@@ -101,7 +101,7 @@ bound_groups_each vs (a ∷ as') =
     ∙ ap (λ (r : Result (List BoundGroup) BindFault). bound_group_in vs a >>= λ bound_group. r >>= λ bound_groups. Ok
     (bound_group ∷ bound_groups)) (bound_groups_each vs as')
 
--- the wires of what is found are those of the variables
+-- the bound groups of what is found are those of the variables
 pub bound_groups_found : (vs : List Variable) (as' : List Assignment) (seen : List Searched) → seen ≡ fold with_variable
     (map unseen as') vs → bound_groups_of seen ≡ bound_groups_in vs as'
 bound_groups_found vs as' seen e = ap bound_groups_of (e ∙ seen_each vs (map unseen as')) ∙ bound_groups_each vs as'
@@ -157,7 +157,7 @@ found-other (Constant level) found scopes net size r begun some is other = refl
 found-other (Named named) found scopes net size r begun some is other = ap (with_bits found)
     (candidate-other named scopes net size r some begun is other)
 
--- ---- the wires one after the other
+-- ---- the bound groups one after the other
 
 pub bound_groups-first : (bound_groups : List BoundGroup) (sought : List PathSearch) (i : ℕ) (s : PathSearch)
     → i < length sought → s ≡ get_or sought i s

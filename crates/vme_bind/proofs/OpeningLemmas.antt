@@ -32,9 +32,9 @@ use Rattle.vme_bind.specs.Capture.{values_of, time_of, level_by, level_after, le
 use Rattle.vme_bind.specs.Capture.{limited, capture_of}
 use Rattle.vme_bind.specs.Recording.{RecorderLevels, AreLines, valued, step_between}
 use Rattle.vme_bind.proofs.RecorderLemmas.{set_same, set_other, set_all, same_levels}
-use Rattle.vme_bind.proofs.CaptureLemmas.{AreTaps, levels-at, levels-all, levels-slots, valued-more}
+use Rattle.vme_bind.proofs.CaptureLemmas.{AreLineBits, levels-at, levels-all, levels-slots, valued-more}
 use Rattle.vme_bind.proofs.StepsLemmas.{steps-more, well_formed}
-use Rattle.vme_bind.proofs.TapsLemmas.{line_bits-lines}
+use Rattle.vme_bind.proofs.LineBitLemmas.{line_bits-lines}
 
 -- ---- the opening
 
@@ -135,7 +135,7 @@ module _ (slots : ℕ) (bound_groups : List BoundGroup) (instants : List Instant
       ≡ record { shown = opening; now = opening } → p ≡ shown_after 0
   shown-first p opening e h = h ∙ ap (λ (v : Levels). record { shown = v; now = v }) e
 
-  module _ (line_bits : NetLines) (all : AreTaps slots bound_groups line_bits) (i : ℕ) (x : Instant)
+  module _ (line_bits : NetLines) (all : AreLineBits slots bound_groups line_bits) (i : ℕ) (x : Instant)
       (lt : i < length instants) (e : x ≡ get_or instants i x) where
     values-lead : valued line_bits x.values (levels_after slots bound_groups instants i) ≡ levels_after slots
         bound_groups instants (i + 1)
@@ -165,7 +165,8 @@ module _ (slots : ℕ) (bound_groups : List BoundGroup) (instants : List Instant
         ∙ ap (step_between x.time (levels_after slots bound_groups instants i)) values-lead)
         ∙ sym (steps-more slots bound_groups instants i x.time (sym (ap time_of (get-in instants i x lt e))))
 
-  pub recorded-lines : (line_bits : NetLines) → AreTaps slots bound_groups line_bits → (i : ℕ) (p : RecorderLevels) → p
+  pub recorded-lines : (line_bits : NetLines) → AreLineBits slots bound_groups line_bits → (i : ℕ) (p : RecorderLevels)
+      → p
       ≡ shown_after i → (net : ℕ) → AreLines p.now.slots (line_bits_of line_bits net)
   recorded-lines line_bits all i p is net =
       subst (λ (s : ℕ). AreLines s (line_bits_of line_bits net))
@@ -224,7 +225,7 @@ pub recording-first : (slots : ℕ) (bound_groups : List BoundGroup) (instants :
 recording-first slots bound_groups instants t e none = sym (recording-is slots bound_groups instants 0 t.opening t.steps
     e (none ∙ none_recorded slots bound_groups instants))
 
--- what wires make of the instants of a dump
+-- what bound groups make of the instants of a dump
 pub whole-is : (b : BoundLines) (dump : Contents) (bound_groups : List BoundGroup) (made : Trace) → bound_groups_in
     dump.variables b.assignments ≡ Ok bound_groups → recording b.slots bound_groups dump.instants (length dump.instants)
     ≡ made

@@ -33,13 +33,13 @@ use Rattle.vme_bind.specs.Binding.{BoundLines}
 use Rattle.vme_bind.specs.PathSearch.{Searched, with_variable}
 use Rattle.vme_bind.specs.BoundGroups.{bound_groups_in}
 use Rattle.vme_bind.specs.Capture.{recording, recording_of, limited}
-use Rattle.vme_bind.specs.Made.{Made, IsBegun, made_change, made_instant}
+use Rattle.vme_bind.specs.BuilderState.{BuilderState, IsBegun, builder_change, builder_instant}
 use Rattle.vme_bind.specs.TextCapture.{or_binding, or_dump, body_recording, capture_of_text, capture_read}
 use Rattle.vme_bind.specs.TextCapture.{recording_read, recording_behind, recording_of_text, DumpFails, BindingFails}
 use Rattle.vme_bind.specs.TextCapture.{CaptureFailsBy, GivesBy}
 use Rattle.vme_bind.specs.TextPieces.{body_outcome, outcome}
 use Rattle.vme_bind.proofs.OpeningLemmas.{capture_of-is, recording_of-is, whole-formed}
-use Rattle.vme_bind.proofs.MakingLemmas.{Makes, makes-first, makes-change, makes-instant}
+use Rattle.vme_bind.proofs.BuilderLemmas.{Makes, makes-first, makes-change, makes-instant}
 
 -- ---- a body
 
@@ -59,23 +59,23 @@ abbrev refused : BindFault → Result (List Instant) VcdFault → Result Trace C
 refused own r = or_dump r >>= λ instants. Err (Binding own)
 
 module _ (slots : ℕ) (bound_groups : List BoundGroup) (h : Headed) where
-  abbrev pub IsMadeOf : List Instant → Current → Made → Type 0
+  abbrev pub IsMadeOf : List Instant → Current → BuilderState → Type 0
   IsMadeOf = Makes slots bound_groups (length h.nets) (instants_in (instants_from h.nets h.body))
 
-  pub builder-follows : (m : Made) → IsBegun slots bound_groups m
+  pub builder-follows : (m : BuilderState) → IsBegun slots bound_groups m
       → Follows (Ends IsMadeOf) (instants_from h.nets h.body)
-      (taken_from made_change made_instant h.nets m h.body)
+      (taken_from builder_change builder_instant h.nets m h.body)
   builder-follows m begun =
       let all : List Instant = instants_in (instants_from h.nets h.body) in
-      taken-follows made_change made_instant h.nets IsMadeOf
+      taken-follows builder_change builder_instant h.nets IsMadeOf
       (λ done current a net bits lt made. makes-change slots bound_groups (length h.nets) all done current a net bits lt
       made)
       (λ done current a time made. makes-instant slots bound_groups (length h.nets) all done current a time made)
       h.body m (makes-first slots bound_groups (length h.nets) all m begun)
 
   -- a fault of the body, met by what makes the recording
-  pub body-fails : (m : Made) (fault : VcdFault) → IsBegun slots bound_groups m
-      → ReadFails fault (taken_from made_change made_instant h.nets m h.body) → CaptureFailsBy (Dump fault)
+  pub body-fails : (m : BuilderState) (fault : VcdFault) → IsBegun slots bound_groups m
+      → ReadFails fault (taken_from builder_change builder_instant h.nets m h.body) → CaptureFailsBy (Dump fault)
       (body_recording slots bound_groups h)
   body-fails m fault begun fails =
       dump_fails fault.line fault.kind (fails-followed (Ends IsMadeOf) (instants_from h.nets h.body) _ fault
@@ -88,7 +88,8 @@ module _ (slots : ℕ) (bound_groups : List BoundGroup) (h : Headed) where
           (recording slots bound_groups instants (length instants))) e
 
   -- what is made of the whole body
-  pub body-recorded : (m end : Made) → IsBegun slots bound_groups m → taken_from made_change made_instant h.nets m
+  pub body-recorded : (m end : BuilderState) → IsBegun slots bound_groups m
+      → taken_from builder_change builder_instant h.nets m
       h.body ≡ Ok end → body_recording slots bound_groups h ≡ Ok end.recorded
   body-recorded m end begun ok =
       let gives = gives-followed (Ends IsMadeOf) (instants_from h.nets h.body) _ end (builder-follows m begun) ok in
@@ -102,18 +103,20 @@ module _ (slots : ℕ) (bound_groups : List BoundGroup) (h : Headed) where
 
   -- ---- what a body comes to
 
-  pub follow_err : (instants : Result (List Instant) VcdFault) (taken : Result Made VcdFault) (fault : VcdFault)
+  pub follow_err : (instants : Result (List Instant) VcdFault) (taken : Result BuilderState VcdFault) (fault : VcdFault)
       → Follows (Ends IsMadeOf) instants taken → taken ≡ Err fault → instants ≡ Err fault
   follow_err (Ok xs) taken fault follows e = absurd (cc (follows.1, e))
   follow_err (Err first) taken fault follows e = let same : first ≡ fault = cc (follows, e) in
       ap (λ (f : VcdFault). Err f) same
 
   -- a body comes to what is made of it, or to its fault, or to that of the binding
-  pub body-outcome : (fault : Option BindFault) (m : Made) → IsBegun slots bound_groups m → body_outcome fault slots
-      bound_groups h ≡ outcome fault (taken_from made_change made_instant h.nets m h.body)
-  body-outcome fault m begun = by_taken fault (taken_from made_change made_instant h.nets m h.body) refl
+  pub body-outcome : (fault : Option BindFault) (m : BuilderState) → IsBegun slots bound_groups m
+      → body_outcome fault slots
+      bound_groups h ≡ outcome fault (taken_from builder_change builder_instant h.nets m h.body)
+  body-outcome fault m begun = by_taken fault (taken_from builder_change builder_instant h.nets m h.body) refl
     where
-      by_taken : (fault : Option BindFault) (taken : Result Made VcdFault) → taken_from made_change made_instant h.nets
+      by_taken : (fault : Option BindFault) (taken : Result BuilderState VcdFault)
+          → taken_from builder_change builder_instant h.nets
           m h.body ≡ taken → body_outcome fault slots bound_groups h ≡ outcome fault taken
       by_taken None (Ok end) e = body-recorded m end begun e
       by_taken (Some own) (Ok end) e =
@@ -205,7 +208,7 @@ text-is b text h first seen head =
     let whole = whole-of text h first seen head in
     (whole.0, whole.2, ap (recording_read b) (dump_behind text (defined h whole.0) whole.1))
 
--- what wires make of the instants
+-- what bound groups make of the instants
 pub by_instants : (b : BoundLines) (variables : List Variable) (bound_groups : List BoundGroup)
     (r : Result (List Instant) VcdFault) → bound_groups_in variables b.assignments ≡ Ok bound_groups
     → recording_read b (r >>= with_variables variables)

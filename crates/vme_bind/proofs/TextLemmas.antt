@@ -8,7 +8,7 @@ use Rattle.std.proofs.lemmas.List.Sums.{position_or_len_is}
 use Rattle.std.proofs.lemmas.List.Splits.{slice_split_none, slice_split_first, length-slice_split}
 use Rattle.memchr.specs.Find.{Passes, Nowhere, NoneBefore}
 use Rattle.vcd_read.specs.Numbers.{is_empty}
-use Rattle.vme_bind.specs.Text.{is_feed, is_blank, words, without_return, said, said_from}
+use Rattle.vme_bind.specs.Text.{is_feed, is_blank, words, without_return, statement_on, statements_from}
 use Rattle.vme_bind.specs.Reading.{with_word}
 
 not_true : (b : Bool) → (b ≡ true → ⊥) → b ≡ false
@@ -65,32 +65,34 @@ words-nowhere line none =
 
 -- ---- lines
 
-said_more : (line : ℕ) (part : List ℕ) (parts : List (List ℕ)) → 0 < length parts → said_from line (part ∷ parts)
-    ≡ said line (words (without_return part)) ++ said_from (line + 1) parts
-unfolding said_from
+said_more : (line : ℕ) (part : List ℕ) (parts : List (List ℕ)) → 0 < length parts → statements_from line (part ∷ parts)
+    ≡ statement_on line (words (without_return part)) ++ statements_from (line + 1) parts
+unfolding statements_from
 said_more line part [] some = absurd (omega (arith, some))
 said_more line part (next ∷ parts) some = refl
 
 pub said_at : (line : ℕ) (rest : List ℕ) (i : ℕ) (part : List ℕ) → part ≡ without_return (take i rest)
     → NoneBefore (Passes is_feed rest) 0 (length rest) i → Passes is_feed rest i
-    → said_from line (slice_split is_feed rest) ≡ said line (words part) ++ said_from (line + 1)
+    → statements_from line (slice_split is_feed rest) ≡ statement_on line (words part) ++ statements_from (line + 1)
     (slice_split is_feed (behind rest i))
 said_at line rest i part e first here =
-    ap (said_from line) (split_at is_feed rest i first here)
+    ap (statements_from line) (split_at is_feed rest i first here)
     ∙ said_more line (take i rest) (slice_split is_feed (behind rest i))
     (omega (arith, length-slice_split is_feed (behind rest i)))
-    ∙ ap (λ (w : List ℕ). said line (words w) ++ said_from (line + 1) (slice_split is_feed (behind rest i))) (sym e)
+    ∙ ap (λ (w : List ℕ). statement_on line (words w)
+    ++ statements_from (line + 1) (slice_split is_feed (behind rest i))) (sym e)
 
 pub said_last : (line : ℕ) (rest : List ℕ) → Nowhere (Passes is_feed rest) 0 (length rest)
-    → said_from line (slice_split is_feed rest) ≡ said line (words rest) ++ said_from line
+    → statements_from line (slice_split is_feed rest) ≡ statement_on line (words rest) ++ statements_from line
     (slice_split is_feed (at_end rest))
-unfolding said_from
+unfolding statements_from
 said_last line rest none =
-    ap (said_from line) (split_nowhere is_feed rest none) ∙ sym (append-nil (said line (words rest)))
-    ∙ ap (λ (xs : List ℕ). said line (words rest) ++ said_from line (slice_split is_feed xs)) (sym (at_end-is rest))
+    ap (statements_from line) (split_nowhere is_feed rest none) ∙ sym (append-nil (statement_on line (words rest)))
+    ∙ ap (λ (xs : List ℕ). statement_on line (words rest) ++ statements_from line (slice_split is_feed xs))
+    (sym (at_end-is rest))
 
-pub said_nothing : (line : ℕ) (rest : List ℕ) → length rest ≡ 0 → said_from line (slice_split is_feed rest) ≡ []
-unfolding said_from
+pub said_nothing : (line : ℕ) (rest : List ℕ) → length rest ≡ 0 → statements_from line (slice_split is_feed rest) ≡ []
+unfolding statements_from
 said_nothing line [] e = refl
 said_nothing line (b ∷ rest) e = absurd (omega (arith, e))
 

@@ -18,7 +18,7 @@ use Rattle.vme_bind.specs.declared.fault.BindKind.{BindKind}
 use Rattle.vme_bind.specs.declared.fault.BindKind.TheVariants.{Memory as NoMemory}
 use Rattle.vme_bind.specs.declared.fault.CaptureFault.{CaptureFault}
 use Rattle.vme_bind.specs.declared.fault.CaptureFault.TheVariants.{Dump, Binding}
-use Rattle.vme_bind.specs.Made.{IsBegun, Made, made_change, made_instant}
+use Rattle.vme_bind.specs.BuilderState.{IsBegun, BuilderState, builder_change, builder_instant}
 use Rattle.vme_bind.specs.declared.bound_groups.BoundGroup.{BoundGroup}
 use Rattle.vme_bind.specs.Answers.{BindFails as BindFails, BindFailsAs as BindFailsAs}
 use Rattle.vme_bind.specs.Binding.{BoundLines}
@@ -30,12 +30,13 @@ use Rattle.vme_bind.specs.TextPieces.{TextContinuesAs, body_outcome, outcome}
 use Rattle.vme_bind.proofs.TextCaptureLemmas.{body-outcome, by_instants, by_refusal, text-head}
 
 -- a fault of the dump comes first, whatever the binding has
-dump_fails : (own : Option BindFault) (line : ℕ) (kind : FaultKind) (read : Result (State Made) VcdFault)
-    → ReadFailsAs line kind read → DumpFails line kind (outcome own (read >>= at_end made_instant))
+dump_fails : (own : Option BindFault) (line : ℕ) (kind : FaultKind) (read : Result (State BuilderState) VcdFault)
+    → ReadFailsAs line kind read → DumpFails line kind (outcome own (read >>= at_end builder_instant))
 dump_fails own line Memory read h = h
-dump_fails None line kind read h = ap (λ (r : Result (State Made) VcdFault). outcome None (r >>= at_end made_instant)) h
-dump_fails (Some fault) line kind read h = ap (λ (r : Result (State Made) VcdFault). outcome (Some fault)
-    (r >>= at_end made_instant)) h
+dump_fails None line kind read h =
+    ap (λ (r : Result (State BuilderState) VcdFault). outcome None (r >>= at_end builder_instant)) h
+dump_fails (Some fault) line kind read h = ap (λ (r : Result (State BuilderState) VcdFault). outcome (Some fault)
+    (r >>= at_end builder_instant)) h
 
 same_fails : (line : ℕ) (kind : FaultKind) (a b : Result Trace CaptureFault) → a ≡ b → DumpFails line kind b
     → DumpFails line kind a
@@ -44,20 +45,21 @@ same_fails line kind a b e h = e ∙ h
 
 -- what fails in a dump, fails for what comes of it
 pub fails-outcome : (own : Option BindFault) (fault : VcdFault) (before : List Token → Result Trace CaptureFault)
-    (read : List Token → Result (State Made) VcdFault)
-    → ((more : List Token) → before more ≡ outcome own (read more >>= at_end made_instant))
+    (read : List Token → Result (State BuilderState) VcdFault)
+    → ((more : List Token) → before more ≡ outcome own (read more >>= at_end builder_instant))
     → ((more : List Token) → ReadFails fault (read more))
     → (more : List Token) → CaptureFailsBy (Dump fault) (before more)
 fails-outcome own fault before read is fails more = same_fails fault.line fault.kind (before more) _ (is more)
     (dump_fails own fault.line fault.kind (read more) (fails more))
 
 -- a body of which nothing is read yet
-pub begun-outcome : (own : Option BindFault) (slots : ℕ) (bound_groups : List BoundGroup) (head : Headed) (made : Made)
-    (r : Reached Made) (first more : List Token) → IsBegun slots bound_groups made → r.nets ≡ head.nets
+pub begun-outcome : (own : Option BindFault) (slots : ℕ) (bound_groups : List BoundGroup) (head : Headed)
+    (made : BuilderState)
+    (r : Reached BuilderState) (first more : List Token) → IsBegun slots bound_groups made → r.nets ≡ head.nets
     → r.progress ≡ record { taken = made; time = 0; begun = false } → r.bracket ≡ None → r.place ≡ ready
     → first ≡ head.body
     → body_outcome own slots bound_groups (going_on head more)
-    ≡ outcome own (rest_of made_change made_instant r first more >>= at_end made_instant)
+    ≡ outcome own (rest_of builder_change builder_instant r first more >>= at_end builder_instant)
 begun-outcome own slots bound_groups head made r first more begun nets progress bracket place body =
     rw (nets, progress, bracket, place, body) (body-outcome slots bound_groups (going_on head more) own made begun)
 
@@ -113,7 +115,8 @@ assigned-own own answer other is = by_kind own.line own.kind other is
     by_kind line kind other is = is
 
 -- a fault that is met at the end of the dump comes first
-pub fails-whole : (own : Option BindFault) (fault : VcdFault) (read : Result Made VcdFault) → ReadFails fault read
+pub fails-whole : (own : Option BindFault) (fault : VcdFault) (read : Result BuilderState VcdFault)
+    → ReadFails fault read
     → CaptureFailsBy (Dump fault) (outcome own read)
 fails-whole own fault read fails = by_kind own fault.line fault.kind fails
   where

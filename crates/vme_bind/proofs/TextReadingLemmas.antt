@@ -35,13 +35,13 @@ use Rattle.vme_bind.specs.declared.fault.CaptureFault.TheVariants.{Dump, Binding
 use Rattle.vme_bind.specs.Binding.{BoundLines}
 use Rattle.vme_bind.specs.BoundGroups.{bound_groups_in}
 use Rattle.vme_bind.specs.Capture.{recording}
-use Rattle.vme_bind.specs.Made.{IsBegun, Made, made_change, made_instant}
+use Rattle.vme_bind.specs.BuilderState.{IsBegun, BuilderState, builder_change, builder_instant}
 use Rattle.vme_bind.specs.PathSearch.{Searched, with_variable}
 use Rattle.vme_bind.specs.TextCapture.{CaptureFailsBy, DumpFails, or_binding, or_dump}
 use Rattle.vme_bind.specs.TextReading.{StopsAs, TextReading, body_reading, or_fault, reading_behind, reading_by}
 use Rattle.vme_bind.specs.TextReading.{reading_made, reading_of_text, reading_until_fault}
 use Rattle.vme_bind.proofs.StepsLemmas.{well_formed}
-use Rattle.vme_bind.proofs.MakingLemmas.{Makes, makes-first, makes-change, makes-instant}
+use Rattle.vme_bind.proofs.BuilderLemmas.{Makes, makes-first, makes-change, makes-instant}
 use Rattle.vme_bind.proofs.TextCaptureLemmas.{IsMadeOf, builder-follows, fails_back, follow_err, instants_in}
 use Rattle.vme_bind.proofs.TextCaptureLemmas.{whole-of}
 
@@ -53,19 +53,21 @@ stopped_as : (fault : VcdFault) (t t2 : Trace) (time time2 : ℕ) → t ≡ t2 �
 stopped_as fault t t2 time time2 e e2 = rw (e, e2) refl
 
 -- a fault of a piece, and what took the recording before it
-pub piece_stops : (line : ℕ) (kind : FaultKind) (made : Made) (recorded : Trace) (time : ℕ) (read : UntilFault Made)
+pub piece_stops : (line : ℕ) (kind : FaultKind) (made : BuilderState) (recorded : Trace) (time : ℕ)
+    (read : UntilFault BuilderState)
     → recorded ≡ made.recorded
     → StoppedAs line kind made time read.reached.progress read.outcome
     → StopsAs line kind recorded time (reading_until_fault read)
 piece_stops line Memory made recorded time read e h = h
 piece_stops line kind made recorded time read e h =
-    ap (λ (r : Result (State Made) VcdFault). reading_made read.reached.progress.taken.recorded
-    read.reached.progress.time (r >>= at_end made_instant)) h.0
-    ∙ stopped_as (record { line = line; kind = kind }) _ _ _ _ (sym (e ∙ ap (λ (m : Made). m.recorded) h.1)) (sym h.2)
+    ap (λ (r : Result (State BuilderState) VcdFault). reading_made read.reached.progress.taken.recorded
+    read.reached.progress.time (r >>= at_end builder_instant)) h.0
+    ∙ stopped_as (record { line = line; kind = kind }) _ _ _ _ (sym (e ∙ ap (λ (m : BuilderState). m.recorded) h.1))
+    (sym h.2)
 
 -- nothing more is taken where nothing is left
-pub none_ahead : (nets : List Net) (timed : Taking Made) (bracket : Option ℕ) (place : BodyPlace)
-    → (reached_before made_change made_instant nets (state_at timed bracket) (body_from place [])).progress
+pub none_ahead : (nets : List Net) (timed : Taking BuilderState) (bracket : Option ℕ) (place : BodyPlace)
+    → (reached_before builder_change builder_instant nets (state_at timed bracket) (body_from place [])).progress
     ≡ timed
 unfolding reached_before body_from
 none_ahead nets timed bracket ready = refl
@@ -74,67 +76,70 @@ none_ahead nets timed bracket (code_of_foreign line) = refl
 none_ahead nets timed bracket (in_comment line) = refl
 
 -- a fault at the end
-pub end_stops : (line : ℕ) (kind : FaultKind) (made : Made) (recorded : Trace) (time : ℕ) (r : Reached Made) → recorded
+pub end_stops : (line : ℕ) (kind : FaultKind) (made : BuilderState) (recorded : Trace) (time : ℕ)
+    (r : Reached BuilderState) → recorded
     ≡ made.recorded
-    → StoppedAs line kind made time r.progress ((rest_until_fault made_change made_instant r [] []).outcome
-    >>= at_end made_instant)
-    → StopsAs line kind recorded time (reading_until_fault (rest_until_fault made_change made_instant r [] []))
+    → StoppedAs line kind made time r.progress ((rest_until_fault builder_change builder_instant r [] []).outcome
+    >>= at_end builder_instant)
+    → StopsAs line kind recorded time (reading_until_fault (rest_until_fault builder_change builder_instant r [] []))
 end_stops line Memory made recorded time r e h = h
 end_stops line kind made recorded time r e h =
-    let read : UntilFault Made = rest_until_fault made_change made_instant r [] [] in
+    let read : UntilFault BuilderState = rest_until_fault builder_change builder_instant r [] [] in
     let none : read.reached.progress ≡ r.progress = none_ahead r.nets r.progress r.bracket r.place in
     ap (reading_made read.reached.progress.taken.recorded read.reached.progress.time) h.0
     ∙ stopped_as (record { line = line; kind = kind }) _ _ _ _
-    (ap (λ (p : Taking Made). p.taken.recorded) none ∙ ap (λ (m : Made). m.recorded) (sym h.1) ∙ sym e)
-    (ap (λ (p : Taking Made). p.time) none ∙ sym h.2)
+    (ap (λ (p : Taking BuilderState). p.taken.recorded) none ∙ ap (λ (m : BuilderState). m.recorded) (sym h.1) ∙ sym e)
+    (ap (λ (p : Taking BuilderState). p.time) none ∙ sym h.2)
 
 -- no fault at the end
-pub ended_reading : (recorded : Trace) (made : Made) (r : Reached Made) → recorded ≡ made.recorded
-    → ((rest_until_fault made_change made_instant r [] []).outcome >>= at_end made_instant) ≡ Ok made
-    → reading_until_fault (rest_until_fault made_change made_instant r [] [])
+pub ended_reading : (recorded : Trace) (made : BuilderState) (r : Reached BuilderState) → recorded ≡ made.recorded
+    → ((rest_until_fault builder_change builder_instant r [] []).outcome >>= at_end builder_instant) ≡ Ok made
+    → reading_until_fault (rest_until_fault builder_change builder_instant r [] [])
     ≡ record { recorded = recorded; fault = None; time = r.progress.time }
 ended_reading recorded made r e is =
-    let read : UntilFault Made = rest_until_fault made_change made_instant r [] [] in
+    let read : UntilFault BuilderState = rest_until_fault builder_change builder_instant r [] [] in
     ap (reading_made read.reached.progress.taken.recorded read.reached.progress.time) is
-    ∙ ap (λ (p : Taking Made). record { recorded = made.recorded; fault = None; time = p.time })
+    ∙ ap (λ (p : Taking BuilderState). record { recorded = made.recorded; fault = None; time = p.time })
     (none_ahead r.nets r.progress r.bracket r.place)
     ∙ ap (λ (t : Trace). record { recorded = t; fault = None; time = r.progress.time }) (sym e)
 
 -- ---- a body
 
-module _ (slots : ℕ) (bound_groups : List BoundGroup) (h : Headed) (m : Made) (begun : IsBegun slots bound_groups m)
+module _ (slots : ℕ) (bound_groups : List BoundGroup) (h : Headed) (m : BuilderState)
+    (begun : IsBegun slots bound_groups m)
   where
     abbrev items : List BodyItem
     items = body_from ready h.body
 
-    abbrev read : UntilFault Made
-    read = until_fault made_change made_instant h.nets (at_first m) items
+    abbrev read : UntilFault BuilderState
+    read = until_fault builder_change builder_instant h.nets (at_first m) items
 
     -- what is recorded before the first fault
-    recorded_before : (reached_before made_change made_instant h.nets (at_first m) items).progress.taken.recorded
+    recorded_before : (reached_before builder_change builder_instant h.nets (at_first m) items).progress.taken.recorded
         ≡ recording slots bound_groups (instants_before_fault h.nets h.body)
         (length (instants_before_fault h.nets h.body) - 1)
     recorded_before =
         let all : List Instant = instants_before_fault h.nets h.body in
         let count = length h.nets in
-        let follows = reached-follows made_change made_instant h.nets (Makes slots bound_groups count all)
+        let follows = reached-follows builder_change builder_instant h.nets (Makes slots bound_groups count all)
         (λ done current a net bits lt made. makes-change slots bound_groups count all done current a net bits lt made)
         (λ done current a time made. makes-instant slots bound_groups count all done current a time made)
         items (at_start h.nets) m (makes-first slots bound_groups count all m begun) in
         let before = before_fault h.nets items in
         let made = follows.2 before.0 before.1 in
-        ap (λ (s : State Made). s.progress.taken.recorded) follows.1
+        ap (λ (s : State BuilderState). s.progress.taken.recorded) follows.1
         ∙ made.recorded
         ∙ ap (λ (n : ℕ). recording slots bound_groups all n) before.2
 
     -- the last time before it
     time_before : read.reached.progress.time ≡ last_time_before_fault h.nets h.body
-    time_before = reached_time made_change made_instant h.nets (at_first m) items
+    time_before = reached_time builder_change builder_instant h.nets (at_first m) items
 
     abbrev whole_reading : Trace → ℕ → TextReading
     whole_reading t time = record { recorded = t; fault = None; time = time }
 
-    by_taken : (taken : Result Made VcdFault) → taken_from made_change made_instant h.nets m h.body ≡ taken
+    by_taken : (taken : Result BuilderState VcdFault) → taken_from builder_change builder_instant h.nets m h.body
+        ≡ taken
         → body_reading slots bound_groups h
         ≡ reading_made read.reached.progress.taken.recorded read.reached.progress.time taken
     by_taken (Ok end) e =
@@ -156,7 +161,7 @@ module _ (slots : ℕ) (bound_groups : List BoundGroup) (h : Headed) (m : Made) 
 
     -- a body comes to what is made of it
     pub body_read : body_reading slots bound_groups h ≡ reading_until_fault read
-    body_read = by_taken (taken_from made_change made_instant h.nets m h.body) refl
+    body_read = by_taken (taken_from builder_change builder_instant h.nets m h.body) refl
 
 -- what it comes to are steps that follow one another
 body_formed : (slots : ℕ) (bound_groups : List BoundGroup) (h : Headed) → malformed_step
@@ -173,22 +178,24 @@ body_formed slots bound_groups h = by_instants (instants_from h.nets h.body) ref
         (body_from ready h.body))
 
 -- so are they whatever follows a place of which nothing is read yet
-pub begun_formed : (slots : ℕ) (bound_groups : List BoundGroup) (made : Made) (r : Reached Made)
+pub begun_formed : (slots : ℕ) (bound_groups : List BoundGroup) (made : BuilderState) (r : Reached BuilderState)
     (tokens more : List Token) → IsBegun slots bound_groups made
     → r.progress ≡ record { taken = made; time = 0; begun = false } → r.bracket ≡ None → r.place ≡ ready
-    → malformed_step (reading_until_fault (rest_until_fault made_change made_instant r tokens more)).recorded ≡ None
+    → malformed_step (reading_until_fault (rest_until_fault builder_change builder_instant r tokens more)).recorded
+    ≡ None
 begun_formed slots bound_groups made r tokens more begun progress bracket place =
     let h : Headed = record { nets = r.nets; body = tokens ++ more } in
     rw (progress, bracket, place) (subst (λ (reading : TextReading). malformed_step reading.recorded ≡ None)
     (body_read slots bound_groups h made begun) (body_formed slots bound_groups h))
 
 -- the same, where nothing of it is read yet
-pub begun_reading : (own : Option BindFault) (slots : ℕ) (bound_groups : List BoundGroup) (head : Headed) (made : Made)
-    (r : Reached Made) (first more : List Token) → IsBegun slots bound_groups made → r.nets ≡ head.nets
+pub begun_reading : (own : Option BindFault) (slots : ℕ) (bound_groups : List BoundGroup) (head : Headed)
+    (made : BuilderState)
+    (r : Reached BuilderState) (first more : List Token) → IsBegun slots bound_groups made → r.nets ≡ head.nets
     → r.progress ≡ record { taken = made; time = 0; begun = false } → r.bracket ≡ None → r.place ≡ ready
     → first ≡ head.body
     → or_fault own (body_reading slots bound_groups (going_on head more))
-    ≡ or_fault own (reading_until_fault (rest_until_fault made_change made_instant r first more))
+    ≡ or_fault own (reading_until_fault (rest_until_fault builder_change builder_instant r first more))
 begun_reading own slots bound_groups head made r first more begun nets progress bracket place body =
     rw (nets, progress, bracket, place, body)
     (ap (or_fault own) (body_read slots bound_groups (going_on head more) made begun))

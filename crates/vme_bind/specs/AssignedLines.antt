@@ -3,12 +3,12 @@ use Rattle.std.specs.Prelude.{ℕ, Bool, true, false, List, [], ◌∷◌, repli
 use Rattle.vme_trace.specs.LineNumbers.{line_count}
 use Rattle.vcd_read.specs.declared.dump.Bit.{Bit}
 use Rattle.vme_bind.specs.declared.net_lines.LineBit.{LineBit}
-use Rattle.vme_bind.specs.Made.{Made, made_change, made_instant}
+use Rattle.vme_bind.specs.BuilderState.{BuilderState, builder_change, builder_instant}
 use Rattle.vme_bind.specs.NetLines.{line_bits_of}
 
 -- what is made of a piece, and of which lines it told a level
-pub record SpeculativelyMade : Type 0 where
-  pub made : Made
+pub record SpeculativeBuilderState : Type 0 where
+  pub made : BuilderState
   pub assigned : List Bool
 
 -- no level of any line is told
@@ -19,19 +19,19 @@ none_assigned = replicate line_count false
 abbrev pub is_assigned : List Bool → ℕ → Bool
 is_assigned assigned l = unwrap_or (slice_get assigned l) false
 
--- levels of the lines of these taps are told
+-- levels of the lines of these line bits are told
 abbrev pub assigned_too : List LineBit → List Bool → List Bool
 assigned_too [] assigned = assigned
 assigned_too (line_bit ∷ line_bits) assigned = assigned_too line_bits (slice_set assigned line_bit.line true)
 
 -- a net gets these bits
-abbrev pub ahead_change : SpeculativelyMade → ℕ → List Bit → SpeculativelyMade
-ahead_change m net bits =
+abbrev pub speculative_change : SpeculativeBuilderState → ℕ → List Bit → SpeculativeBuilderState
+speculative_change m net bits =
     record {
-      made = made_change m.made net bits;
+      made = builder_change m.made net bits;
       assigned = assigned_too (line_bits_of m.made.line_bits net) m.assigned;
     }
 
 -- an instant ends
-abbrev pub ahead_instant : SpeculativelyMade → ℕ → SpeculativelyMade
-ahead_instant m time = record m { made = made_instant m.made time }
+abbrev pub speculative_instant : SpeculativeBuilderState → ℕ → SpeculativeBuilderState
+speculative_instant m time = record m { made = builder_instant m.made time }

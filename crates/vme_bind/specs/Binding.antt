@@ -11,7 +11,7 @@ use Rattle.vme_bind.specs.declared.fault.BindKind.{BindKind}
 use Rattle.vme_bind.specs.declared.fault.BindKind.TheVariants.{BadLine, SlotsFirst, UnknownName, NamedTwice, Unbound}
 use Rattle.vme_bind.specs.declared.group.Group.{Group}
 use Rattle.vme_bind.specs.Answers.{at_line}
-use Rattle.vme_bind.specs.Text.{Saying, all_said, end_line}
+use Rattle.vme_bind.specs.Text.{StatementText, statements_of, end_line}
 use Rattle.vme_bind.specs.Groups.{data_group, reset_group, holds, share, group_named}
 use Rattle.vme_bind.specs.Sources.{source_of}
 
@@ -62,7 +62,7 @@ abbrev pub with_assignment : BoundLines → ℕ → Group → List ℕ → Bound
 with_assignment b line group source =
     record b { assignments = b.assignments ++ record { line = line; group = group; source = source_of source } ∷ [] }
 
-abbrev pub bound : BoundLines → Saying → Result BoundLines BindKind
+abbrev pub bound : BoundLines → StatementText → Result BoundLines BindKind
 bound b s = do
   words ← name_and_source s.first s.others
   group ← group_of (group_named b.slots words.0)
@@ -70,7 +70,7 @@ bound b s = do
   Ok (with_assignment b s.line new words.1)
 
 -- the first fault of some lines, or all that they bind
-unfoldable pub bound_all : BoundLines → List Saying → Result BoundLines BindFault
+unfoldable pub bound_all : BoundLines → List StatementText → Result BoundLines BindFault
 bound_all b [] = Ok b
 bound_all b (s ∷ ss) = do
   next ← at_line s.line (bound b s)
@@ -109,7 +109,7 @@ abbrev pub no_assignments : ℕ → BoundLines
 no_assignments slots = record { slots = slots; assignments = [] }
 
 -- what the first line that says something and the others bind
-abbrev pub binding_from : ℕ → List Saying → Result BoundLines BindFault
+abbrev pub binding_from : ℕ → List StatementText → Result BoundLines BindFault
 binding_from line [] = Err (record { line = line; kind = SlotsFirst })
 binding_from line (s ∷ ss) = do
   slots ← at_line s.line (slots_behind s.first s.others)
@@ -118,4 +118,4 @@ binding_from line (s ∷ ss) = do
 
 -- the binding that a text says, or else its first fault
 unfoldable pub binding_of : List ℕ → Result BoundLines BindFault
-binding_of text = binding_from (end_line text) (all_said text)
+binding_of text = binding_from (end_line text) (statements_of text)

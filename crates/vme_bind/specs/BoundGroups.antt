@@ -62,7 +62,7 @@ only (bits ∷ others) = if list_all (same_bits bits) others then Ok bits else E
 abbrev pub as_wide_as : ℕ → BitRange → Result BitRange BindKind
 as_wide_as count bits = if bits.count == count then Ok bits else Err WrongWidth
 
--- ---- the wires of a binding
+-- ---- the bound groups of a binding
 
 -- bits that were found, for so many lines
 abbrev pub source_by : ℕ → Result BitRange BindKind → Result GroupSource BindKind
@@ -81,7 +81,7 @@ bound_group_by a r = at_line a.line r >>= λ source. Ok (record { group = a.grou
 abbrev pub bound_group_in : List Variable → Assignment → Result BoundGroup BindFault
 bound_group_in variables a = bound_group_by a (source_in variables a.group.count a.source)
 
--- the wires of all assignments, or the first fault
+-- the bound groups of all assignments, or the first fault
 unfoldable pub bound_groups_in : List Variable → List Assignment → Result (List BoundGroup) BindFault
 bound_groups_in variables [] = Ok []
 bound_groups_in variables (a ∷ as') = do

@@ -9,7 +9,7 @@ pub mod PathSearch
 pub mod NetLines
 pub mod Capture
 pub mod Recording
-pub mod Made
+pub mod BuilderState
 pub mod AssignedLines
 pub mod TextCapture
 pub mod TextPieces

@@ -56,7 +56,7 @@ unseen a = record { assignment = a; found = Nothing }
 abbrev pub seen_in : PathSearch → Searched
 seen_in s = record { assignment = s.assignment.now; found = s.found }
 
--- ---- the wires of what is found
+-- ---- the bound groups of what is found
 
 abbrev pub source_of : ℕ → PathMatch → LevelSource → Result GroupSource BindKind
 source_of count found (Constant level) = Ok (Fixed level)
@@ -65,7 +65,7 @@ source_of count found (Named named) = source_by count (only_found found)
 abbrev pub bound_group_of : Searched → Result BoundGroup BindFault
 bound_group_of s = bound_group_by s.assignment (source_of s.assignment.group.count s.found s.assignment.source)
 
--- the wires of all, or the first fault
+-- the bound groups of all, or the first fault
 unfoldable pub bound_groups_of : List Searched → Result (List BoundGroup) BindFault
 bound_groups_of [] = Ok []
 bound_groups_of (s ∷ seen) = do

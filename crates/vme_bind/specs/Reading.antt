@@ -3,17 +3,17 @@ use Rattle.std.specs.Prelude.{ℕ, ◌+◌, List, [], ◌∷◌, count_by}
 use Rattle.std.specs.List.{slice_split}
 use Rattle.vme_bind.specs.declared.statements.Statement.{Statement}
 use Rattle.vme_bind.specs.declared.statements.Statements.{Statements}
-use Rattle.vme_bind.specs.Text.{is_feed, words, Saying, said_from}
+use Rattle.vme_bind.specs.Text.{is_feed, words, StatementText, statements_from}
 
 -- what the rest of a text says, and the line that it ends in
-abbrev pub left : Statements → List Saying
-left s = said_from s.line (slice_split is_feed s.rest.now)
+abbrev pub left : Statements → List StatementText
+left s = statements_from s.line (slice_split is_feed s.rest.now)
 
 abbrev pub last_line : Statements → ℕ
 last_line s = s.line + count_by is_feed s.rest.now
 
-abbrev pub saying : Statement → Saying
-saying s = record { line = s.line; first = s.first.now; others = words s.others.rest.now }
+abbrev pub as_text : Statement → StatementText
+as_text s = record { line = s.line; first = s.first.now; others = words s.others.rest.now }
 
 -- a word before others, where it isn't empty
 abbrev pub with_word : List ℕ → List (List ℕ) → List (List ℕ)

@@ -50,17 +50,17 @@ pub record ListsTouchedLines (shown now : Levels) (touched : List ℕ) : Type 0 
   pub lines : All (IsLine shown.slots) touched
   pub listed : (l : ℕ) → differs shown now l ≡ true → Contains touched l
 
--- what the bits of a net do to the line of a tap
-abbrev pub tapped : List Bit → LineBit → Change
-tapped bits line_bit = record { line = line_bit.line; level = level_in line_bit.line line_bit.place bits }
+-- what the bits of a net do to the line of a line bit
+abbrev pub line_change : List Bit → LineBit → Change
+line_change bits line_bit = record { line = line_bit.line; level = level_in line_bit.line line_bit.place bits }
 
 -- what some values do to the levels
 abbrev pub valued : NetLines → List Value → Levels → Levels
 valued line_bits [] now = now
 valued line_bits (v ∷ values) now = valued line_bits values
-    (changed now (map (tapped v.bits) (line_bits_of line_bits v.net)))
+    (changed now (map (line_change v.bits) (line_bits_of line_bits v.net)))
 
--- the lines of all taps are the backplane's
+-- the lines of all line bits are the backplane's
 abbrev pub AreLines : ℕ → List LineBit → Type 0
 AreLines slots line_bits = All (λ (line_bit : LineBit). IsLine slots line_bit.line) line_bits
 

@@ -5,26 +5,27 @@ use Rattle.vme_trace.specs.Levels.{Levels, level_at}
 use Rattle.vme_trace.specs.LineNumbers.{line_count}
 use Rattle.vme_trace.specs.Trace.{Trace, levels_after}
 use Rattle.vme_trace.specs.declared.step.Step.{Step}
-use Rattle.vcd_read.specs.DetachedPieces.{MayFollow, IsReadApart, ReadApart, apart_with, ended_at, entered, with_taken}
+use Rattle.vcd_read.specs.DetachedPieces.{MayFollow, IsReadDetached, ReadDetached, detached_with, ended_at, entered}
+use Rattle.vcd_read.specs.DetachedPieces.{with_taken}
 use Rattle.vcd_read.specs.Header.{Net}
 use Rattle.vcd_read.specs.Reached.{Reached}
 use Rattle.vcd_read.specs.Reading.{line_behind}
 use Rattle.vcd_read.specs.Tokens.{Token, tokens_from}
 use Rattle.vme_bind.specs.declared.fault.BindFault.{BindFault}
 use Rattle.vme_bind.specs.declared.net_lines.NetLines.{NetLines}
-use Rattle.vme_bind.specs.Made.{Made, made_change, made_instant}
+use Rattle.vme_bind.specs.BuilderState.{BuilderState, builder_change, builder_instant}
 use Rattle.vme_bind.specs.Recording.{RecorderLevels, all_of, end_of}
 use Rattle.vme_bind.specs.TextPieces.{TextReached, outcome_ahead}
 use Rattle.vme_bind.specs.AssignedLines.{is_assigned}
 
 -- how far the recording of a dump is made, but for what took it: the levels alone
-pub record WaveReached : Type 0 where
+pub record SpeculativeReached : Type 0 where
   pub fault : Option BindFault
   pub line_bits : NetLines
   pub body : Reached RecorderLevels
 
 -- the same behind this recording
-abbrev pub with_recording : Trace → WaveReached → TextReached
+abbrev pub with_recording : Trace → SpeculativeReached → TextReached
 with_recording t w =
     record {
       fault = w.fault;
@@ -34,7 +35,7 @@ with_recording t w =
 -- a piece that was read ahead, as if these levels stood before it; and of which lines it tells a level
 pub record ReadSpeculatively : Type 0 where
   pub from : Levels
-  pub apart : ReadApart RecorderLevels
+  pub detached : ReadDetached RecorderLevels
   pub assigned : List Bool
 
 -- where the first levels stand before a piece, the second have its own on each line of which it tells a level
@@ -42,46 +43,48 @@ pub record AreLevelsBehind (a : ReadSpeculatively) (before after : Levels) : Typ
   pub slots : after.slots ≡ before.slots
   pub all : length after.levels ≡ line_count
   pub levels : (l : ℕ) → l < line_count
-      → level_at after l ≡ (if is_assigned a.assigned l then level_at a.apart.progress.taken.now l else level_at before
+      → level_at after l ≡ (if is_assigned a.assigned l then level_at a.detached.progress.taken.now l
+      else level_at before
       l)
 
 -- what is made behind these levels, and this recording
-abbrev pub made_behind : NetLines → Levels → Trace → Made
-made_behind line_bits v t = record { line_bits = line_bits; progress = all_of v; recorded = t }
+abbrev pub builder_behind : NetLines → Levels → Trace → BuilderState
+builder_behind line_bits v t = record { line_bits = line_bits; progress = all_of v; recorded = t }
 
 -- what was made of a piece, whose steps this recording has
-abbrev pub made_ahead : NetLines → Trace → ReadApart RecorderLevels → ReadApart Made
-made_ahead line_bits t a = apart_with (record { line_bits = line_bits; progress = a.progress.taken; recorded = t }) a
+abbrev pub builder_ahead : NetLines → Trace → ReadDetached RecorderLevels → ReadDetached BuilderState
+builder_ahead line_bits t a =
+    detached_with (record { line_bits = line_bits; progress = a.progress.taken; recorded = t }) a
 
 -- these bytes, which begin on this line, lead from the first levels to the second, whatever is recorded
 abbrev pub LeadTo : List Net → NetLines → List ℕ → ℕ → Levels → Levels → Type 0
 LeadTo nets line_bits bytes line before after =
-    (t : Trace) (m : ReadApart Made) → m.first_line ≡ line
-    → IsReadApart made_change made_instant nets bytes (made_behind line_bits before t) m
+    (t : Trace) (m : ReadDetached BuilderState) → m.first_line ≡ line
+    → IsReadDetached builder_change builder_instant nets bytes (builder_behind line_bits before t) m
     → m.progress.taken.progress.now ≡ after
 
 -- where other levels stand before a piece, it leaves its own on the lines of which it tells one, and those on the rest
 abbrev pub DeterminesLines : List Net → NetLines → List ℕ → ReadSpeculatively → Type 0
 DeterminesLines nets line_bits bytes a =
     (before after : Levels) → length before.levels ≡ line_count → AreLevelsBehind a before after
-    → LeadTo nets line_bits bytes a.apart.first_line before after
+    → LeadTo nets line_bits bytes a.detached.first_line before after
 
 -- these bytes were read ahead, for these nets and their lines, and these are the steps of what was recorded
 pub record IsReadSpeculatively
     (nets : List Net) (line_bits : NetLines) (bytes : List ℕ) (recorded : Trace) (a : ReadSpeculatively) : Type 0 where
-  pub read : IsReadApart made_change made_instant nets bytes
-      (made_behind line_bits a.from (record { opening = recorded.opening; steps = [] }))
-      (made_ahead line_bits recorded a.apart)
+  pub read : IsReadDetached builder_change builder_instant nets bytes
+      (builder_behind line_bits a.from (record { opening = recorded.opening; steps = [] }))
+      (builder_ahead line_bits recorded a.detached)
   pub assigned : DeterminesLines nets line_bits bytes a
 
 -- a piece that was read ahead fits behind what is read so far, which leaves the levels that it was read from
-pub record MayFollowLevels (w : WaveReached) (a : ReadSpeculatively) : Type 0 where
-  pub place : MayFollow w.body a.apart
-  pub levels : entered end_of w.body.progress.taken (ended_at w.body.progress a.apart.time) ≡ all_of a.from
+pub record MayFollowLevels (w : SpeculativeReached) (a : ReadSpeculatively) : Type 0 where
+  pub place : MayFollow w.body a.detached
+  pub levels : entered end_of w.body.progress.taken (ended_at w.body.progress a.detached.time) ≡ all_of a.from
 
 -- a piece is joined: how far the recording is made behind it. The step, if any, ends the instant before it.
 pub record IsJoined
-    (bytes : List ℕ) (recorded : Trace) (levels : Levels) (before after : WaveReached) (ended : List Step)
+    (bytes : List ℕ) (recorded : Trace) (levels : Levels) (before after : SpeculativeReached) (ended : List Step)
     : Type 0 where
   pub fault : after.fault ≡ before.fault
   pub line_bits : after.line_bits ≡ before.line_bits

@@ -20,26 +20,27 @@ abbrev pub without_return : List ℕ → List ℕ
 without_return line = if get_or line (length line - 1) 0 == 13 then take (length line - 1) line else line
 
 -- a line's first word, and the others
-pub record Saying : Type 0 where
+pub record StatementText : Type 0 where
   pub line : ℕ
   pub first : List ℕ
   pub others : List (List ℕ)
 
 -- what the words of a line say: nothing where there are none, or the first begins with #
-abbrev pub said : ℕ → List (List ℕ) → List Saying
-said line [] = []
-said line (first ∷ others) = if get_or first 0 0 == 35 then []
+abbrev pub statement_on : ℕ → List (List ℕ) → List StatementText
+statement_on line [] = []
+statement_on line (first ∷ others) = if get_or first 0 0 == 35 then []
     else record { line = line; first = first; others = others } ∷ []
 
 -- what the parts between line feeds say, the first of which is this line
-unfoldable pub said_from : ℕ → List (List ℕ) → List Saying
-said_from line [] = []
-said_from line (part ∷ []) = said line (words part)
-said_from line (part ∷ next ∷ parts) = said line (words (without_return part)) ++ said_from (line + 1) (next ∷ parts)
+unfoldable pub statements_from : ℕ → List (List ℕ) → List StatementText
+statements_from line [] = []
+statements_from line (part ∷ []) = statement_on line (words part)
+statements_from line (part ∷ next ∷ parts) = statement_on line (words (without_return part))
+    ++ statements_from (line + 1) (next ∷ parts)
 
 -- what a text says, from its first line on
-abbrev pub all_said : List ℕ → List Saying
-all_said text = said_from 1 (slice_split is_feed text)
+abbrev pub statements_of : List ℕ → List StatementText
+statements_of text = statements_from 1 (slice_split is_feed text)
 
 -- the line that a text ends in
 abbrev pub end_line : List ℕ → ℕ

@@ -26,7 +26,7 @@ abbrev pub or_dump : {A : Type 0} → Result A VcdFault → Result A CaptureFaul
 or_dump (Ok x) = Ok x
 or_dump (Err fault) = Err (Dump fault)
 
--- the recording that wires make of the body behind some definitions
+-- the recording that bound groups make of the body behind some definitions
 abbrev pub body_recording : ℕ → List BoundGroup → Headed → Result Trace CaptureFault
 body_recording slots bound_groups h = or_dump (instants_from h.nets h.body)
     >>= λ instants. Ok (recording slots bound_groups instants (length instants))

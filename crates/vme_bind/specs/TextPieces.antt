@@ -14,7 +14,7 @@ use Rattle.vme_bind.specs.declared.fault.BindFault.{BindFault}
 use Rattle.vme_bind.specs.declared.fault.CaptureFault.{CaptureFault}
 use Rattle.vme_bind.specs.declared.text_state.TextPieces.{TextPieces}
 use Rattle.vme_bind.specs.declared.fault.CaptureFault.TheVariants.{Dump, Binding}
-use Rattle.vme_bind.specs.Made.{Made, made_change, made_instant}
+use Rattle.vme_bind.specs.BuilderState.{BuilderState, builder_change, builder_instant}
 use Rattle.vme_bind.specs.TextCapture.{CaptureFailsBy, body_recording, or_dump, recording_of_text}
 use Rattle.vme_bind.specs.Binding.{BoundLines}
 use Rattle.vme_bind.specs.declared.bound_groups.BoundGroup.{BoundGroup}
@@ -26,22 +26,22 @@ body_outcome (Some fault) slots bound_groups h = or_dump (instants_from h.nets h
     (Binding fault)
 
 -- the same by what was made of it
-abbrev pub outcome : Option BindFault → Result Made VcdFault → Result Trace CaptureFault
+abbrev pub outcome : Option BindFault → Result BuilderState VcdFault → Result Trace CaptureFault
 outcome None body = or_dump body >>= λ made. Ok made.recorded
 outcome (Some fault) body = or_dump body >>= λ made. Err (Binding fault)
 
 -- how far the recording of a dump is made: the fault that its binding has, and what is made of its body
 pub record TextReached : Type 0 where
   pub fault : Option BindFault
-  pub body : Reached Made
+  pub body : Reached BuilderState
 
 abbrev pub text_reached : {F : Type 0} {follows : Ghosts F} → TextPieces F follows → TextReached
 text_reached text = record { fault = text.fault; body = reached (λ made. made) text.pieces }
 
 -- what comes of these tokens, and more behind them, where the recording is made so far
 abbrev pub outcome_ahead : TextReached → List Token → List Token → Result Trace CaptureFault
-outcome_ahead t tokens more = outcome t.fault (rest_of made_change made_instant t.body tokens more
-    >>= at_end made_instant)
+outcome_ahead t tokens more = outcome t.fault (rest_of builder_change builder_instant t.body tokens more
+    >>= at_end builder_instant)
 
 -- the same where the front of the text has this of the body
 abbrev pub outcome_from : {F : Type 0} {follows : Ghosts F} → TextPieces F follows → List ℕ → List Token

@@ -23,7 +23,7 @@ use Rattle.vme_bind.specs.declared.fault.CaptureFault.TheVariants.{Binding}
 use Rattle.vme_bind.specs.Binding.{BoundLines}
 use Rattle.vme_bind.specs.BoundGroups.{bound_groups_in}
 use Rattle.vme_bind.specs.Capture.{recording}
-use Rattle.vme_bind.specs.Made.{Made, made_change, made_instant}
+use Rattle.vme_bind.specs.BuilderState.{BuilderState, builder_change, builder_instant}
 use Rattle.vme_bind.specs.TextCapture.{or_binding, or_dump}
 use Rattle.vme_bind.specs.TextPieces.{TextReached, text_reached}
 use Rattle.vme_bind.specs.declared.text_state.TextPieces.{TextPieces}
@@ -67,18 +67,18 @@ reading_of_text b text = or_dump (header_of appended text (nothing_declared []) 
 -- ---- the same, as it is made
 
 -- where this is recorded of the instants that a later time follows, and this is the last time
-abbrev pub reading_made : Trace → ℕ → Result Made VcdFault → TextReading
+abbrev pub reading_made : Trace → ℕ → Result BuilderState VcdFault → TextReading
 reading_made complete time (Ok made) = record { recorded = made.recorded; fault = None; time = time }
 reading_made complete time (Err fault) = record { recorded = complete; fault = Some fault; time = time }
 
 -- what comes of a body that is read so
-abbrev pub reading_until_fault : UntilFault Made → TextReading
+abbrev pub reading_until_fault : UntilFault BuilderState → TextReading
 reading_until_fault read = reading_made read.reached.progress.taken.recorded read.reached.progress.time
-    (read.outcome >>= at_end made_instant)
+    (read.outcome >>= at_end builder_instant)
 
 -- what comes of these tokens, and more behind them, where the recording is made so far
 abbrev pub reading_ahead : TextReached → List Token → List Token → TextReading
-reading_ahead t tokens more = reading_until_fault (rest_until_fault made_change made_instant t.body tokens more)
+reading_ahead t tokens more = reading_until_fault (rest_until_fault builder_change builder_instant t.body tokens more)
 
 -- the same where the front of the text has this of the body: a fault of the binding is met before it
 abbrev pub or_fault : Option BindFault → TextReading → Result TextReading CaptureFault

@@ -40,7 +40,7 @@ impl Model for Binding {
 }
 
 impl Binding {
-    ghost use Rattle.vme_bind.specs.Reading.{saying, left, last_line};
+    ghost use Rattle.vme_bind.specs.Reading.{as_text, left, last_line};
     ghost use Rattle.vme_bind.specs.Binding.{slot_count, slots_behind, name_and_source, is_taken, is_bound, bound};
     ghost use Rattle.vme_bind.specs.Binding.{bound_all, least_unbound, no_assignments, with_high, with_left_out};
 
@@ -65,8 +65,8 @@ impl Binding {
     /// The backplane that the first statement is of.
     fn lines_of(statement: Statement<'_>) -> Option<Lines>
         ensures slots { MatchOption result
-            (slots_behind (saying statement.entry).first (saying statement.entry).others ≡ Err SlotsFirst)
-            (λ lines. slots_behind (saying statement.entry).first (saying statement.entry).others ≡ Ok lines.slots) }
+            (slots_behind (as_text statement.entry).first (as_text statement.entry).others ≡ Err SlotsFirst)
+            (λ lines. slots_behind (as_text statement.entry).first (as_text statement.entry).others ≡ Ok lines.slots) }
         ensures unknown { IfSome result (λ lines. lines.levels ≡ replicate line_count Unknown) }
     {
         let Statement {
@@ -84,8 +84,8 @@ impl Binding {
     /// The name and the source that a statement has, if it is an assignment.
     fn name_and_source<'a>(statement: Statement<'a>) -> Option<(&'a [u8], &'a [u8])>
         ensures { MatchOption result
-            (name_and_source (saying statement.entry).first (saying statement.entry).others ≡ Err BadLine)
-            (λ parts. name_and_source (saying statement.entry).first (saying statement.entry).others
+            (name_and_source (as_text statement.entry).first (as_text statement.entry).others ≡ Err BadLine)
+            (λ parts. name_and_source (as_text statement.entry).first (as_text statement.entry).others
             ≡ Ok (parts.0.now, parts.1.now)) }
     {
         let Statement {
@@ -143,7 +143,7 @@ impl Binding {
     /// What a statement binds, where nothing is wrong with it.
     fn assignment(&self, alloc: Global, statement: Statement<'_>) -> Result<Assignment, BindFault>
         ensures { BindGives (λ a. record self.entry.now { assignments = self.entry.now.assignments ++ a ∷ [] }) result
-            (at_line statement.entry.line (bound self.entry.now (saying statement.entry))) }
+            (at_line statement.entry.line (bound self.entry.now (as_text statement.entry))) }
     {
         let line = statement.line;
         let Some((name, word)) = Binding::name_and_source(statement) else {
@@ -174,7 +174,7 @@ impl Binding {
     /// Binds what a statement says.
     fn bind(&mut self, alloc: Global, statement: Statement<'_>) -> Result<(), BindFault>
         ensures { BindGives (λ _. self.new) result (at_line statement.entry.line
-            (bound self.old (saying statement.entry))) }
+            (bound self.old (as_text statement.entry))) }
     {
         let assignment = self.assignment(alloc, statement)?;
         self.assignments.push(assignment)?;

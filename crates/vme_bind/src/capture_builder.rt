@@ -3,8 +3,8 @@
 ghost use Rattle.std.specs.Prelude.{◌≡◌, ℕ};
 ghost use Rattle.vme_bind.specs.Recording.{AreLines};
 ghost use Rattle.vme_bind.specs.NetLines.{line_bits_of};
-ghost use Rattle.vme_bind.specs.Made.{made_change, made_instant};
-ghost use Rattle.vme_bind.specs.AssignedLines.{ahead_change, ahead_instant, none_assigned};
+ghost use Rattle.vme_bind.specs.BuilderState.{builder_change, builder_instant};
+ghost use Rattle.vme_bind.specs.AssignedLines.{speculative_change, speculative_instant, none_assigned};
 
 use crate::assigned_lines::AssignedLines;
 use crate::net_lines::NetLines;
@@ -25,11 +25,11 @@ pub(crate) struct CaptureBuilder<F: StepVisitor> {
 
 impl<F: StepVisitor> Model for CaptureBuilder<F> {
     ghost use Rattle.std.specs.Prelude.{ℕ};
-    ghost use Rattle.vme_bind.specs.Made.{Made};
+    ghost use Rattle.vme_bind.specs.BuilderState.{BuilderState};
     ghost use Rattle.vme_bind.specs.Recording.{AreLines};
     ghost use Rattle.vme_bind.specs.NetLines.{line_bits_of};
 
-    ghost Value = { Made };
+    ghost Value = { BuilderState };
 
     ghost view = { λ m. record { line_bits = m.line_bits; progress = m.recorder; recorded = F.recorded m.visitor } };
 
@@ -71,15 +71,15 @@ impl<F: StepVisitor> CaptureBuilder<F> {
 }
 
 impl<F: StepVisitor> ChangeVisitor for CaptureBuilder<F> {
-    ghost use Rattle.vme_bind.specs.Made.{Made};
+    ghost use Rattle.vme_bind.specs.BuilderState.{BuilderState};
 
-    ghost Taken = { Made };
+    ghost Taken = { BuilderState };
 
     ghost taken = { λ r. r };
 
-    ghost with_change = { made_change };
+    ghost with_change = { builder_change };
 
-    ghost with_instant = { made_instant };
+    ghost with_instant = { builder_instant };
 
     #[inline(always)]
     fn change(
@@ -119,9 +119,9 @@ impl<'t, F: StepVisitor> Model for SpeculativeBuilder<'t, F> {
     ghost use Rattle.std.specs.Prelude.{ℕ};
     ghost use Rattle.vme_bind.specs.Recording.{AreLines};
     ghost use Rattle.vme_bind.specs.NetLines.{line_bits_of};
-    ghost use Rattle.vme_bind.specs.AssignedLines.{SpeculativelyMade};
+    ghost use Rattle.vme_bind.specs.AssignedLines.{SpeculativeBuilderState};
 
-    ghost Value = { SpeculativelyMade };
+    ghost Value = { SpeculativeBuilderState };
 
     ghost view = { λ m. record {
       made = record { line_bits = m.line_bits.now; progress = m.recorder; recorded = F.recorded m.visitor };
@@ -164,15 +164,15 @@ impl<'t, F: StepVisitor> SpeculativeBuilder<'t, F> {
 }
 
 impl<F: StepVisitor> ChangeVisitor for SpeculativeBuilder<'_, F> {
-    ghost use Rattle.vme_bind.specs.AssignedLines.{SpeculativelyMade};
+    ghost use Rattle.vme_bind.specs.AssignedLines.{SpeculativeBuilderState};
 
-    ghost Taken = { SpeculativelyMade };
+    ghost Taken = { SpeculativeBuilderState };
 
     ghost taken = { λ r. r };
 
-    ghost with_change = { ahead_change };
+    ghost with_change = { speculative_change };
 
-    ghost with_instant = { ahead_instant };
+    ghost with_instant = { speculative_instant };
 
     #[inline(always)]
     fn change(

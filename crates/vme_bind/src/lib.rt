@@ -29,7 +29,7 @@
 //!   the steps of the instants that are complete before it can be had, with the last time there
 //!   (`ReadingContinuesAs`), and a fault of the binding is known before the body (`binding_fault`).
 //! - What was recorded before a place of a text has no part in what follows it
-//!   ([`recorded_before_is_a_front`]).
+//!   ([`recorded_before_is_a_prefix`]).
 //! - A piece that [`SpeculativeReader`] reads ahead may be joined exactly where the levels before
 //!   it are those that it was read from (`MayFollowLevels`). Its steps are then those of reading it
 //!   in its place (`IsJoined`). `levels_behind` has exactly the levels that it leaves where others
@@ -79,7 +79,7 @@ mod words;
 
 pub use binding::{Binding, read_binding};
 pub use fault::{BindFault, BindKind, CaptureFault};
-pub use laws::recorded_before_is_a_front;
+pub use laws::recorded_before_is_a_prefix;
 pub use speculative_reader::{SpeculativeChunk, SpeculativeReader};
 pub use step_collector::StepCollector;
 pub use text_state::TextPieces;

@@ -10,7 +10,7 @@ ghost use Rattle.vme_trace.specs.Trace.{changed, levels_after};
 ghost use Rattle.vcd_read.specs.Numbers.{extended};
 ghost use Rattle.vme_bind.specs.Capture.{level_of, level_in};
 ghost use Rattle.vme_bind.specs.NetLines.{line_bits_of};
-ghost use Rattle.vme_bind.specs.Recording.{IsLine, all_of, differs, ListsTouchedLines, AreLines, tapped, valued};
+ghost use Rattle.vme_bind.specs.Recording.{IsLine, all_of, differs, ListsTouchedLines, AreLines, line_change, valued};
 ghost use Rattle.vme_bind.specs.Recording.{changes_between};
 ghost use Rattle.vme_bind.specs.Recording.{end_of, ended_steps, step_between, step_in};
 
@@ -61,7 +61,7 @@ fn level_of(line: Line, bit: Bit) -> Level
     }
 }
 
-/// What the bit of a tap says of its line.
+/// What the bit of a line bit says of its line.
 fn level_in(line_bit: LineBit, bits: &[Bit]) -> Level
     ensures { result ≡ level_in line_bit.line line_bit.place bits.now }
 {
@@ -71,7 +71,7 @@ fn level_in(line_bit: LineBit, bits: &[Bit]) -> Level
     )
 }
 
-/// What the digits of a value say of the line of a tap.
+/// What the digits of a value say of the line of a line bit.
 #[inline(always)]
 pub(crate) fn level_by_digits(line_bit: LineBit, size: u32, digits: &[u8]) -> Level
     requires some { 0 < length digits.now }
@@ -147,7 +147,7 @@ impl Recorder {
         requires { AreLines self.old.now.slots line_bits.now }
         ensures { OnOk result (self.new ≡ record self.old {
           now = changed self.old.now
-              (map (tapped bits.now) line_bits.now);
+              (map (line_change bits.now) line_bits.now);
         }) }
     {
         for line_bit in line_bits {
@@ -171,7 +171,7 @@ impl Recorder {
         ensures slots { self.new.now.slots ≡ self.old.now.slots }
         ensures ok { OnOk result (self.new ≡ record self.old {
           now = changed self.old.now
-              (map (tapped (extended size digits.now)) line_bits.now);
+              (map (line_change (extended size digits.now)) line_bits.now);
         }) }
     {
         match line_bits {
@@ -194,7 +194,7 @@ impl Recorder {
         ensures slots { self.new.now.slots ≡ self.old.now.slots }
         ensures ok { OnOk result (self.new ≡ record self.old {
           now = changed self.old.now
-              (map (tapped (extended size digits.now)) line_bits.now);
+              (map (line_change (extended size digits.now)) line_bits.now);
         }) }
     {
         for line_bit in line_bits {

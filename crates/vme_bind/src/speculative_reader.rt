@@ -37,9 +37,9 @@ impl Model for SpeculativeReader {
     ghost use Rattle.vme_bind.specs.Recording.{AreLines};
     ghost use Rattle.vme_bind.specs.NetLines.{line_bits_of};
     ghost use Rattle.vme_bind.specs.TextCapture.{IsOfBinding};
-    ghost use Rattle.vme_bind.specs.SpeculativeReading.{WaveReached};
+    ghost use Rattle.vme_bind.specs.SpeculativeReading.{SpeculativeReached};
 
-    ghost Value = { WaveReached };
+    ghost Value = { SpeculativeReached };
 
     ghost view = { λ w. record
         { fault = w.fault; line_bits = w.line_bits; body = with_taken w.recorder (reached (λ p. tt {0}) w.pieces) } };
@@ -52,7 +52,7 @@ impl Model for SpeculativeReader {
 #[derive(Drop)]
 pub struct SpeculativeChunk {
     from: Lines,
-    apart: DetachedPiece<DiscardChanges>,
+    detached: DetachedPiece<DiscardChanges>,
     recorder: Recorder,
     assigned: AssignedLines,
 }
@@ -61,33 +61,37 @@ impl Model for SpeculativeChunk {
     ghost use Rattle.std.specs.Prelude.{◌≡◌, ℕ, true};
     ghost use Rattle.vme_bind.specs.Recording.{IsLine};
     ghost use Rattle.vme_bind.specs.AssignedLines.{is_assigned};
-    ghost use Rattle.vcd_read.specs.DetachedPieces.{apart_with, read_apart};
+    ghost use Rattle.vcd_read.specs.DetachedPieces.{detached_with, read_detached};
     ghost use Rattle.vme_bind.specs.SpeculativeReading.{ReadSpeculatively};
 
     ghost Value = { ReadSpeculatively };
 
-    ghost view = { λ a. record
-        { from = a.from; apart = apart_with a.recorder (read_apart (λ p. tt {0}) a.apart); assigned = a.assigned } };
+    ghost view = { λ a. record {
+      from = a.from;
+      detached = detached_with a.recorder (read_detached (λ p. tt {0}) a.detached);
+      assigned =
+          a.assigned;
+    } };
 
     ghost invariant = { λ a. (a.recorder.now.slots ≡ a.from.slots)
         × ((l : ℕ) → is_assigned a.assigned l ≡ true → IsLine a.from.slots l) };
 }
 
 impl<F: StepVisitor> TextPieces<F> {
-    /// Lets go of what takes the recording, so that pieces can be read apart.
-    pub fn into_wave(self) -> (SpeculativeReader, F)
+    /// Lets go of what takes the recording, so that pieces can be read by themselves.
+    pub fn into_speculative(self) -> (SpeculativeReader, F)
         ensures { with_recording (F.recorded result.1) result.0 ≡ text_reached self }
     {
         let TextPieces { pieces, fault } = self;
         let (pieces, made) = pieces.with_visitor(DiscardChanges);
         let (line_bits, recorder, visitor) = made.into_parts();
-        let wave = SpeculativeReader {
+        let speculative = SpeculativeReader {
             pieces,
             fault,
             line_bits,
             recorder,
         };
-        (wave, visitor)
+        (speculative, visitor)
     }
 }
 
@@ -149,7 +153,7 @@ impl SpeculativeReader {
     ) -> Option<(SpeculativeChunk, F)>
         requires levels { length from.now.levels ≡ line_count }
         requires none { (F.recorded visitor).steps ≡ [] }
-        ensures line { IfSome result (λ made. made.0.apart.first_line ≡ line) }
+        ensures line { IfSome result (λ made. made.0.detached.first_line ≡ line) }
         ensures from { IfSome result (λ made. made.0.from ≡ from.now) }
         ensures opening { IfSome result (λ made. (F.recorded made.1).opening ≡ (F.recorded visitor).opening) }
         ensures read { IfSome result (λ made.
@@ -163,12 +167,12 @@ impl SpeculativeReader {
             Recorder::new(alloc, *from),
             visitor,
         );
-        let apart = self.pieces.apart(alloc, piece, line, builder)?;
-        let (apart, builder) = apart.with_visitor(DiscardChanges);
+        let detached = self.pieces.detached(alloc, piece, line, builder)?;
+        let (detached, builder) = detached.with_visitor(DiscardChanges);
         let (recorder, visitor, assigned) = builder.into_parts();
         let ahead = SpeculativeChunk {
             from: *from,
-            apart,
+            detached,
             recorder,
             assigned,
         };
@@ -180,10 +184,10 @@ impl SpeculativeReader {
     pub fn may_join(&self, ahead: &SpeculativeChunk) -> bool
         ensures { IsTrue result ↔ MayFollowLevels self.now ahead.now }
     {
-        if !self.pieces.may_join(&ahead.apart) {
+        if !self.pieces.may_join(&ahead.detached) {
             return false;
         }
-        let ended = self.pieces.ended_by(&ahead.apart);
+        let ended = self.pieces.ended_by(&ahead.detached);
         self.recorder.begins_with(ended, &ahead.from)
     }
 
@@ -207,19 +211,19 @@ impl SpeculativeReader {
         } = self;
         let SpeculativeChunk {
             from: _,
-            apart,
+            detached,
             recorder: behind,
             assigned: _,
         } = ahead;
-        let step = recorder.end(alloc, pieces.ended_by(&apart))?;
-        let (pieces, _) = pieces.join(apart);
-        let wave = SpeculativeReader {
+        let step = recorder.end(alloc, pieces.ended_by(&detached))?;
+        let (pieces, _) = pieces.join(detached);
+        let speculative = SpeculativeReader {
             pieces,
             fault,
             line_bits,
             recorder: behind,
         };
-        Ok((wave, step))
+        Ok((speculative, step))
     }
 }
 
@@ -250,7 +254,7 @@ impl SpeculativeChunk {
 
     /// The levels behind it.
     pub fn levels(&self) -> &Lines
-        ensures now { result.now ≡ self.now.apart.progress.taken.now }
+        ensures now { result.now ≡ self.now.detached.progress.taken.now }
         ensures all { length result.now.levels ≡ line_count }
     {
         self.recorder.now()

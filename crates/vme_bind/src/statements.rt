@@ -1,7 +1,7 @@
 //! The lines of a text that say something.
 
 ghost use Rattle.std.specs.Prelude.{◌≡◌, ◌<◌, ◌≤◌, ◌+◌, ◌^◌, ◌∷◌, ◌++◌, [], length, MatchOption, IfNone};
-ghost use Rattle.vme_bind.specs.Text.{words, said, without_return, all_said, end_line};
+ghost use Rattle.vme_bind.specs.Text.{words, statement_on, without_return, statements_of, end_line};
 
 use crate::words::LineWords;
 use memchr::memchr;
@@ -34,10 +34,10 @@ fn without_return(line: &[u8]) -> &[u8]
 }
 
 impl<'a> Statements<'a> {
-    ghost use Rattle.vme_bind.specs.Reading.{left, last_line, saying};
+    ghost use Rattle.vme_bind.specs.Reading.{left, last_line, as_text};
 
     pub fn new(text: &'a [u8]) -> Statements<'a>
-        ensures left { left result ≡ all_said text.now }
+        ensures left { left result ≡ statements_of text.now }
         ensures last { last_line result ≡ end_line text.now }
     {
         Statements {
@@ -56,7 +56,7 @@ impl<'a> Statements<'a> {
     /// Goes on behind a line.
     fn next_line(&mut self) -> &'a [u8]
         requires { 0 < length self.old.rest.now }
-        ensures left { left self.old ≡ said self.old.line (words result.now) ++ left self.new }
+        ensures left { left self.old ≡ statement_on self.old.line (words result.now) ++ left self.new }
         ensures last { last_line self.new ≡ last_line self.old }
         ensures shorter { length self.new.rest.now < length self.old.rest.now }
     {
@@ -76,7 +76,7 @@ impl<'a> Statements<'a> {
 
     /// The next line that says something, if there is one.
     pub fn next(&mut self) -> Option<Statement<'a>>
-        ensures left { MatchOption result (left self.old ≡ []) (λ s. left self.old ≡ saying s ∷ left self.new) }
+        ensures left { MatchOption result (left self.old ≡ []) (λ s. left self.old ≡ as_text s ∷ left self.new) }
         ensures last { last_line self.new ≡ last_line self.old }
         ensures end { IfNone result (self.new.line ≡ last_line self.old) }
     {

@@ -11,7 +11,7 @@ ghost use Rattle.vme_bind.specs.Binding.{BoundLines};
 ghost use Rattle.vme_bind.specs.PathSearch.{seen_in, unseen, with_variable};
 ghost use Rattle.vme_bind.specs.BoundGroups.{bound_groups_in};
 ghost use Rattle.vme_bind.specs.declared.bound_groups.BoundGroup.{BoundGroup};
-ghost use Rattle.vme_bind.specs.Made.{IsBegun};
+ghost use Rattle.vme_bind.specs.BuilderState.{IsBegun};
 ghost use Rattle.vcd_read.specs.declared.dump.Variable.{Variable};
 ghost use Rattle.vcd_read.specs.Sections.{defined};
 ghost use Rattle.vme_bind.specs.TextCapture.{CaptureFailsBy, GivesBy, body_recording, capture_of_text};
@@ -32,7 +32,7 @@ use vcd_read::{Head, read_definitions};
 use vme_trace::{Capture, Lines, StepVisitor};
 
 /// What takes the changes of a dump for a visitor, and has taken none.
-pub(crate) fn making_of<F: StepVisitor>(
+pub(crate) fn builder_of<F: StepVisitor>(
     alloc: Global,
     lines: &Lines,
     bound_groups: &[BoundGroup],
@@ -75,7 +75,7 @@ fn record_bound_groups<F: StepVisitor>(
     requires { lines.now.levels ≡ replicate line_count Unknown }
     ensures { GivesBy (λ f. F.recorded f) result (body_recording lines.now.slots bound_groups.now head.now) }
 {
-    match making_of(alloc, lines, bound_groups, visitor) {
+    match builder_of(alloc, lines, bound_groups, visitor) {
         Ok(made) => record_body(alloc, made, head),
         Err(_) => Err(CaptureFault::Binding(want_of_memory())),
     }

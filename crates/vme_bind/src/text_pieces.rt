@@ -25,7 +25,7 @@ use crate::bound_groups::BoundGroup;
 use crate::capture_builder::CaptureBuilder;
 use crate::fault::{BindFault, BindKind, CaptureFault};
 use crate::search::Search;
-use crate::text_capture::{making_of, want_of_memory};
+use crate::text_capture::{builder_of, want_of_memory};
 use crate::text_state::TextPieces;
 use std::alloc::Global;
 use vcd_read::{Front, Stopped, read_front};
@@ -53,7 +53,7 @@ fn begin_bound_groups<'a, F: StepVisitor>(
     ensures reading { TextContinuesAs (λ begun. reading_from begun.0 begun.1.now) result
         (λ more. or_fault fault (body_reading lines.now.slots bound_groups.now (going_on front.entry.head more))) }
 {
-    match making_of(alloc, lines, bound_groups, visitor) {
+    match builder_of(alloc, lines, bound_groups, visitor) {
         Ok(made) => {
             let (pieces, rest) = front.before_body(made);
             Ok((TextPieces { pieces, fault }, rest))

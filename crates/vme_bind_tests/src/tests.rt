@@ -732,21 +732,21 @@ fn keep_all(
 /// Reads a piece ahead, from the levels that the wave is at, and joins it at once.
 fn joined(
     alloc: Global,
-    wave: SpeculativeReader,
+    speculative: SpeculativeReader,
     piece: &[u8],
     kept: &mut KeptSteps,
 ) -> Result<SpeculativeReader, Fail> {
-    let from = *wave.now();
+    let from = *speculative.now();
     let own = none_kept(alloc, from);
-    let read = shared(&wave).read_ahead(alloc, piece, wave.line(), &from, own);
+    let read = shared(&speculative).read_ahead(alloc, piece, speculative.line(), &from, own);
     let (ahead, own) = read.ok_or("a piece isn't read")?;
     let ahead = sent(ahead);
-    if !wave.may_join(&ahead) {
+    if !speculative.may_join(&ahead) {
         return Err(Fail::new("a piece doesn't fit"));
     }
-    let (wave, ended) = wave.join(alloc, ahead)?;
+    let (speculative, ended) = speculative.join(alloc, ahead)?;
     keep_all(alloc, kept, ended, own)?;
-    Ok(wave)
+    Ok(speculative)
 }
 
 /// A wave that has read the front of a dump of the bus.
@@ -755,18 +755,18 @@ fn begun(alloc: Global, front: &[&str]) -> Result<(SpeculativeReader, KeptSteps)
     let front = together(alloc, front)?;
     let kept = none_kept(alloc, Lines::new(1).ok_or("no slots")?);
     let text = binding.begin_text(alloc, front.as_slice(), kept)?;
-    Ok(text.ok().ok_or("no definitions")?.into_wave())
+    Ok(text.ok().ok_or("no definitions")?.into_speculative())
 }
 
 /// A wave of pieces, each of which is a line.
 #[test]
 fn a_wave_of_pieces_records_what_their_text_does(rt: HostRuntime) -> Result<(), Fail> {
     let alloc = rt.alloc();
-    let (mut wave, mut kept) = begun(alloc, &[BUS, DECLARED, "#0 1p 1q 1r 1s 1t 1u\n"])?;
+    let (mut speculative, mut kept) = begun(alloc, &[BUS, DECLARED, "#0 1p 1q 1r 1s 1t 1u\n"])?;
     for line in ["#10 0p\n", "#20 0q\n", "#30 0s\n#40 1p 1q\n", "#50 1s\n"] {
-        wave = joined(alloc, wave, line.as_bytes(), &mut kept)?;
+        speculative = joined(alloc, speculative, line.as_bytes(), &mut kept)?;
     }
-    let kept = wave.with_step_visitor(kept).finish(alloc)?;
+    let kept = speculative.with_step_visitor(kept).finish(alloc)?;
     let found = written(alloc, &kept.steps)?;
     assert!(rt; found.as_slice() == READ_STEPS.as_bytes());
     Ok(())

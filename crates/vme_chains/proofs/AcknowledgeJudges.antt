@@ -15,15 +15,15 @@ use Rattle.vme_trace.specs.declared.rule.Rule.TheVariants.{I1, I2, I3}
 use Rattle.vme_trace.specs.declared.step.Change.{Change}
 use Rattle.vme_trace.proofs.SpanEnds.{slots_at}
 use Rattle.vme_monitor.specs.Along.{changes_of, next_at, memory_from}
-use Rattle.vme_monitor.specs.Run.{break_at, noticed, nothing, run_of}
-use Rattle.vme_monitor.specs.OverStretches.{noted, spanned, start_in}
+use Rattle.vme_monitor.specs.Run.{break_at, machine_step, nothing, run_of}
+use Rattle.vme_monitor.specs.OverStretches.{observed, phase_step, start_in}
 use Rattle.vme_monitor.specs.Whole.{FindsLeast, ShowsAll}
 use Rattle.vme_monitor.specs.declared.mark.Next.{Next}
 use Rattle.vme_monitor.proofs.OwnRules.{own_event, own_marks}
 use Rattle.vme_monitor.proofs.SpanFacts.{IsSpan}
 use Rattle.vme_monitor.proofs.Alongside.{levels_step, changes_fit, memory_early}
 use Rattle.vme_chains.specs.AcknowledgeSpec.{acknowledge_begin, acknowledge_ends, acknowledge_next, acknowledge_opens}
-use Rattle.vme_chains.specs.AcknowledgeSpec.{acknowledge_rules, acknowledge_shown, acknowledge_sight, fault_among}
+use Rattle.vme_chains.specs.AcknowledgeSpec.{acknowledge_rules, acknowledge_shown, acknowledge_observation, fault_among}
 use Rattle.vme_chains.specs.AcknowledgeSpec.{fault_on, changes_memory, first_changed, memory_after, passes_on}
 use Rattle.vme_chains.specs.AcknowledgeSpec.{passes_unasked, is_strobed, is_addressed}
 use Rattle.vme_chains.specs.declared.acknowledge.Acknowledgement.{Acknowledgement}
@@ -35,7 +35,7 @@ use Rattle.vme_chains.proofs.AcknowledgeMemory.{Holds, holds_start, holds_next, 
 module _ (t : Trace) (span : Stretch) (ok : malformed_step t ≡ None) (few : t.opening.slots ≤ 21)
     (facts : IsSpan t span) where
   abbrev step : Acknowledgement → Levels → Levels → List Change → Next Acknowledgement
-  step = noticed acknowledge_sight acknowledge_next
+  step = machine_step acknowledge_observation acknowledge_next
 
   -- the memory at an instant of the span
   abbrev memory_at : ℕ → Acknowledgement
@@ -74,25 +74,25 @@ module _ (t : Trace) (span : Stretch) (ok : malformed_step t ≡ None) (few : t.
           memory = memory_after m old new;
           fault = fault_among m old new
               (first_changed (passes_unasked old new) cs) (first_changed (passes_on old new) cs);
-          kinds = nothing;
+          shown = nothing;
         }
-    next_is m h = by_sight (is_some (first_changed (passes_on old new) cs) || changes_memory old new) refl
+    next_is m h = by_observation (is_some (first_changed (passes_on old new) cs) || changes_memory old new) refl
       where
-        by_sight : (b : Bool) → (is_some (first_changed (passes_on old new) cs) || changes_memory old new) ≡ b
+        by_observation : (b : Bool) → (is_some (first_changed (passes_on old new) cs) || changes_memory old new) ≡ b
             → option_map_or (acknowledge_next m old new)
             (cond b (Some (record {
               first = first_changed (passes_on old new) cs;
               unasked = first_changed
                   (passes_unasked old new) cs;
-            })) None) (record { memory = m; fault = None; kinds = nothing })
+            })) None) (record { memory = m; fault = None; shown = nothing })
             ≡ record {
               memory = memory_after m old new;
               fault = fault_among m old new
                   (first_changed (passes_unasked old new) cs) (first_changed (passes_on old new) cs);
-              kinds = nothing;
+              shown = nothing;
             }
-        by_sight true e = refl
-        by_sight false e =
+        by_observation true e = refl
+        by_observation false e =
             let still = or_false (is_some (first_changed (passes_on old new) cs)) (changes_memory old new) e in
             rw (
               unasked_none old new cs still.0,
@@ -181,26 +181,30 @@ module _ (t : Trace) (span : Stretch) (ok : malformed_step t ≡ None) (few : t.
       (holds_at n from (omega arith) (omega arith))
 
 pub acknowledge_event : FindsLeast
-    (run_of (noticed (noted acknowledge_sight) (spanned acknowledge_begin acknowledge_opens nothing (λ l. None)
+    (run_of (machine_step (observed acknowledge_observation) (phase_step acknowledge_begin acknowledge_opens nothing
+    (λ l. None)
     acknowledge_next))) (start_in acknowledge_begin) acknowledge_rules
-acknowledge_event = own_event acknowledge_begin acknowledge_opens acknowledge_sight acknowledge_next acknowledge_rules
+acknowledge_event = own_event acknowledge_begin acknowledge_opens acknowledge_observation acknowledge_next
+    acknowledge_rules
     refl (λ t span ok few facts n from before within unbroken. acknowledge_inside t span ok few facts n from before
     within)
 
 pub acknowledge_marks : ShowsAll
-    (run_of (noticed (noted acknowledge_sight) (spanned acknowledge_begin acknowledge_opens nothing acknowledge_ends
+    (run_of (machine_step (observed acknowledge_observation)
+    (phase_step acknowledge_begin acknowledge_opens nothing acknowledge_ends
     acknowledge_next))) (start_in acknowledge_begin) nothing acknowledge_shown
 acknowledge_marks =
-    own_marks acknowledge_begin acknowledge_opens acknowledge_sight acknowledge_next acknowledge_ends acknowledge_shown
+    own_marks acknowledge_begin acknowledge_opens acknowledge_observation acknowledge_next acknowledge_ends
+    acknowledge_shown
     (λ t span ok few facts. record {
       at_start = refl;
-      inside = λ n from before within. by_sight (acknowledge_sight (levels_at t n) (levels_at t (suc n))
-          (changes_of (slice_get t.steps n))) (memory_from (noticed acknowledge_sight acknowledge_next) t
+      inside = λ n from before within. by_observation (acknowledge_observation (levels_at t n) (levels_at t (suc n))
+          (changes_of (slice_get t.steps n))) (memory_from (machine_step acknowledge_observation acknowledge_next) t
           (acknowledge_begin (levels_at t span.start)) span.start n) (levels_at t n) (levels_at t (suc n));
     })
   where
-    by_sight : (o : Option PassingSlots) (m : Acknowledgement) (v w : Levels)
-        → (option_map_or (acknowledge_next m v w) o (record { memory = m; fault = None; kinds = nothing })).kinds
+    by_observation : (o : Option PassingSlots) (m : Acknowledgement) (v w : Levels)
+        → (option_map_or (acknowledge_next m v w) o (record { memory = m; fault = None; shown = nothing })).shown
         ≡ nothing
-    by_sight None m v w = refl
-    by_sight (Some seen) m v w = refl
+    by_observation None m v w = refl
+    by_observation (Some seen) m v w = refl

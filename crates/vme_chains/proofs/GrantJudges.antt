@@ -15,8 +15,8 @@ use Rattle.vme_trace.specs.Verdict.{break_at as rules_break_at}
 use Rattle.vme_trace.specs.declared.step.Change.{Change}
 use Rattle.vme_trace.proofs.OpenTransfers.{is_judged-holds}
 use Rattle.vme_monitor.specs.Along.{changes_of, next_at, memory_from}
-use Rattle.vme_monitor.specs.Run.{break_at, noticed, run_of, nothing, quiet}
-use Rattle.vme_monitor.specs.OverStretches.{noted, spanned, start_in}
+use Rattle.vme_monitor.specs.Run.{break_at, machine_step, run_of, nothing, quiet}
+use Rattle.vme_monitor.specs.OverStretches.{observed, phase_step, start_in}
 use Rattle.vme_monitor.specs.Whole.{FindsLeast, ShowsAll}
 use Rattle.vme_monitor.specs.declared.mark.BusGrant.{BusGrant}
 use Rattle.vme_monitor.proofs.OwnRules.{own_event, own_marks}
@@ -25,7 +25,7 @@ use Rattle.vme_chains.specs.GrantLevels.{falls_between, rises_between, is_low_in
 use Rattle.vme_chains.specs.GrantLevels.{taken_between, touches_arbitration, is_cycle_unowned, is_ungranted}
 use Rattle.vme_chains.specs.GrantMemory.{is_in, union}
 use Rattle.vme_chains.specs.GrantSpec.{grant_rules, nets_fault, seen_between, grant_begin, grant_opens, grant_ends}
-use Rattle.vme_chains.specs.GrantSpec.{grant_sight, grant_next}
+use Rattle.vme_chains.specs.GrantSpec.{grant_observation, grant_next}
 use Rattle.vme_chains.specs.GrantMarks.{tenure_at, tenures_shown}
 use Rattle.vme_chains.specs.declared.grant.Arbitrated.{Arbitrated}
 use Rattle.vme_chains.specs.declared.grant_memory.Arbitration.{Arbitration}
@@ -150,7 +150,8 @@ module _ (t : Trace) (span : Stretch) (few : t.opening.slots ≤ 21) where
         (takes-none t span few n from before cs step fit none.0) none.1)
 
     fault_here : (m : Arbitration) → Holds t span n m
-        → option_map (break_at (suc n) (time_at t (suc n))) (noticed grant_sight grant_next m old new cs).fault
+        → option_map (break_at (suc n) (time_at t (suc n)))
+        (machine_step grant_observation grant_next m old new cs).fault
         ≡ rules_break_at t span grant_rules (suc n)
     fault_here m held =
         ap (option_map (break_at (suc n) (time_at t (suc n))))
@@ -166,15 +167,15 @@ module _ (t : Trace) (span : Stretch) (few : t.opening.slots ≤ 21) where
         alike : (b c : Bool) (x y : Option BusGrant) → b ≡ c → x ≡ y → cond b x None ≡ cond c y None
         alike b c x y e h = rw (e, h) refl
 
-    kinds_seen : (m : Arbitration) → (grant_next m old new seen).kinds ≡ tenures_shown t span (suc n)
+    kinds_seen : (m : Arbitration) → (grant_next m old new seen).shown ≡ tenures_shown t span (suc n)
     kinds_seen m =
         shown_alike _ _ _ _ _ (not_at_start (suc n) span.start (low t BBSY (suc n)) (omega arith)) taken_shown
         (rises-is t n BBSY refl ∙ judged_and (is_judged span (suc n)) (rises t BBSY (suc n))
         (is_judged-holds span (suc n) (omega arith) before))
 
     kinds_by : (m : Arbitration) (b : Bool) → (touches_arbitration cs || is_cycle_unowned old new) ≡ b
-        → (option_map_or (grant_next m old new) (cond b (Some seen) None) (quiet m)).kinds
-        ≡ (grant_next m old new seen).kinds
+        → (option_map_or (grant_next m old new) (cond b (Some seen) None) (quiet m)).shown
+        ≡ (grant_next m old new seen).shown
     kinds_by m true e = refl
     kinds_by m false e =
         let none = or_false (touches_arbitration cs) (is_cycle_unowned old new) e in
@@ -185,7 +186,8 @@ module _ (t : Trace) (span : Stretch) (few : t.opening.slots ≤ 21) where
             → record nothing { tenure = cond takes (taken_between old new) None; tenure_end = ends } ≡ nothing
         passed takes ends a b = rw (a, b) refl
 
-    kinds_here : (m : Arbitration) → (noticed grant_sight grant_next m old new cs).kinds ≡ tenures_shown t span (suc n)
+    kinds_here : (m : Arbitration) → (machine_step grant_observation grant_next m old new cs).shown
+        ≡ tenures_shown t span (suc n)
     kinds_here m = kinds_by m (touches_arbitration cs || is_cycle_unowned old new) refl ∙ kinds_seen m
 
   module _ (ok : malformed_step t ≡ None) where
@@ -193,7 +195,7 @@ module _ (t : Trace) (span : Stretch) (few : t.opening.slots ≤ 21) where
     started = grant_begin (levels_at t span.start)
 
     abbrev memory : ℕ → Arbitration
-    memory n = memory_from (noticed grant_sight grant_next) t started span.start n
+    memory n = memory_from (machine_step grant_observation grant_next) t started span.start n
 
     holds_at : (k : ℕ) → span.start ≡ k → Holds t span k started
     holds_at k e = subst (λ i. Holds t span i started) e holds_start
@@ -206,7 +208,8 @@ module _ (t : Trace) (span : Stretch) (few : t.opening.slots ≤ 21) where
     holds_along zero from before within = holds_at zero (omega arith)
     holds_along (suc n) from before within =
         elim (start_or_after span.start n from) [
-          | inl e ↦ rw (memory_early (noticed grant_sight grant_next) t started span.start (suc n) (omega arith))
+          | inl e ↦ rw (memory_early (machine_step grant_observation grant_next) t started span.start (suc n)
+              (omega arith))
               (holds_at (suc n) e)
           | inr earlier ↦
               rw (not_before n span.start earlier)
@@ -217,14 +220,15 @@ module _ (t : Trace) (span : Stretch) (few : t.opening.slots ≤ 21) where
         ]
 
     pub grant_inside : (n : ℕ) → span.start ≤ n → suc n < span.end → n < length t.steps
-        → option_map (break_at (suc n) (time_at t (suc n))) (next_at (noticed grant_sight grant_next) t (memory n)
+        → option_map (break_at (suc n) (time_at t (suc n))) (next_at (machine_step grant_observation grant_next) t
+        (memory n)
         n).fault ≡ rules_break_at t span grant_rules (suc n)
     grant_inside n from before within =
         fault_here n from before (changes_of (slice_get t.steps n)) (levels_step t n within) (changes_fit t n ok within)
         (memory n) (holds_along n from (omega arith) (omega arith))
 
     pub grant_shows : (n : ℕ) → span.start ≤ n → suc n < span.end → n < length t.steps
-        → (next_at (noticed grant_sight grant_next) t (memory n) n).kinds ≡ tenures_shown t span (suc n)
+        → (next_at (machine_step grant_observation grant_next) t (memory n) n).shown ≡ tenures_shown t span (suc n)
     grant_shows n from before within = kinds_here n from before (changes_of (slice_get t.steps n))
         (levels_step t n within) (changes_fit t n ok within) (memory n)
 
@@ -249,16 +253,18 @@ module _ (t : Trace) (span : Stretch) (few : t.opening.slots ≤ 21) where
       alike same judged x y falls rises o a b c = rw (a, b, c) refl
 
 pub grant_event : FindsLeast
-    (run_of (noticed (noted grant_sight) (spanned grant_begin grant_opens nothing (λ l. None) grant_next)))
+    (run_of (machine_step (observed grant_observation)
+    (phase_step grant_begin grant_opens nothing (λ l. None) grant_next)))
     (start_in grant_begin) grant_rules
-grant_event = own_event grant_begin grant_opens grant_sight grant_next grant_rules refl
+grant_event = own_event grant_begin grant_opens grant_observation grant_next grant_rules refl
     (λ t span ok few facts n from before within unbroken. grant_inside t span few ok n from before within)
 
 pub grant_marks : ShowsAll
-    (run_of (noticed (noted grant_sight) (spanned grant_begin grant_opens nothing grant_ends grant_next)))
+    (run_of (machine_step (observed grant_observation)
+    (phase_step grant_begin grant_opens nothing grant_ends grant_next)))
     (start_in grant_begin) nothing tenures_shown
 grant_marks =
-    own_marks grant_begin grant_opens grant_sight grant_next grant_ends tenures_shown
+    own_marks grant_begin grant_opens grant_observation grant_next grant_ends tenures_shown
     (λ t span ok few facts. record {
       at_start = open_at t span few;
       inside = λ n from before within. grant_shows t span few ok n from before within;

@@ -107,8 +107,8 @@ acknowledge_opens v = nothing
 abbrev pub acknowledge_ends : ℕ → Option Fault
 acknowledge_ends l = None
 
-abbrev pub acknowledge_sight : Levels → Levels → List Change → Option PassingSlots
-acknowledge_sight v w cs =
+abbrev pub acknowledge_observation : Levels → Levels → List Change → Option PassingSlots
+acknowledge_observation v w cs =
     if is_some (first_changed (passes_on v w) cs)
     || changes_memory v w then Some (record {
       first = first_changed (passes_on v w) cs;
@@ -120,7 +120,7 @@ abbrev pub acknowledge_next : Acknowledgement → Levels → Levels → PassingS
 acknowledge_next m v w seen = record {
   memory = memory_after m v w;
   fault = fault_among m v w seen.unasked seen.first;
-  kinds = nothing;
+  shown = nothing;
 }
 
 -- an acknowledge isn't shown

@@ -79,8 +79,8 @@ grant_opens v = record nothing { opened = is_low_in v BBSY }
 abbrev pub grant_ends : ℕ → Option Fault
 grant_ends l = None
 
-abbrev pub grant_sight : Levels → Levels → List Change → Option Arbitrated
-grant_sight v w cs = if touches_arbitration cs || is_cycle_unowned v w then Some (seen_between v w cs) else None
+abbrev pub grant_observation : Levels → Levels → List Change → Option Arbitrated
+grant_observation v w cs = if touches_arbitration cs || is_cycle_unowned v w then Some (seen_between v w cs) else None
 
 abbrev pub grant_next : Arbitration → Levels → Levels → Arbitrated → Next Arbitration
 grant_next m v w seen =
@@ -90,5 +90,5 @@ grant_next m v w seen =
         granted = not seen.takes && (m.granted || seen.grants);
       };
       fault = step_fault v w (union m.requests seen.requests) (m.granted || seen.grants) seen;
-      kinds = record nothing { tenure = seen.tenure; tenure_end = seen.ends };
+      shown = record nothing { tenure = seen.tenure; tenure_end = seen.ends };
     }

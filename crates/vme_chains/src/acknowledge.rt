@@ -283,7 +283,7 @@ pub struct AcknowledgeRules;
 impl Rules for AcknowledgeRules {
     ghost use Rattle.vme_monitor.specs.Run.{nothing};
     ghost use Rattle.vme_chains.specs.AcknowledgeSpec.{acknowledge_begin, acknowledge_ends, acknowledge_next};
-    ghost use Rattle.vme_chains.specs.AcknowledgeSpec.{acknowledge_opens, acknowledge_sight};
+    ghost use Rattle.vme_chains.specs.AcknowledgeSpec.{acknowledge_opens, acknowledge_observation};
 
     type Memory = Acknowledgement;
 
@@ -297,7 +297,7 @@ impl Rules for AcknowledgeRules {
 
     ghost ends = { acknowledge_ends };
 
-    ghost observation = { acknowledge_sight };
+    ghost observation = { acknowledge_observation };
 
     ghost next = { acknowledge_next };
 
@@ -340,7 +340,7 @@ impl Rules for AcknowledgeRules {
         Next {
             memory: memory.after(before, after),
             fault: fault_of(memory, before, after, seen),
-            kinds: NOTHING,
+            shown: NOTHING,
         }
     }
 }

@@ -154,7 +154,7 @@ pub struct GrantRules;
 
 impl Rules for GrantRules {
     ghost use Rattle.vme_monitor.specs.Run.{nothing};
-    ghost use Rattle.vme_chains.specs.GrantSpec.{grant_begin, grant_ends, grant_next, grant_opens, grant_sight};
+    ghost use Rattle.vme_chains.specs.GrantSpec.{grant_begin, grant_ends, grant_next, grant_opens, grant_observation};
 
     type Memory = Arbitration;
 
@@ -168,7 +168,7 @@ impl Rules for GrantRules {
 
     ghost ends = { grant_ends };
 
-    ghost observation = { grant_sight };
+    ghost observation = { grant_observation };
 
     ghost next = { grant_next };
 
@@ -218,7 +218,7 @@ impl Rules for GrantRules {
                 granted: !seen.takes && granted,
             },
             fault: seen.fault(before, after, requests, granted),
-            kinds: StepMarks {
+            shown: StepMarks {
                 tenure: seen.tenure,
                 tenure_end: seen.ends,
                 ..NOTHING

@@ -6,4 +6,4 @@ pub mod JudgedLemmas
 pub mod ListLemmas
 pub mod SettledLemmas
 pub mod ToldLemmas
-pub mod UnderwayLemmas
+pub mod DumpJudgeLemmas

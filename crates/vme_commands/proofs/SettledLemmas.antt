@@ -53,7 +53,7 @@ module _ {W : Type 0} (made : W → Trace) where
   abbrev or_made : W → Result Trace BindFault
   or_made w = Ok (made w)
 
-  -- what is made of some wires, if there are any and it isn't too long, where all that is made is a recording
+  -- what is made of some bound groups, if there are any and it isn't too long, where all that is made is a recording
   made-stays : (r : Result W BindFault) → ((w : W) → r ≡ Ok w → IsRecording (made w))
       → settled_or 0 (r >>= or_limited) ≡ (r >>= or_limited)
   made-stays (Err fault) is = refl

@@ -13,7 +13,7 @@ ghost use Rattle.vme_commands.specs.declared.bind.NoBinding.{NoBinding as Withou
 ghost use Rattle.vme_find.specs.Recordings.{AreSlots};
 ghost use Rattle.vme_find.specs.declared.writing.FoundBinding.{FoundBinding as Found};
 
-use crate::refused::{Given, complain_with, show_dump};
+use crate::refused::{NamedInput, complain_with, show_dump};
 use crate::telling::say;
 use std::alloc::Global;
 use vme_answer::{Input, Refusal, cannot_write_line};
@@ -158,7 +158,7 @@ fn binding_for_text(
         Ok(found) => Ok(found),
         Err(FindFault::Dump(fault)) => {
             let refusal = Refusal::of_dump(fault);
-            show_dump(shown, alloc, &refusal, Given::new(name, dump));
+            show_dump(shown, alloc, &refusal, NamedInput::new(name, dump));
             Err(NoBinding::Refused(refusal))
         }
         Err(FindFault::NoSuchScope) => Err(NoBinding::NoSuchScope),

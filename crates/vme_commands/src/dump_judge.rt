@@ -45,11 +45,11 @@ impl<'b, R: Threads + Sync, J: ChunkJudge + Send> DumpJudge<'b, R, J> {
     pub fn new(
         workers: &'b Workers<'b, R>,
         bound: &'b Binding,
-        watch: StreamJudge<J>,
+        stream_judge: StreamJudge<J>,
     ) -> DumpJudge<'b, R, J>
         ensures { (rest : List ℕ) → ahead_of result.bound.now result.stage rest ≡ recording_of_text bound.now rest }
     {
-        DumpJudge::at(workers, bound, ReadStage::Definitions(watch))
+        DumpJudge::at(workers, bound, ReadStage::Definitions(stream_judge))
     }
 
     /// At a stage.
@@ -77,7 +77,7 @@ impl<'b, R: Threads + Sync, J: ChunkJudge + Send> DumpJudge<'b, R, J> {
             stage,
         } = self;
         match stage {
-            ReadStage::Definitions(watch) => bound.record_text(alloc, rest, watch),
+            ReadStage::Definitions(stream_judge) => bound.record_text(alloc, rest, stream_judge),
             ReadStage::Body(text) => match workers.read(alloc, text, rest) {
                 Ok(text) => text.finish(alloc),
                 Err(fault) => Err(fault),
@@ -118,9 +118,13 @@ impl<'b, R: Threads + Sync, J: ChunkJudge + Send> DumpJudge<'b, R, J> {
         } = self;
         let count = whole_tokens(bytes);
         match stage {
-            ReadStage::Definitions(watch) => match bound.begin_text(alloc, &bytes[..count], watch) {
+            ReadStage::Definitions(stream_judge) => match bound.begin_text(
+                alloc,
+                &bytes[..count],
+                stream_judge,
+            ) {
                 Ok(Ok(text)) => Ok((DumpJudge::at(workers, bound, ReadStage::Body(text)), count)),
-                Ok(Err(watch)) => Ok((DumpJudge::new(workers, bound, watch), 0)),
+                Ok(Err(stream_judge)) => Ok((DumpJudge::new(workers, bound, stream_judge), 0)),
                 Err(fault) => Ok((DumpJudge::failed(workers, bound, fault)?, count)),
             },
             ReadStage::Body(text) if workers.want_more(bytes.len()) => {

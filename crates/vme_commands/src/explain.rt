@@ -13,7 +13,7 @@ ghost use Rattle.vme_commands.specs.Settled.{settled_judgement};
 ghost use Rattle.vme_stream.specs.Inputs.{IsReading};
 ghost use Rattle.vme_answer.specs.Texts.{line_of, verdict_text};
 
-use crate::refused::{Given, complain_with, show_binding, show_dump, show_instead};
+use crate::refused::{NamedInput, complain_with, show_binding, show_dump, show_suggestions};
 use crate::settled::settled_in;
 use crate::telling::tell_bytes;
 use std::alloc::{AllocError, Global};
@@ -141,7 +141,12 @@ fn explained_bound<D: Source>(
     match binding_in(alloc, binding) {
         Ok(bound) => explained_by(alloc, binding, &bound, dump, names, skew, shown),
         Err(refusal) => {
-            show_binding(shown, alloc, &refusal, Given::new(names.binding, binding));
+            show_binding(
+                shown,
+                alloc,
+                &refusal,
+                NamedInput::new(names.binding, binding),
+            );
             Err(refusal)
         }
     }
@@ -185,9 +190,14 @@ fn explained_in(
     match settled_in(alloc, bound, dump, skew) {
         Ok(capture) => explained_of(alloc, binding, &capture, dump, names.dump),
         Err(refusal) => {
-            show_binding(shown, alloc, &refusal, Given::new(names.binding, binding));
-            show_instead(shown, alloc, &refusal, binding, bound.lines().slots(), dump);
-            show_dump(shown, alloc, &refusal, Given::new(names.dump, dump));
+            show_binding(
+                shown,
+                alloc,
+                &refusal,
+                NamedInput::new(names.binding, binding),
+            );
+            show_suggestions(shown, alloc, &refusal, binding, bound.lines().slots(), dump);
+            show_dump(shown, alloc, &refusal, NamedInput::new(names.dump, dump));
             Err(refusal)
         }
     }

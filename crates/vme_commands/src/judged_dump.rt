@@ -57,7 +57,7 @@ pub(crate) fn judged_dump_by<R: Threads + Sync, D: Source, J: ChunkJudge + Send>
         &|dump_judge: DumpJudge<'_, R, J>, bytes: &[u8]| dump_judge.take(alloc, bytes),
     ) {
         Ok((dump_judge, rest)) => match dump_judge.finish(alloc, rest.as_slice()) {
-            Ok(watch) => Ok(watch),
+            Ok(stream_judge) => Ok(stream_judge),
             Err(fault) => Err(Refusal::of_capture(fault)),
         },
         Err(fault) => Err(Refusal::of_input(Input::Dump, fault)),

@@ -81,8 +81,8 @@ fn settled_dump<K: GhostSkew, B: Source, D: Source, J: ChunkJudge>(
     match binding_from(alloc, binding) {
         Ok(bound) => {
             let lines = bound.lines();
-            let watch = StreamJudge::new(alloc, lines);
-            let settling = SettlingVisitor::new(alloc, lines, skew, watch);
+            let stream_judge = StreamJudge::new(alloc, lines);
+            let settling = SettlingVisitor::new(alloc, lines, skew, stream_judge);
             taken_in_order(alloc, piece, &bound, dump, settling)
         }
         Err(refusal) => Err(refusal),

@@ -8,7 +8,7 @@
 //! - `explain`, `bind`, `variables`, `rules`, `faults`: [`explain::explain`] says why a recording is
 //!   judged so, [`bind::bind`] writes a binding for a dump, [`tell_variables`] the variables,
 //!   [`tell_rules`] what the rules ask, and [`tell_faults`] what the refusals of inputs mean.
-//! - `refused`, `instead`: what is told behind the line of a refusal, of the input's line and its
+//! - `refused`, `suggestions`: what is told behind the line of a refusal, of the input's line and its
 //!   first bytes, and of the paths and widths that the dump has instead.
 //! - `dump_judge`, `judged_dump`, `workers`: a dump that is judged as it is read, in which pieces
 //!   and by how many.
@@ -59,7 +59,6 @@ mod dump_judge;
 pub mod explain;
 mod faults;
 mod input_fault;
-mod instead;
 mod judged_dump;
 mod judged_settled;
 pub mod list;
@@ -67,6 +66,7 @@ mod ordered_dump;
 mod refused;
 mod rules;
 mod settled;
+mod suggestions;
 mod telling;
 mod variables;
 mod words;

@@ -25,10 +25,10 @@ pub(crate) struct OrderedDump<'b, F: StepVisitor> {
 
 impl<'b, F: StepVisitor> OrderedDump<'b, F> {
     /// Before the first byte.
-    pub fn new(bound: &'b Binding, watch: F) -> OrderedDump<'b, F>
+    pub fn new(bound: &'b Binding, visitor: F) -> OrderedDump<'b, F>
         ensures { (rest : List ℕ) → ahead_of result.bound.now result.stage rest ≡ recording_of_text bound.now rest }
     {
-        OrderedDump::at(bound, ReadStage::Definitions(watch))
+        OrderedDump::at(bound, ReadStage::Definitions(visitor))
     }
 
     /// At a stage.
@@ -44,7 +44,7 @@ impl<'b, F: StepVisitor> OrderedDump<'b, F> {
     {
         let OrderedDump { bound, stage } = self;
         match stage {
-            ReadStage::Definitions(watch) => bound.record_text(alloc, rest, watch),
+            ReadStage::Definitions(visitor) => bound.record_text(alloc, rest, visitor),
             ReadStage::Body(text) => match text.read(alloc, rest) {
                 Ok(text) => text.finish(alloc),
                 Err(fault) => Err(fault),
@@ -77,9 +77,13 @@ impl<'b, F: StepVisitor> OrderedDump<'b, F> {
         let OrderedDump { bound, stage } = self;
         let count = whole_tokens(bytes);
         match stage {
-            ReadStage::Definitions(watch) => match bound.begin_text(alloc, &bytes[..count], watch) {
+            ReadStage::Definitions(visitor) => match bound.begin_text(
+                alloc,
+                &bytes[..count],
+                visitor,
+            ) {
                 Ok(Ok(text)) => Ok((OrderedDump::at(bound, ReadStage::Body(text)), count)),
-                Ok(Err(watch)) => Ok((OrderedDump::new(bound, watch), 0)),
+                Ok(Err(visitor)) => Ok((OrderedDump::new(bound, visitor), 0)),
                 Err(fault) => Ok((OrderedDump::failed(bound, fault)?, count)),
             },
             ReadStage::Body(text) => match text.read(alloc, &bytes[..count]) {

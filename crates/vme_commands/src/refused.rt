@@ -6,7 +6,7 @@ ghost use Rattle.vme_answer.specs.Texts.{line_of, refusal_text};
 ghost use Rattle.vme_commands.specs.Refused.{IsMore, IsRefusedText};
 ghost use Rattle.vme_stream.specs.Outputs.{TriesToWrite};
 
-use crate::instead::{Sought, push_nearest, push_widths};
+use crate::suggestions::{FaultySource, push_nearest, push_widths};
 use crate::telling::say;
 use std::alloc::{AllocError, Global};
 use vcd_read::FaultKind;
@@ -25,14 +25,14 @@ const SIDE: usize = 40;
 
 /// An input: the name of its file, and its bytes.
 #[derive(Clone, Copy)]
-pub(crate) struct Given<'a> {
+pub(crate) struct NamedInput<'a> {
     name: &'a [u8],
     bytes: &'a [u8],
 }
 
-impl<'a> Given<'a> {
-    pub(crate) fn new(name: &'a [u8], bytes: &'a [u8]) -> Given<'a> {
-        Given { name, bytes }
+impl<'a> NamedInput<'a> {
+    pub(crate) fn new(name: &'a [u8], bytes: &'a [u8]) -> NamedInput<'a> {
+        NamedInput { name, bytes }
     }
 }
 
@@ -67,7 +67,7 @@ fn refused_text(alloc: Global, refusal: &Refusal, shown: &Text) -> Result<Text, 
 }
 
 /// Appends what a dump shows where it is refused. Without memory the text ends somewhere in it.
-pub(crate) fn show_dump(shown: &mut Text, alloc: Global, refusal: &Refusal, dump: Given<'_>) {
+pub(crate) fn show_dump(shown: &mut Text, alloc: Global, refusal: &Refusal, dump: NamedInput<'_>) {
     if let Refusal::BadDump(fault) = refusal {
         let line = line_at(dump.bytes, fault.line);
         let span = match fault.kind {
@@ -79,7 +79,12 @@ pub(crate) fn show_dump(shown: &mut Text, alloc: Global, refusal: &Refusal, dump
 }
 
 /// Appends what a binding shows where it is refused. Without memory the text ends somewhere in it.
-pub(crate) fn show_binding(shown: &mut Text, alloc: Global, refusal: &Refusal, binding: Given<'_>) {
+pub(crate) fn show_binding(
+    shown: &mut Text,
+    alloc: Global,
+    refusal: &Refusal,
+    binding: NamedInput<'_>,
+) {
     if let Refusal::BadBinding(fault) = refusal {
         let line = line_at(binding.bytes, fault.line);
         let span = match fault.kind {
@@ -95,7 +100,7 @@ pub(crate) fn show_binding(shown: &mut Text, alloc: Global, refusal: &Refusal, b
 }
 
 /// Appends what a dump has in the place of what a binding asks of it. Without memory the text ends somewhere in it.
-pub(crate) fn show_instead(
+pub(crate) fn show_suggestions(
     shown: &mut Text,
     alloc: Global,
     refusal: &Refusal,
@@ -105,14 +110,14 @@ pub(crate) fn show_instead(
 ) {
     if let Refusal::BadBinding(fault) = refusal {
         let line = line_at(binding, fault.line);
-        let sought = Sought {
+        let faulty = FaultySource {
             name: token_of(line, word_at(line, 0)),
             source: token_of(line, word_at(line, 2)),
             slots,
         };
         let _ = match fault.kind {
-            BindKind::NoSuchPath => push_nearest(shown, alloc, sought, dump),
-            BindKind::WrongWidth => push_widths(shown, alloc, sought, dump),
+            BindKind::NoSuchPath => push_nearest(shown, alloc, faulty, dump),
+            BindKind::WrongWidth => push_widths(shown, alloc, faulty, dump),
             _ => Ok(()),
         };
     }
@@ -121,7 +126,7 @@ pub(crate) fn show_instead(
 fn push_dump(
     shown: &mut Text,
     alloc: Global,
-    dump: Given<'_>,
+    dump: NamedInput<'_>,
     number: u64,
     line: &[u8],
     span: WordRange,
@@ -138,7 +143,7 @@ fn push_dump(
 fn push_binding(
     shown: &mut Text,
     alloc: Global,
-    binding: Given<'_>,
+    binding: NamedInput<'_>,
     number: u64,
     line: &[u8],
     span: WordRange,

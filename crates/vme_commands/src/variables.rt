@@ -9,7 +9,7 @@ ghost use Rattle.vme_commands.specs.Refused.{MayHaveMore};
 ghost use Rattle.vme_commands.specs.TextAnswers.{IsTextOf, text_answer_with};
 ghost use Rattle.vme_answer.specs.declared.refusal.Refusal.{Refusal};
 
-use crate::refused::{Given, complain_with, show_dump};
+use crate::refused::{NamedInput, complain_with, show_dump};
 use crate::telling::tell_bytes;
 use std::alloc::Global;
 use vme_answer::{Input, Refusal};
@@ -83,7 +83,7 @@ fn variables_in(alloc: Global, dump: &[u8], name: &[u8], shown: &mut Text) -> Re
         Ok(text) => Ok(text),
         Err(fault) => {
             let refusal = Refusal::of_dump(fault);
-            show_dump(shown, alloc, &refusal, Given::new(name, dump));
+            show_dump(shown, alloc, &refusal, NamedInput::new(name, dump));
             Err(refusal)
         }
     }

@@ -32,7 +32,7 @@ pub struct Workers<'r, R: Threads + Sync> {
     piece: usize,
     /// How many each of several workers gets at once.
     share: usize,
-    /// Whether the levels before the pieces of several workers were guessed wrong.
+    /// Whether the levels before the pieces of several workers were assumed wrongly.
     speculation: Speculation,
     ghost piece_in_range: { (1 ≤ piece) × (piece ≤ longest_input) },
 }

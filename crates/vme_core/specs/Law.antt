@@ -9,8 +9,8 @@ use Rattle.vme_core.specs.Shares.{IsWholeShare}
 use Rattle.vme_core.specs.Machine.{Core, Event, filled, start, HasView, Happens, IsRun}
 
 -- some events of benches of a board of so many numbers and draws lead from s to t
-abbrev pub LeadsTo : ℕ → ℕ → Core → Core → Type 0
-LeadsTo total draws s t = (events : List Event) × IsRun total draws s events t
+abbrev pub RunsTo : ℕ → ℕ → Core → Core → Type 0
+RunsTo total draws s t = (events : List Event) × IsRun total draws s events t
 
 -- one event of them leads from s to t
 abbrev pub StepsTo : ℕ → ℕ → Core → Core → Type 0
@@ -18,7 +18,7 @@ StepsTo total draws s t = (e : Event) × Happens total draws s e t
 
 -- some run leads to s
 abbrev pub IsReachable : ℕ → ℕ → Core → Type 0
-IsReachable total draws s = LeadsTo total draws start s
+IsReachable total draws s = RunsTo total draws start s
 
 -- how often a bench owns a number: the owner is the one with which it is pending, or that has it in its list
 abbrev pub owned : ℕ → View → ℕ

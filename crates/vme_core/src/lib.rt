@@ -39,7 +39,7 @@
 #![tactic(auto)]
 
 ghost use Rattle.std.specs.Prelude.{ℕ, List, [], ◌∷◌, ◌++◌};
-ghost use Rattle.vme_core.specs.Law.{IsReachable, StepsTo, LeadsTo, IsLawful, IsRightStep, OnlyGrows};
+ghost use Rattle.vme_core.specs.Law.{IsReachable, StepsTo, RunsTo, IsLawful, IsRightStep, OnlyGrows};
 ghost use Rattle.vme_core.specs.Machine.{Core};
 ghost use Rattle.vme_core.specs.Shares.{IsWholeShare, kept_share, split_share};
 
@@ -56,7 +56,7 @@ pub use view::View;
 pub fn every_run()
     ensures lawful { (n d : ℕ) (s : Core) → IsReachable n d s → IsLawful s }
     ensures steps { (n d : ℕ) (s t : Core) → IsReachable n d s → StepsTo n d s t → IsRightStep s t }
-    ensures grows { (n d : ℕ) (s t : Core) → IsReachable n d s → LeadsTo n d s t → OnlyGrows s t }
+    ensures grows { (n d : ℕ) (s t : Core) → IsReachable n d s → RunsTo n d s t → OnlyGrows s t }
 {}
 
 /// The first bench has the whole share. Shares that are the whole together are so in any order, and after one of them

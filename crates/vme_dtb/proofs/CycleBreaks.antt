@@ -21,7 +21,7 @@ use Rattle.vme_monitor.specs.declared.tracking.Pending.{Pending}
 use Rattle.vme_monitor.specs.declared.tracking.Pending.TheVariants.{Closed, Reading, Writing, Answered}
 use Rattle.vme_monitor.proofs.TrackedTransfers.{answers_write_is}
 use Rattle.vme_dtb.specs.CycleState.{cycle_entered, is_acknowledge, is_acknowledged, is_pair_spoiled, is_turned}
-use Rattle.vme_dtb.specs.Edge.{asked_of, edges_between}
+use Rattle.vme_dtb.specs.Edge.{cycle_start_of, edges_between}
 use Rattle.vme_dtb.specs.Machine.{answer_in, broken, cycle_faults, cycle_rules}
 use Rattle.vme_dtb.specs.declared.cycle.Cycle.{Cycle}
 use Rattle.vme_dtb.specs.declared.edges.Edges.{Edges}
@@ -85,8 +85,9 @@ module _ (t : Trace) (span : Stretch) (reads : ReadsStrobes t span) (n : ℕ) (f
       ∙ same_entered _ _ (cycle_starts t span (suc n)) (falls_between (old t n) (new t n) AS) (sym holds.cycle)
       cycle_starts_is
     where
-      same_entered : (c d : Cycle) (a b : Bool) → c ≡ d → a ≡ b → cycle_entered c (cond a (Some (asked_of (new t n)))
-          None) ≡ cycle_entered d (cond b (Some (asked_of (new t n))) None)
+      same_entered : (c d : Cycle) (a b : Bool) → c ≡ d → a ≡ b
+          → cycle_entered c (cond a (Some (cycle_start_of (new t n)))
+          None) ≡ cycle_entered d (cond b (Some (cycle_start_of (new t n))) None)
       same_entered c d a b e f = rw (e, f) refl
 
   -- the answer of a write, by the state of the transfer

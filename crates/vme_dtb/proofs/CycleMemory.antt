@@ -13,7 +13,7 @@ use Rattle.vme_trace.specs.declared.class.Class.{Class}
 use Rattle.vme_trace.specs.declared.class.Class.TheVariants as class
 use Rattle.vme_dtb.specs.CycleState.{unanswered_of, cycle_entered, after_answer, is_pair_spoiled, is_turned}
 use Rattle.vme_dtb.specs.CycleState.{is_acknowledge, is_acknowledged}
-use Rattle.vme_dtb.specs.Edge.{asked_of}
+use Rattle.vme_dtb.specs.Edge.{cycle_start_of}
 use Rattle.vme_dtb.specs.declared.cycle.Cycle.{Cycle}
 use Rattle.vme_dtb.specs.declared.cycle.Cycle.TheVariants.{Free, Single, SingleRead, SingleDone, Block, BlockReading}
 use Rattle.vme_dtb.specs.declared.cycle.Cycle.TheVariants.{BlockWriting, Interrupt, InterruptDone}
@@ -109,11 +109,11 @@ module _ (t : Trace) (span : Stretch) where
 
   -- an instant is in the cycle that starts there, or else in that of the instant before
   pub before_is : (n : ℕ) → span.start ≤ n → cycle_before (suc n) ≡ cycle_entered (cycle_after n)
-      (cond (cycle_starts t span (suc n)) (Some (asked_of (levels_at t (suc n)))) None)
+      (cond (cycle_starts t span (suc n)) (Some (cycle_start_of (levels_at t (suc n)))) None)
   before_is n from = ap (λ o. told_of o (suc n)) (cycle_of_suc n from) ∙ by_start (cycle_starts t span (suc n))
     where
       by_start : (b : Bool) → told_of (cond b (Some (suc n)) (cycle_of t span n)) (suc n)
-          ≡ cycle_entered (cycle_after n) (cond b (Some (asked_of (levels_at t (suc n)))) None)
+          ≡ cycle_entered (cycle_after n) (cond b (Some (cycle_start_of (levels_at t (suc n)))) None)
       by_start true = ap (told (class_at t span (suc n))) (answers_none (suc n)) ∙ told_none (class_at t span (suc n))
       by_start false = refl
 

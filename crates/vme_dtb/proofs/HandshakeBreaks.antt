@@ -19,18 +19,19 @@ use Rattle.vme_monitor.specs.Tracking.{entered, is_unanswered, is_within}
 use Rattle.vme_monitor.specs.declared.tracking.Pending.{Pending}
 use Rattle.vme_monitor.proofs.TrackedTransfers.{in_transfer_is, is_answer_is}
 use Rattle.vme_dtb.specs.Edge.{edges_between}
-use Rattle.vme_dtb.specs.Machine.{answer_in, broken, dropped, freed, is_doubled, is_replied, is_unserved, strobe_faults}
+use Rattle.vme_dtb.specs.Machine.{answer_in, broken, early_rise, may_rise, is_doubled, is_replied, is_left_unanswered}
+use Rattle.vme_dtb.specs.Machine.{strobe_faults}
 use Rattle.vme_dtb.specs.Machine.{strobe_rules}
 use Rattle.vme_dtb.specs.declared.edges.Edges.{Edges}
 use Rattle.vme_dtb.specs.declared.memory.HandshakeMemory.{HandshakeMemory}
 use Rattle.vme_dtb.proofs.Faults.{AreOf}
-use Rattle.vme_dtb.proofs.FreedAnswers.{freed_at, held_is}
+use Rattle.vme_dtb.proofs.AnswerRises.{may_rise_at, held_is}
 use Rattle.vme_dtb.proofs.Held.{Holds}
-use Rattle.vme_dtb.proofs.OpenState.{doubled_is, replied_is, unserved_is}
+use Rattle.vme_dtb.proofs.OpenState.{doubled_is, replied_is, left_unanswered_is}
 use Rattle.vme_dtb.proofs.StepFacts.{old, new, answer_falls_is, answer_fall_is, falls_is, gathered, on_address}
 use Rattle.vme_dtb.proofs.StepFacts.{on_answers, on_strobes, rises_is, rule_from, same_cond, same_first, some_of}
 use Rattle.vme_dtb.proofs.StepFacts.{starts_is, strobe_fall_is, strobe_rise_is, strobe_rises_is, unaddressed_is}
-use Rattle.vme_dtb.proofs.StepFacts.{unready_is}
+use Rattle.vme_dtb.proofs.StepFacts.{answer_not_high_is}
 
 turned_round : (a x y : Bool) → (a && x && y) ≡ (a && y && x)
 turned_round true true true = refl
@@ -70,31 +71,35 @@ module _ (t : Trace) (span : Stretch) (reads : ReadsStrobes t span) (n : ℕ) (f
   form_1 l = ap (λ b. is_judged span (suc n) && has_line t.opening.slots l && b)
       (turned_round (is_answer_line l) (transfer_starts t span (suc n)) (not (near (high t l) (suc n))))
 
-  h1 : option_map (break_at (suc n) (time_at t (suc n))) (broken H1 true seen.unready) ≡ rule_break t span (suc n) H1
+  h1 : option_map (break_at (suc n) (time_at t (suc n))) (broken H1 true seen.answer_not_high)
+      ≡ rule_break t span (suc n) H1
   h1 =
-      rule_from t n span from before H1 true seen.unready
+      rule_from t n span from before H1 true seen.answer_not_high
       (on_answers t n span from before H1 (λ l. not (near (high t l) (suc n))) (transfer_starts t span (suc n)) form_1
-      ∙ same_cond _ _ _ _ (starts_is t n span from before) (same_first _ _ _ _ DTACK BERR (unready_is t n DTACK)
-      (unready_is t n BERR)))
+      ∙ same_cond _ _ _ _ (starts_is t n span from before) (same_first _ _ _ _ DTACK BERR (answer_not_high_is t n DTACK)
+      (answer_not_high_is t n BERR)))
 
-  abbrev unserved_at : ℕ → Bool
-  unserved_at i = nat_lt i (suc n) && not (is_answered t span i (suc n + 1))
+  abbrev left_unanswered_at : ℕ → Bool
+  left_unanswered_at i = nat_lt i (suc n) && not (is_answered t span i (suc n + 1))
 
-  unserved : in_transfer t span unserved_at (suc n) ≡ is_unserved m.pending seen
-  unserved = unserved_is t span reads n from before m.pending holds.transfer ∙ ap (λ b. is_unanswered m.pending
+  left_unanswered : in_transfer t span left_unanswered_at (suc n) ≡ is_left_unanswered m.pending seen
+  left_unanswered = left_unanswered_is t span reads n from before m.pending holds.transfer
+      ∙ ap (λ b. is_unanswered m.pending
       && not b) (answer_falls_is t n)
 
   form_2 : (l : ℕ) → breaks t span H2 (suc n) l ≡ (is_judged span (suc n) && has_line t.opening.slots l
-      && (is_strobe l && rises t l (suc n) && in_transfer t span unserved_at (suc n)))
+      && (is_strobe l && rises t l (suc n) && in_transfer t span left_unanswered_at (suc n)))
   unfolding breaks is_broken
   form_2 l = refl
 
-  h2 : option_map (break_at (suc n) (time_at t (suc n))) (broken H2 (is_unserved m.pending seen) seen.strobe_rise)
+  h2 : option_map (break_at (suc n) (time_at t (suc n)))
+      (broken H2 (is_left_unanswered m.pending seen) seen.strobe_rise)
       ≡ rule_break t span (suc n) H2
   h2 =
-      rule_from t n span from before H2 (is_unserved m.pending seen) seen.strobe_rise
-      (on_strobes t n span from before H2 (λ l. rises t l (suc n)) (in_transfer t span unserved_at (suc n)) form_2
-      ∙ same_cond _ _ _ _ unserved (strobe_rise_is t n))
+      rule_from t n span from before H2 (is_left_unanswered m.pending seen) seen.strobe_rise
+      (on_strobes t n span from before H2 (λ l. rises t l (suc n)) (in_transfer t span left_unanswered_at (suc n))
+      form_2
+      ∙ same_cond _ _ _ _ left_unanswered (strobe_rise_is t n))
 
   abbrev replied_at : ℕ → Bool
   replied_at i = nat_lt i (suc n) && is_answered t span i (suc n)
@@ -151,7 +156,7 @@ module _ (t : Trace) (span : Stretch) (reads : ReadsStrobes t span) (n : ℕ) (f
       ∙ same_cond _ _ _ _ doubled (answer_fall_is t n))
 
   abbrev held_at : ℕ → Bool
-  held_at l = rises t l (suc n) && not (freed_at t span l n || strobe_rises t (suc n))
+  held_at l = rises t l (suc n) && not (may_rise_at t span l n || strobe_rises t (suc n))
 
   plain_6 : (l : ℕ) → breaks t span H6 (suc n) l ≡ (is_judged span (suc n) && has_line t.opening.slots l
       && (is_answer_line l && rises t l (suc n) && none (strobe_rises t) (last_before t span (falls t l) (suc n))
@@ -169,34 +174,37 @@ module _ (t : Trace) (span : Stretch) (reads : ReadsStrobes t span) (n : ℕ) (f
       ∙ ap (λ b. is_answer_line l && b) (held_is t span l n from)
       ∙ always (is_answer_line l) (held_at l))
 
-  held : (l : ℕ) (was : Bool) → was ≡ freed_at t span l n → held_at l ≡ (rises_between (old t n) (new t n) l
-      && not (freed was seen))
-  held l was e = same_held (rises t l (suc n)) (freed_at t span l n) (strobe_rises t (suc n))
+  held : (l : ℕ) (was : Bool) → was ≡ may_rise_at t span l n → held_at l ≡ (rises_between (old t n) (new t n) l
+      && not (may_rise was seen))
+  held l was e = same_held (rises t l (suc n)) (may_rise_at t span l n) (strobe_rises t (suc n))
       (rises_between (old t n) (new t n) l) was (is_some seen.strobe_rise) (rises_is t n l) (sym e)
       (strobe_rises_is t n)
     where
       same_held : (a b c d e f : Bool) → a ≡ d → b ≡ e → c ≡ f → (a && not (b || c)) ≡ (d && not (e || f))
       same_held a b c d e f x y z = rw (x, y, z) refl
 
-  h6 : option_map (break_at (suc n) (time_at t (suc n))) (broken H6 true (dropped m seen)) ≡ rule_break t span (suc n)
+  h6 : option_map (break_at (suc n) (time_at t (suc n))) (broken H6 true (early_rise m seen))
+      ≡ rule_break t span (suc n)
       H6
   h6 =
-      rule_from t n span from before H6 true (dropped m seen)
+      rule_from t n span from before H6 true (early_rise m seen)
       (on_answers t n span from before H6 held_at true form_6 ∙ same_cond true true _ _ refl
-      (same_first _ _ _ _ DTACK BERR (held DTACK m.dtack_freed holds.dtack) (held BERR m.berr_freed holds.berr)))
+      (same_first _ _ _ _ DTACK BERR (held DTACK m.dtack_may_rise holds.dtack) (held BERR m.berr_may_rise holds.berr)))
 
   form_7 : (l : ℕ) → breaks t span H7 (suc n) l ≡ (is_judged span (suc n) && has_line t.opening.slots l
-      && ((l == AS) && rises t l (suc n) && in_transfer t span unserved_at (suc n)))
+      && ((l == AS) && rises t l (suc n) && in_transfer t span left_unanswered_at (suc n)))
   unfolding breaks is_broken
   form_7 l = refl
 
-  h7 : option_map (break_at (suc n) (time_at t (suc n))) (broken H7 (is_unserved m.pending seen && seen.shown.cycle_end)
+  h7 : option_map (break_at (suc n) (time_at t (suc n)))
+      (broken H7 (is_left_unanswered m.pending seen && seen.shown.cycle_end)
       (Some AS)) ≡ rule_break t span (suc n) H7
   h7 =
-      rule_from t n span from before H7 (is_unserved m.pending seen && seen.shown.cycle_end) (Some AS)
-      (on_address t n span from before H7 (λ l. rises t l (suc n)) (in_transfer t span unserved_at (suc n)) form_7
-      ∙ ap (λ b. cond b (Some AS) None) (swapped (rises t AS (suc n)) (in_transfer t span unserved_at (suc n))
-      (rises_between (old t n) (new t n) AS) (is_unserved m.pending seen) (rises_is t n AS) unserved))
+      rule_from t n span from before H7 (is_left_unanswered m.pending seen && seen.shown.cycle_end) (Some AS)
+      (on_address t n span from before H7 (λ l. rises t l (suc n)) (in_transfer t span left_unanswered_at (suc n))
+      form_7
+      ∙ ap (λ b. cond b (Some AS) None) (swapped (rises t AS (suc n)) (in_transfer t span left_unanswered_at (suc n))
+      (rises_between (old t n) (new t n) AS) (is_left_unanswered m.pending seen) (rises_is t n AS) left_unanswered))
     where
       swap : (a b : Bool) → (a && b) ≡ (b && a)
       swap true true = refl

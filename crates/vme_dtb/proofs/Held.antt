@@ -6,10 +6,10 @@ use Rattle.vme_trace.specs.Judged.{Stretch}
 use Rattle.vme_monitor.specs.Tracked.{SaysPending}
 use Rattle.vme_dtb.specs.declared.memory.HandshakeMemory.{HandshakeMemory}
 use Rattle.vme_dtb.proofs.CycleMemory.{cycle_after}
-use Rattle.vme_dtb.proofs.FreedAnswers.{freed_at}
+use Rattle.vme_dtb.proofs.AnswerRises.{may_rise_at}
 
 pub record Holds (t : Trace) (span : Stretch) (n : ℕ) (m : HandshakeMemory) : Type 0 where
   pub transfer : SaysPending t span n m.pending
   pub cycle : m.cycle ≡ cycle_after t span n
-  pub dtack : m.dtack_freed ≡ freed_at t span DTACK n
-  pub berr : m.berr_freed ≡ freed_at t span BERR n
+  pub dtack : m.dtack_may_rise ≡ may_rise_at t span DTACK n
+  pub berr : m.berr_may_rise ≡ may_rise_at t span BERR n

@@ -10,7 +10,7 @@ use Rattle.vme_trace.specs.Judged.{Stretch}
 use Rattle.vme_trace.specs.Transfers.{strobe_rises, is_answer, answers_write}
 use Rattle.vme_trace.proofs.Ranges.{any-fails}
 use Rattle.vme_monitor.specs.Along.{changes_of, memory_from}
-use Rattle.vme_monitor.specs.Run.{noticed}
+use Rattle.vme_monitor.specs.Run.{machine_step}
 use Rattle.vme_monitor.specs.Tracking.{entered, is_unanswered, is_writing}
 use Rattle.vme_monitor.specs.declared.mark.Next.{Next}
 use Rattle.vme_monitor.specs.declared.tracking.Pending.{Pending}
@@ -19,18 +19,18 @@ use Rattle.vme_monitor.proofs.Alongside.{memory_early}
 use Rattle.vme_monitor.proofs.TrackedTransfers.{says_start, tracked_is}
 use Rattle.vme_dtb.specs.CycleState.{after_answer, cycle_entered}
 use Rattle.vme_dtb.specs.Edge.{edges_between}
-use Rattle.vme_dtb.specs.Machine.{answer_in, dtb_begin, dtb_sight, dtb_step, freed, memory_after}
+use Rattle.vme_dtb.specs.Machine.{answer_in, dtb_begin, dtb_observation, dtb_step, may_rise, memory_after}
 use Rattle.vme_dtb.specs.declared.cycle.Cycle.{Cycle}
 use Rattle.vme_dtb.specs.declared.edges.Edges.{Edges}
 use Rattle.vme_dtb.specs.declared.memory.HandshakeMemory.{HandshakeMemory}
 use Rattle.vme_dtb.proofs.CycleBreaks.{here_is, write_is}
 use Rattle.vme_dtb.proofs.CycleMemory.{after_is, cycle_after, cycle_before, cycle_start}
-use Rattle.vme_dtb.proofs.FreedAnswers.{freed_at, freed_start, freed_suc}
+use Rattle.vme_dtb.proofs.AnswerRises.{may_rise_at, may_rise_start, may_rise_suc}
 use Rattle.vme_dtb.proofs.HandshakeBreaks.{answer_is}
 use Rattle.vme_dtb.proofs.Held.{Holds}
 use Rattle.vme_dtb.proofs.Searches.{lt_fails}
 use Rattle.vme_dtb.proofs.StepFacts.{old, new, strobe_rises_is}
-use Rattle.vme_dtb.proofs.StillSteps.{noticed_is}
+use Rattle.vme_dtb.proofs.StillSteps.{machine_step_is}
 
 true_of_not : (b : Bool) → not b ≡ false → b ≡ true
 true_of_not true h = refl
@@ -63,8 +63,8 @@ module _ (t : Trace) (span : Stretch) (facts : IsSpan t span) where
       record {
         transfer = says_start t span facts.reads;
         cycle = sym (cycle_start t span);
-        dtack = freed_start t span DTACK span.start (idle_line (levels_at t span.start) 3 (lit< tt) facts.idle);
-        berr = freed_start t span BERR span.start (idle_line (levels_at t span.start) 4 (lit< tt) facts.idle);
+        dtack = may_rise_start t span DTACK span.start (idle_line (levels_at t span.start) 3 (lit< tt) facts.idle);
+        berr = may_rise_start t span BERR span.start (idle_line (levels_at t span.start) 4 (lit< tt) facts.idle);
       }
 
   module _ (n : ℕ) (from : span.start ≤ n) (before : suc n < span.end) (m : HandshakeMemory) (holds : Holds t span n m)
@@ -94,34 +94,36 @@ module _ (t : Trace) (span : Stretch) (facts : IsSpan t span) where
               ≡ cond b (after_answer d x) d
           same_counted a b c d w x e f g = rw (e, f, g) refl
 
-      freed_next : (l : ℕ) (was : Bool) → was ≡ freed_at t span l n → is_known (level_at (old t n) l) ≡ true
-          → (is_low (level_at (new t n) l) && freed was seen) ≡ freed_at t span l (suc n)
+      may_rise_next : (l : ℕ) (was : Bool) → was ≡ may_rise_at t span l n → is_known (level_at (old t n) l) ≡ true
+          → (is_low (level_at (new t n) l) && may_rise was seen) ≡ may_rise_at t span l (suc n)
       unfolding low
-      freed_next l was e readable =
-          same_freed (is_low (level_at (new t n) l)) was (freed_at t span l n) (is_some seen.strobe_rise)
+      may_rise_next l was e readable =
+          same_may_rise (is_low (level_at (new t n) l)) was (may_rise_at t span l n) (is_some seen.strobe_rise)
           (strobe_rises t (suc n)) e (sym (strobe_rises_is t n))
-          ∙ sym (freed_suc t span l n from readable)
+          ∙ sym (may_rise_suc t span l n from readable)
         where
-          same_freed : (a b c d f : Bool) → b ≡ c → d ≡ f → (a && (b || d)) ≡ (a && (c || f))
-          same_freed a b c d f x y = rw (x, y) refl
+          same_may_rise : (a b c d f : Bool) → b ≡ c → d ≡ f → (a && (b || d)) ≡ (a && (c || f))
+          same_may_rise a b c d f x y = rw (x, y) refl
 
       pub holds_next : Holds t span (suc n) (memory_after m (old t n) (new t n) (edges_between (old t n) (new t n)))
       holds_next =
           record {
             transfer = tracked_is t span facts.reads n from before m.pending holds.transfer;
             cycle = cycle_next;
-            dtack = freed_next DTACK m.dtack_freed holds.dtack (facts.known n 3 from (omega (arith, before)) (lit< tt)
+            dtack = may_rise_next DTACK m.dtack_may_rise holds.dtack
+                (facts.known n 3 from (omega (arith, before)) (lit< tt)
                 refl);
-            berr = freed_next BERR m.berr_freed holds.berr (facts.known n 4 from (omega (arith, before)) (lit< tt)
+            berr = may_rise_next BERR m.berr_may_rise holds.berr (facts.known n 4 from (omega (arith, before)) (lit< tt)
                 refl);
           }
 
   abbrev pub memory_at : ℕ → HandshakeMemory
-  memory_at k = memory_from (noticed dtb_sight dtb_step) t (dtb_begin (levels_at t span.start)) span.start k
+  memory_at k = memory_from (machine_step dtb_observation dtb_step) t (dtb_begin (levels_at t span.start)) span.start k
 
   held_start : Holds t span span.start (memory_at span.start)
   held_start = subst (Holds t span span.start)
-      (sym (memory_early (noticed dtb_sight dtb_step) t (dtb_begin (levels_at t span.start)) span.start span.start
+      (sym (memory_early (machine_step dtb_observation dtb_step) t (dtb_begin (levels_at t span.start)) span.start
+      span.start
       (omega arith))) holds_start
 
   pub holds_at : (k : ℕ) → span.start ≤ k → k < span.end → Holds t span k (memory_at k)
@@ -134,6 +136,6 @@ module _ (t : Trace) (span : Stretch) (facts : IsSpan t span) where
             let so_far = holds_at n earlier (omega arith) in
             rw (lt_fails n span.start earlier)
             (subst (Holds t span (suc n)) (ap (λ (x : Next HandshakeMemory). x.memory)
-            (sym (noticed_is t span n (memory_at n) so_far (changes_of (slice_get t.steps n)))))
+            (sym (machine_step_is t span n (memory_at n) so_far (changes_of (slice_get t.steps n)))))
             (holds_next n earlier before (memory_at n) so_far))
       ]

@@ -20,8 +20,8 @@ use Rattle.vme_trace.specs.declared.verdict.Break.{Break}
 use Rattle.vme_trace.proofs.OpenTransfers.{suc-sub-one}
 use Rattle.vme_trace.proofs.Ranges.{fails-any}
 use Rattle.vme_monitor.specs.Along.{changes_of, next_at}
-use Rattle.vme_monitor.specs.Run.{break_at, noticed, nothing, run_of}
-use Rattle.vme_monitor.specs.OverStretches.{noted, spanned, start_in}
+use Rattle.vme_monitor.specs.Run.{break_at, machine_step, nothing, run_of}
+use Rattle.vme_monitor.specs.OverStretches.{observed, phase_step, start_in}
 use Rattle.vme_monitor.specs.Tracked.{SaysPending}
 use Rattle.vme_monitor.specs.Tracking.{entered, is_unanswered, is_within, is_writing}
 use Rattle.vme_monitor.specs.Whole.{FindsLeast, ShowsAll}
@@ -34,9 +34,9 @@ use Rattle.vme_monitor.specs.declared.tracking.Pending.TheVariants.{Closed, Read
 use Rattle.vme_monitor.proofs.LeastLines.{least_answer}
 use Rattle.vme_monitor.proofs.OwnRules.{own_event, own_marks}
 use Rattle.vme_monitor.proofs.SpanFacts.{IsSpan}
-use Rattle.vme_dtb.specs.Edge.{asked_of, edges_between}
+use Rattle.vme_dtb.specs.Edge.{cycle_start_of, edges_between}
 use Rattle.vme_dtb.specs.Machine.{answer_in, answered_in, cycle_faults, cycle_rules, dtb_begin, dtb_ends, dtb_next}
-use Rattle.vme_dtb.specs.Machine.{dtb_opens, dtb_sight, dtb_step, fault_in, handshake_rules, strobe_faults}
+use Rattle.vme_dtb.specs.Machine.{dtb_opens, dtb_observation, dtb_step, fault_in, handshake_rules, strobe_faults}
 use Rattle.vme_dtb.specs.Machine.{strobe_rules}
 use Rattle.vme_dtb.specs.declared.cycle.Cycle.{Cycle}
 use Rattle.vme_dtb.specs.CycleState.{cycle_entered}
@@ -51,7 +51,7 @@ use Rattle.vme_dtb.proofs.Holding.{holds_at, memory_at}
 use Rattle.vme_dtb.proofs.OpenState.{started_is}
 use Rattle.vme_dtb.proofs.Searches.{lt_fails}
 use Rattle.vme_dtb.proofs.StepFacts.{old, new, answer_fall_is, judged, rises_is, starts_is}
-use Rattle.vme_dtb.proofs.StillSteps.{noticed_is}
+use Rattle.vme_dtb.proofs.StillSteps.{machine_step_is}
 
 answered_line : (u : Bool) (o : Option ℕ) → cond (u && is_some o) o None ≡ cond u o None
 answered_line true None = refl
@@ -90,10 +90,11 @@ module _ (t : Trace) (span : Stretch) (facts : IsSpan t span) (n : ℕ) (from : 
       (strobe_faults m within seen) (cycle_faults here (is_writing within) (answer_in within seen))
       (strobes-broken t span facts.reads n from before m holds) (cycles-broken t span facts.reads n from before m holds)
 
-  pub dtb_inside : option_map (break_at (suc n) (time_at t (suc n))) (next_at (noticed dtb_sight dtb_step) t m n).fault
+  pub dtb_inside : option_map (break_at (suc n) (time_at t (suc n)))
+      (next_at (machine_step dtb_observation dtb_step) t m n).fault
       ≡ rules_break_at t span handshake_rules (suc n)
   dtb_inside = ap (λ (x : Next HandshakeMemory). option_map (break_at (suc n) (time_at t (suc n))) x.fault)
-      (noticed_is t span n m holds (changes_of (slice_get t.steps n))) ∙ breaks_are
+      (machine_step_is t span n m holds (changes_of (slice_get t.steps n))) ∙ breaks_are
 
   least_fall : least (λ l. is_answer_line l && falls t l (suc n)) 0 line_count ≡ seen.answer_fall
   least_fall = least_answer (λ l. is_answer_line l && falls t l (suc n)) (λ l h. rw h refl) ∙ answer_fall_is t n
@@ -149,9 +150,9 @@ module _ (t : Trace) (span : Stretch) (facts : IsSpan t span) (n : ℕ) (from : 
   unfolding is_write low
   transfer_is = ap (λ b. cond b (Some (is_low (level_at (new t n) WRITE))) None) (starts_is t n span from before)
 
-  cycle_is : cond (cycle_starts t span (suc n)) (Some (asked_of (new t n))) None
-      ≡ cond (falls_between (old t n) (new t n) AS) (Some (asked_of (new t n))) None
-  cycle_is = ap (λ b. cond b (Some (asked_of (new t n))) None) (cycle_starts_is t span facts.reads n from before m
+  cycle_is : cond (cycle_starts t span (suc n)) (Some (cycle_start_of (new t n))) None
+      ≡ cond (falls_between (old t n) (new t n) AS) (Some (cycle_start_of (new t n))) None
+  cycle_is = ap (λ b. cond b (Some (cycle_start_of (new t n))) None) (cycle_starts_is t span facts.reads n from before m
       holds)
 
   same_kinds : (a b : Option CycleStart) (c d : Bool) (e f : Option Bool) (g h : Option Answer) (i j : Bool) → a ≡ b → c
@@ -160,13 +161,13 @@ module _ (t : Trace) (span : Stretch) (facts : IsSpan t span) (n : ℕ) (from : 
       ≡ record nothing { cycle = b; cycle_end = d; transfer = f; answer = h; close = j }
   same_kinds a b c d e f g h i j x y z u v = rw (x, y, z, u, v) refl
 
-  kinds_are : (dtb_next m (old t n) (new t n) seen).kinds ≡ handshake_shown t span (suc n)
+  kinds_are : (dtb_next m (old t n) (new t n) seen).shown ≡ handshake_shown t span (suc n)
   kinds_are = same_kinds _ _ _ _ _ _ _ _ _ _ (sym cycle_is) (sym cycle_end_is) (sym transfer_is) (sym answered_is)
       (sym closes_is)
 
-  pub dtb_kinds : (next_at (noticed dtb_sight dtb_step) t m n).kinds ≡ handshake_shown t span (suc n)
-  dtb_kinds = ap (λ (x : Next HandshakeMemory). x.kinds)
-      (noticed_is t span n m holds (changes_of (slice_get t.steps n))) ∙ kinds_are
+  pub dtb_kinds : (next_at (machine_step dtb_observation dtb_step) t m n).shown ≡ handshake_shown t span (suc n)
+  dtb_kinds = ap (λ (x : Next HandshakeMemory). x.shown)
+      (machine_step_is t span n m holds (changes_of (slice_get t.steps n))) ∙ kinds_are
 
 module _ (t : Trace) (span : Stretch) where
   unjudged : is_judged span span.start ≡ false
@@ -191,17 +192,19 @@ module _ (t : Trace) (span : Stretch) where
   ) refl
 
 pub dtb_event : FindsLeast
-    (run_of (noticed (noted dtb_sight) (spanned dtb_begin dtb_opens nothing (λ l. None) dtb_step))) (start_in dtb_begin)
+    (run_of (machine_step (observed dtb_observation) (phase_step dtb_begin dtb_opens nothing (λ l. None) dtb_step)))
+    (start_in dtb_begin)
     handshake_rules
 dtb_event =
-    own_event dtb_begin dtb_opens dtb_sight dtb_step handshake_rules refl
+    own_event dtb_begin dtb_opens dtb_observation dtb_step handshake_rules refl
     (λ t span ok few facts n from before within unbroken. dtb_inside t span facts n from before
     (memory_at t span facts n) (holds_at t span facts n from (omega (arith, before))))
 
-pub dtb_marks : ShowsAll (run_of (noticed (noted dtb_sight) (spanned dtb_begin dtb_opens nothing dtb_ends dtb_step)))
+pub dtb_marks : ShowsAll
+    (run_of (machine_step (observed dtb_observation) (phase_step dtb_begin dtb_opens nothing dtb_ends dtb_step)))
     (start_in dtb_begin) nothing handshake_shown
 dtb_marks =
-    own_marks dtb_begin dtb_opens dtb_sight dtb_step dtb_ends handshake_shown
+    own_marks dtb_begin dtb_opens dtb_observation dtb_step dtb_ends handshake_shown
     (λ t span ok few facts. record {
       at_start = shown_start t span;
       inside = λ n from before within. dtb_kinds t span facts n from before (memory_at t span facts n)

@@ -1,7 +1,7 @@
 pub mod Addresses
 pub mod Searches
 pub mod CycleMemory
-pub mod FreedAnswers
+pub mod AnswerRises
 pub mod StepFacts
 pub mod OpenState
 pub mod Held

@@ -98,15 +98,18 @@ module _ (t : Trace) (span : Stretch) (reads : ReadsStrobes t span) (n : ℕ) (f
   not_yet b = rw (lt_fails (suc n) (suc n) (omega arith)) refl
 
   -- a transfer that started before stays without an answer
-  pub unserved_is : (m : Pending) → SaysPending t span n m → in_transfer t span (λ i. nat_lt i (suc n)
+  pub left_unanswered_is : (m : Pending) → SaysPending t span n m → in_transfer t span (λ i. nat_lt i (suc n)
       && not (is_answered t span i (suc n + 1))) (suc n) ≡ (is_unanswered m && not (answer_falls t (suc n)))
-  unserved_is Closed high_before = closed_is (λ i. nat_lt i (suc n) && not (is_answered t span i (suc n + 1)))
+  left_unanswered_is Closed high_before = closed_is (λ i. nat_lt i (suc n) && not (is_answered t span i (suc n + 1)))
       high_before (not_yet (not (is_answered t span (suc n) (suc n + 1))))
-  unserved_is Reading o = open_is (λ i. nat_lt i (suc n) && not (is_answered t span i (suc n + 1))) o.0 false false o.1
+  left_unanswered_is Reading o =
+      open_is (λ i. nat_lt i (suc n) && not (is_answered t span i (suc n + 1))) o.0 false false o.1
       ∙ rw (lt_holds o.0 (suc n) (omega (arith, o.1.within)), open_answered o.0 false false o.1) refl
-  unserved_is Writing o = open_is (λ i. nat_lt i (suc n) && not (is_answered t span i (suc n + 1))) o.0 true false o.1
+  left_unanswered_is Writing o =
+      open_is (λ i. nat_lt i (suc n) && not (is_answered t span i (suc n + 1))) o.0 true false o.1
       ∙ rw (lt_holds o.0 (suc n) (omega (arith, o.1.within)), open_answered o.0 true false o.1) refl
-  unserved_is Answered o = open_is (λ i. nat_lt i (suc n) && not (is_answered t span i (suc n + 1))) o.0 o.1 true o.2
+  left_unanswered_is Answered o =
+      open_is (λ i. nat_lt i (suc n) && not (is_answered t span i (suc n + 1))) o.0 o.1 true o.2
       ∙ rw (lt_holds o.0 (suc n) (omega (arith, o.2.within)), open_answered o.0 o.1 true o.2) refl
 
   -- a transfer that started before has its answer

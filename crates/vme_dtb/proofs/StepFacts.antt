@@ -18,7 +18,7 @@ use Rattle.vme_trace.proofs.Ranges.{any-empty, fails-any, least-is, least-none}
 use Rattle.vme_trace.proofs.OpenTransfers.{is_judged-holds, suc-sub-one}
 use Rattle.vme_monitor.specs.Run.{break_at}
 use Rattle.vme_monitor.proofs.LeastLines.{least_answer, least_strobe}
-use Rattle.vme_dtb.specs.Edge.{first_of, is_unready}
+use Rattle.vme_dtb.specs.Edge.{first_of, is_answer_not_high}
 use Rattle.vme_dtb.specs.Machine.{broken}
 
 applied : (j h a e c : Bool) → j ≡ true → h ≡ true → a ≡ true → (j && h && (a && e && c)) ≡ (e && c)
@@ -93,9 +93,9 @@ module _ (t : Trace) (n : ℕ) where
   unfolding rises high low
   rises_is l = rw (suc-sub-one n) refl
 
-  pub unready_is : (l : ℕ) → not (near (high t l) (suc n)) ≡ is_unready old new l
+  pub answer_not_high_is : (l : ℕ) → not (near (high t l) (suc n)) ≡ is_answer_not_high old new l
   unfolding high
-  unready_is l = rw (suc-sub-one n) refl
+  answer_not_high_is l = rw (suc-sub-one n) refl
 
   pub unaddressed_is : not (near (low t AS) (suc n)) ≡ not (is_low (level_at old AS) || is_low (level_at new AS))
   unfolding low

@@ -14,7 +14,7 @@ use Rattle.vme_trace.specs.declared.level.Level.{Level}
 use Rattle.vme_trace.specs.declared.level.Level.TheVariants.{Low, High, Unknown}
 use Rattle.vme_trace.specs.declared.rule.Rule.TheVariants.{H2, H3, H4, H5, H7, H8}
 use Rattle.vme_trace.specs.declared.step.Change.{Change}
-use Rattle.vme_monitor.specs.Run.{noticed, nothing, quiet}
+use Rattle.vme_monitor.specs.Run.{machine_step, nothing, quiet}
 use Rattle.vme_monitor.specs.Tracked.{SaysPending}
 use Rattle.vme_monitor.specs.Tracking.{answered_by, entered, is_unanswered, is_within, is_writing, tracked}
 use Rattle.vme_monitor.specs.declared.mark.TransferAnswer.{TransferAnswer as Answer}
@@ -23,9 +23,11 @@ use Rattle.vme_monitor.specs.declared.mark.Fault.{Fault}
 use Rattle.vme_monitor.specs.declared.tracking.Pending.{Pending}
 use Rattle.vme_monitor.specs.declared.tracking.Pending.TheVariants.{Closed, Reading, Writing, Answered}
 use Rattle.vme_dtb.specs.CycleState.{after_answer}
-use Rattle.vme_dtb.specs.Edge.{asked_of, edges_between, first_of, is_still, is_unready}
-use Rattle.vme_dtb.specs.Machine.{answer_in, answered_in, broken, cycle_fault, data_in, dtb_next, dtb_sight, dtb_step}
-use Rattle.vme_dtb.specs.Machine.{handshake_fault, is_doubled, is_replied, is_unserved, memory_after, strobe_faults}
+use Rattle.vme_dtb.specs.Edge.{cycle_start_of, edges_between, first_of, is_still, is_answer_not_high}
+use Rattle.vme_dtb.specs.Machine.{answer_in, answered_in, broken, cycle_fault, data_in, dtb_next, dtb_observation}
+use Rattle.vme_dtb.specs.Machine.{dtb_step}
+use Rattle.vme_dtb.specs.Machine.{handshake_fault, is_doubled, is_replied, is_left_unanswered, memory_after}
+use Rattle.vme_dtb.specs.Machine.{strobe_faults}
 use Rattle.vme_dtb.specs.declared.cycle.Cycle.{Cycle}
 use Rattle.vme_dtb.specs.declared.edges.Edges.{Edges}
 use Rattle.vme_dtb.specs.declared.memory.HandshakeMemory.{HandshakeMemory}
@@ -89,16 +91,16 @@ neither a b e f = rw (e, f) refl
 abbrev pub built : (as_falls as_rises starts closes rise0 rise1 fall0 fall1 dtack_falls berr_falls dtack_rises
     berr_rises unaddressed : Bool) → CycleStart → Bool → Option ℕ → Edges
 built as_falls as_rises starts closes rise0 rise1 fall0 fall1 dtack_falls berr_falls dtack_rises berr_rises unaddressed
-    asked write unready =
+    cycle_start write answer_not_high =
     record {
       shown = record nothing {
-        cycle = cond as_falls (Some asked) None;
+        cycle = cond as_falls (Some cycle_start) None;
         cycle_end = as_rises;
         transfer = cond starts
             (Some write) None;
         close = closes;
       };
-      unready = cond starts unready None;
+      answer_not_high = cond starts answer_not_high None;
       strobe_rise = first_of rise0 DS0 rise1 DS1;
       strobe_fall = first_of fall0 DS0 fall1 DS1;
       answer_fall = first_of dtack_falls DTACK berr_falls BERR;
@@ -112,7 +114,7 @@ built as_falls as_rises starts closes rise0 rise1 fall0 fall1 dtack_falls berr_f
 abbrev silent : Bool → Edges
 silent u = record {
   shown = nothing;
-  unready = None;
+  answer_not_high = None;
   strobe_rise = None;
   strobe_fall = None;
   answer_fall = None;
@@ -182,8 +184,8 @@ module _ (v w : Levels) (still : is_still v w ≡ true) where
       same_silent (falls_between v w AS) (rises_between v w AS) (starts_between v w) (strobes_high_in w
       && not (strobes_high_in v)) (rises_between v w DS0) (rises_between v w DS1) (falls_between v w DS0)
       (falls_between v w DS1) (falls_between v w DTACK)
-      (falls_between v w BERR) (rises_between v w DTACK) (rises_between v w BERR) unaddressed_in (asked_of w)
-      (is_low (level_at w WRITE)) (first_of (is_unready v w DTACK) DTACK (is_unready v w BERR) BERR)
+      (falls_between v w BERR) (rises_between v w DTACK) (rises_between v w BERR) unaddressed_in (cycle_start_of w)
+      (is_low (level_at w WRITE)) (first_of (is_answer_not_high v w DTACK) DTACK (is_answer_not_high v w BERR) BERR)
       (no_fall AS each.0) (no_rise AS each.0) no_start no_close
       (no_rise DS0 each.1) (no_rise DS1 each.2) (no_fall DS0 each.1) (no_fall DS1 each.2) (no_fall DTACK each.3)
       (no_fall BERR each.4) (no_rise DTACK each.3) (no_rise BERR each.4)
@@ -210,9 +212,9 @@ module _ (t : Trace) (span : Stretch) (n : ℕ) (m : HandshakeMemory) (holds : H
   pending_kept Writing o = rw (o.1.still n o.1.within (omega arith)) refl
   pending_kept Answered o = rw (o.2.still n o.2.within (omega arith)) refl
 
-  freed_kept : (after before rest was : Bool) → after ≡ before → was ≡ (before && rest) → (after && (was || false))
+  may_rise_kept : (after before rest was : Bool) → after ≡ before → was ≡ (before && rest) → (after && (was || false))
       ≡ was
-  freed_kept after before rest was e f = rw (e, f) (by_level before rest)
+  may_rise_kept after before rest was e f = rw (e, f) (by_level before rest)
     where
       by_level : (a b : Bool) → (a && ((a && b) || false)) ≡ (a && b)
       by_level true true = refl
@@ -220,11 +222,11 @@ module _ (t : Trace) (span : Stretch) (n : ℕ) (m : HandshakeMemory) (holds : H
       by_level false b = refl
 
   same_next : (k : HandshakeMemory) (f : Option Fault) (a : Option Answer) → k ≡ m → f ≡ None → a ≡ None
-      → record { memory = k; fault = f; kinds = record nothing { answer = a } } ≡ quiet m
+      → record { memory = k; fault = f; shown = record nothing { answer = a } } ≡ quiet m
   same_next k f a x y z = rw (x, y, z) refl
 
-  same_memory : (p : Pending) (c : Cycle) (a b : Bool) → p ≡ m.pending → c ≡ m.cycle → a ≡ m.dtack_freed → b
-      ≡ m.berr_freed → record { pending = p; cycle = c; dtack_freed = a; berr_freed = b } ≡ m
+  same_memory : (p : Pending) (c : Cycle) (a b : Bool) → p ≡ m.pending → c ≡ m.cycle → a ≡ m.dtack_may_rise → b
+      ≡ m.berr_may_rise → record { pending = p; cycle = c; dtack_may_rise = a; berr_may_rise = b } ≡ m
   same_memory p c a b x y z u = rw (x, y, z, u) refl
 
   abbrev told : Pending → ℕ → Answer
@@ -247,18 +249,19 @@ module _ (t : Trace) (span : Stretch) (n : ℕ) (m : HandshakeMemory) (holds : H
       ∙ same_next (memory_after m v w (silent u)) (option_or (handshake_fault m e (silent u))
       (cycle_fault m.cycle (is_writing e) (answer_in e (silent u)))) (answered_in e v w (silent u))
       (same_memory (tracked m.pending v w) (cond (is_some (answer_in e (silent u)))
-      (after_answer m.cycle (is_writing e)) m.cycle) (is_low (level_at w DTACK) && (m.dtack_freed || false))
-      (is_low (level_at w BERR) && (m.berr_freed || false))
+      (after_answer m.cycle (is_writing e)) m.cycle) (is_low (level_at w DTACK) && (m.dtack_may_rise || false))
+      (is_low (level_at w BERR) && (m.berr_may_rise || false))
       (tracked_still v w still m.pending ∙ pending_kept m.pending holds.transfer)
       (ap (λ o. cond (is_some o) (after_answer m.cycle (is_writing e)) m.cycle) none)
-      (freed_kept (is_low (level_at w DTACK)) (is_low (level_at v DTACK)) _ m.dtack_freed (ap is_low kept.3)
-      holds.dtack) (freed_kept (is_low (level_at w BERR)) (is_low (level_at v BERR)) _ m.berr_freed (ap is_low kept.4)
+      (may_rise_kept (is_low (level_at w DTACK)) (is_low (level_at v DTACK)) _ m.dtack_may_rise (ap is_low kept.3)
+      holds.dtack) (may_rise_kept (is_low (level_at w BERR)) (is_low (level_at v BERR)) _ m.berr_may_rise
+      (ap is_low kept.4)
       holds.berr))
       (neither (handshake_fault m e (silent u)) (cycle_fault m.cycle (is_writing e) (answer_in e (silent u)))
       (none-first (strobe_faults m e (silent u)) (
         refl,
         (
-          unnamed H2 (is_unserved m.pending (silent u)),
+          unnamed H2 (is_left_unanswered m.pending (silent u)),
           (
             unnamed H3 (is_replied m.pending),
             (
@@ -268,7 +271,7 @@ module _ (t : Trace) (span : Stretch) (n : ℕ) (m : HandshakeMemory) (holds : H
                 (
                   refl,
                   (
-                    not_applied H7 _ (Some AS) (and_false (is_unserved m.pending (silent u))),
+                    not_applied H7 _ (Some AS) (and_false (is_left_unanswered m.pending (silent u))),
                     (ap (broken H8 u) none ∙ unnamed H8 u, tt),
                   ),
                 ),
@@ -280,10 +283,11 @@ module _ (t : Trace) (span : Stretch) (n : ℕ) (m : HandshakeMemory) (holds : H
       (ap (cycle_fault m.cycle (is_writing e)) none ∙ sym (unanswered m.cycle (is_writing e))))
       no_mark
 
-  -- so a step that isn't noticed is done all the same
-  pub noticed_is : (cs : List Change) → noticed dtb_sight dtb_step m (old t n) (new t n) cs ≡ dtb_next m (old t n)
+  -- so a step in which nothing is observed is done all the same
+  pub machine_step_is : (cs : List Change) → machine_step dtb_observation dtb_step m (old t n) (new t n) cs
+      ≡ dtb_next m (old t n)
       (new t n) (edges_between (old t n) (new t n))
-  noticed_is cs = by_still (is_still (old t n) (new t n)) refl
+  machine_step_is cs = by_still (is_still (old t n) (new t n)) refl
     where
       by_still : (b : Bool) → is_still (old t n) (new t n) ≡ b
           → option_map_or (dtb_step m (old t n) (new t n)) (cond b None (Some (record {}))) (quiet m)

@@ -7,7 +7,8 @@ use Rattle.vme_trace.specs.declared.level.Level.{Level}
 use Rattle.vme_trace.specs.declared.level.Level.TheVariants.{Low, High, Unknown}
 use Rattle.vme_monitor.specs.Run.{nothing}
 use Rattle.vme_monitor.specs.declared.mark.CycleStart.{CycleStart}
-use Rattle.vme_dtb.specs.Edge.{asked_of, edges_between, closes_between, first_of, is_addressed, is_unready, stays_on}
+use Rattle.vme_dtb.specs.Edge.{cycle_start_of, edges_between, closes_between, first_of, is_addressed}
+use Rattle.vme_dtb.specs.Edge.{is_answer_not_high, stays_on}
 use Rattle.vme_dtb.specs.UsualSteps.{is_answer_alone, is_start_alone, is_strobes_alone}
 use Rattle.vme_dtb.specs.declared.edges.Edges.{Edges}
 use Rattle.vme_dtb.proofs.StillSteps.{all_five, and_not, built, never_falls, never_rises, never_starts, same_is}
@@ -16,7 +17,7 @@ use Rattle.vme_dtb.proofs.StillSteps.{all_five, and_not, built, never_falls, nev
 abbrev no_edges : Edges
 no_edges = record {
   shown = nothing;
-  unready = None;
+  answer_not_high = None;
   strobe_rise = None;
   strobe_fall = None;
   answer_fall = None;
@@ -28,7 +29,7 @@ no_edges = record {
 
 -- AS* alone falls
 abbrev pub start_edges : CycleStart → Edges
-start_edges asked = record no_edges { shown = record nothing { cycle = Some asked } }
+start_edges cycle_start = record no_edges { shown = record nothing { cycle = Some cycle_start } }
 
 -- DTACK* alone falls while AS* is low
 abbrev pub answer_edges : Edges
@@ -77,7 +78,7 @@ all_four true false c d h = absurd (cc)
 all_four true true false d h = absurd (cc)
 all_four true true true false h = absurd (cc)
 
--- where a transfer starts both answer lines are high, so neither is unready
+-- where a transfer starts both answer lines are high, so neither is named
 readied : (s x y b c : Bool) (k l : ℕ) → (not s || (x && y)) ≡ true
     → cond s (first_of (not (x || b)) k (not (y || c)) l) None ≡ None
 readied false x y b c k l h = refl
@@ -174,14 +175,15 @@ module _ (v w : Levels) where
       (same_is (level_at v DS1) (level_at w DS1) k)
       ∙ and_not (strobes_high_in v)
 
-  abbrev unready_in : Option ℕ
-  unready_in = first_of (is_unready v w DTACK) DTACK (is_unready v w BERR) BERR
+  abbrev answer_not_high_in : Option ℕ
+  answer_not_high_in = first_of (is_answer_not_high v w DTACK) DTACK (is_answer_not_high v w BERR) BERR
 
   pub answer_is : is_answer_alone v w ≡ true → falls_between v w DTACK ≡ true → is_addressed v w ≡ true → answer_edges
       ≡ edges_between v w
   answer_is alone falls addressed =
       let all = all_four (stays_on v w AS) (stays_on v w DS0) (stays_on v w DS1) (stays_on v w BERR) alone in
-      answer_built _ _ _ _ _ _ _ _ _ _ _ _ _ (asked_of w) (is_low (level_at w WRITE)) unready_in (no_fall AS all.0)
+      answer_built _ _ _ _ _ _ _ _ _ _ _ _ _ (cycle_start_of w) (is_low (level_at w WRITE)) answer_not_high_in
+      (no_fall AS all.0)
       (no_rise AS all.0) (no_start all.1 all.2) (no_close all.1 all.2) (no_rise DS0 all.1) (no_rise DS1 all.2)
       (no_fall DS0 all.1) (no_fall DS1 all.2) falls
       (no_fall BERR all.3) (falls_alone (level_at v DTACK) (level_at w DTACK) falls).0 (no_rise BERR all.3)
@@ -191,17 +193,19 @@ module _ (v w : Levels) where
       ≡ edges_between v w
   ready_is alone rises =
       let all = all_four (stays_on v w AS) (stays_on v w DS0) (stays_on v w DS1) (stays_on v w BERR) alone in
-      ready_built _ _ _ _ _ _ _ _ _ _ _ _ (not (is_addressed v w)) (asked_of w) (is_low (level_at w WRITE)) unready_in
+      ready_built _ _ _ _ _ _ _ _ _ _ _ _ (not (is_addressed v w)) (cycle_start_of w)
+      (is_low (level_at w WRITE)) answer_not_high_in
       (no_fall AS all.0) (no_rise AS all.0) (no_start all.1 all.2) (no_close all.1 all.2) (no_rise DS0 all.1)
       (no_rise DS1 all.2) (no_fall DS0 all.1) (no_fall DS1 all.2)
       (rises_alone (level_at v DTACK) (level_at w DTACK) rises) (no_fall BERR all.3) rises (no_rise BERR all.3)
 
-  pub start_is : is_start_alone v w ≡ true → start_edges (asked_of w) ≡ edges_between v w
+  pub start_is : is_start_alone v w ≡ true → start_edges (cycle_start_of w) ≡ edges_between v w
   start_is alone =
       let all = all_five (falls_between v w AS) (stays_on v w DS0) (stays_on v w DS1) (stays_on v w DTACK)
       (stays_on v w BERR) alone in
       let fall = falls_alone (level_at v AS) (level_at w AS) all.0 in
-      start_built _ _ _ _ _ _ _ _ _ _ _ _ _ (asked_of w) (is_low (level_at w WRITE)) unready_in all.0 fall.0
+      start_built _ _ _ _ _ _ _ _ _ _ _ _ _ (cycle_start_of w) (is_low (level_at w WRITE)) answer_not_high_in all.0
+      fall.0
       (no_start all.1 all.2) (no_close all.1 all.2) (no_rise DS0 all.1) (no_rise DS1 all.2) (no_fall DS0 all.1)
       (no_fall DS1 all.2) (no_fall DTACK all.3) (no_fall BERR all.4)
       (no_rise DTACK all.3) (no_rise BERR all.4) fall.1
@@ -218,8 +222,8 @@ module _ (v w : Levels) where
       (not (starts_between v w) || (is_high (level_at v DTACK) && is_high (level_at v BERR))) alone in
       let low = from_low (level_at v AS) (level_at w AS) all.0 in
       strobes_built _ (rises_between v w AS) (starts_between v w) (closes_between v w) (rises_between v w DS0)
-      (rises_between v w DS1) (falls_between v w DS0) (falls_between v w DS1) _ _ _ _ _ (asked_of w)
-      (is_low (level_at w WRITE)) unready_in low.0
+      (rises_between v w DS1) (falls_between v w DS0) (falls_between v w DS1) _ _ _ _ _ (cycle_start_of w)
+      (is_low (level_at w WRITE)) answer_not_high_in low.0
       (readied (starts_between v w) (is_high (level_at v DTACK)) (is_high (level_at v BERR))
       (is_high (level_at w DTACK)) (is_high (level_at w BERR)) DTACK BERR all.3) (no_fall DTACK all.1)
       (no_fall BERR all.2) (no_rise DTACK all.1) (no_rise BERR all.2) low.1

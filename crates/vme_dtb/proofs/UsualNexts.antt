@@ -20,9 +20,9 @@ use Rattle.vme_monitor.specs.declared.tracking.Pending.{Pending}
 use Rattle.vme_monitor.specs.declared.tracking.Pending.TheVariants.{Closed, Reading, Writing, Answered}
 use Rattle.vme_dtb.specs.CycleState.{after_answer, unanswered_of}
 use Rattle.vme_dtb.specs.Machine.{broken, cycle_fault, data_in, dtb_next, handshake_fault, is_doubled, is_replied}
-use Rattle.vme_dtb.specs.Machine.{is_unserved, strobe_faults}
-use Rattle.vme_dtb.specs.Edge.{asked_of, closes_between, edges_between, first_of, is_addressed, stays_on}
-use Rattle.vme_dtb.specs.UsualSteps.{is_answer_alone, is_hasty, is_start_alone, is_strobes_alone, memory_left}
+use Rattle.vme_dtb.specs.Machine.{is_left_unanswered, strobe_faults}
+use Rattle.vme_dtb.specs.Edge.{cycle_start_of, closes_between, edges_between, first_of, is_addressed, stays_on}
+use Rattle.vme_dtb.specs.UsualSteps.{is_answer_alone, strobes_break_rule, is_start_alone, is_strobes_alone, memory_left}
 use Rattle.vme_dtb.specs.declared.cycle.Cycle.{Cycle}
 use Rattle.vme_dtb.specs.declared.memory.HandshakeMemory.{HandshakeMemory}
 use Rattle.vme_dtb.proofs.Faults.{none-first, not_applied, unanswered, unnamed}
@@ -34,14 +34,14 @@ same_next : (p l : Pending) (k : StepMarks) (c d : Cycle) (x y : Bool) (h q r : 
     ≡ l → c ≡ d → h ≡ None → q ≡ r → a ≡ b
     → ◌≡◌ {A = Next HandshakeMemory}
     (record {
-      memory = record { pending = p; cycle = c; dtack_freed = x; berr_freed = y };
+      memory = record { pending = p; cycle = c; dtack_may_rise = x; berr_may_rise = y };
       fault = option_or h q;
-      kinds = record k { answer = a };
+      shown = record k { answer = a };
     })
     (record {
-      memory = record { pending = l; cycle = d; dtack_freed = x; berr_freed = y };
+      memory = record { pending = l; cycle = d; dtack_may_rise = x; berr_may_rise = y };
       fault = r;
-      kinds = record k
+      shown = record k
           { answer = b };
     })
 same_next p l k c d x y h q r a b o e f g i = rw (o, e, f, g, i) refl
@@ -69,25 +69,27 @@ neither false false h = (refl, refl)
 neither true b h = absurd (cc)
 neither false true h = absurd (cc)
 
-hasty_rise : (p : Pending) (a b e f : Bool) → is_hasty p (a || b) e f ≡ false → broken H2 (is_unanswered p && true)
+broken_by_rise : (p : Pending) (a b e f : Bool) → strobes_break_rule p (a || b) e f ≡ false
+    → broken H2 (is_unanswered p && true)
     (first_of a DS0 b DS1) ≡ None
-hasty_rise Closed a b e f h = refl
-hasty_rise Answered a b e f h = refl
-hasty_rise Reading a b e f h = calm_line H2 a b DS0 DS1 (neither (a || b) e h).0
-hasty_rise Writing a b e f h = calm_line H2 a b DS0 DS1 (neither (a || b) e h).0
+broken_by_rise Closed a b e f h = refl
+broken_by_rise Answered a b e f h = refl
+broken_by_rise Reading a b e f h = calm_line H2 a b DS0 DS1 (neither (a || b) e h).0
+broken_by_rise Writing a b e f h = calm_line H2 a b DS0 DS1 (neither (a || b) e h).0
 
-hasty_fall : (p : Pending) (r e a b : Bool) → is_hasty p r e (a || b) ≡ false → broken H3 (is_replied p)
+broken_by_fall : (p : Pending) (r e a b : Bool) → strobes_break_rule p r e (a || b) ≡ false → broken H3 (is_replied p)
     (first_of a DS0 b DS1) ≡ None
-hasty_fall Closed r e a b h = refl
-hasty_fall Reading r e a b h = refl
-hasty_fall Writing r e a b h = refl
-hasty_fall Answered r e a b h = calm_line H3 a b DS0 DS1 h
+broken_by_fall Closed r e a b h = refl
+broken_by_fall Reading r e a b h = refl
+broken_by_fall Writing r e a b h = refl
+broken_by_fall Answered r e a b h = calm_line H3 a b DS0 DS1 h
 
-hasty_end : (p : Pending) (r e f : Bool) → is_hasty p r e f ≡ false → ((is_unanswered p && true) && e) ≡ false
-hasty_end Closed r e f h = refl
-hasty_end Answered r e f h = refl
-hasty_end Reading r e f h = (neither r e h).1
-hasty_end Writing r e f h = (neither r e h).1
+broken_by_end : (p : Pending) (r e f : Bool) → strobes_break_rule p r e f ≡ false → ((is_unanswered p && true) && e)
+    ≡ false
+broken_by_end Closed r e f h = refl
+broken_by_end Answered r e f h = refl
+broken_by_end Reading r e f h = (neither r e h).1
+broken_by_end Writing r e f h = (neither r e h).1
 
 -- the answer of a transfer without one is one line alone
 one_answer : (e : Pending) → is_unanswered e ≡ true → (not (is_within e) ≡ false)
@@ -164,16 +166,16 @@ module _ (m : HandshakeMemory) (v w : Levels) where
 
   pub start_next : is_start_alone v w ≡ true
       → record {
-        memory = memory_left m w m.pending (unanswered_of (asked_of w).class) false;
+        memory = memory_left m w m.pending (unanswered_of (cycle_start_of w).class) false;
         fault = None;
-        kinds
-            = record nothing { cycle = Some (asked_of w) };
+        shown
+            = record nothing { cycle = Some (cycle_start_of w) };
       } ≡ dtb_next m v w (edges_between v w)
   start_next alone =
       let all = all_five (falls_between v w AS) (stays_on v w DS0) (stays_on v w DS1) (stays_on v w DTACK)
       (stays_on v w BERR) alone in
-      let s = start_edges (asked_of w) in
-      let c = unanswered_of (asked_of w).class in
+      let s = start_edges (cycle_start_of w) in
+      let c = unanswered_of (cycle_start_of w).class in
       sym
       (same_next (tracked m.pending v w) _ s.shown _ c _ _ (handshake_fault m within s) _ None _ None
       (unanswered_left m.pending (no_fall v w DTACK all.3) (no_fall v w BERR all.4)
@@ -181,14 +183,14 @@ module _ (m : HandshakeMemory) (v w : Levels) where
       (none-first (strobe_faults m within s) (
         refl,
         (
-          unnamed H2 (is_unserved m.pending s),
+          unnamed H2 (is_left_unanswered m.pending s),
           (
             unnamed H3 (is_replied m.pending),
             (
               unnamed H4 (not (is_within within)),
               (
                 unnamed H5 (is_doubled within s),
-                (refl, (not_applied H7 _ (Some AS) (and_false (is_unserved m.pending s)), (no_h8 false, tt))),
+                (refl, (not_applied H7 _ (Some AS) (and_false (is_left_unanswered m.pending s)), (no_h8 false, tt))),
               ),
             ),
           ),
@@ -197,12 +199,13 @@ module _ (m : HandshakeMemory) (v w : Levels) where
       (unanswered_here c) no_mark)
       ∙ ap (dtb_next m v w) (start_is v w alone)
 
-  pub strobes_next : is_strobes_alone v w ≡ true → is_hasty m.pending (strobe_rises_between v w) (rises_between v w AS)
+  pub strobes_next : is_strobes_alone v w ≡ true → strobes_break_rule m.pending (strobe_rises_between v w)
+      (rises_between v w AS)
       (strobe_falls_between v w) ≡ false
       → record {
         memory = memory_left m w within m.cycle (strobe_rises_between v w);
         fault = None;
-        kinds = record
+        shown = record
             nothing {
               cycle_end = rises_between v w AS;
               transfer = cond (starts_between v w)
@@ -210,7 +213,7 @@ module _ (m : HandshakeMemory) (v w : Levels) where
               close = closes_between v w;
             };
       } ≡ dtb_next m v w (edges_between v w)
-  strobes_next alone calm =
+  strobes_next alone unbroken =
       let all = all_four (is_low (level_at v AS)) (stays_on v w DTACK) (stays_on v w BERR)
       (not (starts_between v w) || (is_high (level_at v DTACK) && is_high (level_at v BERR))) alone in
       let s = strobes_here v w in
@@ -222,11 +225,11 @@ module _ (m : HandshakeMemory) (v w : Levels) where
       (none-first (strobe_faults m within s) (
         refl,
         (
-          hasty_rise m.pending (rises_between v w DS0) (rises_between v w DS1) (rises_between v w AS)
-              (strobe_falls_between v w) calm,
+          broken_by_rise m.pending (rises_between v w DS0) (rises_between v w DS1) (rises_between v w AS)
+              (strobe_falls_between v w) unbroken,
           (
-            hasty_fall m.pending (strobe_rises_between v w) (rises_between v w AS)
-                (falls_between v w DS0) (falls_between v w DS1) calm,
+            broken_by_fall m.pending (strobe_rises_between v w) (rises_between v w AS)
+                (falls_between v w DS0) (falls_between v w DS1) unbroken,
             (
               unnamed H4 (not (is_within within)),
               (
@@ -234,8 +237,9 @@ module _ (m : HandshakeMemory) (v w : Levels) where
                 (
                   refl,
                   (
-                    not_applied H7 _ (Some AS) (hasty_end m.pending (strobe_rises_between v w) (rises_between v w AS)
-                        (strobe_falls_between v w) calm),
+                    not_applied H7 _ (Some AS) (broken_by_end m.pending (strobe_rises_between v w)
+                        (rises_between v w AS)
+                        (strobe_falls_between v w) unbroken),
                     (no_h8 false, tt),
                   ),
                 ),
@@ -251,7 +255,7 @@ module _ (m : HandshakeMemory) (v w : Levels) where
       by_rise left = record {
         memory = left;
         fault = None;
-        kinds = record nothing {
+        shown = record nothing {
           cycle_end = rises_between v w AS;
           transfer = cond (starts_between v w) (Some (is_low (level_at w WRITE))) None;
           close = closes_between v w;
@@ -264,7 +268,7 @@ module _ (m : HandshakeMemory) (v w : Levels) where
         memory = memory_left m w Answered (after_answer m.cycle (is_writing m.pending)) false;
         fault
             = cycle_fault m.cycle (is_writing m.pending) (Some DTACK);
-        kinds = record nothing
+        shown = record nothing
             { answer = Some (plain_answer DTACK) };
       } ≡ dtb_next m v w (edges_between v w)
   answer_next alone falls addressed waits =
@@ -281,14 +285,14 @@ module _ (m : HandshakeMemory) (v w : Levels) where
       (none-first (strobe_faults m within s) (
         refl,
         (
-          unnamed H2 (is_unserved m.pending s),
+          unnamed H2 (is_left_unanswered m.pending s),
           (
             unnamed H3 (is_replied m.pending),
             (
               not_applied H4 _ (Some DTACK) one.0,
               (
                 not_applied H5 _ (Some DTACK) one.1,
-                (refl, (not_applied H7 _ (Some AS) (and_false (is_unserved m.pending s)), (refl, tt))),
+                (refl, (not_applied H7 _ (Some AS) (and_false (is_left_unanswered m.pending s)), (refl, tt))),
               ),
             ),
           ),
@@ -300,7 +304,7 @@ module _ (m : HandshakeMemory) (v w : Levels) where
       (plain_data (no_start v w all.1 all.2))))
       ∙ ap (dtb_next m v w) (answer_is v w alone falls addressed)
 
-  pub ready_next : is_answer_alone v w ≡ true → rises_between v w DTACK ≡ true → m.dtack_freed ≡ true
+  pub ready_next : is_answer_alone v w ≡ true → rises_between v w DTACK ≡ true → m.dtack_may_rise ≡ true
       → quiet (memory_left m w m.pending m.cycle false) ≡ dtb_next m v w (edges_between v w)
   ready_next alone rises gone =
       let all = all_four (stays_on v w AS) (stays_on v w DS0) (stays_on v w DS1) (stays_on v w BERR) alone in
@@ -312,7 +316,7 @@ module _ (m : HandshakeMemory) (v w : Levels) where
       (none-first (strobe_faults m within s) (
         refl,
         (
-          unnamed H2 (is_unserved m.pending s),
+          unnamed H2 (is_left_unanswered m.pending s),
           (
             unnamed H3 (is_replied m.pending),
             (
@@ -322,7 +326,7 @@ module _ (m : HandshakeMemory) (v w : Levels) where
                 (
                   rw gone refl,
                   (
-                    not_applied H7 _ (Some AS) (and_false (is_unserved m.pending s)),
+                    not_applied H7 _ (Some AS) (and_false (is_left_unanswered m.pending s)),
                     (no_h8 (not (is_addressed v w)), tt),
                   ),
                 ),

@@ -17,7 +17,7 @@ unanswered_of class.F = Free
 -- the cycle in which an instant is, where another may start
 abbrev pub cycle_entered : Cycle → Option CycleStart → Cycle
 cycle_entered c None = c
-cycle_entered c (Some asked) = unanswered_of asked.class
+cycle_entered c (Some cycle_start) = unanswered_of cycle_start.class
 
 -- the same cycle after one more answer, of a write or of a read
 abbrev pub after_answer : Cycle → Bool → Cycle

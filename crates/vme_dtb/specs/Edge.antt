@@ -19,8 +19,8 @@ abbrev pub address_of : Levels → ℕ
 address_of v = address_below v 32
 
 -- what the lines say as a cycle starts
-abbrev pub asked_of : Levels → CycleStart
-asked_of v = record { class = class_of v; modifier = modifier_of v; address = address_of v }
+abbrev pub cycle_start_of : Levels → CycleStart
+cycle_start_of v = record { class = class_of v; modifier = modifier_of v; address = address_of v }
 
 -- the first of two lines of which something holds
 abbrev pub first_of : Bool → ℕ → Bool → ℕ → Option ℕ
@@ -43,14 +43,14 @@ module _ (v w : Levels) where
   is_addressed = is_low (level_at v AS) || is_low (level_at w AS)
 
   -- the line isn't high on either side
-  abbrev pub is_unready : ℕ → Bool
-  is_unready l = not (is_high (level_at v l) || is_high (level_at w l))
+  abbrev pub is_answer_not_high : ℕ → Bool
+  is_answer_not_high l = not (is_high (level_at v l) || is_high (level_at w l))
 
   -- the marks of the step, but for the answer
   abbrev pub shown_between : StepMarks
   shown_between =
       record nothing {
-        cycle = (if falls_between v w AS then Some (asked_of w) else None);
+        cycle = (if falls_between v w AS then Some (cycle_start_of w) else None);
         cycle_end = rises_between v w AS;
         transfer = (if starts_between v w then Some (is_low (level_at w WRITE)) else None);
         close = closes_between;
@@ -60,7 +60,8 @@ module _ (v w : Levels) where
   edges_between =
       record {
         shown = shown_between;
-        unready = (if starts_between v w then first_of (is_unready DTACK) DTACK (is_unready BERR) BERR else None);
+        answer_not_high = (if starts_between v w
+            then first_of (is_answer_not_high DTACK) DTACK (is_answer_not_high BERR) BERR else None);
         strobe_rise = first_of (rises_between v w DS0) DS0 (rises_between v w DS1) DS1;
         strobe_fall = first_of (falls_between v w DS0) DS0 (falls_between v w DS1) DS1;
         answer_fall = first_of (falls_between v w DTACK) DTACK (falls_between v w BERR) BERR;

@@ -49,21 +49,21 @@ abbrev pub answered_in : Pending → Levels → Levels → Edges → Option Answ
 answered_in e v w s = option_map (λ l. record { line = l; lanes = data_in e v w }) (answer_in e s)
 
 -- a strobe has risen since the answer line fell
-abbrev pub freed : Bool → Edges → Bool
-freed was s = was || is_some s.strobe_rise
+abbrev pub may_rise : Bool → Edges → Bool
+may_rise was s = was || is_some s.strobe_rise
 
 -- the transfer that was open before the step stays without an answer
-abbrev pub is_unserved : Pending → Edges → Bool
-is_unserved p s = is_unanswered p && not (is_some s.answer_fall)
+abbrev pub is_left_unanswered : Pending → Edges → Bool
+is_left_unanswered p s = is_unanswered p && not (is_some s.answer_fall)
 
 -- an answer line falls in a transfer that has its answer, or both fall in one
 abbrev pub is_doubled : Pending → Edges → Bool
 is_doubled e s = is_replied e || (is_unanswered e && s.both_fall)
 
 -- the first answer line that rises while no strobe has risen since it fell
-abbrev pub dropped : HandshakeMemory → Edges → Option ℕ
-dropped m s = first_of (s.dtack_rises && not (freed m.dtack_freed s)) DTACK
-    (s.berr_rises && not (freed m.berr_freed s)) BERR
+abbrev pub early_rise : HandshakeMemory → Edges → Option ℕ
+early_rise m s = first_of (s.dtack_rises && not (may_rise m.dtack_may_rise s)) DTACK
+    (s.berr_rises && not (may_rise m.berr_may_rise s)) BERR
 
 -- the first of some faults, behind an earlier one if there is one
 abbrev pub or_first : Option Fault → List (Option Fault) → Option Fault
@@ -79,13 +79,13 @@ strobe_rules = H1 ∷ H2 ∷ H3 ∷ H4 ∷ H5 ∷ H6 ∷ H7 ∷ H8 ∷ []
 
 abbrev pub strobe_faults : HandshakeMemory → Pending → Edges → List (Option Fault)
 strobe_faults m e s =
-    broken H1 true s.unready
-    ∷ broken H2 (is_unserved m.pending s) s.strobe_rise
+    broken H1 true s.answer_not_high
+    ∷ broken H2 (is_left_unanswered m.pending s) s.strobe_rise
     ∷ broken H3 (is_replied m.pending) s.strobe_fall
     ∷ broken H4 (not (is_within e)) s.answer_fall
     ∷ broken H5 (is_doubled e s) s.answer_fall
-    ∷ broken H6 true (dropped m s)
-    ∷ broken H7 (is_unserved m.pending s && s.shown.cycle_end) (Some AS)
+    ∷ broken H6 true (early_rise m s)
+    ∷ broken H7 (is_left_unanswered m.pending s && s.shown.cycle_end) (Some AS)
     ∷ broken H8 s.unaddressed (answer_in e s)
     ∷ []
 
@@ -117,8 +117,8 @@ memory_after m v w s =
     record {
       pending = tracked m.pending v w;
       cycle = (if is_some (answer_in e s) then after_answer c (is_writing e) else c);
-      dtack_freed = (is_low (level_at w DTACK) && freed m.dtack_freed s);
-      berr_freed = (is_low (level_at w BERR) && freed m.berr_freed s);
+      dtack_may_rise = (is_low (level_at w DTACK) && may_rise m.dtack_may_rise s);
+      berr_may_rise = (is_low (level_at w BERR) && may_rise m.berr_may_rise s);
     }
 
 abbrev pub fault_in : HandshakeMemory → Levels → Levels → Edges → Option Fault
@@ -127,7 +127,7 @@ fault_in m v w s =
     option_or (handshake_fault m e s) (cycle_fault (cycle_entered m.cycle s.shown.cycle) (is_writing e) (answer_in e s))
 
 abbrev pub dtb_begin : Levels → HandshakeMemory
-dtb_begin v = record { pending = Closed; cycle = Free; dtack_freed = false; berr_freed = false }
+dtb_begin v = record { pending = Closed; cycle = Free; dtack_may_rise = false; berr_may_rise = false }
 
 abbrev pub dtb_opens : Levels → StepMarks
 dtb_opens v = nothing
@@ -135,8 +135,8 @@ dtb_opens v = nothing
 abbrev pub dtb_ends : ℕ → Option Fault
 dtb_ends l = None
 
-abbrev pub dtb_sight : Levels → Levels → List Change → Option HandshakeEdge
-dtb_sight v w cs = if is_still v w then None else Some (record {})
+abbrev pub dtb_observation : Levels → Levels → List Change → Option HandshakeEdge
+dtb_observation v w cs = if is_still v w then None else Some (record {})
 
 -- what follows from the edges of a step
 abbrev pub dtb_next : HandshakeMemory → Levels → Levels → Edges → Next HandshakeMemory
@@ -144,7 +144,7 @@ dtb_next m v w s =
     record {
       memory = memory_after m v w s;
       fault = fault_in m v w s;
-      kinds = record s.shown { answer = answered_in (entered m.pending v w) v w s };
+      shown = record s.shown { answer = answered_in (entered m.pending v w) v w s };
     }
 
 abbrev pub dtb_step : HandshakeMemory → Levels → Levels → HandshakeEdge → Next HandshakeMemory

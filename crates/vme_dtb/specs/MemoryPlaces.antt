@@ -39,15 +39,15 @@ bit true = 1
 bit false = 0
 
 abbrev pub memory_place : HandshakeMemory → ℕ
-memory_place m = 36 * pending_place m.pending + 4 * cycle_place m.cycle + 2 * bit m.dtack_freed + bit m.berr_freed
+memory_place m = 36 * pending_place m.pending + 4 * cycle_place m.cycle + 2 * bit m.dtack_may_rise + bit m.berr_may_rise
 
 abbrev pub memory_nth : ℕ → HandshakeMemory
 memory_nth k = record {
   pending = pending_nth (k / 36);
   cycle = cycle_nth ((k / 4) % 9);
-  dtack_freed =
+  dtack_may_rise =
       ((k / 2) % 2 == 1);
-  berr_freed = (k % 2 == 1);
+  berr_may_rise = (k % 2 == 1);
 }
 
 pending_below : (p : Pending) → pending_place p < 4
@@ -75,8 +75,8 @@ all_below : (p c a b : ℕ) → p < 4 → c < 9 → a < 2 → b < 2 → 36 * p +
 all_below p c a b hp hc ha hb = omega arith
 
 pub memory_placed : (m : HandshakeMemory) → memory_place m < 144
-memory_placed m = all_below (pending_place m.pending) (cycle_place m.cycle) (bit m.dtack_freed) (bit m.berr_freed)
-    (pending_below m.pending) (cycle_below m.cycle) (bit_below m.dtack_freed) (bit_below m.berr_freed)
+memory_placed m = all_below (pending_place m.pending) (cycle_place m.cycle) (bit m.dtack_may_rise) (bit m.berr_may_rise)
+    (pending_below m.pending) (cycle_below m.cycle) (bit_below m.dtack_may_rise) (bit_below m.berr_may_rise)
 
 pending_found : (p : Pending) → pending_nth (pending_place p) ≡ p
 pending_found Closed = refl
@@ -112,24 +112,24 @@ fourth_part : (p c a b : ℕ) → b < 2 → (36 * p + 4 * c + 2 * a + b) % 2 ≡
 fourth_part p c a b hb = omega arith
 
 same_memory : (m : HandshakeMemory) (p : Pending) (c : Cycle) (a b : Bool) → p ≡ m.pending → c ≡ m.cycle → a
-    ≡ m.dtack_freed
-    → b ≡ m.berr_freed → record { pending = p; cycle = c; dtack_freed = a; berr_freed = b } ≡ m
+    ≡ m.dtack_may_rise
+    → b ≡ m.berr_may_rise → record { pending = p; cycle = c; dtack_may_rise = a; berr_may_rise = b } ≡ m
 same_memory m p c a b hp hc ha hb = rw (hp, hc, ha, hb) refl
 
 pub memory_found : (m : HandshakeMemory) → memory_nth (memory_place m) ≡ m
 memory_found m =
     let p = pending_place m.pending in
     let c = cycle_place m.cycle in
-    let a = bit m.dtack_freed in
-    let b = bit m.berr_freed in
+    let a = bit m.dtack_may_rise in
+    let b = bit m.berr_may_rise in
     let hc = cycle_below m.cycle in
-    let ha = bit_below m.dtack_freed in
-    let hb = bit_below m.berr_freed in
+    let ha = bit_below m.dtack_may_rise in
+    let hb = bit_below m.berr_may_rise in
     same_memory m _ _ _ _
     (ap pending_nth (first_part p c a b hc ha hb) ∙ pending_found m.pending)
     (ap cycle_nth (second_part p c a b hc ha hb) ∙ cycle_found m.cycle)
-    (ap (λ k. k == 1) (third_part p c a b ha hb) ∙ bit_found m.dtack_freed)
-    (ap (λ k. k == 1) (fourth_part p c a b hb) ∙ bit_found m.berr_freed)
+    (ap (λ k. k == 1) (third_part p c a b ha hb) ∙ bit_found m.dtack_may_rise)
+    (ap (λ k. k == 1) (fourth_part p c a b hb) ∙ bit_found m.berr_may_rise)
 
 pub memories_few : 144 ≤ 509
 memories_few = omega arith

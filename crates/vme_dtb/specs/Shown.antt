@@ -11,7 +11,7 @@ use Rattle.vme_trace.specs.Cycles.{cycle_starts}
 use Rattle.vme_monitor.specs.Run.{nothing}
 use Rattle.vme_monitor.specs.declared.mark.TransferAnswer.{TransferAnswer}
 use Rattle.vme_monitor.specs.declared.mark.StepMarks.{StepMarks}
-use Rattle.vme_dtb.specs.Edge.{asked_of}
+use Rattle.vme_dtb.specs.Edge.{cycle_start_of}
 
 module _ (t : Trace) (span : Stretch) where
   -- a transfer closes: the first instant after its start at which both strobes are high
@@ -32,7 +32,7 @@ module _ (t : Trace) (span : Stretch) where
 abbrev pub handshake_shown : Trace → Stretch → ℕ → StepMarks
 handshake_shown t span j =
     record nothing {
-      cycle = (if cycle_starts t span j then Some (asked_of (levels_at t j)) else None);
+      cycle = (if cycle_starts t span j then Some (cycle_start_of (levels_at t j)) else None);
       cycle_end = (is_judged span j && rises t AS j);
       transfer = (if transfer_starts t span j then Some (is_write t span j) else None);
       answer = answered t span j;

@@ -31,13 +31,13 @@ memory_left m w p c rises =
     record {
       pending = (if strobes_high_in w then Closed else p);
       cycle = c;
-      dtack_freed = (is_low (level_at w DTACK) && (m.dtack_freed || rises));
-      berr_freed = (is_low (level_at w BERR) && (m.berr_freed || rises));
+      dtack_may_rise = (is_low (level_at w DTACK) && (m.dtack_may_rise || rises));
+      berr_may_rise = (is_low (level_at w BERR) && (m.berr_may_rise || rises));
     }
 
 -- a strobe rises or the cycle ends before the answer has come, or a strobe falls after it
-abbrev pub is_hasty : Pending → Bool → Bool → Bool → Bool
-is_hasty Closed rises ends falls = false
-is_hasty Reading rises ends falls = rises || ends
-is_hasty Writing rises ends falls = rises || ends
-is_hasty Answered rises ends falls = falls
+abbrev pub strobes_break_rule : Pending → Bool → Bool → Bool → Bool
+strobes_break_rule Closed rises ends falls = false
+strobes_break_rule Reading rises ends falls = rises || ends
+strobes_break_rule Writing rises ends falls = rises || ends
+strobes_break_rule Answered rises ends falls = falls

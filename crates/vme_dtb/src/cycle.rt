@@ -45,11 +45,11 @@ impl Cycle {
     }
 
     /// The cycle in which an instant is: this one, unless another starts there.
-    pub(crate) fn entered(self, asked: Option<CycleStart>) -> Cycle
-        ensures { result ≡ cycle_entered self asked }
+    pub(crate) fn entered(self, cycle_start: Option<CycleStart>) -> Cycle
+        ensures { result ≡ cycle_entered self cycle_start }
     {
-        match asked {
-            Some(asked) => Cycle::of_class(asked.class),
+        match cycle_start {
+            Some(cycle_start) => Cycle::of_class(cycle_start.class),
             None => self,
         }
     }

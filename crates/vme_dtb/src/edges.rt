@@ -4,8 +4,8 @@ ghost use Rattle.std.specs.Prelude.{◌≡◌, ◌<◌, ◌&&◌, Some, None, if
 ghost use Rattle.vme_trace.specs.Edges.{starts_between};
 ghost use Rattle.vme_trace.specs.LineNumbers.{grant, AS, DS0, DS1, DTACK, BERR, WRITE};
 ghost use Rattle.vme_trace.specs.Levels.{is_low, level_at};
-ghost use Rattle.vme_dtb.specs.Edge.{address_of, asked_of, closes_between, edges_between, first_of};
-ghost use Rattle.vme_dtb.specs.Edge.{is_addressed, is_still, is_unready, shown_between};
+ghost use Rattle.vme_dtb.specs.Edge.{address_of, cycle_start_of, closes_between, edges_between, first_of};
+ghost use Rattle.vme_dtb.specs.Edge.{is_addressed, is_still, is_answer_not_high, shown_between};
 ghost use Rattle.vme_dtb.specs.Edge.{stays_on};
 ghost use Rattle.vme_dtb.specs.UsualSteps.{is_answer_alone, is_start_alone, is_strobes_alone};
 
@@ -19,7 +19,7 @@ pub struct Edges {
     /// What happens, but for the answer of a transfer.
     pub shown: StepMarks,
     /// A transfer starts, and this answer line is the first that isn't high before or after the step.
-    pub unready: Option<Line>,
+    pub answer_not_high: Option<Line>,
     /// The first strobe that rises.
     pub strobe_rise: Option<Line>,
     /// The first strobe that falls.
@@ -145,8 +145,8 @@ fn address(lines: &Lines) -> u32
 
 /// What the lines say where a cycle starts.
 #[inline(always)]
-pub(crate) fn asked(lines: &Lines) -> CycleStart
-    ensures { result ≡ asked_of lines.now }
+pub(crate) fn cycle_start(lines: &Lines) -> CycleStart
+    ensures { result ≡ cycle_start_of lines.now }
 {
     CycleStart {
         class: am_class(lines),
@@ -175,9 +175,9 @@ pub(crate) fn closes(before: &Lines, after: &Lines) -> bool
 }
 
 /// Whether an answer line isn't high before or after the step.
-fn is_unready(before: &Lines, after: &Lines, line: Line) -> bool
+fn is_answer_not_high(before: &Lines, after: &Lines, line: Line) -> bool
     requires { line < grant 0 0 }
-    ensures { result ≡ is_unready before.now after.now line }
+    ensures { result ≡ is_answer_not_high before.now after.now line }
 {
     !(before.level(line).is_high() || after.level(line).is_high())
 }
@@ -187,7 +187,7 @@ fn shown(before: &Lines, after: &Lines) -> StepMarks
     ensures { result ≡ shown_between before.now after.now }
 {
     let cycle = if falls(before, after, Line::AS) {
-        Some(asked(after))
+        Some(cycle_start(after))
     } else {
         None
     };
@@ -205,10 +205,10 @@ impl Edges {
     pub(crate) fn between(before: &Lines, after: &Lines) -> Edges
         ensures { result ≡ edges_between before.now after.now }
     {
-        let unready = if starts_transfer(before, after) {
+        let answer_not_high = if starts_transfer(before, after) {
             first_answer(
-                is_unready(before, after, Line::DTACK),
-                is_unready(before, after, Line::BERR),
+                is_answer_not_high(before, after, Line::DTACK),
+                is_answer_not_high(before, after, Line::BERR),
             )
         } else {
             None
@@ -217,7 +217,7 @@ impl Edges {
         let berr_falls = falls(before, after, Line::BERR);
         Edges {
             shown: shown(before, after),
-            unready,
+            answer_not_high,
             strobe_rise: first_strobe(
                 rises(before, after, Line::DS0),
                 rises(before, after, Line::DS1),

@@ -13,16 +13,17 @@ ghost use Rattle.vme_monitor.specs.Tracking.{is_unanswered, is_within, is_writin
 ghost use Rattle.vme_monitor.specs.Run.{nothing};
 ghost use Rattle.vme_monitor.specs.Whole.{FindsLeast, ShowsAll};
 ghost use Rattle.vme_dtb.specs.Machine.{answer_in, answered_in, broken as broken_on, cycle_fault as fault_of_cycle};
-ghost use Rattle.vme_dtb.specs.Machine.{data_in, dropped as dropped_line, dtb_next, freed as is_freed};
+ghost use Rattle.vme_dtb.specs.Machine.{data_in, early_rise as early_rise_line, dtb_next, may_rise as may_rise_by};
 ghost use Rattle.vme_dtb.specs.Machine.{handshake_fault as fault_of_handshake, handshake_rules, is_doubled, is_replied};
-ghost use Rattle.vme_dtb.specs.Machine.{is_unserved};
+ghost use Rattle.vme_dtb.specs.Machine.{is_left_unanswered};
 ghost use Rattle.vme_dtb.specs.Edge.{edges_between, is_addressed};
-ghost use Rattle.vme_dtb.specs.UsualSteps.{is_answer_alone, is_hasty, is_start_alone, is_strobes_alone, memory_left};
+ghost use Rattle.vme_dtb.specs.UsualSteps.{is_answer_alone, strobes_break_rule, is_start_alone, is_strobes_alone};
+ghost use Rattle.vme_dtb.specs.UsualSteps.{memory_left};
 ghost use Rattle.vme_dtb.specs.Shown.{handshake_shown};
 
 use crate::cycle::Cycle;
 use crate::edges::{
-    Edges, asked, closes, first_answer, is_addressed, is_answer_alone, is_handshake_still,
+    Edges, closes, cycle_start, first_answer, is_addressed, is_answer_alone, is_handshake_still,
     is_start_alone, is_strobes_alone, transfer_started,
 };
 use crate::memory::HandshakeMemory;
@@ -131,27 +132,27 @@ fn is_doubled(entered: Pending, seen: &Edges) -> bool
 }
 
 /// Whether a strobe has risen since an answer line fell, if `was` says so of the time before the step.
-fn freed(was: bool, seen: &Edges) -> bool
-    ensures { result ≡ is_freed was seen.now }
+fn may_rise(was: bool, seen: &Edges) -> bool
+    ensures { result ≡ may_rise_by was seen.now }
 {
     was || seen.strobe_rise.is_some()
 }
 
 impl HandshakeMemory {
     /// Whether the transfer that was open before the step stays without an answer.
-    fn is_unserved(self, seen: &Edges) -> bool
-        ensures { result ≡ is_unserved self.pending seen.now }
+    fn is_left_unanswered(self, seen: &Edges) -> bool
+        ensures { result ≡ is_left_unanswered self.pending seen.now }
     {
         is_unanswered(self.pending) && !seen.answer_fall.is_some()
     }
 
     /// The first answer line that rises while no strobe has risen since it fell.
-    fn dropped(self, seen: &Edges) -> Option<Line>
-        ensures { result ≡ dropped_line self seen.now }
+    fn early_rise(self, seen: &Edges) -> Option<Line>
+        ensures { result ≡ early_rise_line self seen.now }
     {
         first_answer(
-            seen.dtack_rises && !freed(self.dtack_freed, seen),
-            seen.berr_rises && !freed(self.berr_freed, seen),
+            seen.dtack_rises && !may_rise(self.dtack_may_rise, seen),
+            seen.berr_rises && !may_rise(self.berr_may_rise, seen),
         )
     }
 
@@ -159,15 +160,19 @@ impl HandshakeMemory {
     fn handshake_fault(self, entered: Pending, seen: &Edges) -> Option<Fault>
         ensures { result ≡ fault_of_handshake self entered seen.now }
     {
-        let unserved = self.is_unserved(seen);
+        let left_unanswered = self.is_left_unanswered(seen);
         let doubled = is_doubled(entered, seen);
-        broken(Rule::H1, true, seen.unready)
-            .or(broken(Rule::H2, unserved, seen.strobe_rise))
+        broken(Rule::H1, true, seen.answer_not_high)
+            .or(broken(Rule::H2, left_unanswered, seen.strobe_rise))
             .or(broken(Rule::H3, is_answered(self.pending), seen.strobe_fall))
             .or(broken(Rule::H4, !is_open(entered), seen.answer_fall))
             .or(broken(Rule::H5, doubled, seen.answer_fall))
-            .or(broken(Rule::H6, true, self.dropped(seen)))
-            .or(broken(Rule::H7, unserved && seen.shown.cycle_end, Some(Line::AS)))
+            .or(broken(Rule::H6, true, self.early_rise(seen)))
+            .or(broken(
+                Rule::H7,
+                left_unanswered && seen.shown.cycle_end,
+                Some(Line::AS),
+            ))
             .or(broken(Rule::H8, seen.unaddressed, answer_of(entered, seen)))
     }
 }
@@ -211,14 +216,14 @@ impl HandshakeMemory {
         Next {
             memory: self.left(after, pending, cycle, seen.strobe_rise.is_some()),
             fault,
-            kinds: StepMarks {
+            shown: StepMarks {
                 answer: answered(entered, before, after, &seen),
                 ..seen.shown
             },
         }
     }
 
-    /// The same, taken apart and put together again: so what follows from the usual edges stays in registers.
+    /// The same, its fields taken out and put together again: so what follows from the usual edges stays in registers.
     #[inline(always)]
     fn at_any(self, before: &Lines, after: &Lines) -> Next<HandshakeMemory>
         ensures { result ≡ dtb_next self before.now after.now (edges_between before.now after.now) }
@@ -226,12 +231,12 @@ impl HandshakeMemory {
         let Next {
             memory,
             fault,
-            kinds,
+            shown,
         } = self.at_edges(before, after);
         Next {
             memory,
             fault,
-            kinds,
+            shown,
         }
     }
 
@@ -247,8 +252,8 @@ impl HandshakeMemory {
                 pending
             },
             cycle,
-            dtack_freed: after.level(Line::DTACK).is_low() && (self.dtack_freed || rises),
-            berr_freed: after.level(Line::BERR).is_low() && (self.berr_freed || rises),
+            dtack_may_rise: after.level(Line::DTACK).is_low() && (self.dtack_may_rise || rises),
+            berr_may_rise: after.level(Line::BERR).is_low() && (self.berr_may_rise || rises),
         }
     }
 
@@ -258,20 +263,25 @@ impl HandshakeMemory {
         requires { is_start_alone before.now after.now ≡ true }
         ensures { result ≡ dtb_next self before.now after.now (edges_between before.now after.now) }
     {
-        let asked = asked(after);
+        let cycle_start = cycle_start(after);
         Next {
-            memory: self.left(after, self.pending, Cycle::of_class(asked.class), false),
+            memory: self.left(
+                after,
+                self.pending,
+                Cycle::of_class(cycle_start.class),
+                false,
+            ),
             fault: None,
-            kinds: StepMarks {
-                cycle: Some(asked),
+            shown: StepMarks {
+                cycle: Some(cycle_start),
                 ..NOTHING
             },
         }
     }
 
     /// Whether strobes that move break a rule: one rises or the cycle ends before the answer, or one falls after it.
-    fn is_hasty(self, rises: bool, ends: bool, falls: bool) -> bool
-        ensures { result ≡ is_hasty self.pending rises ends falls }
+    fn strobes_break_rule(self, rises: bool, ends: bool, falls: bool) -> bool
+        ensures { result ≡ strobes_break_rule self.pending rises ends falls }
     {
         match self.pending {
             Pending::Closed => false,
@@ -288,14 +298,14 @@ impl HandshakeMemory {
     {
         let strobe_rises = strobe_rises(before, after);
         let cycle_end = rises(before, after, Line::AS);
-        if self.is_hasty(strobe_rises, cycle_end, strobe_falls(before, after)) {
+        if self.strobes_break_rule(strobe_rises, cycle_end, strobe_falls(before, after)) {
             return self.at_any(before, after);
         }
         let entered = self.pending.entered(before, after);
         Next {
             memory: self.left(after, entered, self.cycle, strobe_rises),
             fault: None,
-            kinds: StepMarks {
+            shown: StepMarks {
                 cycle_end,
                 transfer: transfer_started(before, after),
                 close: closes(before, after),
@@ -306,7 +316,7 @@ impl HandshakeMemory {
 
     /// What follows where DTACK* alone falls while AS* is low.
     #[inline(always)]
-    fn at_answer(self, before: &Lines, after: &Lines) -> Next<HandshakeMemory>
+    fn at_dtack_fall(self, before: &Lines, after: &Lines) -> Next<HandshakeMemory>
         requires alone { is_answer_alone before.now after.now ≡ true }
         requires falls { falls_between before.now after.now DTACK ≡ true }
         requires addressed { is_addressed before.now after.now ≡ true }
@@ -319,7 +329,7 @@ impl HandshakeMemory {
         Next {
             memory: self.left(after, Pending::Answered, self.cycle.answered(write), false),
             fault: cycle_fault(self.cycle, write, Some(Line::DTACK)),
-            kinds: StepMarks {
+            shown: StepMarks {
                 answer: Some(TransferAnswer {
                     line: Line::DTACK,
                     lanes: taken(write, before),
@@ -331,12 +341,12 @@ impl HandshakeMemory {
 
     /// What follows where DTACK* alone rises.
     #[inline(always)]
-    fn at_ready(self, before: &Lines, after: &Lines) -> Next<HandshakeMemory>
+    fn at_dtack_rise(self, before: &Lines, after: &Lines) -> Next<HandshakeMemory>
         requires alone { is_answer_alone before.now after.now ≡ true }
         requires rises { rises_between before.now after.now DTACK ≡ true }
         ensures { result ≡ dtb_next self before.now after.now (edges_between before.now after.now) }
     {
-        if !self.dtack_freed {
+        if !self.dtack_may_rise {
             return self.at_any(before, after);
         }
         quiet(self.left(after, self.pending, self.cycle, false))
@@ -344,14 +354,14 @@ impl HandshakeMemory {
 
     /// What follows where neither AS*, the strobes nor BERR* move.
     #[inline(always)]
-    fn at_dtack(self, before: &Lines, after: &Lines) -> Next<HandshakeMemory>
+    fn at_dtack_alone(self, before: &Lines, after: &Lines) -> Next<HandshakeMemory>
         requires { is_answer_alone before.now after.now ≡ true }
         ensures { result ≡ dtb_next self before.now after.now (edges_between before.now after.now) }
     {
         if rises(before, after, Line::DTACK) {
-            self.at_ready(before, after)
+            self.at_dtack_rise(before, after)
         } else if falls(before, after, Line::DTACK) && is_addressed(before, after) {
-            self.at_answer(before, after)
+            self.at_dtack_fall(before, after)
         } else {
             self.at_any(before, after)
         }
@@ -360,7 +370,7 @@ impl HandshakeMemory {
 
 impl Rules for HandshakeRules {
     ghost use Rattle.vme_monitor.specs.Run.{nothing};
-    ghost use Rattle.vme_dtb.specs.Machine.{dtb_begin, dtb_ends, dtb_opens, dtb_sight, dtb_step};
+    ghost use Rattle.vme_dtb.specs.Machine.{dtb_begin, dtb_ends, dtb_opens, dtb_observation, dtb_step};
 
     type Memory = HandshakeMemory;
 
@@ -374,7 +384,7 @@ impl Rules for HandshakeRules {
 
     ghost ends = { dtb_ends };
 
-    ghost observation = { dtb_sight };
+    ghost observation = { dtb_observation };
 
     ghost next = { dtb_step };
 
@@ -382,8 +392,8 @@ impl Rules for HandshakeRules {
         HandshakeMemory {
             pending: Pending::Closed,
             cycle: Cycle::Free,
-            dtack_freed: false,
-            berr_freed: false,
+            dtack_may_rise: false,
+            berr_may_rise: false,
         }
     }
 
@@ -416,7 +426,7 @@ impl Rules for HandshakeRules {
         _seen: &HandshakeEdge,
     ) -> Next<HandshakeMemory> {
         if is_answer_alone(before, after) {
-            memory.at_dtack(before, after)
+            memory.at_dtack_alone(before, after)
         } else if is_start_alone(before, after) {
             memory.at_cycle_start(before, after)
         } else if is_strobes_alone(before, after) {

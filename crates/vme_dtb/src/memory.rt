@@ -15,9 +15,9 @@ pub struct HandshakeMemory {
     /// The cycle that started last.
     pub cycle: Cycle,
     /// Whether DTACK* is low, and a strobe has risen since it fell.
-    pub dtack_freed: bool,
+    pub dtack_may_rise: bool,
     /// Whether BERR* is low, and a strobe has risen since it fell.
-    pub berr_freed: bool,
+    pub berr_may_rise: bool,
 }
 
 /// Where a state of the transfer stands among all four, from 0.
@@ -71,16 +71,16 @@ impl Enumerable for HandshakeMemory {
     fn place(self) -> usize {
         36 * pending_to_place(self.pending)
             + 4 * self.cycle.place()
-            + 2 * bit_of(self.dtack_freed)
-            + bit_of(self.berr_freed)
+            + 2 * bit_of(self.dtack_may_rise)
+            + bit_of(self.berr_may_rise)
     }
 
     fn nth(k: usize) -> HandshakeMemory {
         HandshakeMemory {
             pending: pending_at(k / 36),
             cycle: Cycle::nth(k / 4 % 9),
-            dtack_freed: k / 2 % 2 == 1,
-            berr_freed: k % 2 == 1,
+            dtack_may_rise: k / 2 % 2 == 1,
+            berr_may_rise: k % 2 == 1,
         }
     }
 }

@@ -1,2 +1,2 @@
 pub mod ExcerptLemmas
-pub mod OtherLemmas
+pub mod RelatedEventLemmas

@@ -1,4 +1,4 @@
 pub mod Marks
-pub mod Others
+pub mod RelatedEvents
 pub mod Rows
 pub mod Saving

@@ -1,8 +1,10 @@
 //! What the text of a break says of the other events, those that make its edge a break.
 
 use crate::excerpt::levels_from;
-use crate::other::{Occurrence, Other, StepEvent, asked_first, asked_second, instant_of};
 use crate::page::{Subject, push_instant};
+use crate::related_event::{
+    Occurrence, RelatedEvent, StepEvent, first_related_event, instant_of, second_related_event,
+};
 use crate::rows::{last_start, tenure_at};
 use std::alloc::{AllocError, Global};
 use vme_listing::Row;
@@ -95,7 +97,7 @@ pub(crate) fn push_others(
     found: &Break,
 ) -> Result<(), AllocError> {
     let start = last_start(subject.rows).unwrap_or(0);
-    if let Some(other) = asked_first(found.rule, found.line) {
+    if let Some(other) = first_related_event(found.rule, found.line) {
         push_other(
             text,
             alloc,
@@ -106,7 +108,7 @@ pub(crate) fn push_others(
             &first_words(found.rule),
         )?;
     }
-    if let Some(other) = asked_second(found.rule, found.line) {
+    if let Some(other) = second_related_event(found.rule, found.line) {
         push_other(
             text,
             alloc,
@@ -124,7 +126,7 @@ pub(crate) fn push_others(
 }
 
 /// The instant of an event, if the break is one of a stretch that is judged.
-fn instant_before(capture: &Capture, other: &Other, start: u32, at: u32) -> Option<u32> {
+fn instant_before(capture: &Capture, other: &RelatedEvent, start: u32, at: u32) -> Option<u32> {
     if start < at && at < u32::MAX {
         instant_of(capture, other, start, at)
     } else {
@@ -138,7 +140,7 @@ fn push_other(
     subject: &Subject<'_>,
     found: &Break,
     start: u32,
-    other: &Other,
+    other: &RelatedEvent,
     words: &EventWords,
 ) -> Result<(), AllocError> {
     let capture = subject.capture;
@@ -258,7 +260,7 @@ fn push_passed_on(
     };
     for place in 0..capture.opening().slots() + 1 {
         let line = Line::grant(level.min(3), place);
-        let other = Other {
+        let other = RelatedEvent {
             event: StepEvent::Falls(line),
             occurrence: Occurrence::LastOrNow,
         };

@@ -4,7 +4,7 @@
 //! # Parts
 //!
 //! - `page`: [`explanation`], what is said behind the line of a verdict.
-//! - `broken`, `other`: what is said of a break; the other events of which its rule speaks.
+//! - `broken`, `related_event`: what is said of a break; the other events of which its rule speaks.
 //! - `summary`, `idle`: what is told of a recording without a break; what keeps a bus from being
 //!   idle.
 //! - `rows`: what the rows of a listing say together.
@@ -17,11 +17,11 @@
 //!
 //! What is told are values with contracts: [`count_of`] counts the rows of a kind, [`open_row`] is
 //! the last row that is open, [`levels_from`] gives the levels of the recording at some instants
-//! and [`marks_of`] their characters, [`time_at`] the time of an instant. [`asked_first`] and
-//! [`asked_second`] say of which other events a rule speaks, and [`instant_of`] finds these by the
-//! definitions of vme_trace. [`save_refusal`] refuses to write over an input and over what this
-//! program didn't write; [`is_save_file`] knows what [`save_file`] writes. An [`explanation`] has
-//! visible characters, spaces and line feeds alone, whatever the names are.
+//! and [`marks_of`] their characters, [`time_at`] the time of an instant. [`first_related_event`]
+//! and [`second_related_event`] say of which other events a rule speaks, and [`instant_of`] finds
+//! these by the definitions of vme_trace. [`save_refusal`] refuses to write over an input and over
+//! what this program didn't write; [`is_save_file`] knows what [`save_file`] writes. An
+//! [`explanation`] has visible characters, spaces and line feeds alone, whatever the names are.
 //!
 //! # What isn't proved
 //!
@@ -36,8 +36,8 @@
 mod broken;
 mod excerpt;
 mod idle;
-mod other;
 mod page;
+mod related_event;
 mod rows;
 mod saving;
 mod shown;
@@ -48,10 +48,11 @@ mod viewer;
 mod wrapping;
 
 pub use excerpt::{levels_from, marks_of, time_at};
-pub use other::{
-    Occurrence, Other, StepEvent, asked_first, asked_second, first_of, instant_of, last_of,
-};
 pub use page::{Subject, explanation};
+pub use related_event::{
+    Occurrence, RelatedEvent, StepEvent, first_of, first_related_event, instant_of, last_of,
+    second_related_event,
+};
 pub use rows::{Part, RowKind, count_of, open_row};
 pub use saving::{FileId, Present, SaveRefusal, save_refusal, save_refusal_text};
 pub use viewer::{is_save_file, save_file};

@@ -3,9 +3,9 @@ use std::alloc::Global;
 use std::test::Fail;
 use vcd_read::{Variables, read_definitions};
 use vme_explain::{
-    FileId, Occurrence, Other, Part, Present, RowKind, SaveRefusal, StepEvent, Subject,
-    asked_first, asked_second, count_of, first_of, instant_of, is_save_file, last_of, open_row,
-    save_file, save_refusal, save_refusal_text,
+    FileId, Occurrence, Part, Present, RelatedEvent, RowKind, SaveRefusal, StepEvent, Subject,
+    count_of, first_of, first_related_event, instant_of, is_save_file, last_of, open_row,
+    save_file, save_refusal, save_refusal_text, second_related_event,
 };
 use vme_listing::{AnswerLine, Direction, Row};
 use vme_trace::{Break, Capture, Change, Changes, Level, Line, Lines, Rule, Step, Verdict};
@@ -191,35 +191,35 @@ fn the_other_event_of_a_break_is_found(rt: HostRuntime) -> Result<(), Fail> {
         return Ok(());
     };
     // the strobe that falls at instant 8 is behind the answer at 7, of the transfer that started at 6
-    let Some(answer) = asked_first(Rule::H3, Line::DS1) else {
+    let Some(answer) = first_related_event(Rule::H3, Line::DS1) else {
         assert!(rt; false);
         return Ok(());
     };
     assert!(rt; instant_of(&capture, &answer, 0, 8) == Some(7));
     assert!(rt; instant_of(&capture, &answer, 0, 7).is_none());
-    let start = Other {
+    let start = RelatedEvent {
         event: StepEvent::TransferStarts,
         occurrence: Occurrence::Last,
     };
-    assert!(rt; asked_first(Rule::H2, Line::DS0) == Some(start));
+    assert!(rt; first_related_event(Rule::H2, Line::DS0) == Some(start));
     assert!(rt; instant_of(&capture, &start, 0, 8) == Some(6));
     assert!(rt; instant_of(&capture, &start, 6, 8).is_none());
     // the first answer of the cycle
-    let Some(first) = asked_first(Rule::C1, Line::BERR) else {
+    let Some(first) = first_related_event(Rule::C1, Line::BERR) else {
         assert!(rt; false);
         return Ok(());
     };
     assert!(rt; instant_of(&capture, &first, 0, 7) == Some(3));
     assert!(rt;
-        asked_second(Rule::G5, Line::grant(2, 0))
-            == Some(Other {
+        second_related_event(Rule::G5, Line::grant(2, 0))
+            == Some(RelatedEvent {
                 event: StepEvent::Falls(Line::bus_request(2)),
                 occurrence: Occurrence::Last
             })
     );
-    assert!(rt; asked_second(Rule::H1, Line::DTACK).is_none());
+    assert!(rt; second_related_event(Rule::H1, Line::DTACK).is_none());
     // an acknowledge may start with its answer
-    let Some(acknowledge) = asked_first(Rule::I4, Line::DTACK) else {
+    let Some(acknowledge) = first_related_event(Rule::I4, Line::DTACK) else {
         assert!(rt; false);
         return Ok(());
     };

@@ -5,63 +5,63 @@ use Rattle.std.proofs.lemmas.Bool.{cases_lt}
 use Rattle.std.proofs.lemmas.List.{drop_all, drop_more}
 use Rattle.std.specs.Char.{eq_ignore_ascii_case}
 use Rattle.vcd_read.specs.declared.dump.Variable.{Variable}
-use Rattle.vme_faults.specs.Nearness.{apart, common_front, nears}
+use Rattle.vme_faults.specs.Nearness.{path_distance, common_prefix, distances}
 
-front-nil : (xs : List ℕ) → common_front xs [] ≡ 0
-unfolding common_front
+front-nil : (xs : List ℕ) → common_prefix xs [] ≡ 0
+unfolding common_prefix
 front-nil [] = refl
 front-nil (x ∷ xs) = refl
 
 front-cons : (x : ℕ) (xs : List ℕ) (y : ℕ) (ys : List ℕ)
-    → common_front (x ∷ xs) (y ∷ ys) ≡ cond (eq_ignore_ascii_case x y) (common_front xs ys + 1) 0
-unfolding common_front
+    → common_prefix (x ∷ xs) (y ∷ ys) ≡ cond (eq_ignore_ascii_case x y) (common_prefix xs ys + 1) 0
+unfolding common_prefix
 front-cons x xs y ys = refl
 
 -- the letters at a place of both
 front-more : (xs ys : List ℕ) (i : ℕ) (same : Bool) → i < length xs → i < length ys
     → eq_ignore_ascii_case (get_or xs i 0) (get_or ys i 0) ≡ same
-    → common_front (drop i xs) (drop i ys) ≡ cond same (common_front (drop (i + 1) xs) (drop (i + 1) ys) + 1) 0
+    → common_prefix (drop i xs) (drop i ys) ≡ cond same (common_prefix (drop (i + 1) xs) (drop (i + 1) ys) + 1) 0
 front-more xs ys i same h k e =
     rw (drop_more xs i 0 h, drop_more ys i 0 k)
     (front-cons (get_or xs i 0) (drop (i + 1) xs) (get_or ys i 0) (drop (i + 1) ys)
-    ∙ ap (λ (b : Bool). cond b (common_front (drop (i + 1) xs) (drop (i + 1) ys) + 1) 0) e)
+    ∙ ap (λ (b : Bool). cond b (common_prefix (drop (i + 1) xs) (drop (i + 1) ys) + 1) 0) e)
 
 -- the same letter
 pub front-same : (xs ys : List ℕ) (i : ℕ) → i < length xs → i < length ys
     → eq_ignore_ascii_case (get_or xs i 0) (get_or ys i 0) ≡ true
-    → common_front (drop i xs) (drop i ys) ≡ common_front (drop (i + 1) xs) (drop (i + 1) ys) + 1
+    → common_prefix (drop i xs) (drop i ys) ≡ common_prefix (drop (i + 1) xs) (drop (i + 1) ys) + 1
 front-same xs ys i h k e = front-more xs ys i true h k e
 
 -- another one
 pub front-other : (xs ys : List ℕ) (i : ℕ) → i < length xs → i < length ys
     → eq_ignore_ascii_case (get_or xs i 0) (get_or ys i 0) ≡ false
-    → common_front (drop i xs) (drop i ys) ≡ 0
+    → common_prefix (drop i xs) (drop i ys) ≡ 0
 front-other xs ys i h k e = front-more xs ys i false h k e
 
-front-first-ends : (xs ys : List ℕ) (i : ℕ) → length xs ≤ i → common_front (drop i xs) (drop i ys) ≡ 0
-unfolding common_front
+front-first-ends : (xs ys : List ℕ) (i : ℕ) → length xs ≤ i → common_prefix (drop i xs) (drop i ys) ≡ 0
+unfolding common_prefix
 front-first-ends xs ys i h = rw (drop_all i xs h) refl
 
-front-second-ends : (xs ys : List ℕ) (i : ℕ) → length ys ≤ i → common_front (drop i xs) (drop i ys) ≡ 0
+front-second-ends : (xs ys : List ℕ) (i : ℕ) → length ys ≤ i → common_prefix (drop i xs) (drop i ys) ≡ 0
 front-second-ends xs ys i h = rw (drop_all i ys h) (front-nil (drop i xs))
 
 -- a place that isn't one of both
 pub front-ends : (xs ys : List ℕ) (i : ℕ) → (i < length xs → length ys ≤ i)
-    → common_front (drop i xs) (drop i ys) ≡ 0
+    → common_prefix (drop i xs) (drop i ys) ≡ 0
 front-ends xs ys i past =
     elim (cases_lt i (length xs))
     [ inl h ↦ front-second-ends xs ys i (past h) | inr h ↦ front-first-ends xs ys i h ]
 
 -- the variable at a place
-pub nears-more : (path : List ℕ) (variables : List Variable) (i : ℕ) (d : Variable) → i < length variables
-    → nears path (drop i variables) i
-    ≡ record { distance = apart path (get_or variables i d).path; place = i }
-    ∷ nears path (drop (i + 1) variables) (i + 1)
-unfolding nears
-nears-more path variables i d h = rw (drop_more variables i d h) refl
+pub distances-more : (path : List ℕ) (variables : List Variable) (i : ℕ) (d : Variable) → i < length variables
+    → distances path (drop i variables) i
+    ≡ record { distance = path_distance path (get_or variables i d).path; place = i }
+    ∷ distances path (drop (i + 1) variables) (i + 1)
+unfolding distances
+distances-more path variables i d h = rw (drop_more variables i d h) refl
 
 -- the place behind them
-pub nears-end : (path : List ℕ) (variables : List Variable) (i : ℕ) → length variables ≤ i
-    → nears path (drop i variables) i ≡ []
-unfolding nears
-nears-end path variables i h = rw (drop_all i variables h) refl
+pub distances-end : (path : List ℕ) (variables : List Variable) (i : ℕ) → length variables ≤ i
+    → distances path (drop i variables) i ≡ []
+unfolding distances
+distances-end path variables i h = rw (drop_all i variables h) refl

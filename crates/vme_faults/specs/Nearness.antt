@@ -5,36 +5,36 @@ use Rattle.std.specs.List.Sorted.{IsPermutation, IsSorted}
 use Rattle.std.specs.Ordering.{nat_cmp, ordering_then}
 use Rattle.std.specs.declared.cmp.Ordering.{Ordering}
 use Rattle.vcd_read.specs.declared.dump.Variable.{Variable}
-use Rattle.vme_faults.specs.declared.nearness.Near.{Near}
+use Rattle.vme_faults.specs.declared.nearness.NearVariable.{NearVariable}
 
 -- with how many letters both begin, whatever their case
-unfoldable pub common_front : List ℕ → List ℕ → ℕ
-common_front [] ys = 0
-common_front (x ∷ xs) [] = 0
-common_front (x ∷ xs) (y ∷ ys) = if eq_ignore_ascii_case x y then common_front xs ys + 1 else 0
+unfoldable pub common_prefix : List ℕ → List ℕ → ℕ
+common_prefix [] ys = 0
+common_prefix (x ∷ xs) [] = 0
+common_prefix (x ∷ xs) (y ∷ ys) = if eq_ignore_ascii_case x y then common_prefix xs ys + 1 else 0
 
 -- with how many both end
-abbrev pub common_end : List ℕ → List ℕ → ℕ
-common_end xs ys = common_front (reverse xs) (reverse ys)
+abbrev pub common_suffix : List ℕ → List ℕ → ℕ
+common_suffix xs ys = common_prefix (reverse xs) (reverse ys)
 
 -- how many letters of the longer one lie between what both begin with and what both end with
-abbrev pub apart : List ℕ → List ℕ → ℕ
-apart xs ys =
-    max (length xs) (length ys) - min (common_front xs ys + common_end xs ys) (min (length xs) (length ys))
+abbrev pub path_distance : List ℕ → List ℕ → ℕ
+path_distance xs ys =
+    max (length xs) (length ys) - min (common_prefix xs ys + common_suffix xs ys) (min (length xs) (length ys))
 
 -- how far the path of each variable is from one, the first one standing at a place
-unfoldable pub nears : List ℕ → List Variable → ℕ → List Near
-nears path [] place = []
-nears path (v ∷ variables) place =
-    record { distance = apart path v.path; place = place } ∷ nears path variables (place + 1)
+unfoldable pub distances : List ℕ → List Variable → ℕ → List NearVariable
+distances path [] place = []
+distances path (v ∷ variables) place =
+    record { distance = path_distance path v.path; place = place } ∷ distances path variables (place + 1)
 
 -- the nearer one comes first, and of those as near the one that stands first
-abbrev pub near_cmp : Near → Near → Ordering
+abbrev pub near_cmp : NearVariable → NearVariable → Ordering
 near_cmp a b = ordering_then (nat_cmp a.distance b.distance) (nat_cmp a.place b.place)
 
 -- these are the first ones, so many or all, where the variables stand in the order of how near their paths are
-pub record AreNearest (path : List ℕ) (variables : List Variable) (count : ℕ) (found : List Near) : Type 0 where
-  pub ordered : List Near
-  pub are_all : IsPermutation (nears path variables 0) ordered
+pub record AreNearest (path : List ℕ) (variables : List Variable) (count : ℕ) (found : List NearVariable) : Type 0 where
+  pub ordered : List NearVariable
+  pub are_all : IsPermutation (distances path variables 0) ordered
   pub is_ordered : IsSorted near_cmp ordered
   pub are_first : found ≡ take count ordered

@@ -41,5 +41,5 @@ mod refusal;
 
 pub use file_kind::FileKind;
 pub use kind::Kind;
-pub use nearness::{Near, nearest};
+pub use nearness::{NearVariable, nearest};
 pub use page::{Page, faults_text, push_page};

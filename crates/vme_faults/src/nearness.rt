@@ -1,7 +1,7 @@
 //! How near the paths of a dump's variables are to one that it lacks.
 
 ghost use Rattle.std.specs.Prelude.{◌≡◌, IfOk};
-ghost use Rattle.vme_faults.specs.Nearness.{AreNearest, apart, common_end, common_front, nears};
+ghost use Rattle.vme_faults.specs.Nearness.{AreNearest, path_distance, common_suffix, common_prefix, distances};
 
 use std::alloc::{AllocError, Global};
 use vcd_read::Variable;
@@ -9,7 +9,7 @@ use vcd_read::Variable;
 /// A variable, and how far its path is from one that is sought: the nearer one is less, and of those as near the one
 /// that is declared first.
 #[derive(Clone, Copy, Debug, PartialEq, Eq, PartialOrd, Ord)]
-pub struct Near {
+pub struct NearVariable {
     /// How far its path is from the other one.
     pub distance: usize,
     /// Its place among all variables, from 0.
@@ -19,7 +19,7 @@ pub struct Near {
 /// The variables whose paths are nearest to one, so many of them or all, the nearest first, and those as near in the
 /// order of their declaration.
 ///
-/// How far two paths are apart is how many letters of the longer one lie between what both begin with and what both
+/// The distance of two paths is how many letters of the longer one lie between what both begin with and what both
 /// end with, whatever the letters' case. So one letter that is wrong, lacking or too much counts 1, wherever it
 /// stands, and a scope its name and its dot. The only error is want of memory.
 pub fn nearest(
@@ -27,42 +27,46 @@ pub fn nearest(
     path: &[u8],
     variables: &[Variable],
     count: usize,
-) -> Result<Vec<Near>, AllocError>
+) -> Result<Vec<NearVariable>, AllocError>
     ensures { IfOk result (λ found. AreNearest path.now variables.now count found.items) }
 {
-    let mut found = nears(alloc, path, variables)?;
+    let mut found = distances(alloc, path, variables)?;
     found.sort_unstable();
     found.truncate(count);
     Ok(found)
 }
 
 /// How far the path of each variable is from one.
-fn nears(alloc: Global, path: &[u8], variables: &[Variable]) -> Result<Vec<Near>, AllocError>
-    ensures { IfOk result (λ all. all.items ≡ nears path.now variables.now 0) }
+fn distances(
+    alloc: Global,
+    path: &[u8],
+    variables: &[Variable],
+) -> Result<Vec<NearVariable>, AllocError>
+    ensures { IfOk result (λ all. all.items ≡ distances path.now variables.now 0) }
 {
     let mut all = Vec::with_capacity(alloc, variables.len())?;
     for (place, variable) in variables.iter().enumerate() {
-        all.push(Near {
-            distance: apart(path, variable.path.as_bytes()),
+        all.push(NearVariable {
+            distance: path_distance(path, variable.path.as_bytes()),
             place,
         })?;
     }
     Ok(all)
 }
 
-/// How far two paths are apart.
-fn apart(one: &[u8], other: &[u8]) -> usize
-    ensures { result ≡ apart one.now other.now }
+/// The distance of two paths.
+fn path_distance(one: &[u8], other: &[u8]) -> usize
+    ensures { result ≡ path_distance one.now other.now }
 {
     let shorter = one.len().min(other.len());
-    let front = common_front(one, other);
-    let end = common_end(one, other);
+    let front = common_prefix(one, other);
+    let end = common_suffix(one, other);
     one.len().max(other.len()) - front.saturating_add(end).min(shorter)
 }
 
 /// With how many letters both begin.
-fn common_front(one: &[u8], other: &[u8]) -> usize
-    ensures { result ≡ common_front one.now other.now }
+fn common_prefix(one: &[u8], other: &[u8]) -> usize
+    ensures { result ≡ common_prefix one.now other.now }
 {
     let shorter = one.len().min(other.len());
     for at in 0..shorter {
@@ -74,8 +78,8 @@ fn common_front(one: &[u8], other: &[u8]) -> usize
 }
 
 /// With how many letters both end.
-fn common_end(one: &[u8], other: &[u8]) -> usize
-    ensures { result ≡ common_end one.now other.now }
+fn common_suffix(one: &[u8], other: &[u8]) -> usize
+    ensures { result ≡ common_suffix one.now other.now }
 {
     let shorter = one.len().min(other.len());
     for at in 0..shorter {

@@ -4,7 +4,7 @@ use std::test::Fail;
 use vcd_read::{FaultKind, Variables, VcdFault, read_definitions};
 use vme_answer::Refusal;
 use vme_bind::{BindFault, BindKind};
-use vme_faults::{FileKind, Kind, Near, Page, faults_text, nearest};
+use vme_faults::{FileKind, Kind, NearVariable, Page, faults_text, nearest};
 use vme_listing::ListFault;
 
 /// What is told of a kind.
@@ -116,15 +116,15 @@ const ALIKE: &str =
 $scope module slot $end\n$var wire 1 d AS $end\n$upscope $end\n$upscope $end\n$enddefinitions $end\n";
 
 /// The variables of `ALIKE` that are nearest to a path.
-fn alike(alloc: Global, path: &str, count: usize) -> Result<Vec<Near>, AllocError> {
+fn alike(alloc: Global, path: &str, count: usize) -> Result<Vec<NearVariable>, AllocError> {
     match read_definitions(alloc, ALIKE.as_bytes(), Variables::new(alloc)) {
         Ok((_, variables)) => nearest(alloc, path.as_bytes(), variables.as_slice(), count),
         Err(_) => Err(AllocError),
     }
 }
 
-fn near(distance: usize, place: usize) -> Near {
-    Near { distance, place }
+fn near(distance: usize, place: usize) -> NearVariable {
+    NearVariable { distance, place }
 }
 
 #[test]

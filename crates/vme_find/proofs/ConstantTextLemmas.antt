@@ -16,7 +16,8 @@ use Rattle.vme_bind.specs.Answers.{at_line}
 use Rattle.vme_bind.specs.Binding.{BoundLines, binding_from, binding_of, bound, bound_all, finished, group_of}
 use Rattle.vme_bind.specs.Binding.{name_and_source, no_assignments, once, slots_behind, with_assignment}
 use Rattle.vme_bind.specs.Groups.{down_from, group_named, single}
-use Rattle.vme_bind.specs.Text.{Saying, all_said, end_line, is_feed, said, said_from, without_return, words}
+use Rattle.vme_bind.specs.Text.{StatementText, statements_of, end_line, is_feed, statement_on, statements_from}
+use Rattle.vme_bind.specs.Text.{without_return, words}
 use Rattle.vme_bind.specs.declared.fault.BindFault.{BindFault}
 use Rattle.vme_bind.specs.declared.fault.BindKind.{BindKind}
 use Rattle.vme_bind.specs.declared.fault.BindKind.TheVariants.{BadLine}
@@ -66,7 +67,7 @@ split_first (x ∷ xs) ys e =
 -- ---- its first line
 
 -- one saying that says the count of slots
-says_slots : ℕ → List Saying → Bool
+says_slots : ℕ → List StatementText → Bool
 says_slots slots [] = false
 says_slots slots (s ∷ []) = elim (slots_behind s.first s.others) [
   | Ok count ↦ count == slots
@@ -74,8 +75,8 @@ says_slots slots (s ∷ []) = elim (slots_behind s.first s.others) [
 ]
 says_slots slots (s ∷ t ∷ ss) = false
 
-abbrev first_said : ℕ → List Saying
-first_said slots = said 1 (words (without_return (first_line slots)))
+abbrev first_said : ℕ → List StatementText
+first_said slots = statement_on 1 (words (without_return (first_line slots)))
 
 abbrev first_is_good : ℕ → Bool
 first_is_good slots = list_all (λ b. not (is_feed b)) (first_line slots) && says_slots slots (first_said slots)
@@ -97,13 +98,13 @@ holds_for : (p : ℕ → Bool) → every p 1 22 ≡ true → (n : ℕ) → 1 ≤
 holds_for p all n low high = true_of_not (p n) (any-fails (λ k. not (p k)) 1 22 n (false_of_not _ all) low
     (omega (arith, high)))
 
-abbrev SaysSlots : ℕ → List Saying → Type 0
-SaysSlots slots ss = (s : Saying) × (ss ≡ s ∷ []) × (slots_behind s.first s.others ≡ Ok slots)
+abbrev SaysSlots : ℕ → List StatementText → Type 0
+SaysSlots slots ss = (s : StatementText) × (ss ≡ s ∷ []) × (slots_behind s.first s.others ≡ Ok slots)
 
 abbrev ok_count : ℕ → Result ℕ BindKind
 ok_count n = Ok n
 
-slots_said : (slots : ℕ) (ss : List Saying) → says_slots slots ss ≡ true → SaysSlots slots ss
+slots_said : (slots : ℕ) (ss : List StatementText) → says_slots slots ss ≡ true → SaysSlots slots ss
 unfolding says_slots
 slots_said slots [] e = cc
 slots_said slots (s ∷ []) e = by_count (slots_behind s.first s.others) refl e
@@ -116,8 +117,8 @@ slots_said slots (s ∷ t ∷ ss) e = cc
 
 -- ---- the other lines
 
-abbrev others_said : List Saying
-others_said = said_from 2 (slice_split is_feed other_lines)
+abbrev others_said : List StatementText
+others_said = statements_from 2 (slice_split is_feed other_lines)
 
 -- the lines of the names that the text has
 abbrev group_quickly : ℕ → List ℕ → Option Group
@@ -141,14 +142,14 @@ group_quickly slots name =
     else if bytes_eq name (codes "IA") then Some (down_from (iack slots) slots)
     else None
 
-abbrev bound_quickly : BoundLines → Saying → Result BoundLines BindKind
+abbrev bound_quickly : BoundLines → StatementText → Result BoundLines BindKind
 bound_quickly b s = do
   words ← name_and_source s.first s.others
   group ← group_of (group_quickly b.slots words.0)
   new ← once b.assignments group
   Ok (with_assignment b s.line new words.1)
 
-unfoldable all_quickly : BoundLines → List Saying → Result BoundLines BindFault
+unfoldable all_quickly : BoundLines → List StatementText → Result BoundLines BindFault
 all_quickly b [] = Ok b
 all_quickly b (s ∷ ss) = do
   next ← at_line s.line (bound_quickly b s)
@@ -157,7 +158,7 @@ all_quickly b (s ∷ ss) = do
 abbrev IsQuick : List ℕ → Type 0
 IsQuick name = (slots : ℕ) → group_named slots name ≡ group_quickly slots name
 
-AllQuick : List Saying → Type 0
+AllQuick : List StatementText → Type 0
 AllQuick [] = Unit {0}
 AllQuick (s ∷ ss) = IsQuick s.first × AllQuick ss
 
@@ -165,14 +166,14 @@ bind_same : {A B E : Type 0} (r : Result A E) (f g : A → Result B E) → ((x :
 bind_same (Ok x) f g same = same x
 bind_same (Err e) f g same = refl
 
-abbrev with_group : BoundLines → Saying → List ℕ → Option Group → Result BoundLines BindKind
+abbrev with_group : BoundLines → StatementText → List ℕ → Option Group → Result BoundLines BindKind
 with_group b s source group = group_of group >>= λ group. once b.assignments group >>= λ new. Ok
     (with_assignment b s.line new source)
 
 abbrev by_equals : List ℕ → List ℕ → Bool → Result (List ℕ × List ℕ) BindKind
 by_equals first source test = if test then Ok (first, source) else Err BadLine
 
-same_bound : (b : BoundLines) (s : Saying) → IsQuick s.first → bound b s ≡ bound_quickly b s
+same_bound : (b : BoundLines) (s : StatementText) → IsQuick s.first → bound b s ≡ bound_quickly b s
 same_bound b s quick = by_others s.others
   where
     by_test : (test : Bool) (source : List ℕ)
@@ -189,7 +190,7 @@ same_bound b s quick = by_others s.others
     by_others (equals ∷ source ∷ []) = by_test (bytes_eq equals (codes "=")) source
     by_others (equals ∷ source ∷ more ∷ others) = refl
 
-same_all : (ss : List Saying) (b : BoundLines) → AllQuick ss → bound_all b ss ≡ all_quickly b ss
+same_all : (ss : List StatementText) (b : BoundLines) → AllQuick ss → bound_all b ss ≡ all_quickly b ss
 unfolding bound_all all_quickly AllQuick
 same_all [] b quick = refl
 same_all (s ∷ ss) b quick =
@@ -203,7 +204,7 @@ own : (l : ℕ) (name : List ℕ) (slots : ℕ) → l < line_count → line_name
 own l name slots below is = ap (option_and_then (single slots)) (line_named-is l name below is)
 
 others_quick : AllQuick others_said
-unfolding AllQuick said_from digits
+unfolding AllQuick statements_from digits
 others_quick = (
   λ slots. own AS (codes "AS") slots (omega arith) refl,
   (
@@ -277,17 +278,18 @@ abbrev bound_by : ℕ → ℕ → Result BoundLines BindFault
 bound_by line slots = all_quickly (no_assignments slots) others_said >>= finished line
 
 all_bind : (line : ℕ) → every (λ slots. binds slots (bound_by line slots)) 1 22 ≡ true
-unfolding any least all_quickly said_from binds
+unfolding any least all_quickly statements_from binds
 all_bind line = refl
 
-said_all : (slots : ℕ) (s : Saying) → list_all (λ b. not (is_feed b)) (first_line slots) ≡ true → first_said slots
-    ≡ s ∷ [] → all_said (text_of slots) ≡ s ∷ others_said
-unfolding said_from
+said_all : (slots : ℕ) (s : StatementText) → list_all (λ b. not (is_feed b)) (first_line slots) ≡ true
+    → first_said slots
+    ≡ s ∷ [] → statements_of (text_of slots) ≡ s ∷ others_said
+unfolding statements_from
 said_all slots s plain is =
-    ap (said_from 1) (split_first (first_line slots) other_lines plain)
-    ∙ ap (λ (ss : List Saying). ss ++ others_said) is
+    ap (statements_from 1) (split_first (first_line slots) other_lines plain)
+    ∙ ap (λ (ss : List StatementText). ss ++ others_said) is
 
-binding_is : (slots line : ℕ) (s : Saying) → slots_behind s.first s.others ≡ Ok slots
+binding_is : (slots line : ℕ) (s : StatementText) → slots_behind s.first s.others ≡ Ok slots
     → binding_from line (s ∷ others_said) ≡ bound_by line slots
 binding_is slots line s is =
     ap (λ (r : Result ℕ BindKind). at_line s.line r >>= λ count. bound_all (no_assignments count) others_said >>=

@@ -16,7 +16,7 @@ use Rattle.vcd_read.specs.Sections.{Headed, defined}
 use Rattle.vcd_read.proofs.DumpLemmas.{dump_behind, whole_header, with_variables}
 use Rattle.vcd_read.proofs.ScopesLemmas.{path_of-is}
 use Rattle.vme_bind.specs.PathSearch.{begins_with}
-use Rattle.vme_bind.proofs.SoughtLemmas.{begins_with-append}
+use Rattle.vme_bind.proofs.PathSearchLemmas.{begins_with-append}
 use Rattle.vme_bind.specs.TextCapture.{capture_of_text, capture_read}
 use Rattle.vme_find.specs.Recordings.{IsDump, MakesRecording}
 use Rattle.vme_find.specs.Scopes.{DefinesScope, HasScope, LacksScope, ScopeSought, has_scope, path_begins, sought_in}

@@ -180,7 +180,7 @@ impl DeclaredNames {
     }
 
     /// Puts a scope into the bucket of its hash.
-    fn hang(&mut self, place: usize) {
+    fn link_scope(&mut self, place: usize) {
         let Some(scope) = self.scopes.get(place).copied() else {
             return;
         };
@@ -195,12 +195,12 @@ impl DeclaredNames {
     }
 
     /// Makes twice as many buckets.
-    fn spread(&mut self) -> Result<(), AllocError> {
+    fn double_buckets(&mut self) -> Result<(), AllocError> {
         let count = self.buckets.len().saturating_mul(2);
         self.buckets.clear();
         self.buckets.resize(count, NOWHERE)?;
         for place in 1..self.scopes.len() {
-            self.hang(place);
+            self.link_scope(place);
         }
         Ok(())
     }
@@ -233,9 +233,9 @@ impl DeclaredNames {
             next: NOWHERE,
         })?;
         if place > self.buckets.len() {
-            self.spread()?;
+            self.double_buckets()?;
         } else {
-            self.hang(place);
+            self.link_scope(place);
         }
         Ok(place)
     }

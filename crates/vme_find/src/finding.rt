@@ -35,7 +35,7 @@ struct Candidate {
 #[derive(Drop)]
 pub(crate) struct Findings {
     /// A bit of a variable for each line, by the line's number.
-    taps: [Option<VariableBit>; LINE_COUNT as usize],
+    bits_of_lines: [Option<VariableBit>; LINE_COUNT as usize],
     /// The lines whose bit moves.
     moving: [bool; LINE_COUNT as usize],
     /// The path of the scope in which they stand.
@@ -52,7 +52,7 @@ impl Findings {
     /// Nothing is found.
     pub(crate) fn none(alloc: Global) -> Findings {
         Findings {
-            taps: [None; LINE_COUNT as usize],
+            bits_of_lines: [None; LINE_COUNT as usize],
             moving: [false; LINE_COUNT as usize],
             scope: Vec::new(alloc),
             is_asked: false,
@@ -62,8 +62,11 @@ impl Findings {
     }
 
     /// The bit that was found for a line.
-    pub(crate) fn tap(&self, line: Line) -> Option<VariableBit> {
-        self.taps.get(usize::from(line.number())).copied().flatten()
+    pub(crate) fn bit_of_line(&self, line: Line) -> Option<VariableBit> {
+        self.bits_of_lines
+            .get(usize::from(line.number()))
+            .copied()
+            .flatten()
     }
 
     /// Whether the bit of a line was found and moves.
@@ -79,7 +82,7 @@ impl Findings {
         let mut groups: Groups = 0;
         for number in 0..LINE_COUNT {
             if let Some(line) = Line::from_number(number) {
-                if self.tap(line).is_some() {
+                if self.bit_of_line(line).is_some() {
                     groups |= group_of(line);
                 }
             }
@@ -89,15 +92,15 @@ impl Findings {
 
     /// Lets go of what was found for a line.
     pub(crate) fn forget(&mut self, line: Line) {
-        if let Some(tap) = self.taps.get_mut(usize::from(line.number())) {
-            *tap = None;
+        if let Some(bit_of_line) = self.bits_of_lines.get_mut(usize::from(line.number())) {
+            *bit_of_line = None;
         }
     }
 
     /// Binds a line to a bit.
     pub(crate) fn set(&mut self, line: Line, bit: Option<VariableBit>) {
-        if let Some(tap) = self.taps.get_mut(usize::from(line.number())) {
-            *tap = bit;
+        if let Some(bit_of_line) = self.bits_of_lines.get_mut(usize::from(line.number())) {
+            *bit_of_line = bit;
         }
     }
 
@@ -105,8 +108,8 @@ impl Findings {
     pub(crate) fn slots(&self) -> u8 {
         let mut slots = 1;
         for place in 1..MOST_SLOTS + 1 {
-            let grants = (0..4).any(|level| self.tap(Line::grant(level, place)).is_some());
-            if grants || self.tap(Line::iack(place)).is_some() {
+            let grants = (0..4).any(|level| self.bit_of_line(Line::grant(level, place)).is_some());
+            if grants || self.bit_of_line(Line::iack(place)).is_some() {
                 slots = place;
             }
         }
@@ -118,8 +121,8 @@ impl Findings {
         (0..LINE_COUNT).any(|number| match Line::from_number(number) {
             Some(line) => {
                 let same = group_of(line) & group != 0;
-                match self.tap(line) {
-                    Some(tap) => !same && tap.variable == variable,
+                match self.bit_of_line(line) {
+                    Some(bit_of_line) => !same && bit_of_line.variable == variable,
                     None => false,
                 }
             }
@@ -136,7 +139,7 @@ impl Findings {
         for place in 0..size {
             if let Some(line) = candidate.named.line_at(declared, place) {
                 groups |= group_of(line);
-                is_taken = is_taken || (self.tap(line).is_some() && line != Line::IACK);
+                is_taken = is_taken || (self.bit_of_line(line).is_some() && line != Line::IACK);
             }
         }
         if candidate.direction == Direction::Output && is_taken {
@@ -147,7 +150,7 @@ impl Findings {
         }
         for place in 0..size {
             if let Some(line) = candidate.named.line_at(declared, place) {
-                if self.tap(line).is_none() {
+                if self.bit_of_line(line).is_none() {
                     let bit = VariableBit {
                         variable: candidate.variable,
                         place,
@@ -189,7 +192,7 @@ fn all_votes(
                 None => true,
             };
             let is_better = match votes.get(best) {
-                Some(other) => vote.merit() > other.merit(),
+                Some(other) => vote.score() > other.score(),
                 None => true,
             };
             if is_asked && is_better {

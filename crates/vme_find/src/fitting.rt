@@ -37,7 +37,8 @@ impl Fitted {
     pub(crate) fn new(found: Findings) -> Fitted {
         let mut fitted = Fitted {
             arbitration: arbitration(&found),
-            has_chain: found.tap(Line::IACK).is_some() && found.tap(Line::iack(1)).is_some(),
+            has_chain: found.bit_of_line(Line::IACK).is_some()
+                && found.bit_of_line(Line::iack(1)).is_some(),
             code: code_for(&found),
             named: found.groups(),
             found,
@@ -76,7 +77,7 @@ impl Fitted {
                 for place in 0..MOST_SLOTS + 1 {
                     self.found.forget(Line::grant(level, place));
                 }
-            } else if self.found.tap(Line::grant(level, 0)).is_some() {
+            } else if self.found.bit_of_line(Line::grant(level, 0)).is_some() {
                 self.set_low(Line::bus_request(level));
                 self.fill_grants(level);
             }
@@ -90,17 +91,17 @@ impl Fitted {
         }
         let mut last = 0;
         for place in 1..MOST_SLOTS + 1 {
-            if self.found.tap(Line::grant(level, place)).is_some() {
+            if self.found.bit_of_line(Line::grant(level, place)).is_some() {
                 last = place;
             }
         }
         let mut before: Option<VariableBit> = None;
         for place in 0..MOST_SLOTS + 1 {
             let line = Line::grant(level, place);
-            if self.found.tap(line).is_none() && place < last {
+            if self.found.bit_of_line(line).is_none() && place < last {
                 self.found.set(line, before);
             }
-            before = self.found.tap(line);
+            before = self.found.bit_of_line(line);
         }
     }
 
@@ -111,17 +112,17 @@ impl Fitted {
             let line = Line::iack(place);
             if !self.has_chain {
                 self.found.forget(line);
-            } else if self.found.tap(line).is_some() {
+            } else if self.found.bit_of_line(line).is_some() {
                 last = place;
             }
         }
         let mut before: Option<VariableBit> = None;
         for place in 1..MOST_SLOTS + 1 {
             let line = Line::iack(place);
-            if self.found.tap(line).is_none() && place < last {
+            if self.found.bit_of_line(line).is_none() && place < last {
                 self.found.set(line, before);
             }
-            before = self.found.tap(line);
+            before = self.found.bit_of_line(line);
         }
     }
 
@@ -153,7 +154,7 @@ fn code_for(found: &Findings) -> u8 {
 /// Whether an address line from a first to a last one was found.
 fn has_address(found: &Findings, first: u8, last: u8) -> bool {
     for bit in 1..32 {
-        if first <= bit && bit <= last && found.tap(Line::address(bit)).is_some() {
+        if first <= bit && bit <= last && found.bit_of_line(Line::address(bit)).is_some() {
             return true;
         }
     }
@@ -162,7 +163,7 @@ fn has_address(found: &Findings, first: u8, last: u8) -> bool {
 
 /// Whether the grants of a level were found, and the arbiter's among them.
 fn is_granted(found: &Findings, level: u8) -> bool {
-    level < 4 && found.tap(Line::grant(level, 0)).is_some()
+    level < 4 && found.bit_of_line(Line::grant(level, 0)).is_some()
 }
 
 /// Whether a level is used, and its grants can't be judged.
@@ -176,7 +177,7 @@ fn lacks_grants(found: &Findings, level: u8) -> bool {
 
 /// Whether arbitration is judged, or why not.
 fn arbitration(found: &Findings) -> AtRest {
-    if found.tap(Line::BBSY).is_none() {
+    if found.bit_of_line(Line::BBSY).is_none() {
         return AtRest::NoBusy;
     }
     if !(0..4).any(|level| is_granted(found, level))

@@ -256,7 +256,7 @@ pub(crate) fn push_readings(
 
 /// A word that was met in a name: what stands before it, and what it says itself.
 #[derive(Clone, Copy)]
-struct Met<'n> {
+struct MetWord<'n> {
     before: &'n [u8],
     direction: Direction,
     is_standard: bool,
@@ -265,7 +265,7 @@ struct Met<'n> {
 /// Puts a reading behind others: what a word stands for, and what stands behind it.
 fn push_reading(
     readings: &mut Vec<NameReading>,
-    met: &Met<'_>,
+    met: &MetWord<'_>,
     named: Option<Named>,
     after: &[u8],
 ) -> Result<(), AllocError> {
@@ -287,7 +287,7 @@ fn push_reading(
 /// Puts the readings of a word for a line or a group behind others, its number close behind it or at the end.
 fn push_word(
     readings: &mut Vec<NameReading>,
-    met: &Met<'_>,
+    met: &MetWord<'_>,
     meaning: &Meaning,
     behind: &[u8],
 ) -> Result<(), AllocError> {
@@ -312,7 +312,7 @@ fn level_behind(behind: &[u8]) -> Option<(u8, &[u8])> {
 /// Puts the readings of a grant behind others.
 fn push_grants(
     readings: &mut Vec<NameReading>,
-    met: &Met<'_>,
+    met: &MetWord<'_>,
     behind: &[u8],
 ) -> Result<(), AllocError> {
     if let Some((level, rest)) = level_behind(behind) {
@@ -330,7 +330,7 @@ fn push_grants(
 /// what the first slot does, or the place of a net.
 fn push_level(
     readings: &mut Vec<NameReading>,
-    met: &Met<'_>,
+    met: &MetWord<'_>,
     level: u8,
     behind: &[u8],
 ) -> Result<(), AllocError> {
@@ -338,7 +338,7 @@ fn push_level(
     let Some((direction, after)) = behind_way(behind) else {
         return push_nets(readings, met, level, behind);
     };
-    let way = Met {
+    let way = MetWord {
         before: met.before,
         direction,
         is_standard: met.is_standard,
@@ -351,7 +351,7 @@ fn push_level(
 /// Puts the readings of a net of a level's chain behind others, its place close behind or at the end.
 fn push_nets(
     readings: &mut Vec<NameReading>,
-    met: &Met<'_>,
+    met: &MetWord<'_>,
     level: u8,
     behind: &[u8],
 ) -> Result<(), AllocError> {
@@ -382,7 +382,7 @@ fn push_readings_at(
     for place in 0..WORDS.len() {
         let (word, meaning, is_standard) = WORDS[place];
         if let Some(behind) = behind_word(text, word) {
-            let met = Met {
+            let met = MetWord {
                 before,
                 direction: direction_of(word),
                 is_standard,

@@ -176,7 +176,7 @@ impl<'a> Proposal<'a> {
     /// Writes the data lines, or why they are left out.
     fn write_data(&mut self) -> Result<(), AllocError> {
         let first = Line::data(31).number();
-        if (0..32).all(|place| self.tap(first, place).is_none()) {
+        if (0..32).all(|place| self.bit_of_line(first, place).is_none()) {
             return self.text.push(NO_DATA.as_bytes());
         }
         self.write_group(b"D", first, 32)
@@ -185,7 +185,7 @@ impl<'a> Proposal<'a> {
     /// Writes the system reset, or why it is left out.
     fn write_reset(&mut self) -> Result<(), AllocError> {
         let reset = Line::SYSRESET;
-        if self.fitted.found.tap(reset).is_none() {
+        if self.fitted.found.bit_of_line(reset).is_none() {
             return self.text.push(NO_RESET.as_bytes());
         }
         self.write_group(reset.name().as_bytes(), reset.number(), 1)
@@ -230,12 +230,12 @@ impl<'a> Proposal<'a> {
     /// Writes the lines of a name, so many from the one of this number down: whole, where they are bits of one variable
     /// in this order, or else one by one.
     fn write_group(&mut self, name: &[u8], first: u8, count: u8) -> Result<(), AllocError> {
-        if (0..count).all(|place| self.tap(first, place).is_none()) {
+        if (0..count).all(|place| self.bit_of_line(first, place).is_none()) {
             return self.write_unfound(name, first, count);
         }
         self.write_doubled(name, first)?;
-        if let Some(tap) = self.run(first, count) {
-            if self.push_source(name, tap, u32::from(count))? {
+        if let Some(bit_of_line) = self.run(first, count) {
+            if self.push_source(name, bit_of_line, u32::from(count))? {
                 return Ok(());
             }
         }
@@ -306,8 +306,11 @@ impl<'a> Proposal<'a> {
 
     /// How the format can name the bit that was found for a line, by how far its number is below a first one.
     fn line_naming(&self, first: u8, place: u8) -> Option<Naming> {
-        let tap = self.tap(first, place)?;
-        Some(self.paths.naming(tap.variable, tap.place, 1))
+        let bit_of_line = self.bit_of_line(first, place)?;
+        Some(
+            self.paths
+                .naming(bit_of_line.variable, bit_of_line.place, 1),
+        )
     }
 
     /// Whether the format can name the bit that was found for a line, by how far its number is below a first one.
@@ -321,8 +324,10 @@ impl<'a> Proposal<'a> {
     /// How many of some lines are bound to variables: all, where they are bits of one variable that can be named at
     /// once, or else those whose bit can be named.
     pub(crate) fn count_bound(&self, first: u8, count: u8) -> u8 {
-        if let Some(tap) = self.run(first, count) {
-            let naming = self.paths.naming(tap.variable, tap.place, u32::from(count));
+        if let Some(bit_of_line) = self.run(first, count) {
+            let naming = self
+                .paths
+                .naming(bit_of_line.variable, bit_of_line.place, u32::from(count));
             if matches!(naming, Naming::Whole | Naming::Selected) {
                 return count;
             }
@@ -345,7 +350,7 @@ impl<'a> Proposal<'a> {
     fn ambiguous(&self, first: u8, count: u8) -> Option<usize> {
         for place in 0..count {
             if self.line_naming(first, place) == Some(Naming::Ambiguous) {
-                return Some(self.tap(first, place)?.variable);
+                return Some(self.bit_of_line(first, place)?.variable);
             }
         }
         None
@@ -357,8 +362,8 @@ impl<'a> Proposal<'a> {
             return Ok(());
         };
         let name = line.name();
-        if let Some(tap) = self.fitted.found.tap(line) {
-            if self.push_source(name.as_bytes(), tap, 1)? {
+        if let Some(bit_of_line) = self.fitted.found.bit_of_line(line) {
+            if self.push_source(name.as_bytes(), bit_of_line, 1)? {
                 return Ok(());
             }
         }
@@ -366,16 +371,16 @@ impl<'a> Proposal<'a> {
     }
 
     /// The bit that was found for a line, by how far its number is below a first one.
-    fn tap(&self, first: u8, place: u8) -> Option<VariableBit> {
+    fn bit_of_line(&self, first: u8, place: u8) -> Option<VariableBit> {
         let line = Line::from_number(first.checked_sub(place)?)?;
-        self.fitted.found.tap(line)
+        self.fitted.found.bit_of_line(line)
     }
 
     /// The first bit of some lines, if they are bits of one variable from there on to the right.
     fn run(&self, first: u8, count: u8) -> Option<VariableBit> {
-        let start = self.tap(first, 0)?;
+        let start = self.bit_of_line(first, 0)?;
         let follows = (0..count).all(|place| {
-            self.tap(first, place)
+            self.bit_of_line(first, place)
                 == Some(VariableBit {
                     variable: start.variable,
                     place: start.place.saturating_add(u32::from(place)),
@@ -388,21 +393,21 @@ impl<'a> Proposal<'a> {
     fn push_source(
         &mut self,
         name: &[u8],
-        tap: VariableBit,
+        bit_of_line: VariableBit,
         count: u32,
     ) -> Result<bool, AllocError> {
         let paths = self.paths;
-        let Some(variable) = paths.variable(tap.variable) else {
+        let Some(variable) = paths.variable(bit_of_line.variable) else {
             return Ok(false);
         };
-        let naming = paths.naming(tap.variable, tap.place, count);
+        let naming = paths.naming(bit_of_line.variable, bit_of_line.place, count);
         if !matches!(naming, Naming::Whole | Naming::Selected) {
             return Ok(false);
         }
         self.push_name(name)?;
         paths.push_path(&mut self.text, variable)?;
         if naming == Naming::Selected {
-            self.push_selection(selection_of(variable, tap.place, count))?;
+            self.push_selection(selection_of(variable, bit_of_line.place, count))?;
         }
         self.text.push(b"\n")?;
         Ok(true)

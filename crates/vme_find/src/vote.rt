@@ -42,7 +42,7 @@ pub(crate) struct VoteCounter {
 impl ScopeVote {
     /// How good the choice is, the best the greatest: where AS, a strobe and an answer are there; where AS and a strobe
     /// move; where most groups are found; where most of them move; and then where the scope stands in the fewest.
-    pub(crate) fn merit(&self) -> (bool, bool, u32, u32, usize) {
+    pub(crate) fn score(&self) -> (bool, bool, u32, u32, usize) {
         (
             has_handshake(self.found),
             has_cycle(self.moving),
@@ -193,6 +193,6 @@ impl VoteCounter {
 
 /// Whether a style is better than another one of the same scope: of equals the one that is declared first.
 fn is_better(style: &ScopeVote, other: &ScopeVote) -> bool {
-    let (new, old) = (style.merit(), other.merit());
+    let (new, old) = (style.score(), other.score());
     new > old || (new == old && style.variable < other.variable)
 }

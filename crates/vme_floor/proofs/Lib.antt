@@ -6,6 +6,6 @@ pub mod Uniting
 pub mod Replying
 pub mod Ordering
 pub mod Weighing
-pub mod Settling
+pub mod Accounts
 pub mod Cutting
 pub mod SizeCuts

@@ -9,7 +9,7 @@ use Rattle.vme_core.proofs.Sums.{occurrences_else}
 use Rattle.vme_floor.specs.declared.answer.Answer.{Answer}
 use Rattle.vme_floor.specs.declared.answer.Reply.{Reply}
 use Rattle.vme_floor.specs.Works.{replied}
-use Rattle.vme_floor.specs.Settling.{reply_of, IsTable}
+use Rattle.vme_floor.specs.Accounts.{reply_of, IsTable}
 use Rattle.vme_floor.proofs.Places.{get_here, get_else, get_snoc, get_replicate}
 
 abbrev O : Type 0

@@ -9,7 +9,7 @@ use Rattle.vme_board.specs.Contents.{HasBlock}
 use Rattle.vme_book.specs.Inserted.{RefusesBlock}
 use Rattle.vme_book.specs.declared.book.InsertFault.{InsertFault}
 use Rattle.vme_book.specs.declared.book.InsertFault.TheVariants as insert_fault
-use Rattle.vme_floor.specs.Settling.{ShareNoNumber, IsUnionBelow}
+use Rattle.vme_floor.specs.Accounts.{ShareNoNumber, IsUnionBelow}
 use Rattle.vme_floor.proofs.Collecting.{place_of}
 use Rattle.vme_floor.proofs.Places.{get_here, get_else}
 

@@ -19,7 +19,7 @@ use Rattle.vme_floor.specs.Answering.{first_refusal, Suits}
 use Rattle.vme_floor.specs.declared.answer.Answer.{Answer}
 use Rattle.vme_floor.specs.declared.answer.Answer.TheVariants.{Filed, Stranger, TooLong, Malformed, Doubled, Memory}
 use Rattle.vme_floor.specs.declared.answer.Reply.{Reply}
-use Rattle.vme_floor.specs.Settling.{reply_of}
+use Rattle.vme_floor.specs.Accounts.{reply_of}
 use Rattle.vme_floor.specs.Works.{number_in, number_at, filing, filings, replied, Each, IsListed, IsSeenIf}
 use Rattle.vme_floor.specs.Works.{IsOldOrFiled, IsReply, IsWork, Lists, left}
 use Rattle.vme_floor.proofs.Weighing.{is_filing}

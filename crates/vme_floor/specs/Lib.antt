@@ -4,4 +4,4 @@ pub mod Collecting
 pub mod Orders
 pub mod Claims
 pub mod Cuts
-pub mod Settling
+pub mod Accounts

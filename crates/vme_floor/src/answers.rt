@@ -2,7 +2,7 @@
 
 ghost use Rattle.std.specs.Prelude.{◌≡◌, ◌<◌, length, IfOk, IfErr};
 ghost use Rattle.vme_floor.specs.Works.{Each};
-ghost use Rattle.vme_floor.specs.Settling.{AreReplies, IsTable, LacksReply};
+ghost use Rattle.vme_floor.specs.Accounts.{AreReplies, IsTable, LacksReply};
 ghost use Rattle.vme_floor.specs.declared.answers.Unanswered.TheVariants.{Undrawn};
 
 use crate::answer::{Answer, Answers, Reply};

@@ -6,8 +6,8 @@
 //! - `runner`: [`run`], the whole, and its contract.
 //! - `worker`, `collector`, `threads`: what one worker does; what the calling thread does beside
 //!   that: it takes filed blocks into a book, which joins them; the workers side by side.
-//! - `settle`, `answers`: from what the workers did to a report; the replies in the order of the
-//!   deliveries.
+//! - `finish_run`, `answers`: from what the workers did to a report; the replies in the order of
+//!   the deliveries.
 //! - `answer`, `report`: what is answered to a delivery, and what a run gives.
 //! - `gate`: what a worker passes before it delivers.
 //! - `cuts`: what a cut of a recording is ([`every_size_cuts`]).
@@ -40,17 +40,17 @@
 //!
 //! # In which order to read
 //!
-//! `runner` and `specs/Claims`, `worker`, `collector`, `threads`, `settle`, `answers`.
+//! `runner` and `specs/Claims`, `worker`, `collector`, `threads`, `finish_run`, `answers`.
 #![tactic(auto)]
 
 mod answer;
 mod answers;
 mod collector;
 mod cuts;
+mod finish_run;
 mod gate;
 mod report;
 mod runner;
-mod settle;
 mod threads;
 mod worker;
 

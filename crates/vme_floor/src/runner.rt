@@ -9,9 +9,9 @@ ghost use Rattle.vme_floor.specs.Cuts.{JudgesCuts};
 ghost use Rattle.vme_floor.specs.declared.report.RunFault.TheVariants.{Stray};
 
 use crate::collector::{CollectingWorker, Collection};
+use crate::finish_run::finish_run;
 use crate::gate::Gate;
 use crate::report::{Report, RunFault};
-use crate::settle::settle;
 use crate::threads::{ThreadFault, work_together};
 use crate::worker::Work;
 use std::alloc::Global;
@@ -114,7 +114,7 @@ fn run_deliveries<R: Threads + Wait + Sync, G: Gate + Sync>(
             let CollectingWorker { work, collection } = all;
             let Work { bench, replies } = work;
             match board.close(alloc, bench) {
-                Ok(closed) => settle(alloc, deliveries, total, replies, collection, closed),
+                Ok(closed) => finish_run(alloc, deliveries, total, replies, collection, closed),
                 Err(_) => Err(RunFault::Memory),
             }
         }

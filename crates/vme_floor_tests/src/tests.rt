@@ -64,7 +64,7 @@ const CONFORMING: Outcome = Outcome::Judged(Verdict::Conforming);
 
 /// What a run told. It is smaller than its report, and so are the proofs of what owns it.
 #[derive(Drop)]
-struct Told {
+struct RunOutcome {
     outcome: Outcome,
     answers: Vec<Answer>,
     /// How many blocks were taken before the joins.
@@ -93,14 +93,14 @@ fn text_of(alloc: Global, span: &Span) -> Option<Vec<u8>>
 }
 
 /// What a report tells. Where memory is short once, its listing is made again.
-fn told_by(alloc: Global, report: Report) -> Option<Told>
+fn outcome_of_report(alloc: Global, report: Report) -> Option<RunOutcome>
     requires { first_number report.span ≡ 0 }
 {
     let listing = match text_of(alloc, &report.span) {
         Some(text) => Some(text),
         None => text_of(alloc, &report.span),
     };
-    Some(Told {
+    Some(RunOutcome {
         outcome: Outcome::Judged(report.verdict),
         answers: report.answers.into_inner(),
         early: report.early,
@@ -110,7 +110,7 @@ fn told_by(alloc: Global, report: Report) -> Option<Told>
 }
 
 /// What a fault tells.
-fn told_of_fault(alloc: Global, fault: RunFault) -> Told {
+fn outcome_of_fault(alloc: Global, fault: RunFault) -> RunOutcome {
     let (outcome, answers) = match fault {
         RunFault::Missing { number, answers } => (Outcome::Missing(number), answers.into_inner()),
         RunFault::Torn { number, answers } => (Outcome::Torn(number), answers.into_inner()),
@@ -121,7 +121,7 @@ fn told_of_fault(alloc: Global, fault: RunFault) -> Told {
         RunFault::BadWorkers => (Outcome::BadWorkers, Vec::new(alloc)),
         RunFault::Stray => (Outcome::Stray, Vec::new(alloc)),
     };
-    Told {
+    RunOutcome {
         outcome,
         answers,
         early: 0,
@@ -138,10 +138,10 @@ fn told_through<R: Threads + Wait + Sync, G: Gate + Sync>(
     total: u32,
     workers: u32,
     gate: &G,
-) -> Option<Told> {
+) -> Option<RunOutcome> {
     match run(rt, alloc, deliveries, total, workers, gate) {
-        Ok(report) => told_by(alloc, report),
-        Err(fault) => Some(told_of_fault(alloc, fault)),
+        Ok(report) => outcome_of_report(alloc, report),
+        Err(fault) => Some(outcome_of_fault(alloc, fault)),
     }
 }
 
@@ -152,7 +152,7 @@ fn told_of<R: Threads + Wait + Sync>(
     deliveries: &[Block],
     total: u32,
     workers: u32,
-) -> Option<Told> {
+) -> Option<RunOutcome> {
     told_through(rt, alloc, deliveries, total, workers, &Open)
 }
 

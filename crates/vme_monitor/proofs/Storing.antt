@@ -52,12 +52,12 @@ module _ {P : Type 0} where
     bridge_marks place rows,
   )
 
-  pub unmoved_marks : (ms : List P) → sum_by row_marks (map nothing_shown ms) ≡ 0
-  unmoved_marks [] = refl
-  unmoved_marks (m ∷ ms) = omega (
+  pub unchanged_marks : (ms : List P) → sum_by row_marks (map nothing_shown ms) ≡ 0
+  unchanged_marks [] = refl
+  unchanged_marks (m ∷ ms) = omega (
     arith,
     sum_by-cons row_marks (nothing_shown m) (map nothing_shown ms),
-    unmoved_marks ms,
+    unchanged_marks ms,
   )
 
   rejoined_marks : (merged : List P) (rows : List (Outcome P)) (links : List LinkValue) → AllRejoin merged rows links
@@ -80,14 +80,14 @@ module _ {P : Type 0} where
       let all : sum_by layer_marks (ls ++ links ∷ []) ≡ sum_by layer_marks ls + sum_by layer_marks (links ∷ [])
       = sum_by-append layer_marks ls (links ∷ []) in
       let one : sum_by layer_marks (links ∷ []) ≡ sum_by link_marks links + 0 = sum_by-cons layer_marks links [] in
-      omega (arith, all, one, unmoved_marks merged, rejoined_marks merged rows links r)
+      omega (arith, all, one, unchanged_marks merged, rejoined_marks merged rows links r)
 
   -- fresh rows have none
   pub marks_fresh : (ls : List (List LinkValue)) (ms : List P) (rows : List (Outcome P)) → ls ≡ [] → rows
       ≡ map nothing_shown ms → marks_of ls rows ≡ 0
   marks_fresh ls ms rows none fresh =
       let layers : sum_by layer_marks ls ≡ 0 = ap (sum_by layer_marks) none in
-      let all : sum_by row_marks rows ≡ 0 = ap (sum_by row_marks) fresh ∙ unmoved_marks ms in
+      let all : sum_by row_marks rows ≡ 0 = ap (sum_by row_marks) fresh ∙ unchanged_marks ms in
       omega (arith, layers, all)
 
   -- a table of two keeps the marks of both

@@ -34,7 +34,7 @@ AreDistinct {P} place ms = (i j : ℕ) (p q : P) → slice_get ms i ≡ Some p �
 abbrev pub AreAmong : {P : Type 0} → List P → List P → Type 0
 AreAmong {P} ms others = (i : ℕ) (p : P) → slice_get ms i ≡ Some p → (j : ℕ) × (slice_get others j ≡ Some p)
 
--- the seat of each memory's place says where the memory is in a list
+-- the entry of each memory's place says where the memory is in a list
 abbrev pub AreLastSeen : {P : Type 0} → (P → ℕ) → List P → List ℕ → Type 0
 AreLastSeen {P} place ms last_seen = (i : ℕ) (p : P) → slice_get ms i ≡ Some p → slice_get last_seen (place p) ≡ Some i
 

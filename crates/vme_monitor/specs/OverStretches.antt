@@ -40,51 +40,52 @@ has_started Ended = true
 
 -- what the inner machine does, in the memory of the outer one
 abbrev pub inner : {P : Type 0} → Next P → Next (StretchPhase P)
-inner n = record { memory = Judging n.memory; fault = n.fault; kinds = n.kinds }
+inner n = record { memory = Judging n.memory; fault = n.fault; shown = n.shown }
 
-abbrev pub noted : {S : Type 0} → (Levels → Levels → List Change → Option S)
+abbrev pub observed : {S : Type 0} → (Levels → Levels → List Change → Option S)
     → Levels → Levels → List Change → Option (StretchObservation S)
-noted observation before after cs =
+observed observation before after cs =
     if touches_control after.slots cs || is_some (observation before after cs)
     then Some (record { end = end_among after cs; inner = observation before after cs })
     else None
 
--- who waits notices each change of a control line, who judges what the rules see, and all what ends a span
-abbrev pub phase_alertness : {P : Type 0} → StretchPhase P → ℕ
-phase_alertness Waiting = 2
-phase_alertness (Judging p) = 1
-phase_alertness Reset = 3
-phase_alertness Ended = 0
+-- a machine that waits reacts to each change of a control line, one that judges to what the rules see, and all to what
+-- ends a span
+abbrev pub phase_sensitivity : {P : Type 0} → StretchPhase P → ℕ
+phase_sensitivity Waiting = 2
+phase_sensitivity (Judging p) = 1
+phase_sensitivity Reset = 3
+phase_sensitivity Ended = 0
 
--- what ends a span is noticed by all: where it is a reset, who judged waits again
-abbrev pub faintness_by : {S : Type 0} → Option End → Option S → ℕ
-faintness_by (Some ends) seen = 0
-faintness_by None (Some s) = 1
-faintness_by None None = 2
+-- all react to what ends a span: where it is a reset, a machine that judged waits again
+abbrev pub threshold_by : {S : Type 0} → Option End → Option S → ℕ
+threshold_by (Some ends) seen = 0
+threshold_by None (Some s) = 1
+threshold_by None None = 2
 
-abbrev pub noted_faintness : {S : Type 0} → StretchObservation S → ℕ
-noted_faintness seen = faintness_by seen.end seen.inner
+abbrev pub stretch_threshold : {S : Type 0} → StretchObservation S → ℕ
+stretch_threshold seen = threshold_by seen.end seen.inner
 
 module _ {P S : Type 0} (begin : Levels → P) (opens : Levels → StepMarks) (resets : StepMarks) (ends : ℕ → Option Fault)
     (next : P → Levels → Levels → S → Next P) where
   -- in the memory of one who waits
   abbrev pub waiting : StretchPhase P → Levels → Next (StretchPhase P)
   waiting m after =
-      if is_idle after then record { memory = Judging (begin after); fault = None; kinds = opens after } else quiet m
+      if is_idle after then record { memory = Judging (begin after); fault = None; shown = opens after } else quiet m
 
   abbrev pub resetting : Next (StretchPhase P)
-  resetting = record { memory = Reset; fault = None; kinds = resets }
+  resetting = record { memory = Reset; fault = None; shown = resets }
 
   abbrev pub ending : ℕ → Next (StretchPhase P)
-  ending l = record { memory = Ended; fault = ends l; kinds = nothing }
+  ending l = record { memory = Ended; fault = ends l; shown = nothing }
 
   abbrev pub judging : P → Levels → Levels → Option End → Option S → Next (StretchPhase P)
   judging p before after (Some end.Reset) s = resetting
   judging p before after (Some (end.Lost l)) s = ending l
   judging p before after None s = inner (option_map_or (next p before after) s (quiet p))
 
-  abbrev pub spanned : StretchPhase P → Levels → Levels → StretchObservation S → Next (StretchPhase P)
-  spanned Waiting before after seen = waiting Waiting after
-  spanned (Judging p) before after seen = judging p before after seen.end seen.inner
-  spanned Reset before after seen = waiting Reset after
-  spanned Ended before after seen = quiet Ended
+  abbrev pub phase_step : StretchPhase P → Levels → Levels → StretchObservation S → Next (StretchPhase P)
+  phase_step Waiting before after seen = waiting Waiting after
+  phase_step (Judging p) before after seen = judging p before after seen.end seen.inner
+  phase_step Reset before after seen = waiting Reset after
+  phase_step Ended before after seen = quiet Ended

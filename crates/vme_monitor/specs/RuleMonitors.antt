@@ -49,8 +49,8 @@ run_within next (s ∷ x) p o =
     let w = run_within next x m.memory after in (
       event_earlier (suc (length x)) (option_map (break_at 1 s.time) m.fault) (option_map (shifted_break 1) r.event)
           (event_at (length x) s.time m.fault) (event_shifted (length x) r.event w.0),
-      marks_append (suc (length x)) (map (mark_at 1) (kinds_of m.kinds)) (map (shifted_mark 1) r.marks)
-          (marks_at (length x) (kinds_of m.kinds)) (marks_shifted (length x) r.marks w.1),
+      marks_append (suc (length x)) (map (mark_at 1) (kinds_of m.shown)) (map (shifted_mark 1) r.marks)
+          (marks_at (length x) (kinds_of m.shown)) (marks_shifted (length x) r.marks w.1),
     )
 
 event_more : (m n : ℕ) (e : Option Break) → EventWithin m e → EventWithin (m + n) e

@@ -6,7 +6,7 @@ use Rattle.vme_trace.specs.Trace.{changed}
 use Rattle.vme_trace.specs.declared.step.Change.{Change}
 use Rattle.vme_trace.specs.declared.step.Step.{Step}
 use Rattle.vme_monitor.specs.Outcome.{Outcome, StandsFor, followed}
-use Rattle.vme_monitor.specs.Run.{noticed, nothing, outcome_at, quiet, run_of}
+use Rattle.vme_monitor.specs.Run.{machine_step, nothing, outcome_at, quiet, run_of}
 use Rattle.vme_monitor.specs.declared.mark.Next.{Next}
 
 -- a summary finds the memory that some steps after an opening leave, and their first break; of marks it says nothing
@@ -27,54 +27,57 @@ stands_finds stands =
     }
 
 -- what a step gives, but for what it shows
-abbrev pub silenced : {P : Type 0} → Next P → Next P
-silenced n = record { memory = n.memory; fault = n.fault; kinds = nothing }
+abbrev pub unmarked_next : {P : Type 0} → Next P → Next P
+unmarked_next n = record { memory = n.memory; fault = n.fault; shown = nothing }
 
--- a machine's step in silence
-abbrev pub in_silence : {P S : Type 0} → (P → Levels → Levels → S → Next P) → P → Levels → Levels → S → Next P
-in_silence next p before after seen = silenced (next p before after seen)
+-- a machine's step without marks
+abbrev pub unmarked_step : {P S : Type 0} → (P → Levels → Levels → S → Next P) → P → Levels → Levels → S → Next P
+unmarked_step next p before after seen = unmarked_next (next p before after seen)
 
 -- an outcome without its marks
 abbrev pub unmarked : {P : Type 0} → Outcome P → Outcome P
 unmarked a = record { leaving = a.leaving; event = a.event; marks = [] }
 
--- what is too faint for a memory leaves it as it is, in silence too
-pub silence_unmoved : {P S : Type 0} (next : P → Levels → Levels → S → Next P) (sensitivity : P → ℕ) (threshold : S → ℕ)
+-- what is below a memory's threshold leaves it as it is, without marks too
+pub unmarked_unchanged : {P S : Type 0} (next : P → Levels → Levels → S → Next P) (sensitivity : P → ℕ) (threshold : S
+    → ℕ)
     → ((p : P) (before after : Levels) (seen : S) → sensitivity p < threshold seen → next p before after seen ≡ quiet p)
     → (p : P) (before after : Levels) (seen : S) → sensitivity p < threshold seen
-    → in_silence next p before after seen ≡ quiet p
-silence_unmoved next sensitivity threshold unmoved p before after seen faint = ap silenced
-    (unmoved p before after seen faint)
+    → unmarked_step next p before after seen ≡ quiet p
+unmarked_unchanged next sensitivity threshold unchanged p before after seen faint = ap unmarked_next
+    (unchanged p before after seen faint)
 
 module _ {P S : Type 0} (observation : Levels → Levels → List Change → Option S)
     (next : P → Levels → Levels → S → Next P) where
-  silent_step : (p : P) (before after : Levels) (cs : List Change)
-      → noticed observation (in_silence next) p before after cs ≡ silenced (noticed observation next p before after cs)
-  silent_step p before after cs = by_sight (observation before after cs)
+  unmarked_step_is : (p : P) (before after : Levels) (cs : List Change)
+      → machine_step observation (unmarked_step next) p before after cs
+      ≡ unmarked_next (machine_step observation next p before after cs)
+  unmarked_step_is p before after cs = by_observation (observation before after cs)
     where
-      by_sight : (seen : Option S) → option_map_or (in_silence next p before after) seen (quiet p)
-          ≡ silenced (option_map_or (next p before after) seen (quiet p))
-      by_sight None = refl
-      by_sight (Some s) = refl
+      by_observation : (seen : Option S) → option_map_or (unmarked_step next p before after) seen (quiet p)
+          ≡ unmarked_next (option_map_or (next p before after) seen (quiet p))
+      by_observation None = refl
+      by_observation (Some s) = refl
 
-  -- a run in silence is the run, without its marks
-  pub silent_run : (x : List Step) (p : P) (o : Levels)
-      → run_of (noticed observation (in_silence next)) p o x ≡ unmarked (run_of (noticed observation next) p o x)
-  silent_run [] p o = refl
-  silent_run (s ∷ x) p o =
+  -- a run of the machine without marks is the run, without its marks
+  pub unmarked_run : (x : List Step) (p : P) (o : Levels)
+      → run_of (machine_step observation (unmarked_step next)) p o x
+      ≡ unmarked (run_of (machine_step observation next) p o x)
+  unmarked_run [] p o = refl
+  unmarked_run (s ∷ x) p o =
       let after = changed o s.changes in
-      let first = noticed observation next p o after s.changes in
+      let first = machine_step observation next p o after s.changes in
       ap (λ (n : Next P). followed 1 (outcome_at 1 s.time n)
-      (run_of (noticed observation (in_silence next)) n.memory after x)) (silent_step p o after s.changes)
-      ∙ ap (followed 1 (outcome_at 1 s.time (silenced first))) (silent_run x first.memory after)
+      (run_of (machine_step observation (unmarked_step next)) n.memory after x)) (unmarked_step_is p o after s.changes)
+      ∙ ap (followed 1 (outcome_at 1 s.time (unmarked_next first))) (unmarked_run x first.memory after)
 
-  -- a summary of steps in silence finds what the steps do
-  pub silent_finds : (says : P → Outcome P) (count : ℕ) (o : Levels) (x : List Step)
-      → StandsFor (run_of (noticed observation (in_silence next))) says count o x
-      → FindsFor (run_of (noticed observation next)) says count o x
-  silent_finds says count o x stands =
+  -- a summary of steps without marks finds what the steps do
+  pub unmarked_finds : (says : P → Outcome P) (count : ℕ) (o : Levels) (x : List Step)
+      → StandsFor (run_of (machine_step observation (unmarked_step next))) says count o x
+      → FindsFor (run_of (machine_step observation next)) says count o x
+  unmarked_finds says count o x stands =
       record {
-        leaving = λ p. ap (λ (r : Outcome P). r.leaving) (stands.outcomes p ∙ silent_run x p o);
-        event = λ p. ap (λ (r : Outcome P). r.event) (stands.outcomes p ∙ silent_run x p o);
+        leaving = λ p. ap (λ (r : Outcome P). r.leaving) (stands.outcomes p ∙ unmarked_run x p o);
+        event = λ p. ap (λ (r : Outcome P). r.event) (stands.outcomes p ∙ unmarked_run x p o);
         counted = stands.counted;
       }

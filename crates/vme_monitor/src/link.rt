@@ -36,7 +36,7 @@ pub struct TableRow<P> {
 
 impl Mark {
     /// Counts the instant from a start that is some instants earlier.
-    fn delay(&mut self, by: u32)
+    fn shift_instants(&mut self, by: u32)
         ensures { self.new ≡ later_mark by self.old }
     {
         self.instant = self.instant.saturating_add(by);
@@ -44,11 +44,11 @@ impl Mark {
 }
 
 /// Counts the instants of marks from a start that is some instants earlier.
-fn delay_marks(marks: &mut [Mark], by: u32)
+fn shift_marks(marks: &mut [Mark], by: u32)
     ensures { marks.new ≡ map (later_mark by) marks.old }
 {
     for mark in marks.iter_mut() {
-        mark.delay(by);
+        mark.shift_instants(by);
     }
 }
 
@@ -70,7 +70,7 @@ pub fn later_marks(alloc: Global, marks: &[Mark], by: u32) -> Result<Vec<Mark>, 
     ensures { IfOk result (λ v. v.items ≡ map (later_mark by) marks.now) }
 {
     let mut all = Vec::from_slice(alloc, marks)?;
-    delay_marks(all.as_mut_slice(), by);
+    shift_marks(all.as_mut_slice(), by);
     Ok(all)
 }
 
@@ -131,39 +131,39 @@ pub fn links_to_places<P: Enumerable>(
 
 impl Link {
     /// Counts the instants from a start that is some instants earlier.
-    fn delay(&mut self, by: u32)
+    fn shift_instants(&mut self, by: u32)
         ensures { link_value self.new ≡ later_link_value by (link_value self.old) }
     {
         self.event = later_break(self.event, by);
-        delay_marks(self.marks.as_mut_slice(), by);
+        shift_marks(self.marks.as_mut_slice(), by);
     }
 }
 
 /// Counts the instants of links from a start that is some instants earlier.
-pub fn delay_links(links: &mut [Link], by: u32)
+pub fn shift_links(links: &mut [Link], by: u32)
     ensures { map link_value links.new ≡ map (later_link_value by) (map link_value links.old) }
 {
     for link in links.iter_mut() {
-        link.delay(by);
+        link.shift_instants(by);
     }
 }
 
 impl<P: Copy> TableRow<P> {
     /// Counts the instants from a start that is some instants earlier.
-    fn delay(&mut self, by: u32)
+    fn shift_instants(&mut self, by: u32)
         ensures { outcome_of self.new ≡ later_outcome by (outcome_of self.old) }
     {
         self.event = later_break(self.event, by);
-        delay_marks(self.marks.as_mut_slice(), by);
+        shift_marks(self.marks.as_mut_slice(), by);
     }
 }
 
 /// Counts the instants of rows from a start that is some instants earlier.
-pub fn delay_rows<P: Copy>(rows: &mut [TableRow<P>], by: u32)
+pub fn shift_rows<P: Copy>(rows: &mut [TableRow<P>], by: u32)
     ensures { map outcome_of rows.new ≡ map (later_outcome by) (map outcome_of rows.old) }
 {
     for row in rows.iter_mut() {
-        row.delay(by);
+        row.shift_instants(by);
     }
 }
 
@@ -261,10 +261,10 @@ fn cycle_kind(shown: Option<CycleStart>) -> Option<MarkKind>
     ensures { result ≡ option_map cycle_kind_of shown }
 {
     match shown {
-        Some(asked) => Some(MarkKind::Cycle {
-            class: asked.class,
-            am: asked.modifier,
-            address: asked.address,
+        Some(cycle_start) => Some(MarkKind::Cycle {
+            class: cycle_start.class,
+            am: cycle_start.modifier,
+            address: cycle_start.address,
         }),
         None => None,
     }
@@ -304,19 +304,19 @@ fn answered_kind(shown: Option<TransferAnswer>) -> Option<MarkKind>
 
 /// Adds what a step shows. Where it is part of a monitor, the kinds that the monitor never shows cost nothing.
 #[inline(always)]
-fn show_all(marks: &mut Vec<Mark>, instant: u32, kinds: StepMarks) -> Result<(), AllocError>
-    ensures { OnOk result (marks.new.items ≡ marks.old.items ++ map (mark_at instant) (kinds_of kinds)) }
+fn show_all(marks: &mut Vec<Mark>, instant: u32, shown: StepMarks) -> Result<(), AllocError>
+    ensures { OnOk result (marks.new.items ≡ marks.old.items ++ map (mark_at instant) (kinds_of shown)) }
 {
-    show(marks, instant, when(kinds.reset, MarkKind::Reset))?;
-    show(marks, instant, when(kinds.start, MarkKind::Start))?;
-    show(marks, instant, when(kinds.opened, MarkKind::Open))?;
-    show(marks, instant, tenure_kind(kinds.tenure))?;
-    show(marks, instant, when(kinds.tenure_end, MarkKind::TenureEnd))?;
-    show(marks, instant, cycle_kind(kinds.cycle))?;
-    show(marks, instant, when(kinds.cycle_end, MarkKind::CycleEnd))?;
-    show(marks, instant, transfer_kind(kinds.transfer))?;
-    show(marks, instant, answered_kind(kinds.answer))?;
-    show(marks, instant, when(kinds.close, MarkKind::Close))
+    show(marks, instant, when(shown.reset, MarkKind::Reset))?;
+    show(marks, instant, when(shown.start, MarkKind::Start))?;
+    show(marks, instant, when(shown.opened, MarkKind::Open))?;
+    show(marks, instant, tenure_kind(shown.tenure))?;
+    show(marks, instant, when(shown.tenure_end, MarkKind::TenureEnd))?;
+    show(marks, instant, cycle_kind(shown.cycle))?;
+    show(marks, instant, when(shown.cycle_end, MarkKind::CycleEnd))?;
+    show(marks, instant, transfer_kind(shown.transfer))?;
+    show(marks, instant, answered_kind(shown.answer))?;
+    show(marks, instant, when(shown.close, MarkKind::Close))
 }
 
 fn break_of(fault: Fault, instant: u32, time: u64) -> Break
@@ -339,15 +339,15 @@ impl<P: Copy> TableRow<P> {
         let Next {
             memory,
             fault,
-            kinds,
+            shown,
         } = next;
         if let Some(fault) = fault {
             if self.event.is_none() {
                 self.event = Some(break_of(fault, instant, time));
             }
         }
-        if !kinds.is_nothing() {
-            show_all(&mut self.marks, instant, kinds)?;
+        if !shown.is_nothing() {
+            show_all(&mut self.marks, instant, shown)?;
         }
         self.memory = memory;
         Ok(())

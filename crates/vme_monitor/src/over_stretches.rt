@@ -12,7 +12,7 @@ ghost use Rattle.vme_monitor.specs.Shows.{Shows, marks_over, over_span};
 ghost use Rattle.vme_monitor.specs.Whole.{has_span, run_whole};
 ghost use Rattle.vme_monitor.specs.Along.{memory_from};
 ghost use Rattle.vme_monitor.specs.declared.over_stretches.StretchPhase.TheVariants.{Judging};
-ghost use Rattle.vme_monitor.specs.Run.{noticed};
+ghost use Rattle.vme_monitor.specs.Run.{machine_step};
 ghost use Rattle.vme_trace.specs.Levels.{Levels};
 ghost use Rattle.vme_trace.specs.declared.step.Change.{Change};
 ghost use Rattle.vme_monitor.specs.declared.mark.Fault.{Fault};
@@ -138,8 +138,9 @@ pub struct OverStretches<R> {
 }
 
 impl<R: Rules> Machine for OverStretches<R> {
-    ghost use Rattle.vme_monitor.specs.OverStretches.{noted, noted_faintness, phase_alertness, spanned, start_in};
-    ghost use Rattle.vme_monitor.specs.OverStretchesLaws.{phases_few, spanned_calm, spanned_unmoved};
+    ghost use Rattle.vme_monitor.specs.OverStretches.{observed, stretch_threshold, phase_sensitivity, phase_step};
+    ghost use Rattle.vme_monitor.specs.OverStretches.{start_in};
+    ghost use Rattle.vme_monitor.specs.OverStretchesLaws.{phases_few, phase_step_sensitivity, phase_step_unchanged};
 
     type Memory = StretchPhase<R::Memory>;
 
@@ -147,17 +148,17 @@ impl<R: Rules> Machine for OverStretches<R> {
 
     ghost begin = { start_in R.begin };
 
-    ghost observation = { noted R.observation };
+    ghost observation = { observed R.observation };
 
-    ghost next = { spanned R.begin R.opens R.resets R.ends R.next };
+    ghost next = { phase_step R.begin R.opens R.resets R.ends R.next };
 
-    ghost sensitivity_of = { phase_alertness };
+    ghost sensitivity_of = { phase_sensitivity };
 
-    ghost threshold_of = { noted_faintness };
+    ghost threshold_of = { stretch_threshold };
 
-    ghost below_threshold = { spanned_unmoved R.begin R.opens R.resets R.ends R.next };
+    ghost below_threshold = { phase_step_unchanged R.begin R.opens R.resets R.ends R.next };
 
-    ghost never_more_sensitive = { spanned_calm R.begin R.opens R.resets R.ends R.next };
+    ghost never_more_sensitive = { phase_step_sensitivity R.begin R.opens R.resets R.ends R.next };
 
     ghost few = { phases_few R.Memory.COUNT R.Memory.small };
 
@@ -198,7 +199,7 @@ impl<R: Rules> Machine for OverStretches<R> {
                     Next {
                         memory: StretchPhase::Judging(R::at_start(after)),
                         fault: None,
-                        kinds: R::shown_at_start(after),
+                        shown: R::shown_at_start(after),
                     }
                 } else {
                     quiet(memory)
@@ -208,20 +209,20 @@ impl<R: Rules> Machine for OverStretches<R> {
                 Some(End::Reset) => Next {
                     memory: StretchPhase::Reset,
                     fault: None,
-                    kinds: R::shown_at_reset(),
+                    shown: R::shown_at_reset(),
                 },
                 Some(End::Lost(line)) => Next {
                     memory: StretchPhase::Ended,
                     fault: R::fault_at_end(line),
-                    kinds: NOTHING,
+                    shown: NOTHING,
                 },
                 None => match &seen.inner {
-                    Some(noticed) => {
-                        let next = R::step(inner, before, after, noticed);
+                    Some(machine_step) => {
+                        let next = R::step(inner, before, after, machine_step);
                         Next {
                             memory: StretchPhase::Judging(next.memory),
                             fault: next.fault,
-                            kinds: next.kinds,
+                            shown: next.shown,
                         }
                     }
                     None => quiet(StretchPhase::Judging(inner)),
@@ -257,12 +258,12 @@ pub type RuleMonitor<R> = TableMonitor<OverStretches<R>>;
 pub fn rules_over_captures<R: Rules>()
     ensures event { (t : Trace) (rules : List Rule) → malformed_step t ≡ None → t.opening.slots ≤ 21
         → ((span : Stretch) → IsSpanOf t span
-        → Judges (noticed R.observation R.next) (R.begin (levels_at t span.start)) R.ends t span rules)
+        → Judges (machine_step R.observation R.next) (R.begin (levels_at t span.start)) R.ends t span rules)
         → (run_whole ⟦<RuleMonitor<R> as Monitor>⟧.run ⟦<RuleMonitor<R> as Monitor>⟧.begin t).event
         ≡ least_of rules t (judged_spans t) }
     ensures marks { (t : Trace) (shown : Stretch → ℕ → StepMarks) → malformed_step t ≡ None → t.opening.slots ≤ 21
         → ((span : Stretch) → IsSpanOf t span
-        → Shows (noticed R.observation R.next) (R.begin (levels_at t span.start)) R.opens t span (shown span))
+        → Shows (machine_step R.observation R.next) (R.begin (levels_at t span.start)) R.opens t span (shown span))
         → (run_whole ⟦<RuleMonitor<R> as Monitor>⟧.run ⟦<RuleMonitor<R> as Monitor>⟧.begin t).marks
         ≡ marks_over (λ span. over_span t span R.resets (shown span)) t (judged_spans t) }
     ensures started { (t : Trace) → malformed_step t ≡ None → t.opening.slots ≤ 21
@@ -272,5 +273,5 @@ pub fn rules_over_captures<R: Rules>()
         → IsSpanOf t span → span.start ≤ n → n < span.end → n ≤ length t.steps
         → (⟦<RuleMonitor<R> as Monitor>⟧.run (⟦<RuleMonitor<R> as Monitor>⟧.begin t.opening) t.opening
         (take n t.steps)).leaving
-        ≡ Judging (memory_from (noticed R.observation R.next) t (R.begin (levels_at t span.start)) span.start n) }
+        ≡ Judging (memory_from (machine_step R.observation R.next) t (R.begin (levels_at t span.start)) span.start n) }
 {}

@@ -9,14 +9,14 @@ ghost use Rattle.vme_trace.specs.Levels.{Levels};
 ghost use Rattle.vme_trace.specs.declared.step.Step.{Step};
 ghost use Rattle.vme_monitor.specs.Meeting.{AreAmong, AreDistinct, KeepApart, marks_of, memories_in, shown_apart};
 ghost use Rattle.vme_monitor.specs.Outcome.{IsWithin, inside-prop, StandsFor, followed, nothing_shown};
-ghost use Rattle.vme_monitor.specs.Run.{noticed, run_of};
+ghost use Rattle.vme_monitor.specs.Run.{machine_step, run_of};
 ghost use Rattle.vme_monitor.specs.Walk.{link_values, later_link_value, outcome_of, reach};
 ghost use Rattle.vme_monitor.specs.Tables.{HasRoomFor, outcome};
 ghost use Rattle.vme_monitor.specs.StepRuns.{GiveRuns, seen_in};
 
 use crate::link::{
-    Link, TableRow, delay_links, delay_rows, fresh_rows, later_links, later_rows, links_in,
-    links_to_places, marks_in_links, marks_in_rows,
+    Link, TableRow, fresh_rows, later_links, later_rows, links_in, links_to_places, marks_in_links,
+    marks_in_rows, shift_links, shift_rows,
 };
 use crate::machine::{Enumerable, Machine};
 use crate::mark::Mark;
@@ -39,8 +39,8 @@ pub struct Table<P: Enumerable> {
 }
 
 /// Rows whose runs have met go on as one, in a layer of their own.
-/// The answer is how alert the rows are at most, by what they were before: it is asked again only where that may be
-/// less.
+/// The answer is the greatest sensitivity of the rows, by what they were before: it is computed again only where that
+/// may be less.
 fn merge_rows<M: Machine>(
     alloc: Global,
     layers: &mut Vec<Vec<Link>>,
@@ -52,7 +52,7 @@ fn merge_rows<M: Machine>(
     ensures reached { OnOk result
         ((k : ℕ) → reach (link_values layers.new.items) (map outcome_of rows.new.items) k
         ≡ reach (link_values layers.old.items) (map outcome_of rows.old.items) k) }
-    ensures alert { IfOk result
+    ensures bounded { IfOk result
         (λ highest. All (λ row. M.sensitivity_of row.memory ≤ most) rows.old.items
         → All (λ row. M.sensitivity_of row.memory ≤ highest) rows.new.items) }
     ensures apart { OnOk result (AreDistinct M.Memory.place_of (memories_in (map outcome_of rows.new.items))) }
@@ -80,7 +80,7 @@ pub struct Unfinished<M: Machine> {
     rows: Vec<TableRow<M::Memory>>,
     /// The instant at which a row was last met in the memory of each place.
     last_seen: Vec<u32>,
-    /// How alert the rows are at most.
+    /// The greatest sensitivity of the rows.
     most: u8,
 }
 
@@ -88,10 +88,11 @@ impl<M: Machine> Unfinished<M> {
     /// The table of no steps.
     pub fn new(alloc: Global) -> Result<Unfinished<M>, AllocError>
         ensures runs { IfOk result
-            (λ t. (o : Levels) → GiveRuns (run_of (noticed M.observation M.next)) M.Memory.place_of M.sensitivity_of
+            (λ t. (o : Levels) → GiveRuns (run_of (machine_step M.observation M.next)) M.Memory.place_of
+            M.sensitivity_of
             t.layers.items t.rows.items t.most o []) }
         ensures apart { IfOk result
-            (λ t. (o : Levels) → KeepApart (run_of (noticed M.observation M.next)) M.Memory.COUNT M.Memory.place_of
+            (λ t. (o : Levels) → KeepApart (run_of (machine_step M.observation M.next)) M.Memory.COUNT M.Memory.place_of
             M.Memory.nth_of (link_values t.layers.items) (map outcome_of t.rows.items) o []) }
     {
         let all = memories::<M::Memory>(alloc)?;
@@ -115,7 +116,7 @@ impl<M: Machine> Unfinished<M> {
         })
     }
 
-    /// One step more in which all rows notice something, which may make some more alert.
+    /// One step more that all rows react to, which may make some more sensitive.
     fn extend_all(
         &mut self,
         alloc: Global,
@@ -128,17 +129,17 @@ impl<M: Machine> Unfinished<M> {
         requires seen { M.observation view.now.before view.now.after step.now.changes ≡ Some seen.now }
         ensures runs { OnOk result
             ((o : Levels) (x : List Step) → view.now.before ≡ levels_after o x → instant ≡ length x + 1
-            → GiveRuns (run_of (noticed M.observation M.next)) M.Memory.place_of M.sensitivity_of
+            → GiveRuns (run_of (machine_step M.observation M.next)) M.Memory.place_of M.sensitivity_of
             self.old.layers.items self.old.rows.items self.old.most o x
-            → GiveRuns (run_of (noticed M.observation M.next)) M.Memory.place_of M.sensitivity_of
+            → GiveRuns (run_of (machine_step M.observation M.next)) M.Memory.place_of M.sensitivity_of
             self.new.layers.items self.new.rows.items self.new.most o (x ++ step.now ∷ [])) }
         ensures apart { OnOk result
             ((o : Levels) (x : List Step) → view.now.before ≡ levels_after o x → instant ≡ length x + 1
-            → GiveRuns (run_of (noticed M.observation M.next)) M.Memory.place_of M.sensitivity_of
+            → GiveRuns (run_of (machine_step M.observation M.next)) M.Memory.place_of M.sensitivity_of
             self.old.layers.items self.old.rows.items self.old.most o x
-            → KeepApart (run_of (noticed M.observation M.next)) M.Memory.COUNT M.Memory.place_of M.Memory.nth_of
+            → KeepApart (run_of (machine_step M.observation M.next)) M.Memory.COUNT M.Memory.place_of M.Memory.nth_of
             (link_values self.old.layers.items) (map outcome_of self.old.rows.items) o x
-            → KeepApart (run_of (noticed M.observation M.next)) M.Memory.COUNT M.Memory.place_of M.Memory.nth_of
+            → KeepApart (run_of (machine_step M.observation M.next)) M.Memory.COUNT M.Memory.place_of M.Memory.nth_of
             (link_values self.new.layers.items) (map outcome_of self.new.rows.items) o (x ++ step.now ∷ [])) }
     {
         let rows = self.rows.as_mut_slice();
@@ -167,17 +168,17 @@ impl<M: Machine> Unfinished<M> {
         requires { view.now ≡ seen_in view.now.before step.now.changes }
         ensures runs { OnOk result
             ((o : Levels) (x : List Step) → view.now.before ≡ levels_after o x → instant ≡ length x + 1
-            → GiveRuns (run_of (noticed M.observation M.next)) M.Memory.place_of M.sensitivity_of
+            → GiveRuns (run_of (machine_step M.observation M.next)) M.Memory.place_of M.sensitivity_of
             self.old.layers.items self.old.rows.items self.old.most o x
-            → GiveRuns (run_of (noticed M.observation M.next)) M.Memory.place_of M.sensitivity_of
+            → GiveRuns (run_of (machine_step M.observation M.next)) M.Memory.place_of M.sensitivity_of
             self.new.layers.items self.new.rows.items self.new.most o (x ++ step.now ∷ [])) }
         ensures apart { OnOk result
             ((o : Levels) (x : List Step) → view.now.before ≡ levels_after o x → instant ≡ length x + 1
-            → GiveRuns (run_of (noticed M.observation M.next)) M.Memory.place_of M.sensitivity_of
+            → GiveRuns (run_of (machine_step M.observation M.next)) M.Memory.place_of M.sensitivity_of
             self.old.layers.items self.old.rows.items self.old.most o x
-            → KeepApart (run_of (noticed M.observation M.next)) M.Memory.COUNT M.Memory.place_of M.Memory.nth_of
+            → KeepApart (run_of (machine_step M.observation M.next)) M.Memory.COUNT M.Memory.place_of M.Memory.nth_of
             (link_values self.old.layers.items) (map outcome_of self.old.rows.items) o x
-            → KeepApart (run_of (noticed M.observation M.next)) M.Memory.COUNT M.Memory.place_of M.Memory.nth_of
+            → KeepApart (run_of (machine_step M.observation M.next)) M.Memory.COUNT M.Memory.place_of M.Memory.nth_of
             (link_values self.new.layers.items) (map outcome_of self.new.rows.items) o (x ++ step.now ∷ [])) }
     {
         let Some(seen) = M::observe_step(view, step.changes.as_slice()) else {
@@ -192,7 +193,7 @@ impl<M: Machine> Unfinished<M> {
         }
         let rows = self.rows.as_mut_slice();
         advance::<M>(rows, &view.before, &view.after, &seen, step, instant)?;
-        // who judges has no less to notice
+        // a row that judges reacts to no less
         if self.most <= 1 && are_apart::<M>(self.rows.as_slice()) {
             return Ok(());
         }
@@ -210,12 +211,12 @@ impl<M: Machine> Unfinished<M> {
     /// The table of the steps, as many as that.
     pub fn finish(self, steps: u32) -> Table<M::Memory>
         requires { (o : Levels) × (x : List Step) × (steps ≡ length x)
-            × GiveRuns (run_of (noticed M.observation M.next)) M.Memory.place_of M.sensitivity_of
+            × GiveRuns (run_of (machine_step M.observation M.next)) M.Memory.place_of M.sensitivity_of
             self.layers.items self.rows.items self.most o x }
         ensures stands { (o : Levels) (x : List Step) → steps ≡ length x
-            → GiveRuns (run_of (noticed M.observation M.next)) M.Memory.place_of M.sensitivity_of
+            → GiveRuns (run_of (machine_step M.observation M.next)) M.Memory.place_of M.sensitivity_of
             self.layers.items self.rows.items self.most o x
-            → StandsFor (run_of (noticed M.observation M.next))
+            → StandsFor (run_of (machine_step M.observation M.next))
             (λ p. outcome result.layers.items result.rows.items p (M.Memory.place_of p)) result.steps o x }
         ensures marks { marks_of (link_values result.layers.items) (map outcome_of result.rows.items)
             ≡ marks_of (link_values self.layers.items) (map outcome_of self.rows.items) }
@@ -243,11 +244,11 @@ pub fn summarise<M: Machine>(
     requires accepted { malformed_step (record { opening = opening.now; steps = steps.now }) ≡ None }
     requires few { length steps.now ≤ 268435456 }
     ensures stands { IfOk result
-        (λ t. StandsFor (run_of (noticed M.observation M.next))
+        (λ t. StandsFor (run_of (machine_step M.observation M.next))
         (λ p. outcome t.layers.items t.rows.items p (M.Memory.place_of p)) t.steps opening.now steps.now) }
     ensures marks { IfOk result
         (λ t. marks_of (link_values t.layers.items) (map outcome_of t.rows.items)
-        ≤ shown_apart (run_of (noticed M.observation M.next)) M.Memory.COUNT M.Memory.place_of M.Memory.nth_of
+        ≤ shown_apart (run_of (machine_step M.observation M.next)) M.Memory.COUNT M.Memory.place_of M.Memory.nth_of
         opening.now steps.now) }
 {
     let mut table = Unfinished::<M>::new(alloc)?;
@@ -281,11 +282,11 @@ fn later_layers(
 }
 
 /// Counts the instants of layers from a start that is some instants earlier.
-fn delay_layers(layers: &mut [Vec<Link>], by: u32)
+fn shift_layers(layers: &mut [Vec<Link>], by: u32)
     ensures { link_values layers.new ≡ map (map (later_link_value by)) (link_values layers.old) }
 {
     for layer in layers.iter_mut() {
-        delay_links(layer.as_mut_slice(), by);
+        shift_links(layer.as_mut_slice(), by);
     }
 }
 
@@ -375,11 +376,11 @@ impl<P: Enumerable> Table<P> {
         } = second;
         let links = links_in(room, rows);
         layers.push_reserved(links);
-        delay_layers(later.as_mut_slice(), steps);
+        shift_layers(later.as_mut_slice(), steps);
         let Ok(()) = layers.append(&mut later) else {
             unreachable!()
         };
-        delay_rows(ends.as_mut_slice(), steps);
+        shift_rows(ends.as_mut_slice(), steps);
         Table {
             steps: steps + more,
             layers,

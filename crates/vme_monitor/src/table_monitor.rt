@@ -2,7 +2,7 @@
 
 ghost use Rattle.std.specs.Prelude.{◌≡◌, ◌+◌, ◌≤◌, List, [], ◌++◌, length, map, IfOk};
 ghost use Rattle.vme_trace.specs.WellFormed.{malformed_step};
-ghost use Rattle.vme_monitor.specs.Run.{noticed, run_of};
+ghost use Rattle.vme_monitor.specs.Run.{machine_step, run_of};
 ghost use Rattle.vme_monitor.specs.Tables.{outcome as row_outcome};
 
 use crate::machine::Machine;
@@ -22,7 +22,7 @@ impl<M: Machine> Monitor for TableMonitor<M> {
     ghost use Rattle.std.specs.Prelude.{refl};
     ghost use Rattle.vme_trace.specs.WellFormed.{malformed_step};
     ghost use Rattle.vme_monitor.specs.Outcome.{StandsFor};
-    ghost use Rattle.vme_monitor.specs.Run.{noticed, run_of};
+    ghost use Rattle.vme_monitor.specs.Run.{machine_step, run_of};
     ghost use Rattle.vme_monitor.specs.Tables.{outcome as row_outcome};
     ghost use Rattle.vme_monitor.specs.Runs.{run_joined};
     ghost use Rattle.vme_monitor.specs.RuleMonitors.{run_within};
@@ -34,7 +34,7 @@ impl<M: Machine> Monitor for TableMonitor<M> {
 
     type Summary = Table<M::Memory>;
 
-    ghost run = { run_of (noticed M.observation M.next) };
+    ghost run = { run_of (machine_step M.observation M.next) };
 
     ghost begin = { M.begin };
 
@@ -45,13 +45,13 @@ impl<M: Machine> Monitor for TableMonitor<M> {
     ghost marks_kept = { λ s. marks_of (link_values s.layers.items) (map outcome_of s.rows.items) };
 
     ghost marks_shown = { shown_apart
-        (run_of (noticed M.observation M.next)) M.Memory.COUNT M.Memory.place_of M.Memory.nth_of };
+        (run_of (machine_step M.observation M.next)) M.Memory.COUNT M.Memory.place_of M.Memory.nth_of };
 
     ghost nothing = { λ p o. refl };
 
-    ghost joined = { λ p o x y. run_joined (noticed M.observation M.next) x y p o };
+    ghost joined = { λ p o x y. run_joined (machine_step M.observation M.next) x y p o };
 
-    ghost within = { λ p o x. run_within (noticed M.observation M.next) x p o };
+    ghost within = { λ p o x. run_within (machine_step M.observation M.next) x p o };
 
     ghost inside = { λ s p. s.inside p };
 

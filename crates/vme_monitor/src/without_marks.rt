@@ -10,13 +10,13 @@ use crate::view::StepView;
 use std::marker::PhantomData;
 use vme_trace::{Change, Lines};
 
-/// A machine in silence: it leaves the same memories and breaks the same rules, and shows nothing.
+/// A machine without marks: it leaves the same memories and breaks the same rules, and shows nothing.
 pub struct WithoutMarks<M> {
     of: PhantomData<M>,
 }
 
 impl<M: Machine> Machine for WithoutMarks<M> {
-    ghost use Rattle.vme_monitor.specs.WithoutMarks.{in_silence, silence_unmoved};
+    ghost use Rattle.vme_monitor.specs.WithoutMarks.{unmarked_step, unmarked_unchanged};
 
     type Memory = M::Memory;
 
@@ -26,13 +26,13 @@ impl<M: Machine> Machine for WithoutMarks<M> {
 
     ghost observation = { M.observation };
 
-    ghost next = { in_silence M.next };
+    ghost next = { unmarked_step M.next };
 
     ghost sensitivity_of = { M.sensitivity_of };
 
     ghost threshold_of = { M.threshold_of };
 
-    ghost below_threshold = { silence_unmoved M.next M.sensitivity_of M.threshold_of M.below_threshold };
+    ghost below_threshold = { unmarked_unchanged M.next M.sensitivity_of M.threshold_of M.below_threshold };
 
     ghost never_more_sensitive = { M.never_more_sensitive };
 
@@ -58,7 +58,7 @@ impl<M: Machine> Machine for WithoutMarks<M> {
         Next {
             memory: next.memory,
             fault: next.fault,
-            kinds: NOTHING,
+            shown: NOTHING,
         }
     }
 

@@ -238,7 +238,7 @@ fn two_show_what_each_shows(rt: HostRuntime) -> Result<(), Fail> {
 }
 
 #[test]
-fn in_silence_breaks_alone_are_found(rt: HostRuntime) -> Result<(), Fail> {
+fn without_marks_breaks_alone_are_found(rt: HostRuntime) -> Result<(), Fail> {
     let lost = break_of(2, Rule::U1, Line::AS);
     assert_judged::<BreakMonitor<KnownRules>>(&rt, rt.alloc(), READ, None, &[])?;
     assert_judged::<BreakMonitor<KnownRules>>(&rt, rt.alloc(), LOST_STROBE, lost, &[])?;

@@ -23,9 +23,9 @@ use Rattle.vme_program.specs.Openings.{WithInput}
 use Rattle.vme_program.specs.Saves.{TellsNoMemory}
 use Rattle.vme_program.specs.declared.audit.NoWords.{NoWords}
 use Rattle.vme_program.specs.declared.audit.NoWords.TheVariants.{Faulty}
-use Rattle.vme_program.specs.declared.surroundings.Surroundings.{Ghosts as Surroundings}
-use Rattle.vme_program.specs.declared.surroundings.Written.{Written}
-use Rattle.vme_program.specs.declared.surroundings.Written.TheVariants as written
+use Rattle.vme_program.specs.declared.environment.Environment.{Ghosts as Environment}
+use Rattle.vme_program.specs.declared.environment.Written.{Written}
+use Rattle.vme_program.specs.declared.environment.Written.TheVariants as written
 
 -- ---- the words
 
@@ -80,7 +80,7 @@ abbrev pub EndsCases : List ℕ → Written → ℕ → Writing × Writing → �
 EndsCases path written.Whole first err status = (err.1 ≡ err.0) × (status ≡ first)
 EndsCases path other first err status = RefusesFile path (codes "cannot write") 5 err status
 
-module _ {S R : Type 0} (outside : Surroundings S R) (s : S) where
+module _ {S R : Type 0} (outside : Environment S R) (s : S) where
   -- ---- the dumps
 
   -- a dump by its name: standard input, or a file that was opened

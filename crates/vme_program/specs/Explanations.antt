@@ -15,13 +15,13 @@ use Rattle.vme_words.specs.declared.order.Order.{Order}
 use Rattle.vme_program.specs.Openings.{WithInput}
 use Rattle.vme_program.specs.Saves.{MayBeSaved, RefusesPlace, Saves}
 use Rattle.vme_program.specs.declared.save.InputIds.{InputIds}
-use Rattle.vme_program.specs.declared.surroundings.Surroundings.{Ghosts as Surroundings}
+use Rattle.vme_program.specs.declared.environment.Environment.{Ghosts as Environment}
 
 -- the word that says where the viewer's file is wanted, if it is
 abbrev pub viewer_word : Order → Option (List ℕ)
 viewer_word order = option_map string_bytes (slice_get order.names.items 2)
 
-module _ {S R : Type 0} (outside : Surroundings S R) (s : S) (order : Order) where
+module _ {S R : Type 0} (outside : Environment S R) (s : S) (order : Order) where
   module _ (path : List ℕ) where
     -- it is explained, and then the viewer's file is written, if there is an explanation
     abbrev pub ExplainsThenSaves : InputIds → Reading × Reading → Reading × Reading

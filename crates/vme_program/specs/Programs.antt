@@ -10,9 +10,9 @@ use Rattle.vme_program.specs.Bindings.{BindsFile}
 use Rattle.vme_program.specs.Explanations.{ExplainsFiles}
 use Rattle.vme_program.specs.Recordings.{ChecksFiles, ConfirmsFiles, ListsFiles}
 use Rattle.vme_program.specs.Texts.{TellsFaults, TellsFile, TellsRules}
-use Rattle.vme_program.specs.declared.surroundings.Surroundings.{Ghosts as Surroundings}
+use Rattle.vme_program.specs.declared.environment.Environment.{Ghosts as Environment}
 
-module _ {S R : Type 0} (outside : Surroundings S R) (s : S) (order : Order) where
+module _ {S R : Type 0} (outside : Environment S R) (s : S) (order : Order) where
   -- by the task
   abbrev pub DoesTask : Task → Writing × Writing → Writing × Writing → ℕ → Type 0
   DoesTask Check = ChecksFiles (outside.opens s) order

@@ -8,8 +8,8 @@ use Rattle.vme_explain.specs.declared.saving.Present.{Present}
 use Rattle.vme_explain.specs.declared.saving.SaveRefusal.{SaveRefusal}
 use Rattle.vme_stream.specs.Outputs.{TriesToWrite}
 use Rattle.vme_program.specs.declared.save.InputIds.{InputIds}
-use Rattle.vme_program.specs.declared.surroundings.Written.{Written}
-use Rattle.vme_program.specs.declared.surroundings.Written.TheVariants as written
+use Rattle.vme_program.specs.declared.environment.Written.{Written}
+use Rattle.vme_program.specs.declared.environment.Written.TheVariants as written
 
 -- nothing is written for want of memory, and that is told
 abbrev pub TellsNoMemory : Writing × Writing → ℕ → Type 0

@@ -13,9 +13,9 @@ ghost use Rattle.vme_program.specs.declared.audit.NoDumps.TheVariants.{Memory as
 ghost use Rattle.vme_program.specs.declared.audit.NoWords.TheVariants.{Memory};
 ghost use Rattle.vme_words.specs.OrderFaults.{IsOfWords};
 
+use crate::environment::{Environment, Written};
 use crate::opening::{open_input, refuse, refuse_input};
 use crate::save::say;
-use crate::surroundings::{Surroundings, Written};
 use std::alloc::{AllocError, AllocFailed, Global};
 use vme_answer::{Input, Refusal};
 use vme_audit::Allowance;
@@ -67,14 +67,14 @@ impl<'a, T: Drop> From<AllocFailed<T>> for NoDumps<'a> {
 /// Audits the files that an order names, as it asks for it: the binding is opened, and then the dumps. The answer is
 /// the exit status, or what is wrong with the words.
 #[inline(never)]
-pub fn audit_files<S: Surroundings, O: Sink, E: Sink>(
+pub fn audit_files<S: Environment, O: Sink, E: Sink>(
     alloc: Global,
-    surroundings: &S,
+    environment: &S,
     order: &Order,
     out: &mut O,
     err: &mut E,
 ) -> Result<u8, OrderFault>
-    ensures audited { IfOk result (λ status. AuditsFiles S.Surroundings surroundings.now order.now
+    ensures audited { IfOk result (λ status. AuditsFiles S.Environment environment.now order.now
         (O.writing out.old, O.writing out.new) (E.writing err.old, E.writing err.new) status) }
     ensures of_words { IfErr result IsOfWords }
     ensures out_stays { OnErr result (O.writing out.new ≡ O.writing out.old) }
@@ -83,7 +83,7 @@ pub fn audit_files<S: Surroundings, O: Sink, E: Sink>(
     match told(alloc, order) {
         Ok((words, allowances)) => {
             let allowed = allowances.as_slice();
-            Ok(audit_binding(alloc, surroundings, order, words, allowed, out, err))
+            Ok(audit_binding(alloc, environment, order, words, allowed, out, err))
         }
         Err(NoWords::Faulty(fault)) => Err(fault),
         Err(NoWords::Memory) => Ok(refuse(&Refusal::Memory, err)),
@@ -130,23 +130,23 @@ fn dump_names(order: &Order) -> &[String]
 
 /// Audits those files, as the words tell.
 #[inline(never)]
-fn audit_binding<S: Surroundings, O: Sink, E: Sink>(
+fn audit_binding<S: Environment, O: Sink, E: Sink>(
     alloc: Global,
-    surroundings: &S,
+    environment: &S,
     order: &Order,
     words: &AuditWords,
     allowances: &[Allowance],
     out: &mut O,
     err: &mut E,
 ) -> u8
-    ensures { WithInput (S.opens surroundings.now) order.now Input.Binding
-        (AuditsNamed S.Surroundings surroundings.now order.now words.now allowances.now)
+    ensures { WithInput (S.opens environment.now) order.now Input.Binding
+        (AuditsNamed S.Environment environment.now order.now words.now allowances.now)
         (O.writing out.old, O.writing out.new) (E.writing err.old, E.writing err.new) result }
 {
-    match open_input(surroundings, order, Input::Binding) {
+    match open_input(environment, order, Input::Binding) {
         Some(mut binding) => audit_named(
             alloc,
-            surroundings,
+            environment,
             order,
             words,
             allowances,
@@ -160,9 +160,9 @@ fn audit_binding<S: Surroundings, O: Sink, E: Sink>(
 
 /// The same, by a binding that was opened.
 #[inline(never)]
-fn audit_named<S: Surroundings, O: Sink, E: Sink>(
+fn audit_named<S: Environment, O: Sink, E: Sink>(
     alloc: Global,
-    surroundings: &S,
+    environment: &S,
     order: &Order,
     words: &AuditWords,
     allowances: &[Allowance],
@@ -170,14 +170,14 @@ fn audit_named<S: Surroundings, O: Sink, E: Sink>(
     out: &mut O,
     err: &mut E,
 ) -> u8
-    ensures { AuditsNamed S.Surroundings surroundings.now order.now words.now allowances.now
+    ensures { AuditsNamed S.Environment environment.now order.now words.now allowances.now
         (S.Reader.reading binding.old, S.Reader.reading binding.new)
         (O.writing out.old, O.writing out.new) (E.writing err.old, E.writing err.new) result }
 {
-    match open_dumps(alloc, surroundings, dump_names(order)) {
+    match open_dumps(alloc, environment, dump_names(order)) {
         Ok(mut dumps) => audit_opened(
             alloc,
-            surroundings,
+            environment,
             order,
             words,
             allowances,
@@ -192,21 +192,21 @@ fn audit_named<S: Surroundings, O: Sink, E: Sink>(
 }
 
 /// The dumps by their names, opened in this order.
-fn open_dumps<'a, S: Surroundings>(
+fn open_dumps<'a, S: Environment>(
     alloc: Global,
-    surroundings: &S,
+    environment: &S,
     names: &'a [String],
 ) -> Result<Vec<NamedDump<'a, S::Reader>>, NoDumps<'a>>
-    ensures opened { IfOk result (λ dumps. AllZip (IsDumpOf S.Surroundings surroundings.now)
+    ensures opened { IfOk result (λ dumps. AllZip (IsDumpOf S.Environment environment.now)
         (map string_bytes names.now)
         (map (λ d. record { name = d.name.now; dump = S.Reader.reading d.dump }) dumps.items)) }
     ensures unopened { (name : _) → result ≡ Err (Unopened name)
-        → IsFirstUnopened S.Surroundings surroundings.now (map string_bytes names.now) name.now }
+        → IsFirstUnopened S.Environment environment.now (map string_bytes names.now) name.now }
 {
     let mut dumps = Vec::new(alloc);
     for name in names {
         let name = name.as_str();
-        match open_dump(surroundings, name) {
+        match open_dump(environment, name) {
             Some(named) => dumps.push(named)?,
             None => return Err(NoDumps::Unopened(name)),
         }
@@ -215,16 +215,13 @@ fn open_dumps<'a, S: Surroundings>(
 }
 
 /// A dump by its name, opened.
-fn open_dump<'a, S: Surroundings>(
-    surroundings: &S,
-    name: &'a str,
-) -> Option<NamedDump<'a, S::Reader>>
+fn open_dump<'a, S: Environment>(environment: &S, name: &'a str) -> Option<NamedDump<'a, S::Reader>>
     ensures { MatchOption result
-        ((name.now ≢ input_name) × S.opens surroundings.now name.now None)
-        (λ named. IsDumpOf S.Surroundings surroundings.now name.now
+        ((name.now ≢ input_name) × S.opens environment.now name.now None)
+        (λ named. IsDumpOf S.Environment environment.now name.now
         (record { name = named.name.now; dump = S.Reader.reading named.dump })) }
 {
-    match open_reader(surroundings, name) {
+    match open_reader(environment, name) {
         Some(dump) => Some(NamedDump {
             name: name.as_bytes(),
             dump,
@@ -234,24 +231,24 @@ fn open_dump<'a, S: Surroundings>(
 }
 
 /// What reads it.
-fn open_reader<S: Surroundings>(surroundings: &S, name: &str) -> Option<S::Reader>
+fn open_reader<S: Environment>(environment: &S, name: &str) -> Option<S::Reader>
     ensures { MatchOption result
-        ((name.now ≢ input_name) × S.opens surroundings.now name.now None)
-        (λ dump. IsDumpOf S.Surroundings surroundings.now name.now
+        ((name.now ≢ input_name) × S.opens environment.now name.now None)
+        (λ dump. IsDumpOf S.Environment environment.now name.now
         (record { name = name.now; dump = S.Reader.reading dump })) }
 {
     if name == STANDARD_INPUT {
-        Some(surroundings.input())
+        Some(environment.input())
     } else {
-        surroundings.open_file(name)
+        environment.open_file(name)
     }
 }
 
 /// Audits inputs that were opened, and writes the file of test cases, if one is wanted. The answer is the exit status.
 #[inline(never)]
-fn audit_opened<S: Surroundings, O: Sink, E: Sink>(
+fn audit_opened<S: Environment, O: Sink, E: Sink>(
     alloc: Global,
-    surroundings: &S,
+    environment: &S,
     order: &Order,
     words: &AuditWords,
     allowances: &[Allowance],
@@ -260,7 +257,7 @@ fn audit_opened<S: Surroundings, O: Sink, E: Sink>(
     out: &mut O,
     err: &mut E,
 ) -> u8
-    ensures { AuditsOpened S.Surroundings surroundings.now order.now words.now allowances.now
+    ensures { AuditsOpened S.Environment environment.now order.now words.now allowances.now
         (S.Reader.reading binding.old, S.Reader.reading binding.new)
         (map (λ d. record { name = d.name.now; dump = S.Reader.reading d.dump }) dumps.old)
         (O.writing out.old, O.writing out.new) (E.writing err.old, E.writing err.new) result }
@@ -268,7 +265,7 @@ fn audit_opened<S: Surroundings, O: Sink, E: Sink>(
     match &words.junit {
         Some(path) => audit_and_save(
             alloc,
-            surroundings,
+            environment,
             order,
             words,
             allowances,
@@ -310,9 +307,9 @@ fn options_of<'a>(
 
 /// The same, where test cases are wanted at a path: they are written over no input.
 #[inline(never)]
-fn audit_and_save<S: Surroundings, O: Sink, E: Sink>(
+fn audit_and_save<S: Environment, O: Sink, E: Sink>(
     alloc: Global,
-    surroundings: &S,
+    environment: &S,
     order: &Order,
     words: &AuditWords,
     allowances: &[Allowance],
@@ -322,20 +319,20 @@ fn audit_and_save<S: Surroundings, O: Sink, E: Sink>(
     out: &mut O,
     err: &mut E,
 ) -> u8
-    ensures { AuditsAndSaves S.Surroundings surroundings.now order.now words.now allowances.now path.now
+    ensures { AuditsAndSaves S.Environment environment.now order.now words.now allowances.now path.now
         (S.Reader.reading binding.old, S.Reader.reading binding.new)
         (map (λ d. record { name = d.name.now; dump = S.Reader.reading d.dump }) dumps.old)
         (O.writing out.old, O.writing out.new) (E.writing err.old, E.writing err.new) result }
 {
-    let Some(id) = surroundings.id_of(binding) else {
+    let Some(id) = environment.id_of(binding) else {
         return refuse_input(Input::Binding, err);
     };
-    if leads_to_input(surroundings, path, id, dumps) {
+    if leads_to_input(environment, path, id, dumps) {
         refuse_file(alloc, path, b"is an input", 3, err)
     } else {
         audit_then_save(
             alloc,
-            surroundings,
+            environment,
             order,
             words,
             allowances,
@@ -349,37 +346,37 @@ fn audit_and_save<S: Surroundings, O: Sink, E: Sink>(
 }
 
 /// Whether a path leads to the binding, which is this file, or to a dump.
-fn leads_to_input<S: Surroundings>(
-    surroundings: &S,
+fn leads_to_input<S: Environment>(
+    environment: &S,
     path: &str,
     binding: FileId,
     dumps: &[NamedDump<'_, S::Reader>],
 ) -> bool
-    ensures yes { result ≡ true → LeadsToInput S.Surroundings surroundings.now path.now binding
+    ensures yes { result ≡ true → LeadsToInput S.Environment environment.now path.now binding
         (map (λ d. record { name = d.name.now; dump = S.Reader.reading d.dump }) dumps.now) }
-    ensures no { result ≡ false → LeadsToNoInput S.Surroundings surroundings.now path.now binding
+    ensures no { result ≡ false → LeadsToNoInput S.Environment environment.now path.now binding
         (map (λ d. record { name = d.name.now; dump = S.Reader.reading d.dump }) dumps.now) }
 {
-    match surroundings.id_at(path) {
-        Some(id) => id == binding || is_a_dump(surroundings, id, dumps),
+    match environment.id_at(path) {
+        Some(id) => id == binding || is_a_dump(environment, id, dumps),
         None => false,
     }
 }
 
 /// Whether a dump is this file.
-fn is_a_dump<S: Surroundings>(
-    surroundings: &S,
+fn is_a_dump<S: Environment>(
+    environment: &S,
     id: FileId,
     dumps: &[NamedDump<'_, S::Reader>],
 ) -> bool
     ensures yes { result ≡ true → (named : NamedReading)
         × Contains (map (λ d. record { name = d.name.now; dump = S.Reader.reading d.dump }) dumps.now) named
-        × IsFileOf S.Surroundings surroundings.now named (Some id) }
-    ensures no { result ≡ false → All (IsOther S.Surroundings surroundings.now id)
+        × IsFileOf S.Environment environment.now named (Some id) }
+    ensures no { result ≡ false → All (IsOther S.Environment environment.now id)
         (map (λ d. record { name = d.name.now; dump = S.Reader.reading d.dump }) dumps.now) }
 {
     for named in dumps {
-        if id_of_dump(surroundings, named) == Some(id) {
+        if id_of_dump(environment, named) == Some(id) {
             return true;
         }
     }
@@ -387,22 +384,22 @@ fn is_a_dump<S: Surroundings>(
 }
 
 /// Which file a dump is, if it can be told.
-fn id_of_dump<S: Surroundings>(surroundings: &S, named: &NamedDump<'_, S::Reader>) -> Option<FileId>
-    ensures { IsFileOf S.Surroundings surroundings.now
+fn id_of_dump<S: Environment>(environment: &S, named: &NamedDump<'_, S::Reader>) -> Option<FileId>
+    ensures { IsFileOf S.Environment environment.now
         (record { name = named.now.name.now; dump = S.Reader.reading named.now.dump }) result }
 {
     if named.name == STANDARD_INPUT.as_bytes() {
-        surroundings.id_at("/dev/stdin")
+        environment.id_at("/dev/stdin")
     } else {
-        surroundings.id_of(&named.dump)
+        environment.id_of(&named.dump)
     }
 }
 
 /// Audits those inputs, and then writes test cases at a path.
 #[inline(never)]
-fn audit_then_save<S: Surroundings, O: Sink, E: Sink>(
+fn audit_then_save<S: Environment, O: Sink, E: Sink>(
     alloc: Global,
-    surroundings: &S,
+    environment: &S,
     order: &Order,
     words: &AuditWords,
     allowances: &[Allowance],
@@ -412,7 +409,7 @@ fn audit_then_save<S: Surroundings, O: Sink, E: Sink>(
     out: &mut O,
     err: &mut E,
 ) -> u8
-    ensures { AuditsThenSaves S.Surroundings surroundings.now order.now words.now allowances.now path.now
+    ensures { AuditsThenSaves S.Environment environment.now order.now words.now allowances.now path.now
         (S.Reader.reading binding.old, S.Reader.reading binding.new)
         (map (λ d. record { name = d.name.now; dump = S.Reader.reading d.dump }) dumps.old)
         (O.writing out.old, O.writing out.new) (E.writing err.old, E.writing err.new) result }
@@ -421,7 +418,7 @@ fn audit_then_save<S: Surroundings, O: Sink, E: Sink>(
     let options = options_of(order, words, allowances);
     let (is_audited, status) = audit(alloc, binding, dumps, options, &mut suite, out, err);
     if is_audited {
-        save_cases(alloc, surroundings, path, &suite, status, err)
+        save_cases(alloc, environment, path, &suite, status, err)
     } else {
         status
     }
@@ -429,20 +426,20 @@ fn audit_then_save<S: Surroundings, O: Sink, E: Sink>(
 
 /// Writes the file of test cases. The answer is this exit status, or another where it isn't written.
 #[inline(never)]
-fn save_cases<S: Surroundings, E: Sink>(
+fn save_cases<S: Environment, E: Sink>(
     alloc: Global,
-    surroundings: &S,
+    environment: &S,
     path: &str,
     suite: &TestSuite,
     status: u8,
     err: &mut E,
 ) -> u8
-    ensures { SavesCases S.Surroundings surroundings.now path.now status
+    ensures { SavesCases S.Environment environment.now path.now status
         (E.writing err.old, E.writing err.new) result }
 {
     match junit_file(alloc, suite) {
         Ok(text) => {
-            let written = surroundings.write_file(path, text.as_bytes());
+            let written = environment.write_file(path, text.as_bytes());
             end_cases(alloc, path, written, status, err)
         }
         Err(_) => {

@@ -5,8 +5,8 @@ ghost use Rattle.vme_find.specs.Recordings.{AreSlots};
 ghost use Rattle.vme_program.specs.Bindings.{AreSlotsOf, BindsNamedDump, BindsFile, IsScopeOf};
 ghost use Rattle.vme_words.specs.OrderFaults.{IsOfWords};
 
+use crate::environment::Environment;
 use crate::opening::{input_name, open_input, refuse_input};
-use crate::surroundings::Surroundings;
 use std::alloc::Global;
 use vme_answer::Input;
 use vme_commands::bind::bind;
@@ -16,40 +16,40 @@ use vme_words::{Order, OrderFault, Task, task_fault};
 /// Writes a binding for the dump that an order names, of the slots and in the scope that it tells. The answer is the
 /// exit status, or that there is no such number of slots: then nothing is opened.
 #[inline(never)]
-pub fn bind_file<S: Surroundings, O: Sink, E: Sink>(
+pub fn bind_file<S: Environment, O: Sink, E: Sink>(
     alloc: Global,
-    surroundings: &S,
+    environment: &S,
     order: &Order,
     out: &mut O,
     err: &mut E,
 ) -> Result<u8, OrderFault>
-    ensures bound { IfOk result (λ status. BindsFile (S.opens surroundings.now) order.now
+    ensures bound { IfOk result (λ status. BindsFile (S.opens environment.now) order.now
         (O.writing out.old, O.writing out.new) (E.writing err.old, E.writing err.new) status) }
     ensures of_words { IfErr result IsOfWords }
     ensures out_stays { OnErr result (O.writing out.new ≡ O.writing out.old) }
     ensures err_stays { OnErr result (E.writing err.new ≡ E.writing err.old) }
 {
     match slots_of(alloc, order) {
-        Ok(slots) => Ok(bind_dump(alloc, surroundings, order, slots, out, err)),
+        Ok(slots) => Ok(bind_dump(alloc, environment, order, slots, out, err)),
         Err(fault) => Err(fault),
     }
 }
 
 /// The same, of so many slots.
 #[inline(never)]
-fn bind_dump<S: Surroundings, O: Sink, E: Sink>(
+fn bind_dump<S: Environment, O: Sink, E: Sink>(
     alloc: Global,
-    surroundings: &S,
+    environment: &S,
     order: &Order,
     slots: Option<u8>,
     out: &mut O,
     err: &mut E,
 ) -> u8
     requires { AreSlots slots }
-    ensures { BindsNamedDump (S.opens surroundings.now) order.now slots
+    ensures { BindsNamedDump (S.opens environment.now) order.now slots
         (O.writing out.old, O.writing out.new) (E.writing err.old, E.writing err.new) result }
 {
-    match open_input(surroundings, order, Input::Dump) {
+    match open_input(environment, order, Input::Dump) {
         Some(mut dump) => {
             let name = input_name(order, Input::Dump);
             bind(alloc, &mut dump, name, slots, scope_of(order), out, err)

@@ -2,8 +2,8 @@
 
 ghost use Rattle.vme_program.specs.Recordings.{ConfirmsDump, ConfirmsFiles, ConfirmsListing};
 
+use crate::environment::Environment;
 use crate::opening::{open_input, refuse_input};
-use crate::surroundings::Surroundings;
 use std::alloc::Global;
 use vme_answer::Input;
 use vme_commands::confirm::confirm_with;
@@ -13,38 +13,38 @@ use vme_words::Order;
 /// Compares a listing with that of a recording, by the files that an order names: the binding is opened, then the dump,
 /// and then the listing. The answer is the exit status.
 #[inline(never)]
-pub fn confirm_files<S: Surroundings, O: Sink, E: Sink>(
+pub fn confirm_files<S: Environment, O: Sink, E: Sink>(
     alloc: Global,
-    surroundings: &S,
+    environment: &S,
     order: &Order,
     out: &mut O,
     err: &mut E,
 ) -> u8
-    ensures { ConfirmsFiles (S.opens surroundings.now) order.now
+    ensures { ConfirmsFiles (S.opens environment.now) order.now
         (O.writing out.old, O.writing out.new) (E.writing err.old, E.writing err.new) result }
 {
-    match open_input(surroundings, order, Input::Binding) {
-        Some(mut binding) => confirm_dump(alloc, surroundings, order, &mut binding, out, err),
+    match open_input(environment, order, Input::Binding) {
+        Some(mut binding) => confirm_dump(alloc, environment, order, &mut binding, out, err),
         None => refuse_input(Input::Binding, err),
     }
 }
 
 /// The same, by a binding that was opened.
 #[inline(never)]
-fn confirm_dump<S: Surroundings, B: Source, O: Sink, E: Sink>(
+fn confirm_dump<S: Environment, B: Source, O: Sink, E: Sink>(
     alloc: Global,
-    surroundings: &S,
+    environment: &S,
     order: &Order,
     binding: &mut B,
     out: &mut O,
     err: &mut E,
 ) -> u8
-    ensures { ConfirmsDump (S.opens surroundings.now) order.now (B.reading binding.old, B.reading binding.new)
+    ensures { ConfirmsDump (S.opens environment.now) order.now (B.reading binding.old, B.reading binding.new)
         (O.writing out.old, O.writing out.new) (E.writing err.old, E.writing err.new) result }
 {
-    match open_input(surroundings, order, Input::Dump) {
+    match open_input(environment, order, Input::Dump) {
         Some(mut dump) => {
-            confirm_listing(alloc, surroundings, order, binding, &mut dump, out, err)
+            confirm_listing(alloc, environment, order, binding, &mut dump, out, err)
         }
         None => refuse_input(Input::Dump, err),
     }
@@ -52,20 +52,20 @@ fn confirm_dump<S: Surroundings, B: Source, O: Sink, E: Sink>(
 
 /// The same, by a binding and a dump that were opened.
 #[inline(never)]
-fn confirm_listing<S: Surroundings, B: Source, D: Source, O: Sink, E: Sink>(
+fn confirm_listing<S: Environment, B: Source, D: Source, O: Sink, E: Sink>(
     alloc: Global,
-    surroundings: &S,
+    environment: &S,
     order: &Order,
     binding: &mut B,
     dump: &mut D,
     out: &mut O,
     err: &mut E,
 ) -> u8
-    ensures { ConfirmsListing (S.opens surroundings.now) order.now
+    ensures { ConfirmsListing (S.opens environment.now) order.now
         (B.reading binding.old, B.reading binding.new) (D.reading dump.old, D.reading dump.new)
         (O.writing out.old, O.writing out.new) (E.writing err.old, E.writing err.new) result }
 {
-    match open_input(surroundings, order, Input::Listing) {
+    match open_input(environment, order, Input::Listing) {
         Some(mut listing) => {
             confirm_with(alloc, binding, dump, &mut listing, order.skew, out, err)
         }

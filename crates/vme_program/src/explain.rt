@@ -4,9 +4,9 @@ ghost use Rattle.std.specs.Prelude.{◌≡◌, MatchOption, None, Some};
 ghost use Rattle.vme_program.specs.Explanations.{ExplainsAndSaves, ExplainsDump, ExplainsFiles, ExplainsOpened};
 ghost use Rattle.vme_program.specs.Explanations.{ExplainsThenSaves, ExplainsUnlessRefused, viewer_word};
 
+use crate::environment::Environment;
 use crate::opening::{input_name, open_input, refuse_input};
 use crate::save::{InputIds, refusal_at, refuse_place, save};
-use crate::surroundings::Surroundings;
 use std::alloc::Global;
 use vme_answer::Input;
 use vme_commands::explain::{InputNames, explain};
@@ -16,39 +16,39 @@ use vme_words::Order;
 /// Says why and where the recording of the files that an order names is judged as it is, and writes the waveform
 /// viewer's file, if one is wanted. Where that file may not be written, nothing is. The answer is the exit status.
 #[inline(never)]
-pub fn explain_files<S: Surroundings, O: Sink, E: Sink>(
+pub fn explain_files<S: Environment, O: Sink, E: Sink>(
     alloc: Global,
-    surroundings: &S,
+    environment: &S,
     order: &Order,
     out: &mut O,
     err: &mut E,
 ) -> u8
-    ensures { ExplainsFiles S.Surroundings surroundings.now order.now
+    ensures { ExplainsFiles S.Environment environment.now order.now
         (O.writing out.old, O.writing out.new) (E.writing err.old, E.writing err.new) result }
 {
-    match open_input(surroundings, order, Input::Binding) {
-        Some(mut binding) => explain_dump(alloc, surroundings, order, &mut binding, out, err),
+    match open_input(environment, order, Input::Binding) {
+        Some(mut binding) => explain_dump(alloc, environment, order, &mut binding, out, err),
         None => refuse_input(Input::Binding, err),
     }
 }
 
 /// The same, by a binding that was opened.
 #[inline(never)]
-fn explain_dump<S: Surroundings, O: Sink, E: Sink>(
+fn explain_dump<S: Environment, O: Sink, E: Sink>(
     alloc: Global,
-    surroundings: &S,
+    environment: &S,
     order: &Order,
     binding: &mut S::Reader,
     out: &mut O,
     err: &mut E,
 ) -> u8
-    ensures { ExplainsDump S.Surroundings surroundings.now order.now
+    ensures { ExplainsDump S.Environment environment.now order.now
         (S.Reader.reading binding.old, S.Reader.reading binding.new)
         (O.writing out.old, O.writing out.new) (E.writing err.old, E.writing err.new) result }
 {
-    match open_input(surroundings, order, Input::Dump) {
+    match open_input(environment, order, Input::Dump) {
         Some(mut dump) => {
-            explain_opened(alloc, surroundings, order, binding, &mut dump, out, err)
+            explain_opened(alloc, environment, order, binding, &mut dump, out, err)
         }
         None => refuse_input(Input::Dump, err),
     }
@@ -56,22 +56,22 @@ fn explain_dump<S: Surroundings, O: Sink, E: Sink>(
 
 /// The same, by a binding and a dump that were opened.
 #[inline(never)]
-fn explain_opened<S: Surroundings, O: Sink, E: Sink>(
+fn explain_opened<S: Environment, O: Sink, E: Sink>(
     alloc: Global,
-    surroundings: &S,
+    environment: &S,
     order: &Order,
     binding: &mut S::Reader,
     dump: &mut S::Reader,
     out: &mut O,
     err: &mut E,
 ) -> u8
-    ensures { ExplainsOpened S.Surroundings surroundings.now order.now
+    ensures { ExplainsOpened S.Environment environment.now order.now
         (S.Reader.reading binding.old, S.Reader.reading binding.new)
         (S.Reader.reading dump.old, S.Reader.reading dump.new)
         (O.writing out.old, O.writing out.new) (E.writing err.old, E.writing err.new) result }
 {
     match viewer_path(order) {
-        Some(path) => explain_and_save(alloc, surroundings, order, path, binding, dump, out, err),
+        Some(path) => explain_and_save(alloc, environment, order, path, binding, dump, out, err),
         None => {
             let (status, _) = explain(
                 alloc,
@@ -89,9 +89,9 @@ fn explain_opened<S: Surroundings, O: Sink, E: Sink>(
 
 /// The same, where the viewer's file is wanted at a path.
 #[inline(never)]
-fn explain_and_save<S: Surroundings, O: Sink, E: Sink>(
+fn explain_and_save<S: Environment, O: Sink, E: Sink>(
     alloc: Global,
-    surroundings: &S,
+    environment: &S,
     order: &Order,
     path: &str,
     binding: &mut S::Reader,
@@ -99,15 +99,15 @@ fn explain_and_save<S: Surroundings, O: Sink, E: Sink>(
     out: &mut O,
     err: &mut E,
 ) -> u8
-    ensures { ExplainsAndSaves S.Surroundings surroundings.now order.now path.now
+    ensures { ExplainsAndSaves S.Environment environment.now order.now path.now
         (S.Reader.reading binding.old, S.Reader.reading binding.new)
         (S.Reader.reading dump.old, S.Reader.reading dump.new)
         (O.writing out.old, O.writing out.new) (E.writing err.old, E.writing err.new) result }
 {
-    let Some(binding_id) = surroundings.id_of(binding) else {
+    let Some(binding_id) = environment.id_of(binding) else {
         return refuse_input(Input::Binding, err);
     };
-    let Some(dump_id) = surroundings.id_of(dump) else {
+    let Some(dump_id) = environment.id_of(dump) else {
         return refuse_input(Input::Dump, err);
     };
     let inputs = InputIds {
@@ -116,7 +116,7 @@ fn explain_and_save<S: Surroundings, O: Sink, E: Sink>(
     };
     explain_unless_refused(
         alloc,
-        surroundings,
+        environment,
         order,
         path,
         inputs,
@@ -129,9 +129,9 @@ fn explain_and_save<S: Surroundings, O: Sink, E: Sink>(
 
 /// The same, where it is known which files the inputs are.
 #[inline(never)]
-fn explain_unless_refused<S: Surroundings, B: Source, D: Source, O: Sink, E: Sink>(
+fn explain_unless_refused<S: Environment, B: Source, D: Source, O: Sink, E: Sink>(
     alloc: Global,
-    surroundings: &S,
+    environment: &S,
     order: &Order,
     path: &str,
     inputs: InputIds,
@@ -140,15 +140,15 @@ fn explain_unless_refused<S: Surroundings, B: Source, D: Source, O: Sink, E: Sin
     out: &mut O,
     err: &mut E,
 ) -> u8
-    ensures { ExplainsUnlessRefused S.Surroundings surroundings.now order.now path.now inputs
+    ensures { ExplainsUnlessRefused S.Environment environment.now order.now path.now inputs
         (B.reading binding.old, B.reading binding.new) (D.reading dump.old, D.reading dump.new)
         (O.writing out.old, O.writing out.new) (E.writing err.old, E.writing err.new) result }
 {
-    match refusal_at(surroundings, path, inputs) {
+    match refusal_at(environment, path, inputs) {
         Some(refusal) => refuse_place(alloc, path, refusal, err),
         None => explain_then_save(
             alloc,
-            surroundings,
+            environment,
             order,
             path,
             inputs,
@@ -162,9 +162,9 @@ fn explain_unless_refused<S: Surroundings, B: Source, D: Source, O: Sink, E: Sin
 
 /// The same, where the viewer's file may be written.
 #[inline(never)]
-fn explain_then_save<S: Surroundings, B: Source, D: Source, O: Sink, E: Sink>(
+fn explain_then_save<S: Environment, B: Source, D: Source, O: Sink, E: Sink>(
     alloc: Global,
-    surroundings: &S,
+    environment: &S,
     order: &Order,
     path: &str,
     inputs: InputIds,
@@ -173,7 +173,7 @@ fn explain_then_save<S: Surroundings, B: Source, D: Source, O: Sink, E: Sink>(
     out: &mut O,
     err: &mut E,
 ) -> u8
-    ensures { ExplainsThenSaves S.Surroundings surroundings.now order.now path.now inputs
+    ensures { ExplainsThenSaves S.Environment environment.now order.now path.now inputs
         (B.reading binding.old, B.reading binding.new) (D.reading dump.old, D.reading dump.new)
         (O.writing out.old, O.writing out.new) (E.writing err.old, E.writing err.new) result }
 {
@@ -189,7 +189,7 @@ fn explain_then_save<S: Surroundings, B: Source, D: Source, O: Sink, E: Sink>(
     match viewer {
         Some(viewer) => save(
             alloc,
-            surroundings,
+            environment,
             path,
             viewer.as_bytes(),
             inputs,

@@ -2,7 +2,7 @@
 
 ghost use Rattle.vme_program.specs.Inputs.{ChecksInput, SaysFirst};
 
-use crate::surroundings::Surroundings;
+use crate::environment::Environment;
 use std::alloc::Global;
 use std::thread::Threads;
 use vme_commands::check::check;
@@ -13,18 +13,18 @@ use vme_trace::Sink;
 /// Judges the dump on standard input by the built-in binding. Where standard input is a terminal, it says first that it
 /// reads there. The answer is the exit status.
 #[inline(never)]
-pub fn check_input<R: Threads + Sync, S: Surroundings, O: Sink, E: Sink>(
+pub fn check_input<R: Threads + Sync, S: Environment, O: Sink, E: Sink>(
     rt: &R,
     alloc: Global,
-    surroundings: &S,
+    environment: &S,
     out: &mut O,
     err: &mut E,
 ) -> u8
-    ensures { ChecksInput (S.is_input surroundings.now) (S.on_terminal surroundings.now)
+    ensures { ChecksInput (S.is_input environment.now) (S.on_terminal environment.now)
         (O.writing out.old, O.writing out.new) (E.writing err.old, E.writing err.new) result }
 {
-    say_first(surroundings.is_terminal(), err);
-    let mut input = surroundings.input();
+    say_first(environment.is_terminal(), err);
+    let mut input = environment.input();
     check(
         rt,
         alloc,

@@ -4,7 +4,7 @@
 //! # Parts
 //!
 //! - `program`: [`run_words`], from the words of the command line to one command.
-//! - `surroundings`: [`Surroundings`], what the program uses of what is outside of it: files by their
+//! - `environment`: [`Environment`], what the program uses of what is outside of it: files by their
 //!   names, and standard input. Standard output and standard error are sinks that the caller brings.
 //! - `opening`: the file that an order names for an input, or that it can't be opened.
 //! - `check`, `list`, `confirm`, `explain`, `bind`, `variables`, `rules`, `faults`, `audit`: one
@@ -39,7 +39,7 @@
 //! contracts of vme_commands don't say what these texts tell; what the file of test cases tells, and
 //! that an audit reads standard input once. Tests try these.
 //!
-//! What a [`Surroundings`] answers is what its ghost members say, and no more: that a file of that
+//! What a [`Environment`] answers is what its ghost members say, and no more: that a file of that
 //! name has those bytes is a matter of who implements it.
 //!
 //! Start reading at `specs/Openings`, then `specs/Programs`.
@@ -49,6 +49,7 @@ mod audit;
 mod bind;
 mod check;
 mod confirm;
+mod environment;
 mod explain;
 mod faults;
 mod input;
@@ -57,8 +58,7 @@ mod opening;
 mod program;
 mod rules;
 mod save;
-mod surroundings;
 mod variables;
 
+pub use environment::{Environment, Written};
 pub use program::run_words;
-pub use surroundings::{Surroundings, Written};

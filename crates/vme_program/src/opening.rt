@@ -6,7 +6,7 @@ ghost use Rattle.vme_answer.specs.declared.refusal.Refusal.TheVariants.{CannotOp
 ghost use Rattle.vme_stream.specs.Outputs.{TriesToWrite};
 ghost use Rattle.vme_program.specs.Openings.{GivesInput, IsInputName};
 
-use crate::surroundings::Surroundings;
+use crate::environment::Environment;
 use vme_answer::{Input, Refusal, refusal_line};
 use vme_commands::place_of;
 use vme_stream::complain;
@@ -14,15 +14,15 @@ use vme_trace::Sink;
 use vme_words::Order;
 
 /// The file that an order names for an input, opened.
-pub(crate) fn open_input<S: Surroundings>(
-    surroundings: &S,
+pub(crate) fn open_input<S: Environment>(
+    environment: &S,
     order: &Order,
     input: Input,
 ) -> Option<S::Reader>
-    ensures { GivesInput (S.opens surroundings.now) order.now input (option_map S.Reader.reading result) }
+    ensures { GivesInput (S.opens environment.now) order.now input (option_map S.Reader.reading result) }
 {
     match order.names.get(place_of(order.command, input)) {
-        Some(name) => surroundings.open_file(name.as_str()),
+        Some(name) => environment.open_file(name.as_str()),
         None => None,
     }
 }

@@ -13,12 +13,12 @@ use crate::audit::audit_files;
 use crate::bind::bind_file;
 use crate::check::check_files;
 use crate::confirm::confirm_files;
+use crate::environment::Environment;
 use crate::explain::explain_files;
 use crate::faults::faults_named;
 use crate::input::check_input;
 use crate::list::list_files;
 use crate::rules::rules_named;
-use crate::surroundings::Surroundings;
 use crate::variables::variables_file;
 use std::alloc::Global;
 use std::thread::Threads;
@@ -28,57 +28,57 @@ use vme_words::{Order, OrderFault, Task};
 
 /// Does what the words of the command line ask for, the program's name first. Without words it checks the dump on
 /// standard input. The answer is the exit status, or what is wrong with the words: then nothing is opened or written.
-pub fn run_words<R: Threads + Sync, S: Surroundings, O: Sink, E: Sink>(
+pub fn run_words<R: Threads + Sync, S: Environment, O: Sink, E: Sink>(
     rt: &R,
     alloc: Global,
-    surroundings: &S,
+    environment: &S,
     words: &[String],
     out: &mut O,
     err: &mut E,
 ) -> Result<u8, OrderFault>
     ensures none { length words.now ≤ 1 → IfOk result (λ status. ChecksInput
-        (S.is_input surroundings.now) (S.on_terminal surroundings.now)
+        (S.is_input environment.now) (S.on_terminal environment.now)
         (O.writing out.old, O.writing out.new) (E.writing err.old, E.writing err.new) status) }
     ensures some { 1 < length words.now → IfOk result (λ status. (asked : OrderIs)
         × IsOrder asked (subcommand_of vmecheck_app (map string_bytes words.now))
-        × DoesOrder S.Surroundings surroundings.now asked
+        × DoesOrder S.Environment environment.now asked
         (O.writing out.old, O.writing out.new) (E.writing err.old, E.writing err.new) status) }
     ensures of_words { IfErr result IsOfWords }
     ensures out_stays { OnErr result (O.writing out.new ≡ O.writing out.old) }
     ensures err_stays { OnErr result (E.writing err.new ≡ E.writing err.old) }
 {
     if words.len() <= 1 {
-        return Ok(check_input(rt, alloc, surroundings, out, err));
+        return Ok(check_input(rt, alloc, environment, out, err));
     }
     match order(alloc, words) {
-        Ok(asked) => run_order(rt, alloc, surroundings, &asked, out, err),
+        Ok(asked) => run_order(rt, alloc, environment, &asked, out, err),
         Err(fault) => Err(fault),
     }
 }
 
 /// Does what an order asks for. The answer is the exit status, or what is wrong with the words.
-fn run_order<R: Threads + Sync, S: Surroundings, O: Sink, E: Sink>(
+fn run_order<R: Threads + Sync, S: Environment, O: Sink, E: Sink>(
     rt: &R,
     alloc: Global,
-    surroundings: &S,
+    environment: &S,
     order: &Order,
     out: &mut O,
     err: &mut E,
 ) -> Result<u8, OrderFault>
-    ensures done { IfOk result (λ status. DoesOrder S.Surroundings surroundings.now order.now
+    ensures done { IfOk result (λ status. DoesOrder S.Environment environment.now order.now
         (O.writing out.old, O.writing out.new) (E.writing err.old, E.writing err.new) status) }
     ensures of_words { IfErr result IsOfWords }
     ensures out_stays { OnErr result (O.writing out.new ≡ O.writing out.old) }
     ensures err_stays { OnErr result (E.writing err.new ≡ E.writing err.old) }
 {
     match order.command {
-        Task::Check => Ok(check_files(rt, alloc, surroundings, order, out, err)),
-        Task::List => Ok(list_files(rt, alloc, surroundings, order, out, err)),
-        Task::Confirm => Ok(confirm_files(alloc, surroundings, order, out, err)),
-        Task::Audit => audit_files(alloc, surroundings, order, out, err),
-        Task::Explain => Ok(explain_files(alloc, surroundings, order, out, err)),
-        Task::Bind => bind_file(alloc, surroundings, order, out, err),
-        Task::Variables => Ok(variables_file(alloc, surroundings, order, out, err)),
+        Task::Check => Ok(check_files(rt, alloc, environment, order, out, err)),
+        Task::List => Ok(list_files(rt, alloc, environment, order, out, err)),
+        Task::Confirm => Ok(confirm_files(alloc, environment, order, out, err)),
+        Task::Audit => audit_files(alloc, environment, order, out, err),
+        Task::Explain => Ok(explain_files(alloc, environment, order, out, err)),
+        Task::Bind => bind_file(alloc, environment, order, out, err),
+        Task::Variables => Ok(variables_file(alloc, environment, order, out, err)),
         Task::Rules => rules_named(alloc, order, out, err),
         Task::Faults => faults_named(alloc, order, out, err),
     }

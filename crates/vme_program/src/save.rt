@@ -3,8 +3,8 @@
 ghost use Rattle.vme_program.specs.Saves.{EndsWritten, MayBeSaved, RefusesPlace, Saves};
 ghost use Rattle.vme_stream.specs.Outputs.{TriesToWrite};
 
+use crate::environment::{Environment, Written};
 use crate::opening::refuse;
-use crate::surroundings::{Surroundings, Written};
 use std::alloc::Global;
 use vme_answer::{Refusal, cannot_write_line};
 use vme_explain::{FileId, SaveRefusal, save_refusal, save_refusal_text};
@@ -21,33 +21,33 @@ pub struct InputIds {
 }
 
 /// Why no file is written at a path, if none may be.
-pub(crate) fn refusal_at<S: Surroundings>(
-    surroundings: &S,
+pub(crate) fn refusal_at<S: Environment>(
+    environment: &S,
     path: &str,
     inputs: InputIds,
 ) -> Option<SaveRefusal>
-    ensures { MayBeSaved (S.stands_at surroundings.now) path.now inputs result }
+    ensures { MayBeSaved (S.stands_at environment.now) path.now inputs result }
 {
-    save_refusal(&surroundings.present_at(path), inputs.binding, inputs.dump)
+    save_refusal(&environment.present_at(path), inputs.binding, inputs.dump)
 }
 
 /// Writes a file at a path, if it may. The answer is this exit status, or another where the file isn't written.
 #[inline(never)]
-pub(crate) fn save<S: Surroundings, E: Sink>(
+pub(crate) fn save<S: Environment, E: Sink>(
     alloc: Global,
-    surroundings: &S,
+    environment: &S,
     path: &str,
     bytes: &[u8],
     inputs: InputIds,
     status: u8,
     err: &mut E,
 ) -> u8
-    ensures { Saves (S.stands_at surroundings.now) (S.puts surroundings.now) path.now inputs bytes.now status
+    ensures { Saves (S.stands_at environment.now) (S.puts environment.now) path.now inputs bytes.now status
         (E.writing err.old, E.writing err.new) result }
 {
-    match refusal_at(surroundings, path, inputs) {
+    match refusal_at(environment, path, inputs) {
         Some(refusal) => refuse_place(alloc, path, refusal, err),
-        None => end_written(surroundings.put_file(alloc, path, bytes), status, err),
+        None => end_written(environment.put_file(alloc, path, bytes), status, err),
     }
 }
 

@@ -4,7 +4,7 @@ use std::process::Abort;
 use std::test::Fail;
 use std::thread::Threads;
 use vme_explain::{FileId, Present};
-use vme_program::{Surroundings, Written, run_words};
+use vme_program::{Environment, Written, run_words};
 use vme_stream::Bytes;
 use vme_trace::{Failed, Sink};
 
@@ -31,7 +31,7 @@ struct Shelf {
     writes: Cell<u32>,
 }
 
-impl Surroundings for Shelf {
+impl Environment for Shelf {
     type Reader = Bytes<'static>;
 
     ghost opens = { λ _ _ _. Unit {0} };

@@ -152,15 +152,15 @@ module _ (skew : ℕ) (t : Trace) where
 
 -- ---- what is complete is a front
 
-abbrev pub IsFront : List Step → List Step → Type 0
-IsFront xs ys = (rest : List Step) × (ys ≡ xs ++ rest)
+abbrev pub IsPrefix : List Step → List Step → Type 0
+IsPrefix xs ys = (rest : List Step) × (ys ≡ xs ++ rest)
 
 module _ (skew time : ℕ) (t : Trace) where
   abbrev complete : List Step → List Step
   complete xs = filter (is_complete skew time) xs
 
-  with_group : (n : ℕ) → IsFront (complete (steps_before skew t n)) (steps_before skew t n)
-      → IsFront (complete (steps_before skew t n ++ step_to skew t n)) (steps_before skew t n ++ step_to skew t n)
+  with_group : (n : ℕ) → IsPrefix (complete (steps_before skew t n)) (steps_before skew t n)
+      → IsPrefix (complete (steps_before skew t n ++ step_to skew t n)) (steps_before skew t n ++ step_to skew t n)
   with_group n h = by_test (nat_lt (start_time skew t n + skew) time) refl
     where
       before : List Step
@@ -177,7 +177,7 @@ module _ (skew time : ℕ) (t : Trace) where
           (group-complete skew t n time ∙ ap (λ (c : Bool). cond c group []) e)
 
       by_test : (b : Bool) → nat_lt (start_time skew t n + skew) time ≡ b
-          → IsFront (complete (before ++ group)) (before ++ group)
+          → IsPrefix (complete (before ++ group)) (before ++ group)
       by_test true e =
           let lt : start_time skew t n + skew < time = not-less (start_time skew t n + skew) time e in
           let all : complete (before ++ group) ≡ before ++ group = parts true e ∙ ap (λ (xs : List Step). xs ++ group)
@@ -191,13 +191,13 @@ module _ (skew time : ℕ) (t : Trace) where
                 (sym all),
           )
 
-  before_group : (n : ℕ) → IsFront (complete (steps_before skew t n)) (steps_before skew t n)
+  before_group : (n : ℕ) → IsPrefix (complete (steps_before skew t n)) (steps_before skew t n)
   unfolding steps_before
   before_group zero = ([], refl)
   before_group (suc i) = by_test (begins_behind skew t (group_start skew t i) i) (before_group i)
     where
-      by_test : (b : Bool) → IsFront (complete (steps_before skew t i)) (steps_before skew t i)
-          → IsFront (complete (cond b (steps_before skew t i ++ step_to skew t i) (steps_before skew t i)))
+      by_test : (b : Bool) → IsPrefix (complete (steps_before skew t i)) (steps_before skew t i)
+          → IsPrefix (complete (cond b (steps_before skew t i ++ step_to skew t i) (steps_before skew t i)))
           (cond b (steps_before skew t i ++ step_to skew t i) (steps_before skew t i))
       by_test true h = with_group i h
       by_test false h = h

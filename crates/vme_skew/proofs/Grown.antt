@@ -10,7 +10,7 @@ use Rattle.vme_trace.specs.Followed.{with_steps}
 use Rattle.vme_trace.specs.Trace.{Trace, time_at}
 use Rattle.vme_trace.specs.declared.step.Step.{Step}
 use Rattle.vme_skew.specs.Settled.{group_start, is_complete, settled, settled_until, step_to, steps_before}
-use Rattle.vme_skew.proofs.Complete.{IsFront, group-complete, less-test, not-less, start_time, until-front}
+use Rattle.vme_skew.proofs.Complete.{IsPrefix, group-complete, less-test, not-less, start_time, until-front}
 use Rattle.vme_skew.proofs.Growing.{before-more, begins, start-le, start-more, time-kept, time-last}
 use Rattle.vme_skew.proofs.Laws.{length_more}
 
@@ -108,7 +108,7 @@ fewer p q h (x ∷ xs) = by_tests (p x) (q x) (h x) (fewer p q h xs)
 
 -- of two fronts the shorter one is a front of the other
 shorter-first : (xs ys more_xs more_ys : List Step) → xs ++ more_xs ≡ ys ++ more_ys → length xs ≤ length ys
-    → IsFront xs ys
+    → IsPrefix xs ys
 shorter-first [] ys more_xs more_ys e le = (ys, refl)
 shorter-first (x ∷ xs) [] more_xs more_ys e le = absurd (omega (arith, le))
 shorter-first (x ∷ xs) (y ∷ ys) more_xs more_ys e le =

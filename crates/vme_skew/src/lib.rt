@@ -27,7 +27,7 @@
 //! of groups.
 //!
 //! A group is complete once a time is read that is more than the skew later than its beginning
-//! (`settled_until`). That much is a front of the settled recording ([`settled_until_is_front`]),
+//! (`settled_until`). That much is a front of the settled recording ([`settled_until_is_prefix`]),
 //! and a recording ([`settled_until_is_recording`]); it stays so as the recording goes on
 //! ([`settled_until_grows`]); by a skew of 0 it is all that is earlier
 //! ([`settled_until_by_zero`]). What comes out of a [`StepSettler`] is at any time exactly what is
@@ -81,7 +81,7 @@ pub fn levels_are_kept()
 {}
 
 /// What is complete once a time is read is a front of the settled recording.
-pub fn settled_until_is_front()
+pub fn settled_until_is_prefix()
     ensures { (skew time : ℕ) (t : Trace)
         → (rest : List Step) × (settled skew t ≡ with_steps (settled_until skew time t) rest) }
 {}

@@ -30,7 +30,7 @@ use Rattle.vme_monitor.specs.declared.tracking.Pending.TheVariants.{Closed, Read
 use Rattle.vme_monitor.proofs.TrackedTransfers.{IsIn, Enters, entered_is}
 use Rattle.vme_stability.specs.HoldingPlaces.{has_risen, writes_of}
 use Rattle.vme_stability.specs.StabilitySpec.{is_shifted, is_undriven, keeps_data, kept, may_write, shifted_fault}
-use Rattle.vme_stability.specs.StabilitySpec.{sight_of, stability_rules, undriven_fault, writes_now}
+use Rattle.vme_stability.specs.StabilitySpec.{observation_of, stability_rules, undriven_fault, writes_now}
 use Rattle.vme_stability.specs.declared.holding.Holding.{Holding}
 use Rattle.vme_stability.proofs.AskedLines.{least_and}
 use Rattle.vme_stability.proofs.Edges.{and_true, first_least, same_itself}
@@ -195,7 +195,7 @@ module _ (t : Trace) (span : Stretch) (reads : ReadsStrobes t span) (n : ℕ) (f
 
   -- the least line that is unknown as a strobe of a write falls that moves it
   pub undriven_least : (cs : List Change) → least (breaks t span U4 (suc n)) 0 line_count ≡ undriven_fault m old new
-      (sight_of old new cs)
+      (observation_of old new cs)
   undriven_least cs =
       least-alike (breaks t span U4 (suc n)) (λ l. (strobe_falls_between old new && writes_now m old new)
       && is_undriven new l) 0 line_count (λ l a b. undriven_asked l)
@@ -331,7 +331,7 @@ module _ (t : Trace) (span : Stretch) (reads : ReadsStrobes t span) (n : ℕ) (f
 
   -- the first changed line of a write that nothing has come of
   pub shifted_least : (cs : List Change) → new ≡ changed old cs → are_changes old 0 cs ≡ true
-      → least (breaks t span S3 (suc n)) 0 line_count ≡ shifted_fault m old new (sight_of old new cs)
+      → least (breaks t span S3 (suc n)) 0 line_count ≡ shifted_fault m old new (observation_of old new cs)
   shifted_least cs stepped fit = by_tests (keeps_data m old new) (is_low (level_at old WRITE)) refl refl
       ∙ sym (kept_is (keeps_data m old new) _)
     where
@@ -343,7 +343,7 @@ module _ (t : Trace) (span : Stretch) (reads : ReadsStrobes t span) (n : ℕ) (f
           no_edge a b c d = grind (arith, nat_tests)
 
       by_tests : (k d : Bool) → keeps_data m old new ≡ k → is_low (level_at old WRITE) ≡ d
-          → least (breaks t span S3 (suc n)) 0 line_count ≡ cond k (sight_of old new cs).shifted None
+          → least (breaks t span S3 (suc n)) 0 line_count ≡ cond k (observation_of old new cs).shifted None
       by_tests true true ke de = sym (rw de (first_least (breaks t span S3 (suc n)) (is_shifted old new) line_count
           bound old 0 cs fit unchanged (λ l h. shifted_as ke de l)))
       by_tests true false ke de = none_where cs (rw (ke, de) refl) ∙ sym (rw de refl)

@@ -12,7 +12,7 @@ use Rattle.vme_trace.specs.Rules.{breaks, is_broken}
 use Rattle.vme_trace.specs.declared.rule.Rule.TheVariants.{S2}
 use Rattle.vme_trace.specs.declared.step.Change.{Change}
 use Rattle.vme_trace.proofs.OpenTransfers.{ReadsStrobes, suc-sub-one}
-use Rattle.vme_stability.specs.StabilitySpec.{direction_turned, keeps_direction, sight_of, turned_fault}
+use Rattle.vme_stability.specs.StabilitySpec.{direction_turned, keeps_direction, observation_of, turned_fault}
 use Rattle.vme_stability.specs.declared.holding.Holding.{Holding}
 use Rattle.vme_stability.proofs.AskedLines.{least_write}
 use Rattle.vme_stability.proofs.Holds.{Holds, holds_direction, judged, keeps_direction_is}
@@ -53,5 +53,5 @@ module _ (t : Trace) (span : Stretch) (reads : ReadsStrobes t span) (n : ℕ) (f
       (judged t span reads n from before) turns (sym (keeps_direction_is t span reads n from before m holds))
 
   pub turned_least : (cs : List Change) → least (breaks t span S2 (suc n)) 0 line_count ≡ turned_fault m old new
-      (sight_of old new cs)
+      (observation_of old new cs)
   turned_least cs = least_write (breaks t span S2 (suc n)) elsewhere ∙ rw on_write refl

@@ -8,7 +8,7 @@ pub mod AskedLines
 pub mod HeldDirection
 pub mod HeldAddress
 pub mod HeldData
-pub mod Unnoticed
+pub mod Unobserved
 pub mod StabilityJudges
 pub mod PassedNeeds
 pub mod HeldFaults

@@ -16,17 +16,18 @@ use Rattle.vme_trace.specs.declared.rule.Rule.TheVariants.{U2, U3, U4, S1, S2, S
 use Rattle.vme_trace.specs.declared.step.Change.{Change}
 use Rattle.vme_trace.proofs.Ranges.{any-fails}
 use Rattle.vme_monitor.specs.Along.{changes_of, memory_from, next_at}
-use Rattle.vme_monitor.specs.Run.{break_at, nothing, noticed, quiet, run_of}
-use Rattle.vme_monitor.specs.OverStretches.{noted, spanned, start_in}
+use Rattle.vme_monitor.specs.Run.{break_at, nothing, machine_step, quiet, run_of}
+use Rattle.vme_monitor.specs.OverStretches.{observed, phase_step, start_in}
 use Rattle.vme_monitor.specs.Whole.{FindsLeast, ShowsAll}
 use Rattle.vme_monitor.specs.declared.mark.Next.{Next}
 use Rattle.vme_monitor.proofs.OwnRules.{own_event, own_marks}
 use Rattle.vme_monitor.proofs.SpanFacts.{IsSpan}
 use Rattle.vme_monitor.proofs.Alongside.{changes_fit, levels_step, memory_early}
-use Rattle.vme_stability.specs.StabilitySpec.{fault_on, is_noticed, shifted_fault, undriven_fault, keeps_direction}
-use Rattle.vme_stability.specs.StabilitySpec.{direction_turned, moved_fault, sight_of, stability_begin, stability_ends}
+use Rattle.vme_stability.specs.StabilitySpec.{fault_on, is_observed, shifted_fault, undriven_fault, keeps_direction}
+use Rattle.vme_stability.specs.StabilitySpec.{direction_turned, moved_fault, observation_of, stability_begin}
+use Rattle.vme_stability.specs.StabilitySpec.{stability_ends}
 use Rattle.vme_stability.specs.StabilitySpec.{stability_next, stability_opens, stability_rules, stability_shown}
-use Rattle.vme_stability.specs.StabilitySpec.{stability_sight, turned_fault, unknown_address, unknown_direction}
+use Rattle.vme_stability.specs.StabilitySpec.{stability_observation, turned_fault, unknown_address, unknown_direction}
 use Rattle.vme_stability.specs.declared.holding.Holding.{Holding}
 use Rattle.vme_stability.specs.declared.observation.HoldingObservation.{HoldingObservation}
 use Rattle.vme_stability.proofs.AskedLines.{address_least, direction_least}
@@ -35,10 +36,10 @@ use Rattle.vme_stability.proofs.HeldAddress.{S2_least, before_last, moved_least,
 use Rattle.vme_stability.proofs.HeldData.{shifted_least, undriven_least}
 use Rattle.vme_stability.proofs.HeldDirection.{turned_least}
 use Rattle.vme_stability.proofs.Holds.{Holds, holds_next, holds_start}
-use Rattle.vme_stability.proofs.Unnoticed.{quiet_there}
+use Rattle.vme_stability.proofs.Unobserved.{quiet_there}
 
 abbrev step : Holding → Levels → Levels → List Change → Next Holding
-step = noticed stability_sight stability_next
+step = machine_step stability_observation stability_next
 
 -- the least rule, of six, that is broken on a line
 first_fault : (n time : ℕ) (a b c d e f : Option ℕ)
@@ -68,16 +69,16 @@ module _ (t : Trace) (span : Stretch) (ok : malformed_step t ≡ None) (facts : 
   module _ (n : ℕ) (from : span.start ≤ n) (before : suc n < span.end) (within : n < length t.steps) (m : Holding)
       (holds : Holds t span n m) where
     abbrev full : Next Holding
-    full = stability_next m (levels_at t n) (levels_at t (suc n)) (sight_of (levels_at t n) (levels_at t (suc n))
+    full = stability_next m (levels_at t n) (levels_at t (suc n)) (observation_of (levels_at t n) (levels_at t (suc n))
         (changes_at n))
 
-    -- a step that isn't noticed would change nothing
+    -- a step in which nothing is observed would change nothing
     next_is : next_at step t m n ≡ full
-    next_is = by_test (is_noticed (levels_at t n) (levels_at t (suc n)) (changes_at n)) refl
+    next_is = by_test (is_observed (levels_at t n) (levels_at t (suc n)) (changes_at n)) refl
       where
-        by_test : (b : Bool) → is_noticed (levels_at t n) (levels_at t (suc n)) (changes_at n) ≡ b
+        by_test : (b : Bool) → is_observed (levels_at t n) (levels_at t (suc n)) (changes_at n) ≡ b
             → option_map_or (stability_next m (levels_at t n) (levels_at t (suc n)))
-            (cond b (Some (sight_of (levels_at t n) (levels_at t (suc n)) (changes_at n))) None) (quiet m) ≡ full
+            (cond b (Some (observation_of (levels_at t n) (levels_at t (suc n)) (changes_at n))) None) (quiet m) ≡ full
         by_test true e = refl
         by_test false e = sym (quiet_there t span facts n from before m (changes_at n) holds e)
 
@@ -97,13 +98,13 @@ module _ (t : Trace) (span : Stretch) (ok : malformed_step t ≡ None) (facts : 
         )
         (first_fault (suc n) (time_at t (suc n)) (unknown_address (levels_at t n) (levels_at t (suc n)))
         (unknown_direction (levels_at t n) (levels_at t (suc n)))
-        (undriven_fault m (levels_at t n) (levels_at t (suc n)) (sight_of (levels_at t n) (levels_at t (suc n))
+        (undriven_fault m (levels_at t n) (levels_at t (suc n)) (observation_of (levels_at t n) (levels_at t (suc n))
         (changes_at n)))
-        (moved_fault m (levels_at t n) (levels_at t (suc n)) (sight_of (levels_at t n) (levels_at t (suc n))
+        (moved_fault m (levels_at t n) (levels_at t (suc n)) (observation_of (levels_at t n) (levels_at t (suc n))
         (changes_at n)))
-        (turned_fault m (levels_at t n) (levels_at t (suc n)) (sight_of (levels_at t n) (levels_at t (suc n))
+        (turned_fault m (levels_at t n) (levels_at t (suc n)) (observation_of (levels_at t n) (levels_at t (suc n))
         (changes_at n)))
-        (shifted_fault m (levels_at t n) (levels_at t (suc n)) (sight_of (levels_at t n) (levels_at t (suc n))
+        (shifted_fault m (levels_at t n) (levels_at t (suc n)) (observation_of (levels_at t n) (levels_at t (suc n))
         (changes_at n))))
 
   earlier : (n : ℕ) → break_before t span stability_rules (suc (suc n)) ≡ None → break_before t span stability_rules
@@ -135,7 +136,8 @@ module _ (t : Trace) (span : Stretch) (ok : malformed_step t ≡ None) (facts : 
       (unturned (keeps_direction m (levels_at t n) (levels_at t (suc n)))
       (direction_turned (levels_at t n) (levels_at t (suc n))) keeps
       (no_fault t span (suc n) (turned_fault m (levels_at t n) (levels_at t (suc n))
-      (sight_of (levels_at t n) (levels_at t (suc n)) [])) (turned_least t span facts.reads n from before m holds [])
+      (observation_of (levels_at t n) (levels_at t (suc n)) []))
+      (turned_least t span facts.reads n from before m holds [])
       (S2_least t span (suc n) (before_last t span (suc n) unbroken).1)))
 
   after_test : (n s : ℕ) → s ≤ n → nat_lt n s ≡ false
@@ -190,25 +192,27 @@ module _ (t : Trace) (span : Stretch) (ok : malformed_step t ≡ None) (facts : 
       rw (next_is n from before within (memory_at n) holds) (fault_is n from before within (memory_at n) holds unbroken)
 
 pub stability_event : FindsLeast
-    (run_of (noticed (noted stability_sight) (spanned stability_begin stability_opens nothing (λ l. None)
+    (run_of (machine_step (observed stability_observation) (phase_step stability_begin stability_opens nothing
+    (λ l. None)
     stability_next))) (start_in stability_begin) stability_rules
-stability_event = own_event stability_begin stability_opens stability_sight stability_next stability_rules refl
+stability_event = own_event stability_begin stability_opens stability_observation stability_next stability_rules refl
     (λ t span ok few facts n from before within unbroken. judges_inside t span ok facts n from before within unbroken)
 
 pub stability_marks : ShowsAll
-    (run_of (noticed (noted stability_sight) (spanned stability_begin stability_opens nothing stability_ends
+    (run_of (machine_step (observed stability_observation)
+    (phase_step stability_begin stability_opens nothing stability_ends
     stability_next))) (start_in stability_begin) nothing stability_shown
 stability_marks =
-    own_marks stability_begin stability_opens stability_sight stability_next stability_ends stability_shown
+    own_marks stability_begin stability_opens stability_observation stability_next stability_ends stability_shown
     (λ t span ok few facts. record {
       at_start = refl;
-      inside = λ n from before within. by_sight (stability_sight (levels_at t n) (levels_at t (suc n))
+      inside = λ n from before within. by_observation (stability_observation (levels_at t n) (levels_at t (suc n))
           (changes_of (slice_get t.steps n))) (memory_from step t (stability_begin (levels_at t span.start)) span.start
           n)
           (levels_at t n) (levels_at t (suc n));
     })
   where
-    by_sight : (o : Option HoldingObservation) (m : Holding) (v w : Levels)
-        → (option_map_or (stability_next m v w) o (quiet m)).kinds ≡ nothing
-    by_sight None m v w = refl
-    by_sight (Some seen) m v w = refl
+    by_observation : (o : Option HoldingObservation) (m : Holding) (v w : Levels)
+        → (option_map_or (stability_next m v w) o (quiet m)).shown ≡ nothing
+    by_observation None m v w = refl
+    by_observation (Some seen) m v w = refl

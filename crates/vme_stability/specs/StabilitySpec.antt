@@ -91,8 +91,8 @@ direction_turned v w = not (same_level (level_at v WRITE) (level_at w WRITE))
 abbrev pub changes_holding : Levels → Levels → Bool
 changes_holding v w = answer_between v w || strobe_rises_between v w || rises_between v w AS
 
-abbrev pub sight_of : Levels → Levels → List Change → HoldingObservation
-sight_of v w cs = record {
+abbrev pub observation_of : Levels → Levels → List Change → HoldingObservation
+observation_of v w cs = record {
   unknown = faults_unknown v w;
   undriven = undriven_line v w;
   moved = address_moved v cs;
@@ -101,12 +101,12 @@ sight_of v w cs = record {
 }
 
 -- nothing that counts has changed where none of these holds
-abbrev pub is_noticed : Levels → Levels → List Change → Bool
-is_noticed v w cs = is_some (faults_unknown v w) || is_some (address_moved v cs) || direction_turned v w
+abbrev pub is_observed : Levels → Levels → List Change → Bool
+is_observed v w cs = is_some (faults_unknown v w) || is_some (address_moved v cs) || direction_turned v w
     || changes_holding v w || is_some (undriven_line v w) || is_some (shifted_line v w cs)
 
-abbrev pub stability_sight : Levels → Levels → List Change → Option HoldingObservation
-stability_sight v w cs = if is_noticed v w cs then Some (sight_of v w cs) else None
+abbrev pub stability_observation : Levels → Levels → List Change → Option HoldingObservation
+stability_observation v w cs = if is_observed v w cs then Some (observation_of v w cs) else None
 
 -- the answer of a transfer comes
 abbrev pub answers_in : Holding → Levels → Levels → Bool
@@ -189,7 +189,7 @@ abbrev pub stability_ends : ℕ → Option Fault
 stability_ends l = None
 
 abbrev pub stability_next : Holding → Levels → Levels → HoldingObservation → Next Holding
-stability_next m v w seen = record { memory = stepped m v w; fault = fault_in m v w seen; kinds = nothing }
+stability_next m v w seen = record { memory = stepped m v w; fault = fault_in m v w seen; shown = nothing }
 
 -- nothing is shown
 abbrev pub stability_shown : Trace → Stretch → ℕ → StepMarks

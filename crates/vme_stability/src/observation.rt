@@ -219,12 +219,12 @@ fn changes_holding(before: &Lines, after: &Lines) -> bool
 }
 
 impl HoldingObservation {
-    ghost use Rattle.vme_stability.specs.StabilitySpec.{stability_sight};
+    ghost use Rattle.vme_stability.specs.StabilitySpec.{stability_observation};
 
     /// What a step shows, if it shows anything.
     #[inline(always)]
     pub fn of(before: &Lines, after: &Lines, changes: &[Change]) -> Option<HoldingObservation>
-        ensures { result ≡ stability_sight before.now after.now changes.now }
+        ensures { result ≡ stability_observation before.now after.now changes.now }
     {
         let unknown = fault_of_unknown(before, after);
         let others = touches_others(changes);

@@ -198,7 +198,7 @@ impl Holding {
 impl Rules for StabilityRules {
     ghost use Rattle.vme_monitor.specs.Run.{nothing};
     ghost use Rattle.vme_stability.specs.StabilitySpec.{stability_begin, stability_ends, stability_next};
-    ghost use Rattle.vme_stability.specs.StabilitySpec.{stability_opens, stability_sight};
+    ghost use Rattle.vme_stability.specs.StabilitySpec.{stability_opens, stability_observation};
 
     type Memory = Holding;
 
@@ -212,7 +212,7 @@ impl Rules for StabilityRules {
 
     ghost ends = { stability_ends };
 
-    ghost observation = { stability_sight };
+    ghost observation = { stability_observation };
 
     ghost next = { stability_next };
 
@@ -250,7 +250,7 @@ impl Rules for StabilityRules {
         Next {
             memory: memory.after_step(before, after),
             fault: memory.fault(before, after, seen),
-            kinds: NOTHING,
+            shown: NOTHING,
         }
     }
 }

@@ -10,11 +10,11 @@ use Rattle.vme_trace.specs.declared.step.Step.{Step}
 use Rattle.vme_trace.specs.declared.verdict.Break.{Break}
 use Rattle.vme_audit.specs.Parts.{breaks}
 use Rattle.vme_audit.specs.declared.allowance.Allowance.{Allowance}
-use Rattle.vme_audit_lines.specs.AuditLines.{standing_of}
+use Rattle.vme_audit_lines.specs.AuditLines.{category_of}
 use Rattle.vme_auditor.specs.Findings.{AreBreakCountsOf}
 use Rattle.vme_auditor.specs.declared.findings.BreakCounts.{BreakCounts}
 use Rattle.vme_step_auditor.specs.ReadBy.{is_stopped, read_by, stops_by}
-use Rattle.vme_step_auditor.specs.Counting.{all_counted, faults_counted, with_standing}
+use Rattle.vme_step_auditor.specs.Counting.{all_counted, faults_counted, with_category}
 use Rattle.vme_step_auditor.specs.Taken.{HasAuditedSteps}
 use Rattle.vme_step_auditor.proofs.ReadOn.{BreaksWithin, StepsBreak, front_sound, reads_all, reads_no_more, reads_step}
 use Rattle.vme_step_auditor.proofs.ReadOn.{reads_unbroken, stays_stopped}
@@ -118,11 +118,11 @@ module _ (grow : StepsBreak) (within : BreaksWithin) (allowances : List Allowanc
       module _ (room : length audited.steps ≡ 2 ^ 64 - 1 → ⊥) where
         -- a step that breaks a rule, and one that doesn't
         pub takes_break : (found : Break) → (malformed_step later ≡ None → breaks later ≡ breaks audited ++ found ∷ [])
-            → HasAuditedSteps allowances stop next later (with_standing c (standing_of allowances found))
+            → HasAuditedSteps allowances stop next later (with_category c (category_of allowances found))
         takes_break found told =
-            let one : all_counted (with_standing c (standing_of allowances found)) ≡ all_counted c + 1 =
-            counts_one c (standing_of allowances found) in
-            takes_step (with_standing c (standing_of allowances found)) (omega (arith, one)) room
+            let one : all_counted (with_category c (category_of allowances found)) ≡ all_counted c + 1 =
+            counts_one c (category_of allowances found) in
+            takes_step (with_category c (category_of allowances found)) (omega (arith, one)) room
             (λ ok. counted_once_more allowances c audited later found
             (taken.counted (front_sound given (s ∷ []) ok)) (told (sound_later ok)))
 

@@ -9,13 +9,13 @@ use Rattle.vme_trace.specs.declared.verdict.Break.{Break}
 use Rattle.vme_audit.specs.Allowances.{faults, is_allowed, is_fault, unreadables, wrongs}
 use Rattle.vme_audit.specs.Parts.{breaks}
 use Rattle.vme_audit.specs.declared.allowance.Allowance.{Allowance}
-use Rattle.vme_audit_lines.specs.AuditLines.{standing_of}
-use Rattle.vme_audit_lines.specs.declared.standing.Standing.{Standing}
-use Rattle.vme_audit_lines.specs.declared.standing.Standing.TheVariants as standing
+use Rattle.vme_audit_lines.specs.AuditLines.{category_of}
+use Rattle.vme_audit_lines.specs.declared.category.BreakCategory.{BreakCategory}
+use Rattle.vme_audit_lines.specs.declared.category.BreakCategory.TheVariants as category
 use Rattle.vme_auditor.specs.Findings.{AreBreakCountsOf}
 use Rattle.vme_auditor.specs.declared.findings.BreakCounts.{BreakCounts}
 use Rattle.vme_step_auditor.specs.Counting.{all_counted, as_allowed, as_broken, as_unreadable, faults_counted}
-use Rattle.vme_step_auditor.specs.Counting.{with_standing}
+use Rattle.vme_step_auditor.specs.Counting.{with_category}
 
 -- what is kept of some breaks and of others behind them
 longer : (kept : List Break → List Break) → ((xs ys : List Break) → kept (xs ++ ys) ≡ kept xs ++ kept ys)
@@ -44,11 +44,11 @@ module _ (allowances : List Allowance) where
       ap (filter cannot_be_read) (filter-append (is_fault allowances) xs ys)
       ∙ filter-append cannot_be_read (faults allowances xs) (faults allowances ys)
 
-  -- one break counts as its standing says
+  -- one break counts as its category says
   record CountsOnce (b : Break) : Type 0 where
-    broken : length (wrongs allowances (b ∷ [])) ≡ as_broken (standing_of allowances b)
-    unreadable : length (unreadables allowances (b ∷ [])) ≡ as_unreadable (standing_of allowances b)
-    allowed : length (filter (is_allowed allowances) (b ∷ [])) ≡ as_allowed (standing_of allowances b)
+    broken : length (wrongs allowances (b ∷ [])) ≡ as_broken (category_of allowances b)
+    unreadable : length (unreadables allowances (b ∷ [])) ≡ as_unreadable (category_of allowances b)
+    allowed : length (filter (is_allowed allowances) (b ∷ [])) ≡ as_allowed (category_of allowances b)
 
   counts_once : (b : Break) → CountsOnce b
   counts_once b = by_tests (is_allowed allowances b) (is_unreadable b.rule) refl refl
@@ -61,19 +61,19 @@ module _ (allowances : List Allowance) where
           record { broken = rw (e, f) refl; unreadable = rw (e, f) refl; allowed = rw (e, f) refl }
 
   pub counted_once_more : (c : BreakCounts) (t u : Trace) (b : Break) → AreBreakCountsOf c allowances t
-      → breaks u ≡ breaks t ++ b ∷ [] → AreBreakCountsOf (with_standing c (standing_of allowances b)) allowances u
+      → breaks u ≡ breaks t ++ b ∷ [] → AreBreakCountsOf (with_category c (category_of allowances b)) allowances u
   counted_once_more c t u b counted e =
       let once = counts_once b in
       record {
         broken =
             longer (wrongs allowances) joins_wrongs (breaks t) (b ∷ []) (breaks u) e c.broken
-            (as_broken (standing_of allowances b)) counted.broken once.broken;
+            (as_broken (category_of allowances b)) counted.broken once.broken;
         unreadable =
             longer (unreadables allowances) joins_unreadables (breaks t) (b ∷ []) (breaks u) e c.unreadable
-            (as_unreadable (standing_of allowances b)) counted.unreadable once.unreadable;
+            (as_unreadable (category_of allowances b)) counted.unreadable once.unreadable;
         allowed =
             longer (filter (is_allowed allowances)) (filter-append (is_allowed allowances)) (breaks t) (b ∷ [])
-            (breaks u) e c.allowed (as_allowed (standing_of allowances b)) counted.allowed once.allowed;
+            (breaks u) e c.allowed (as_allowed (category_of allowances b)) counted.allowed once.allowed;
       }
 
   -- none more
@@ -104,7 +104,7 @@ module _ (allowances : List Allowance) where
       omega (arith, both, counted.broken, counted.unreadable)
 
 -- a break counts once
-pub counts_one : (c : BreakCounts) (s : Standing) → all_counted (with_standing c s) ≡ all_counted c + 1
-counts_one c standing.Broken = omega arith
-counts_one c standing.Unreadable = omega arith
-counts_one c standing.Allowed = omega arith
+pub counts_one : (c : BreakCounts) (s : BreakCategory) → all_counted (with_category c s) ≡ all_counted c + 1
+counts_one c category.Broken = omega arith
+counts_one c category.Unreadable = omega arith
+counts_one c category.Allowed = omega arith

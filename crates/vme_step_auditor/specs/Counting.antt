@@ -3,32 +3,32 @@ use Rattle.std.specs.Prelude.{ℕ, ◌+◌}
 use Rattle.vme_trace.specs.declared.verdict.Break.{Break}
 use Rattle.vme_auditor.specs.Breaks.{as_break}
 use Rattle.vme_auditor.specs.declared.findings.BreakCounts.{BreakCounts}
-use Rattle.vme_audit_lines.specs.declared.standing.Standing.{Standing}
-use Rattle.vme_audit_lines.specs.declared.standing.Standing.TheVariants as standing
-use Rattle.vme_step_auditor.specs.declared.standing_break.StandingBreak.{StandingBreak}
+use Rattle.vme_audit_lines.specs.declared.category.BreakCategory.{BreakCategory}
+use Rattle.vme_audit_lines.specs.declared.category.BreakCategory.TheVariants as category
+use Rattle.vme_step_auditor.specs.declared.categorized_break.CategorizedBreak.{CategorizedBreak}
 
 -- a break that is told
-abbrev pub told_break : StandingBreak → Break
+abbrev pub told_break : CategorizedBreak → Break
 told_break s = as_break s.found
 
--- one break more, by its standing
-abbrev pub as_broken : Standing → ℕ
-as_broken standing.Broken = 1
-as_broken standing.Unreadable = 0
-as_broken standing.Allowed = 0
+-- one break more, by its category
+abbrev pub as_broken : BreakCategory → ℕ
+as_broken category.Broken = 1
+as_broken category.Unreadable = 0
+as_broken category.Allowed = 0
 
-abbrev pub as_unreadable : Standing → ℕ
-as_unreadable standing.Broken = 0
-as_unreadable standing.Unreadable = 1
-as_unreadable standing.Allowed = 0
+abbrev pub as_unreadable : BreakCategory → ℕ
+as_unreadable category.Broken = 0
+as_unreadable category.Unreadable = 1
+as_unreadable category.Allowed = 0
 
-abbrev pub as_allowed : Standing → ℕ
-as_allowed standing.Broken = 0
-as_allowed standing.Unreadable = 0
-as_allowed standing.Allowed = 1
+abbrev pub as_allowed : BreakCategory → ℕ
+as_allowed category.Broken = 0
+as_allowed category.Unreadable = 0
+as_allowed category.Allowed = 1
 
-abbrev pub with_standing : BreakCounts → Standing → BreakCounts
-with_standing c s =
+abbrev pub with_category : BreakCounts → BreakCategory → BreakCounts
+with_category c s =
     record {
       broken = c.broken + as_broken s;
       unreadable = c.unreadable + as_unreadable s;

@@ -5,13 +5,13 @@
 //!
 //! - `step_auditor`: [`StepAuditor`] takes one step after the other, tells the break that a step
 //!   makes and how it counts, and looks at nothing behind the break at which it stops.
-//! - `standing_break`: a break that is told ([`StandingBreak`]), and counts of breaks.
+//! - `categorized_break`: a break that is told ([`CategorizedBreak`]), and counts of breaks.
 //! - `laws`: how what is read of a recording goes on with its steps.
 //!
 //! # What is proved
 //!
 //! - [`StepAuditor::take`]: the breaks that are told are exactly those of the recording so far, as
-//!   far as it is read, each with its own step (`told`) and by how it counts (`standing`).
+//!   far as it is read, each with its own step (`told`) and by how it counts (`category`).
 //! - [`StepAuditor::is_stopped`]: it is stopped exactly where there are as many breaks that aren't
 //!   allowed.
 //! - [`StepAuditor::break_counts`], [`StepAuditor::audited`] and [`StepAuditor::outcome`] are what
@@ -35,10 +35,10 @@
 //! [`Auditor`]: vme_auditor::Auditor
 #![tactic(auto)]
 
+mod categorized_break;
 mod laws;
-mod standing_break;
 mod step_auditor;
 
+pub use categorized_break::CategorizedBreak;
 pub use laws::{reading_goes_on, stop_is_final};
-pub use standing_break::StandingBreak;
 pub use step_auditor::{AuditRules, StepAuditor};

@@ -9,14 +9,14 @@ ghost use Rattle.vme_audit.specs.Covered.{outcome as outcome_of};
 ghost use Rattle.vme_audit.specs.Parts.{breaks};
 ghost use Rattle.vme_auditor.specs.Breaks.{as_break};
 ghost use Rattle.vme_auditor.specs.Findings.{AreBreakCountsOf, AreFindingsOf};
-ghost use Rattle.vme_audit_lines.specs.AuditLines.{standing_of};
+ghost use Rattle.vme_audit_lines.specs.AuditLines.{category_of};
 ghost use Rattle.vme_step_auditor.specs.ReadBy.{has_stopped, read_of, stops_by};
 ghost use Rattle.vme_step_auditor.specs.Counting.{faults_counted, told_break};
 
-use crate::standing_break::{StandingBreak, count};
+use crate::categorized_break::{CategorizedBreak, count};
 use std::marker::Model;
 use vme_audit::{Allowance, Outcome};
-use vme_audit_lines::Standing;
+use vme_audit_lines::BreakCategory;
 use vme_auditor::{AuditFindings, Auditor, BreakCounts, TooManySteps, breaks_grow, outcome};
 use vme_summary::GhostSteps;
 use vme_trace::{Lines, Step};
@@ -89,14 +89,14 @@ impl<'a> StepAuditor<'a> {
     }
 
     /// Takes the step that follows, and finds whether it breaks a rule. Once the audit is stopped nothing is found.
-    pub fn take(&mut self, step: &Step) -> Result<Option<StandingBreak>, TooManySteps>
+    pub fn take(&mut self, step: &Step) -> Result<Option<CategorizedBreak>, TooManySteps>
         ensures given { OnOk result (self.new
             ≡ record self.old { recording = with_steps self.old.recording (step.now ∷ []) }) }
         ensures told { malformed_step self.new.recording ≡ None
             → IfOk result (λ told. breaks (read_of self.new)
             ≡ breaks (read_of self.old) ++ option_to_list (option_map told_break told)) }
-        ensures standing { IfOk result (λ told. IfSome told (λ s.
-            s.standing ≡ standing_of self.old.allowances (as_break s.found))) }
+        ensures category { IfOk result (λ told. IfSome told (λ s.
+            s.category ≡ category_of self.old.allowances (as_break s.found))) }
         ensures too_many { OnErr result (length self.old.recording.steps ≡ 2 ^ 64 - 1) }
         ensures stays { OnErr result (self.new ≡ self.old) }
     {
@@ -111,9 +111,9 @@ impl<'a> StepAuditor<'a> {
         self.given = given;
         match found {
             Some(found) => {
-                let standing = Standing::of(self.rules.allowances, &found);
-                count(&mut self.counts, standing);
-                Ok(Some(StandingBreak { standing, found }))
+                let category = BreakCategory::of(self.rules.allowances, &found);
+                count(&mut self.counts, category);
+                Ok(Some(CategorizedBreak { category, found }))
             }
             None => Ok(None),
         }

@@ -3,9 +3,9 @@ use std::alloc::Global;
 use std::process::Abort;
 use std::test::Fail;
 use vme_audit::{Allowance, Outcome};
-use vme_audit_lines::Standing;
+use vme_audit_lines::BreakCategory;
 use vme_auditor::{AuditBreak, BreakCounts};
-use vme_step_auditor::{AuditRules, StandingBreak, StepAuditor};
+use vme_step_auditor::{AuditRules, CategorizedBreak, StepAuditor};
 use vme_trace::{Change, Changes, LINE_COUNT, Level, Line, Lines, Rule, Step};
 
 /// A strobe that is lost, a stray answer, and a read with a second answer line: what changes at each step.
@@ -25,10 +25,10 @@ const STEPS: &[&str] = &[
 ];
 
 /// Its breaks, as the second judge tells them, and how each counts where H4 on DTACK* is allowed.
-const BREAKS: &[(Standing, u64, u64, Rule, &str)] = &[
-    (Standing::Unreadable, 1, 0, Rule::U1, "AS"),
-    (Standing::Allowed, 3, 20, Rule::H4, "DTACK"),
-    (Standing::Broken, 9, 80, Rule::H5, "DTACK"),
+const BREAKS: &[(BreakCategory, u64, u64, Rule, &str)] = &[
+    (BreakCategory::Unreadable, 1, 0, Rule::U1, "AS"),
+    (BreakCategory::Allowed, 3, 20, Rule::H4, "DTACK"),
+    (BreakCategory::Broken, 9, 80, Rule::H5, "DTACK"),
 ];
 
 /// Every line is high, but BBSY*.
@@ -75,10 +75,10 @@ fn step_of(alloc: Global, number: usize, text: &str) -> Result<Step, &'static st
 }
 
 /// A break that is told with its standing.
-fn told_of(told: &(Standing, u64, u64, Rule, &str)) -> Option<StandingBreak> {
-    let (standing, instant, time, rule, line) = *told;
-    Some(StandingBreak {
-        standing,
+fn told_of(told: &(BreakCategory, u64, u64, Rule, &str)) -> Option<CategorizedBreak> {
+    let (category, instant, time, rule, line) = *told;
+    Some(CategorizedBreak {
+        category,
         found: AuditBreak {
             instant,
             time,
@@ -102,7 +102,7 @@ struct ExpectedBreak {
 
 fn assert_told(
     rt: &impl Abort,
-    told: &[StandingBreak],
+    told: &[CategorizedBreak],
     expected: &ExpectedBreak,
 ) -> Result<(), Fail> {
     assert_eq!(rt;

@@ -105,8 +105,8 @@ module _ (b : BoundLines) (front : List ℕ) (k : ℕ) (apart : IsApart front k)
   -- what comes of each text that begins so, whose body begins behind n bytes
   abbrev BeginsAt : StepReading → ℕ → Type 0
   BeginsAt r n = (whole : List ℕ) (more : List Token) → tokens whole ≡ tokens cut ++ more
-      → reading_of_text b whole ≡ Ok (reading_ahead (with_recording r.given r.wave)
-      (tokens_from r.wave.body.line (drop n cut)) more)
+      → reading_of_text b whole ≡ Ok (reading_ahead (with_recording r.given r.speculative)
+      (tokens_from r.speculative.body.line (drop n cut)) more)
 
   goes_on : (n : ℕ) (rest : List ℕ) → n ≤ length cut → drop n cut ++ (drop k front ++ rest) ≡ drop n front ++ rest
   goes_on n rest long =
@@ -115,12 +115,12 @@ module _ (b : BoundLines) (front : List ℕ) (k : ℕ) (apart : IsApart front k)
       ∙ ap (drop n) (take-append-drop k front))
 
   begins-cut : (r : StepReading) (n : ℕ) → EndsBehindSpace cut → n ≤ length cut
-      → line_behind r.wave.body.line (drop n cut) ≡ line_behind 1 cut → BeginsAt r n → (rest : List ℕ)
+      → line_behind r.speculative.body.line (drop n cut) ≡ line_behind 1 cut → BeginsAt r n → (rest : List ℕ)
       → reading_of_text b (front ++ rest) ≡ Ok (whole_reading r (drop n front ++ rest))
   begins-cut r n space long line begins rest =
       let more : List ℕ = drop k front ++ rest in
-      let reached : TextReached = with_recording r.given r.wave in
-      let first : ℕ = r.wave.body.line in
+      let reached : TextReached = with_recording r.given r.speculative in
+      let first : ℕ = r.speculative.body.line in
       begins (front ++ rest) (tokens_from (line_behind 1 cut) more) (cut-tokens front k apart rest)
       ∙ ap Ok (ap (λ (l : ℕ). reading_ahead reached (tokens_from first (drop n cut)) (tokens_from l more)) (sym line)
       ∙ sym (pieces-joined reached first (drop n cut) more (left_behind cut more n first space))
@@ -130,7 +130,7 @@ module _ (b : BoundLines) (front : List ℕ) (k : ℕ) (apart : IsApart front k)
   pub begins-each : (result : Result (Option (StepReading × ℕ)) CaptureFault) → EndsBehindSpace cut
       → IfOk result (λ found. IfSome found (λ begun. begun.1 ≤ length cut))
       → IfOk result (λ found. IfSome found (λ begun.
-      line_behind begun.0.wave.body.line (drop begun.1 cut) ≡ line_behind 1 cut))
+      line_behind begun.0.speculative.body.line (drop begun.1 cut) ≡ line_behind 1 cut))
       → IfOk result (λ found. IfSome found (λ begun. BeginsAt begun.0 begun.1))
       → IfOk result (λ found. IfSome found (λ begun. (rest : List ℕ)
       → reading_of_text b (front ++ rest) ≡ Ok (whole_reading begun.0 (drop begun.1 front ++ rest))))

@@ -16,8 +16,8 @@ use Rattle.vcd_read.specs.Tokens.{Token, cut_from, tokens_from}
 use Rattle.vcd_read.specs.declared.fault.FaultKind.{FaultKind}
 use Rattle.vcd_read.specs.declared.fault.FaultKind.TheVariants.{Memory}
 use Rattle.vcd_read.specs.declared.fault.VcdFault.{VcdFault}
-use Rattle.vme_bind.specs.Made.{Made, made_change, made_instant}
-use Rattle.vme_bind.specs.SpeculativeReading.{WaveReached, with_recording}
+use Rattle.vme_bind.specs.BuilderState.{BuilderState, builder_change, builder_instant}
+use Rattle.vme_bind.specs.SpeculativeReading.{SpeculativeReached, with_recording}
 use Rattle.vme_bind.specs.TextPieces.{TextReached}
 use Rattle.vme_bind.specs.TextReading.{StopsAs, TextReading, following, reading_ahead, reading_made}
 use Rattle.vme_bind.specs.TextReading.{reading_until_fault}
@@ -26,8 +26,8 @@ use Rattle.vme_summary.proofs.Sound.{sound_apart}
 use Rattle.vme_step_reader.specs.StepReading.{StepReading, whole_reading}
 
 -- what was recorded before is only the front
-abbrev pub IsFront : Type 0
-IsFront = (w : WaveReached) (t : Trace) (opening : Levels) (ts more : List Token)
+abbrev pub IsPrefix : Type 0
+IsPrefix = (w : SpeculativeReached) (t : Trace) (opening : Levels) (ts more : List Token)
     → reading_ahead (with_recording t w) ts more
     ≡ following t (reading_ahead (with_recording (record { opening = opening; steps = [] }) w) ts more)
 
@@ -38,7 +38,7 @@ following-twice given r x = ap (λ (steps : List Step). record x { recorded = re
 
 -- ---- a piece that is read for its steps alone
 
-module _ (is_front : IsFront) (w : WaveReached) (none : Trace) (empty : none.steps ≡ []) where
+module _ (is_front : IsPrefix) (w : SpeculativeReached) (none : Trace) (empty : none.steps ≡ []) where
   alone : (given : Trace) (ts more : List Token) → reading_ahead (with_recording given w) ts more
       ≡ following given (reading_ahead (with_recording none w) ts more)
   alone given ts more =
@@ -47,7 +47,7 @@ module _ (is_front : IsFront) (w : WaveReached) (none : Trace) (empty : none.ste
       (with_recording (record { opening = none.opening; steps = steps }) w) ts more)) (sym empty)
 
   -- it leaves its steps behind whatever was recorded
-  pub piece-leaves : (w2 : WaveReached) (r : Trace) (ts : List Token)
+  pub piece-leaves : (w2 : SpeculativeReached) (r : Trace) (ts : List Token)
       → ((more : List Token) → reading_ahead (with_recording none w) ts more
       ≡ reading_ahead (with_recording r w2) [] more)
       → (given : Trace) (more : List Token) → reading_ahead (with_recording given w) ts more
@@ -76,7 +76,7 @@ module _ (is_front : IsFront) (w : WaveReached) (none : Trace) (empty : none.ste
 -- ---- bytes as tokens
 
 abbrev ahead_of : TextReached → List Token → TextReading
-ahead_of t ts = reading_until_fault (until_fault made_change made_instant t.body.nets
+ahead_of t ts = reading_until_fault (until_fault builder_change builder_instant t.body.nets
     (state_at t.body.progress t.body.bracket) (body_from t.body.place ts))
 
 -- a piece that no token goes on behind, and the rest
@@ -92,11 +92,11 @@ pub rest-alone : (t : TextReached) (ts : List Token) → reading_ahead t [] ts �
 rest-alone t ts = ap (ahead_of t) (sym (append-nil ts))
 
 -- the first n of some bytes, behind which no token goes on
-module _ (given : Trace) (w : WaveReached) (bytes : List ℕ) (n : ℕ)
+module _ (given : Trace) (w : SpeculativeReached) (bytes : List ℕ) (n : ℕ)
     (apart : (line : ℕ) (rest : List ℕ) → tokens_from line (take n bytes ++ rest)
     ≡ tokens_from line (take n bytes) ++ tokens_from (line_behind line (take n bytes)) rest) where
   abbrev so_far : StepReading
-  so_far = record { given = given; wave = w }
+  so_far = record { given = given; speculative = w }
 
   first-joined : (rest : List ℕ) → whole_reading so_far (take n bytes ++ rest)
       ≡ reading_ahead (with_recording given w) (tokens_from w.body.line (take n bytes))
@@ -104,11 +104,12 @@ module _ (given : Trace) (w : WaveReached) (bytes : List ℕ) (n : ℕ)
   first-joined rest = pieces-joined (with_recording given w) w.body.line (take n bytes) rest (apart w.body.line rest)
 
   -- they leave what the whole text comes to
-  pub first-taken : (w2 : WaveReached) (steps : List Step) → w2.body.line ≡ line_behind w.body.line (take n bytes)
+  pub first-taken : (w2 : SpeculativeReached) (steps : List Step) → w2.body.line
+      ≡ line_behind w.body.line (take n bytes)
       → ((more : List Token) → reading_ahead (with_recording given w) (tokens_from w.body.line (take n bytes)) more
       ≡ reading_ahead (with_recording (with_steps given steps) w2) [] more)
       → (rest : List ℕ) → whole_reading so_far (take n bytes ++ rest)
-      ≡ whole_reading (record { given = with_steps given steps; wave = w2 }) rest
+      ≡ whole_reading (record { given = with_steps given steps; speculative = w2 }) rest
   first-taken w2 steps line leaves rest =
       first-joined rest
       ∙ leaves (tokens_from (line_behind w.body.line (take n bytes)) rest)
@@ -118,7 +119,7 @@ module _ (given : Trace) (w : WaveReached) (bytes : List ℕ) (n : ℕ)
       (sym line)
 
   -- and so does what was given stay well formed, whatever follows
-  pub next-formed : (w2 : WaveReached) (steps items : List Step)
+  pub next-formed : (w2 : SpeculativeReached) (steps items : List Step)
       → w2.body.line ≡ line_behind w.body.line (take n bytes)
       → ((more : List Token) → reading_ahead (with_recording given w) (tokens_from w.body.line (take n bytes)) more
       ≡ reading_ahead (with_recording (with_steps given steps) w2) [] more)
@@ -126,12 +127,12 @@ module _ (given : Trace) (w : WaveReached) (bytes : List ℕ) (n : ℕ)
       → ((rest : List ℕ) → malformed_step (whole_reading so_far rest).recorded ≡ None)
       → (rest : List ℕ) → malformed_step (whole_reading (record {
         given = record { opening = given.opening; steps = items };
-        wave = w2;
+        speculative = w2;
       }) rest).recorded ≡ None
   next-formed w2 steps items line leaves e formed rest =
       subst (λ (items : List Step). malformed_step (whole_reading (record {
         given = record { opening = given.opening; steps = items };
-        wave = w2;
+        speculative = w2;
       }) rest).recorded ≡ None) (sym e)
       (subst (λ (x : TextReading). malformed_step x.recorded ≡ None) (first-taken w2 steps line leaves rest)
       (formed (take n bytes ++ rest)))
@@ -149,27 +150,30 @@ module _ (given : Trace) (w : WaveReached) (bytes : List ℕ) (n : ℕ)
 
 -- ---- what is said of a text that ends here
 
-made-time : (complete : Trace) (time : ℕ) (made : Result Made VcdFault) → (reading_made complete time made).time ≡ time
+made-time : (complete : Trace) (time : ℕ) (made : Result BuilderState VcdFault) → (reading_made complete time made).time
+    ≡ time
 made-time complete time (Ok made) = refl
 made-time complete time (Err fault) = refl
 
 -- its last time is that so far
-pub time-here : (r : StepReading) → (whole_reading r []).time ≡ r.wave.body.progress.time
+pub time-here : (r : StepReading) → (whole_reading r []).time ≡ r.speculative.body.progress.time
 unfolding cut_from
 time-here r =
     made-time _ _ _
-    ∙ ap (λ p. p.time) (none_ahead r.wave.body.nets (with_recording r.given r.wave).body.progress r.wave.body.bracket
-    r.wave.body.place)
+    ∙ ap (λ p. p.time) (none_ahead r.speculative.body.nets (with_recording r.given r.speculative).body.progress
+    r.speculative.body.bracket
+    r.speculative.body.place)
 
 -- what was given is the front of what is recorded, so it is well formed where that is
-pub given-formed : IsFront → (r : StepReading) (rest : List ℕ) → malformed_step (whole_reading r rest).recorded ≡ None
+pub given-formed : IsPrefix → (r : StepReading) (rest : List ℕ) → malformed_step (whole_reading r rest).recorded ≡ None
     → malformed_step r.given ≡ None
 given-formed is_front r rest formed =
-    let ts : List Token = tokens_from r.wave.body.line rest in
-    let more : TextReading = reading_ahead (with_recording (record { opening = r.given.opening; steps = [] }) r.wave) ts
+    let ts : List Token = tokens_from r.speculative.body.line rest in
+    let more : TextReading =
+    reading_ahead (with_recording (record { opening = r.given.opening; steps = [] }) r.speculative) ts
     [] in
     (sound_apart r.given.opening r.given.steps more.recorded.steps
-    (sym (ap (λ (x : TextReading). malformed_step x.recorded) (is_front r.wave r.given r.given.opening ts []))
+    (sym (ap (λ (x : TextReading). malformed_step x.recorded) (is_front r.speculative r.given r.given.opening ts []))
     ∙ formed)).first
 
 -- steps before a fault
@@ -187,29 +191,30 @@ unfolding malformed_step least
 none-formed opening steps e = ap (λ (steps : List Step). malformed_step (record { opening = opening; steps = steps })) e
 
 -- whatever follows it
-pub begun-sound : (t : TextReached) (w : WaveReached) (opening : Levels) (made steps : List Step)
+pub begun-sound : (t : TextReached) (w : SpeculativeReached) (opening : Levels) (made steps : List Step)
     → with_recording (record { opening = opening; steps = made }) w ≡ t → t.body.progress.taken.recorded.steps ≡ []
     → steps ≡ []
     → ((ts more : List Token) → malformed_step (reading_ahead t ts more).recorded ≡ None)
     → (rest : List ℕ)
-    → malformed_step (whole_reading (record { given = record { opening = opening; steps = steps }; wave = w })
+    → malformed_step (whole_reading (record { given = record { opening = opening; steps = steps }; speculative = w })
     rest).recorded ≡ None
 begun-sound t w opening made steps is none empty formed rest =
     let same : made ≡ steps = ap (λ (t : TextReached). t.body.progress.taken.recorded.steps) is ∙ none ∙ sym empty in
     subst (λ (steps : List Step). malformed_step (whole_reading (record {
       given = record { opening = opening; steps = steps };
-      wave = w;
+      speculative = w;
     }) rest).recorded ≡ None) same
     (subst (λ (t : TextReached). malformed_step (reading_ahead t (tokens_from w.body.line rest) []).recorded ≡ None)
     (sym is) (formed (tokens_from w.body.line rest) []))
 
 -- what was given is a front of what is recorded
-pub given-front : IsFront → (r : StepReading) (rest : List ℕ) → (steps : List Step)
+pub given-front : IsPrefix → (r : StepReading) (rest : List ℕ) → (steps : List Step)
     × ((whole_reading r rest).recorded ≡ with_steps r.given steps)
 given-front is_front r rest =
-    let ts : List Token = tokens_from r.wave.body.line rest in
-    let more : TextReading = reading_ahead (with_recording (record { opening = r.given.opening; steps = [] }) r.wave) ts
+    let ts : List Token = tokens_from r.speculative.body.line rest in
+    let more : TextReading =
+    reading_ahead (with_recording (record { opening = r.given.opening; steps = [] }) r.speculative) ts
     [] in (
       more.recorded.steps,
-      ap (λ (x : TextReading). x.recorded) (is_front r.wave r.given r.given.opening ts []),
+      ap (λ (x : TextReading). x.recorded) (is_front r.speculative r.given r.given.opening ts []),
     )

@@ -9,20 +9,20 @@ use Rattle.vme_trace.specs.Followed.{with_steps}
 use Rattle.vme_trace.specs.Trace.{Trace}
 use Rattle.vme_trace.specs.declared.step.Step.{Step}
 use Rattle.vcd_read.specs.Bodies.{until_fault}
-use Rattle.vcd_read.specs.Body.{BodyItem, BodyStanding, at_the_end, body_from, bracket_end, bracket_open, change}
-use Rattle.vcd_read.specs.Body.{closed, fitting, opened_at, skipped, stand_after, time_after, time_item, wrong}
+use Rattle.vcd_read.specs.Body.{BodyItem, BodyContext, at_the_end, body_from, bracket_end, bracket_open, change}
+use Rattle.vcd_read.specs.Body.{closed, fitting, opened_at, skipped, context_after, time_after, time_item, wrong}
 use Rattle.vcd_read.specs.Header.{◌>>=◌, Net, at_line, net_of}
 use Rattle.vcd_read.specs.Numbers.{number, time_of}
 use Rattle.vcd_read.specs.Taking.{State, Taking, at_end, ended, progress_after, reached_before, state_at, steps}
 use Rattle.vcd_read.specs.Tokens.{tokens_from}
 use Rattle.vcd_read.specs.declared.fault.FaultKind.{FaultKind}
 use Rattle.vcd_read.specs.declared.fault.VcdFault.{VcdFault}
-use Rattle.vme_bind.specs.Made.{Made, made_change, made_instant}
+use Rattle.vme_bind.specs.BuilderState.{BuilderState, builder_change, builder_instant}
 use Rattle.vme_bind.specs.Recording.{step_between}
 use Rattle.vme_bind.specs.SpeculativeReading.{with_recording}
 use Rattle.vme_bind.specs.TextReading.{TextReading, following, reading_ahead, reading_made, reading_until_fault}
 use Rattle.vme_step_reader.specs.StepReading.{StepReading, whole_reading}
-use Rattle.vme_step_reader.proofs.PieceSteps.{IsFront, time-here}
+use Rattle.vme_step_reader.proofs.PieceSteps.{IsPrefix, time-here}
 
 -- ---- the time behind an item
 
@@ -48,22 +48,22 @@ not_before false x y e h = (refl, cc)
 not_less : (a b : ℕ) → nat_lt a b ≡ false → b ≤ a
 not_less a b h = grind (arith, nat_tests)
 
-stays : {A : Type 0} (r : Result A FaultKind) (line : ℕ) (s next : BodyStanding) (f : A → BodyStanding)
+stays : {A : Type 0} (r : Result A FaultKind) (line : ℕ) (s next : BodyContext) (f : A → BodyContext)
     → ((x : A) → (f x).now ≡ s.now) → at_line line (r >>= λ x. Ok (f x)) ≡ Ok next → next.now ≡ s.now
 stays r line s next f same h =
     let a = bind_ok r _ next (at_line_ok line _ next h) in
     let e : f a.0 ≡ next = cc in
-    sym (ap (λ (s : BodyStanding). s.now) e) ∙ same a.0
+    sym (ap (λ (s : BodyContext). s.now) e) ∙ same a.0
 
-at-time : (nets : List Net) (s next : BodyStanding) (line : ℕ) (digits : List ℕ)
-    → stand_after nets s (time_item line digits) ≡ Ok next → (next.now ≡ number digits) × (s.now ≤ number digits)
+at-time : (nets : List Net) (s next : BodyContext) (line : ℕ) (digits : List ℕ)
+    → context_after nets s (time_item line digits) ≡ Ok next → (next.now ≡ number digits) × (s.now ≤ number digits)
 at-time nets s next line digits h =
     let a = bind_ok (time_of digits) _ next (at_line_ok line _ next h) in
     let b = bind_ok (time_after s.now a.0) _ next a.2 in
     let n : number digits ≡ a.0 = passed _ _ _ _ _ _ a.1 in
     let t = not_before (nat_lt a.0 s.now) a.0 b.0 _ b.1 in
     let e : record s { now = b.0 } ≡ next = cc in
-    (sym (ap (λ (s : BodyStanding). s.now) e) ∙ sym (n ∙ t.1), omega (arith, not_less a.0 s.now t.0, n))
+    (sym (ap (λ (s : BodyContext). s.now) e) ∙ sym (n ∙ t.1), omega (arith, not_less a.0 s.now t.0, n))
 
 is-later : (begun : Bool) (t now : ℕ) → now ≤ t → (begun && not (t == now)) ≡ true → now < t
 is-later true t now le e = grind (arith, nat_tests)
@@ -104,13 +104,13 @@ module _ (from : ℕ) where
 
   -- ---- what is made so far
 
-  record IsMade (p : Taking Made) : Type 0 where
+  record IsMade (p : Taking BuilderState) : Type 0 where
     late : from ≤ p.time
     before : AreBefore p.time p.taken.recorded.steps
 
   -- another time is told
-  at-next : (test : Bool) (p : Taking Made) (t : ℕ) → IsMade p → p.time ≤ t → (test ≡ true → p.time < t)
-      → IsMade (cond test (record { taken = made_instant p.taken p.time; time = t; begun = true })
+  at-next : (test : Bool) (p : Taking BuilderState) (t : ℕ) → IsMade p → p.time ≤ t → (test ≡ true → p.time < t)
+      → IsMade (cond test (record { taken = builder_instant p.taken p.time; time = t; begun = true })
       (record p { time = t; begun = true }))
   at-next true p t h le later = record {
     late = omega (arith, h.late, le);
@@ -123,26 +123,26 @@ module _ (from : ℕ) where
     before = before-later p.time t le p.taken.recorded.steps h.before;
   }
 
-  time-next : (test : Bool) (p : Taking Made) (t : ℕ)
-      → (cond test (record { taken = made_instant p.taken p.time; time = t; begun = true })
+  time-next : (test : Bool) (p : Taking BuilderState) (t : ℕ)
+      → (cond test (record { taken = builder_instant p.taken p.time; time = t; begun = true })
       (record p { time = t; begun = true })).time ≡ t
   time-next true p t = refl
   time-next false p t = refl
 
-  record IsAt (s : State Made) : Type 0 where
-    at : s.standing.now ≡ s.progress.time
+  record IsAt (s : State BuilderState) : Type 0 where
+    at : s.context.now ≡ s.progress.time
     made : IsMade s.progress
 
   module _ (nets : List Net) where
-    abbrev after : Taking Made → BodyItem → Taking Made
-    after p item = progress_after made_change made_instant nets p item
+    abbrev after : Taking BuilderState → BodyItem → Taking BuilderState
+    after p item = progress_after builder_change builder_instant nets p item
 
-    abbrev state_after : State Made → BodyItem → BodyStanding → State Made
-    state_after s item next = record { standing = next; progress = after s.progress item }
+    abbrev state_after : State BuilderState → BodyItem → BodyContext → State BuilderState
+    state_after s item next = record { context = next; progress = after s.progress item }
 
-    still : (s : State Made) (p : Taking Made) (next : BodyStanding) → IsAt s → p.time ≡ s.progress.time
-        → p.taken.recorded.steps ≡ s.progress.taken.recorded.steps → next.now ≡ s.standing.now
-        → IsAt (record { standing = next; progress = p })
+    still : (s : State BuilderState) (p : Taking BuilderState) (next : BodyContext) → IsAt s → p.time ≡ s.progress.time
+        → p.taken.recorded.steps ≡ s.progress.taken.recorded.steps → next.now ≡ s.context.now
+        → IsAt (record { context = next; progress = p })
     still s p next h same steps now = record {
       at = now ∙ h.at ∙ sym same;
       made = record {
@@ -152,10 +152,10 @@ module _ (from : ℕ) where
       };
     }
 
-    item-at : (s : State Made) (item : BodyItem) (next : BodyStanding) → IsAt s
-        → stand_after nets s.standing item ≡ Ok next → IsAt (state_after s item next)
+    item-at : (s : State BuilderState) (item : BodyItem) (next : BodyContext) → IsAt s
+        → context_after nets s.context item ≡ Ok next → IsAt (state_after s item next)
     item-at s (time_item line digits) next h ok =
-        let (now, le) = at-time nets s.standing next line digits ok in
+        let (now, le) = at-time nets s.context next line digits ok in
         let p = s.progress in
         let test : Bool = p.begun && not (number digits == p.time) in
         let late : p.time ≤ number digits = omega (arith, le, h.at) in
@@ -165,49 +165,52 @@ module _ (from : ℕ) where
         }
     item-at s (change line digits code) next h ok =
         still s (after s.progress (change line digits code)) next h refl refl
-        (stays (fitting nets (length digits) (net_of nets code)) line s.standing next (λ net. s.standing) (λ net. refl)
+        (stays (fitting nets (length digits) (net_of nets code)) line s.context next (λ net. s.context) (λ net. refl)
         ok)
     item-at s (skipped line code) next h ok =
         still s s.progress next h refl refl
-        (stays (fitting nets 0 (net_of nets code)) line s.standing next (λ net. s.standing) (λ net. refl) ok)
+        (stays (fitting nets 0 (net_of nets code)) line s.context next (λ net. s.context) (λ net. refl) ok)
     item-at s (bracket_open line) next h ok =
         still s s.progress next h refl refl
-        (stays (opened_at line s.standing.bracket) line s.standing next
-        (λ bracket. record s.standing { bracket = bracket }) (λ bracket. refl) ok)
+        (stays (opened_at line s.context.bracket) line s.context next
+        (λ bracket. record s.context { bracket = bracket }) (λ bracket. refl) ok)
     item-at s (bracket_end line) next h ok =
         still s s.progress next h refl refl
-        (stays (closed s.standing.bracket) line s.standing next
-        (λ bracket. record s.standing { bracket = bracket }) (λ bracket. refl) ok)
+        (stays (closed s.context.bracket) line s.context next
+        (λ bracket. record s.context { bracket = bracket }) (λ bracket. refl) ok)
     item-at s (wrong line kind) next h ok = absurd cc
 
     -- ---- items
 
-    abbrev state_of : Taking Made → Result BodyStanding VcdFault → Result (State Made) VcdFault
-    state_of p stood = stood >>= λ next. Ok (record { standing = next; progress = p })
+    abbrev state_of : Taking BuilderState → Result BodyContext VcdFault → Result (State BuilderState) VcdFault
+    state_of p stood = stood >>= λ next. Ok (record { context = next; progress = p })
 
-    step-at : (s : State Made) (item : BodyItem) (items : List BodyItem) (stood : Result BodyStanding VcdFault)
-        → stand_after nets s.standing item ≡ stood → IsAt s
-        → ((next : State Made) → IsAt next → IsAt (reached_before made_change made_instant nets next items))
-        → IsAt (elim (state_of (after s.progress item) stood) as (λ _. State Made) [
-          | Ok next ↦ reached_before made_change made_instant nets next items
+    step-at : (s : State BuilderState) (item : BodyItem) (items : List BodyItem) (stood : Result BodyContext VcdFault)
+        → context_after nets s.context item ≡ stood → IsAt s
+        → ((next : State BuilderState) → IsAt next
+        → IsAt (reached_before builder_change builder_instant nets next items))
+        → IsAt (elim (state_of (after s.progress item) stood) as (λ _. State BuilderState) [
+          | Ok next ↦ reached_before builder_change builder_instant nets next items
           | Err fault ↦ s
         ])
     step-at s item items (Ok next) e h rest = rest (state_after s item next) (item-at s item next h e)
     step-at s item items (Err fault) e h rest = h
 
-    reached-at : (s : State Made) (items : List BodyItem) → IsAt s
-        → IsAt (reached_before made_change made_instant nets s items)
+    reached-at : (s : State BuilderState) (items : List BodyItem) → IsAt s
+        → IsAt (reached_before builder_change builder_instant nets s items)
     unfolding reached_before
     reached-at s [] h = h
-    reached-at s (item ∷ items) h = step-at s item items (stand_after nets s.standing item) refl h
+    reached-at s (item ∷ items) h = step-at s item items (context_after nets s.context item) refl h
         (λ next at. reached-at next items at)
 
-    step-whole : (s end : State Made) (item : BodyItem) (items : List BodyItem) (stood : Result BodyStanding VcdFault)
-        → (state_of (after s.progress item) stood >>= λ next. steps made_change made_instant nets next items) ≡ Ok end
-        → ((next : State Made) → steps made_change made_instant nets next items ≡ Ok end
-        → reached_before made_change made_instant nets next items ≡ end)
-        → elim (state_of (after s.progress item) stood) as (λ _. State Made) [
-          | Ok next ↦ reached_before made_change made_instant nets next items
+    step-whole : (s end : State BuilderState) (item : BodyItem) (items : List BodyItem)
+        (stood : Result BodyContext VcdFault)
+        → (state_of (after s.progress item) stood >>= λ next. steps builder_change builder_instant nets next items)
+        ≡ Ok end
+        → ((next : State BuilderState) → steps builder_change builder_instant nets next items ≡ Ok end
+        → reached_before builder_change builder_instant nets next items ≡ end)
+        → elim (state_of (after s.progress item) stood) as (λ _. State BuilderState) [
+          | Ok next ↦ reached_before builder_change builder_instant nets next items
           | Err fault ↦ s
         ]
         ≡ end
@@ -215,11 +218,12 @@ module _ (from : ℕ) where
     step-whole s end item items (Err fault) whole rest = absurd cc
 
     -- where there is no fault, all items are reached
-    reached-whole : (s end : State Made) (items : List BodyItem) → steps made_change made_instant nets s items ≡ Ok end
-        → reached_before made_change made_instant nets s items ≡ end
+    reached-whole : (s end : State BuilderState) (items : List BodyItem)
+        → steps builder_change builder_instant nets s items ≡ Ok end
+        → reached_before builder_change builder_instant nets s items ≡ end
     unfolding reached_before steps
     reached-whole s end [] whole = cc
-    reached-whole s end (item ∷ items) whole = step-whole s end item items (stand_after nets s.standing item) whole
+    reached-whole s end (item ∷ items) whole = step-whole s end item items (context_after nets s.context item) whole
         (λ next all. reached-whole next end items all)
 
   -- ---- what reading comes to
@@ -229,7 +233,7 @@ module _ (from : ℕ) where
     pub up_to : AreUpTo reading.time reading.recorded.steps
     pub before : (fault : VcdFault) → reading.fault ≡ Some fault → AreBefore reading.time reading.recorded.steps
 
-  faulty-times : (p : Taking Made) (fault : VcdFault) → IsMade p
+  faulty-times : (p : Taking BuilderState) (fault : VcdFault) → IsMade p
       → TimesOf (reading_made p.taken.recorded p.time (Err fault))
   faulty-times p fault h = record {
     late = h.late;
@@ -238,8 +242,8 @@ module _ (from : ℕ) where
   }
 
   -- the instant at hand is the last
-  ended-up-to : (begun : Bool) (p : Taking Made) → IsMade p
-      → AreUpTo p.time (cond begun (made_instant p.taken p.time) p.taken).recorded.steps
+  ended-up-to : (begun : Bool) (p : Taking BuilderState) → IsMade p
+      → AreUpTo p.time (cond begun (builder_instant p.taken p.time) p.taken).recorded.steps
   ended-up-to true p h =
       All-append (λ (s : Step). (from ≤ s.time) × (s.time ≤ p.time)) p.taken.recorded.steps
       (step_between p.time p.taken.progress.shown p.taken.progress.now)
@@ -249,8 +253,8 @@ module _ (from : ℕ) where
       }) h.late)
   ended-up-to false p h = up-to p.time p.taken.recorded.steps h.before
 
-  end-times : (p : Taking Made) (stood : Result BodyStanding VcdFault) → IsMade p
-      → TimesOf (reading_made p.taken.recorded p.time (stood >>= λ end. Ok (ended made_instant p)))
+  end-times : (p : Taking BuilderState) (stood : Result BodyContext VcdFault) → IsMade p
+      → TimesOf (reading_made p.taken.recorded p.time (stood >>= λ end. Ok (ended builder_instant p)))
   end-times p (Ok end) h = record {
     late = h.late;
     up_to = ended-up-to p.begun p h;
@@ -258,35 +262,37 @@ module _ (from : ℕ) where
   }
   end-times p (Err fault) h = faulty-times p fault h
 
-  outcome-times : (reached : State Made) (outcome : Result (State Made) VcdFault) → IsAt reached
-      → ((end : State Made) → outcome ≡ Ok end → reached ≡ end)
-      → TimesOf (reading_made reached.progress.taken.recorded reached.progress.time (outcome >>= at_end made_instant))
+  outcome-times : (reached : State BuilderState) (outcome : Result (State BuilderState) VcdFault) → IsAt reached
+      → ((end : State BuilderState) → outcome ≡ Ok end → reached ≡ end)
+      → TimesOf (reading_made reached.progress.taken.recorded reached.progress.time
+      (outcome >>= at_end builder_instant))
   outcome-times reached (Ok end) h whole =
-      subst (λ (s : State Made). TimesOf (reading_made reached.progress.taken.recorded reached.progress.time
-      (at_end made_instant s))) (whole end refl)
-      (end-times reached.progress (at_the_end reached.standing) h.made)
+      subst (λ (s : State BuilderState). TimesOf (reading_made reached.progress.taken.recorded reached.progress.time
+      (at_end builder_instant s))) (whole end refl)
+      (end-times reached.progress (at_the_end reached.context) h.made)
   outcome-times reached (Err fault) h whole = faulty-times reached.progress fault h.made
 
-  items-times : (nets : List Net) (s : State Made) (items : List BodyItem) → IsAt s
-      → TimesOf (reading_until_fault (until_fault made_change made_instant nets s items))
+  items-times : (nets : List Net) (s : State BuilderState) (items : List BodyItem) → IsAt s
+      → TimesOf (reading_until_fault (until_fault builder_change builder_instant nets s items))
   items-times nets s items h =
-      outcome-times (reached_before made_change made_instant nets s items)
-      (steps made_change made_instant nets s items) (reached-at nets s items h)
+      outcome-times (reached_before builder_change builder_instant nets s items)
+      (steps builder_change builder_instant nets s items) (reached-at nets s items h)
       (λ end whole. reached-whole nets s end items whole)
 
 -- ---- the steps that follow what was given
 
 -- what is recorded behind it
 abbrev behind : StepReading → List ℕ → TextReading
-behind r rest = reading_ahead (with_recording (record { opening = r.given.opening; steps = [] }) r.wave)
-    (tokens_from r.wave.body.line rest) []
+behind r rest = reading_ahead (with_recording (record { opening = r.given.opening; steps = [] }) r.speculative)
+    (tokens_from r.speculative.body.line rest) []
 
-behind-times : (r : StepReading) (rest : List ℕ) → TimesOf r.wave.body.progress.time (behind r rest)
+behind-times : (r : StepReading) (rest : List ℕ) → TimesOf r.speculative.body.progress.time (behind r rest)
 behind-times r rest =
     let none : Trace = record { opening = r.given.opening; steps = [] } in
-    let time = r.wave.body.progress.time in
-    items-times time r.wave.body.nets (state_at (with_recording none r.wave).body.progress r.wave.body.bracket)
-    (body_from r.wave.body.place (tokens_from r.wave.body.line rest ++ [])) (record {
+    let time = r.speculative.body.progress.time in
+    items-times time r.speculative.body.nets
+    (state_at (with_recording none r.speculative).body.progress r.speculative.body.bracket)
+    (body_from r.speculative.body.place (tokens_from r.speculative.body.line rest ++ [])) (record {
       at = refl;
       made = record {
         late = omega arith;
@@ -294,10 +300,10 @@ behind-times r rest =
       };
     })
 
-module _ (is_front : IsFront) (r : StepReading) (rest : List ℕ) (more : List Step)
+module _ (is_front : IsPrefix) (r : StepReading) (rest : List ℕ) (more : List Step)
     (is : (whole_reading r rest).recorded ≡ with_steps r.given more) where
   reads : whole_reading r rest ≡ following r.given (behind r rest)
-  reads = is_front r.wave r.given r.given.opening (tokens_from r.wave.body.line rest) []
+  reads = is_front r.speculative r.given r.given.opening (tokens_from r.speculative.body.line rest) []
 
   these : (behind r rest).recorded.steps ≡ more
   these =
@@ -313,14 +319,14 @@ module _ (is_front : IsFront) (r : StepReading) (rest : List ℕ) (more : List S
   pub steps-follow : All (λ (step : Step). (whole_reading r []).time ≤ step.time) more
   steps-follow =
       subst (λ (ss : List Step). All (λ (step : Step). (whole_reading r []).time ≤ step.time) ss) these
-      (All-weaker (λ (s : Step). (r.wave.body.progress.time ≤ s.time) × (s.time ≤ (behind r rest).time))
+      (All-weaker (λ (s : Step). (r.speculative.body.progress.time ≤ s.time) × (s.time ≤ (behind r rest).time))
       (λ (s : Step). (whole_reading r []).time ≤ s.time) (λ s p. omega (arith, p.0, time-here r))
       (behind r rest).recorded.steps (behind-times r rest).up_to)
 
   pub steps-within : All (λ (step : Step). step.time ≤ (whole_reading r rest).time) more
   steps-within =
       subst (λ (ss : List Step). All (λ (step : Step). step.time ≤ (whole_reading r rest).time) ss) these
-      (All-weaker (λ (s : Step). (r.wave.body.progress.time ≤ s.time) × (s.time ≤ (behind r rest).time))
+      (All-weaker (λ (s : Step). (r.speculative.body.progress.time ≤ s.time) × (s.time ≤ (behind r rest).time))
       (λ (s : Step). s.time ≤ (whole_reading r rest).time) (λ s p. omega (arith, p.1, end_is))
       (behind r rest).recorded.steps (behind-times r rest).up_to)
 
@@ -328,7 +334,7 @@ module _ (is_front : IsFront) (r : StepReading) (rest : List ℕ) (more : List S
       → All (λ (step : Step). step.time < (whole_reading r rest).time) more
   steps-before fault faulty =
       subst (λ (ss : List Step). All (λ (step : Step). step.time < (whole_reading r rest).time) ss) these
-      (All-weaker (λ (s : Step). (r.wave.body.progress.time ≤ s.time) × (s.time < (behind r rest).time))
+      (All-weaker (λ (s : Step). (r.speculative.body.progress.time ≤ s.time) × (s.time < (behind r rest).time))
       (λ (s : Step). s.time < (whole_reading r rest).time) (λ s p. omega (arith, p.1, end_is))
       (behind r rest).recorded.steps
       ((behind-times r rest).before fault (sym (ap (λ (x : TextReading). x.fault) reads) ∙ faulty)))

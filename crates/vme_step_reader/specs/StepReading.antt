@@ -2,14 +2,15 @@
 use Rattle.std.specs.Prelude.{ℕ, List, []}
 use Rattle.vme_trace.specs.Trace.{Trace}
 use Rattle.vcd_read.specs.Tokens.{tokens_from}
-use Rattle.vme_bind.specs.SpeculativeReading.{WaveReached, with_recording}
+use Rattle.vme_bind.specs.SpeculativeReading.{SpeculativeReached, with_recording}
 use Rattle.vme_bind.specs.TextReading.{TextReading, reading_ahead}
 
 -- The recording of the instants that are complete so far, and how far the body is read.
 pub record StepReading : Type 0 where
   pub given : Trace
-  pub wave : WaveReached
+  pub speculative : SpeculativeReached
 
 -- what the whole text comes to where these bytes follow
 abbrev pub whole_reading : StepReading → List ℕ → TextReading
-whole_reading r bytes = reading_ahead (with_recording r.given r.wave) (tokens_from r.wave.body.line bytes) []
+whole_reading r bytes = reading_ahead (with_recording r.given r.speculative)
+    (tokens_from r.speculative.body.line bytes) []

@@ -25,7 +25,7 @@ fn before_steps(text: TextPieces<StepCollector>) -> Result<StepReader, CaptureFa
     requires none { (text_reached text).body.progress.taken.recorded.steps ≡ [] }
     requires formed { (ts more : List Token)
         → malformed_step (reading_ahead (text_reached text) ts more).recorded ≡ None }
-    ensures reached { IfOk result (λ reader. text_reached text ≡ with_recording reader.given reader.wave) }
+    ensures reached { IfOk result (λ reader. text_reached text ≡ with_recording reader.given reader.speculative) }
     ensures fits { IfOk result (λ reader. (text_reached text).fault ≡ None) }
     ensures none { IfOk result (λ reader. reader.given.steps ≡ []) }
     ensures formed { IfOk result (λ reader. malformed_step reader.given ≡ None) }
@@ -37,9 +37,9 @@ fn before_steps(text: TextPieces<StepCollector>) -> Result<StepReader, CaptureFa
     if let Some(fault) = text.binding_fault() {
         return Err(CaptureFault::Binding(fault));
     }
-    let (wave, taken) = text.into_wave();
+    let (speculative, taken) = text.into_speculative();
     Ok(StepReader {
-        wave,
+        speculative,
         opening: taken.opening,
         given: GhostSteps::new(),
     })
@@ -57,11 +57,11 @@ fn begin_at(
     ensures sound { IfOk result (λ found. IfSome found (λ begun. (rest : List ℕ)
         → malformed_step (whole_reading begun.0 rest).recorded ≡ None)) }
     ensures line { IfOk result (λ found. IfSome found (λ begun.
-        line_behind begun.0.wave.body.line (drop begun.1 front.now) ≡ line_behind 1 front.now)) }
+        line_behind begun.0.speculative.body.line (drop begun.1 front.now) ≡ line_behind 1 front.now)) }
     ensures begins { IfOk result (λ found. IfSome found (λ begun. (whole : List ℕ) (more : List Token)
         → tokens whole ≡ tokens front.now ++ more
-        → reading_of_text bound.now whole ≡ Ok (reading_ahead (with_recording begun.0.given begun.0.wave)
-        (tokens_from begun.0.wave.body.line (drop begun.1 front.now)) more))) }
+        → reading_of_text bound.now whole ≡ Ok (reading_ahead (with_recording begun.0.given begun.0.speculative)
+        (tokens_from begun.0.speculative.body.line (drop begun.1 front.now)) more))) }
     ensures fails { IfErr result (λ fault. (whole : List ℕ) (more : List Token)
         → tokens whole ≡ tokens front.now ++ more → CaptureFailsBy fault (reading_of_text bound.now whole)) }
     ensures unended { IfOk result (λ found. IfNone found ((fault : VcdFault)

@@ -6,14 +6,14 @@ ghost use Rattle.vme_trace.specs.Followed.{with_steps};
 ghost use Rattle.vme_trace.specs.declared.step.Step.{Step};
 ghost use Rattle.vme_step_reader.specs.StepReading.{StepReading, whole_reading};
 
-use vme_bind::recorded_before_is_a_front;
+use vme_bind::recorded_before_is_a_prefix;
 
 /// What was given is the front of what is recorded, whatever follows.
-pub fn given_is_a_front()
+pub fn given_is_a_prefix()
     ensures { (r : StepReading) (rest : List ℕ) → (steps : List Step)
         × ((whole_reading r rest).recorded ≡ with_steps r.given steps) }
 {
-    recorded_before_is_a_front();
+    recorded_before_is_a_prefix();
 }
 
 /// The steps that are still to come are no earlier than the last time that was read, and no later than that of the
@@ -31,5 +31,5 @@ pub fn times_go_on()
         → All (λ (step : Step). step.time < (whole_reading r rest).time) steps }
     ensures on { (r : StepReading) (rest : List ℕ) → (whole_reading r []).time ≤ (whole_reading r rest).time }
 {
-    recorded_before_is_a_front();
+    recorded_before_is_a_prefix();
 }

@@ -39,6 +39,6 @@ mod step_reader;
 mod stopped_steps;
 
 pub use begin::{begin_last_steps, begin_steps};
-pub use laws::{given_is_a_front, times_go_on};
+pub use laws::{given_is_a_prefix, times_go_on};
 pub use step_reader::StepReader;
 pub use stopped_steps::StoppedSteps;

@@ -12,7 +12,7 @@ ghost use Rattle.vme_step_reader.specs.Stops.{StopsBehind};
 use crate::stopped_steps::StoppedSteps;
 use std::alloc::Global;
 use vcd_read::Stopped;
-use vme_bind::{SpeculativeReader, StepCollector, recorded_before_is_a_front};
+use vme_bind::{SpeculativeReader, StepCollector, recorded_before_is_a_prefix};
 use vme_trace::{Lines, Step};
 
 /// The steps before a fault.
@@ -47,23 +47,23 @@ pub(crate) fn none_taken(alloc: Global, opening: &Lines) -> StepCollector
 /// Reads a piece that ends behind a space, and the steps that become complete by it.
 pub(crate) fn read_piece(
     alloc: Global,
-    wave: SpeculativeReader,
+    speculative: SpeculativeReader,
     opening: &Lines,
     piece: &[u8],
 ) -> Result<(SpeculativeReader, Vec<Step>), StoppedSteps>
-    ensures line { IfOk result (λ made. made.0.body.line ≡ line_behind wave.body.line piece.now) }
+    ensures line { IfOk result (λ made. made.0.body.line ≡ line_behind speculative.body.line piece.now) }
     ensures rest { IfOk result (λ made. (given : Trace) (more : List Token)
-        → reading_ahead (with_recording given wave) (tokens_from wave.body.line piece.now) more
+        → reading_ahead (with_recording given speculative) (tokens_from speculative.body.line piece.now) more
         ≡ reading_ahead (with_recording (with_steps given made.1.items) made.0) [] more) }
     ensures stopped { IfErr result (λ stopped. (given : Trace) (more : List Token) → StopsBehind given stopped
-        (reading_ahead (with_recording given wave) (tokens_from wave.body.line piece.now) more)) }
+        (reading_ahead (with_recording given speculative) (tokens_from speculative.body.line piece.now) more)) }
 {
-    recorded_before_is_a_front();
-    let text = wave.with_step_visitor(none_taken(alloc, opening));
+    recorded_before_is_a_prefix();
+    let text = speculative.with_step_visitor(none_taken(alloc, opening));
     match text.read_until_fault(alloc, piece) {
         Ok(text) => {
-            let (wave, taken) = text.into_wave();
-            Ok((wave, taken.steps))
+            let (speculative, taken) = text.into_speculative();
+            Ok((speculative, taken.steps))
         }
         Err(stopped) => Err(steps_before(stopped)),
     }
@@ -72,20 +72,21 @@ pub(crate) fn read_piece(
 /// Reads the last piece, and the steps that become complete by it and by the end.
 pub(crate) fn read_last_piece(
     alloc: Global,
-    wave: SpeculativeReader,
+    speculative: SpeculativeReader,
     opening: &Lines,
     piece: &[u8],
 ) -> Result<Vec<Step>, StoppedSteps>
     ensures recorded { IfOk result (λ steps. (given : Trace)
-        → (reading_ahead (with_recording given wave) (tokens_from wave.body.line piece.now) []).recorded
+        → (reading_ahead (with_recording given speculative) (tokens_from speculative.body.line piece.now) []).recorded
         ≡ with_steps given steps.items) }
     ensures whole { IfOk result (λ steps. (given : Trace)
-        → (reading_ahead (with_recording given wave) (tokens_from wave.body.line piece.now) []).fault ≡ None) }
+        → (reading_ahead (with_recording given speculative) (tokens_from speculative.body.line piece.now) []).fault
+        ≡ None) }
     ensures stopped { IfErr result (λ stopped. (given : Trace) → StopsBehind given stopped
-        (reading_ahead (with_recording given wave) (tokens_from wave.body.line piece.now) [])) }
+        (reading_ahead (with_recording given speculative) (tokens_from speculative.body.line piece.now) [])) }
 {
-    recorded_before_is_a_front();
-    let text = wave.with_step_visitor(none_taken(alloc, opening));
+    recorded_before_is_a_prefix();
+    let text = speculative.with_step_visitor(none_taken(alloc, opening));
     match text.read_until_fault(alloc, piece) {
         Ok(text) => match text.finish_or_stop(alloc) {
             Ok(taken) => Ok(taken.steps),

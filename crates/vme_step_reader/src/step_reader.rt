@@ -12,14 +12,14 @@ use crate::stopped_steps::StoppedSteps;
 use std::alloc::Global;
 use std::marker::Model;
 use vcd_read::whole_tokens;
-use vme_bind::{SpeculativeReader, recorded_before_is_a_front};
+use vme_bind::{SpeculativeReader, recorded_before_is_a_prefix};
 use vme_summary::GhostSteps;
 use vme_trace::{Lines, Step};
 
 /// The body of a dump, as far as it is read. The steps that are complete were given away: none is kept.
 #[derive(Drop)]
 pub struct StepReader {
-    pub(crate) wave: SpeculativeReader,
+    pub(crate) speculative: SpeculativeReader,
     pub(crate) opening: Lines,
     pub(crate) given: GhostSteps,
 }
@@ -31,10 +31,15 @@ impl Model for StepReader {
 
     ghost Value = { StepReading };
 
-    ghost view = { λ r. record { given = record { opening = r.opening; steps = r.given.items }; wave = r.wave } };
+    ghost view = { λ r. record {
+      given = record { opening = r.opening; steps = r.given.items };
+      speculative =
+          r.speculative;
+    } };
 
     ghost invariant = { λ r. (rest : List ℕ) → malformed_step (whole_reading
-        (record { given = record { opening = r.opening; steps = r.given.items }; wave = r.wave }) rest).recorded
+        (record { given = record { opening = r.opening; steps = r.given.items }; speculative = r.speculative })
+        rest).recorded
         ≡ None };
 }
 
@@ -50,7 +55,7 @@ impl StepReader {
     pub fn time(&self) -> u64
         ensures { result ≡ (whole_reading self.now []).time }
     {
-        self.wave.time()
+        self.speculative.time()
     }
 
     /// Takes some of the first of these bytes, and says how many, with the steps that became complete. With the first
@@ -70,18 +75,18 @@ impl StepReader {
         ensures formed_before { IfErr result (λ stopped. stopped.fault.kind ≢ Memory
             → malformed_step (with_steps self.given stopped.steps.items) ≡ None) }
     {
-        recorded_before_is_a_front();
+        recorded_before_is_a_prefix();
         let StepReader {
-            wave,
+            speculative,
             opening,
             given,
         } = self;
         let count = whole_tokens(bytes);
-        match read_piece(alloc, wave, &opening, &bytes[..count]) {
-            Ok((wave, steps)) => {
+        match read_piece(alloc, speculative, &opening, &bytes[..count]) {
+            Ok((speculative, steps)) => {
                 let given = given.and_all(&GhostSteps::of(steps.as_slice()));
                 let reader = StepReader {
-                    wave,
+                    speculative,
                     opening,
                     given,
                 };
@@ -104,11 +109,11 @@ impl StepReader {
             → malformed_step (with_steps self.given stopped.steps.items) ≡ None) }
     {
         let StepReader {
-            wave,
+            speculative,
             opening,
             given: _,
         } = self;
-        match read_last_piece(alloc, wave, &opening, rest) {
+        match read_last_piece(alloc, speculative, &opening, rest) {
             Ok(steps) => Ok(steps),
             Err(stopped) => Err(stopped),
         }

@@ -6,7 +6,7 @@ pub mod Whole
 pub mod Turns
 pub mod Together
 pub mod Cuts
-pub mod Apart
+pub mod DisjointMarks
 pub mod InstantMarks
 pub mod Forward
 pub mod ListedTransfers
@@ -21,5 +21,5 @@ pub mod MarkedListing
 pub mod Listed
 pub mod Marked
 pub mod Progressing
-pub mod Watching
-pub mod Leading
+pub mod StreamJudging
+pub mod Advancing

@@ -8,7 +8,7 @@ pub mod Standing
 pub mod Stands
 pub mod Splitting
 pub mod AllShown
-pub mod Leading
+pub mod Advancing
 pub mod MarkedRows
 pub mod Endings
 pub mod CutFaults

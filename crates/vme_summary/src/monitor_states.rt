@@ -2,11 +2,11 @@
 
 ghost use Rattle.std.specs.Prelude.{◌≡◌, ◌+◌, ◌^◌, ◌<◌, ◌≤◌, ◌++◌, List, None, length, option_map};
 ghost use Rattle.vme_monitor.specs.Outcome.{earlier, shifted_break};
-ghost use Rattle.vme_monitor.specs.OverStretches.{noted, spanned};
-ghost use Rattle.vme_monitor.specs.Run.{break_at, noticed};
+ghost use Rattle.vme_monitor.specs.OverStretches.{observed, phase_step};
+ghost use Rattle.vme_monitor.specs.Run.{break_at, machine_step};
 ghost use Rattle.vme_monitor.specs.StepRuns.{seen_in};
 ghost use Rattle.vme_monitor.specs.Tables.{outcome};
-ghost use Rattle.vme_monitor.specs.WithoutMarks.{silenced};
+ghost use Rattle.vme_monitor.specs.WithoutMarks.{unmarked_next};
 ghost use Rattle.vme_monitor.specs.declared.over_stretches.StretchPhase.TheVariants.{Judging};
 ghost use Rattle.vme_trace.specs.Levels.{Levels};
 ghost use Rattle.vme_trace.specs.Trace.{Trace, levels_after};
@@ -75,7 +75,8 @@ fn next_judging<R: Rules>(
 ) -> Next<StretchPhase<R::Memory>>
     requires view { view.now ≡ seen_in view.now.before changes.now }
     requires goes_on { view.now.end ≡ None }
-    ensures { result ≡ silenced (noticed (noted R.observation) (spanned R.begin R.opens R.resets R.ends R.next)
+    ensures { result ≡ unmarked_next
+        (machine_step (observed R.observation) (phase_step R.begin R.opens R.resets R.ends R.next)
         (Judging memory) view.now.before view.now.after changes.now) }
 {
     let Some(seen) = R::observe(&view.before, &view.after, changes) else {
@@ -85,7 +86,7 @@ fn next_judging<R: Rules>(
     Next {
         memory: StretchPhase::Judging(next.memory),
         fault: next.fault,
-        kinds: NOTHING,
+        shown: NOTHING,
     }
 }
 
@@ -98,14 +99,16 @@ fn next_in<R: Rules>(
     changes: &[Change],
 ) -> Next<StretchPhase<R::Memory>>
     requires { view.now ≡ seen_in view.now.before changes.now }
-    ensures { result ≡ silenced (noticed (noted R.observation) (spanned R.begin R.opens R.resets R.ends R.next)
+    ensures { result ≡ unmarked_next
+        (machine_step (observed R.observation) (phase_step R.begin R.opens R.resets R.ends R.next)
         memory view.now.before view.now.after changes.now) }
 {
     match memory {
         StretchPhase::Ended => quiet(memory),
         StretchPhase::Waiting | StretchPhase::Reset => {
-            let noticed = view.control || R::observe(&view.before, &view.after, changes).is_some();
-            if noticed && view.after.is_idle() {
+            let machine_step = view.control
+                || R::observe(&view.before, &view.after, changes).is_some();
+            if machine_step && view.after.is_idle() {
                 quiet(StretchPhase::Judging(R::at_start(&view.after)))
             } else {
                 quiet(memory)
@@ -117,25 +120,26 @@ fn next_in<R: Rules>(
             Some(End::Lost(line)) => Next {
                 memory: StretchPhase::Ended,
                 fault: R::fault_at_end(line),
-                kinds: NOTHING,
+                shown: NOTHING,
             },
         },
     }
 }
 
-/// Leads a monitor that began at an opening past the step that follows, at its instant after the opening.
+/// Advances a monitor that began at an opening past the step that follows, at its instant after the opening.
 #[inline(always)]
-pub(crate) fn lead<R: Rules>(
+pub(crate) fn advance<R: Rules>(
     state: &mut MonitorState<StretchPhase<R::Memory>>,
     view: &StepView,
     step: &Step,
     instant: u32,
 )
     requires { view.now ≡ seen_in view.now.before step.now.changes }
-    ensures memory { state.new.memory ≡ (noticed (noted R.observation) (spanned R.begin R.opens R.resets R.ends R.next)
+    ensures memory { state.new.memory
+        ≡ (machine_step (observed R.observation) (phase_step R.begin R.opens R.resets R.ends R.next)
         state.old.memory view.now.before view.now.after step.now.changes).memory }
     ensures event { state.new.event ≡ earlier state.old.event (option_map (break_at instant step.now.time)
-        (noticed (noted R.observation) (spanned R.begin R.opens R.resets R.ends R.next)
+        (machine_step (observed R.observation) (phase_step R.begin R.opens R.resets R.ends R.next)
         state.old.memory view.now.before view.now.after step.now.changes).fault) }
 {
     let next = next_in::<R>(state.memory, view, step.changes.as_slice());
@@ -174,7 +178,7 @@ fn verdict_of(found: Option<Break>) -> Verdict
 impl MonitorStates {
     /// Past the steps that follow some that leave these lines: so many were before them. The answer is the lines that
     /// they leave.
-    pub(crate) fn lead_along(&mut self, opening: &Lines, before: u32, steps: &[Step]) -> Lines
+    pub(crate) fn advance_along(&mut self, opening: &Lines, before: u32, steps: &[Step]) -> Lines
         requires { before + length steps.now ≤ 268435456 }
         ensures found { (o : Levels) (x : List Step) → opening.now ≡ levels_after o x → before ≡ length x
             → HasFound self.old o x → HasFound self.new o (x ++ steps.now) }
@@ -186,7 +190,7 @@ impl MonitorStates {
             let changes = step.changes.as_slice();
             view.go_to(changes);
             instant += 1;
-            self.lead(&view, step, instant);
+            self.advance(&view, step, instant);
             view.go_past(changes);
         }
         view.before

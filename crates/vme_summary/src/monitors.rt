@@ -10,12 +10,12 @@ ghost use Rattle.vme_monitor.specs.StepRuns.{seen_in};
 ghost use Rattle.vme_monitor.specs.Whole.{has_span};
 ghost use Rattle.vme_summary.specs.AllShown.{all_marks};
 ghost use Rattle.vme_summary.specs.HasRoom.{HasRoom};
-ghost use Rattle.vme_summary.specs.Leading.{IsLed};
+ghost use Rattle.vme_summary.specs.Advancing.{IsAdvancedTo};
 ghost use Rattle.vme_summary.specs.Progressed.{FoundAfter, HasFound, HasFoundAll};
 ghost use Rattle.vme_summary.specs.Summaries.{first_break as first_break_of, StandAlike, StandsForAll, SummaryFindsFor};
 ghost use Rattle.vme_summary.specs.Summaries.{SummaryStandsFor, SummaryStandsForBoth, summary_steps};
 
-use crate::monitor_states::{MonitorState, MonitorStates, lead};
+use crate::monitor_states::{MonitorState, MonitorStates, advance};
 use crate::summary::{MonitorSummaries, Room};
 use std::alloc::{AllocError, Global};
 use vme_chains::acknowledge::{AcknowledgeRules, Iack, acknowledge_over_captures};
@@ -34,7 +34,7 @@ use vme_trace::{Break, Lines, Step};
 
 /// Something of each of five monitors.
 #[derive(Drop)]
-struct Five<A: Drop, B: Drop, C: Drop, D: Drop, E: Drop> {
+struct PerMonitor<A: Drop, B: Drop, C: Drop, D: Drop, E: Drop> {
     known: A,
     handshake: B,
     stability: C,
@@ -43,16 +43,16 @@ struct Five<A: Drop, B: Drop, C: Drop, D: Drop, E: Drop> {
 }
 
 /// What five monitors know of no steps.
-fn begin_five<A: Stepping, B: Stepping, C: Stepping, D: Stepping, E: Stepping>(
+fn begin_monitors<A: Stepping, B: Stepping, C: Stepping, D: Stepping, E: Stepping>(
     alloc: Global,
-) -> Result<Five<A::Progress, B::Progress, C::Progress, D::Progress, E::Progress>, AllocError>
+) -> Result<PerMonitor<A::Progress, B::Progress, C::Progress, D::Progress, E::Progress>, AllocError>
     ensures known { IfOk result (λ all. (o : Levels) → A.tells_of all.known o []) }
     ensures handshake { IfOk result (λ all. (o : Levels) → B.tells_of all.handshake o []) }
     ensures stability { IfOk result (λ all. (o : Levels) → C.tells_of all.stability o []) }
     ensures grant { IfOk result (λ all. (o : Levels) → D.tells_of all.grant o []) }
     ensures acknowledge { IfOk result (λ all. (o : Levels) → E.tells_of all.acknowledge o []) }
 {
-    Ok(Five {
+    Ok(PerMonitor {
         known: A::begin(alloc)?,
         handshake: B::begin(alloc)?,
         stability: C::begin(alloc)?,
@@ -61,25 +61,25 @@ fn begin_five<A: Stepping, B: Stepping, C: Stepping, D: Stepping, E: Stepping>(
     })
 }
 
-/// Leads five monitors past a step, at its instant after the opening.
+/// Advances five monitors past a step, at its instant after the opening.
 #[inline(always)]
-fn lead_five<A: Stepping, B: Stepping, C: Stepping, D: Stepping, E: Stepping>(
+fn step_monitors<A: Stepping, B: Stepping, C: Stepping, D: Stepping, E: Stepping>(
     alloc: Global,
-    all: &mut Five<A::Progress, B::Progress, C::Progress, D::Progress, E::Progress>,
+    all: &mut PerMonitor<A::Progress, B::Progress, C::Progress, D::Progress, E::Progress>,
     view: &StepView,
     step: &Step,
     instant: u32,
 ) -> Result<(), AllocError>
     requires { view.now ≡ seen_in view.now.before step.now.changes }
-    ensures known { OnOk result ((o : Levels) (x : List Step) → IsLed o x view.now.before instant
+    ensures known { OnOk result ((o : Levels) (x : List Step) → IsAdvancedTo o x view.now.before instant
         → A.tells_of all.old.known o x → A.tells_of all.new.known o (x ++ step.now ∷ [])) }
-    ensures handshake { OnOk result ((o : Levels) (x : List Step) → IsLed o x view.now.before instant
+    ensures handshake { OnOk result ((o : Levels) (x : List Step) → IsAdvancedTo o x view.now.before instant
         → B.tells_of all.old.handshake o x → B.tells_of all.new.handshake o (x ++ step.now ∷ [])) }
-    ensures stability { OnOk result ((o : Levels) (x : List Step) → IsLed o x view.now.before instant
+    ensures stability { OnOk result ((o : Levels) (x : List Step) → IsAdvancedTo o x view.now.before instant
         → C.tells_of all.old.stability o x → C.tells_of all.new.stability o (x ++ step.now ∷ [])) }
-    ensures grant { OnOk result ((o : Levels) (x : List Step) → IsLed o x view.now.before instant
+    ensures grant { OnOk result ((o : Levels) (x : List Step) → IsAdvancedTo o x view.now.before instant
         → D.tells_of all.old.grant o x → D.tells_of all.new.grant o (x ++ step.now ∷ [])) }
-    ensures acknowledge { OnOk result ((o : Levels) (x : List Step) → IsLed o x view.now.before instant
+    ensures acknowledge { OnOk result ((o : Levels) (x : List Step) → IsAdvancedTo o x view.now.before instant
         → E.tells_of all.old.acknowledge o x → E.tells_of all.new.acknowledge o (x ++ step.now ∷ [])) }
 {
     A::go_on(alloc, &mut all.known, view, step, instant)?;
@@ -89,9 +89,9 @@ fn lead_five<A: Stepping, B: Stepping, C: Stepping, D: Stepping, E: Stepping>(
     E::go_on(alloc, &mut all.acknowledge, view, step, instant)
 }
 
-/// Leads five monitors along the steps after an opening at once: the summary of each, and the lines that the last step
-/// leaves.
-fn walk_with_five<A: Stepping, B: Stepping, C: Stepping, D: Stepping, E: Stepping>(
+/// Advances five monitors along the steps after an opening at once: the summary of each, and the lines that the last
+/// step leaves.
+fn summarise_monitors<A: Stepping, B: Stepping, C: Stepping, D: Stepping, E: Stepping>(
     alloc: Global,
     opening: &Lines,
     steps: &[Step],
@@ -114,14 +114,14 @@ fn walk_with_five<A: Stepping, B: Stepping, C: Stepping, D: Stepping, E: Steppin
     ensures acknowledge { IfOk result (λ all. StandsFor E.run (E.outcome all.4) (E.count all.4) opening.now steps.now) }
     ensures left { IfOk result (λ all. all.5 ≡ levels_after opening.now steps.now) }
 {
-    let mut all = begin_five::<A, B, C, D, E>(alloc)?;
+    let mut all = begin_monitors::<A, B, C, D, E>(alloc)?;
     let mut view = StepView::new(opening);
     let mut instant = 0;
     for step in steps {
         let changes = step.changes.as_slice();
         view.go_to(changes);
         instant += 1;
-        lead_five::<A, B, C, D, E>(alloc, &mut all, &view, step, instant)?;
+        step_monitors::<A, B, C, D, E>(alloc, &mut all, &view, step, instant)?;
         view.go_past(changes);
     }
     Ok((
@@ -145,7 +145,7 @@ impl MonitorSummaries {
         ensures stands { IfOk result (λ made. SummaryStandsFor made.0 opening.now steps.now) }
         ensures left { IfOk result (λ made. made.1 ≡ levels_after opening.now steps.now) }
     {
-        let (known, handshake, stability, grant, acknowledge, left) = walk_with_five::<
+        let (known, handshake, stability, grant, acknowledge, left) = summarise_monitors::<
             Known,
             Dtb,
             Stability,
@@ -165,7 +165,7 @@ impl MonitorSummaries {
     }
 
     /// The summary without marks of steps after an opening, and the lines that the last one leaves.
-    pub(crate) fn in_silence(
+    pub(crate) fn without_marks(
         alloc: Global,
         opening: &Lines,
         steps: &[Step],
@@ -174,7 +174,7 @@ impl MonitorSummaries {
         ensures finds { IfOk result (λ made. SummaryFindsFor made.0 opening.now steps.now) }
         ensures left { IfOk result (λ made. made.1 ≡ levels_after opening.now steps.now) }
     {
-        let (known, handshake, stability, grant, acknowledge, left) = walk_with_five::<
+        let (known, handshake, stability, grant, acknowledge, left) = summarise_monitors::<
             BreakMonitor<KnownRules>,
             BreakMonitor<HandshakeRules>,
             BreakMonitor<StabilityRules>,
@@ -326,16 +326,16 @@ impl MonitorStates {
 
     /// Past the step that follows, at its instant after the opening.
     #[inline(always)]
-    pub(crate) fn lead(&mut self, view: &StepView, step: &Step, instant: u32)
+    pub(crate) fn advance(&mut self, view: &StepView, step: &Step, instant: u32)
         requires { view.now ≡ seen_in view.now.before step.now.changes }
-        ensures { (o : Levels) (x : List Step) → IsLed o x view.now.before instant
+        ensures { (o : Levels) (x : List Step) → IsAdvancedTo o x view.now.before instant
             → HasFound self.old o x → HasFound self.new o (x ++ step.now ∷ []) }
     {
-        lead::<KnownRules>(&mut self.known, view, step, instant);
-        lead::<HandshakeRules>(&mut self.handshake, view, step, instant);
-        lead::<StabilityRules>(&mut self.stability, view, step, instant);
-        lead::<GrantRules>(&mut self.grant, view, step, instant);
-        lead::<AcknowledgeRules>(&mut self.acknowledge, view, step, instant);
+        advance::<KnownRules>(&mut self.known, view, step, instant);
+        advance::<HandshakeRules>(&mut self.handshake, view, step, instant);
+        advance::<StabilityRules>(&mut self.stability, view, step, instant);
+        advance::<GrantRules>(&mut self.grant, view, step, instant);
+        advance::<AcknowledgeRules>(&mut self.acknowledge, view, step, instant);
     }
 
     /// Whether anything is judged of a recording past whose steps the monitors have come.

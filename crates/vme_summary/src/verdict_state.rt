@@ -42,7 +42,7 @@ impl ChunkJudge for VerdictState {
     }
 
     fn judge(alloc: Global, opening: &Lines, steps: &[Step]) -> Result<ChunkSummary, AllocError> {
-        let (summary, left) = MonitorSummaries::in_silence(alloc, opening, steps)?;
+        let (summary, left) = MonitorSummaries::without_marks(alloc, opening, steps)?;
         Ok(ChunkSummary { summary, left })
     }
 
@@ -57,7 +57,7 @@ impl ChunkJudge for VerdictState {
     fn go_on(&mut self, alloc: Global, steps: &[Step]) -> Result<(), AllocError> {
         let _ = alloc;
         let opening = self.left;
-        self.left = self.found.lead_along(&opening, self.steps, steps);
+        self.left = self.found.advance_along(&opening, self.steps, steps);
         self.steps += steps.len() as u32;
         Ok(())
     }

@@ -40,14 +40,14 @@ fn left_by(block: &Block) -> Lines {
 fn pass_block<J: ChunkJudge + Send>(
     rt: &impl Abort,
     alloc: Global,
-    watch: &mut StreamJudge<J>,
+    stream_judge: &mut StreamJudge<J>,
     block: &Block,
 ) -> Result<(), Fail> {
     let part = sent(JudgedChunk::<J>::of(alloc, &block.opening, block.steps.as_slice())?);
-    let follows = watch.leaves(alloc, &block.opening)?;
+    let follows = stream_judge.leaves(alloc, &block.opening)?;
     assert!(rt; follows);
     assert!(rt; *part.left() == left_by(block));
-    watch.pass(alloc, part)?;
+    stream_judge.pass(alloc, part)?;
     Ok(())
 }
 
@@ -55,7 +55,7 @@ fn pass_block<J: ChunkJudge + Send>(
 fn take_block<J: ChunkJudge + Send>(
     rt: &impl Abort,
     alloc: Global,
-    watch: &mut StreamJudge<J>,
+    stream_judge: &mut StreamJudge<J>,
     block: &Block,
     by_step: ByStep,
 ) -> Result<(), Fail> {
@@ -65,10 +65,10 @@ fn take_block<J: ChunkJudge + Send>(
         ByStep::EveryOdd => block.number % 2 == 1,
     };
     if !stepwise {
-        return pass_block(rt, alloc, watch, block);
+        return pass_block(rt, alloc, stream_judge, block);
     }
     for step in block.steps.as_slice() {
-        watch.step(alloc, step.copy(alloc)?)?;
+        stream_judge.step(alloc, step.copy(alloc)?)?;
     }
     Ok(())
 }
@@ -81,12 +81,12 @@ fn taken_in_blocks<J: ChunkJudge + Send>(
     blocks: &[Block],
     by_step: ByStep,
 ) -> Result<StreamJudge<J>, Fail> {
-    let mut watch = StreamJudge::new(alloc, &Lines::new(1).ok_or("no such backplane")?);
-    watch.open(opening);
+    let mut stream_judge = StreamJudge::new(alloc, &Lines::new(1).ok_or("no such backplane")?);
+    stream_judge.open(opening);
     for block in blocks {
-        take_block(rt, alloc, &mut watch, block, by_step)?;
+        take_block(rt, alloc, &mut stream_judge, block, by_step)?;
     }
-    Ok(watch)
+    Ok(stream_judge)
 }
 
 /// What is taken in these blocks has this verdict and this listing.

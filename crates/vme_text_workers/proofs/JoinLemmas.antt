@@ -13,10 +13,10 @@ use Rattle.vcd_read.specs.Header.{◌>>=◌, Net}
 use Rattle.vcd_read.specs.Reading.{line_behind}
 use Rattle.vcd_read.specs.Taking.{at_end, state_at, steps}
 use Rattle.vcd_read.specs.Tokens.{Token, tokens_from}
-use Rattle.vme_bind.specs.Made.{made_change, made_instant}
+use Rattle.vme_bind.specs.BuilderState.{builder_change, builder_instant}
 use Rattle.vme_bind.specs.TextCapture.{CaptureFailsBy}
 use Rattle.vme_bind.specs.TextPieces.{TextReached, outcome, outcome_ahead}
-use Rattle.vme_bind.specs.SpeculativeReading.{IsJoined, ReadSpeculatively, WaveReached, with_recording}
+use Rattle.vme_bind.specs.SpeculativeReading.{IsJoined, ReadSpeculatively, SpeculativeReached, with_recording}
 use Rattle.vme_bind.specs.declared.fault.CaptureFault.{CaptureFault}
 use Rattle.vme_bind.specs.declared.net_lines.NetLines.{NetLines}
 use Rattle.vme_text_workers.specs.Cuts.{lines_behind, tokens_of}
@@ -28,8 +28,8 @@ use Rattle.vme_text_workers.specs.declared.cut.DumpPiece.{DumpPiece}
 pub ahead-append : (t : TextReached) (first then' more : List Token) → outcome_ahead t (first ++ then') more
     ≡ outcome_ahead t first (then' ++ more)
 ahead-append t first then' more =
-    ap (λ (ts : List Token). outcome t.fault (steps made_change made_instant t.body.nets
-    (state_at t.body.progress t.body.bracket) (body_from t.body.place ts) >>= at_end made_instant))
+    ap (λ (ts : List Token). outcome t.fault (steps builder_change builder_instant t.body.nets
+    (state_at t.body.progress t.body.bracket) (body_from t.body.place ts) >>= at_end builder_instant))
     (append_assoc first then' more)
 
 -- ---- the pieces that are left
@@ -73,7 +73,7 @@ module _ (pieces : List DumpPiece) (t u : TextReached) (piece : DumpPiece) (left
 
 -- ---- pieces that were read ahead
 
-pub are-ahead : (w : WaveReached) (pieces : List DumpPiece) (all : List (Option (ReadSpeculatively × Trace)))
+pub are-ahead : (w : SpeculativeReached) (pieces : List DumpPiece) (all : List (Option (ReadSpeculatively × Trace)))
     → ((place : ℕ) (one : ReadSpeculatively × Trace) → slice_get all place ≡ Some (Some one)
     → IsAheadAt w pieces place (Some one)) → AreAhead w.body.nets w.line_bits pieces all
 are-ahead w [] all h = tt
@@ -83,89 +83,95 @@ are-ahead w (piece ∷ pieces) (None ∷ all) h =
 are-ahead w (piece ∷ pieces) (Some one ∷ all) h =
     (h 0 one refl piece refl, are-ahead w pieces all (λ place one is p at. h (suc place) one is p at))
 
-module _ (nets : List Net) (taps : NetLines) (pieces left : List DumpPiece) (piece : DumpPiece)
+module _ (nets : List Net) (line_bits : NetLines) (pieces left : List DumpPiece) (piece : DumpPiece)
     (all rest : List (Option (ReadSpeculatively × Trace))) (one : Option (ReadSpeculatively × Trace))
-    (are : AreAhead nets taps pieces all) (at : pieces ≡ piece ∷ left) (of : all ≡ one ∷ rest) where
-  both : AreAhead nets taps (piece ∷ left) (one ∷ rest)
-  both = subst (λ (ps : List DumpPiece). AreAhead nets taps ps (one ∷ rest)) at (subst (AreAhead nets taps pieces) of
+    (are : AreAhead nets line_bits pieces all) (at : pieces ≡ piece ∷ left) (of : all ≡ one ∷ rest) where
+  both : AreAhead nets line_bits (piece ∷ left) (one ∷ rest)
+  both = subst (λ (ps : List DumpPiece). AreAhead nets line_bits ps (one ∷ rest)) at
+      (subst (AreAhead nets line_bits pieces) of
       are)
 
-  pub one-ahead : IfSome one (λ a. IsJudgedAhead nets taps piece.bytes.now a.1 a.0)
+  pub one-ahead : IfSome one (λ a. IsJudgedAhead nets line_bits piece.bytes.now a.1 a.0)
   one-ahead = both.0
 
-  pub rest-ahead : (w : WaveReached) → w.body.nets ≡ nets → w.line_bits ≡ taps → AreAhead w.body.nets w.line_bits left
+  pub rest-ahead : (w : SpeculativeReached) → w.body.nets ≡ nets → w.line_bits ≡ line_bits
+      → AreAhead w.body.nets w.line_bits left
       rest
-  rest-ahead w same-nets same-taps =
+  rest-ahead w same-nets same-line_bits =
       subst (λ (n : List Net). AreAhead n w.line_bits left rest) (sym same-nets)
-      (subst (λ (t : NetLines). AreAhead nets t left rest) (sym same-taps) both.1)
+      (subst (λ (t : NetLines). AreAhead nets t left rest) (sym same-line_bits) both.1)
 
 -- nothing was read
-pub none-ahead : (nets : List Net) (taps : NetLines) (pieces : List DumpPiece) → AreAhead nets taps pieces []
-none-ahead nets taps [] = tt
-none-ahead nets taps (piece ∷ pieces) = tt
+pub none-ahead : (nets : List Net) (line_bits : NetLines) (pieces : List DumpPiece) → AreAhead nets line_bits pieces []
+none-ahead nets line_bits [] = tt
+none-ahead nets line_bits (piece ∷ pieces) = tt
 
 -- the next of those that were read again, and the others
-pub next-ahead : (nets : List Net) (taps : NetLines) (pieces left : List DumpPiece) (piece : DumpPiece)
+pub next-ahead : (nets : List Net) (line_bits : NetLines) (pieces left : List DumpPiece) (piece : DumpPiece)
     (all rest : List (Option (ReadSpeculatively × Trace))) (next : Option (ReadSpeculatively × Trace))
-    → AreAhead nets taps pieces all → pieces ≡ piece ∷ left → IsNextOf all rest next
-    → IfSome next (λ a. IsJudgedAhead nets taps piece.bytes.now a.1 a.0) × AreAhead nets taps left rest
-next-ahead nets taps pieces left piece [] rest next are at (none, empty) = (
-  subst (λ (o : Option (ReadSpeculatively × Trace)). IfSome o (λ a. IsJudgedAhead nets taps piece.bytes.now a.1 a.0))
+    → AreAhead nets line_bits pieces all → pieces ≡ piece ∷ left → IsNextOf all rest next
+    → IfSome next (λ a. IsJudgedAhead nets line_bits piece.bytes.now a.1 a.0) × AreAhead nets line_bits left rest
+next-ahead nets line_bits pieces left piece [] rest next are at (none, empty) = (
+  subst (λ (o : Option (ReadSpeculatively × Trace)). IfSome o
+      (λ a. IsJudgedAhead nets line_bits piece.bytes.now a.1 a.0))
       (sym empty) tt,
-  subst (AreAhead nets taps left) (sym none) (none-ahead nets taps left),
+  subst (AreAhead nets line_bits left) (sym none) (none-ahead nets line_bits left),
 )
-next-ahead nets taps pieces left piece (one ∷ all) rest next are at (same, is) =
-    let both : AreAhead nets taps (piece ∷ left) (one ∷ all) = subst (λ (ps : List DumpPiece). AreAhead nets taps ps
+next-ahead nets line_bits pieces left piece (one ∷ all) rest next are at (same, is) =
+    let both : AreAhead nets line_bits (piece ∷ left) (one ∷ all) =
+    subst (λ (ps : List DumpPiece). AreAhead nets line_bits ps
     (one ∷ all)) at are in (
-      subst (λ (o : Option (ReadSpeculatively × Trace)). IfSome o (λ a. IsJudgedAhead nets taps piece.bytes.now a.1
+      subst (λ (o : Option (ReadSpeculatively × Trace)). IfSome o (λ a. IsJudgedAhead nets line_bits piece.bytes.now a.1
           a.0)) (sym is) both.0,
-      subst (AreAhead nets taps left) (sym same) both.1,
+      subst (AreAhead nets line_bits left) (sym same) both.1,
     )
 
 -- what was read of the next piece, ahead or again
-pub next-judged : (nets : List Net) (taps : NetLines) (pieces left : List DumpPiece) (piece : DumpPiece)
+pub next-judged : (nets : List Net) (line_bits : NetLines) (pieces left : List DumpPiece) (piece : DumpPiece)
     (all rest all2 rest2 : List (Option (ReadSpeculatively × Trace))) (one next : Option (ReadSpeculatively × Trace))
-    (a : ReadSpeculatively × Trace) → AreAhead nets taps pieces all → AreAhead nets taps pieces all2
+    (a : ReadSpeculatively × Trace) → AreAhead nets line_bits pieces all → AreAhead nets line_bits pieces all2
     → pieces ≡ piece ∷ left → all ≡ one ∷ rest → IsNextOf all2 rest2 next → (one ≡ Some a) ⊎ (next ≡ Some a)
-    → IsJudgedAhead nets taps piece.bytes.now a.1 a.0
-next-judged nets taps pieces left piece all rest all2 rest2 one next a are are2 at of is same =
+    → IsJudgedAhead nets line_bits piece.bytes.now a.1 a.0
+next-judged nets line_bits pieces left piece all rest all2 rest2 one next a are are2 at of is same =
     let P : Option (ReadSpeculatively × Trace) → Type 0 =
-    λ o. IfSome o (λ b. IsJudgedAhead nets taps piece.bytes.now b.1 b.0) in
+    λ o. IfSome o (λ b. IsJudgedAhead nets line_bits piece.bytes.now b.1 b.0) in
     elim same [
-      | inl e ↦ subst P e (one-ahead nets taps pieces left piece all rest one are at of)
-      | inr e ↦ subst P e (next-ahead nets taps pieces left piece all2 rest2 next are2 at is).0
+      | inl e ↦ subst P e (one-ahead nets line_bits pieces left piece all rest one are at of)
+      | inr e ↦ subst P e (next-ahead nets line_bits pieces left piece all2 rest2 next are2 at is).0
     ]
 
-pub same-nets : (nets nets2 : List Net) (taps taps2 : NetLines) (pieces : List DumpPiece)
+pub same-nets : (nets nets2 : List Net) (line_bits taps2 : NetLines) (pieces : List DumpPiece)
     (all : List (Option (ReadSpeculatively × Trace)))
-    → nets2 ≡ nets → taps2 ≡ taps → AreAhead nets taps pieces all → AreAhead nets2 taps2 pieces all
-same-nets nets nets2 taps taps2 pieces all e f are =
+    → nets2 ≡ nets → taps2 ≡ line_bits → AreAhead nets line_bits pieces all → AreAhead nets2 taps2 pieces all
+same-nets nets nets2 line_bits taps2 pieces all e f are =
     subst (λ (n : List Net). AreAhead n taps2 pieces all) (sym e) (subst (λ (t : NetLines). AreAhead nets t pieces all)
     (sym f) are)
 
 -- ---- a piece that is joined, and whose steps are passed
 
-module _ (bytes : List ℕ) (recorded : Trace) (levels : Levels) (w v : WaveReached) (ended : List Step)
+module _ (bytes : List ℕ) (recorded : Trace) (levels : Levels) (w v : SpeculativeReached) (ended : List Step)
     (one : IsJoined bytes recorded levels w v ended)
-    (watch passed : Trace) (past : passed ≡ with_steps watch ended) where
+    (stream_judge passed : Trace) (past : passed ≡ with_steps stream_judge ended) where
   -- its steps follow those that were passed
-  pub steps-follow : recorded.opening ≡ levels → levels_after watch.opening watch.steps ≡ w.body.progress.taken.shown
+  pub steps-follow : recorded.opening ≡ levels → levels_after stream_judge.opening stream_judge.steps
+      ≡ w.body.progress.taken.shown
       → recorded.opening ≡ levels_after passed.opening passed.steps
   steps-follow opening leaves =
       opening ∙ sym one.leads ∙ ap (λ (u : Levels). levels_after u ended) (sym leaves)
-      ∙ sym (levels_after-append watch.opening watch.steps ended)
+      ∙ sym (levels_after-append stream_judge.opening stream_judge.steps ended)
       ∙ ap (λ (t : Trace). levels_after t.opening t.steps) (sym past)
 
   pub joined-taken : (pieces left : List DumpPiece) (piece : DumpPiece) (t : TextReached) (end : Trace)
       → piece.bytes.now ≡ bytes
-      → AreTaken pieces t (with_recording watch w) (piece ∷ left) → end ≡ with_steps passed recorded.steps
+      → AreTaken pieces t (with_recording stream_judge w) (piece ∷ left) → end ≡ with_steps passed recorded.steps
       → AreTaken pieces t (with_recording end v) left
   joined-taken pieces left piece t end of so done =
-      let whole : end ≡ with_steps watch (ended ++ recorded.steps) =
+      let whole : end ≡ with_steps stream_judge (ended ++ recorded.steps) =
       done ∙ ap (λ (p : Trace). with_steps p recorded.steps) past
-      ∙ ap (λ (ss : List Step). record watch { steps = ss }) (append_assoc watch.steps ended recorded.steps) in
-      taken-more pieces t (with_recording watch w) piece left so (with_recording end v)
+      ∙ ap (λ (ss : List Step). record stream_judge { steps = ss })
+      (append_assoc stream_judge.steps ended recorded.steps) in
+      taken-more pieces t (with_recording stream_judge w) piece left so (with_recording end v)
       (one.line ∙ ap (line_behind w.body.line) (sym of))
-      (λ more. ap (λ (b : List ℕ). outcome_ahead (with_recording watch w) (tokens_from w.body.line b) more) of
-      ∙ one.rest watch more
+      (λ more. ap (λ (b : List ℕ). outcome_ahead (with_recording stream_judge w) (tokens_from w.body.line b) more) of
+      ∙ one.rest stream_judge more
       ∙ ap (λ (u : Trace). outcome_ahead (with_recording u v) [] more) (sym whole))

@@ -6,7 +6,7 @@ use Rattle.vme_trace.specs.Trace.{Trace}
 use Rattle.vcd_read.specs.Header.{Net}
 use Rattle.vcd_read.specs.Tokens.{Token}
 use Rattle.vme_bind.specs.TextPieces.{TextReached, outcome_ahead}
-use Rattle.vme_bind.specs.SpeculativeReading.{IsReadSpeculatively, ReadSpeculatively, WaveReached}
+use Rattle.vme_bind.specs.SpeculativeReading.{IsReadSpeculatively, ReadSpeculatively, SpeculativeReached}
 use Rattle.vme_bind.specs.declared.net_lines.NetLines.{NetLines}
 use Rattle.vme_text_workers.specs.Cuts.{lines_behind, tokens_of}
 use Rattle.vme_text_workers.specs.declared.cut.DumpPiece.{DumpPiece}
@@ -14,22 +14,23 @@ use Rattle.vme_text_workers.specs.declared.cut.DumpPiece.{DumpPiece}
 -- these bytes were read ahead, and their steps, of which this recording is made, were judged behind the levels that
 -- they were read from
 pub record IsJudgedAhead
-    (nets : List Net) (taps : NetLines) (bytes : List ℕ) (recorded : Trace) (ahead : ReadSpeculatively) : Type 0 where
+    (nets : List Net) (line_bits : NetLines) (bytes : List ℕ) (recorded : Trace)
+    (ahead : ReadSpeculatively) : Type 0 where
   pub opening : recorded.opening ≡ ahead.from
-  pub read : IsReadSpeculatively nets taps bytes recorded ahead
+  pub read : IsReadSpeculatively nets line_bits bytes recorded ahead
 
 -- what was read ahead, if anything was, is of these pieces, in their order
 abbrev pub AreAhead : List Net → NetLines → List DumpPiece → List (Option (ReadSpeculatively × Trace)) → Type 0
-AreAhead nets taps [] all = Unit {0}
-AreAhead nets taps (piece ∷ pieces) [] = Unit {0}
-AreAhead nets taps (piece ∷ pieces) (one ∷ all) =
-    IfSome one (λ a. IsJudgedAhead nets taps piece.bytes.now a.1 a.0) × AreAhead nets taps pieces all
+AreAhead nets line_bits [] all = Unit {0}
+AreAhead nets line_bits (piece ∷ pieces) [] = Unit {0}
+AreAhead nets line_bits (piece ∷ pieces) (one ∷ all) =
+    IfSome one (λ a. IsJudgedAhead nets line_bits piece.bytes.now a.1 a.0) × AreAhead nets line_bits pieces all
 
 -- the same of the piece at this place
-abbrev pub IsAheadAt : WaveReached → List DumpPiece → ℕ → Option (ReadSpeculatively × Trace) → Type 0
-IsAheadAt wave pieces place one =
+abbrev pub IsAheadAt : SpeculativeReached → List DumpPiece → ℕ → Option (ReadSpeculatively × Trace) → Type 0
+IsAheadAt speculative pieces place one =
     (piece : DumpPiece) → slice_get pieces place ≡ Some piece
-    → IfSome one (λ a. IsJudgedAhead wave.body.nets wave.line_bits piece.bytes.now a.1 a.0)
+    → IfSome one (λ a. IsJudgedAhead speculative.body.nets speculative.line_bits piece.bytes.now a.1 a.0)
 
 -- some pieces are taken, up to those that are left: what comes of all the pieces is what comes of those
 pub record AreTaken (pieces : List DumpPiece) (before after : TextReached) (left : List DumpPiece) : Type 0 where

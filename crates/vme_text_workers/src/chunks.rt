@@ -124,14 +124,18 @@ impl<J: ChunkJudge> StepVisitor for ChunkBuffer<J> {
 
 impl<J: ChunkJudge> JudgedChunks<J> {
     /// Passes the steps behind those that came. The only error is want of memory.
-    pub fn pass(self, alloc: Global, watch: StreamJudge<J>) -> Result<StreamJudge<J>, AllocError>
-        requires { self.opening ≡ levels_after watch.opening watch.steps }
-        ensures { IfOk result (λ passed. passed ≡ with_steps watch self.steps) }
+    pub fn pass(
+        self,
+        alloc: Global,
+        stream_judge: StreamJudge<J>,
+    ) -> Result<StreamJudge<J>, AllocError>
+        requires { self.opening ≡ levels_after stream_judge.opening stream_judge.steps }
+        ensures { IfOk result (λ passed. passed ≡ with_steps stream_judge self.steps) }
     {
-        let mut watch = watch;
+        let mut stream_judge = stream_judge;
         for chunk in self.chunks {
-            watch.pass(alloc, chunk)?;
+            stream_judge.pass(alloc, chunk)?;
         }
-        Ok(watch)
+        Ok(stream_judge)
     }
 }

@@ -1,4 +1,4 @@
-//! A text that is cut into pieces where they can be read apart.
+//! A text that is cut into pieces where they can be read by themselves.
 
 ghost use Rattle.std.specs.Prelude.{◌≡◌, ◌≤◌, ◌<◌, length, IfOk, IfSome};
 ghost use Rattle.vme_text_workers.specs.Cuts.{ArePiecesOf, IsCutIn};

@@ -9,7 +9,8 @@ use std::alloc::{AllocError, Global};
 use std::sync::atomic::{AtomicUsize, Ordering};
 use std::thread::{Threads, join_mut};
 
-/// Calls `f` at this place, and keeps what it returns. It stands apart, so that `call_both` takes no room for it.
+/// Calls `f` at this place, and keeps what it returns. It is a function of its own, so that `call_both` takes no room
+/// for it.
 #[inline(never)]
 fn call_at<X: Drop, F: Fn(usize) -> Option<X>>(f: &F, place: usize, given: &mut Option<X>)
     requires { F.pre f.now place }

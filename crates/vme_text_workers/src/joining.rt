@@ -20,23 +20,23 @@ use vme_trace::{Step, StepVisitor};
 #[derive(Drop)]
 pub(crate) struct JoinedPieces<J: ChunkJudge> {
     /// How far the recording is made behind those.
-    pub wave: SpeculativeReader,
+    pub speculative: SpeculativeReader,
     /// What judged it.
-    pub watch: StreamJudge<J>,
+    pub stream_judge: StreamJudge<J>,
     /// How many were joined.
     pub count: usize,
 }
 
 /// A piece, if it was read and fits.
 fn if_fits<J: ChunkJudge>(
-    wave: &SpeculativeReader,
+    speculative: &SpeculativeReader,
     ahead: Option<(SpeculativeChunk, JudgedChunks<J>)>,
 ) -> Option<(SpeculativeChunk, JudgedChunks<J>)>
     ensures same { IfSome result (λ a. ahead ≡ Some a) }
-    ensures fits { IfSome result (λ a. MayFollowLevels wave.now a.0) }
+    ensures fits { IfSome result (λ a. MayFollowLevels speculative.now a.0) }
 {
     let (ahead, chunks) = ahead?;
-    if wave.may_join(&ahead) {
+    if speculative.may_join(&ahead) {
         Some((ahead, chunks))
     } else {
         None
@@ -45,32 +45,32 @@ fn if_fits<J: ChunkJudge>(
 
 /// The piece as it was read ahead, or again, if it fits so.
 fn fitting<J: ChunkJudge>(
-    wave: &SpeculativeReader,
+    speculative: &SpeculativeReader,
     ahead: Option<(SpeculativeChunk, JudgedChunks<J>)>,
     again: Option<(SpeculativeChunk, JudgedChunks<J>)>,
 ) -> Option<(SpeculativeChunk, JudgedChunks<J>)>
     ensures same { IfSome result (λ a. (ahead ≡ Some a) ⊎ (again ≡ Some a)) }
-    ensures fits { IfSome result (λ a. MayFollowLevels wave.now a.0) }
+    ensures fits { IfSome result (λ a. MayFollowLevels speculative.now a.0) }
 {
-    if let Some(fit) = if_fits(wave, ahead) {
+    if let Some(fit) = if_fits(speculative, ahead) {
         return Some(fit);
     }
-    if_fits(wave, again)
+    if_fits(speculative, again)
 }
 
 /// Goes past a step, if there is one. The only error is want of memory.
 fn past_step<J: ChunkJudge>(
     alloc: Global,
-    watch: StreamJudge<J>,
+    stream_judge: StreamJudge<J>,
     step: Option<Step>,
 ) -> Result<StreamJudge<J>, AllocError>
-    ensures { IfOk result (λ passed. passed ≡ with_steps watch (step_in step)) }
+    ensures { IfOk result (λ passed. passed ≡ with_steps stream_judge (step_in step)) }
 {
-    let mut watch = watch;
+    let mut stream_judge = stream_judge;
     if let Some(step) = step {
-        watch.step(alloc, step)?;
+        stream_judge.step(alloc, step)?;
     }
-    Ok(watch)
+    Ok(stream_judge)
 }
 
 /// The next piece of these, if there is one and it was read.
@@ -84,39 +84,44 @@ fn next_of<X: Drop>(pieces: &mut IntoIter<Option<X>>) -> Option<X>
 }
 
 /// Joins the pieces in order, up to the first that doesn't fit, and judges their steps. Some were read again. The only
-/// error is want of memory. It stands apart, so that the threads are started where the stack has no room for it yet.
+/// error is want of memory. It is a function of its own, so that the threads are started where the stack has no room
+/// for it yet.
 #[inline(never)]
 pub(crate) fn join_in_order<J: ChunkJudge>(
     alloc: Global,
-    wave: SpeculativeReader,
-    watch: StreamJudge<J>,
+    speculative: SpeculativeReader,
+    stream_judge: StreamJudge<J>,
     pieces: &[DumpPiece<'_>],
     all: Vec<Option<(SpeculativeChunk, JudgedChunks<J>)>>,
     again: Vec<Option<(SpeculativeChunk, JudgedChunks<J>)>>,
 ) -> Result<JoinedPieces<J>, AllocError>
-    requires all { AreAhead wave.body.nets wave.line_bits pieces.now all.items }
-    requires again { AreAhead wave.body.nets wave.line_bits pieces.now again.items }
+    requires all { AreAhead speculative.body.nets speculative.line_bits pieces.now all.items }
+    requires again { AreAhead speculative.body.nets speculative.line_bits pieces.now again.items }
     ensures count { IfOk result (λ joined. joined.count ≤ length pieces.now) }
-    ensures taken { IfOk result (λ joined. AreTaken pieces.now (with_recording watch wave)
-        (with_recording joined.watch joined.wave) (drop joined.count pieces.now)) }
+    ensures taken { IfOk result (λ joined. AreTaken pieces.now (with_recording stream_judge speculative)
+        (with_recording joined.stream_judge joined.speculative) (drop joined.count pieces.now)) }
 {
-    let mut wave = wave;
-    let mut watch = watch;
+    let mut speculative = speculative;
+    let mut stream_judge = stream_judge;
     let mut count = 0;
     let mut again = again.into_iter();
     for ahead in all {
-        if count >= pieces.len() || !watch.leaves(alloc, wave.shown())? {
+        if count >= pieces.len() || !stream_judge.leaves(alloc, speculative.shown())? {
             break;
         }
         let anew = next_of(&mut again);
-        let Some((ahead, chunks)) = fitting(&wave, ahead, anew) else {
+        let Some((ahead, chunks)) = fitting(&speculative, ahead, anew) else {
             break;
         };
-        let (behind, step) = wave.join(alloc, ahead)?;
-        wave = behind;
-        watch = past_step(alloc, watch, step)?;
-        watch = chunks.pass(alloc, watch)?;
+        let (behind, step) = speculative.join(alloc, ahead)?;
+        speculative = behind;
+        stream_judge = past_step(alloc, stream_judge, step)?;
+        stream_judge = chunks.pass(alloc, stream_judge)?;
         count += 1;
     }
-    Ok(JoinedPieces { wave, watch, count })
+    Ok(JoinedPieces {
+        speculative,
+        stream_judge,
+        count,
+    })
 }

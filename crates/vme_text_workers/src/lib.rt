@@ -2,7 +2,7 @@
 //!
 //! # Parts
 //!
-//! - `wave`: [`read_by_workers`] does with a piece what `TextPieces::read` of vme_bind does. What
+//! - `by_workers`: [`read_by_workers`] does with a piece what `TextPieces::read` of vme_bind does. What
 //!   stands before its first time and behind its last is read in order.
 //! - `cut`: the rest is cut where times begin.
 //! - `speculative`, `chunks`: each part is read ahead of those before it, from the levels that
@@ -31,9 +31,10 @@
 //! # Limits
 //!
 //! The levels before a part are guessed by the 16,384 bytes before it. Steps are judged 16,384 at a
-//! time. Start reading at `wave`; docs/ARCHITECTURE.md has the picture.
+//! time. Start reading at `by_workers`; docs/ARCHITECTURE.md has the picture.
 #![tactic(auto)]
 
+mod by_workers;
 mod chunks;
 mod cut;
 mod detached;
@@ -41,7 +42,6 @@ mod in_order;
 mod joining;
 mod speculation;
 mod speculative;
-mod wave;
 
+pub use by_workers::read_by_workers;
 pub use speculation::Speculation;
-pub use wave::read_by_workers;

@@ -1,8 +1,8 @@
-//! Whether the levels that stand before pieces can be guessed.
+//! Whether the levels that stand before pieces can be assumed.
 
 use std::cell::Cell;
 
-/// Whether the levels that stand before some pieces were guessed wrong. What the next pieces do to the lines is then
+/// Whether the levels that stand before some pieces were assumed wrongly. What the next pieces do to the lines is then
 /// read first. How long reading takes depends on it, and no answer.
 #[derive(Drop)]
 pub struct Speculation {

@@ -31,25 +31,25 @@ fn last_lines(bytes: &[u8]) -> Option<&[u8]> {
 /// `SpeculativeReader::read_ahead` gives none.
 fn read_levels(
     alloc: Global,
-    wave: &SpeculativeReader,
+    speculative: &SpeculativeReader,
     bytes: &[u8],
     line: u64,
 ) -> Option<SpeculativeChunk> {
-    let now = wave.now();
-    let (ahead, _) = wave.read_ahead(alloc, bytes, line, now, DiscardSteps::new(now))?;
+    let now = speculative.now();
+    let (ahead, _) = speculative.read_ahead(alloc, bytes, line, now, DiscardSteps::new(now))?;
     Some(ahead)
 }
 
 /// The levels that likely stand behind a piece: those that its last lines lead to, from the levels before all pieces. A
 /// line that changed earlier than in those is taken to have its first level still.
-fn likely_behind(alloc: Global, wave: &SpeculativeReader, piece: DumpPiece<'_>) -> Lines
+fn likely_behind(alloc: Global, speculative: &SpeculativeReader, piece: DumpPiece<'_>) -> Lines
     ensures { length result.levels ≡ line_count }
 {
-    let now = *wave.now();
+    let now = *speculative.now();
     let Some(bytes) = last_lines(piece.bytes) else {
         return now;
     };
-    match read_levels(alloc, wave, bytes, piece.line) {
+    match read_levels(alloc, speculative, bytes, piece.line) {
         Some(ahead) => *ahead.levels(),
         None => now,
     }
@@ -59,16 +59,16 @@ fn likely_behind(alloc: Global, wave: &SpeculativeReader, piece: DumpPiece<'_>) 
 /// none.
 fn read_ahead<J: ChunkJudge>(
     alloc: Global,
-    wave: &SpeculativeReader,
+    speculative: &SpeculativeReader,
     piece: DumpPiece<'_>,
     levels: &Lines,
 ) -> Option<(SpeculativeChunk, JudgedChunks<J>)>
     requires { length levels.now.levels ≡ line_count }
     ensures { IfSome result (λ ahead.
-        IsJudgedAhead wave.now.body.nets wave.now.line_bits piece.entry.bytes.now ahead.1 ahead.0) }
+        IsJudgedAhead speculative.now.body.nets speculative.now.line_bits piece.entry.bytes.now ahead.1 ahead.0) }
 {
     let chunks = ChunkBuffer::new(alloc, levels);
-    let (ahead, chunks) = wave.read_ahead(alloc, piece.bytes, piece.line, levels, chunks)?;
+    let (ahead, chunks) = speculative.read_ahead(alloc, piece.bytes, piece.line, levels, chunks)?;
     match chunks.finish(alloc) {
         Ok(chunks) => Some((ahead, chunks)),
         Err(_) => None,
@@ -76,14 +76,14 @@ fn read_ahead<J: ChunkJudge>(
 }
 
 /// Reads each piece ahead from the levels that likely stand before it, by so many threads.
-pub(crate) fn read_each_guessed<R: Threads + Sync, J: ChunkJudge + Send>(
+pub(crate) fn read_each_speculatively<R: Threads + Sync, J: ChunkJudge + Send>(
     rt: &R,
     alloc: Global,
     threads: usize,
-    wave: &SpeculativeReader,
+    speculative: &SpeculativeReader,
     pieces: &[DumpPiece<'_>],
 ) -> Result<Vec<Option<(SpeculativeChunk, JudgedChunks<J>)>>, AllocError>
-    ensures { IfOk result (λ all. AreAhead wave.now.body.nets wave.now.line_bits pieces.now all.items) }
+    ensures { IfOk result (λ all. AreAhead speculative.now.body.nets speculative.now.line_bits pieces.now all.items) }
 {
     let all = map_places(
         rt,
@@ -92,14 +92,14 @@ pub(crate) fn read_each_guessed<R: Threads + Sync, J: ChunkJudge + Send>(
         pieces.len(),
         &|place: usize| -> Option<(SpeculativeChunk, JudgedChunks<J>)>
             requires { place < length pieces.now }
-            ensures { IsAheadAt wave.entry.now pieces.entry.now place result }
+            ensures { IsAheadAt speculative.entry.now pieces.entry.now place result }
         {
             let levels = if place == 0 {
-                *wave.now()
+                *speculative.now()
             } else {
-                likely_behind(alloc, wave, pieces[place - 1])
+                likely_behind(alloc, speculative, pieces[place - 1])
             };
-            read_ahead(alloc, wave, pieces[place], &levels)
+            read_ahead(alloc, speculative, pieces[place], &levels)
         },
     )?;
     Ok(all)
@@ -117,13 +117,13 @@ fn behind(ahead: &SpeculativeChunk, before: &Lines) -> Option<Lines>
 }
 
 /// The levels before each piece: what the pieces before it do to the lines is read first, by so many threads.
-/// They aren't known behind a piece that can't be read ahead. Whether a guess would have been wrong is noted. The only
-/// error is want of memory.
+/// They aren't known behind a piece that can't be read ahead. Whether an assumption would have been wrong is noted. The
+/// only error is want of memory.
 pub(crate) fn levels_before_each<R: Threads + Sync>(
     rt: &R,
     alloc: Global,
     threads: usize,
-    wave: &SpeculativeReader,
+    speculative: &SpeculativeReader,
     pieces: &[DumpPiece<'_>],
     speculation: &Speculation,
 ) -> Result<Vec<Option<Lines>>, AllocError>
@@ -138,12 +138,12 @@ pub(crate) fn levels_before_each<R: Threads + Sync>(
             requires { place < length pieces.now }
         {
             let piece = pieces[place];
-            let ahead = read_levels(alloc, wave, piece.bytes, piece.line)?;
-            Some((ahead, likely_behind(alloc, wave, piece)))
+            let ahead = read_levels(alloc, speculative, piece.bytes, piece.line)?;
+            Some((ahead, likely_behind(alloc, speculative, piece)))
         },
     )?;
     let mut levels = Vec::new(alloc);
-    let mut before = *wave.now();
+    let mut before = *speculative.now();
     let mut wrong = false;
     levels.push(Some(before))?;
     for one in &read {
@@ -165,13 +165,13 @@ pub(crate) fn levels_before_each<R: Threads + Sync>(
 /// They aren't known behind a piece that wasn't read ahead. The only error is want of memory.
 pub(crate) fn levels_to_read_again<J: ChunkJudge>(
     alloc: Global,
-    wave: &SpeculativeReader,
+    speculative: &SpeculativeReader,
     all: &[Option<(SpeculativeChunk, JudgedChunks<J>)>],
 ) -> Result<Vec<Option<Lines>>, AllocError>
     ensures { IfOk result (λ levels. AreWhole levels.items) }
 {
     let mut again = Vec::new(alloc);
-    let mut before = *wave.now();
+    let mut before = *speculative.now();
     for one in all {
         let Some((ahead, _)) = one else {
             break;
@@ -194,12 +194,12 @@ pub(crate) fn read_from<R: Threads + Sync, J: ChunkJudge + Send>(
     rt: &R,
     alloc: Global,
     threads: usize,
-    wave: &SpeculativeReader,
+    speculative: &SpeculativeReader,
     pieces: &[DumpPiece<'_>],
     levels: &[Option<Lines>],
 ) -> Result<Vec<Option<(SpeculativeChunk, JudgedChunks<J>)>>, AllocError>
     requires { AreWhole levels.now }
-    ensures { IfOk result (λ all. AreAhead wave.now.body.nets wave.now.line_bits pieces.now all.items) }
+    ensures { IfOk result (λ all. AreAhead speculative.now.body.nets speculative.now.line_bits pieces.now all.items) }
 {
     if levels.iter().all(|one| one.is_none()) {
         return Ok(Vec::new(alloc));
@@ -211,13 +211,13 @@ pub(crate) fn read_from<R: Threads + Sync, J: ChunkJudge + Send>(
         pieces.len(),
         &|place: usize| -> Option<(SpeculativeChunk, JudgedChunks<J>)>
             requires { (place < length pieces.now) × AreWhole levels.now }
-            ensures { IsAheadAt wave.entry.now pieces.entry.now place result }
+            ensures { IsAheadAt speculative.entry.now pieces.entry.now place result }
         {
             if place >= levels.len() {
                 return None;
             }
             match &levels[place] {
-                Some(before) => read_ahead(alloc, wave, pieces[place], before),
+                Some(before) => read_ahead(alloc, speculative, pieces[place], before),
                 None => None,
             }
         },

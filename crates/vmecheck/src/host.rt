@@ -6,7 +6,7 @@ use std::fs::{self, File, Metadata};
 use std::io::{self, ErrorKind, IsTerminal, Read, Stdin, Write};
 use std::os::unix::fs::MetadataExt;
 use vme_explain::{FileId, Present, is_save_file};
-use vme_program::{Surroundings, Written};
+use vme_program::{Environment, Written};
 use vme_stream::Io;
 use vme_trace::{Failed, Source};
 
@@ -60,7 +60,7 @@ impl<'a> Host<'a> {
 }
 
 // What a file, standard input or a path gives is nothing that a contract can say.
-impl Surroundings for Host<'_> {
+impl Environment for Host<'_> {
     type Reader = HostReader;
 
     ghost opens = { λ _ _ _. Unit {0} };

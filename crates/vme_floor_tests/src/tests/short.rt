@@ -1,7 +1,7 @@
 //! Runs where memory is refused once.
 
 use super::recordings::{READ_ROWS, picked_of};
-use super::{CONFORMING, Outcome, Told, told_of};
+use super::{CONFORMING, Outcome, RunOutcome, told_of};
 use std::process::Abort;
 use std::test::Fail;
 use vme_floor::Answer;
@@ -17,7 +17,7 @@ fn is_short(deliveries: &[Block], answers: &[Answer], number: u32) -> bool {
 
 /// Three workers tell what they tell with ample memory, or that it is short: never another verdict, nor that blocks are
 /// torn or stray.
-fn assert_run(rt: &impl Abort, deliveries: &[Block], told: &Told) {
+fn assert_run(rt: &impl Abort, deliveries: &[Block], told: &RunOutcome) {
     match told.outcome {
         Outcome::Judged(_) => {
             assert!(rt; told.outcome == CONFORMING && told.steps == 14);

@@ -1,7 +1,7 @@
 use Rattle.std.proofs.Common.{sym, ap, ◌∙◌}
 use Rattle.vcd_read.specs.Reading.{left_at, token_at}
 use Rattle.vcd_read.specs.Shapes.{found_shape}
-use Rattle.vcd_read.proofs.ApartLemmas.{first-read}
+use Rattle.vcd_read.proofs.DetachedLemmas.{first-read}
 use Rattle.vcd_read.proofs.detached_piece.first_time.Goals as goal
 
 pub returns-in-Ok : goal.returns-in-Ok

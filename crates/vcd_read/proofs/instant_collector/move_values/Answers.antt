@@ -1,6 +1,6 @@
 use Rattle.std.proofs.Common.{◌≡◌, ◌<◌, None, Some, length, get_or, sym, ◌∙◌, arith}
 use Rattle.std.proofs.lemmas.List.{get_or_read}
-use Rattle.vcd_read.proofs.WavesLemmas.{moved_some, moved_none, moved_all}
+use Rattle.vcd_read.proofs.TimedVisitorLemmas.{moved_some, moved_none, moved_all}
 use Rattle.vcd_read.proofs.instant_collector.move_values.Goals as goal
 use Rattle.vcd_read.proofs.instant_collector.move_values.Goals.{in-Some, in_default}
 

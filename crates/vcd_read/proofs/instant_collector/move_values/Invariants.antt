@@ -1,5 +1,5 @@
 use Rattle.std.proofs.Common.{◌≡◌, ◌≤◌, vec_len, vec_capacity}
-use Rattle.vcd_read.proofs.WavesLemmas.{IsMoved}
+use Rattle.vcd_read.proofs.TimedVisitorLemmas.{IsMoved}
 use Rattle.vcd_read.proofs.instant_collector.move_values.Given as goal
 
 abbrev pub invariant-loop-net : goal.invariant-loop-net

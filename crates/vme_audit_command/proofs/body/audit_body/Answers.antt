@@ -4,9 +4,10 @@ use Rattle.vme_audit_command.specs.Bodies.{EndsBehind}
 use Rattle.vme_audit_command.specs.DumpAudits.{lines_of}
 use Rattle.vme_audit_command.specs.SettledReadings.{settled_by}
 use Rattle.vme_step_reader.specs.StepReading.{whole_reading}
-use Rattle.vme_audit_command.proofs.Underway.{given-next, no-more-ends, takes-some, underway-ends, underway-fails}
-use Rattle.vme_audit_command.proofs.Underway.{underway-first, underway-last, underway-on, underway-read, underway-stops}
-use Rattle.vme_audit_command.proofs.Underway.{unread-ends}
+use Rattle.vme_audit_command.proofs.BodyPieces.{given-next, no-more-ends, takes-some, underway-ends, underway-fails}
+use Rattle.vme_audit_command.proofs.BodyPieces.{underway-first, underway-last, underway-on, underway-read}
+use Rattle.vme_audit_command.proofs.BodyPieces.{underway-stops}
+use Rattle.vme_audit_command.proofs.BodyPieces.{unread-ends}
 use Rattle.vme_audit_command.proofs.Later.{kept-none, later-both, later-ok}
 use Rattle.vme_audit_command.proofs.body.audit_body.Goals as goal
 
@@ -95,7 +96,7 @@ returns-in-Err-read-clause-audits g c = λ skew first.
     c.drop_first.new.self c.drop_first.ensures takes in
     underway-ends skew head source now old then c.args.auditor.now later c.args.reader next c.args.input.now
     c.drop_first.new.self on {A = Unit {0}} later then (Err c.not_read.result)
-    (λ rest. no-more-ends c.reading_goes_on.ensures.breaks c.given_is_a_front.ensures c.times_go_on.ensures.follows
+    (λ rest. no-more-ends c.reading_goes_on.ensures.breaks c.given_is_a_prefix.ensures c.times_go_on.ensures.follows
     c.times_go_on.ensures.on head skew c.audit_piece.new.settler later next given then c.in-Err-read.fault
     c.not_read.result later.recording c.not_read.ensures
     (c.drop_first.new.self ++ rest))
@@ -137,7 +138,7 @@ returns-clause-audits g c = λ skew first.
     underway-ends skew head (g.D.Source.reading c.args.dump.now) (g.D.Source.reading c.loop.dump)
     (g.O.Sink.writing c.args.out.now) new c.args.auditor.now c.loop.auditor c.args.reader c.loop.reader
     c.args.input.now c.loop.input u {A = Unit {0}} c.loop.auditor new (Err CannotRead)
-    (λ rest. unread-ends c.reading_goes_on.ensures.breaks c.given_is_a_front.ensures c.times_go_on.ensures.follows
+    (λ rest. unread-ends c.reading_goes_on.ensures.breaks c.given_is_a_prefix.ensures c.times_go_on.ensures.follows
     c.times_go_on.ensures.on head skew c.loop.settler c.loop.auditor
     c.loop.reader h new (Unit {0}) c.loop.auditor.recording (c.loop.input ++ rest))
 

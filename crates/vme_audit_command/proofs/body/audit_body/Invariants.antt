@@ -1,7 +1,7 @@
 -- The body is audited as far as it is read, by any skew.
 use Rattle.std.proofs.Common.{ℕ, Option}
 use Rattle.vme_audit_command.specs.Bodies.{HasGiven}
-use Rattle.vme_audit_command.proofs.Underway.{IsUnderway}
+use Rattle.vme_audit_command.proofs.BodyPieces.{IsUnderway}
 use Rattle.vme_audit_command.proofs.body.audit_body.Given as goal
 
 abbrev pub invariant-loop : goal.invariant-loop

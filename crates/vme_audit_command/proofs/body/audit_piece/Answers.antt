@@ -2,14 +2,14 @@ use Rattle.std.proofs.Common.{◌++◌, []}
 use Rattle.vme_trace.specs.Followed.{with_steps}
 use Rattle.vme_step_reader.specs.StepReading.{whole_reading}
 use Rattle.vme_audit_command.specs.SettledReadings.{settled_so_far}
-use Rattle.vme_audit_command.proofs.Given.{piece-cut, piece-steps, piece-taken}
+use Rattle.vme_audit_command.proofs.GivenPieces.{piece-cut, piece-steps, piece-taken}
 use Rattle.vme_audit_command.proofs.Later.{later-by, none-kept}
 use Rattle.vme_audit_command.proofs.Onward.{to-next}
 use Rattle.vme_audit_command.proofs.body.audit_piece.Goals as goal
 
 pub returns-in-Ok-audit_settled-clause-takes : goal.returns-in-Ok-audit_settled-clause-takes
 returns-in-Ok-audit_settled-clause-takes g c = λ skew h.
-    let front = c.given_is_a_front.ensures in
+    let front = c.given_is_a_prefix.ensures in
     let law = c.times_go_on.ensures in
     let audit = c.args.auditor.now in
     let settler = c.args.settler.now in
@@ -34,7 +34,7 @@ returns-in-Ok-audit_settled-clause-takes g c = λ skew h.
 
 pub returns-in-Err-audit_settled-clause-takes : goal.returns-in-Err-audit_settled-clause-takes
 returns-in-Err-audit_settled-clause-takes g c = λ skew h rest.
-    let front = c.given_is_a_front.ensures in
+    let front = c.given_is_a_prefix.ensures in
     let law = c.times_go_on.ensures in
     let audit = c.args.auditor.now in
     let settler = c.args.settler.now in
@@ -70,7 +70,7 @@ returns-in-Ok-audit_settled-clause-kept g c = λ skew h.
     let steps = c.in-Ok.steps.items in
     let time = c.time-time.result in
     let made = c.in-Ok.ensures in
-    let to = piece-steps c.given_is_a_front.ensures law.follows law.within law.on skew settler audit r h c.in-Ok.reader
+    let to = piece-steps c.given_is_a_prefix.ensures law.follows law.within law.on skew settler audit r h c.in-Ok.reader
     steps c.in-Ok.count c.args.bytes.now made.taken made.given time c.time-time.ensures made.formed in
     let on = to-next skew settler r.given from audit.recording h.comes steps time to in
     none-kept audit c.audit_settled.new.auditor c.going_on.result

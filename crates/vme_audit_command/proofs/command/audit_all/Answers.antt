@@ -1,5 +1,5 @@
 use Rattle.std.proofs.Common.{rules}
-use Rattle.vme_bind.proofs.SoughtLemmas.{stepped_rest}
+use Rattle.vme_bind.proofs.PathSearchLemmas.{stepped_rest}
 use Rattle.vme_audit_command.proofs.AnswerLemmas.{rules_by}
 use Rattle.vme_audit_command.proofs.SeveralLemmas.{cannot-on, tells-all, tells-on}
 use Rattle.vme_audit_command.proofs.command.audit_all.Goals as goal

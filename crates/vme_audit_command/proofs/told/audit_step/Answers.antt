@@ -15,10 +15,10 @@ returns-in-Ok-Some-clause-told g c =
     let steps = c.args.step.now ∷ [] in
     let found = c.in-Ok-Some.found in
     let b = as_break found.found in
-    let line : List ℕ = head ++ line_of (audit_break_text found.standing b) in
+    let line : List ℕ = head ++ line_of (audit_break_text found.category b) in
     let is : line ≡ line_of_break audit.allowances audit.stop head b =
     ap (λ s. head ++ line_of (audit_break_text s b))
-    (rw c.in-Ok-Some.field-0-is at c.in-Ok-Some.ensures.standing) in
+    (rw c.in-Ok-Some.field-0-is at c.in-Ok-Some.ensures.category) in
     λ formed few.
     let here : malformed_step c.take.new.self.recording ≡ None =
     ap (λ a. malformed_step a.recording) c.in-Ok-Some.ensures.given ∙ formed in

@@ -15,7 +15,7 @@ returns c =
       c.in_ok-push-2.ensures.ok,
       c.in_ok-push.ensures.ok,
       c.new-text.ensures,
-      c.standing_name.ensures,
+      c.category_name.ensures,
       c.as_bytes.ensures.bytes,
       c.name-rule.ensures,
       c.as_bytes-2.ensures.bytes,

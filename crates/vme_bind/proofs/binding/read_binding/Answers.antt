@@ -1,6 +1,6 @@
 use Rattle.std.proofs.Common.{ℕ, ap, sym, ◌∙◌}
 use Rattle.vme_bind.specs.Text.{end_line}
-use Rattle.vme_bind.specs.Reading.{left, saying}
+use Rattle.vme_bind.specs.Reading.{left, as_text}
 use Rattle.vme_bind.specs.Binding.{bound_all, finished, no_assignments, with_left_out}
 use Rattle.vme_bind.proofs.BindingLemmas.{says_nothing, no_slots, some_slots, is_whole, lacks, fails_first, gives_err}
 use Rattle.vme_bind.proofs.binding.read_binding.Goals as goal
@@ -12,7 +12,7 @@ returns-in_default c =
 
 pub returns-in_default-lines_of : goal.returns-in_default-lines_of
 returns-in_default-lines_of c =
-    no_slots c.args.text.now (saying c.in-Some.first) (left c.next.new.self) (sym c.new-statements.ensures.left
+    no_slots c.args.text.now (as_text c.in-Some.first) (left c.next.new.self) (sym c.new-statements.ensures.left
     ∙ c.in-Some.ensures.left) c.in_default-lines_of.ensures.slots
 
 pub returns-in_err-bind_all : goal.returns-in_err-bind_all
@@ -20,7 +20,8 @@ returns-in_err-bind_all c =
     let text = c.args.text.now in
     let slots = c.in-Some-lines_of.lines.slots in
     let fault = c.in_err-bind_all.field-0.0 in
-    let whole = some_slots text (saying c.in-Some.first) (left c.next.new.self) slots (sym c.new-statements.ensures.left
+    let whole = some_slots text (as_text c.in-Some.first) (left c.next.new.self) slots
+    (sym c.new-statements.ensures.left
     ∙ c.in-Some.ensures.left) c.in-Some-lines_of.ensures.slots in
     let h = rw c.new-binding.ensures at c.in_err-bind_all.ensures.bound in
     gives_err _ c.from_residual.result fault _ c.from_residual.ensures.1
@@ -30,7 +31,8 @@ pub returns-in-Some-least_unbound : goal.returns-in-Some-least_unbound
 returns-in-Some-least_unbound c =
     let text = c.args.text.now in
     let slots = c.in-Some-lines_of.lines.slots in
-    let whole = some_slots text (saying c.in-Some.first) (left c.next.new.self) slots (sym c.new-statements.ensures.left
+    let whole = some_slots text (as_text c.in-Some.first) (left c.next.new.self) slots
+    (sym c.new-statements.ensures.left
     ∙ c.in-Some.ensures.left) c.in-Some-lines_of.ensures.slots in
     let h = rw c.new-binding.ensures at c.in_ok-bind_all.ensures.bound in
     let end = c.in_ok-bind_all.ensures.end ∙ c.in-Some.ensures.last ∙ c.new-statements.ensures.last in
@@ -45,7 +47,8 @@ pub returns-in-None : goal.returns-in-None
 returns-in-None c =
     let text = c.args.text.now in
     let slots = c.in-Some-lines_of.lines.slots in
-    let whole = some_slots text (saying c.in-Some.first) (left c.next.new.self) slots (sym c.new-statements.ensures.left
+    let whole = some_slots text (as_text c.in-Some.first) (left c.next.new.self) slots
+    (sym c.new-statements.ensures.left
     ∙ c.in-Some.ensures.left) c.in-Some-lines_of.ensures.slots in
     let h = rw c.new-binding.ensures at c.in_ok-bind_all.ensures.bound in
     let end = c.in_ok-bind_all.ensures.end ∙ c.in-Some.ensures.last ∙ c.new-statements.ensures.last in

@@ -1,6 +1,6 @@
 use Rattle.std.proofs.Common.{rules, ap, sym, ◌∙◌}
 use Rattle.vme_bind.specs.PathSearch.{opened}
-use Rattle.vme_bind.proofs.SoughtLemmas.{stepped, stepped_rest}
+use Rattle.vme_bind.proofs.PathSearchLemmas.{stepped, stepped_rest}
 use Rattle.vme_bind.proofs.search.open_all.Goals as goal
 
 pub loop-s-preserved : goal.loop-s-preserved

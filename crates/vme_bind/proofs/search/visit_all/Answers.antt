@@ -3,7 +3,7 @@ use Rattle.std.proofs.lemmas.List.Elements.{All-set}
 use Rattle.vcd_read.specs.Header.{variable_in}
 use Rattle.vme_bind.specs.declared.path_search.PathSearch.{PathSearch}
 use Rattle.vme_bind.specs.PathSearch.{HasOpened, seen_in, with_candidate}
-use Rattle.vme_bind.proofs.SoughtLemmas.{same_begun, stepped_by, stepped_rest}
+use Rattle.vme_bind.proofs.PathSearchLemmas.{same_begun, stepped_by, stepped_rest}
 use Rattle.vme_bind.proofs.search.visit_all.Goals as goal
 
 pub visit-requires-clause-begun : goal.visit-requires-clause-begun

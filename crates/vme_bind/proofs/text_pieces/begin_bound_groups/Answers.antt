@@ -1,5 +1,5 @@
 use Rattle.vcd_read.specs.Reached.{reached}
-use Rattle.vme_bind.specs.Made.{Made}
+use Rattle.vme_bind.specs.BuilderState.{BuilderState}
 use Rattle.vme_bind.proofs.TextPieceLemmas.{begun-outcome}
 use Rattle.vme_bind.proofs.TextReadingLemmas.{begun_formed, begun_reading}
 use Rattle.vme_bind.proofs.text_pieces.begin_bound_groups.Goals as goal
@@ -8,19 +8,19 @@ pub returns-in-Ok-clause-rest : goal.returns-in-Ok-clause-rest
 returns-in-Ok-clause-rest g c = λ more.
     let read = c.before_body-pieces.ensures in
     begun-outcome c.args.fault c.args.lines.now.slots c.args.bound_groups.now c.args.front.head c.in-Ok.made
-    (reached (λ (made : Made). made) c.before_body-pieces.result.0) _ more
+    (reached (λ (made : BuilderState). made) c.before_body-pieces.result.0) _ more
     c.in-Ok.ensures read.nets read.progress read.bracket read.place read.body
 
 pub returns-in-Ok-clause-reading : goal.returns-in-Ok-clause-reading
 returns-in-Ok-clause-reading g c = λ more.
     let read = c.before_body-pieces.ensures in
     begun_reading c.args.fault c.args.lines.now.slots c.args.bound_groups.now c.args.front.head c.in-Ok.made
-    (reached (λ (made : Made). made) c.before_body-pieces.result.0) _ more
+    (reached (λ (made : BuilderState). made) c.before_body-pieces.result.0) _ more
     c.in-Ok.ensures read.nets read.progress read.bracket read.place read.body
 
 pub returns-in-Ok-clause-formed : goal.returns-in-Ok-clause-formed
 returns-in-Ok-clause-formed g c = λ ts more.
     let read = c.before_body-pieces.ensures in
     begun_formed c.args.lines.now.slots c.args.bound_groups.now c.in-Ok.made
-    (reached (λ (made : Made). made) c.before_body-pieces.result.0) ts more
+    (reached (λ (made : BuilderState). made) c.before_body-pieces.result.0) ts more
     c.in-Ok.ensures read.progress read.bracket read.place

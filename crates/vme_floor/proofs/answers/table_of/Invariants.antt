@@ -1,4 +1,4 @@
-use Rattle.vme_floor.specs.Settling.{IsTable}
+use Rattle.vme_floor.specs.Accounts.{IsTable}
 use Rattle.vme_floor.proofs.answers.table_of.Given as goal
 
 abbrev pub invariant-loop-i : goal.invariant-loop-i

@@ -3,7 +3,7 @@ use Rattle.vme_core.specs.declared.view.View.{View}
 use Rattle.vme_board.specs.Benches.{view_of}
 use Rattle.vme_floor.specs.Claims.{IsEarly}
 use Rattle.vme_floor.specs.Collecting.{IsCollected}
-use Rattle.vme_floor.specs.Settling.{IsAccount, IsOwnEarly}
+use Rattle.vme_floor.specs.Accounts.{IsAccount, IsOwnEarly}
 use Rattle.vme_floor.specs.declared.report.Report.{Report}
 use Rattle.vme_floor.specs.declared.report.RunFault.{RunFault}
 use Rattle.vme_floor.proofs.runner.run_deliveries.Goals as goal
@@ -25,5 +25,5 @@ returns-in-Ok-close-clause-early g c =
     let account : IsAccount c.args.total c.args.deliveries.now v all.work.replies.items all.collection
     c.in-Ok-close.closed = search rules in
     both_early c.args.total c.args.workers (IsOwnEarly c.args.total c.args.deliveries.now all.work.replies.items
-    all.collection c.in-Ok-close.closed) c.settle.result c.settle.ensures.within c.settle.ensures.own
+    all.collection c.in-Ok-close.closed) c.finish_run.result c.finish_run.ensures.within c.finish_run.ensures.own
     (λ early own one. own v account (c.in-Ok-work_together.ensures.own one))

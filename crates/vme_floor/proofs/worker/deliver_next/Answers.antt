@@ -7,7 +7,7 @@ use Rattle.vme_board.specs.Benches.{draws_of, total_of, view_of}
 use Rattle.vme_floor.specs.Answering.{Suits}
 use Rattle.vme_floor.specs.declared.answer.Answer.{Answer}
 use Rattle.vme_floor.specs.declared.answer.Reply.{Reply}
-use Rattle.vme_floor.specs.Settling.{reply_of}
+use Rattle.vme_floor.specs.Accounts.{reply_of}
 use Rattle.vme_floor.specs.Works.{number_at, number_in, IsKnownFiled, IsWork, Lists}
 use Rattle.vme_floor.proofs.Collecting.{sees_on}
 use Rattle.vme_floor.proofs.Working.{left_less, old_or_filed, unrefused, works_on}

@@ -3,7 +3,7 @@ use Rattle.std.proofs.lemmas.List.{take_all, take_more}
 use Rattle.std.proofs.lemmas.Option.{slice_get-get_or}
 use Rattle.vme_monitor.specs.Meeting.{memories_in}
 use Rattle.vme_monitor.specs.Walk.{outcome_of}
-use Rattle.vme_monitor.proofs.Seats.{apart_more, memories_pushed, stamped_more}
+use Rattle.vme_monitor.proofs.LastSeen.{apart_more, memories_pushed, stamped_more}
 use Rattle.vme_monitor.proofs.merge.have_merged.Goals as goal
 
 pub loop-row-preserved : goal.loop-row-preserved

@@ -1,7 +1,7 @@
 use Rattle.std.proofs.Common.{map, take}
 use Rattle.vme_monitor.specs.Meeting.{AreDistinct, memories_in}
 use Rattle.vme_monitor.specs.Walk.{outcome_of}
-use Rattle.vme_monitor.proofs.Seats.{AreStamped}
+use Rattle.vme_monitor.proofs.LastSeen.{AreStamped}
 use Rattle.vme_monitor.proofs.merge.have_merged.Given as goal
 
 abbrev pub invariant-loop-row : goal.invariant-loop-row

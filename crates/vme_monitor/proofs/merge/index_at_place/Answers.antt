@@ -1,6 +1,6 @@
 use Rattle.std.proofs.Common.{length, refl, sym, ◌∙◌}
 use Rattle.std.proofs.lemmas.Option.{slice_get-get_or, slice_get_read}
-use Rattle.vme_monitor.proofs.Seats.{seated_beyond, seated_other, seated_past}
+use Rattle.vme_monitor.proofs.LastSeen.{seated_beyond, seated_other, seated_past}
 use Rattle.vme_monitor.proofs.merge.index_at_place.Goals as goal
 
 pub returns-then-place-last_seen-clause-none : goal.returns-then-place-last_seen-clause-none

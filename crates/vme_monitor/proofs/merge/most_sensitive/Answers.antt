@@ -1,7 +1,7 @@
 use Rattle.std.proofs.Common.{◌≤◌, arith, take}
 use Rattle.std.proofs.lemmas.List.{take_all}
 use Rattle.std.proofs.lemmas.List.Elements.{All-more}
-use Rattle.vme_monitor.proofs.Alert.{no_more}
+use Rattle.vme_monitor.proofs.Sensitivity.{no_more}
 use Rattle.vme_monitor.proofs.merge.most_sensitive.Goals as goal
 use Rattle.vme_monitor.proofs.merge.most_sensitive.Goals.{then-most-sensitivity, else-most-sensitivity}
 

@@ -14,7 +14,7 @@ returns-in_ok-push g c =
     record {
       reached = λ k. rw (c.in_ok-push.ensures.items, e, m.1) (reach-rejoin (link_values c.args.layers.now.items) m.0
           (map outcome_of c.args.rows.now.items) (map link_value c.in_ok-links.links.items) k m.2);
-      alert = λ a. rw c.as_slice-then-have_merged.ensures.value at c.most_sensitive.ensures;
+      bounded = λ a. rw c.as_slice-then-have_merged.ensures.value at c.most_sensitive.ensures;
       apart = c.in_ok-links.ensures.apart;
       among = c.in_ok-links.ensures.among;
       marks = rw (c.in_ok-push.ensures.items, e, m.1) (marks_rejoined (link_values c.args.layers.now.items) m.0

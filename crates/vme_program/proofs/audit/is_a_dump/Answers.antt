@@ -11,7 +11,7 @@ returns-then-eq-clause-yes g c =
       record { name = c.named-item.result.name.now; dump = g.S.Reader.Source.reading c.named-item.result.dump },
       contains-mapped (λ d. record { name = d.name.now; dump = g.S.Reader.Source.reading d.dump }) c.args.dumps.now
           c.loop-named.named-index c.named-item.result (search rules) c.named-item.is,
-      subst (IsFileOf g.S.Surroundings c.args.surroundings.now
+      subst (IsFileOf g.S.Environment c.args.environment.now
           (record { name = c.named-item.result.name.now; dump = g.S.Reader.Source.reading c.named-item.result.dump }))
           same c.id_of_dump.ensures,
     )
@@ -21,7 +21,7 @@ loop-named-preserved g c =
     let other : c.id_of_dump.result ≡ Some c.args.id → ⊥ = search rules in
     all-on (λ d. record { name = d.name.now; dump = g.S.Reader.Source.reading d.dump }) c.args.dumps.now
     c.loop-named.named-index c.named-item.result (search rules) c.named-item.is
-    (IsOther g.S.Surroundings c.args.surroundings.now c.args.id) c.loop-named.invariant
+    (IsOther g.S.Environment c.args.environment.now c.args.id) c.loop-named.invariant
     (c.id_of_dump.result, c.id_of_dump.ensures, other)
 
 pub returns-clause-no : goal.returns-clause-no
@@ -32,5 +32,5 @@ returns-clause-no g c = λ _.
     subst (λ n. n ≤ c.loop-named.named-index)
     (sym (length-map c.args.dumps.now (λ d. record { name = d.name.now; dump = g.S.Reader.Source.reading d.dump })))
     short in
-    subst (All (IsOther g.S.Surroundings c.args.surroundings.now c.args.id))
+    subst (All (IsOther g.S.Environment c.args.environment.now c.args.id))
     (take_all c.loop-named.named-index all long) c.loop-named.invariant

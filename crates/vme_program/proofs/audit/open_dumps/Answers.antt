@@ -7,7 +7,7 @@ use Rattle.vme_program.proofs.audit.open_dumps.Goals as goal
 
 pub loop-name-preserved : goal.loop-name-preserved
 loop-name-preserved g c =
-    let Dump = IsDumpOf g.S.Surroundings c.args.surroundings.now in
+    let Dump = IsDumpOf g.S.Environment c.args.environment.now in
     let so_far = take (c.loop-name.name-index + 1) (map string_bytes c.args.names.now) in
     subst (λ l. AllZip Dump so_far (map (λ d. record { name = d.name.now; dump = g.S.Reader.Source.reading d.dump }) l))
     (sym c.in_ok-push-in-Some.ensures.items)

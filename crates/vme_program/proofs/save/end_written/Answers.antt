@@ -1,7 +1,7 @@
 use Rattle.std.proofs.Common.{refl, sym, subst}
 use Rattle.vme_trace.specs.Streams.{Writing}
 use Rattle.vme_program.specs.Saves.{EndsWritten}
-use Rattle.vme_program.specs.declared.surroundings.Written.{Written}
+use Rattle.vme_program.specs.declared.environment.Written.{Written}
 use Rattle.vme_program.proofs.save.end_written.Goals as goal
 
 pub returns-in-Failed : goal.returns-in-Failed

@@ -19,7 +19,8 @@ returns-in-Ok-clause-begins c whole more e =
     ∙ ap (λ (f : Option BindFault). or_fault f (reading_ahead t (tokens_from t.body.line left) more))
     c.in-Ok.ensures.fits
     ∙ ap (λ (t : TextReached). Ok (reading_ahead t (tokens_from t.body.line left) more)) c.in-Ok.ensures.reached
-    ∙ ap (λ (bytes : List ℕ). Ok (reading_ahead (with_recording r.given r.wave) (tokens_from r.wave.body.line bytes)
+    ∙ ap (λ (bytes : List ℕ). Ok (reading_ahead (with_recording r.given r.speculative)
+    (tokens_from r.speculative.body.line bytes)
     more)) begins
 
 pub returns-in-Ok-Ok-clause-fails : goal.returns-in-Ok-Ok-clause-fails

@@ -4,7 +4,7 @@ use Rattle.vme_step_reader.proofs.laws.times_go_on.Goals as goal
 
 pub returns : goal.returns
 returns c =
-    let front = c.recorded_before_is_a_front.ensures in
+    let front = c.recorded_before_is_a_prefix.ensures in
     record {
       follows = λ r rest steps is. steps-follow front r rest steps is;
       within = λ r rest steps is. steps-within front r rest steps is;

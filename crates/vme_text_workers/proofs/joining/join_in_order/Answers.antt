@@ -2,7 +2,7 @@ use Rattle.std.proofs.Common.{◌≡◌, ◌+◌, ◌∷◌, ◌∙◌, [], ap, 
 use Rattle.std.specs.Vec.Iter.{into_iter_items}
 use Rattle.vme_trace.specs.Trace.{Trace, levels_after}
 use Rattle.vme_bind.specs.Recording.{step_in}
-use Rattle.vme_bind.specs.SpeculativeReading.{WaveReached, with_recording}
+use Rattle.vme_bind.specs.SpeculativeReading.{SpeculativeReached, with_recording}
 use Rattle.vme_text_workers.specs.SpeculativeChunks.{AreAhead, AreTaken}
 use Rattle.vme_text_workers.specs.declared.cut.DumpPiece.{DumpPiece}
 use Rattle.vme_text_workers.proofs.JoinLemmas.{joined-taken, left-more, next-ahead, next-judged, rest-ahead}
@@ -18,22 +18,22 @@ loop-ahead-init g c = record {
   finite = tt;
   count = omega arith;
   ahead =
-      subst (AreAhead c.args.wave.body.nets c.args.wave.line_bits c.args.pieces.now)
+      subst (AreAhead c.args.speculative.body.nets c.args.speculative.line_bits c.args.pieces.now)
       (sym c.into_iter-ahead-iterator.ensures.into_iter_gives.0)
       c.requires.all;
   again =
-      subst (AreAhead c.args.wave.body.nets c.args.wave.line_bits c.args.pieces.now)
+      subst (AreAhead c.args.speculative.body.nets c.args.speculative.line_bits c.args.pieces.now)
       (sym c.into_iter-again.ensures.rest)
       c.requires.again;
-  taken = taken-none c.args.pieces.now (with_recording c.args.watch c.args.wave);
+  taken = taken-none c.args.pieces.now (with_recording c.args.stream_judge c.args.speculative);
 }
 
 pub pass-requires : goal.pass-requires
 pass-requires g c =
     let pieces = c.args.pieces.now in
     let count = c.loop-ahead.count in
-    let w : WaveReached = c.loop-ahead.wave in
-    let v : WaveReached = c.in_ok-behind.behind in
+    let w : SpeculativeReached = c.loop-ahead.speculative in
+    let v : SpeculativeReached = c.in_ok-behind.behind in
     let chunks : Trace = c.in-Some-fitting.chunks in
     let read = next-judged w.body.nets w.line_bits (drop count pieces) (drop (count + 1) pieces)
     (get_or pieces count no_piece) (into_iter_items c.loop-ahead.ahead-iterator) (into_iter_items c.next.new.self)
@@ -41,22 +41,22 @@ pass-requires g c =
     c.next_of-anew.result (c.in-Some-fitting.ahead, chunks) c.loop-ahead.invariant.ahead c.loop-ahead.invariant.again
     (left-more pieces count no_piece (omega arith)) c.in-Some.ensures.steps.0 c.next_of-anew.ensures
     c.in-Some-fitting.ensures.same in
-    let watch : Trace = c.leaves.new.self in
-    let same : watch ≡ c.loop-ahead.watch = c.in_ok-leaves.ensures.same in
+    let stream_judge : Trace = c.leaves.new.self in
+    let same : stream_judge ≡ c.loop-ahead.stream_judge = c.in_ok-leaves.ensures.same in
     let bytes = (get_or pieces count no_piece).bytes.now in
-    let leaves : levels_after watch.opening watch.steps ≡ w.body.progress.taken.shown =
+    let leaves : levels_after stream_judge.opening stream_judge.steps ≡ w.body.progress.taken.shown =
     ap (λ (t : Trace). levels_after t.opening t.steps) same ∙ c.in_ok-leaves.ensures.leaves c.if-not-branch.false
     ∙ c.shown.ensures in
     steps-follow bytes chunks c.in-Some-fitting.ahead.from w v (step_in c.in_ok-behind.step)
     (c.in_ok-behind.ensures bytes chunks read.read)
-    watch c.in_ok-watch.watch c.in_ok-watch.ensures read.opening leaves
+    stream_judge c.in_ok-stream_judge.stream_judge c.in_ok-stream_judge.ensures read.opening leaves
 
 pub loop-ahead-preserved : goal.loop-ahead-preserved
 loop-ahead-preserved g c =
     let pieces = c.args.pieces.now in
     let count = c.loop-ahead.count in
-    let w : WaveReached = c.loop-ahead.wave in
-    let v : WaveReached = c.in_ok-behind.behind in
+    let w : SpeculativeReached = c.loop-ahead.speculative in
+    let v : SpeculativeReached = c.in_ok-behind.behind in
     let chunks : Trace = c.in-Some-fitting.chunks in
     let read = next-judged w.body.nets w.line_bits (drop count pieces) (drop (count + 1) pieces)
     (get_or pieces count no_piece) (into_iter_items c.loop-ahead.ahead-iterator) (into_iter_items c.next.new.self)
@@ -64,16 +64,16 @@ loop-ahead-preserved g c =
     c.next_of-anew.result (c.in-Some-fitting.ahead, chunks) c.loop-ahead.invariant.ahead c.loop-ahead.invariant.again
     (left-more pieces count no_piece (omega arith)) c.in-Some.ensures.steps.0 c.next_of-anew.ensures
     c.in-Some-fitting.ensures.same in
-    let watch : Trace = c.leaves.new.self in
-    let same : watch ≡ c.loop-ahead.watch = c.in_ok-leaves.ensures.same in
+    let stream_judge : Trace = c.leaves.new.self in
+    let same : stream_judge ≡ c.loop-ahead.stream_judge = c.in_ok-leaves.ensures.same in
     let piece = get_or pieces count no_piece in
     let left = drop (count + 1) pieces in
     let at : drop count pieces ≡ piece ∷ left = left-more pieces count no_piece (omega arith) in
     let one = c.in_ok-behind.ensures piece.bytes.now chunks read.read in
-    let first = with_recording c.args.watch c.args.wave in
-    let so : AreTaken pieces first (with_recording watch w) (piece ∷ left) =
+    let first = with_recording c.args.stream_judge c.args.speculative in
+    let so : AreTaken pieces first (with_recording stream_judge w) (piece ∷ left) =
     subst (λ (t : Trace). AreTaken pieces first (with_recording t w) (piece ∷ left)) (sym same)
-    (subst (AreTaken pieces first (with_recording c.loop-ahead.watch w)) at c.loop-ahead.invariant.taken) in
+    (subst (AreTaken pieces first (with_recording c.loop-ahead.stream_judge w)) at c.loop-ahead.invariant.taken) in
     record {
       next = tt;
       finite = tt;
@@ -89,7 +89,8 @@ loop-ahead-preserved g c =
           (into_iter_items c.next_of-anew.new.pieces) c.next_of-anew.result
           c.loop-ahead.invariant.again at c.next_of-anew.ensures).1;
       taken =
-          joined-taken piece.bytes.now chunks c.in-Some-fitting.ahead.from w v (step_in c.in_ok-behind.step) one watch
-          c.in_ok-watch.watch c.in_ok-watch.ensures
-          pieces left piece first c.in_ok-watch-2.watch refl so c.in_ok-watch-2.ensures;
+          joined-taken piece.bytes.now chunks c.in-Some-fitting.ahead.from w v
+          (step_in c.in_ok-behind.step) one stream_judge
+          c.in_ok-stream_judge.stream_judge c.in_ok-stream_judge.ensures
+          pieces left piece first c.in_ok-stream_judge-2.stream_judge refl so c.in_ok-stream_judge-2.ensures;
     }

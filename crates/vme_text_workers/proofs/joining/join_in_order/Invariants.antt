@@ -9,8 +9,10 @@ invariant-loop-ahead g l = record {
   next : (goal.iterator-loop-ahead g).can_next l.ahead-iterator;
   finite : (goal.iterator-loop-ahead g).is_finite l.ahead-iterator;
   count : l.count ≤ length l.pieces;
-  ahead : AreAhead l.wave.body.nets l.wave.line_bits (drop l.count l.pieces) (into_iter_items l.ahead-iterator);
-  again : AreAhead l.wave.body.nets l.wave.line_bits (drop l.count l.pieces) (into_iter_items l.again);
-  taken : AreTaken l.pieces (with_recording l.fn.watch l.fn.wave) (with_recording l.watch l.wave)
+  ahead : AreAhead l.speculative.body.nets l.speculative.line_bits (drop l.count l.pieces)
+      (into_iter_items l.ahead-iterator);
+  again : AreAhead l.speculative.body.nets l.speculative.line_bits (drop l.count l.pieces) (into_iter_items l.again);
+  taken : AreTaken l.pieces (with_recording l.fn.stream_judge l.fn.speculative)
+      (with_recording l.stream_judge l.speculative)
       (drop l.count l.pieces);
 }

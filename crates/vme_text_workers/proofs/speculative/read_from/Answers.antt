@@ -5,10 +5,11 @@ use Rattle.vme_text_workers.proofs.speculative.read_from.Goals as goal
 
 pub returns-then-all : goal.returns-then-all
 returns-then-all g c =
-    subst (AreAhead c.args.wave.now.body.nets c.args.wave.now.line_bits c.args.pieces.now) (sym c.new.ensures.items)
-    (none-ahead c.args.wave.now.body.nets c.args.wave.now.line_bits c.args.pieces.now)
+    subst (AreAhead c.args.speculative.now.body.nets c.args.speculative.now.line_bits c.args.pieces.now)
+    (sym c.new.ensures.items)
+    (none-ahead c.args.speculative.now.body.nets c.args.speculative.now.line_bits c.args.pieces.now)
 
 pub returns : goal.returns
 returns g c =
-    are-ahead c.args.wave.now c.args.pieces.now c.in_ok-all.all.items
+    are-ahead c.args.speculative.now c.args.pieces.now c.in_ok-all.all.items
     (λ place one is. c.in_ok-all.ensures place one is)

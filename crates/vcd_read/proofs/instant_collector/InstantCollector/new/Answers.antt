@@ -1,4 +1,4 @@
-use Rattle.vcd_read.proofs.WavesLemmas.{none_touched}
+use Rattle.vcd_read.proofs.TimedVisitorLemmas.{none_touched}
 use Rattle.vcd_read.proofs.instant_collector.InstantCollector.new.Goals as goal
 
 pub invariant_of-result : goal.invariant_of-result

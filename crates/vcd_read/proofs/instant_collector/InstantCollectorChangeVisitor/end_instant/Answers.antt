@@ -1,6 +1,6 @@
 use Rattle.std.proofs.Common.{ℕ}
 use Rattle.std.proofs.lemmas.List.Sorted.{IsNonDecreasingBy-from_sort}
-use Rattle.vcd_read.proofs.WavesLemmas.{touched_sorted}
+use Rattle.vcd_read.proofs.TimedVisitorLemmas.{touched_sorted}
 use Rattle.vcd_read.proofs.instant_collector.InstantCollectorChangeVisitor.end_instant.Goals as goal
 
 pub move_values-requires-clause-touched : goal.move_values-requires-clause-touched

@@ -2,7 +2,7 @@ use Rattle.std.proofs.Common.{ℕ, Bool, true, List, ◌∷◌, [], ◌++◌, �
 use Rattle.std.proofs.lemmas.List.{take_more}
 use Rattle.vme_bind.specs.AssignedLines.{assigned_too}
 use Rattle.vme_bind.specs.declared.net_lines.LineBit.{LineBit}
-use Rattle.vme_bind.proofs.ToldLemmas.{assigned_too-more}
+use Rattle.vme_bind.proofs.AssignedLineLemmas.{assigned_too-more}
 use Rattle.vme_bind.proofs.assigned_lines.AssignedLines.assign_each.Goals as goal
 
 pub loop-line_bit-preserved : goal.loop-line_bit-preserved

@@ -1,7 +1,7 @@
 use Rattle.std.proofs.Common.{◌≡◌, drop}
 use Rattle.std.specs.List.{filter_map}
 use Rattle.vme_bind.specs.BoundGroups.{candidate, only}
-use Rattle.vme_bind.proofs.WiresLemmas.{only_from}
+use Rattle.vme_bind.proofs.BoundGroupLemmas.{only_from}
 use Rattle.vme_bind.proofs.bound_groups.BitRange.of.Given as goal
 
 abbrev pub invariant-loop-variable : goal.invariant-loop-variable

@@ -1,7 +1,8 @@
 use Rattle.std.proofs.Common.{◌+◌, ◌++◌, ◌∷◌, [], drop, sym, ◌∙◌, ap, arith}
 use Rattle.vme_bind.specs.BoundGroups.{bound_group_in, bound_groups_in}
 use Rattle.vme_bind.proofs.BindingLemmas.{fails_first}
-use Rattle.vme_bind.proofs.WiresLemmas.{behind_bound_groups, bound_groups-first, bound_groups-step, bound_groups-end}
+use Rattle.vme_bind.proofs.BoundGroupLemmas.{behind_bound_groups, bound_groups-first, bound_groups-step}
+use Rattle.vme_bind.proofs.BoundGroupLemmas.{bound_groups-end}
 use Rattle.vme_bind.proofs.bound_groups.BoundGroup.all.Goals as goal
 
 pub returns-in-Err : goal.returns-in-Err

@@ -1,6 +1,6 @@
 use Rattle.std.proofs.Common.{◌≡◌, drop, length, vec_len, vec_capacity}
 use Rattle.vme_bind.specs.BoundGroups.{bound_groups_in}
-use Rattle.vme_bind.proofs.WiresLemmas.{behind_bound_groups}
+use Rattle.vme_bind.proofs.BoundGroupLemmas.{behind_bound_groups}
 use Rattle.vme_bind.proofs.bound_groups.BoundGroup.all.Given as goal
 
 abbrev pub invariant-loop-assignment : goal.invariant-loop-assignment

@@ -3,7 +3,7 @@ use Rattle.std.specs.Prelude.{Some}
 use Rattle.vme_bind.specs.declared.net_lines.NetLines.{NetLines}
 use Rattle.vme_bind.specs.declared.bound_groups.LineSource.TheVariants.{Bit}
 use Rattle.vme_bind.specs.BoundGroups.{line_source}
-use Rattle.vme_bind.proofs.TapsLemmas.{AreBelow, line_bits-first, line_bits-more, line_bits-same, on-none, on-always}
+use Rattle.vme_bind.proofs.LineBitLemmas.{AreBelow, line_bits-first, line_bits-more, line_bits-same, on-none, on-always}
 use Rattle.vme_bind.proofs.net_lines.NetLines.of_bound_groups.Goals as goal
 use Rattle.vme_bind.proofs.net_lines.NetLines.of_bound_groups.Goals.{in-Some+in-Some-Bit+in_ok-add-in-Some-Bit}
 use Rattle.vme_bind.proofs.net_lines.NetLines.of_bound_groups.Goals.{in-Some+in-Some-Always, in-Some+in-None}

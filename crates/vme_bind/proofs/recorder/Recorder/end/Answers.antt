@@ -5,7 +5,7 @@ use Rattle.vme_trace.specs.Trace.{levels_after}
 use Rattle.vme_trace.specs.declared.step.Step.{Step}
 use Rattle.std.specs.Prelude.{List}
 use Rattle.vme_bind.specs.Recording.{RecorderLevels, step_between, step_in}
-use Rattle.vme_bind.proofs.WaveLemmas.{end-leads}
+use Rattle.vme_bind.proofs.SpeculativeReadingLemmas.{end-leads}
 use Rattle.vme_bind.proofs.recorder.Recorder.end.Goals as goal
 
 leads-ok : (v : Levels) (steps : List Step) (q r : RecorderLevels) (result : Result (Option Step) AllocError)

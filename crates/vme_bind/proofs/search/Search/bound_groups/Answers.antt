@@ -1,7 +1,7 @@
 use Rattle.std.proofs.Common.{◌+◌, ◌++◌, ◌∷◌, [], drop, map, sym, ◌∙◌, ap, arith}
 use Rattle.vme_bind.specs.PathSearch.{seen_in, bound_group_of, bound_groups_of}
 use Rattle.vme_bind.proofs.BindingLemmas.{fails_first}
-use Rattle.vme_bind.proofs.WiresLemmas.{behind_bound_groups}
+use Rattle.vme_bind.proofs.BoundGroupLemmas.{behind_bound_groups}
 use Rattle.vme_bind.proofs.FoundLemmas.{bound_groups-first, bound_groups-step, bound_groups-end}
 use Rattle.vme_bind.proofs.search.Search.bound_groups.Goals as goal
 

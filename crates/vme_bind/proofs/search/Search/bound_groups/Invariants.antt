@@ -1,6 +1,6 @@
 use Rattle.std.proofs.Common.{◌≡◌, map, drop, vec_len, vec_capacity}
 use Rattle.vme_bind.specs.PathSearch.{seen_in, bound_groups_of}
-use Rattle.vme_bind.proofs.WiresLemmas.{behind_bound_groups}
+use Rattle.vme_bind.proofs.BoundGroupLemmas.{behind_bound_groups}
 use Rattle.vme_bind.proofs.search.Search.bound_groups.Given as goal
 
 abbrev pub invariant-loop-sought : goal.invariant-loop-sought

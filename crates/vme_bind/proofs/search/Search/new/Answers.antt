@@ -2,7 +2,7 @@ use Rattle.std.proofs.Common.{sym, ◌∙◌, [], ◌∷◌, arith}
 use Rattle.std.proofs.lemmas.List.{map-append, take_more}
 use Rattle.std.proofs.lemmas.List.Elements.{All-push}
 use Rattle.vme_bind.specs.PathSearch.{HasOpened, seen_in, unseen}
-use Rattle.vme_bind.proofs.SoughtLemmas.{begun_none}
+use Rattle.vme_bind.proofs.PathSearchLemmas.{begun_none}
 use Rattle.vme_bind.proofs.search.Search.new.Goals as goal
 
 pub loop-assignment-preserved : goal.loop-assignment-preserved

@@ -1,6 +1,6 @@
 use Rattle.std.proofs.Common.{refl, arith}
 use Rattle.vme_bind.specs.PathSearch.{closed}
-use Rattle.vme_bind.proofs.SoughtLemmas.{closed-back, seen-back}
+use Rattle.vme_bind.proofs.PathSearchLemmas.{closed-back, seen-back}
 use Rattle.vme_bind.proofs.search.SearchDeclarationVisitor.close.Goals as goal
 
 pub invariant_of-self-2 : goal.invariant_of-self-2

@@ -1,6 +1,6 @@
 use Rattle.std.proofs.Common.{refl, ap, ◌∙◌, ◌≡◌, ◌-◌, length, drop, arith, List, ℕ}
 use Rattle.vme_bind.specs.PathSearch.{opened}
-use Rattle.vme_bind.proofs.SoughtLemmas.{opened-back, seen-back}
+use Rattle.vme_bind.proofs.PathSearchLemmas.{opened-back, seen-back}
 use Rattle.vme_bind.proofs.search.SearchDeclarationVisitor.open.Goals as goal
 
 pub invariant_of-self-2 : goal.invariant_of-self-2

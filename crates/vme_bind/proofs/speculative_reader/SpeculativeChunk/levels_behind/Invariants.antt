@@ -1,4 +1,4 @@
-use Rattle.vme_bind.proofs.ToldLemmas.{AreLeftBelow}
+use Rattle.vme_bind.proofs.AssignedLineLemmas.{AreLeftBelow}
 use Rattle.vme_bind.proofs.speculative_reader.SpeculativeChunk.levels_behind.Given as goal
 
 abbrev pub invariant-loop-number : goal.invariant-loop-number

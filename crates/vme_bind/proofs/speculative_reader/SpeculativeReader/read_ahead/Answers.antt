@@ -1,40 +1,40 @@
 use Rattle.std.proofs.Common.{◌≡◌, ℕ, Bool, List, ◌∙◌, ap, subst, sym, rules, length}
-use Rattle.vcd_read.specs.DetachedPieces.{IsReadApart, ReadApart, apart_with, read_apart}
+use Rattle.vcd_read.specs.DetachedPieces.{IsReadDetached, ReadDetached, detached_with, read_detached}
 use Rattle.vcd_read.specs.Reached.{Reached, reached}
 use Rattle.vme_trace.specs.Trace.{Trace}
-use Rattle.vme_bind.specs.Made.{Made, made_change, made_instant}
+use Rattle.vme_bind.specs.BuilderState.{BuilderState, builder_change, builder_instant}
 use Rattle.vme_bind.specs.Recording.{AreLines, RecorderLevels}
 use Rattle.vme_bind.specs.NetLines.{line_bits_of}
-use Rattle.vme_bind.specs.SpeculativeReading.{IsReadSpeculatively, WaveReached, made_behind}
-use Rattle.vme_bind.specs.AssignedLines.{SpeculativelyMade, ahead_change, ahead_instant, is_assigned}
+use Rattle.vme_bind.specs.SpeculativeReading.{IsReadSpeculatively, SpeculativeReached, builder_behind}
+use Rattle.vme_bind.specs.AssignedLines.{SpeculativeBuilderState, speculative_change, speculative_instant, is_assigned}
 use Rattle.vme_bind.specs.declared.net_lines.NetLines.{NetLines}
-use Rattle.vme_bind.proofs.ToldLemmas.{made-read, assigned-leads, assigned-lines}
-use Rattle.vme_bind.proofs.WaveLemmas.{ahead-read, ahead_of, opening-kept, slots-are, wave_of}
+use Rattle.vme_bind.proofs.AssignedLineLemmas.{made-read, assigned-leads, assigned-lines}
+use Rattle.vme_bind.proofs.SpeculativeReadingLemmas.{ahead-read, ahead_of, opening-kept, slots-are, speculative_of}
 use Rattle.vme_bind.proofs.speculative_reader.SpeculativeReader.read_ahead.Goals as goal
 
 pub invariant_of-ahead : goal.invariant_of-ahead
 invariant_of-ahead g c =
     let inside = c.self.inside in
     let r : Reached (Unit {0}) = reached (λ p. tt {0}) inside.pieces in
-    let a : ReadApart SpeculativelyMade = read_apart (λ m. m) c.in_ok-apart.apart in
-    let is : IsReadApart ahead_change ahead_instant r.nets c.args.piece.now c.new-builder.result a
-    = c.in_ok-apart.ensures.read in
+    let a : ReadDetached SpeculativeBuilderState = read_detached (λ m. m) c.in_ok-detached.detached in
+    let is : IsReadDetached speculative_change speculative_instant r.nets c.args.piece.now c.new-builder.result a
+    = c.in_ok-detached.ensures.read in
     let same : inside.recorder.now.slots ≡ c.args.from.now.slots = search rules in
     let lines : (net : ℕ) → AreLines c.args.from.now.slots (line_bits_of c.new-builder.result.made.line_bits net) =
     λ net.
     subst (λ (line_bits : NetLines). AreLines c.args.from.now.slots (line_bits_of line_bits net))
-    (sym (ap (λ (m : Made). m.line_bits) c.new-builder.ensures.made))
+    (sym (ap (λ (m : BuilderState). m.line_bits) c.new-builder.ensures.made))
     (subst (λ s. AreLines s (line_bits_of inside.line_bits net)) same (c.self.invariant.1 net)) in
     let assigned : c.into_parts-recorder.result.2 ≡ a.progress.taken.assigned =
-    sym c.into_parts-recorder.ensures.assigned ∙ ap (λ (m : SpeculativelyMade). m.assigned)
+    sym c.into_parts-recorder.ensures.assigned ∙ ap (λ (m : SpeculativeBuilderState). m.assigned)
     c.with_visitor-builder.ensures.visitor in
-    let made : IsReadApart made_change made_instant r.nets c.args.piece.now c.new-builder.result.made
-    (apart_with a.progress.taken.made a) =
+    let made : IsReadDetached builder_change builder_instant r.nets c.args.piece.now c.new-builder.result.made
+    (detached_with a.progress.taken.made a) =
     made-read r.nets c.args.piece.now c.new-builder.result a is in (
       ap (λ (p : RecorderLevels). p.now.slots) (sym c.into_parts-recorder.ensures.progress
-          ∙ ap (λ (m : SpeculativelyMade). m.made.progress) c.with_visitor-builder.ensures.visitor)
-          ∙ slots-are r.nets c.args.piece.now c.new-builder.result.made (apart_with a.progress.taken.made a) made
-          ∙ ap (λ (m : Made). m.progress.now.slots) c.new-builder.ensures.made
+          ∙ ap (λ (m : SpeculativeBuilderState). m.made.progress) c.with_visitor-builder.ensures.visitor)
+          ∙ slots-are r.nets c.args.piece.now c.new-builder.result.made (detached_with a.progress.taken.made a) made
+          ∙ ap (λ (m : BuilderState). m.progress.now.slots) c.new-builder.ensures.made
           ∙ ap (λ (p : RecorderLevels). p.now.slots) c.new.ensures,
       λ l on. assigned-lines r.nets c.args.piece.now c.new-builder.result a is c.args.from.now.slots lines
           c.new-builder.ensures.assigned l (ap (λ (assigned : List Bool). is_assigned assigned l) (sym assigned) ∙ on),
@@ -44,47 +44,48 @@ pub returns-clause-opening : goal.returns-clause-opening
 returns-clause-opening g c =
     let inside = c.self.inside in
     let r : Reached (Unit {0}) = reached (λ p. tt {0}) inside.pieces in
-    let a : ReadApart SpeculativelyMade = read_apart (λ m. m) c.in_ok-apart.apart in
-    let is : IsReadApart ahead_change ahead_instant r.nets c.args.piece.now c.new-builder.result a
-    = c.in_ok-apart.ensures.read in
+    let a : ReadDetached SpeculativeBuilderState = read_detached (λ m. m) c.in_ok-detached.detached in
+    let is : IsReadDetached speculative_change speculative_instant r.nets c.args.piece.now c.new-builder.result a
+    = c.in_ok-detached.ensures.read in
     ap (λ (t : Trace). t.opening) (sym c.into_parts-recorder.ensures.recorded
-    ∙ ap (λ (m : SpeculativelyMade). m.made.recorded) c.with_visitor-builder.ensures.visitor)
-    ∙ opening-kept r.nets c.args.piece.now c.new-builder.result.made (apart_with a.progress.taken.made a)
+    ∙ ap (λ (m : SpeculativeBuilderState). m.made.recorded) c.with_visitor-builder.ensures.visitor)
+    ∙ opening-kept r.nets c.args.piece.now c.new-builder.result.made (detached_with a.progress.taken.made a)
     (made-read r.nets c.args.piece.now c.new-builder.result a is)
-    ∙ ap (λ (m : Made). m.recorded.opening) c.new-builder.ensures.made
+    ∙ ap (λ (m : BuilderState). m.recorded.opening) c.new-builder.ensures.made
 
 pub returns-clause-read : goal.returns-clause-read
 returns-clause-read g c =
     let inside = c.self.inside in
     let r : Reached (Unit {0}) = reached (λ p. tt {0}) inside.pieces in
-    let a : ReadApart SpeculativelyMade = read_apart (λ m. m) c.in_ok-apart.apart in
-    let is : IsReadApart ahead_change ahead_instant r.nets c.args.piece.now c.new-builder.result a
-    = c.in_ok-apart.ensures.read in
+    let a : ReadDetached SpeculativeBuilderState = read_detached (λ m. m) c.in_ok-detached.detached in
+    let is : IsReadDetached speculative_change speculative_instant r.nets c.args.piece.now c.new-builder.result a
+    = c.in_ok-detached.ensures.read in
     let from = c.args.from.now in
     let q = c.into_parts-recorder.result.0 in
     let t = g.F.StepVisitor.recorded c.into_parts-recorder.result.1 in
     let assigned = c.into_parts-recorder.result.2 in
     let first = g.F.StepVisitor.recorded c.args.visitor in
-    let u : ReadApart (Unit {0}) = read_apart (λ p. tt {0}) c.with_visitor-builder.result.0 in
-    let begun : c.new-builder.result.made ≡ made_behind inside.line_bits from first =
+    let u : ReadDetached (Unit {0}) = read_detached (λ p. tt {0}) c.with_visitor-builder.result.0 in
+    let begun : c.new-builder.result.made ≡ builder_behind inside.line_bits from first =
     c.new-builder.ensures.made
     ∙ ap (λ (p : RecorderLevels). record { line_bits = inside.line_bits; progress = p; recorded = first })
     c.new.ensures in
     let progress : q ≡ a.progress.taken.made.progress = sym c.into_parts-recorder.ensures.progress
-    ∙ ap (λ (m : SpeculativelyMade). m.made.progress) c.with_visitor-builder.ensures.visitor in
-    let view : c.args.self.now ≡ wave_of inside.fault inside.line_bits inside.recorder r = search rules in
-    subst (λ (w : WaveReached). IsReadSpeculatively w.body.nets w.line_bits c.args.piece.now t
+    ∙ ap (λ (m : SpeculativeBuilderState). m.made.progress) c.with_visitor-builder.ensures.visitor in
+    let view : c.args.self.now ≡ speculative_of inside.fault inside.line_bits inside.recorder r = search rules in
+    subst (λ (w : SpeculativeReached). IsReadSpeculatively w.body.nets w.line_bits c.args.piece.now t
     (ahead_of from q u assigned)) (sym view)
     (ahead-read r.nets inside.line_bits c.args.piece.now from first c.new-builder.result.made
-    (apart_with a.progress.taken.made a) begun c.requires.none (made-read r.nets c.args.piece.now c.new-builder.result
+    (detached_with a.progress.taken.made a) begun c.requires.none
+    (made-read r.nets c.args.piece.now c.new-builder.result
     a is) u q t
-    c.with_visitor-builder.ensures.apart progress
-    (sym c.into_parts-recorder.ensures.recorded ∙ ap (λ (m : SpeculativelyMade). m.made.recorded)
+    c.with_visitor-builder.ensures.detached progress
+    (sym c.into_parts-recorder.ensures.recorded ∙ ap (λ (m : SpeculativeBuilderState). m.made.recorded)
     c.with_visitor-builder.ensures.visitor)
     assigned
     (assigned-leads r.nets c.args.piece.now c.new-builder.result a is (ahead_of from q u assigned) inside.line_bits
-    (ap (λ (m : Made). length m.progress.now.levels) begun ∙ c.requires.levels) c.new-builder.ensures.assigned
-    (ap (λ (m : Made). m.line_bits) begun)
-    (ap (λ (v : ReadApart (Unit {0})). v.first_line) c.with_visitor-builder.ensures.apart)
-    (sym c.into_parts-recorder.ensures.assigned ∙ ap (λ (m : SpeculativelyMade). m.assigned)
+    (ap (λ (m : BuilderState). length m.progress.now.levels) begun ∙ c.requires.levels) c.new-builder.ensures.assigned
+    (ap (λ (m : BuilderState). m.line_bits) begun)
+    (ap (λ (v : ReadDetached (Unit {0})). v.first_line) c.with_visitor-builder.ensures.detached)
+    (sym c.into_parts-recorder.ensures.assigned ∙ ap (λ (m : SpeculativeBuilderState). m.assigned)
     c.with_visitor-builder.ensures.visitor) progress))

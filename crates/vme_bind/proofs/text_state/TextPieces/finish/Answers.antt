@@ -1,7 +1,7 @@
 use Rattle.std.proofs.Common.{◌∙◌, Some, None, Ok, ap, sym}
 use Rattle.vcd_read.specs.Bodies.{finished, place_of}
 use Rattle.vcd_read.specs.Taking.{taking}
-use Rattle.vme_bind.specs.Made.{made_change, made_instant}
+use Rattle.vme_bind.specs.BuilderState.{builder_change, builder_instant}
 use Rattle.vme_bind.specs.TextPieces.{outcome}
 use Rattle.vme_bind.proofs.TextPieceLemmas.{fails-whole, assigned-own}
 use Rattle.vme_bind.proofs.text_state.TextPieces.finish.Goals as goal
@@ -18,6 +18,6 @@ returns-in-Some g c =
 pub returns-in-Err : goal.returns-in-Err
 returns-in-Err g c =
     let p = c.args.self.pieces in
-    fails-whole c.args.self.fault c.in-Err.fault (finished made_change made_instant p.codes
+    fails-whole c.args.self.fault c.in-Err.fault (finished builder_change builder_instant p.codes
     (taking p.underway.timed.visitor p.underway.timed.clock) p.underway.bracket (place_of p.underway.place))
     c.in-Err.ensures

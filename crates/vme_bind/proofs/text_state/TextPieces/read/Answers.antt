@@ -4,19 +4,19 @@ use Rattle.vcd_read.specs.Header.{◌>>=◌}
 use Rattle.vcd_read.specs.Bodies.{ahead, place_of}
 use Rattle.vcd_read.specs.Taking.{State, at_end, taking}
 use Rattle.vcd_read.specs.declared.fault.VcdFault.{VcdFault}
-use Rattle.vme_bind.specs.Made.{Made, made_change, made_instant}
+use Rattle.vme_bind.specs.BuilderState.{BuilderState, builder_change, builder_instant}
 use Rattle.vme_bind.specs.TextPieces.{outcome}
 use Rattle.vme_bind.proofs.TextPieceLemmas.{fails-outcome}
 use Rattle.vme_bind.proofs.text_state.TextPieces.read.Goals as goal
 
 pub returns-in-Ok-clause-rest : goal.returns-in-Ok-clause-rest
-returns-in-Ok-clause-rest g c = λ more. ap (λ (r : Result (State Made) VcdFault). outcome c.args.self.fault
-    (r >>= at_end made_instant)) (c.in-Ok.ensures.rest more)
+returns-in-Ok-clause-rest g c = λ more. ap (λ (r : Result (State BuilderState) VcdFault). outcome c.args.self.fault
+    (r >>= at_end builder_instant)) (c.in-Ok.ensures.rest more)
 
 pub returns-in-Err-clause-rest : goal.returns-in-Err-clause-rest
 returns-in-Err-clause-rest g c =
     let p = c.args.self.pieces in
-    let read = ahead made_change made_instant p.codes (taking p.underway.timed.visitor p.underway.timed.clock)
+    let read = ahead builder_change builder_instant p.codes (taking p.underway.timed.visitor p.underway.timed.clock)
     p.underway.bracket (place_of p.underway.place) (tokens_from p.line c.args.piece.now) in
     fails-outcome c.args.self.fault c.in-Err.fault (λ more. outcome c.args.self.fault
-    (read more >>= at_end made_instant)) read (λ more. refl) c.in-Err.ensures.rest
+    (read more >>= at_end builder_instant)) read (λ more. refl) c.in-Err.ensures.rest

@@ -1,6 +1,6 @@
 use Rattle.std.proofs.Common.{◌∙◌, sym, take}
 use Rattle.vme_bind.specs.TextPieces.{text_reached}
-use Rattle.vme_commands.proofs.UnderwayLemmas.{begun-on, failed-at-front, failed-on, read-on}
+use Rattle.vme_commands.proofs.DumpJudgeLemmas.{begun-on, failed-at-front, failed-on, read-on}
 use Rattle.vme_commands.proofs.dump_judge.DumpJudge.take.Goals as goal
 
 pub returns-in-Ok-Ok-clause-taken : goal.returns-in-Ok-Ok-clause-taken

@@ -2,7 +2,7 @@ use Rattle.std.proofs.Common.{[], Result, Err, refl, sym, subst}
 use Rattle.vme_trace.specs.Trace.{Trace}
 use Rattle.vme_bind.specs.TextCapture.{GivesBy}
 use Rattle.vme_bind.specs.declared.fault.CaptureFault.{CaptureFault}
-use Rattle.vme_commands.proofs.UnderwayLemmas.{is-told}
+use Rattle.vme_commands.proofs.DumpJudgeLemmas.{is-told}
 use Rattle.vme_commands.proofs.ordered_dump.OrderedDump.finish.Goals as goal
 
 pub returns-in-Definitions : goal.returns-in-Definitions

@@ -2,5 +2,6 @@ use Rattle.vme_dtb.proofs.UsualNexts.{start_next}
 use Rattle.vme_dtb.proofs.memory.HandshakeMemory.at_cycle_start.Goals as goal
 
 pub returns : goal.returns
-returns c = rw (c.left.ensures, c.of_class.ensures, c.asked-asked.ensures) (start_next c.args.self c.args.before.now
+returns c = rw (c.left.ensures, c.of_class.ensures, c.cycle_start-cycle_start.ensures)
+    (start_next c.args.self c.args.before.now
     c.args.after.now c.requires)

@@ -1,7 +1,7 @@
 use Rattle.std.proofs.Common.{◌≡◌, false, arith}
 use Rattle.vme_trace.specs.Edges.{rises_between, strobe_falls_between, strobe_rises_between}
 use Rattle.vme_trace.specs.LineNumbers.{AS}
-use Rattle.vme_dtb.specs.UsualSteps.{is_hasty}
+use Rattle.vme_dtb.specs.UsualSteps.{strobes_break_rule}
 use Rattle.vme_dtb.proofs.UsualNexts.{strobes_next}
 use Rattle.vme_dtb.proofs.memory.HandshakeMemory.at_strobes.Goals as goal
 
@@ -9,7 +9,8 @@ pub returns : goal.returns
 returns c =
     let v = c.args.before.now in
     let w = c.args.after.now in
-    let calm : is_hasty c.args.self.pending (strobe_rises_between v w) (rises_between v w AS) (strobe_falls_between v w)
+    let unbroken : strobes_break_rule c.args.self.pending (strobe_rises_between v w) (rises_between v w AS)
+    (strobe_falls_between v w)
     ≡ false = grind arith in
     rw (
       c.left.ensures,
@@ -18,4 +19,4 @@ returns c =
       c.rises-cycle_end.ensures,
       c.transfer_started.ensures,
       c.closes.ensures,
-    ) (strobes_next c.args.self v w c.requires calm)
+    ) (strobes_next c.args.self v w c.requires unbroken)

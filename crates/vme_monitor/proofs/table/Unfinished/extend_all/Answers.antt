@@ -1,9 +1,9 @@
 use Rattle.std.proofs.Common.{rules, ◌≡◌, ap, arith, drop, length, map, take, ◌++◌, ◌∙◌}
 use Rattle.std.proofs.lemmas.Grind.{common_steps}
-use Rattle.vme_monitor.specs.Run.{noticed}
+use Rattle.vme_monitor.specs.Run.{machine_step}
 use Rattle.vme_monitor.specs.Walk.{link_values, outcome_of}
 use Rattle.vme_monitor.specs.declared.view.StepView.{StepView}
-use Rattle.vme_monitor.proofs.Apart.{keep_apart}
+use Rattle.vme_monitor.proofs.DistinctRows.{keep_apart}
 use Rattle.vme_monitor.proofs.Summarising.{settled_gives}
 use Rattle.vme_monitor.proofs.table.Unfinished.extend_all.Goals as goal
 
@@ -22,9 +22,9 @@ returns g c =
           g.met.M.Machine.never_more_sensitive c.args.self.now.layers.items c.merge_rows.new.layers.items
           c.args.self.now.rows.items _ c.merge_rows.new.rows.items c.args.self.now.most _ c.in_ok-self.field-0
           (ap (map outcome_of) rows ∙ stepped) c.in_ok-self.ensures.reached (λ h. rw c.as_slice.ensures.value at
-          c.most_sensitive-most.ensures) c.in_ok-self.ensures.alert t;
+          c.most_sensitive-most.ensures) c.in_ok-self.ensures.bounded t;
       apart = λ o x b n t k.
-          keep_apart (noticed g.M.Machine.observation g.M.Machine.next) g.M.Memory.Enumerable.COUNT
+          keep_apart (machine_step g.M.Machine.observation g.M.Machine.next) g.M.Memory.Enumerable.COUNT
           g.M.Memory.Enumerable.place_of g.M.Memory.Enumerable.nth_of g.met.M.Memory.Enumerable.placed
           g.met.M.Memory.Enumerable.found c.args.view.now.before c.args.view.now.after c.args.step.now o x b after
           c.args.instant c.args.step.now.time (link_values c.args.self.now.layers.items)

@@ -9,7 +9,7 @@ use Rattle.vme_auditor.specs.Breaks.{as_break}
 use Rattle.vme_auditor.specs.declared.audit_break.AuditBreak.{AuditBreak}
 use Rattle.vme_auditor.specs.declared.findings.BreakCounts.{BreakCounts}
 use Rattle.vme_step_auditor.specs.ReadBy.{GivenSteps, read_by, read_of}
-use Rattle.vme_step_auditor.specs.Counting.{with_standing}
+use Rattle.vme_step_auditor.specs.Counting.{with_category}
 use Rattle.vme_step_auditor.specs.Taken.{HasAuditedSteps}
 use Rattle.vme_step_auditor.proofs.Taking.{takes_break, takes_conforming, takes_stopped, tells_found, tells_none}
 use Rattle.vme_step_auditor.proofs.step_auditor.StepAuditor.take.Goals as goal
@@ -46,7 +46,7 @@ invariant_of-self-in-Some c =
     let i = c.self.inside in
     let given : Trace = record { opening = i.opening; steps = i.given.items } in
     let few : i.opening.slots ≤ 21 = omega (arith, c.slots.ensures.slots, c.slots.ensures.most) in
-    let counts = c.count.ensures ∙ ap (with_standing i.counts) c.of-standing.ensures in
+    let counts = c.count.ensures ∙ ap (with_category i.counts) c.of-category.ensures in
     subst
     (λ (x : List Step). HasAuditedSteps i.rules.allowances.now i.rules.stop (record { opening = i.opening; steps = x })
     c.step.new.self c.count.new.counts)

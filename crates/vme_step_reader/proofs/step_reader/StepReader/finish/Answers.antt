@@ -40,7 +40,7 @@ returns-in-Err-clause-formed_before c other =
     let i = c.self.inside in
     let given : Trace = record { opening = i.opening; steps = i.given.items } in
     let s = c.in-Err.stopped in
-    let r : StepReading = record { given = given; wave = i.wave } in
+    let r : StepReading = record { given = given; speculative = i.speculative } in
     subst (λ (r : StepReading). malformed_step (with_steps r.given s.steps.items) ≡ None) c.self.view_is
     (stopped-formed s.fault.line s.fault.kind (with_steps given s.steps.items) s.time
     (whole_reading r c.args.rest.now) (c.in-Err.ensures.stopped given) (c.self.invariant c.args.rest.now) other)

@@ -16,8 +16,9 @@ invariant_of-reader c =
     let items : c.and_all-given.result.items ≡ i.given.items ++ c.in-Ok.steps.items =
     c.and_all-given.ensures ∙ ap (λ (steps : List Step). i.given.items ++ steps) (c.of.ensures
     ∙ c.as_slice.ensures.value) in
-    next-formed given i.wave c.args.bytes.now c.whole_tokens-count.result c.whole_tokens-count.ensures.apart
-    c.in-Ok.wave c.in-Ok.steps.items c.and_all-given.result.items c.in-Ok.ensures.line (c.in-Ok.ensures.rest given)
+    next-formed given i.speculative c.args.bytes.now c.whole_tokens-count.result c.whole_tokens-count.ensures.apart
+    c.in-Ok.speculative c.in-Ok.steps.items c.and_all-given.result.items c.in-Ok.ensures.line
+    (c.in-Ok.ensures.rest given)
     items c.self.invariant
 
 pub returns-in-Ok-clause-formed : goal.returns-in-Ok-clause-formed
@@ -27,12 +28,13 @@ returns-in-Ok-clause-formed c =
     let items : c.and_all-given.result.items ≡ i.given.items ++ c.in-Ok.steps.items =
     c.and_all-given.ensures ∙ ap (λ (steps : List Step). i.given.items ++ steps) (c.of.ensures
     ∙ c.as_slice.ensures.value) in
-    given-formed c.recorded_before_is_a_front.ensures (record {
+    given-formed c.recorded_before_is_a_prefix.ensures (record {
       given = record { opening = i.opening; steps = c.and_all-given.result.items };
-      wave = c.in-Ok.wave;
+      speculative = c.in-Ok.speculative;
     }) []
-    (next-formed given i.wave c.args.bytes.now c.whole_tokens-count.result c.whole_tokens-count.ensures.apart
-    c.in-Ok.wave c.in-Ok.steps.items c.and_all-given.result.items c.in-Ok.ensures.line (c.in-Ok.ensures.rest given)
+    (next-formed given i.speculative c.args.bytes.now c.whole_tokens-count.result c.whole_tokens-count.ensures.apart
+    c.in-Ok.speculative c.in-Ok.steps.items c.and_all-given.result.items c.in-Ok.ensures.line
+    (c.in-Ok.ensures.rest given)
     items c.self.invariant [])
 
 pub returns-in-Err-clause-stopped : goal.returns-in-Err-clause-stopped
@@ -42,7 +44,7 @@ returns-in-Err-clause-stopped c rest =
     let given : Trace = record { opening = i.opening; steps = i.given.items } in
     let s = c.in-Err.stopped in
     subst (λ (r : StepReading). StopsBehind r.given s (whole_reading r (bytes ++ rest))) c.self.view_is
-    (first-stops given i.wave bytes c.whole_tokens-count.result c.whole_tokens-count.ensures.apart
+    (first-stops given i.speculative bytes c.whole_tokens-count.result c.whole_tokens-count.ensures.apart
     (λ (x : TextReading). StopsBehind given s x) (c.in-Err.ensures.stopped given) rest)
 
 pub returns-in-Err-clause-formed_before : goal.returns-in-Err-clause-formed_before
@@ -51,9 +53,9 @@ returns-in-Err-clause-formed_before c other =
     let bytes = c.args.bytes.now in
     let given : Trace = record { opening = i.opening; steps = i.given.items } in
     let s = c.in-Err.stopped in
-    let r : StepReading = record { given = given; wave = i.wave } in
+    let r : StepReading = record { given = given; speculative = i.speculative } in
     subst (λ (r : StepReading). malformed_step (with_steps r.given s.steps.items) ≡ None) c.self.view_is
     (stopped-formed s.fault.line s.fault.kind (with_steps given s.steps.items) s.time (whole_reading r (bytes ++ []))
-    (first-stops given i.wave bytes c.whole_tokens-count.result c.whole_tokens-count.ensures.apart
+    (first-stops given i.speculative bytes c.whole_tokens-count.result c.whole_tokens-count.ensures.apart
     (λ (x : TextReading). StopsBehind given s x) (c.in-Err.ensures.stopped given) [])
     (c.self.invariant (bytes ++ [])) other)

@@ -4,5 +4,5 @@ use Rattle.vme_step_reader.proofs.PieceSteps.{time-here}
 use Rattle.vme_step_reader.proofs.step_reader.StepReader.time.Goals as goal
 
 pub returns : goal.returns
-returns c = c.time.ensures ∙ ap (λ (r : StepReading). r.wave.body.progress.time) c.self.view_is
+returns c = c.time.ensures ∙ ap (λ (r : StepReading). r.speculative.body.progress.time) c.self.view_is
     ∙ sym (time-here c.args.self.now)

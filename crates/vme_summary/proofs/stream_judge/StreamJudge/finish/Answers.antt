@@ -1,7 +1,7 @@
 -- The steps that wait are judged at the end.
 use Rattle.std.proofs.Common.{subst}
 use Rattle.vme_trace.specs.Trace.{Trace}
-use Rattle.vme_summary.proofs.Watching.{few_wait, all-judged}
+use Rattle.vme_summary.proofs.StreamJudging.{few_wait, all-judged}
 use Rattle.vme_summary.proofs.stream_judge.StreamJudge.finish.Goals as goal
 
 pub go_on-requires : goal.go_on-requires

@@ -2,7 +2,7 @@
 use Rattle.std.proofs.Common.{sym, ◌∙◌, ap}
 use Rattle.vme_trace.specs.Trace.{Trace, levels_after}
 use Rattle.vme_trace.proofs.SameLines.{lines_decide}
-use Rattle.vme_summary.proofs.Watching.{all-judged}
+use Rattle.vme_summary.proofs.StreamJudging.{all-judged}
 use Rattle.vme_summary.proofs.stream_judge.StreamJudge.leaves.Goals as goal
 
 pub returns-clause-leaves : goal.returns-clause-leaves

@@ -3,7 +3,7 @@ use Rattle.std.proofs.Common.{◌≡◌, ◌+◌, List, ◌++◌, append-nil, le
 use Rattle.vme_trace.specs.Levels.{Levels}
 use Rattle.vme_trace.specs.Trace.{Trace, levels_after}
 use Rattle.vme_trace.specs.declared.step.Step.{Step}
-use Rattle.vme_summary.proofs.Watching.{all-judged}
+use Rattle.vme_summary.proofs.StreamJudging.{all-judged}
 use Rattle.vme_summary.proofs.stream_judge.StreamJudge.pass.Goals as goal
 
 pub invariant_of-self-2 : goal.invariant_of-self-2

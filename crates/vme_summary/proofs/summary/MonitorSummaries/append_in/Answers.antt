@@ -1,13 +1,14 @@
 -- Each table is one of the steps of both.
-use Rattle.vme_monitor.specs.Run.{nothing, noticed}
-use Rattle.vme_monitor.specs.OverStretches.{noted, spanned}
-use Rattle.vme_monitor.specs.KnownSpec.{known_begin, known_ends, known_next, known_opens, known_resets, known_sight}
-use Rattle.vme_dtb.specs.Machine.{dtb_begin, dtb_ends, dtb_opens, dtb_sight, dtb_step}
+use Rattle.vme_monitor.specs.Run.{nothing, machine_step}
+use Rattle.vme_monitor.specs.OverStretches.{observed, phase_step}
+use Rattle.vme_monitor.specs.KnownSpec.{known_begin, known_ends, known_next, known_opens, known_resets}
+use Rattle.vme_monitor.specs.KnownSpec.{known_observation}
+use Rattle.vme_dtb.specs.Machine.{dtb_begin, dtb_ends, dtb_opens, dtb_observation, dtb_step}
 use Rattle.vme_stability.specs.StabilitySpec.{stability_begin, stability_ends, stability_next, stability_opens}
-use Rattle.vme_stability.specs.StabilitySpec.{stability_sight}
-use Rattle.vme_chains.specs.GrantSpec.{grant_begin, grant_ends, grant_next, grant_opens, grant_sight}
+use Rattle.vme_stability.specs.StabilitySpec.{stability_observation}
+use Rattle.vme_chains.specs.GrantSpec.{grant_begin, grant_ends, grant_next, grant_opens, grant_observation}
 use Rattle.vme_chains.specs.AcknowledgeSpec.{acknowledge_begin, acknowledge_ends, acknowledge_next, acknowledge_opens}
-use Rattle.vme_chains.specs.AcknowledgeSpec.{acknowledge_sight}
+use Rattle.vme_chains.specs.AcknowledgeSpec.{acknowledge_observation}
 use Rattle.vme_summary.specs.Runs.{known_run, handshake_run, stability_run, grant_run, acknowledge_run}
 use Rattle.vme_summary.proofs.Turns.{in_turn}
 use Rattle.vme_summary.proofs.summary.MonitorSummaries.append_in.Goals as goal
@@ -17,16 +18,21 @@ unfolding known_run handshake_run stability_run grant_run acknowledge_run
 returns-clause-stands c =
     λ o x y p q.
     record {
-      known = in_turn (noticed (noted known_sight) (spanned known_begin known_opens known_resets known_ends known_next))
+      known = in_turn (machine_step (observed known_observation)
+          (phase_step known_begin known_opens known_resets known_ends known_next))
           _ _ _ _ _ _ c.append_in.ensures.outcomes c.append_in.ensures.counted o x y p.known q.known;
-      handshake = in_turn (noticed (noted dtb_sight) (spanned dtb_begin dtb_opens nothing dtb_ends dtb_step)) _ _ _ _ _
+      handshake = in_turn (machine_step (observed dtb_observation)
+          (phase_step dtb_begin dtb_opens nothing dtb_ends dtb_step)) _ _ _ _ _
           _ c.append_in-2.ensures.outcomes c.append_in-2.ensures.counted o x y p.handshake q.handshake;
-      stability = in_turn (noticed (noted stability_sight) (spanned stability_begin stability_opens nothing
+      stability = in_turn (machine_step (observed stability_observation)
+          (phase_step stability_begin stability_opens nothing
           stability_ends stability_next)) _ _ _ _ _ _ c.append_in-3.ensures.outcomes c.append_in-3.ensures.counted o x y
           p.stability q.stability;
-      grant = in_turn (noticed (noted grant_sight) (spanned grant_begin grant_opens nothing grant_ends grant_next)) _ _
+      grant = in_turn (machine_step (observed grant_observation)
+          (phase_step grant_begin grant_opens nothing grant_ends grant_next)) _ _
           _ _ _ _ c.append_in-4.ensures.outcomes c.append_in-4.ensures.counted o x y p.grant q.grant;
-      acknowledge = in_turn (noticed (noted acknowledge_sight) (spanned acknowledge_begin acknowledge_opens nothing
+      acknowledge = in_turn (machine_step (observed acknowledge_observation)
+          (phase_step acknowledge_begin acknowledge_opens nothing
           acknowledge_ends acknowledge_next)) _ _ _ _ _ _ c.append_in-5.ensures.outcomes c.append_in-5.ensures.counted o
           x
           y p.acknowledge q.acknowledge;

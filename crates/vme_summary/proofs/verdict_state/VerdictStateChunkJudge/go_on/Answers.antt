@@ -9,8 +9,8 @@ pub returns-clause-past : goal.returns-clause-past
 returns-clause-past c = λ o x h.
     let steps = c.args.steps.now in
     record {
-      left = c.lead_along-self.ensures.left ∙ ap (λ (v : Levels). levels_after v steps) h.left
+      left = c.advance_along-self.ensures.left ∙ ap (λ (v : Levels). levels_after v steps) h.left
           ∙ sym (levels_after-append x steps o);
       counted = ap (λ n. n + length steps) h.counted ∙ sym (length-append x steps);
-      found = c.lead_along-self.ensures.found o x h.left h.counted h.found;
+      found = c.advance_along-self.ensures.found o x h.left h.counted h.found;
     }

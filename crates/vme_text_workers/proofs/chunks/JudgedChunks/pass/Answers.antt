@@ -7,7 +7,7 @@ use Rattle.vme_text_workers.proofs.chunks.JudgedChunks.pass.Goals as goal
 pub loop-chunk-preserved : goal.loop-chunk-preserved
 loop-chunk-preserved g c =
     let inv = c.loop-chunk.invariant in
-    let before : Trace = c.loop-chunk.watch in
+    let before : Trace = c.loop-chunk.stream_judge in
     let after : Trace = c.pass.new.self in
     let chunks : List Trace = into_iter_items c.loop-chunk.chunk-iterator in
     let rest : List Trace = into_iter_items c.next.new.self in

@@ -10,6 +10,7 @@ invariant-loop-chunk g l = record {
   next : (goal.iterator-loop-chunk g).can_next l.chunk-iterator;
   finite : (goal.iterator-loop-chunk g).is_finite l.chunk-iterator;
   counted : length (into_iter_items l.chunk-iterator) ≡ into_iter_len l.chunk-iterator;
-  follow : Follow (levels_after l.watch.opening l.watch.steps) (into_iter_items l.chunk-iterator);
-  passed : with_steps l.watch (steps_in (into_iter_items l.chunk-iterator)) ≡ with_steps l.fn.watch l.fn.self.steps;
+  follow : Follow (levels_after l.stream_judge.opening l.stream_judge.steps) (into_iter_items l.chunk-iterator);
+  passed : with_steps l.stream_judge (steps_in (into_iter_items l.chunk-iterator))
+      ≡ with_steps l.fn.stream_judge l.fn.self.steps;
 }

@@ -1,0 +1,403 @@
+-- What a piece that was read by itself tells, where it is joined.
+use Rattle.std.proofs.Common.{◌≡◌, ℕ, ◌≤◌, Bool, true, false, cond, ◌&&◌, List, [], ◌∷◌, ◌++◌, Option, Some, None}
+use Rattle.std.proofs.Common.{Result, Ok, Err, refl, sym, ap, ◌∙◌, subst, zero-add, arith}
+use Rattle.std.specs.Prelude.{not, ◌==◌, unwrap_or, nat_lt}
+use Rattle.std.proofs.lemmas.Bool.Decides.{nat_tests}
+use Rattle.std.proofs.lemmas.List.{append-nil}
+use Rattle.vcd_read.specs.declared.dump.Bit.{Bit}
+use Rattle.vcd_read.specs.declared.fault.FaultKind.{FaultKind}
+use Rattle.vcd_read.specs.declared.fault.FaultKind.TheVariants.{BadToken, TimeBackwards}
+use Rattle.vcd_read.specs.declared.fault.VcdFault.{VcdFault}
+use Rattle.vcd_read.specs.Tokens.{Token, tokens_from}
+use Rattle.vcd_read.specs.Numbers.{number, time_of, extended}
+use Rattle.vcd_read.specs.Reading.{left_from}
+use Rattle.vcd_read.specs.declared.open_item.OpenItem.{OpenItem}
+use Rattle.vcd_read.specs.declared.open_item.OpenItem.TheVariants.{Ready}
+use Rattle.vcd_read.specs.Bodies.{place_of}
+use Rattle.vcd_read.specs.Header.{◌>>=◌, at_line, is_end, Net, net_of, size_of}
+use Rattle.vcd_read.specs.Body.{BodyItem, time_item, change, skipped, bracket_open, bracket_end, wrong, BodyPlace}
+use Rattle.vcd_read.specs.Body.{ready, code_of_vector, code_of_foreign, in_comment, Shape, time_shape, scalar, vector}
+use Rattle.vcd_read.specs.Body.{foreign, comment, open_shape, end_shape, none, BodyContext, context_after, time_after}
+use Rattle.vcd_read.specs.Body.{body_from, shape_of}
+use Rattle.vcd_read.specs.Taking.{Taking, State, advanced, progress_after, reached_before, state_at, step, steps}
+use Rattle.vcd_read.specs.Reached.{Reached, rest_of}
+use Rattle.vcd_read.specs.DetachedPieces.{MayFollow, IsReadDetached, ReadDetached, before_piece, behind_piece, ended_at}
+use Rattle.vcd_read.specs.DetachedPieces.{entered, detached_items, time_first, with_taken}
+use Rattle.vcd_read.proofs.BodyLemmas.{items_of, shape_read}
+
+-- ---- the time that a piece begins with
+
+number_tested : (text : List ℕ) (time : ℕ) (test below : Bool) (kind large : FaultKind)
+    → cond test (cond below (Ok (number text)) (Err large)) (Err kind) ≡ Ok time → number text ≡ time
+number_tested text time true true kind large h = cc
+number_tested text time true false kind large h = absurd cc
+number_tested text time false below kind large h = absurd cc
+
+-- a time is the number that its digits are
+pub time_number : (digits : List ℕ) (time : ℕ) → time_of digits ≡ Ok time → number digits ≡ time
+time_number digits time h = number_tested digits time _ _ _ _ h
+
+-- a piece whose first token is a time begins with it
+pub first-read : (ts others : List Token) (t : Token) (digits : List ℕ) (time : ℕ) → ts ≡ t ∷ others → time_shape digits
+    ≡ shape_of t.bytes → time_of digits ≡ Ok time → time_first (body_from ready ts) ≡ Some time
+first-read ts others t digits time cut shape is =
+    ap (λ (x : List Token). time_first (body_from ready x)) cut ∙ ap time_first (shape_read t others (time_shape digits)
+    shape) ∙ ap Some (time_number digits time is)
+
+-- all that is left of a piece
+pub left-whole : (line : ℕ) (bytes : List ℕ) → left_from line bytes 0 ≡ tokens_from line bytes
+left-whole line bytes = ap (λ (l : ℕ). tokens_from l bytes) (zero-add line)
+
+-- ---- items
+
+module _ {A : Type 0} (with_change : A → ℕ → List Bit → A) (with_instant : A → ℕ → A) (nets : List Net) where
+  abbrev Read : Type 0
+  Read = Result (State A) VcdFault
+
+  then-steps : (items more : List BodyItem) (r : Read) → ((s : State A) → steps with_change with_instant nets s
+      (items ++ more) ≡ (steps with_change with_instant nets s items >>= λ end. steps with_change with_instant nets end
+      more))
+      → (r >>= λ next. steps with_change with_instant nets next (items ++ more))
+      ≡ ((r >>= λ next. steps with_change with_instant nets next items) >>= λ end. steps with_change with_instant nets
+      end more)
+  then-steps items more (Ok s) rest = rest s
+  then-steps items more (Err fault) rest = refl
+
+  -- items, and others behind them
+  pub steps-append : (s : State A) (items more : List BodyItem) → steps with_change with_instant nets s (items ++ more)
+      ≡ (steps with_change with_instant nets s items >>= λ end. steps with_change with_instant nets end more)
+  unfolding steps
+  steps-append s [] more = refl
+  steps-append s (item ∷ items) more = then-steps items more (step with_change with_instant nets s item)
+      (λ next. steps-append next items more)
+
+  -- what is read to its end between two items is this
+  pub read-whole : (s end : State A) (place : OpenItem) (left ts : List Token) → left ≡ ts → place ≡ Ready
+      → steps with_change with_instant nets s (body_from ready (left ++ [])) ≡ steps with_change with_instant nets end
+      (body_from (place_of place) [])
+      → steps with_change with_instant nets s (body_from ready ts) ≡ Ok end
+  unfolding steps body_from
+  read-whole s end place left ts e is h =
+      ap (λ (ts : List Token). steps with_change with_instant nets s (body_from ready ts))
+      (sym e ∙ sym (append-nil left))
+      ∙ h ∙ ap (λ (p : OpenItem). steps with_change with_instant nets end (body_from (place_of p) [])) is
+
+  -- what is so of what was taken, and of what each change and each end of an instant makes of it, is so behind the
+  -- items
+  module _ (R : A → Type 0) (on_change : (a : A) (net : ℕ) (bits : List Bit) → R a → R (with_change a net bits))
+      (on_instant : (a : A) (time : ℕ) → R a → R (with_instant a time)) where
+    advanced-keeps : (p : Taking A) (time : ℕ) (test : Bool) → R p.taken
+        → R (cond test (record { taken = with_instant p.taken p.time; time = time; begun = true })
+        (record p { time = time; begun = true })).taken
+    advanced-keeps p time true r = on_instant p.taken p.time r
+    advanced-keeps p time false r = r
+
+    item-keeps : (p : Taking A) (item : BodyItem) → R p.taken → R (progress_after with_change with_instant nets p
+        item).taken
+    item-keeps p (time_item line digits) r = advanced-keeps p (number digits) (p.begun && not (number digits == p.time))
+        r
+    item-keeps p (change line digits code) r = on_change p.taken (unwrap_or (net_of nets code) 0)
+        (extended (size_of nets (unwrap_or (net_of nets code) 0)) digits) r
+    item-keeps p (skipped line code) r = r
+    item-keeps p (bracket_open line) r = r
+    item-keeps p (bracket_end line) r = r
+    item-keeps p (wrong line kind) r = r
+
+    then-keeps : (items : List BodyItem) (p : Taking A) (stood : Result BodyContext VcdFault) (end : State A)
+        → ((next : State A) → R next.progress.taken → steps with_change with_instant nets next items ≡ Ok end
+        → R end.progress.taken)
+        → R p.taken → ((stood >>= λ next. Ok (record { context = next; progress = p })) >>= λ next. steps with_change
+        with_instant nets next items) ≡ Ok end → R end.progress.taken
+    then-keeps items p (Ok next) end rest r is = rest (record { context = next; progress = p }) r is
+    then-keeps items p (Err fault) end rest r is = absurd cc
+
+    same_end : (s end : State A) (r : Read) → r ≡ Ok s → r ≡ Ok end → s ≡ end
+    same_end s end r e is = cc
+
+    pub steps-keep : (s : State A) (items : List BodyItem) (end : State A) → R s.progress.taken → steps with_change
+        with_instant nets s items ≡ Ok end → R end.progress.taken
+    unfolding steps
+    steps-keep s [] end r is = subst (λ (x : State A). R x.progress.taken) (same_end s end (Ok s) refl is) r
+    steps-keep s (item ∷ items) end r is =
+        then-keeps items (progress_after with_change with_instant nets s.progress item)
+        (context_after nets s.context item) end (λ next kept. steps-keep next items end kept)
+        (item-keeps s.progress item r) is
+
+    -- what is so of what was taken before a piece is so behind it
+    pub kept-detached : (bytes : List ℕ) (before : A) (detached : ReadDetached A)
+        → IsReadDetached with_change with_instant nets
+        bytes before detached → R before → R detached.progress.taken
+    kept-detached bytes before detached is r = steps-keep (before_piece before detached.time)
+        (detached_items detached.first_line bytes) (state_at detached.progress detached.bracket) r is.whole
+
+  -- ---- tokens whose items are all whole, and others behind them
+
+  module _ (more : List Token) where
+    later-ok : (items : List BodyItem) (end : State A) (r : Read) → (r >>= λ next. steps with_change with_instant nets
+        next items) ≡ Ok end
+        → (next : State A) × (steps with_change with_instant nets next items ≡ Ok end)
+    later-ok items end (Ok next) h = (next, h)
+    later-ok items end (Err fault) h = absurd cc
+
+    -- these tokens end between two items, if they are read without a fault
+    abbrev AreWhole : BodyPlace → List Token → Type 0
+    AreWhole place ts = (s end : State A) → steps with_change with_instant nets s (body_from place ts) ≡ Ok end
+        → body_from place (ts ++ more) ≡ body_from place ts ++ body_from ready more
+
+    one-whole : (item : BodyItem) (ts : List Token) (s end : State A) → AreWhole ready ts → steps with_change
+        with_instant nets s (item ∷ body_from ready ts) ≡ Ok end
+        → item ∷ body_from ready (ts ++ more) ≡ (item ∷ body_from ready ts) ++ body_from ready more
+    unfolding steps
+    one-whole item ts s end rest h =
+        let later = later-ok (body_from ready ts) end (step with_change with_instant nets s item) h in
+        ap (λ (items : List BodyItem). item ∷ items) (rest later.0 end later.1)
+
+    shape-whole : (shape : Shape) (line : ℕ) (ts : List Token) (s end : State A)
+        → ((place : BodyPlace) → AreWhole place ts) → steps with_change with_instant nets s (items_of shape line ts)
+        ≡ Ok end
+        → items_of shape line (ts ++ more) ≡ items_of shape line ts ++ body_from ready more
+    shape-whole (time_shape digits) line ts s end rest h = one-whole (time_item line digits) ts s end (rest ready) h
+    shape-whole (scalar digits code) line ts s end rest h = one-whole (change line digits code) ts s end (rest ready) h
+    shape-whole (vector digits) line ts s end rest h = rest (code_of_vector line digits) s end h
+    shape-whole foreign line ts s end rest h = rest (code_of_foreign line) s end h
+    shape-whole comment line ts s end rest h = rest (in_comment line) s end h
+    shape-whole open_shape line ts s end rest h = one-whole (bracket_open line) ts s end (rest ready) h
+    shape-whole end_shape line ts s end rest h = one-whole (bracket_end line) ts s end (rest ready) h
+    shape-whole none line ts s end rest h = one-whole (wrong line BadToken) ts s end (rest ready) h
+
+    comment-whole : (test : Bool) (line : ℕ) (ts : List Token) (s end : State A)
+        → ((place : BodyPlace) → AreWhole place ts)
+        → steps with_change with_instant nets s (elim test as (λ _. List BodyItem) [
+          | true ↦ body_from ready ts
+          | false ↦ body_from (in_comment line) ts
+        ]) ≡ Ok end
+        → elim test as (λ _. List BodyItem) [
+          | true ↦ body_from ready (ts ++ more)
+          | false ↦ body_from (in_comment line)
+              (ts ++ more)
+        ]
+        ≡ elim test as (λ _. List BodyItem) [ true ↦ body_from ready ts | false ↦ body_from (in_comment line) ts ]
+        ++ body_from ready more
+    comment-whole true line ts s end rest h = rest ready s end h
+    comment-whole false line ts s end rest h = rest (in_comment line) s end h
+
+    pub are-whole : (ts : List Token) (place : BodyPlace) → AreWhole place ts
+    unfolding body_from steps
+    are-whole [] ready s end h = refl
+    are-whole [] (code_of_vector line digits) s end h = absurd cc
+    are-whole [] (code_of_foreign line) s end h = absurd cc
+    are-whole [] (in_comment line) s end h = absurd cc
+    are-whole (t ∷ ts) ready s end h =
+        let here = shape_read t ts (shape_of t.bytes) refl in
+        shape_read t (ts ++ more) (shape_of t.bytes) refl
+        ∙ shape-whole (shape_of t.bytes) t.line ts s end (are-whole ts)
+        (sym (ap (steps with_change with_instant nets s) here) ∙ h)
+        ∙ sym (ap (λ (items : List BodyItem). items ++ body_from ready more) here)
+    are-whole (t ∷ ts) (code_of_vector line digits) s end h = one-whole (change line digits t.bytes) ts s end
+        (are-whole ts ready) h
+    are-whole (t ∷ ts) (code_of_foreign line) s end h = one-whole (skipped line t.bytes) ts s end (are-whole ts ready) h
+    are-whole (t ∷ ts) (in_comment line) s end h = comment-whole (is_end t.bytes) line ts s end (are-whole ts) h
+
+  -- ---- a first time
+
+  time-met : (s : BodyContext) (line : ℕ) (digits : List ℕ) (p : Taking A) (items : List BodyItem) (end : State A)
+      (read : Result ℕ FaultKind) → time_of digits ≡ read
+      → ((at_line line (read >>= λ n. time_after s.now n >>= λ now. Ok (record s { now = now })) >>= λ next. Ok
+      (record { context = next; progress = p })) >>= λ next. steps with_change with_instant nets next items) ≡ Ok end
+      → time_of digits ≡ Ok (number digits)
+  time-met s line digits p items end (Ok n) e h = e ∙ ap Ok (sym (time_number digits n e))
+  time-met s line digits p items end (Err kind) e h = absurd cc
+
+  -- a time that is read without a fault is its number
+  pub time-read : (s end : State A) (line : ℕ) (digits : List ℕ) (items : List BodyItem) → steps with_change
+      with_instant nets s (time_item line digits ∷ items) ≡ Ok end → time_of digits ≡ Ok (number digits)
+  unfolding steps
+  time-read s end line digits items h = time-met s.context line digits (progress_after with_change with_instant nets
+      s.progress (time_item line digits)) items end (time_of digits) refl h
+
+  not_below : (now n : ℕ) → now ≤ n → nat_lt n now ≡ false
+  not_below now n low = grind (arith, nat_tests)
+
+  stand-time : (s : BodyContext) (line n : ℕ) (digits : List ℕ) → time_of digits ≡ Ok n → s.now ≤ n
+      → context_after nets s
+      (time_item line digits) ≡ Ok (record s { now = n })
+  stand-time s line n digits is low =
+      ap (λ (read : Result ℕ FaultKind). at_line line (read >>= λ n. time_after s.now n >>= λ now. Ok
+      (record s { now = now }))) is
+      ∙ ap (λ (test : Bool). at_line line (cond test (Err TimeBackwards) (Ok n) >>= λ now. Ok (record s { now = now })))
+      (not_below s.now n low)
+
+  -- behind a time that isn't earlier
+  pub time-step : (s : State A) (line n : ℕ) (digits : List ℕ) (items : List BodyItem) → time_of digits ≡ Ok n
+      → s.context.now ≤ n
+      → steps with_change with_instant nets s (time_item line digits ∷ items)
+      ≡ steps with_change with_instant nets (record {
+        context = record { now = n; bracket = s.context.bracket };
+        progress = advanced with_instant s.progress (number digits);
+      }) items
+  unfolding steps
+  time-step s line n digits items is low =
+      ap (λ (stood : Result BodyContext VcdFault).
+      (stood >>= λ next. Ok (record { context = next; progress = advanced with_instant s.progress (number digits) }))
+      >>= λ next. steps with_change with_instant nets next items) (stand-time s.context line n digits is low)
+
+-- ---- what one taker tells another
+
+module _ {A B : Type 0} (with_change : A → ℕ → List Bit → A) (with_instant : A → ℕ → A) (other_change : B → ℕ → List Bit
+    → B) (other_instant : B → ℕ → B) (learned : A → B)
+    (on_change : (a : A) (net : ℕ) (bits : List Bit) → learned (with_change a net bits) ≡ other_change (learned a) net
+    bits)
+    (on_instant : (a : A) (time : ℕ) → learned (with_instant a time) ≡ other_instant (learned a) time) where
+  abbrev pub learned_taking : Taking A → Taking B
+  learned_taking p = record { taken = learned p.taken; time = p.time; begun = p.begun }
+
+  abbrev pub learned_state : State A → State B
+  learned_state s = record { context = s.context; progress = learned_taking s.progress }
+
+  time-learned : (p : Taking A) (time : ℕ) (test : Bool)
+      → cond test (record { taken = other_instant (learned p.taken) p.time; time = time; begun = true })
+      (record { taken = learned p.taken; time = time; begun = true })
+      ≡ learned_taking (cond test (record { taken = with_instant p.taken p.time; time = time; begun = true })
+      (record p { time = time; begun = true }))
+  time-learned p time true = ap (λ (b : B). record { taken = b; time = time; begun = true })
+      (sym (on_instant p.taken p.time))
+  time-learned p time false = refl
+
+  module _ (nets : List Net) where
+    item-learned : (p : Taking A) (item : BodyItem) → progress_after other_change other_instant nets (learned_taking p)
+        item ≡ learned_taking (progress_after with_change with_instant nets p item)
+    item-learned p (time_item line digits) = time-learned p (number digits) (p.begun && not (number digits == p.time))
+    item-learned p (change line digits code) =
+        ap (λ (b : B). record { taken = b; time = p.time; begun = true })
+        (sym (on_change p.taken (unwrap_or (net_of nets code) 0)
+        (extended (size_of nets (unwrap_or (net_of nets code) 0)) digits)))
+    item-learned p (skipped line code) = refl
+    item-learned p (bracket_open line) = refl
+    item-learned p (bracket_end line) = refl
+    item-learned p (wrong line kind) = refl
+
+    then-learned : (items : List BodyItem) (p : Taking A) (stood : Result BodyContext VcdFault)
+        → ((s : State A) → steps other_change other_instant nets (learned_state s) items
+        ≡ (steps with_change with_instant nets s items >>= λ end. Ok (learned_state end)))
+        → ((stood >>= λ next. Ok (record { context = next; progress = learned_taking p })) >>= λ next. steps
+        other_change other_instant nets next items)
+        ≡ (((stood >>= λ next. Ok (record { context = next; progress = p })) >>= λ next. steps with_change with_instant
+        nets next items) >>= λ end. Ok (learned_state end))
+    then-learned items p (Ok next) rest = rest (record { context = next; progress = p })
+    then-learned items p (Err fault) rest = refl
+
+    -- what a taker learns from another is what it would take itself
+    pub steps-learned : (s : State A) (items : List BodyItem)
+        → steps other_change other_instant nets (learned_state s) items
+        ≡ (steps with_change with_instant nets s items >>= λ end. Ok (learned_state end))
+    unfolding steps
+    steps-learned s [] = refl
+    steps-learned s (item ∷ items) =
+        ap (λ (p : Taking B). (context_after nets s.context item >>= λ next. Ok
+        (record { context = next; progress = p })) >>= λ next. steps other_change other_instant nets next items)
+        (item-learned s.progress item)
+        ∙ then-learned items (progress_after with_change with_instant nets s.progress item)
+        (context_after nets s.context item) (λ s2. steps-learned s2 items)
+
+    abbrev stand_at : {C : Type 0} → Taking C → Result BodyContext VcdFault → Result (State C) VcdFault
+    stand_at p stood = stood >>= λ next. Ok (record { context = next; progress = p })
+
+    before-learned : (items : List BodyItem) (s : State A) (p : Taking A) (stood : Result BodyContext VcdFault)
+        → ((s2 : State A) → reached_before other_change other_instant nets (learned_state s2) items
+        ≡ learned_state (reached_before with_change with_instant nets s2 items))
+        → elim (stand_at (learned_taking p) stood) as (λ _. State B) [
+          | Ok next ↦ reached_before other_change other_instant nets next items
+          | Err fault ↦ learned_state s
+        ]
+        ≡ learned_state (elim (stand_at p stood) as (λ _. State A) [
+          | Ok next ↦ reached_before with_change with_instant nets next items
+          | Err fault ↦ s
+        ])
+    before-learned items s p (Ok next) rest = rest (record { context = next; progress = p })
+    before-learned items s p (Err fault) rest = refl
+
+    -- the same up to the first fault
+    pub reached-learned : (s : State A) (items : List BodyItem)
+        → reached_before other_change other_instant nets (learned_state s) items
+        ≡ learned_state (reached_before with_change with_instant nets s items)
+    unfolding reached_before
+    reached-learned s [] = refl
+    reached-learned s (item ∷ items) =
+        ap (λ (p : Taking B). elim (stand_at p (context_after nets s.context item)) as (λ _. State B) [
+          | Ok next ↦ reached_before other_change other_instant nets next items
+          | Err fault ↦ learned_state s
+        ]) (item-learned s.progress item)
+        ∙ before-learned items s (progress_after with_change with_instant nets s.progress item)
+        (context_after nets s.context item) (λ s2. reached-learned s2 items)
+
+    entered-by : (p : Taking B) (time : ℕ) (test : Bool)
+        → cond test (record { taken = other_instant p.taken p.time; time = time; begun = true })
+        (record p { time = time; begun = true })
+        ≡ record { taken = entered other_instant p.taken (cond test (Some p.time) None); time = time; begun = true }
+    entered-by p time true = refl
+    entered-by p time false = refl
+
+    same_time : (a b : ℕ) → Some a ≡ Some b → a ≡ b
+    same_time a b e = cc
+
+    -- items that begin with a time tell the same, from an earlier time on
+    first-learned : (items : List BodyItem) (before : A) (time : ℕ) (end : State A) (p : Taking B) → time_first items
+        ≡ Some time → steps with_change with_instant nets (before_piece before time) items ≡ Ok end
+        → p.time ≤ time → learned before ≡ entered other_instant p.taken (ended_at p time)
+        → steps other_change other_instant nets (state_at p None) items ≡ Ok (learned_state end)
+    first-learned [] before time end p first whole low told = absurd cc
+    first-learned (time_item line digits ∷ items) before time end p first whole low told =
+        let n : ℕ = number digits in
+        let same : n ≡ time = same_time n time first in
+        let is : time_of digits ≡ Ok n = time-read with_change with_instant nets (before_piece before time) end line
+        digits items whole in
+        let behind : State A = record {
+          context = record { now = n; bracket = None };
+          progress = record
+              { taken = before; time = n; begun = true };
+        } in
+        let own : steps with_change with_instant nets behind items
+        ≡ Ok end = sym (time-step with_change with_instant nets (before_piece before time) line n digits items is
+        (omega (arith, same))) ∙ whole in
+        let told2 : learned before ≡ entered other_instant p.taken (ended_at p n) = subst (λ (t : ℕ). learned before
+        ≡ entered other_instant p.taken (ended_at p t)) (sym same) told in
+        let there : advanced other_instant p n ≡ learned_taking behind.progress =
+        entered-by p n (p.begun && not (n == p.time)) ∙ ap (λ (b : B). record { taken = b; time = n; begun = true })
+        (sym told2) in
+        time-step other_change other_instant nets (state_at p None) line n digits items is (omega (arith, same, low))
+        ∙ ap (λ (q : Taking B). steps other_change other_instant nets
+        (record { context = record { now = n; bracket = None }; progress = q }) items) there
+        ∙ steps-learned behind items
+        ∙ ap (λ (r : Result (State A) VcdFault). r >>= λ end. Ok (learned_state end)) own
+    first-learned (item ∷ items) before time end p first whole low told = absurd cc
+
+  -- what comes of a body is what a piece that was read by itself tells, and what is behind it
+  pub joined-leads : (r : Reached B) (bytes : List ℕ) (before : A) (detached : ReadDetached A)
+      → IsReadDetached with_change
+      with_instant r.nets bytes before detached → MayFollow r detached
+      → learned before ≡ entered other_instant r.progress.taken (ended_at r.progress detached.time)
+      → (more : List Token) → rest_of other_change other_instant r (tokens_from r.line bytes) more
+      ≡ rest_of other_change other_instant (with_taken (learned detached.progress.taken) (behind_piece r.nets detached))
+      []
+      more
+  joined-leads r bytes before detached is fits told more =
+      let ts : List Token = tokens_from detached.first_line bytes in
+      let end : State A = state_at detached.progress detached.bracket in
+      let s : State B = state_at r.progress None in
+      let whole : body_from ready (ts ++ more) ≡ detached_items detached.first_line bytes ++ body_from ready more =
+      are-whole
+      with_change with_instant r.nets more ts ready (before_piece before detached.time) end is.whole in
+      ap (λ (line : ℕ). steps other_change other_instant r.nets (state_at r.progress r.bracket)
+      (body_from r.place (tokens_from line bytes ++ more))) fits.line
+      ∙ ap (λ (place : BodyPlace). steps other_change other_instant r.nets (state_at r.progress r.bracket)
+      (body_from place (ts ++ more))) fits.place
+      ∙ ap (λ (bracket : Option ℕ). steps other_change other_instant r.nets (state_at r.progress bracket)
+      (body_from ready (ts ++ more))) fits.bracket
+      ∙ ap (steps other_change other_instant r.nets s) whole
+      ∙ steps-append other_change other_instant r.nets s (detached_items detached.first_line bytes)
+      (body_from ready more)
+      ∙ ap (λ (end : Result (State B) VcdFault). end >>= λ end. steps other_change other_instant r.nets end
+      (body_from ready more))
+      (first-learned r.nets (detached_items detached.first_line bytes) before detached.time end r.progress is.begins
+      is.whole
+      fits.time told)

@@ -1,0 +1,250 @@
+-- A body that is audited piece by piece.
+use Rattle.std.proofs.Common.{◌≡◌, ℕ, List, [], ◌++◌, Option, None, Some, IfSome, Result, Ok, Err, take, drop, sym}
+use Rattle.std.proofs.Common.{ap, subst, ◌∙◌, append_assoc, append-nil, take-append-drop, refl}
+use Rattle.std.specs.Io.KnownBytes.{Consumes, IsAtEnd}
+use Rattle.std.proofs.KnownBytes.{Consumes-nil, Consumes-trans}
+use Rattle.vme_trace.specs.Streams.{Reading, Writing}
+use Rattle.vme_trace.specs.Trace.{Trace}
+use Rattle.vme_bind.specs.TextReading.{TextReading}
+use Rattle.vme_stream.specs.Outputs.{Writes}
+use Rattle.vme_audit_command.specs.Bodies.{AuditsBody, EndsBehind, HasGiven, TakesPiece}
+use Rattle.vme_audit_command.specs.Definitions.{GivenIsPrefix, unread}
+use Rattle.vme_audit_command.specs.declared.dump_input.ReadFault.{ReadFault}
+use Rattle.vme_audit_command.specs.declared.dump_input.ReadFault.TheVariants as read
+use Rattle.vme_audit_command.specs.DumpAudits.{given_all, lines_of}
+use Rattle.vme_audit_command.specs.SettledReadings.{settled_by}
+use Rattle.vme_skew.specs.Settling.{Settling}
+use Rattle.vme_step_auditor.specs.ReadBy.{GivenSteps}
+use Rattle.vme_step_reader.specs.StepReading.{StepReading, whole_reading}
+use Rattle.vme_audit_command.specs.declared.told.NoOutcome.{NoOutcome}
+use Rattle.vme_audit_command.specs.declared.told.NoOutcome.TheVariants.{CannotRead, Untold}
+use Rattle.vme_audit_command.specs.declared.told.TellFault.TheVariants.{Memory}
+use Rattle.vme_audit_command.proofs.BodyLemmas.{ReadGoesOn}
+use Rattle.vme_audit_command.proofs.Onward.{StepsFollow, TimeGoesOn, given-on}
+use Rattle.vme_audit_command.proofs.PieceLemmas.{ends-after, memory-ends}
+use Rattle.vme_audit_command.proofs.WriteLemmas.{writes-both, writes-nothing}
+
+-- what is left of a source whose first bytes were read
+abbrev pub left_of : Option (List ℕ) → List ℕ
+left_of None = []
+left_of (Some x) = x
+
+pub all-of : (a b : Option (List ℕ)) (bytes : List ℕ) → Consumes a b bytes → IfSome a (λ told. bytes ++ left_of b
+    ≡ told)
+all-of None b bytes read = tt
+all-of (Some x) None bytes read = absurd read
+all-of (Some x) (Some y) bytes read = sym read
+
+pub all-at-end : (a b : Option (List ℕ)) (bytes : List ℕ) → Consumes a b bytes → IsAtEnd b → IfSome a (λ told. bytes
+    ≡ told)
+all-at-end None b bytes read end = tt
+all-at-end (Some x) None bytes read end = absurd read
+all-at-end (Some x) (Some y) bytes read end =
+    sym (read ∙ ap (λ (l : List ℕ). bytes ++ l) end ∙ append-nil bytes)
+
+pub all-left : (a : Option (List ℕ)) → IfSome a (λ told. left_of a ≡ told)
+all-left None = tt
+all-left (Some x) = refl
+
+-- these bytes were read, of which some are done with and others held; and the lines of the breaks so far were told
+pub record IsUnderway (head : List ℕ) (source now : Reading) (old new : Writing) (first audit : GivenSteps)
+    (begun r : StepReading) (held left : List ℕ) : Type 0 where
+  pub done : List ℕ
+  pub more : List ℕ
+  pub text : List ℕ
+  pub read : Consumes source.left now.left more
+  pub split : held ++ more ≡ done ++ left
+  pub passes : (rest : List ℕ) → whole_reading begun (done ++ rest) ≡ whole_reading r rest
+  pub same : audit ≡ given_all first audit.recording
+  pub lines : lines_of head audit ≡ lines_of head first ++ text
+  pub writes : Writes old new text
+
+pub underway-first : (head : List ℕ) (source : Reading) (old : Writing) (audit : GivenSteps) (r : StepReading)
+    (held : List ℕ) → IsUnderway head source source old old audit audit r r held held
+underway-first head source old audit r held = record {
+  done = [];
+  more = [];
+  text = [];
+  read = Consumes-nil source.left;
+  split = append-nil held;
+  passes = λ rest. refl;
+  same = refl;
+  lines = sym (append-nil (lines_of head audit));
+  writes = writes-nothing old;
+}
+
+module _ (skew : Option ℕ) (head : List ℕ) (source now : Reading) (old new : Writing) (first audit : GivenSteps)
+    (begun r : StepReading) (held left : List ℕ)
+    (u : IsUnderway head source now old new first audit begun r held left) where
+  -- a piece is taken
+  pub underway-taken : (later : GivenSteps) (next : StepReading) (n : ℕ) (after : Writing)
+      → ((rest : List ℕ) → whole_reading r (take n left ++ rest) ≡ whole_reading next rest)
+      → later ≡ given_all audit later.recording
+      → (text : List ℕ) × (lines_of head later ≡ lines_of head audit ++ text) × Writes new after text
+      → IsUnderway head source now old after first later begun next held (drop n left)
+  underway-taken later next n after passes same told =
+      let (text, lines, writes) = told in
+      record {
+        done = u.done ++ take n left;
+        more = u.more;
+        text = u.text ++ text;
+        read = u.read;
+        split = u.split ∙ ap (λ (l : List ℕ). u.done ++ l) (sym (take-append-drop n left))
+            ∙ sym (append_assoc u.done (take n left) (drop n left));
+        passes = λ rest. ap (whole_reading begun) (append_assoc u.done (take n left) rest) ∙ u.passes
+            (take n left ++ rest)
+            ∙ passes rest;
+        same = same ∙ ap (λ (a : GivenSteps). given_all a later.recording) u.same;
+        lines = lines ∙ ap (λ (l : List ℕ). l ++ text) u.lines ∙ append_assoc (lines_of head first) u.text text;
+        writes = writes-both old new after u.text text u.writes writes;
+      }
+
+  -- more is read
+  pub underway-read : (later : Reading) (bytes grown : List ℕ) → Consumes now.left later.left bytes
+      → grown ≡ left ++ bytes → IsUnderway head source later old new first audit begun r held grown
+  underway-read later bytes grown read is = record {
+    done = u.done;
+    more = u.more ++ bytes;
+    text = u.text;
+    read = Consumes-trans source.left now.left later.left u.more bytes u.read read;
+    split = sym (append_assoc held u.more bytes) ∙ ap (λ (l : List ℕ). l ++ bytes) u.split
+        ∙ append_assoc u.done left bytes ∙ ap (λ (l : List ℕ). u.done ++ l) (sym is);
+    passes = u.passes;
+    same = u.same;
+    lines = u.lines;
+    writes = u.writes;
+  }
+
+  -- what comes of all that the source tells
+  same_reading : (rest : List ℕ) → whole_reading begun (held ++ (u.more ++ rest)) ≡ whole_reading r (left ++ rest)
+  same_reading rest =
+      ap (whole_reading begun) (sym (append_assoc held u.more rest) ∙ ap (λ (l : List ℕ). l ++ rest) u.split
+      ∙ append_assoc u.done left rest)
+      ∙ u.passes (left ++ rest)
+
+  end-behind : {A : Type 0} (later : GivenSteps) (after : Writing) (result : Result A NoOutcome) (rest : List ℕ)
+      → EndsBehind head audit (lines_of head audit) (settled_by skew (whole_reading r (left ++ rest))) later.recording
+      new after result
+      → EndsBehind head first (lines_of head first) (settled_by skew (whole_reading begun (held ++ (u.more ++ rest))))
+      later.recording old after result
+  end-behind {A} later after result rest ends =
+      let reading = settled_by skew (whole_reading r (left ++ rest)) in
+      let there : EndsBehind head audit (lines_of head first ++ u.text) reading later.recording new after result =
+      subst (λ (l : List ℕ). EndsBehind head audit l reading later.recording new after result) u.lines ends in
+      let ours : EndsBehind head first (lines_of head first ++ u.text) reading later.recording new after result =
+      subst (λ (a : GivenSteps). EndsBehind head a (lines_of head first ++ u.text) reading later.recording new after
+      result) u.same there in
+      let whole = ends-after head first (lines_of head first) u.text reading later.recording old new after result
+      u.writes ours in
+      subst (λ (x : TextReading). EndsBehind head first (lines_of head first) (settled_by skew x) later.recording old
+      after result)
+      (sym (same_reading rest)) whole
+
+  -- the audit ends here, whatever follows
+  pub underway-ends : {A : Type 0} (later : GivenSteps) (after : Writing) (result : Result A NoOutcome)
+      → ((rest : List ℕ)
+      → EndsBehind head audit (lines_of head audit) (settled_by skew (whole_reading r (left ++ rest))) later.recording
+      new after result)
+      → AuditsBody skew head first later begun held source old after result
+  underway-ends later after result ends = (
+    u.more ++ left_of now.left,
+    all-of source.left now.left u.more u.read,
+    end-behind later after result (left_of now.left) (ends (left_of now.left)),
+  )
+
+  -- the source is at its end
+  pub underway-last : {A : Type 0} (later : GivenSteps) (after : Writing) (result : Result A NoOutcome)
+      → IsAtEnd now.left
+      → EndsBehind head audit (lines_of head audit) (settled_by skew (whole_reading r left)) later.recording new after
+      result
+      → AuditsBody skew head first later begun held source old after result
+  underway-last later after result end ends = (
+    u.more,
+    all-at-end source.left now.left u.more u.read end,
+    subst (λ (l : List ℕ). EndsBehind head first (lines_of head first)
+        (settled_by skew (whole_reading begun (held ++ l))) later.recording old after result) (append-nil u.more)
+        (end-behind later after result []
+        (subst (λ (l : List ℕ). EndsBehind head audit (lines_of head audit) (settled_by skew (whole_reading r l))
+        later.recording new after result)
+        (sym (append-nil left)) ends)),
+  )
+
+-- no more could be read: the first of all lines were written
+module _ (law : ReadGoesOn) (front : GivenIsPrefix) (follows : StepsFollow) (on : TimeGoesOn) (head : List ℕ)
+    (skew : Option ℕ) (settler : Option Settling) (audit : GivenSteps) (r : StepReading)
+    (h : HasGiven skew settler audit r) (w : Writing) where
+  pub unheld-ends : (A : Type 0) (t : Trace) (rest : List ℕ)
+      → EndsBehind {A = A} head audit (lines_of head audit) (settled_by skew (whole_reading r rest)) t w w
+      (Err (Untold Memory))
+  unheld-ends A t rest =
+      memory-ends A law head audit (settled_by skew (whole_reading r rest)) t w
+      (given-on front follows on skew r rest settler audit h)
+
+  pub unread-ends : (A : Type 0) (t : Trace) (rest : List ℕ)
+      → EndsBehind {A = A} head audit (lines_of head audit) (settled_by skew (whole_reading r rest)) t w w
+      (Err CannotRead)
+  unread-ends A t rest = unheld-ends A t rest
+
+  -- why no more was read
+  pub no-more-ends : (fault : ReadFault) (why : NoOutcome) (t : Trace) → why ≡ unread fault → (rest : List ℕ)
+      → EndsBehind {A = Unit {0}} head audit (lines_of head audit) (settled_by skew (whole_reading r rest)) t w w
+      (Err why)
+  no-more-ends read.Failed why t is rest =
+      subst (λ (e : NoOutcome). EndsBehind {A = Unit {0}} head audit (lines_of head audit)
+      (settled_by skew (whole_reading r rest)) t w w (Err e)) (sym is) (unread-ends (Unit {0}) t rest)
+  no-more-ends read.Memory why t is rest =
+      subst (λ (e : NoOutcome). EndsBehind {A = Unit {0}} head audit (lines_of head audit)
+      (settled_by skew (whole_reading r rest)) t w w (Err e)) (sym is) (unheld-ends (Unit {0}) t rest)
+
+-- ---- a piece of a body that is underway
+
+-- the audit has been given what comes out of what the reader has given
+pub given-next : (skew : Option ℕ) (head : List ℕ) (audit later : GivenSteps) (settled : Option Settling)
+    (r next : StepReading) (n : ℕ) (bytes : List ℕ) (u v : Writing)
+    → TakesPiece skew head audit later settled r bytes u v (Ok (Some (next, n))) → HasGiven skew settled later next
+given-next skew head audit later settled r next n bytes u v takes = let (_, _, given, _, _) = takes in given
+
+module _ (skew : Option ℕ) (head : List ℕ) (source now : Reading) (old new : Writing) (first audit : GivenSteps)
+    (begun r : StepReading) (held left bytes : List ℕ)
+    (u : IsUnderway head source now old new first audit begun r held left) (is : bytes ≡ left)
+    (later : GivenSteps) (settled : Option Settling) (after : Writing) where
+  -- it ends in this piece
+  pub underway-fails : (why : NoOutcome) → TakesPiece skew head audit later settled r bytes new after (Err why)
+      → AuditsBody {A = Unit {0}} skew head first later begun held source old after (Err why)
+  underway-fails why takes =
+      underway-ends skew head source now old new first audit begun r held left u {A = Unit {0}} later after (Err why)
+      (subst (λ (l : List ℕ). (rest : List ℕ) → EndsBehind {A = Unit {0}} head audit (lines_of head audit)
+      (settled_by skew (whole_reading r (l ++ rest))) later.recording new after (Err why)) is takes)
+
+  pub underway-stops : (going : Option (StepReading × ℕ)) → going ≡ None
+      → TakesPiece skew head audit later settled r bytes new after (Ok going)
+      → AuditsBody {A = Unit {0}} skew head first later begun held source old after (Ok tt)
+  underway-stops going none takes =
+      let ends = subst (λ (x : Option (StepReading × ℕ)). TakesPiece skew head audit later settled r bytes new after
+      (Ok x)) none
+      takes
+      in
+      underway-ends skew head source now old new first audit begun r held left u {A = Unit {0}} later after (Ok tt)
+      (subst (λ (l : List ℕ). (rest : List ℕ) → EndsBehind {A = Unit {0}} head audit (lines_of head audit)
+      (settled_by skew (whole_reading r (l ++ rest))) later.recording new after (Ok tt)) is ends)
+
+  -- it goes on
+  pub underway-on : (next : StepReading) (n : ℕ) (dropped : List ℕ) → dropped ≡ drop n left
+      → TakesPiece skew head audit later settled r bytes new after (Ok (Some (next, n)))
+      → IsUnderway head source now old after first later begun next held dropped
+  underway-on next n dropped drops takes =
+      let (_, taken, _, same, told) = takes in
+      let passes = subst (λ (l : List ℕ). (rest : List ℕ) → whole_reading r (take n l ++ rest) ≡ whole_reading next
+      rest)
+      is taken in
+      subst (λ (l : List ℕ). IsUnderway head source now old after first later begun next held l) (sym drops)
+      (underway-taken skew head source now old new first audit begun r held left u later next n after passes same told)
+
+-- the same piece, where it is known that one goes on
+pub takes-some : (skew : Option ℕ) (head : List ℕ) (audit later : GivenSteps) (settled : Option Settling)
+    (r : StepReading) (bytes : List ℕ) (u v : Writing)
+    (going : Option (StepReading × ℕ)) (next : StepReading) (n : ℕ) → going ≡ Some (next, n)
+    → TakesPiece skew head audit later settled r bytes u v (Ok going)
+    → TakesPiece skew head audit later settled r bytes u v (Ok (Some (next, n)))
+takes-some skew head audit later settled r bytes u v going next n is takes =
+    subst (λ (x : Option (StepReading × ℕ)). TakesPiece skew head audit later settled r bytes u v (Ok x)) is takes

@@ -1,0 +1,121 @@
+-- An audit that has been given what came out of what a reader has given, and a piece more.
+use Rattle.std.proofs.Common.{◌≡◌, ◌≤◌, ℕ, List, ◌++◌, true, Option, None, Some, IfNone, IfSome, Ok, Err, take, drop}
+use Rattle.std.proofs.Common.{[]}
+use Rattle.std.proofs.Common.{length, sym, ap, subst, ◌∙◌, append_assoc, take-append-drop, arith}
+use Rattle.vme_trace.specs.Followed.{with_steps}
+use Rattle.vme_trace.specs.Streams.{Writing}
+use Rattle.vme_trace.specs.Trace.{Trace}
+use Rattle.vme_trace.specs.WellFormed.{malformed_step}
+use Rattle.vme_trace.specs.declared.step.Step.{Step}
+use Rattle.vme_bind.specs.TextReading.{TextReading}
+use Rattle.vme_skew.specs.Settling.{Settling}
+use Rattle.vme_audit_command.specs.Bodies.{EndsBehind, HasGiven, TakesPiece}
+use Rattle.vme_audit_command.specs.Definitions.{GivenIsPrefix}
+use Rattle.vme_audit_command.specs.DumpAudits.{AuditGoesTo, given_all, lines_of}
+use Rattle.vme_audit_command.specs.SettledReadings.{settled_by, settled_so_far}
+use Rattle.vme_audit_command.specs.SettledSteps.{ComesOut, GoOnTo}
+use Rattle.vme_step_auditor.specs.ReadBy.{GivenSteps, has_stopped}
+use Rattle.vme_step_reader.specs.StepReading.{StepReading, whole_reading}
+use Rattle.vme_audit_command.specs.declared.told.NoOutcome.TheVariants.{Untold}
+use Rattle.vme_audit_command.specs.declared.told.TellFault.{TellFault}
+use Rattle.vme_audit_command.proofs.BodyLemmas.{ReadGoesOn}
+use Rattle.vme_audit_command.proofs.Onward.{GoesOnWith, StepsFollow, StepsWithin, TimeGoesOn, piece-to, reading-on}
+use Rattle.vme_audit_command.proofs.Onward.{so-far-formed}
+use Rattle.vme_audit_command.proofs.PieceLemmas.{StopIsRead, StopStays, cut-ends, final-ends}
+
+-- a piece is taken, and its steps were given
+module _ (front : GivenIsPrefix) (follows : StepsFollow) (within : StepsWithin) (on : TimeGoesOn) (skew : Option ℕ)
+    (settler : Option Settling) (audit : GivenSteps) (r : StepReading) (h : HasGiven skew settler audit r)
+    (next : StepReading) (steps : List Step) (n : ℕ) (bytes : List ℕ)
+    (taken : (rest : List ℕ) → whole_reading r (take n bytes ++ rest) ≡ whole_reading next rest)
+    (given : next.given ≡ with_steps r.given steps) (time : ℕ) (now : time ≡ (whole_reading next []).time) where
+  -- what is settled then
+  abbrev so_far : Trace
+  so_far = settled_so_far skew time (with_steps r.given steps)
+
+  pub piece-steps : malformed_step next.given ≡ None → GoOnTo r.given (whole_reading r []).time steps time
+  piece-steps formed =
+      subst (GoOnTo r.given (whole_reading r []).time steps) (sym now)
+      (piece-to follows within on skew settler audit r h front next steps (take n bytes) taken given formed)
+
+  piece-whole : (rest : List ℕ) → whole_reading r (bytes ++ rest) ≡ whole_reading next (drop n bytes ++ rest)
+  piece-whole rest =
+      let split : bytes ++ rest ≡ take n bytes ++ (drop n bytes ++ rest) =
+      ap (λ (l : List ℕ). l ++ rest) (sym (take-append-drop n bytes))
+      ∙ append_assoc (take n bytes) (drop n bytes) rest in
+      ap (whole_reading r) split ∙ taken (drop n bytes ++ rest)
+
+  next-formed : (rest : List ℕ) → malformed_step (whole_reading next rest).recorded ≡ None
+  next-formed rest =
+      ap (λ (x : TextReading). malformed_step x.recorded) (sym (taken rest)) ∙ h.formed (take n bytes ++ rest)
+
+  next-few : next.given.opening.slots ≤ 21
+  next-few = subst (λ (t : Trace). t.opening.slots ≤ 21) (sym given) h.few
+
+  -- and all of a text goes on with it
+  piece-onward : (rest : List ℕ) → GoesOnWith so_far (settled_by skew (whole_reading r (bytes ++ rest))).recorded
+  piece-onward rest =
+      subst (λ (x : TextReading). GoesOnWith so_far (settled_by skew x).recorded) (sym (piece-whole rest))
+      (subst (λ (t : Trace). GoesOnWith (settled_so_far skew time t)
+      (settled_by skew (whole_reading next (drop n bytes ++ rest))).recorded) given
+      (reading-on front follows on skew next (drop n bytes ++ rest) time (omega (arith, now)) next-few
+      (ap (λ (t : Trace). length t.opening.levels) given ∙ h.whole) next-formed))
+
+  -- not all of its steps were told
+  pub piece-cut : ReadGoesOn → (head : List ℕ) (u v : Writing) (fault : TellFault) (t : Trace) (rest : List ℕ)
+      → AuditGoesTo {A = Unit {0}} head audit so_far u v (Err fault)
+      → EndsBehind {A = Unit {0}} head audit (lines_of head audit) (settled_by skew (whole_reading r (bytes ++ rest)))
+      t u v (Err (Untold fault))
+  piece-cut law head u v fault t rest goes =
+      cut-ends (Unit {0}) (Unit {0}) law head audit (settled_by skew (whole_reading r (bytes ++ rest))) so_far u v fault
+      t (piece-onward rest) goes
+
+  module _ (formed : malformed_step next.given ≡ None) (head : List ℕ) (later : GivenSteps)
+      (settled : Option Settling) (u v : Writing) (same : later ≡ given_all audit so_far)
+      (goes : AuditGoesTo {A = Unit {0}} head audit so_far u v (Ok tt)) where
+    later-is : later.recording ≡ so_far
+    later-is = ap (λ (a : GivenSteps). a.recording) same
+
+    pub later-formed : malformed_step later.recording ≡ None
+    later-formed =
+        ap malformed_step later-is
+        ∙ so-far-formed skew time (with_steps r.given steps) h.whole (sym (ap malformed_step given) ∙ formed)
+
+    -- the audit goes on
+    piece-on : n ≤ length bytes → ComesOut skew settled (with_steps r.given steps) time later.recording
+        → TakesPiece skew head audit later settled r bytes u v (Ok (Some (next, n)))
+    piece-on fits comes =
+        let (text, grown, writes) = goes in (
+          fits,
+          taken,
+          record {
+            comes = subst (λ (k : ℕ). ComesOut skew settled next.given k later.recording) now
+                (subst (λ (t : Trace). ComesOut skew settled t time later.recording) (sym given) comes);
+            few = next-few;
+            whole = ap (λ (t : Trace). length t.opening.levels) given ∙ h.whole;
+            formed = next-formed;
+          },
+          same ∙ ap (given_all audit) (sym later-is),
+          (text, ap (lines_of head) same ∙ grown, writes),
+        )
+
+    -- the audit stops
+    piece-final : StopStays → StopIsRead → has_stopped later ≡ true → (rest : List ℕ)
+        → EndsBehind {A = Unit {0}} head audit (lines_of head audit)
+        (settled_by skew (whole_reading r (bytes ++ rest))) later.recording u v (Ok tt)
+    piece-final stays read stopped rest =
+        subst (λ (t : Trace). EndsBehind {A = Unit {0}} head audit (lines_of head audit)
+        (settled_by skew (whole_reading r (bytes ++ rest))) t u v (Ok tt)) (sym later-is)
+        (final-ends stays read head audit (settled_by skew (whole_reading r (bytes ++ rest))) so_far u v
+        (piece-onward rest) (ap has_stopped (sym same) ∙ stopped) goes)
+
+    pub piece-taken : StopStays → StopIsRead → (going : Option (StepReading × ℕ)) → n ≤ length bytes
+        → ComesOut skew settled (with_steps r.given steps) time later.recording
+        → IfSome going (λ p. (p.0 ≡ next) × (p.1 ≡ n))
+        → (malformed_step later.recording ≡ None → IfNone going (has_stopped later ≡ true))
+        → TakesPiece skew head audit later settled r bytes u v (Ok going)
+    piece-taken stays read None fits comes on stopped = piece-final stays read (stopped later-formed)
+    piece-taken stays read (Some (x, m)) fits comes on stopped =
+        subst (λ (k : ℕ). TakesPiece skew head audit later settled r bytes u v (Ok (Some (x, k)))) (sym on.1)
+        (subst (λ (y : StepReading). TakesPiece skew head audit later settled r bytes u v (Ok (Some (y, n))))
+        (sym on.0) (piece-on fits comes))

@@ -1,0 +1,379 @@
+-- Of which lines a piece tells a level, and what it leaves where other levels stand before it.
+use Rattle.std.proofs.Common.{◌≡◌, ℕ, ◌+◌, ◌<◌, ◌≤◌, Bool, true, false, cond, List, [], ◌∷◌, ◌++◌, length, map}
+use Rattle.std.proofs.Common.{slice_set, Some, Result, Ok, Err, refl, sym, ap, subst, ◌∙◌, inl, inr, ◌⊎◌, arith}
+use Rattle.std.specs.Prelude.{◌≢◌}
+use Rattle.std.proofs.lemmas.Bool.{cases_eq, false≢true}
+use Rattle.std.proofs.lemmas.List.{get_or-replicate, get_or-set_other, get_or-set_same, get_or_past, length-replicate}
+use Rattle.std.proofs.lemmas.List.{length-set}
+use Rattle.std.proofs.lemmas.List.Elements.{All-head, All-tail}
+use Rattle.std.proofs.lemmas.Option.{unwrap_or-slice_get}
+use Rattle.vme_trace.specs.Levels.{Levels, level_at, set_level}
+use Rattle.vme_trace.specs.LineNumbers.{line_count}
+use Rattle.vme_trace.specs.Trace.{Trace, changed}
+use Rattle.vme_trace.specs.declared.level.Level.{Level}
+use Rattle.vcd_read.specs.DetachedPieces.{IsReadDetached, ReadDetached, detached_with, before_piece, detached_items}
+use Rattle.vcd_read.specs.DetachedPieces.{time_first}
+use Rattle.vcd_read.specs.Body.{BodyItem}
+use Rattle.vcd_read.specs.Header.{◌>>=◌, Net}
+use Rattle.vcd_read.specs.Taking.{State, state_at, steps}
+use Rattle.vcd_read.specs.declared.dump.Bit.{Bit}
+use Rattle.vcd_read.specs.declared.fault.VcdFault.{VcdFault}
+use Rattle.vcd_read.proofs.DetachedLemmas.{kept-detached, learned_state, steps-keep, steps-learned}
+use Rattle.vme_bind.specs.Capture.{level_in}
+use Rattle.vme_bind.specs.BuilderState.{BuilderState, builder_change, builder_instant}
+use Rattle.vme_bind.specs.Recording.{AreLines, IsLine, RecorderLevels, line_change}
+use Rattle.vme_bind.specs.NetLines.{line_bits_of}
+use Rattle.vme_bind.specs.SpeculativeReading.{AreLevelsBehind, LeadTo, ReadSpeculatively, builder_behind}
+use Rattle.vme_bind.specs.AssignedLines.{SpeculativeBuilderState, speculative_change, speculative_instant, is_assigned}
+use Rattle.vme_bind.specs.AssignedLines.{none_assigned}
+use Rattle.vme_bind.specs.AssignedLines.{assigned_too}
+use Rattle.vme_bind.specs.declared.net_lines.LineBit.{LineBit}
+use Rattle.vme_bind.specs.declared.net_lines.NetLines.{NetLines}
+use Rattle.vme_bind.proofs.RecorderLemmas.{same_levels, set_all, set_other, set_same}
+
+-- ---- the lines that are told
+
+pub assigned_too-more : (line_bits : List LineBit) (assigned : List Bool) (line_bit : LineBit)
+    → assigned_too (line_bits ++ line_bit ∷ []) assigned ≡ slice_set (assigned_too line_bits assigned) line_bit.line
+    true
+assigned_too-more [] assigned line_bit = refl
+assigned_too-more (t ∷ line_bits) assigned line_bit = assigned_too-more line_bits (slice_set assigned t.line true)
+    line_bit
+
+assigned-here : (assigned : List Bool) (n : ℕ) → n < length assigned → is_assigned (slice_set assigned n true) n ≡ true
+assigned-here assigned n lt = unwrap_or-slice_get (slice_set assigned n true) n false ∙ get_or-set_same assigned n true
+    false lt
+
+assigned-other : (assigned : List Bool) (n l : ℕ) → l ≢ n → is_assigned (slice_set assigned n true) l
+    ≡ is_assigned assigned l
+assigned-other assigned n l ne =
+    unwrap_or-slice_get (slice_set assigned n true) l false ∙ get_or-set_other assigned n l true false ne
+    ∙ sym (unwrap_or-slice_get assigned l false)
+
+assigned-none : (l : ℕ) → is_assigned none_assigned l ≡ false
+assigned-none l = unwrap_or-slice_get none_assigned l false ∙ elim (within l) [
+  | inl lt ↦ get_or-replicate line_count l false false lt
+  | inr past ↦ get_or_past none_assigned l false (omega (arith, past, length-replicate line_count false))
+]
+  where
+    within : (l : ℕ) → (l < line_count) ⊎ (line_count ≤ l)
+    within l = grind arith
+
+-- lines of which a level is told are lines of the backplane, if those of all line bits are
+assigned-on : (slots : ℕ) (line_bits : List LineBit) (assigned : List Bool) → AreLines slots line_bits
+    → ((l : ℕ) → is_assigned assigned l ≡ true → IsLine slots l)
+    → (l : ℕ) → is_assigned (assigned_too line_bits assigned) l ≡ true → IsLine slots l
+assigned-on slots [] assigned lines before l on = before l on
+assigned-on slots (line_bit ∷ line_bits) assigned lines before l on =
+    assigned-on slots line_bits (slice_set assigned line_bit.line true)
+    (All-tail (λ (line_bit : LineBit). IsLine slots line_bit.line) line_bit line_bits lines)
+    (λ n here. elim (cases_eq n line_bit.line) [
+      | inl same ↦ subst (IsLine slots) (sym same) (All-head (λ (line_bit : LineBit). IsLine slots line_bit.line)
+          line_bit line_bits lines)
+      | inr ne ↦ before n (sym (assigned-other assigned line_bit.line n ne) ∙ here)
+    ])
+    l on
+
+if_yes : {X : Type 0} (b : Bool) (x y : X) → b ≡ true → x ≡ cond b x y
+if_yes true x y e = refl
+if_yes false x y e = absurd cc
+
+if_no : {X : Type 0} (b : Bool) (x y : X) → b ≡ false → y ≡ cond b x y
+if_no true x y e = absurd cc
+if_no false x y e = refl
+
+-- ---- the same changes, made to other levels too
+
+-- on each line that is told these levels are those, and else they are the first
+record AreMixed (first those these : Levels) (assigned : List Bool) : Type 0 where
+  those_all : length those.levels ≡ line_count
+  all : length these.levels ≡ line_count
+  assigned_all : length assigned ≡ line_count
+  slots : these.slots ≡ first.slots
+  levels : (l : ℕ) → l < line_count → level_at these l ≡ cond (is_assigned assigned l) (level_at those l)
+      (level_at first l)
+
+mixed-set : (first those these : Levels) (assigned : List Bool) (n : ℕ) (x : Level) → AreMixed first those these
+    assigned
+    → AreMixed first (set_level those n x) (set_level these n x) (slice_set assigned n true)
+mixed-set first those these assigned n x h = record {
+  those_all = set_all those n x h.those_all;
+  all = set_all these n x h.all;
+  assigned_all = length-set assigned n true ∙ h.assigned_all;
+  slots = h.slots;
+  levels = λ l lt.
+      elim (cases_eq l n) [
+        | inl same ↦
+            ap (level_at (set_level these n x)) same ∙ set_same these n x (omega (arith, lt, same, h.all))
+            ∙ sym (ap (level_at (set_level those n x)) same ∙ set_same those n x (omega (arith, lt, same, h.those_all)))
+            ∙ if_yes (is_assigned (slice_set assigned n true) l) (level_at (set_level those n x) l) (level_at first l)
+            (ap (is_assigned (slice_set assigned n true)) same ∙ assigned-here assigned n
+            (omega (arith, lt, same, h.assigned_all)))
+        | inr ne ↦
+            set_other these n l x ne ∙ h.levels l lt
+            ∙ ap (λ (y : Level). cond (is_assigned assigned l) y (level_at first l)) (sym (set_other those n l x ne))
+            ∙ ap (λ (b : Bool). cond b (level_at (set_level those n x) l) (level_at first l))
+            (sym (assigned-other assigned n l ne))
+      ];
+}
+
+mixed-line_bits : (bits : List Bit) (line_bits : List LineBit) (first those these : Levels) (assigned : List Bool)
+    → AreMixed first those these assigned
+    → AreMixed first (changed those (map (line_change bits) line_bits))
+    (changed these (map (line_change bits) line_bits))
+    (assigned_too line_bits assigned)
+unfolding changed
+mixed-line_bits bits [] first those these assigned h = h
+mixed-line_bits bits (line_bit ∷ line_bits) first those these assigned h =
+    let x : Level = level_in line_bit.line line_bit.place bits in
+    mixed-line_bits bits line_bits first (set_level those line_bit.line x) (set_level these line_bit.line x)
+    (slice_set assigned line_bit.line true) (mixed-set first those these assigned line_bit.line x h)
+
+-- ---- a piece that is read once more, behind other levels
+
+-- what is read ahead, and the levels that the same changes make of others
+record Both : Type 0 where
+  ahead : SpeculativeBuilderState
+  levels : Levels
+
+abbrev both_change : Both → ℕ → List Bit → Both
+both_change b net bits = record {
+  ahead = speculative_change b.ahead net bits;
+  levels = changed b.levels
+      (map (line_change bits) (line_bits_of b.ahead.made.line_bits net));
+}
+
+abbrev both_instant : Both → ℕ → Both
+both_instant b time = record { ahead = speculative_instant b.ahead time; levels = b.levels }
+
+-- the lines of the nets, and some levels
+record Others : Type 0 where
+  line_bits : NetLines
+  levels : Levels
+
+abbrev others_change : Others → ℕ → List Bit → Others
+others_change o net bits = record {
+  line_bits = o.line_bits;
+  levels = changed o.levels
+      (map (line_change bits) (line_bits_of o.line_bits net));
+}
+
+abbrev others_instant : Others → ℕ → Others
+others_instant o time = o
+
+abbrev ahead_of_both : Both → SpeculativeBuilderState
+ahead_of_both b = b.ahead
+
+abbrev others_of_both : Both → Others
+others_of_both b = record { line_bits = b.ahead.made.line_bits; levels = b.levels }
+
+abbrev others_of_made : BuilderState → Others
+others_of_made m = record { line_bits = m.line_bits; levels = m.progress.now }
+
+abbrev made_of_ahead : SpeculativeBuilderState → BuilderState
+made_of_ahead m = m.made
+
+same_ok : {X : Type 0} (a b : X) (r : Result X VcdFault) → r ≡ Ok a → r ≡ Ok b → a ≡ b
+same_ok a b r e h = cc
+
+same_time : (a b : ℕ) → Some a ≡ Some b → a ≡ b
+same_time a b e = cc
+
+module _ (nets : List Net) (bytes : List ℕ) (e : SpeculativeBuilderState) (a : ReadDetached SpeculativeBuilderState)
+    (is : IsReadDetached speculative_change speculative_instant nets bytes e a) where
+  abbrev items : List BodyItem
+  items = detached_items a.first_line bytes
+
+  -- what is made of it
+  pub made-read : IsReadDetached builder_change builder_instant nets bytes e.made
+      (detached_with a.progress.taken.made a)
+  made-read = record {
+    begins = is.begins;
+    whole =
+        steps-learned speculative_change speculative_instant builder_change builder_instant made_of_ahead
+        (λ m net bits. refl)
+        (λ m time. refl) nets (before_piece e a.time) items
+        ∙ ap (λ (r : Result (State SpeculativeBuilderState) VcdFault). r >>= λ end. Ok
+        (learned_state speculative_change speculative_instant builder_change builder_instant made_of_ahead
+        (λ m net bits. refl)
+        (λ m time. refl) end)) is.whole;
+    line = is.line;
+  }
+
+  -- the lines of which it tells a level are the backplane's
+  pub assigned-lines : (slots : ℕ) → ((net : ℕ) → AreLines slots (line_bits_of e.made.line_bits net)) → e.assigned
+      ≡ none_assigned → (l : ℕ) → is_assigned a.progress.taken.assigned l ≡ true → IsLine slots l
+  assigned-lines slots lines none =
+      (kept-detached speculative_change speculative_instant nets (λ (m : SpeculativeBuilderState). (m.made.line_bits
+      ≡ e.made.line_bits)
+      × ((l : ℕ) → is_assigned m.assigned l ≡ true → IsLine slots l))
+      (λ m net bits h. (
+        h.0,
+        assigned-on slots (line_bits_of m.made.line_bits net) m.assigned
+            (subst (λ (line_bits : NetLines). AreLines slots (line_bits_of line_bits net)) (sym h.0) (lines net)) h.1,
+      ))
+      (λ m time h. h) bytes e a is (
+        refl,
+        λ l on. absurd (false≢true (sym (assigned-none l) ∙ ap (λ (assigned : List Bool). is_assigned assigned l)
+            (sym none) ∙ on)),
+      )).1
+
+  module _ (v : Levels) where
+    abbrev start : State Both
+    start = before_piece (record { ahead = e; levels = v }) a.time
+
+    abbrev ahead_state : State Both → State SpeculativeBuilderState
+    ahead_state s = learned_state both_change both_instant speculative_change speculative_instant ahead_of_both
+        (λ b net bits. refl)
+        (λ b time. refl) s
+
+    ended : (r : Result (State Both) VcdFault) → (r >>= λ end. Ok (ahead_state end))
+        ≡ Ok (state_at a.progress a.bracket)
+        → (end : State Both) × (r ≡ Ok end) × (ahead_state end ≡ state_at a.progress a.bracket)
+    ended (Ok end) h = (
+      end,
+      refl,
+      same_ok (ahead_state end) (state_at a.progress a.bracket) (Ok (ahead_state end)) refl
+          h,
+    )
+    ended (Err fault) h = absurd cc
+
+    both-read : (end : State Both) × (steps both_change both_instant nets start items ≡ Ok end)
+        × (ahead_state end ≡ state_at a.progress a.bracket)
+    both-read =
+        ended (steps both_change both_instant nets start items)
+        (sym (steps-learned both_change both_instant speculative_change speculative_instant ahead_of_both
+        (λ b net bits. refl)
+        (λ b time. refl) nets start items) ∙ is.whole)
+
+    -- the levels behind it
+    abbrev behind : Levels
+    behind = both-read.0.progress.taken.levels
+
+    mixed-behind : length e.made.progress.now.levels ≡ line_count → length v.levels ≡ line_count → e.assigned
+        ≡ none_assigned
+        → AreMixed v a.progress.taken.made.progress.now behind a.progress.taken.assigned
+    mixed-behind those_all all none =
+        subst (λ (m : SpeculativeBuilderState). AreMixed v m.made.progress.now behind m.assigned)
+        (ap (λ (s : State SpeculativeBuilderState). s.progress.taken) both-read.2)
+        (steps-keep both_change both_instant nets (λ (b : Both). AreMixed v b.ahead.made.progress.now b.levels
+        b.ahead.assigned)
+        (λ b net bits h. mixed-line_bits bits (line_bits_of b.ahead.made.line_bits net) v b.ahead.made.progress.now
+        b.levels b.ahead.assigned h) (λ b time h. h) start items both-read.0
+        (record {
+          those_all = those_all;
+          all = all;
+          assigned_all = ap (λ (assigned : List Bool). length assigned) none ∙ length-replicate line_count false;
+          slots = refl;
+          levels = λ l lt. if_no (is_assigned e.assigned l) (level_at e.made.progress.now l) (level_at v l)
+              (ap (λ (assigned : List Bool). is_assigned assigned l) none ∙ assigned-none l);
+        })
+        both-read.1)
+
+    -- are those that reading it behind the first leads to
+    behind-is : (line_bits : NetLines) (t : Trace) (m : ReadDetached BuilderState) → e.made.line_bits ≡ line_bits
+        → m.first_line
+        ≡ a.first_line → IsReadDetached builder_change builder_instant nets bytes (builder_behind line_bits v t) m
+        → m.progress.taken.progress.now ≡ behind
+    behind-is line_bits t m lines line there =
+        let time : m.time ≡ a.time =
+        same_time m.time a.time (sym there.begins ∙ ap (λ (n : ℕ). time_first (detached_items n bytes)) line
+        ∙ is.begins)
+        in
+        let whole : steps builder_change builder_instant nets (before_piece (builder_behind line_bits v t) a.time) items
+        ≡ Ok (state_at m.progress m.bracket) =
+        subst (λ (n : ℕ). steps builder_change builder_instant nets (before_piece (builder_behind line_bits v t) n)
+        items
+        ≡ Ok (state_at m.progress m.bracket)) time
+        (subst (λ (n : ℕ). steps builder_change builder_instant nets
+        (before_piece (builder_behind line_bits v t) m.time)
+        (detached_items n bytes) ≡ Ok (state_at m.progress m.bracket)) line there.whole) in
+        let of_made : steps others_change others_instant nets
+        (before_piece (record { line_bits = line_bits; levels = v }) a.time) items
+        ≡ Ok (learned_state builder_change builder_instant others_change others_instant others_of_made
+        (λ m net bits. refl)
+        (λ m time. refl) (state_at m.progress m.bracket)) =
+        steps-learned builder_change builder_instant others_change others_instant others_of_made (λ m net bits. refl)
+        (λ m time. refl) nets (before_piece (builder_behind line_bits v t) a.time) items
+        ∙ ap (λ (r : Result (State BuilderState) VcdFault). r >>= λ end. Ok
+        (learned_state builder_change builder_instant
+        others_change others_instant others_of_made (λ m net bits. refl) (λ m time. refl) end)) whole in
+        let of_both : steps others_change others_instant nets
+        (before_piece (record { line_bits = e.made.line_bits; levels = v }) a.time) items
+        ≡ Ok (learned_state both_change both_instant others_change others_instant others_of_both (λ b net bits. refl)
+        (λ b time. refl) both-read.0) =
+        steps-learned both_change both_instant others_change others_instant others_of_both (λ b net bits. refl)
+        (λ b time. refl) nets start items
+        ∙ ap (λ (r : Result (State Both) VcdFault). r >>= λ end. Ok (learned_state both_change both_instant
+        others_change others_instant others_of_both (λ b net bits. refl) (λ b time. refl) end)) both-read.1 in
+        ap (λ (s : State Others). s.progress.taken.levels)
+        (same_ok _ _ (steps others_change others_instant nets
+        (before_piece (record { line_bits = line_bits; levels = v }) a.time) items) of_made
+        (ap (λ (x : NetLines). steps others_change others_instant nets
+        (before_piece (record { line_bits = x; levels = v }) a.time) items) (sym lines) ∙ of_both))
+
+  -- where others stand before it, it leaves its own levels on the lines of which it tells one, and theirs on the rest
+  pub assigned-leads : (x : ReadSpeculatively) (line_bits : NetLines) → length e.made.progress.now.levels ≡ line_count
+      → e.assigned ≡ none_assigned → e.made.line_bits ≡ line_bits
+      → x.detached.first_line ≡ a.first_line → x.assigned ≡ a.progress.taken.assigned → x.detached.progress.taken
+      ≡ a.progress.taken.made.progress
+      → (before after : Levels) → length before.levels ≡ line_count → AreLevelsBehind x before after
+      → LeadTo nets line_bits bytes x.detached.first_line before after
+  assigned-leads x line_bits those_all none lines line assigned now before after all left t m at there =
+      let h : AreMixed before a.progress.taken.made.progress.now (behind before) a.progress.taken.assigned
+      = mixed-behind before those_all all none in
+      let same : behind before ≡ after =
+      same_levels (behind before) after (h.slots ∙ sym left.slots) h.all left.all
+      (λ l lt.
+      h.levels l lt
+      ∙ ap (λ (p : RecorderLevels). cond (is_assigned a.progress.taken.assigned l) (level_at p.now l)
+      (level_at before l)) (sym now)
+      ∙ ap (λ (b : List Bool). cond (is_assigned b l) (level_at x.detached.progress.taken.now l) (level_at before l))
+      (sym assigned)
+      ∙ sym (left.levels l lt)) in
+      behind-is before line_bits t m lines (at ∙ line) there ∙ same
+
+-- ---- the levels that a piece leaves, on the lines below a number
+
+pub record AreLeftBelow (a : ReadSpeculatively) (before : Levels) (n : ℕ) (after : Levels) : Type 0 where
+  pub slots : after.slots ≡ before.slots
+  pub all : length after.levels ≡ line_count
+  pub left : (l : ℕ) → l < n → level_at after l
+      ≡ cond (is_assigned a.assigned l) (level_at a.detached.progress.taken.now
+      l) (level_at before l)
+  pub rest : (l : ℕ) → n ≤ l → level_at after l ≡ level_at before l
+
+module _ (a : ReadSpeculatively) (before : Levels) (n : ℕ) (after : Levels) (h : AreLeftBelow a before n after) where
+  abbrev own : Levels
+  own = a.detached.progress.taken.now
+
+  pub left-assigned : (x : Level) → n < line_count → is_assigned a.assigned n ≡ true → x ≡ level_at own n
+      → AreLeftBelow a before (n + 1) (set_level after n x)
+  left-assigned x lt assigned is = record {
+    slots = h.slots;
+    all = set_all after n x h.all;
+    left = λ l below.
+        elim (cases_eq l n) [
+          | inl same ↦
+              ap (level_at (set_level after n x)) same ∙ set_same after n x (omega (arith, lt, h.all)) ∙ is
+              ∙ ap (level_at own) (sym same)
+              ∙ if_yes (is_assigned a.assigned l) (level_at own l) (level_at before l) (ap (is_assigned a.assigned) same
+              ∙ assigned)
+          | inr ne ↦ set_other after n l x ne ∙ h.left l (omega (arith, below, ne))
+        ];
+    rest = λ l le. set_other after n l x (omega (arith, le)) ∙ h.rest l (omega (arith, le));
+  }
+
+  pub left-same : is_assigned a.assigned n ≡ false → AreLeftBelow a before (n + 1) after
+  left-same off = record {
+    slots = h.slots;
+    all = h.all;
+    left = λ l below.
+        elim (cases_eq l n) [
+          | inl same ↦
+              h.rest l (omega (arith, same)) ∙ if_no (is_assigned a.assigned l) (level_at own l) (level_at before l)
+              (ap (is_assigned a.assigned) same ∙ off)
+          | inr ne ↦ h.left l (omega (arith, below, ne))
+        ];
+    rest = λ l le. h.rest l (omega (arith, le));
+  }

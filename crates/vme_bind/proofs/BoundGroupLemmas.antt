@@ -1,0 +1,107 @@
+-- How the bound groups of a binding are found, one after the other.
+use Rattle.std.proofs.Common.{◌≡◌, ℕ, ◌+◌, ◌<◌, Bool, true, false, cond, ◌&&◌, ◌≤◌, List, [], ◌∷◌, ◌++◌, length, get_or}
+use Rattle.std.proofs.Common.{drop, Option, Some, None, Result, Ok, Err, refl, sym, ap, ◌∙◌, arith, add-one}
+use Rattle.std.proofs.Common.{append_assoc}
+use Rattle.std.proofs.Math.Seq.{drop-cons}
+use Rattle.std.proofs.Math.ListN.{drop_of_length-le}
+use Rattle.std.specs.List.{filter_map, list_all}
+use Rattle.std.proofs.lemmas.List.{append-nil}
+use Rattle.vcd_read.specs.declared.dump.Variable.{Variable}
+use Rattle.vcd_read.specs.Header.{◌>>=◌}
+use Rattle.vme_bind.specs.declared.assignment.Assignment.{Assignment}
+use Rattle.vme_bind.specs.declared.fault.BindFault.{BindFault}
+use Rattle.vme_bind.specs.declared.fault.BindKind.{BindKind}
+use Rattle.vme_bind.specs.declared.fault.BindKind.TheVariants.{AmbiguousPath}
+use Rattle.vme_bind.specs.declared.source.VariableSelector.{VariableSelector}
+use Rattle.vme_bind.specs.declared.bound_groups.BitRange.{BitRange}
+use Rattle.vme_bind.specs.declared.bound_groups.BoundGroup.{BoundGroup}
+use Rattle.vme_bind.specs.BoundGroups.{candidate, only, same_bits, bound_group_in, bound_groups_in}
+
+-- what is left of a list from a place on
+pub from_place : {X : Type 0} (xs : List X) (i : ℕ) (x : X) → i < length xs → x ≡ get_or xs i x → drop i xs ≡ x
+    ∷ drop (i + 1) xs
+from_place xs i x lt e = rw add-one (drop-cons xs i x lt) ∙ ap (λ y. y ∷ drop (i + 1) xs) (sym e)
+
+-- the only candidate, where this one was found before
+abbrev pub only_from : Option BitRange → List BitRange → Result BitRange BindKind
+only_from None found = only found
+only_from (Some bits) others = cond (list_all (same_bits bits) others) (Ok bits) (Err AmbiguousPath)
+
+-- the same with perhaps one more
+abbrev pub only_with : Option BitRange → Option BitRange → List BitRange → Result BitRange BindKind
+only_with found None others = only_from found others
+only_with None (Some bits) others = only_from (Some bits) others
+only_with (Some bits) (Some next) others = cond (same_bits bits next) (only_from (Some bits) others) (Err AmbiguousPath)
+
+with_next : (found next : Option BitRange) (named : VariableSelector) (v : Variable) (vs : List Variable)
+    → candidate named v ≡ next
+    → only_from found (filter_map (candidate named) (v ∷ vs)) ≡ only_with found next (filter_map (candidate named) vs)
+with_next None None named v vs e = rw e refl
+with_next None (Some bits) named v vs e = rw e refl
+with_next (Some bits) None named v vs e = rw e refl
+with_next (Some bits) (Some next) named v vs e = rw e (by_same (same_bits bits next))
+  where
+    by_same : (b : Bool) → cond (b && list_all (same_bits bits) (filter_map (candidate named) vs)) (Ok bits)
+        (Err AmbiguousPath) ≡ cond b (cond (list_all (same_bits bits) (filter_map (candidate named) vs)) (Ok bits)
+        (Err AmbiguousPath)) (Err AmbiguousPath)
+    by_same true = refl
+    by_same false = refl
+
+pub only-step : (found next : Option BitRange) (named : VariableSelector) (vs : List Variable) (i : ℕ) (v : Variable)
+    → i < length vs → v ≡ get_or vs i v → next ≡ candidate named v
+    → only_from found (filter_map (candidate named) (drop i vs)) ≡ only_with found next
+    (filter_map (candidate named) (drop (i + 1) vs))
+only-step found next named vs i v lt e is =
+    ap (λ (rest : List Variable). only_from found (filter_map (candidate named) rest)) (from_place vs i v lt e)
+    ∙ with_next found next named v (drop (i + 1) vs) (sym is)
+
+pub only-end : (found : Option BitRange) (named : VariableSelector) (vs : List Variable) (i : ℕ) → length vs ≡ i
+    → only_from found (filter_map (candidate named) (drop i vs)) ≡ only_from found []
+only-end found named vs i e = ap (λ (rest : List Variable). only_from found (filter_map (candidate named) rest))
+    (drop_of_length-le vs (omega (arith, e)))
+
+-- bound groups, before those that are still to be found
+abbrev pub behind_bound_groups : List BoundGroup → Result (List BoundGroup) BindFault → Result (List BoundGroup)
+    BindFault
+behind_bound_groups bound_groups rest = rest >>= λ others. Ok (bound_groups ++ others)
+
+one_more : (bound_groups : List BoundGroup) (bound_group : BoundGroup) (rest : Result (List BoundGroup) BindFault)
+    → behind_bound_groups bound_groups (rest >>= λ others. Ok (bound_group ∷ others)) ≡ behind_bound_groups
+    (bound_groups ++ bound_group ∷ []) rest
+one_more bound_groups bound_group (Ok others) = ap Ok (sym (append_assoc bound_groups (bound_group ∷ []) others))
+one_more bound_groups bound_group (Err fault) = refl
+
+pub push_in : (bound_groups : List BoundGroup) (r : Result BoundGroup BindFault)
+    (rest : Result (List BoundGroup) BindFault)
+    → behind_bound_groups bound_groups (r >>= λ bound_group. rest >>= λ others. Ok (bound_group ∷ others))
+    ≡ (r >>= λ bound_group. behind_bound_groups (bound_groups ++ bound_group ∷ []) rest)
+push_in bound_groups (Ok bound_group) rest = one_more bound_groups bound_group rest
+push_in bound_groups (Err fault) rest = refl
+
+pub bound_groups-first : (bound_groups : List BoundGroup) (variables : List Variable) (as' : List Assignment) (i : ℕ)
+    (a : Assignment) → i < length as' → a ≡ get_or as' i a
+    → behind_bound_groups bound_groups (bound_groups_in variables (drop i as'))
+    ≡ (bound_group_in variables a >>= λ bound_group. behind_bound_groups (bound_groups ++ bound_group ∷ [])
+    (bound_groups_in variables (drop (i + 1) as')))
+unfolding bound_groups_in
+bound_groups-first bound_groups variables as' i a lt e =
+    ap (λ (rest : List Assignment). behind_bound_groups bound_groups (bound_groups_in variables rest))
+    (from_place as' i a lt e)
+    ∙ push_in bound_groups (bound_group_in variables a) (bound_groups_in variables (drop (i + 1) as'))
+
+pub bound_groups-step : (bound_groups : List BoundGroup) (variables : List Variable) (as' : List Assignment) (i : ℕ)
+    (a : Assignment) (bound_group : BoundGroup) → i < length as' → a ≡ get_or as' i a → bound_group_in variables a
+    ≡ Ok bound_group
+    → behind_bound_groups bound_groups (bound_groups_in variables (drop i as')) ≡ behind_bound_groups
+    (bound_groups ++ bound_group ∷ []) (bound_groups_in variables (drop (i + 1) as'))
+bound_groups-step bound_groups variables as' i a bound_group lt e is =
+    bound_groups-first bound_groups variables as' i a lt e
+    ∙ ap (λ (r : Result BoundGroup BindFault). r >>= λ bound_group. behind_bound_groups (bound_groups ++ bound_group
+    ∷ []) (bound_groups_in variables (drop (i + 1) as'))) is
+
+pub bound_groups-end : (bound_groups : List BoundGroup) (variables : List Variable) (as' : List Assignment) (i : ℕ)
+    → length as' ≤ i → behind_bound_groups bound_groups (bound_groups_in variables (drop i as')) ≡ Ok bound_groups
+unfolding bound_groups_in
+bound_groups-end bound_groups variables as' i le =
+    ap (λ (rest : List Assignment). behind_bound_groups bound_groups (bound_groups_in variables rest))
+    (drop_of_length-le as' le) ∙ ap Ok (append-nil bound_groups)

@@ -1,0 +1,169 @@
+-- The lines of each net, one line after the other.
+use Rattle.std.proofs.Common.{◌≡◌, ℕ, ◌+◌, ◌<◌, ◌≤◌, Bool, true, false, cond, List, [], ◌∷◌, ◌++◌, length, map, get_or}
+use Rattle.std.proofs.Common.{drop, take, zero, suc, subst, inl, inr, refl, sym, ap, ◌∙◌, arith, Option, Some, None}
+use Rattle.std.specs.Prelude.{◌==◌, IsTrue}
+use Rattle.std.proofs.lemmas.Bool.Decides.{nat_tests}
+use Rattle.std.proofs.lemmas.Bool.{false≢true}
+use Rattle.std.proofs.lemmas.List.{get_or_past, take_more}
+use Rattle.std.proofs.lemmas.List.Elements.{All-append, All-cons, All-nil}
+use Rattle.vme_trace.specs.Instants.{those}
+use Rattle.vme_trace.specs.LineNumbers.{line_count, has_line}
+use Rattle.vcd_read.specs.declared.dump.Value.{Value}
+use Rattle.vme_trace.specs.Levels.{Levels, set_level}
+use Rattle.vme_trace.specs.declared.level.Level.{Level}
+use Rattle.vme_trace.specs.declared.step.Change.{Change}
+use Rattle.vcd_read.specs.declared.dump.Bit.{Bit}
+use Rattle.vme_bind.specs.Capture.{level_in}
+use Rattle.vme_trace.specs.Trace.{changed}
+use Rattle.vme_bind.specs.declared.net_lines.LineBit.{LineBit}
+use Rattle.vme_bind.specs.declared.net_lines.NetLines.{NetLines}
+use Rattle.vme_bind.specs.declared.bound_groups.BoundGroup.{BoundGroup}
+use Rattle.vme_bind.specs.declared.bound_groups.BitPlace.{BitPlace}
+use Rattle.vme_bind.specs.declared.bound_groups.LineSource.{LineSource}
+use Rattle.vme_bind.specs.declared.bound_groups.LineSource.TheVariants.{Bit as AtBit}
+use Rattle.vme_bind.specs.BoundGroups.{line_source}
+use Rattle.vme_bind.specs.NetLines.{line_bits_of, is_on, place_in, is_line_bit, line_bit_at, line_bits_below}
+use Rattle.vme_bind.specs.Recording.{IsLine, AreLines, line_change, valued}
+use Rattle.vme_bind.proofs.RecorderLemmas.{those-yes, those-no, bool_cases}
+use Rattle.vme_bind.proofs.BoundGroupLemmas.{from_place}
+use Rattle.vme_bind.proofs.CaptureLemmas.{AreLineBits, changed-more}
+
+pub line_bits-first : (line_bits : NetLines) (slots : ℕ) (bound_groups : List BoundGroup) → line_bits.nets.items ≡ []
+    → (net : ℕ) → line_bits_of line_bits net ≡ line_bits_below slots bound_groups net 0
+unfolding those
+line_bits-first line_bits slots bound_groups e net = ap (λ (nets : List (List LineBit)). get_or nets net []) e
+    ∙ get_or_past [] net [] (omega arith)
+
+map-more : (f : ℕ → LineBit) (xs : List ℕ) (x : ℕ) → map f (xs ++ x ∷ []) ≡ map f xs ++ f x ∷ []
+map-more f [] x = refl
+map-more f (y ∷ xs) x = ap (λ (ys : List LineBit). f y ∷ ys) (map-more f xs x)
+
+below-yes : (slots : ℕ) (bound_groups : List BoundGroup) (net n : ℕ) → is_on net (line_source slots bound_groups n)
+    ≡ true → line_bits_below slots bound_groups net (n + 1) ≡ line_bits_below slots bound_groups net n
+    ++ line_bit_at slots bound_groups n ∷ []
+unfolding is_line_bit
+below-yes slots bound_groups net n h = ap (map (line_bit_at slots bound_groups))
+    (those-yes (is_line_bit slots bound_groups net) n h) ∙ map-more (line_bit_at slots bound_groups)
+    (those (is_line_bit slots bound_groups net) 0 n) n
+
+below-no : (slots : ℕ) (bound_groups : List BoundGroup) (net n : ℕ) → is_on net (line_source slots bound_groups n)
+    ≡ false → line_bits_below slots bound_groups net (n + 1) ≡ line_bits_below slots bound_groups net n
+unfolding is_line_bit
+below-no slots bound_groups net n h = ap (map (line_bit_at slots bound_groups))
+    (those-no (is_line_bit slots bound_groups net) n h)
+
+same_number : (a b : ℕ) → (a == b) ≡ true → a ≡ b
+same_number a b h = grind (arith, nat_tests)
+
+abbrev pub AreBelow : ℕ → List BoundGroup → NetLines → ℕ → Type 0
+AreBelow slots bound_groups line_bits n = (net : ℕ) → line_bits_of line_bits net ≡ line_bits_below slots bound_groups
+    net n
+
+-- a line with a bit is added to those of its net
+pub line_bits-more : (old new : NetLines) (slots : ℕ) (bound_groups : List BoundGroup) (n : ℕ) (bit : BitPlace)
+    (line_bit : LineBit) → Some (AtBit bit) ≡ line_source slots bound_groups n → line_bit
+    ≡ record { line = n; place = bit.place }
+    → ((k : ℕ) → line_bits_of new k ≡ cond (k == bit.net) (line_bits_of old bit.net ++ line_bit ∷ [])
+    (line_bits_of old k))
+    → AreBelow slots bound_groups old n → AreBelow slots bound_groups new (n + 1)
+line_bits-more old new slots bound_groups n bit line_bit e is added h net = added net ∙ by_net (net == bit.net) refl
+  where
+    on : is_on net (line_source slots bound_groups n) ≡ (net == bit.net)
+    on = ap (is_on net) (sym e)
+
+    here : line_bit ≡ line_bit_at slots bound_groups n
+    here = is ∙ ap (λ (source : Option LineSource). record { line = n; place = place_in source }) e
+
+    by_net : (b : Bool) → (net == bit.net) ≡ b → cond b (line_bits_of old bit.net ++ line_bit ∷ [])
+        (line_bits_of old net) ≡ line_bits_below slots bound_groups net (n + 1)
+    by_net true k =
+        ap (λ (m : ℕ). line_bits_of old m ++ line_bit ∷ []) (sym (same_number net bit.net k))
+        ∙ ap (λ (ts : List LineBit). ts ++ line_bit ∷ []) (h net)
+        ∙ ap (λ (t : LineBit). line_bits_below slots bound_groups net n ++ t ∷ []) here
+        ∙ sym (below-yes slots bound_groups net n (on ∙ k))
+    by_net false k = h net ∙ sym (below-no slots bound_groups net n (on ∙ k))
+
+-- a line without a bit is added nowhere
+pub line_bits-same : (line_bits : NetLines) (slots : ℕ) (bound_groups : List BoundGroup) (n : ℕ)
+    → ((net : ℕ) → is_on net (line_source slots bound_groups n) ≡ false) → AreBelow slots bound_groups line_bits n
+    → AreBelow slots bound_groups line_bits (n + 1)
+line_bits-same line_bits slots bound_groups n none h net = h net ∙ sym (below-no slots bound_groups net n (none net))
+
+pub on-none : (slots : ℕ) (bound_groups : List BoundGroup) (n : ℕ) → None ≡ line_source slots bound_groups n → (net : ℕ)
+    → is_on net (line_source slots bound_groups n) ≡ false
+on-none slots bound_groups n e net = ap (is_on net) (sym e)
+
+pub on-always : (slots : ℕ) (bound_groups : List BoundGroup) (n : ℕ) (source : LineSource) → Some source
+    ≡ line_source slots bound_groups n → ((net : ℕ) → is_on net (Some source) ≡ false) → (net : ℕ)
+    → is_on net (line_source slots bound_groups n) ≡ false
+on-always slots bound_groups n source e h net = ap (is_on net) (sym e) ∙ h net
+
+-- the lines of line bits exist
+pub source-exists : (slots : ℕ) (bound_groups : List BoundGroup) (l : ℕ) (source : LineSource) → Some source
+    ≡ line_source slots bound_groups l → IsTrue (has_line slots l)
+source-exists slots bound_groups l source e = by_has (has_line slots l) refl
+  where
+    by_has : (b : Bool) → has_line slots l ≡ b → IsTrue b
+    by_has true h = refl
+    by_has false h = let none : line_source slots bound_groups l ≡ None = rw h refl in
+        absurd (let clash : Some source ≡ None = e ∙ none in cc)
+
+on_some : (slots : ℕ) (bound_groups : List BoundGroup) (net l : ℕ) (source : Option LineSource) → line_source slots
+    bound_groups l ≡ source → is_on net source ≡ true → IsTrue (has_line slots l)
+on_some slots bound_groups net l None e h = absurd (false≢true h)
+on_some slots bound_groups net l (Some source) e h = source-exists slots bound_groups l source (sym e)
+
+below-lines : (slots : ℕ) (bound_groups : List BoundGroup) (net n : ℕ) → n ≤ line_count
+    → AreLines slots (line_bits_below slots bound_groups net n)
+unfolding those
+below-lines slots bound_groups net zero le = All-nil (λ (line_bit : LineBit). IsLine slots line_bit.line)
+below-lines slots bound_groups net (suc n) le =
+    let so_far : AreLines slots (line_bits_below slots bound_groups net n) = below-lines slots bound_groups net n
+    (omega (arith, le)) in
+    let more : n + 1 ≡ suc n = omega arith in
+    subst (λ (m : ℕ). AreLines slots (line_bits_below slots bound_groups net m)) more
+    (elim (bool_cases (is_on net (line_source slots bound_groups n))) [
+      | inl on ↦ subst (AreLines slots) (sym (below-yes slots bound_groups net n on))
+          (All-append (λ (line_bit : LineBit). IsLine slots line_bit.line) (line_bits_below slots bound_groups net n)
+          (line_bit_at slots bound_groups n ∷ []) so_far
+          (All-cons (λ (line_bit : LineBit). IsLine slots line_bit.line) (line_bit_at slots bound_groups n) []
+          (record {
+            below = omega (arith, le);
+            exists = on_some slots bound_groups net n
+                (line_source slots bound_groups n) refl on;
+          })
+          (All-nil (λ (line_bit : LineBit). IsLine slots line_bit.line))))
+      | inr off ↦ subst (AreLines slots) (sym (below-no slots bound_groups net n off)) so_far
+    ])
+
+pub line_bits-lines : (slots : ℕ) (bound_groups : List BoundGroup) (line_bits : NetLines)
+    → AreLineBits slots bound_groups
+    line_bits → (net : ℕ) → AreLines slots (line_bits_of line_bits net)
+line_bits-lines slots bound_groups line_bits all net = subst (AreLines slots) (sym (all net))
+    (below-lines slots bound_groups net line_count (omega arith))
+
+-- one value more is taken
+pub valued-step : (line_bits : NetLines) (values : List Value) (i : ℕ) (v : Value) (now : Levels) → i < length values
+    → v ≡ get_or values i v
+    → valued line_bits (drop i values) now ≡ valued line_bits (drop (i + 1) values)
+    (changed now (map (line_change v.bits) (line_bits_of line_bits v.net)))
+valued-step line_bits values i v now lt e = ap (λ (vs : List Value). valued line_bits vs now)
+    (from_place values i v lt e)
+
+map-last : (f : LineBit → Change) (xs : List LineBit) (x : LineBit) → map f (xs ++ x ∷ []) ≡ map f xs ++ f x ∷ []
+map-last f [] x = refl
+map-last f (y ∷ xs) x = ap (λ (ys : List Change). f y ∷ ys) (map-last f xs x)
+
+-- one line bit more is taken
+pub line_change-more : (line_bits : List LineBit) (bits : List Bit) (i : ℕ) (line_bit : LineBit) (v : Levels)
+    (level : Level)
+    → i < length line_bits → line_bit ≡ get_or line_bits i line_bit → level ≡ level_in line_bit.line line_bit.place bits
+    → set_level (changed v (map (line_change bits) (take i line_bits))) line_bit.line level
+    ≡ changed v (map (line_change bits) (take (i + 1) line_bits))
+line_change-more line_bits bits i line_bit v level lt e is =
+    ap (set_level (changed v (map (line_change bits) (take i line_bits))) line_bit.line) is
+    ∙ sym (changed-more v (map (line_change bits) (take i line_bits)) (line_change bits line_bit))
+    ∙ ap (changed v) (sym (map-last (line_change bits) (take i line_bits) line_bit))
+    ∙ ap (λ (ts : List LineBit). changed v (map (line_change bits) ts))
+    (ap (λ (t : LineBit). take i line_bits ++ t ∷ []) e
+    ∙ sym (take_more line_bits i line_bit lt))

@@ -1,0 +1,114 @@
+-- A dump that is judged as it is read: what comes of it, piece by piece.
+use Rattle.std.proofs.Common.{◌≡◌, ℕ, false, List, [], ◌++◌, Result, Err, sym, ap, ◌∙◌, append-nil}
+use Rattle.vme_trace.specs.Trace.{Trace}
+use Rattle.vcd_read.specs.Header.{◌>>=◌}
+use Rattle.vcd_read.specs.Body.{body_from}
+use Rattle.vcd_read.specs.Reading.{line_behind}
+use Rattle.vcd_read.specs.Taking.{at_end, state_at, steps}
+use Rattle.vcd_read.specs.Tokens.{Token, tokens, tokens_from}
+use Rattle.vcd_read.specs.declared.fault.FaultKind.{FaultKind}
+use Rattle.vcd_read.specs.declared.fault.FaultKind.TheVariants.{Memory}
+use Rattle.vme_bind.specs.declared.fault.BindKind.{BindKind}
+use Rattle.vme_bind.specs.declared.fault.BindKind.TheVariants.{Memory as NoMemory}
+use Rattle.vme_bind.specs.declared.fault.CaptureFault.{CaptureFault}
+use Rattle.vme_bind.specs.declared.fault.CaptureFault.TheVariants.{Dump, Binding}
+use Rattle.vme_bind.specs.Binding.{BoundLines}
+use Rattle.vme_bind.specs.BuilderState.{builder_change, builder_instant}
+use Rattle.vme_bind.specs.TextCapture.{BindingFails, DumpFails, CaptureFailsBy, recording_of_text}
+use Rattle.vme_bind.specs.TextPieces.{TextReached, outcome, outcome_ahead}
+use Rattle.vme_commands.specs.Wants.{is_want}
+
+-- no token of a text goes on behind this front of it
+abbrev EndsThere : List ℕ → Type 0
+EndsThere front = (line : ℕ) (rest : List ℕ) → tokens_from line (front ++ rest) ≡ tokens_from line front
+    ++ tokens_from (line_behind line front) rest
+
+module _ (t : TextReached) where
+  -- what comes of these tokens
+  abbrev comes_of : List Token → Result Trace CaptureFault
+  comes_of ts = outcome t.fault (steps builder_change builder_instant t.body.nets
+      (state_at t.body.progress t.body.bracket)
+      (body_from t.body.place ts) >>= at_end builder_instant)
+
+  ahead-later : (more : List Token) → outcome_ahead t [] more ≡ outcome_ahead t more []
+  ahead-later more = ap comes_of (sym (append-nil more))
+
+  ahead-parts : (ts front more : List Token) → ts ≡ front ++ more → outcome_ahead t ts [] ≡ outcome_ahead t front more
+  ahead-parts ts front more e = ap comes_of (append-nil ts ∙ e)
+
+  ahead-from : (line line2 : ℕ) (rest : List ℕ) → line2 ≡ line → outcome_ahead t [] (tokens_from line rest)
+      ≡ outcome_ahead t (tokens_from line2 rest) []
+  ahead-from line line2 rest e = ahead-later (tokens_from line rest)
+      ∙ ap (λ (l : ℕ). outcome_ahead t (tokens_from l rest) []) (sym e)
+
+  -- a body is begun behind a front of the text
+  pub begun-on : (b : BoundLines) (front : List ℕ) (line : ℕ) → line ≡ line_behind 1 front → EndsThere front
+      → ((whole : List ℕ) (more : List Token) → tokens whole ≡ tokens front ++ more → recording_of_text b whole
+      ≡ outcome_ahead t [] more)
+      → (rest : List ℕ) → recording_of_text b (front ++ rest) ≡ outcome_ahead t (tokens_from line rest) []
+  begun-on b front line is ends begins rest =
+      begins (front ++ rest) (tokens_from (line_behind 1 front) rest) (ends 1 rest) ∙ ahead-from (line_behind 1 front)
+      line rest is
+
+-- a piece of the body is read
+pub read-on : (t t2 : TextReached) (piece : List ℕ) (line line2 : ℕ)
+    → line2 ≡ line_behind line piece → EndsThere piece
+    → ((more : List Token) → outcome_ahead t (tokens_from line piece) more ≡ outcome_ahead t2 [] more)
+    → (rest : List ℕ) → outcome_ahead t (tokens_from line (piece ++ rest)) [] ≡ outcome_ahead t2
+    (tokens_from line2 rest) []
+read-on t t2 piece line line2 is ends leads rest =
+    ahead-parts t (tokens_from line (piece ++ rest)) (tokens_from line piece) (tokens_from (line_behind line piece)
+    rest) (ends line rest)
+    ∙ leads (tokens_from (line_behind line piece) rest)
+    ∙ ahead-from t2 (line_behind line piece) line2 rest is
+
+-- a fault that is no want of memory is the answer
+pub told-is : (fault : CaptureFault) (answer : Result Trace CaptureFault) → is_want fault ≡ false → CaptureFailsBy fault
+    answer → answer ≡ Err fault
+told-is (Dump fault) answer told fails = by_kind fault.line fault.kind told fails
+  where
+    by_kind : (line : ℕ) (kind : FaultKind) → is_want (Dump (record { line = line; kind = kind })) ≡ false
+        → DumpFails line kind answer → answer ≡ Err (Dump (record { line = line; kind = kind }))
+    by_kind line Memory told fails = absurd (cc told)
+    by_kind line kind told fails = fails
+told-is (Binding fault) answer told fails = by_kind fault.line fault.kind told fails
+  where
+    by_kind : (line : ℕ) (kind : BindKind) → is_want (Binding (record { line = line; kind = kind })) ≡ false
+        → BindingFails line kind answer → answer ≡ Err (Binding (record { line = line; kind = kind }))
+    by_kind line NoMemory told fails = absurd (cc told)
+    by_kind line kind told fails = fails
+
+-- a fault that is the answer is told as it is
+pub is-told : (fault : CaptureFault) (answer : Result Trace CaptureFault) → is_want fault ≡ false → answer ≡ Err fault
+    → CaptureFailsBy fault answer
+is-told (Dump fault) answer told is = by_kind fault.line fault.kind told is
+  where
+    by_kind : (line : ℕ) (kind : FaultKind) → is_want (Dump (record { line = line; kind = kind })) ≡ false → answer
+        ≡ Err (Dump (record { line = line; kind = kind })) → DumpFails line kind answer
+    by_kind line Memory told is = absurd (cc told)
+    by_kind line kind told is = is
+is-told (Binding fault) answer told is = by_kind fault.line fault.kind told is
+  where
+    by_kind : (line : ℕ) (kind : BindKind) → is_want (Binding (record { line = line; kind = kind })) ≡ false → answer
+        ≡ Err (Binding (record { line = line; kind = kind })) → BindingFails line kind answer
+    by_kind line NoMemory told is = absurd (cc told)
+    by_kind line kind told is = is
+
+-- a fault of a piece of the body is that of the text
+pub failed-on : (t : TextReached) (piece : List ℕ) (line : ℕ) (fault : CaptureFault)
+    → EndsThere piece → is_want fault ≡ false
+    → ((more : List Token) → CaptureFailsBy fault (outcome_ahead t (tokens_from line piece) more))
+    → (rest : List ℕ) → outcome_ahead t (tokens_from line (piece ++ rest)) [] ≡ Err fault
+failed-on t piece line fault ends told fails rest =
+    let more = tokens_from (line_behind line piece) rest in
+    ahead-parts t (tokens_from line (piece ++ rest)) (tokens_from line piece) more (ends line rest)
+    ∙ told-is fault (outcome_ahead t (tokens_from line piece) more) told (fails more)
+
+-- a fault of a front of the text is that of the text
+pub failed-at-front : (b : BoundLines) (front : List ℕ) (fault : CaptureFault) → EndsThere front → is_want fault ≡ false
+    → ((whole : List ℕ) (more : List Token) → tokens whole ≡ tokens front ++ more → CaptureFailsBy fault
+    (recording_of_text b whole))
+    → (rest : List ℕ) → recording_of_text b (front ++ rest) ≡ Err fault
+failed-at-front b front fault ends told fails rest =
+    told-is fault (recording_of_text b (front ++ rest)) told
+    (fails (front ++ rest) (tokens_from (line_behind 1 front) rest) (ends 1 rest))

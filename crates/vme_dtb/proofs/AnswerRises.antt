@@ -1,0 +1,113 @@
+-- Whether a strobe has risen since an answer line fell.
+use Rattle.std.proofs.Common.{◌≡◌, ℕ, suc, ◌+◌, ◌≤◌, Bool, true, false, ◌&&◌, ◌||◌, not, refl, ◌∙◌, ap, arith, add-one}
+use Rattle.std.proofs.Common.{Option, Some, None, cond}
+use Rattle.std.specs.Prelude.{unwrap_or}
+use Rattle.vme_trace.specs.Instants.{any, none, greatest}
+use Rattle.vme_trace.specs.Levels.{level_at, is_low, is_high, is_known}
+use Rattle.vme_trace.specs.Trace.{Trace, levels_at}
+use Rattle.vme_trace.specs.Signals.{level, low, high, known, falls, rises}
+use Rattle.vme_trace.specs.Judged.{Stretch}
+use Rattle.vme_trace.specs.Transfers.{strobe_rises}
+use Rattle.vme_trace.specs.Tenures.{last_before}
+use Rattle.vme_trace.specs.declared.level.Level.{Level}
+use Rattle.vme_trace.specs.declared.level.Level.TheVariants.{Low, High, Unknown}
+use Rattle.vme_trace.proofs.Ranges.{fails-any}
+use Rattle.vme_trace.proofs.OpenTransfers.{suc-sub-one}
+use Rattle.vme_dtb.proofs.Searches.{any_more, greatest_more, greatest_within}
+
+module _ (t : Trace) (span : Stretch) where
+  -- the line is low, and a strobe rose from its last fall on
+  abbrev pub may_rise_at : ℕ → ℕ → Bool
+  may_rise_at l n = low t l n && any (strobe_rises t) (last_before t span (falls t l) (suc n)) (suc n)
+
+  last_suc : (p : ℕ → Bool) (n : ℕ) → span.start ≤ n → last_before t span p (suc (suc n)) ≡ cond (p (suc n)) (suc n)
+      (last_before t span p (suc n))
+  unfolding last_before
+  last_suc p n from = ap (λ o. unwrap_or o span.start) (greatest_more p (span.start + 1) (suc n) (omega arith))
+      ∙ by_test (p (suc n)) (greatest p (span.start + 1) (suc n))
+    where
+      by_test : (b : Bool) (o : Option ℕ) → unwrap_or (cond b (Some (suc n)) o) span.start
+          ≡ cond b (suc n) (unwrap_or o span.start)
+      by_test true o = refl
+      by_test false o = refl
+
+  last_within : (p : ℕ → Bool) (n : ℕ) → span.start ≤ n → last_before t span p (suc n) ≤ n
+  unfolding last_before
+  last_within p n from = by_found (greatest p (span.start + 1) (suc n)) refl
+    where
+      by_found : (o : Option ℕ) → greatest p (span.start + 1) (suc n) ≡ o → unwrap_or o span.start ≤ n
+      by_found None e = from
+      by_found (Some i) e = let found = greatest_within p (span.start + 1) (suc n) i e in omega (arith, found.1)
+
+  not_low : (x : Level) → is_high x ≡ true → is_low x ≡ false
+  not_low Low h = absurd (cc)
+  not_low High h = refl
+  not_low Unknown h = absurd (cc)
+
+  pub may_rise_start : (l n : ℕ) → is_high (level_at (levels_at t n) l) ≡ true → false ≡ may_rise_at l n
+  unfolding low
+  may_rise_start l n h = rw (not_low (level_at (levels_at t n) l) h) refl
+
+  -- a line that is low falls, or was low before
+  by_levels : (x y : Level) (a b r : Bool) → is_known x ≡ true → ((is_high x && is_low y) ≡ false → a ≡ (b || r))
+      → ((is_high x && is_low y) ≡ true → a ≡ r) → (is_low y && a) ≡ (is_low y && ((is_low x && b) || r))
+  by_levels x Unknown a b r known h k = refl
+  by_levels x High a b r known h k = refl
+  by_levels Low Low a b r known h k = h refl
+  by_levels High Low a b r known h k = k refl
+  by_levels Unknown Low a b r known h k = absurd (cc)
+
+  false_first : (a b : Bool) → a ≡ false → (a || b) ≡ b
+  false_first a b h = rw h refl
+
+  falls_here : (l n : ℕ) → falls t l (suc n) ≡ (is_high (level t l n) && is_low (level t l (suc n)))
+  unfolding falls high low
+  falls_here l n = rw (suc-sub-one n) refl
+
+  -- one instant later
+  pub may_rise_suc : (l n : ℕ) → span.start ≤ n → is_known (level_at (levels_at t n) l) ≡ true → may_rise_at l (suc n)
+      ≡ (low t l (suc n) && (may_rise_at l n || strobe_rises t (suc n)))
+  unfolding low
+  may_rise_suc l n from readable =
+      by_levels (level t l n) (level t l (suc n)) _ _ (strobe_rises t (suc n)) readable
+      (λ e. ap (λ k. any (strobe_rises t) k (suc (suc n))) (last_suc (falls t l) n from ∙ kept e)
+      ∙ any_more (strobe_rises t) (last_before t span (falls t l) (suc n)) (suc n)
+      (later n (last_before t span (falls t l) (suc n)) (last_within (falls t l) n from)))
+      (λ e. ap (λ k. any (strobe_rises t) k (suc (suc n))) (last_suc (falls t l) n from ∙ anew e)
+      ∙ any_more (strobe_rises t) (suc n) (suc n) (omega arith) ∙ false_first (any (strobe_rises t) (suc n) (suc n))
+      (strobe_rises t (suc n)) (fails-any (strobe_rises t) (suc n) (suc n) (λ i a b. absurd (omega arith))))
+    where
+      later : (n k : ℕ) → k ≤ n → k ≤ suc n
+      later n k h = omega arith
+
+      kept : (is_high (level t l n) && is_low (level t l (suc n))) ≡ false → cond (falls t l (suc n)) (suc n)
+          (last_before t span (falls t l) (suc n)) ≡ last_before t span (falls t l) (suc n)
+      kept e = rw (falls_here l n, e) refl
+
+      anew : (is_high (level t l n) && is_low (level t l (suc n))) ≡ true → cond (falls t l (suc n)) (suc n)
+          (last_before t span (falls t l) (suc n)) ≡ suc n
+      anew e = rw (falls_here l n, e) refl
+
+  rises_here : (l n : ℕ) → rises t l (suc n) ≡ (is_low (level t l n) && is_high (level t l (suc n)))
+  unfolding rises high low
+  rises_here l n = rw (suc-sub-one n) refl
+
+  -- a line that rises was low before
+  pub held_is : (l n : ℕ) → span.start ≤ n
+      → (rises t l (suc n) && none (strobe_rises t) (last_before t span (falls t l) (suc n)) (suc n + 1))
+      ≡ (rises t l (suc n) && not (may_rise_at l n || strobe_rises t (suc n)))
+  unfolding low
+  held_is l n from =
+      let more = any_more (strobe_rises t) (last_before t span (falls t l) (suc n)) (suc n)
+      (later n (last_before t span (falls t l) (suc n)) (last_within (falls t l) n from)) in
+      rw (rises_here l n, add-one (suc n), more) (by_level (level t l n) (is_high (level t l (suc n)))
+      (any (strobe_rises t) (last_before t span (falls t l) (suc n)) (suc n)) (strobe_rises t (suc n)))
+    where
+      later : (n k : ℕ) → k ≤ n → k ≤ suc n
+      later n k h = omega arith
+
+      by_level : (x : Level) (h a r : Bool) → ((is_low x && h) && not (a || r))
+          ≡ ((is_low x && h) && not ((is_low x && a) || r))
+      by_level Low h a r = refl
+      by_level High h a r = refl
+      by_level Unknown h a r = refl

@@ -1,9 +1,0 @@
-use Rattle.std.proofs.Common.{◌≡◌, true, arith}
-use Rattle.vme_dtb.proofs.UsualNexts.{ready_next}
-use Rattle.vme_dtb.proofs.memory.HandshakeMemory.at_ready.Goals as goal
-
-pub returns : goal.returns
-returns c =
-    let gone : c.args.self.dtack_freed ≡ true = grind arith in
-    rw (c.quiet.ensures, c.left.ensures) (ready_next c.args.self c.args.before.now c.args.after.now c.requires.alone
-    c.requires.rises gone)

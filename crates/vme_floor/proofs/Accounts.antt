@@ -1,0 +1,247 @@
+-- The claims, from the work of all workers and from what the board gave.
+use Rattle.std.proofs.Common.{◌≡◌, ℕ, zero, suc, ◌+◌, ◌<◌, ◌≤◌, cond, List, length, map, slice_get, Option, Some, None}
+use Rattle.std.proofs.Common.{sym, refl, ap, ◌∙◌, subst, arith, eq-eqb, ⊎_elim}
+use Rattle.std.proofs.lemmas.Option.{none-some, same_Some, slice_get_within}
+use mathlib.Core.Logic.{dite}
+use native.Mathlib.Decide.{ℕ_discrete}
+use Rattle.vme_trace.specs.declared.block.Block.{Block}
+use Rattle.vme_core.specs.Counting.{occurrences, numbers, HasPair, lack, missing_count}
+use Rattle.vme_core.specs.declared.view.View.{View}
+use Rattle.vme_core.proofs.Sums.{occurs_of_pair, pair_of_occurs}
+use Rattle.vme_board.specs.Contents.{DidAll, HasBlock}
+use Rattle.vme_core.specs.Stages.{HasSeen}
+use Rattle.vme_core.specs.declared.stage.Stage.TheVariants.{Claimed}
+use Rattle.vme_board.specs.declared.board.Closed.{Closed}
+use Rattle.vme_floor.specs.Answering.{Suits, FiledAs, IsFiled, IsFiledNumber}
+use Rattle.vme_floor.specs.Claims.{HasAnswers, IsContent, IsRecorded, IsLeastUnfiled, IsTorn}
+use Rattle.vme_floor.specs.Collecting.{HasTakenOwn}
+use Rattle.vme_floor.specs.Accounts.{reply_of, AreReplies, IsAccount, IsClosed, IsUnion}
+use Rattle.vme_floor.specs.declared.collector.Collection.{Collection}
+use Rattle.vme_floor.specs.Works.{number_in, number_at, filings, IsListed, IsReply, IsSeenIf, IsWork}
+use Rattle.vme_floor.specs.declared.answer.Answer.{Answer}
+use Rattle.vme_floor.specs.declared.answer.Answer.TheVariants.{Filed, Doubled}
+use Rattle.vme_floor.specs.declared.answer.Reply.{Reply}
+use Rattle.vme_book.specs.Inserted as Inserted
+use Rattle.vme_book.specs.Inserted.{IsWhole}
+use Rattle.vme_book.specs.declared.book.Whole.{Whole}
+use Rattle.vme_floor.proofs.Collecting.{count_all, place_of}
+use Rattle.vme_floor.proofs.Ordering.{all_at, all_count}
+use Rattle.vme_floor.proofs.Places.{each_at, get_within}
+use Rattle.vme_floor.proofs.Weighing.{draws_of, files_of, weigh_draws, weigh_filings, weigh_two, weigh_some, is_filing}
+use Rattle.vme_floor.proofs.Weighing.{filing_here, one_block}
+
+abbrev no_block : Option Block
+no_block = None
+
+some_none : (b : Block) → Some b ≡ no_block → ⊥
+some_none b e = none-some b (sym e)
+
+module _ (total : ℕ) (ds : List Block) (v : View) (replies : List Reply) (answers : List Answer)
+    (w : IsWork total ds v replies) (are : AreReplies replies answers) (count : length answers ≡ length ds) where
+  reply_at : (k : ℕ) (r : Reply) → slice_get replies k ≡ Some r → IsReply total ds v.list r
+  reply_at k r at = each_at (IsReply total ds v.list) replies k r w.right at
+
+  right_at : (d : ℕ) (a : Answer) (b : Block) → slice_get answers d ≡ Some a → slice_get ds d ≡ Some b → Suits total b a
+      × IsListed v.list b a
+  right_at d a b at there = let p = are d a at in (reply_at p.0 (reply_of d a) p.1).1 b there
+
+  same_reply : (k l : ℕ) (r s : Reply) → slice_get replies k ≡ Some r → slice_get replies l ≡ Some s → r.delivery
+      ≡ s.delivery → r ≡ s
+  same_reply k l r s at there e = dite (ℕ_discrete k l)
+      (λ z. same_Some r s (sym at ∙ (ap (slice_get replies) z ∙ there)))
+      (λ ne. let two = weigh_two (draws_of r.delivery) replies k l r s ne at there in
+      let d = weigh_draws r.delivery replies in let o = w.draws_once r.delivery in let drew = w.drew r.delivery in
+      let one : ℕ = 1 in let nil : ℕ = 0 in let a : draws_of r.delivery r ≡ one = ap (λ b. cond b one nil)
+      (eq-eqb r.delivery r.delivery refl) in let b : draws_of r.delivery s ≡ one = ap (λ b. cond b one nil)
+      (eq-eqb r.delivery s.delivery e) in absurd (omega (arith, two, d, o, drew, a, b)))
+
+  answer_of : (k : ℕ) (r : Reply) → slice_get replies k ≡ Some r → slice_get answers r.delivery ≡ Some r.answer
+  answer_of k r at =
+      let near = (reply_at k r at).0 in let a = get_within answers r.delivery (omega (arith, near, count)) in
+      let p = are r.delivery a.0 a.1 in
+      let same : reply_of r.delivery a.0 ≡ r = same_reply p.0 k (reply_of r.delivery a.0) r p.1 at refl in
+      a.1 ∙ ap (λ (x : Reply). Some x.answer) same
+
+  -- what was filed is in the list
+  listed_of : (d : ℕ) (b : Block) → FiledAs ds answers d b → HasPair v.list b.number b
+  listed_of d b f = (right_at d Filed b f.0 f.1).1
+
+  -- and what is in the list was filed
+  filed_of : (n : ℕ) (b : Block) → HasPair v.list n b → (b.number ≡ n) × IsFiled ds answers b
+  filed_of n b h =
+      let some = weigh_some (files_of ds n) replies (omega (
+        arith,
+        weigh_filings ds n replies,
+        w.filed n,
+        occurs_of_pair
+            v.list n b h,
+      )) in
+      let k : ℕ = some.0 in let r : Reply = some.1 in let is = is_filing r.answer (number_at ds r.delivery) n some.3 in
+      let t = reply_at k r some.2 in let c = get_within ds r.delivery t.0 in
+      let number : c.0.number ≡ n = sym (ap number_in c.1) ∙ sym is.1 in
+      let there : HasPair v.list c.0.number c.0 = subst (λ (a : Answer). IsListed v.list c.0 a) is.0 (t.1 c.0 c.1).1 in
+      let same : c.0 ≡ b = one_block v.list n c.0 b (w.files_once n) (subst (λ (m : ℕ). HasPair v.list m c.0) number
+      there) h in (
+        sym (ap (λ (x : Block). x.number) same) ∙ number,
+        (r.delivery, (answer_of k r some.2 ∙ ap (λ (a : Answer). Some a) is.0, c.1 ∙ ap (λ (x : Block). Some x) same)),
+      )
+
+  filed_once : (d e : ℕ) (b c : Block) → FiledAs ds answers d b → FiledAs ds answers e c → b.number ≡ c.number → d ≡ e
+  filed_once d e b c f g same =
+      let p = are d Filed f.0 in let q = are e Filed g.0 in let n : ℕ = b.number in dite (ℕ_discrete p.0 q.0)
+      (λ s. ap (λ (x : Reply). x.delivery) (same_Some (reply_of d Filed) (reply_of e Filed)
+      (sym p.1 ∙ (ap (slice_get replies) s ∙ q.1))))
+      (λ ne. let two = weigh_two (files_of ds n) replies p.0 q.0 (reply_of d Filed) (reply_of e Filed) ne p.1 q.1 in
+      let k = weigh_filings ds n replies in
+      let a = filing_here (number_at ds d) n (sym (ap number_in f.1)) in
+      let z = filing_here (number_at ds e) n (same ∙ sym (ap number_in g.1)) in
+      absurd (omega (arith, two, k, a, z, w.filed n, w.files_once n)))
+
+  -- a number that was told filed, was filed
+  told_filed : (n : ℕ) → 0 < filings ds replies n → IsFiledNumber ds answers n
+  told_filed n told =
+      let some = weigh_some (files_of ds n) replies (omega (arith, weigh_filings ds n replies, told)) in
+      let k : ℕ = some.0 in let r : Reply = some.1 in let is = is_filing r.answer (number_at ds r.delivery) n some.3 in
+      let c = get_within ds r.delivery (reply_at k r some.2).0 in (
+        c.0,
+        sym (ap number_in c.1) ∙ sym is.1,
+        (
+          r.delivery,
+          (
+            answer_of k r some.2 ∙ ap (λ (a : Answer). Some a) is.0,
+            c.1,
+          ),
+        ),
+      )
+
+  -- a number of which a delivery was told Doubled, was filed, where the bench did all that it has seen done
+  doubled_filed : DidAll v → (d : ℕ) (b : Block) → slice_get answers d ≡ Some Doubled → slice_get ds d ≡ Some b
+      → IsFiledNumber ds answers b.number
+  doubled_filed did d b at there =
+      let p = are d Doubled at in let n_is : number_at ds d ≡ b.number = ap number_in there in
+      let saw : HasSeen v (number_at ds d) Claimed = each_at (IsSeenIf ds v) replies p.0 (reply_of d Doubled) w.doubled
+      p.1 refl in
+      let one = did.list b.number (subst (λ (m : ℕ). HasSeen v m Claimed) n_is saw) in let filed = w.filed b.number in
+      told_filed b.number (omega (arith, one, filed))
+
+  -- the first claim
+  pub answered : DidAll v → HasAnswers total ds answers
+  answered did = record {
+    count = count;
+    right = λ d a b at here. (right_at d a b at here).0;
+    once = filed_once;
+    doubled = doubled_filed did;
+  }
+
+  module _ (contents : List (Option Block)) (is_closed : IsClosed total v contents) where
+    filed_at : (n : ℕ) (b : Block) → slice_get contents n ≡ Some (Some b) → (b.number ≡ n) × IsFiled ds answers b
+    filed_at n b at = filed_of n b (is_closed.only n b at)
+
+    content : (bs : List Block) → contents ≡ map Some bs → IsContent total ds answers bs
+    content bs all = record {
+      count = all_count bs contents (sym all) ∙ is_closed.count;
+      numbered = λ n b at. (filed_at n b (all_at bs contents (sym all) n b at)).0;
+      filed = λ n b at. (filed_at n b (all_at bs contents (sym all) n b at)).1;
+    }
+
+    -- the second claim
+    pub recorded : (whole : Whole) (bs : List Block) → IsWhole contents whole bs → IsRecorded total ds answers
+        whole.capture whole.span
+    recorded whole bs is = record {
+      blocks = bs;
+      content = content bs is.all;
+      joins = is.stands.extent.join;
+      capture_is = is.capture;
+      stands = is.stands;
+      first = is.starts;
+    }
+
+    -- the third claim
+    pub least_missing : (n : ℕ) → Inserted.IsLeastMissing contents n → IsLeastUnfiled total ds answers n
+    least_missing n e = record {
+      within = let c = is_closed.count in let l = e.within in omega (arith, c, l);
+      missing = λ f. some_none f.0
+          (same_Some (Some f.0) no_block (sym (ap (slice_get contents) (sym f.1) ∙ is_closed.listed f.0.number f.0
+          (listed_of f.2.0 f.0 f.2.1)) ∙ place_of contents n no_block e.within e.missing));
+      least = λ k l. let c = e.before k l in let w = e.within in
+          let f = filed_at k c.0 (place_of contents k (Some c.0) (omega (arith, w, l)) c.1) in (c.0, f.0, f.1);
+    }
+
+    pub first_torn : (n : ℕ) (bs : List Block) → Inserted.IsLeastTorn contents n bs → IsTorn total ds answers n
+    first_torn n bs torn = record {
+      blocks = bs;
+      content = content bs torn.all;
+      torn = record
+          { within = torn.within; joins = torn.join; torn = torn.torn };
+    }
+
+-- what was seen and isn't lacking, is had
+lack_none : (s h : ℕ) → lack s h ≡ 0 → 0 < s → 0 < h
+lack_none zero h e some = absurd (omega (arith, some))
+lack_none (suc s) zero e some = absurd (omega (arith, e))
+lack_none (suc s) (suc h) e some = omega arith
+
+none_missing : (saw had : List ℕ) (limit : ℕ) → missing_count saw had limit ≤ 0 → (n : ℕ) → n < limit → 0 < occurrences
+    n saw → 0 < occurrences n had
+none_missing saw had zero none n low some = absurd (omega (arith, low))
+none_missing saw had (suc k) none n low some = dite (ℕ_discrete n k)
+    (λ is. let z : 0 < occurrences k saw = subst (λ (y : ℕ). 0 < occurrences y saw) is some in
+    subst (λ (y : ℕ). 0 < occurrences y had) (sym is) (lack_none (occurrences k saw) (occurrences k had)
+    (omega (arith, none)) z))
+    (λ ne. none_missing saw had k (omega (arith, none)) n (omega (arith, low, ne)) some)
+
+-- what was collected, and what the board gave
+module _ (total : ℕ) (ds : List Block) (v : View) (replies : List Reply) (c : Collection) (closed : Closed)
+    (k : IsAccount total ds v replies c closed) where
+  -- nothing that was collected is left on the board
+  pub apart : (n : ℕ) (b d : Block) → HasBlock c.book n b → HasBlock closed.contents.items n d → ⊥
+  apart n b d at left =
+      let h = occurs_of_pair v.takes n b (k.collected.took n b at) in
+      some_none d (same_Some (Some d) no_block (sym left ∙ k.closing.gone n h))
+
+  module _ (others : closed.others ≡ 0) (taken : closed.taken ≡ 0) where
+    seen_listed : (n : ℕ) → n < total → 0 < occurrences n v.filed → 0 < occurrences n (numbers v.list)
+    seen_listed n low some = let most = k.closing.saw_filed in none_missing v.filed (numbers v.list) total
+        (omega (arith, most, others)) n low some
+
+    seen_took : (n : ℕ) → n < total → 0 < occurrences n v.taken → 0 < occurrences n (numbers v.takes)
+    seen_took n low some = let most = k.closing.saw_taken in none_missing v.taken (numbers v.takes) total
+        (omega (arith, most, taken)) n low some
+
+    -- what was collected, the bench filed
+    collected_listed : (n : ℕ) (b : Block) → HasBlock c.book n b → HasPair v.list n b
+    collected_listed n b at =
+        let took = k.collected.took n b at in
+        let low : n < total = let l = k.collected.long in let w = slice_get_within c.book n (Some b) at in
+        omega (arith, l, w) in
+        let p = pair_of_occurs v.list n (seen_listed n low (k.collected.saw n (occurs_of_pair v.takes n b took))) in
+        subst (λ (x : Block). HasPair v.list n x) (k.same n p.0 b p.1 took) p.1
+
+    -- all that the bench filed is collected, or left on the board
+    pub closed_all : (all : List (Option Block)) → IsUnion c.book closed.contents.items all → IsClosed total v all
+    closed_all all u = record {
+      count = u.long ∙ k.collected.long;
+      listed = λ n b h. dite (ℕ_discrete (occurrences n (numbers v.takes)) 0)
+          (λ z. let at = k.closing.untaken taken n b h z in
+          u.second n b (slice_get_within closed.contents.items n (Some b) at) at)
+          (λ ne. let p = pair_of_occurs v.takes n (omega (arith, ne)) in
+          u.first n b (k.collected.kept n b (subst (λ (x : Block). HasPair v.takes n x) (sym (k.same n b p.0 h p.1))
+          p.1)));
+      only = λ n b at. ⊎_elim (λ x. collected_listed n b x) (λ x. k.closing.only others n b x.1) (u.only n b at);
+    }
+
+    -- a bench that took all that it filed, collected all
+    pub all_early : (all : List (Option Block)) → IsUnion c.book closed.contents.items all → HasTakenOwn v
+        → ((n : ℕ) → n < total → (b : Block) × HasBlock all n b) → c.count ≡ total
+    all_early all u own there =
+        let long = k.collected.long in let counted = k.collected.counted in
+        let full = count_all c.book (λ n low.
+        let near : n < total = omega (arith, low, long) in
+        let b = there n near in
+        let h = (closed_all all u).only n b.0 b.1 in
+        let gone : 0 < occurrences n (numbers v.takes) + occurrences n v.taken = own n (occurs_of_pair v.list n b.0 h)
+        in
+        let took : 0 < occurrences n (numbers v.takes) = dite (ℕ_discrete (occurrences n v.taken) 0)
+        (λ z. omega (arith, gone, z)) (λ ne. seen_took n near (omega (arith, ne))) in
+        let p = pair_of_occurs v.takes n took in (p.0, k.collected.kept n p.0 p.1)) in
+        omega (arith, full, counted, long)

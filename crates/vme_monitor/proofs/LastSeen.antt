@@ -1,0 +1,188 @@
+-- Memories with an entry of `last_seen` for each place, and that no two stand at one place.
+use Rattle.std.proofs.Common.{◌≡◌, ◌≢◌, ◌⊎◌, ℕ, zero, suc, ◌<◌, ◌≤◌, List, [], ◌∷◌, ◌++◌, length, map, set, refl, ap}
+use Rattle.std.proofs.Common.{sym, ◌∙◌, subst, arith, inl, inr, ⊎_elim, get_or, Option, Some, None}
+use mathlib.Core.Logic.{dite}
+use native.Mathlib.Decide.{ℕ_discrete}
+use Rattle.std.specs.Prelude.{slice_get, unwrap_or}
+use Rattle.std.proofs.lemmas.Option.{slice_get_within}
+use Rattle.vme_monitor.specs.Outcome.{nothing_shown}
+use Rattle.vme_monitor.specs.Walk.{outcome_of}
+use Rattle.vme_monitor.specs.declared.link.TableRow.{TableRow}
+use Rattle.vme_monitor.specs.Meeting.{AreAmong, AreLastSeen, AreDistinct, memories_in}
+
+-- what two equal options hold, and that nothing is no value
+pub same_value : {A : Type 0} (x y : A) → Some x ≡ Some y → x ≡ y
+same_value {A} x y e = ap (λ (o : Option A). unwrap_or o x) e
+
+abbrev Holds : {A : Type 0} → Option A → Type 0
+Holds None = ⊥
+Holds (Some x) = Unit {0}
+
+pub no_value : {A : Type 0} (x : A) → None ≡ Some x → ⊥
+no_value {A} x e = subst (λ (o : Option A). Holds o) (sym e) tt
+
+module _ {A : Type 0} where
+  pub get_pushed : (xs : List A) (x y : A) (i : ℕ) → slice_get (xs ++ x ∷ []) i ≡ Some y → (slice_get xs i ≡ Some y) ⊎
+      ((i ≡ length xs) × (y ≡ x))
+  get_pushed [] x y zero e = inr (refl, same_value y x (sym e))
+  get_pushed [] x y (suc i) e = absurd (no_value y e)
+  get_pushed (z ∷ xs) x y zero e = inl e
+  get_pushed (z ∷ xs) x y (suc i) e = ⊎_elim (λ a. inl a) (λ a. inr (ap suc a.0, a.1)) (get_pushed xs x y i e)
+
+  pub get_kept : (xs : List A) (x y : A) (i : ℕ) → slice_get xs i ≡ Some y → slice_get (xs ++ x ∷ []) i ≡ Some y
+  get_kept [] x y i e = absurd (no_value y e)
+  get_kept (z ∷ xs) x y zero e = e
+  get_kept (z ∷ xs) x y (suc i) e = get_kept xs x y i e
+
+  pub get_last : (xs : List A) (x : A) → slice_get (xs ++ x ∷ []) (length xs) ≡ Some x
+  get_last [] x = refl
+  get_last (z ∷ xs) x = get_last xs x
+
+  pub get_set : (l : List A) (i : ℕ) (a : A) → i < length l → slice_get (set l i a) i ≡ Some a
+  get_set [] i a h = absurd (omega arith)
+  get_set (x ∷ xs) zero a h = refl
+  get_set (x ∷ xs) (suc i) a h = get_set xs i a (omega arith)
+
+  pub get_unset : (l : List A) (i j : ℕ) (a : A) → j ≢ i → slice_get (set l i a) j ≡ slice_get l j
+  get_unset [] i j a n = refl
+  get_unset (x ∷ xs) zero zero a n = absurd (n refl)
+  get_unset (x ∷ xs) zero (suc j) a n = refl
+  get_unset (x ∷ xs) (suc i) zero a n = refl
+  get_unset (x ∷ xs) (suc i) (suc j) a n = get_unset xs i j a (λ e. n (ap suc e))
+
+pub memories_pushed : {P : Type 0} (rows : List (TableRow P)) (row : TableRow P)
+    → memories_in (map outcome_of (rows ++ row ∷ [])) ≡ memories_in (map outcome_of rows) ++ row.memory ∷ []
+memories_pushed [] row = refl
+memories_pushed (r ∷ rows) row = ap (λ l. r.memory ∷ l) (memories_pushed rows row)
+
+pub memories_unchanged : {P : Type 0} (ms : List P) → memories_in (map nothing_shown ms) ≡ ms
+memories_unchanged [] = refl
+memories_unchanged (m ∷ ms) = ap (λ l. m ∷ l) (memories_unchanged ms)
+
+-- the list itself, and what is among what is among it
+pub among_itself : {P : Type 0} (ms : List P) → AreAmong ms ms
+among_itself ms i p e = (i, e)
+
+module _ {P : Type 0} (place : P → ℕ) where
+  -- entries of `last_seen` tell places apart
+  pub seated_apart : (ms : List P) (last_seen : List ℕ) → AreLastSeen place ms last_seen → AreDistinct place ms
+  seated_apart ms last_seen index_at_place i j p q a b same = same_value i j (sym (index_at_place i p a)
+      ∙ ap (λ k. slice_get last_seen k) same ∙ index_at_place j q b)
+
+  -- at the places of the memories so far the entries have a stamp
+  abbrev pub AreStamped : ℕ → List P → List ℕ → Type 0
+  AreStamped stamp ms last_seen = (i : ℕ) (p : P) → slice_get ms i ≡ Some p → slice_get last_seen (place p) ≡ Some stamp
+
+  stamped_set : (stamp : ℕ) (ms : List P) (last_seen : List ℕ) (k : ℕ) → k < length last_seen → AreStamped stamp ms
+      last_seen → AreStamped stamp ms (set last_seen k stamp)
+  stamped_set stamp ms last_seen k below stamped i p e = dite (ℕ_discrete (place p) k)
+      (λ same. ap (λ n. slice_get (set last_seen k stamp) n) same ∙ get_set last_seen k stamp below)
+      (λ ne. get_unset last_seen k (place p) stamp ne ∙ stamped i p e)
+
+  pub stamped_more : (stamp : ℕ) (ms : List P) (last_seen : List ℕ) (m : P) (k : ℕ) → k ≡ place m → k < length last_seen
+      → AreStamped stamp ms last_seen → AreStamped stamp (ms ++ m ∷ []) (set last_seen k stamp)
+  stamped_more stamp ms last_seen m k is below stamped i p e =
+      ⊎_elim (λ a. stamped_set stamp ms last_seen k below stamped i p a)
+      (λ a. ap (λ n. slice_get (set last_seen k stamp) n) (ap place a.1 ∙ sym is) ∙ get_set last_seen k stamp below)
+      (get_pushed ms m p i e)
+
+  -- a memory at a place without a stamp is new
+  pub apart_more : (stamp found : ℕ) (ms : List P) (last_seen : List ℕ) (m : P) (k : ℕ) → k ≡ place m
+      → slice_get last_seen k ≡ Some found → found ≢ stamp → AreStamped stamp ms last_seen → AreDistinct place ms
+      → AreDistinct place (ms ++ m ∷ [])
+  apart_more stamp found ms last_seen m k is there other stamped apart i j p q a b same =
+      ⊎_elim
+      (λ x. ⊎_elim (λ y. apart i j p q x y same) (λ y. absurd (new p i x (same ∙ ap place y.1)))
+      (get_pushed ms m q j b))
+      (λ x. ⊎_elim (λ y. absurd (new q j y (sym same ∙ ap place x.1))) (λ y. x.0 ∙ sym y.0) (get_pushed ms m q j b))
+      (get_pushed ms m p i a)
+    where
+      new : (r : P) (n : ℕ) → slice_get ms n ≡ Some r → place r ≡ place m → ⊥
+      new r n e at = other (same_value found stamp (sym there ∙ ap (λ n. slice_get last_seen n) (is ∙ sym at)
+          ∙ stamped n r e))
+
+  -- a memory that is put behind the others, in the entry of its place
+  pub seated_more : (ms : List P) (last_seen : List ℕ) (m : P) (k : ℕ) → k ≡ place m → k < length last_seen
+      → ((i : ℕ) (p : P) → slice_get ms i ≡ Some p → place p ≢ k) → AreLastSeen place ms last_seen → AreLastSeen place
+      (ms ++ m ∷ []) (set last_seen k (length ms))
+  seated_more ms last_seen m k is below new index_at_place i p e =
+      ⊎_elim (λ a. get_unset last_seen k (place p) (length ms) (new i p a) ∙ index_at_place i p a)
+      (λ a. ap (λ n. slice_get (set last_seen k (length ms)) n) (ap place a.1 ∙ sym is) ∙ get_set last_seen k
+      (length ms) below ∙ ap Some (sym a.0)) (get_pushed ms m p i e)
+
+  -- a place that has no entry, or whose entry names no memory there, has none
+  pub seated_past : (ms : List P) (last_seen : List ℕ) (k : ℕ) → length last_seen ≤ k → AreLastSeen place ms last_seen
+      → (i : ℕ) (p : P) → slice_get ms i ≡ Some p → place p ≢ k
+  seated_past ms last_seen k past index_at_place i p e same = let w = slice_get_within last_seen (place p) i
+      (index_at_place i p e) in omega (arith, w, same, past)
+
+  seat_of : (ms : List P) (last_seen : List ℕ) (k at : ℕ) → slice_get last_seen k ≡ Some at → AreLastSeen place ms
+      last_seen → (i : ℕ) (p : P) → slice_get ms i ≡ Some p → place p ≡ k → at ≡ i
+  seat_of ms last_seen k at there index_at_place i p e same = same_value at i
+      (sym there ∙ ap (λ n. slice_get last_seen n) (sym same) ∙ index_at_place i p e)
+
+  pub seated_beyond : (ms : List P) (last_seen : List ℕ) (k at : ℕ) → slice_get last_seen k ≡ Some at → length ms ≤ at
+      → AreLastSeen place ms last_seen → (i : ℕ) (p : P) → slice_get ms i ≡ Some p → place p ≢ k
+  seated_beyond ms last_seen k at there past index_at_place i p e same = let is = seat_of ms last_seen k at there
+      index_at_place i p e same in let w = slice_get_within ms i p e in omega (arith, is, w, past)
+
+  pub seated_other : (ms : List P) (last_seen : List ℕ) (k at : ℕ) (other : P) → slice_get last_seen k ≡ Some at
+      → slice_get ms at ≡ Some other → place other ≢ k → AreLastSeen place ms last_seen → (i : ℕ) (p : P)
+      → slice_get ms i
+      ≡ Some p → place p ≢ k
+  seated_other ms last_seen k at other there here ne index_at_place i p e same =
+      ne (ap place
+      (same_value other p (sym here ∙ ap (λ n. slice_get ms n) (seat_of ms last_seen k at there index_at_place i p e
+      same) ∙ e)) ∙ same)
+
+  -- two memories
+  pub two_apart : (ms : List P) (p q : P) → ms ≡ p ∷ q ∷ [] → place p ≢ place q → AreDistinct place ms
+  two_apart ms p q is other = subst (AreDistinct place) (sym is) at
+    where
+      at : (i j : ℕ) (a b : P) → slice_get (p ∷ q ∷ []) i ≡ Some a → slice_get (p ∷ q ∷ []) j ≡ Some b → place a
+          ≡ place b → i ≡ j
+      at zero zero a b e f same = refl
+      at zero (suc zero) a b e f same = absurd
+          (other (ap place (same_value p a e) ∙ same ∙ ap place (same_value b q (sym f))))
+      at (suc zero) zero a b e f same = absurd
+          (other (ap place (same_value p b f) ∙ sym same ∙ ap place (same_value a q (sym e))))
+      at (suc zero) (suc zero) a b e f same = refl
+      at (suc (suc i)) j a b e f same = absurd (no_value a e)
+      at zero (suc (suc j)) a b e f same = absurd (no_value b f)
+      at (suc zero) (suc (suc j)) a b e f same = absurd (no_value b f)
+
+  -- one memory at most
+  pub one_apart : (ms : List P) → length ms < 2 → AreDistinct place ms
+  one_apart ms few i j p q a b same = let x = slice_get_within ms i p a in let y = slice_get_within ms j q b in
+      omega (arith, x, y)
+
+-- one memory more that is among others
+pub among_more : {P : Type 0} (ms more others : List P) (m : P) (k : ℕ) → slice_get others k ≡ Some m
+    → ((i : ℕ) (p : P) → slice_get more i ≡ Some p → (slice_get ms i ≡ Some p) ⊎ (p ≡ m)) → AreAmong ms others
+    → AreAmong more others
+among_more {P} ms more others m k there added among i p e =
+    ⊎_elim (λ a. among i p a) (λ a. let r : (j : ℕ) × (slice_get others j ≡ Some p) = (k, there ∙ ap Some (sym a)) in
+    r) (added i p e)
+
+pub length-memories : {P : Type 0} (rows : List (TableRow P)) → length (memories_in (map outcome_of rows)) ≡ length rows
+length-memories [] = refl
+length-memories (r ∷ rows) = ap suc (length-memories rows)
+
+two_memories : {P : Type 0} (rows : List (TableRow P)) (a b : TableRow P) → length rows ≡ 2 → a ≡ get_or rows 0 a → b
+    ≡ get_or rows 1 b → memories_in (map outcome_of rows) ≡ a.memory ∷ b.memory ∷ []
+two_memories [] a b len first second = absurd (omega arith)
+two_memories (x ∷ []) a b len first second = absurd (omega arith)
+two_memories {P} (x ∷ y ∷ []) a b len first second =
+    let one : x ≡ a = sym first in
+    let two : y ≡ b = sym second in
+    ap (λ (r : TableRow P). r.memory ∷ y.memory ∷ []) one ∙ ap (λ (r : TableRow P). a.memory ∷ r.memory ∷ []) two
+two_memories (x ∷ y ∷ z ∷ rows) a b len first second = absurd (omega arith)
+
+-- two rows of which one is more sensitive, or whose memories stand at different places
+pub two_rows_apart : {P : Type 0} (place sensitivity : P → ℕ) (nth : ℕ → P) → ((p : P) → nth (place p) ≡ p)
+    → (rows : List (TableRow P)) (a b : TableRow P) → length rows ≡ 2 → a ≡ get_or rows 0 a → b ≡ get_or rows 1 b
+    → (sensitivity a.memory ≢ sensitivity b.memory) ⊎ (place a.memory ≢ place b.memory) → AreDistinct place
+    (memories_in (map outcome_of rows))
+two_rows_apart place sensitivity nth found rows a b len first second either =
+    two_apart place (memories_in (map outcome_of rows)) a.memory b.memory (two_memories rows a b len first second)
+    (⊎_elim (λ ne same. ne (ap sensitivity (sym (found a.memory) ∙ ap nth same ∙ found b.memory))) (λ ne. ne) either)

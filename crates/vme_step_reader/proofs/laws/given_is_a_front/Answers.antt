@@ -1,5 +1,0 @@
-use Rattle.vme_step_reader.proofs.PieceSteps.{given-front}
-use Rattle.vme_step_reader.proofs.laws.given_is_a_front.Goals as goal
-
-pub returns : goal.returns
-returns c r rest = given-front c.recorded_before_is_a_front.ensures r rest

@@ -1,0 +1,56 @@
+-- A monitor is advanced along the steps from the memory that it is in.
+use Rattle.std.proofs.Common.{◌≡◌, ℕ, ◌+◌, Bool, true, false, cond, ◌&&◌, ◌||◌, List, [], ◌∷◌, ◌++◌, length, refl, sym}
+use Rattle.std.proofs.Common.{ap, ◌∙◌}
+use Rattle.std.proofs.Common.{Option, Some, None}
+use Rattle.std.specs.Option.{is_some, option_map, option_map_or}
+use Rattle.vme_trace.specs.Levels.{Levels, is_idle}
+use Rattle.vme_trace.specs.Trace.{changed, levels_after}
+use Rattle.vme_trace.specs.declared.step.Change.{Change}
+use Rattle.vme_trace.specs.declared.step.Step.{Step}
+use Rattle.vme_trace.specs.declared.verdict.Break.{Break}
+use Rattle.vme_monitor.specs.Outcome.{Outcome, earlier}
+use Rattle.vme_trace.specs.Changes.{touches_control}
+use Rattle.vme_monitor.specs.Ends.{end_among}
+use Rattle.vme_monitor.specs.OverStretches.{observed, phase_step}
+use Rattle.vme_monitor.specs.Run.{break_at, nothing, machine_step, quiet, run_of}
+use Rattle.vme_monitor.specs.Runs.{run_more}
+use Rattle.vme_monitor.specs.StepRuns.{seen_in}
+use Rattle.vme_monitor.specs.WithoutMarks.{unmarked_next}
+use Rattle.vme_monitor.specs.declared.mark.Fault.{Fault}
+use Rattle.vme_monitor.specs.declared.mark.Next.{Next}
+use Rattle.vme_monitor.specs.declared.mark.StepMarks.{StepMarks}
+use Rattle.vme_monitor.specs.declared.over_stretches.StretchObservation.{StretchObservation}
+use Rattle.vme_monitor.specs.declared.over_stretches.StretchPhase.{StretchPhase}
+use Rattle.vme_monitor.specs.declared.over_stretches.StretchPhase.TheVariants.{Ended, Judging, Reset, Waiting}
+use Rattle.vme_monitor.specs.declared.view.End.{End}
+use Rattle.vme_monitor.specs.declared.view.End.TheVariants as end
+use Rattle.vme_monitor.specs.declared.view.StepView.{StepView}
+use Rattle.vme_summary.specs.Progressed.{HasMonitorState}
+use Rattle.vme_summary.specs.declared.monitor_states.MonitorState.{MonitorState}
+
+-- one step more
+pub led_on : {P : Type 0} (next : P → Levels → Levels → List Change → Next P) (begin : Levels
+    → P) (a b : MonitorState P)
+    (o : Levels) (x : List Step) (s : Step) (before after : Levels) (n : ℕ) → before ≡ levels_after o x
+    → after ≡ changed before s.changes → n ≡ length x + 1
+    → b.memory ≡ (next a.memory before after s.changes).memory
+    → b.event ≡ earlier a.event (option_map (break_at n s.time) (next a.memory before after s.changes).fault)
+    → HasMonitorState (run_of next) begin a o x → HasMonitorState (run_of next) begin b o (x ++ s ∷ [])
+led_on {P} next begin a b o x s before after n here there count m e seen =
+    let so_far = run_of next (begin o) o x in
+    let whole = run_more next x s (begin o) o before after here there in
+    let later = λ (k : ℕ) (f : Option Fault). option_map (break_at k s.time) f in
+    record {
+      memory = m ∙ ap (λ (p : P). (next p before after s.changes).memory) seen.memory
+          ∙ sym (ap (λ (r : Outcome P). r.leaving) whole);
+      event = e
+          ∙ ap (λ (k : ℕ). earlier a.event (later k (next a.memory before after s.changes).fault)) count
+          ∙ ap (λ (p : P). earlier a.event (later (length x + 1) (next p before after s.changes).fault)) seen.memory
+          ∙ ap (λ (v : Option Break). earlier v (later (length x + 1)
+          (next so_far.leaving before after s.changes).fault)) seen.event
+          ∙ sym (ap (λ (r : Outcome P). r.event) whole);
+    }
+
+-- what the lines are after a step
+pub view_after : (v : StepView) (cs : List Change) → v ≡ seen_in v.before cs → v.after ≡ changed v.before cs
+view_after v cs e = ap (λ (w : StepView). w.after) e
