@@ -1,5 +1,5 @@
 //! A reader of four-state value change dumps (IEEE Std 1364-2005, clause 18), read whole, piece by
-//! piece, or by pieces that are read apart and joined.
+//! piece, or in pieces that are read separately and joined.
 //!
 //! # Parts
 //!
@@ -11,23 +11,23 @@
 //!   the definitions, and what takes them.
 //! - `body`, `body_state`, `body_piece`, `open_item`, `change_visitor`, `timed_visitor`,
 //!   `instant_collector`: the changes, and what takes them.
-//! - `stopped`: the first fault of a body, with what took what stands before it.
+//! - `stopped`: the first fault of a body, with the visitor that took what precedes it.
 //! - `head`, `pieces`, `detached_piece`: a text whose definitions are read; a body that comes in
-//!   pieces; pieces that are read before those in front of them.
+//!   pieces; pieces that are read before the ones that precede them.
 //! - `lines`: how many lines a text ends.
 //!
 //! # What is proved
 //!
 //! - [`read_vcd`] answers exactly the value that the grammar gives the text, or its first fault
-//!   with the fault's line (`dump_of`), or want of memory. [`read_definitions`] and
+//!   with the fault's line (`dump_of`), or lack of memory. [`read_definitions`] and
 //!   [`Head::read_body`] give the same value, part by part, to what takes it.
-//! - What [`read_front`] and [`Pieces`] answer of a part of a text, a fault included, holds of
-//!   every text that goes on so (`HeaderContinuesAs`, `BodyContinuesTo`). With a fault of the body
-//!   comes what took all that stands before it, and the last time there ([`Stopped`],
+//! - What [`read_front`] and [`Pieces`] answer of a part of a text, a fault included, is the same
+//!   whatever follows (`HeaderContinuesAs`, `BodyContinuesTo`). A fault of the body comes with the
+//!   visitor that took all that precedes it, and with the last time there ([`Stopped`],
 //!   `ContinuesOrStops`).
-//! - A piece that is read apart is read as it is in its place, where it fits, and `may_join` says
+//! - A piece that is read separately is read as in its place, where it fits, and `may_join` says
 //!   yes exactly there (`IsReadDetached`, `MayFollow`).
-//! - [`whole_tokens`] cuts a text where no token goes on (`detached`).
+//! - [`whole_tokens`] cuts a text between two tokens (`detached`).
 //!
 //! # What isn't proved
 //!

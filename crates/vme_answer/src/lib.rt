@@ -1,5 +1,5 @@
 //! What a command answers: the recording that its inputs make, or why there is none; the verdict;
-//! and the line and the exit status that tell it.
+//! and its line and exit status.
 //!
 //! # Parts
 //!
@@ -18,7 +18,7 @@
 //!
 //! # What isn't proved
 //!
-//! That memory suffices: want of memory is a refusal of its own, with status 4.
+//! That memory suffices: lack of memory is a refusal of its own, with status 4.
 //!
 //! # Limits
 //!

@@ -3,7 +3,7 @@
 //!
 //! # Parts
 //!
-//! - `specs/Parts`: a recording is judged anew behind each break, from the first idle instant on;
+//! - `specs/Parts`: a recording is judged anew after each break, from the first idle instant on;
 //!   all breaks of it.
 //! - `specs/Asked`: what has to happen for a rule to be asked at all. A rule that is never asked
 //!   can't be broken.

@@ -1,5 +1,5 @@
-//! The command `audit`: all breaks of dumps of any length, each told as soon as it is complete,
-//! what was covered, and what the audit of each dump comes to.
+//! The command `audit`: all breaks of dumps of any length, each reported as soon as it is complete,
+//! what was covered, and the outcome of each dump's audit.
 //!
 //! # Parts
 //!
@@ -8,31 +8,31 @@
 //! - `definitions`: reads as far as the definitions end. They are looked for again only where they
 //!   may have ended, so that this takes time in proportion to the bytes.
 //! - `body`: takes the steps that each piece completes, settles them if there is a skew
-//!   (`settling`), audits them and tells their breaks (`told`), before the next read.
+//!   (`settling`), audits them and reports their breaks (`told`), before the next read.
 //! - `dump_input`: the bytes that were read and not taken.
 //! - `junit`: the same as a JUnit file ([`TestSuite`], [`junit_file`]).
 //!
 //! # What is proved
 //!
-//! - [`audit`]: a binding that can't be read or is refused is told by its line and its status, and
+//! - [`audit`]: where a binding can't be read or is refused, its line and its status say why, and
 //!   nothing is audited (`refused`).
 //! - [`audit`] (`audited`, `specs/SeveralDumps`): standard output is exactly the texts that the
-//!   definitions give the dumps' bytes, however these come, one dump after the other: a line for each
-//!   break with its standing, the counts, the rules that are never asked, and the outcome
-//!   (`specs/DumpAnswers`). By a skew a text is of what the recording settles to, and before a fault
-//!   of what is complete of that by the last time that is told before it (`specs/SettledReadings`).
-//!   With `stop` it is that of the recording as far as it is audited, and a fault behind is not met.
-//!   Standard error is exactly the lines that tell why dumps have no outcome, in the same order. The
-//!   exit status is the first of 5, 4, 3, 1, 2, 6 that occurred, of all dumps, or else 0. Where a dump
-//!   can't be read to its end, or memory runs out, the first bytes of its text are written, and that
-//!   is told. Where a write fails, the first bytes of all texts are written, and no dump behind is
-//!   audited.
+//!   definitions give the dumps' bytes, however these come, one dump after the other: a line for
+//!   each break with its standing, the counts, the rules that are never asked, and the outcome
+//!   (`specs/DumpAnswers`). By a skew a text is of what the recording settles to, and before a
+//!   fault of what is complete of that by the last time before it (`specs/SettledReadings`). With
+//!   `stop` it is that of the recording as far as it is audited, and a later fault is not met.
+//!   Standard error is exactly the lines that say why dumps have no outcome, in the same order. The
+//!   exit status is the first of 5, 4, 3, 1, 2, 6 that occurred, of all dumps, or else 0. Where a
+//!   dump can't be read to its end, or memory runs out, the first bytes of its text are written,
+//!   and a line says so. Where a write fails, the first bytes of all texts are written, and no
+//!   further dump is audited.
 //! - No index is out of range, no sum wraps, and each call ends.
 //!
 //! # What isn't proved
 //!
-//! - Where a read fails, which breaks are told before. Tests try this, in portions of any length, and
-//!   with readers and writers that fail anywhere.
+//! - Which breaks are reported before a read that fails. Tests try this, in portions of any length,
+//!   and with readers and writers that fail anywhere.
 //! - The JUnit file, which tests try. That memory suffices.
 //!
 //! # Limits

@@ -3,7 +3,7 @@
 //! Each function is a law: its contract is what it says of the recordings of one module of
 //! `specs/`, which ends in the list of them, and the prover computes it.
 //!
-//! - [`several_breaks`]: all breaks, and what is judged behind each.
+//! - [`several_breaks`]: all breaks, and what is judged after each.
 //! - [`coverage`]: what is counted, and which recordings are covered.
 //! - [`asking`]: which rules are asked.
 //!

@@ -2,10 +2,10 @@
 //!
 //! # Parts
 //!
-//! - `category`: [`BreakCategory`] is how a break counts, [`BreakCategory::of`] says it by the deviations
-//!   that are allowed, and [`is_allowed`] whether one of them allows it.
+//! - `category`: [`BreakCategory`] is how a break counts, [`BreakCategory::of`] says it by the
+//!   deviations that are allowed, and [`is_allowed`] whether one of them allows it.
 //! - `telling`: [`dump_head`] is what each line about a dump begins with, its name; [`break_line`]
-//!   is the line that tells a break, and [`refusal_text`] says why there is no outcome.
+//!   is the line of a break, and [`refusal_text`] says why there is no outcome.
 //! - `counts`: [`count_lines`] says what the recording has, and which rules it never asks.
 //! - `outcome`: [`outcome_line`] says what the audit comes to, and [`outcome_status`] is the exit
 //!   status by that.

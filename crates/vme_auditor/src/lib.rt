@@ -3,35 +3,35 @@
 //!
 //! # Parts
 //!
-//! - `auditor`: [`Auditor`] takes one step after the other, tells the break that a step makes, and
-//!   says at any time what was found so far.
-//! - `audit`, `memories`: what an audit has come to: the memory in which each of the five monitors
-//!   is, led from step to step. At a break all of them begin anew from the levels that the step
-//!   leaves, so the work is that of the steps, however many of them break a rule.
-//! - `tally`, `asked`: what is counted, and which events happened of which rules speak.
+//! - `auditor`: [`Auditor`] takes one step after the other, returns the break that a step makes,
+//!   and says at any time what was found so far.
+//! - `audit`, `memories`: the state of an audit: the memory of each of the five monitors, which run
+//!   from step to step. At a break all of them start again from the levels that the step leaves, so
+//!   the work is that of the steps, however many of them break a rule.
+//! - `tally`, `asked`: what is counted, and which events happened that rules speak of.
 //! - `audit_break`, `findings`: a break with numbers of 64 bits; what was found, and the
 //!   [`outcome`] by it.
-//! - `laws`: what an audit has in common with a verdict and a listing; and that the first break, and
-//!   what each step shows to a listing, are what the definitions say. `growth`: how the breaks of a
-//!   recording grow as its steps come.
+//! - `laws`: what an audit has in common with a verdict and a listing; and that the first break,
+//!   and what each step shows to a listing, are what the definitions say. `growth`: how the breaks
+//!   of a recording grow as its steps come.
 //!
 //! # What is proved
 //!
-//! - [`Auditor::step`]: the breaks that are told are exactly those of the recording so far, each
-//!   with its own step (`told`).
+//! - [`Auditor::step`]: the breaks that are returned are exactly those of the recording so far,
+//!   each with its own step (`told`).
 //! - [`Auditor::audited`]: all of it is what the definitions say of the recording, where it ends
 //!   there (`AreFindingsOf`): the counts are those over the rows of all parts, the rules that are
-//!   asked are those of the definitions, and so are whether anything is judged behind the last
+//!   asked are those of the definitions, and so are whether anything is judged after the last
 //!   break, the instant of that break, and the transfer that is without an answer.
 //! - [`outcome`] is that of vme_audit for every recording of which these are the findings, and so
 //!   many breaks of each kind (`defined`).
 //! - [`first_break_is_named`]: the first break is the one that the verdict names.
-//! - [`unbroken_is_listed`]: there is none exactly where the verdict names none; what is judged then
-//!   conforms, and the counts are those of the listing's rows.
+//! - [`unbroken_is_listed`]: there is none exactly where the verdict names none; what is judged
+//!   then conforms, and the counts are those of the listing's rows.
 //! - [`outcome_has_verdict`]: a recording that conforms without an allowed break conforms by its
 //!   verdict, and is never idle exactly where its verdict says so.
-//! - [`breaks_grow`]: each step breaks one rule at most, at its own instant, and the breaks before it
-//!   stay.
+//! - [`breaks_grow`]: each step breaks one rule at most, at its own instant, and the breaks before
+//!   it stay.
 //!
 //! # What isn't proved
 //!

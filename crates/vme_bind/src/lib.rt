@@ -13,9 +13,9 @@
 //! - `capture`, `text_capture`: the recording of a dump that was read, and of a text that is read
 //!   once and isn't kept.
 //! - `text_pieces`, `text_state`: the recording of a text that comes piece by piece.
-//! - `laws`: what was recorded before a place is only the front of what is recorded.
-//! - `speculative_reader`, `assigned_lines`: pieces that are read before those in front of them, as
-//!   if these left given levels.
+//! - `laws`: what was recorded before a place is a prefix of what is recorded.
+//! - `speculative_reader`, `assigned_lines`: pieces that are read before the ones that precede
+//!   them, from assumed levels.
 //!
 //! # What is proved
 //!
@@ -25,10 +25,11 @@
 //!   faulty line of the binding (`capture_of`). `Binding::capture_text` answers the same of the
 //!   dump's text; the dump's first fault goes before one of the binding.
 //! - `Binding::record_text` and [`TextPieces`] give that recording step by step to what takes it,
-//!   and keep none of it (`gives`, `formed`, `TextContinuesAs`). With a fault of the dump what took
-//!   the steps of the instants that are complete before it can be had, with the last time there
-//!   (`ReadingContinuesAs`), and a fault of the binding is known before the body (`binding_fault`).
-//! - What was recorded before a place of a text has no part in what follows it
+//!   and keep none of it (`gives`, `formed`, `TextContinuesAs`). A fault of the dump comes with the
+//!   visitor that took the steps of the instants that are complete before it, and with the last
+//!   time there (`ReadingContinuesAs`), and a fault of the binding is known before the body
+//!   (`binding_fault`).
+//! - What follows a place of a text doesn't depend on what was recorded before it
 //!   ([`recorded_before_is_a_prefix`]).
 //! - A piece that [`SpeculativeReader`] reads ahead may be joined exactly where the levels before
 //!   it are those that it was read from (`MayFollowLevels`). Its steps are then those of reading it

@@ -4,8 +4,8 @@
 //!
 //! - `board`: a [`Board`] has a place for each number below its total. [`Board::close`] gives what
 //!   was filed.
-//! - `bench`: a [`Bench`] is what one worker steps with. It delivers blocks in any order
-//!   ([`Bench::deliver`]), hands out draws ([`Bench::draw`]), looks how far a number has come
+//! - `bench`: a [`Bench`] makes the steps of one worker. It delivers blocks in any order
+//!   ([`Bench::deliver`]), hands out draws ([`Bench::draw`]), looks up the stage of a number
 //!   ([`Bench::look`]) and takes filed blocks out ([`Bench::take`]). Benches are split off and
 //!   folded together.
 //! - `delivery`: what a delivery is answered.
@@ -14,7 +14,7 @@
 //! What a bench has filed, taken, drawn and seen is its view, which contracts alone see: `view_of`
 //! in `specs/Benches.antt`, with the fields of [`vme_core::View`]. `specs/Words.antt` says how the
 //! words and slots of the table are read; the rule that they keep is that of vme_core.
-//! `specs/Tells.antt` has what each atomic step tells, and `proofs/Steps.antt` shows that each
+//! `specs/Tells.antt` has what each atomic step returns, and `proofs/Steps.antt` shows that each
 //! keeps the rule.
 //!
 //! # What is proved

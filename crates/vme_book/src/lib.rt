@@ -2,7 +2,7 @@
 //!
 //! # Parts
 //!
-//! - `book`: [`Book::insert`] takes a judged block at its number, [`Book::so_far`] tells the
+//! - `book`: [`Book::insert`] takes a judged block at its number, [`Book::so_far`] gives the
 //!   verdict of the blocks from number 0 on that are inserted and join, and [`Book::close`] gives
 //!   the span and the recording of all of them.
 //! - `places`: the blocks and their spans, at their numbers.

@@ -5,45 +5,45 @@
 //!
 //! - `check`, `list`, `confirm`: [`check::check`] judges a recording and [`list::list`] lists it,
 //!   by [`Workers`]; [`confirm::confirm_with`] compares a listing with that of a recording.
-//! - `explain`, `bind`, `variables`, `rules`, `faults`: [`explain::explain`] says why a recording is
-//!   judged so, [`bind::bind`] writes a binding for a dump, [`tell_variables`] the variables,
+//! - `explain`, `bind`, `variables`, `rules`, `faults`: [`explain::explain`] says why a recording
+//!   is judged so, [`bind::bind`] writes a binding for a dump, [`tell_variables`] the variables,
 //!   [`tell_rules`] what the rules ask, and [`tell_faults`] what the refusals of inputs mean.
-//! - `refused`, `suggestions`: what is told behind the line of a refusal, of the input's line and its
-//!   first bytes, and of the paths and widths that the dump has instead.
+//! - `refused`, `suggestions`: what follows the line of a refusal: the input's line, its kind by its
+//!   first bytes, and the paths and widths that the dump has instead.
 //! - `dump_judge`, `judged_dump`, `workers`: a dump that is judged as it is read, in which pieces
 //!   and by how many.
-//! - `ordered_dump`, `judged_settled`: the same by one, in order, whose steps settle by a skew;
-//!   `settled`: a recording that is kept, settled by one ([`unsettled`]: by 0 it is itself).
-//! - `allowance`, `words`, `built_in`, `telling`, `input_fault`: which breaks the words of an audit
-//!   allow; what the words name and how a call without an order ends; what is used where no words
-//!   say it; how texts and faults are told. The audit itself is vme_audit_command's.
+//! - `ordered_dump`, `judged_settled`: the same by one worker, in order, with a skew; `settled`: a
+//!   recording that is kept, settled by one ([`unsettled`]: by 0 it is itself).
+//! - `allowance`, `words`, `built_in`, `telling`, `input_fault`: which breaks the arguments of an
+//!   audit allow; what the arguments name and how a call without an order ends; what is used
+//!   without arguments; how texts and faults are written. The audit itself is vme_audit_command's.
 //!
 //! # What is proved
 //!
-//! - `check`, `list` and `confirm_with`: where the inputs are told whole, no write fails and memory
+//! - `check`, `list` and `confirm_with`: where the inputs are read whole, no write fails and memory
 //!   suffices, exactly the defined line or text is written, with its status, or exactly the first
-//!   fault (`exact`). The rows that `list` writes split the judged edges (`split`). Whatever is
-//!   told, `answer` says what is written, and `unwritten` when the status is 5.
-//! - No size of piece and no number of workers has a part in an answer. No size of block has one,
-//!   but that a recording may fill too many.
+//!   fault (`exact`). The rows that `list` writes split the judged edges (`split`). In every case
+//!   `answer` says what is written, and `unwritten` when the status is 5.
+//! - No answer depends on the size of a piece or the number of workers, nor on the size of a block,
+//!   except that a recording may fill too many.
 //! - `explain` begins with the line that `check` writes, and has its status (`Explains`). `bind`
 //!   writes only a binding that makes a recording of that dump (`IsBindingFor`). `faults` writes
-//!   exactly the page of a kind, or of each (`ArePages`). Behind the line of a refusal `explain`,
-//!   `bind` and `variables` tell exactly the page of its kind, below what the input shows, unless
-//!   memory runs out (`IsMore`). [`words_status`]: 3 for wrong words; help and version 0, or 5 where
-//!   they weren't written.
+//!   exactly the page of a kind, or the pages of all (`ArePages`). After the line of a refusal
+//!   `explain`, `bind` and `variables` write exactly the page of its kind, below an excerpt of the
+//!   input, unless memory runs out (`IsMore`). [`words_status`]: 3 for invalid arguments; help and
+//!   version 0, or 5 where they weren't written.
 //! - [`allowance_of`] reads each allowance from its text, and nothing else from any text.
 //!
 //! # What isn't proved
 //!
 //! The texts of `rules`, `explain` and `variables`, what is shown of a refused input, and which
-//! lines `bind` finds (vme_rules, vme_explain, vme_find); that workers overlap; that memory suffices
-//! (status 4).
+//! lines `bind` finds (vme_rules, vme_explain, vme_find); that workers overlap; that memory
+//! suffices (status 4).
 //!
 //! # Limits
 //!
 //! Blocks of 1 to 65,536 steps, at most 4,096 of them; at most 268,435,456 steps and as many bytes
-//! of an input; 1 to 64 workers. With a skew over 0 one worker settles and judges.
+//! of an input; 1 to 64 workers. With a skew above 0 one worker settles and judges.
 //!
 //! # In which order to read
 //!

@@ -3,9 +3,9 @@
 //!
 //! # Parts
 //!
-//! - `page`: [`explanation`], what is said behind the line of a verdict.
+//! - `page`: [`explanation`], what is said after the line of a verdict.
 //! - `broken`, `related_event`: what is said of a break; the other events of which its rule speaks.
-//! - `summary`, `idle`: what is told of a recording without a break; what keeps a bus from being
+//! - `summary`, `idle`: what is said of a recording without a break; what keeps a bus from being
 //!   idle.
 //! - `rows`: what the rows of a listing say together.
 //! - `excerpt`, `shown`, `values`: the levels around an instant, which lines are shown, and several
@@ -15,7 +15,7 @@
 //!
 //! # What is proved
 //!
-//! What is told are values with contracts: [`count_of`] counts the rows of a kind, [`open_row`] is
+//! What it shows are values with contracts: [`count_of`] counts the rows of a kind, [`open_row`] is
 //! the last row that is open, [`levels_from`] gives the levels of the recording at some instants
 //! and [`marks_of`] their characters, [`time_at`] the time of an instant. [`first_related_event`]
 //! and [`second_related_event`] say of which other events a rule speaks, and [`instant_of`] finds
@@ -30,7 +30,7 @@
 //!
 //! # Limits
 //!
-//! An excerpt shows 8 instants before a break and 3 behind it. Start reading at `page`.
+//! An excerpt shows 8 instants before a break and 3 after it. Start reading at `page`.
 #![tactic(auto)]
 
 mod broken;

@@ -1,10 +1,10 @@
 //! What the refusals of inputs mean, for people: what each kind of them means, what was expected
-//! there, what usually causes it, and the remedy; what kind of file stands in the place of a dump or
-//! of a binding; and which paths of a dump are nearest to one that it lacks.
+//! there, what usually causes it, and the remedy; what kind of file stands in the place of a dump
+//! or of a binding; and which paths of a dump are nearest to one that it lacks.
 //!
 //! # Parts
 //!
-//! - `kind`: [`Kind`], each kind of refusal, by the name that a refusal tells.
+//! - `kind`: [`Kind`], each kind of refusal, by the name that a refusal has.
 //! - `page`: the page of each, [`Page::of`], the only source of these texts; and the pages as text.
 //!   `vmecheck faults` and docs/RECORDING.md say what it says.
 //! - `refusal`: [`Kind::of`] says of which kind a refusal is.
@@ -14,8 +14,8 @@
 //!
 //! # What is proved
 //!
-//! - The page of a kind is exactly that of `specs/Pages`, and what is told of it is exactly this
-//!   page; each kind has one, and `faults_text` tells all of them (`pages_of`).
+//! - The page of a kind is exactly that of `specs/Pages`, and exactly this page is written; each
+//!   kind has one, and `faults_text` has all of them (`pages_of`).
 //! - A kind has the name of `specs/Kinds`, and a name finds the kind that has it (`found`).
 //! - The kind of a refusal is exactly that of `specs/Refusals`.
 //! - A kind of file is exactly that of `specs/Files`, by the bytes that the formats begin with.
@@ -29,7 +29,7 @@
 //!
 //! # Limits
 //!
-//! A kind of file is known by its first bytes alone: what stands behind them isn't looked at. Start
+//! A kind of file is known by its first bytes alone: what stands after them isn't looked at. Start
 //! reading at `page`.
 #![tactic(auto)]
 

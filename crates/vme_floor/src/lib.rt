@@ -20,9 +20,10 @@
 //! - The recording of a [`Report`] is the joined content of the deliveries answered Filed, one for
 //!   each number (`recorded`). Its verdict is that of the recording by the definitions (`verdict`),
 //!   whose judged edges split into exactly its listing (`split`).
-//! - Each refusal comes for just its reason (`refusals`), and `Stray` never comes (`accounted`).
+//! - Each refusal is returned only for its reason (`refusals`), and `Stray` never comes
+//!   (`accounted`).
 //! - Of the blocks of a cut of a recording, each as often as may be, a report has that recording
-//!   and its verdict, and there is none only for want of memory or of a thread (`cut`).
+//!   and its verdict, and there is none only for lack of memory or of a thread (`cut`).
 //!
 //! docs/EVERY_ORDER.md says it in plain words. The claims are defined in `specs/Claims`, on
 //! `specs/Answering`, and what comes of a cut in `specs/Cuts`.

@@ -11,19 +11,20 @@
 //!   by workers.
 //! - `deliveries`: the blocks of the recording, by a seed in another order and some of them twice.
 //! - `unjudged`: why a recording isn't judged by workers.
-//! - `words`: the words of the command line.
-//! - `tests`: plans that change nothing, seeds, two pods on threads of their own, refusals, words.
+//! - `words`: the arguments of the command line.
+//! - `tests`: plans that change nothing, seeds, two pods on threads of their own, refusals,
+//!   arguments.
 //!
 //! # What is proved
 //!
 //! `check_by_pods`: what it writes and its status are exactly those of a check, whatever the order,
-//! the repetition and the number of workers (`exact`), but for want of memory and a thread that
+//! the repetition and the number of workers (`exact`), but for lack of memory and a thread that
 //! can't be started (never with one worker), which have status 4. The deliveries are of the
 //! recording's blocks, and all of them (`delivered`).
 //!
 //! # What isn't proved
 //!
-//! `main` with its files, and the words; that a seed gives another order, which is tested.
+//! `main` with its files, and the arguments; that a seed gives another order, which is tested.
 //!
 //! # Limits
 //!

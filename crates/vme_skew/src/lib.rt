@@ -1,8 +1,9 @@
-//! Recordings by probes that tell one moment of the bus at several times, and what they settle to.
+//! Recordings by probes that sample one moment of the bus at several times, and the recordings that
+//! they settle to.
 //!
 //! A logic analyser samples each line a little earlier or later than another. What lies within the
 //! *skew* is taken as one moment: the steps of a recording are taken in groups, and each group
-//! makes one step, at the time of its first one, of the lines that have another level behind the
+//! makes one step, at the time of its first one, of the lines that have another level after the
 //! group than before it. A group begins with the first step that is more than the skew later than
 //! the beginning of the group before.
 //!
@@ -12,27 +13,26 @@
 //! - `settling`, `group`: [`settle`], which makes the settled recording in one pass, and the group
 //!   at hand.
 //! - `step_settler`: [`StepSettler`], which settles steps as they come and keeps none of them;
-//!   `specs/Settling` says what it has come to.
-//! - `settling_visitor`: [`SettlingVisitor`], which does so in front of what takes a recording;
-//!   `specs/GivenOn` says what it has given on. Its skew is a parameter of its type,
-//!   [`GhostSkew`].
+//!   `specs/Settling` has its state.
+//! - `settling_visitor`: [`SettlingVisitor`], which does so for another visitor; `specs/GivenOn`
+//!   says what it has passed on. Its skew is a parameter of its type, [`GhostSkew`].
 //! - The functions of this file: laws of the definition, whose contracts are what they say.
 //!
 //! # What is proved
 //!
-//! [`settle`] makes exactly the settled recording (`settled`); the only error is want of memory. By
-//! a skew of 0 a recording is itself ([`settled_by_zero`]). What is settled is a recording, and has
-//! no more steps than there were ([`settled_is_recording`]). The levels behind each group are those
-//! of the recording ([`levels_are_kept`]). [`worked_recordings`] computes recordings at the bounds
-//! of groups.
+//! [`settle`] makes exactly the settled recording (`settled`); the only error is lack of memory.
+//! With a skew of 0 a recording is itself ([`settled_by_zero`]). What is settled is a recording,
+//! and has no more steps than there were ([`settled_is_recording`]). The levels after each group
+//! are those of the recording ([`levels_are_kept`]). [`worked_recordings`] computes recordings at
+//! the bounds of groups.
 //!
 //! A group is complete once a time is read that is more than the skew later than its beginning
-//! (`settled_until`). That much is a front of the settled recording ([`settled_until_is_prefix`]),
+//! (`settled_until`). That much is a prefix of the settled recording ([`settled_until_is_prefix`]),
 //! and a recording ([`settled_until_is_recording`]); it stays so as the recording goes on
-//! ([`settled_until_grows`]); by a skew of 0 it is all that is earlier
+//! ([`settled_until_grows`]); with a skew of 0 it is all that is earlier
 //! ([`settled_until_by_zero`]). What comes out of a [`StepSettler`] is at any time exactly what is
 //! complete (`settled`), and all once it ends, for steps of a recording that come no earlier than a
-//! time that is known. What a [`SettlingVisitor`] gives on is the whole settled recording once it
+//! time that is known. What a [`SettlingVisitor`] passes on is the whole settled recording once it
 //! ends (`settled`), which is a recording (`formed`), whatever recording it takes.
 //!
 //! # What isn't proved

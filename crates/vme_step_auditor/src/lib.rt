@@ -3,15 +3,15 @@
 //!
 //! # Parts
 //!
-//! - `step_auditor`: [`StepAuditor`] takes one step after the other, tells the break that a step
-//!   makes and how it counts, and looks at nothing behind the break at which it stops.
-//! - `categorized_break`: a break that is told ([`CategorizedBreak`]), and counts of breaks.
+//! - `step_auditor`: [`StepAuditor`] takes one step after the other, returns the break that a step
+//!   makes and how it counts, and looks at nothing after the break at which it stops.
+//! - `categorized_break`: a break that is returned ([`CategorizedBreak`]), and counts of breaks.
 //! - `laws`: how what is read of a recording goes on with its steps.
 //!
 //! # What is proved
 //!
-//! - [`StepAuditor::take`]: the breaks that are told are exactly those of the recording so far, as
-//!   far as it is read, each with its own step (`told`) and by how it counts (`category`).
+//! - [`StepAuditor::take`]: the breaks that are returned are exactly those of the recording so far,
+//!   as far as it is read, each with its own step (`told`) and by how it counts (`category`).
 //! - [`StepAuditor::is_stopped`]: it is stopped exactly where there are as many breaks that aren't
 //!   allowed.
 //! - [`StepAuditor::break_counts`], [`StepAuditor::audited`] and [`StepAuditor::outcome`] are what
@@ -26,7 +26,7 @@
 //!
 //! # Limits
 //!
-//! Those of an [`Auditor`]: the step behind the 18,446,744,073,709,551,615th is refused.
+//! Those of an [`Auditor`]: the step after the 18,446,744,073,709,551,615th is refused.
 //!
 //! # In which order to read
 //!

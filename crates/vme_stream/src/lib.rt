@@ -13,13 +13,13 @@
 //!
 //! # What is proved
 //!
-//! - [`read_all`]: the bytes are those that the source told (`bytes`). It answers that an input
+//! - [`read_all`]: the bytes are those that the source gave (`bytes`). It answers that an input
 //!   can't be read exactly where a read failed or too many reads gave bytes, and else that it is
-//!   too long exactly where it is, or want of memory (`IsReading`, `read`, `too_long`). [`read_by`]
-//!   says the same of what takes the bytes.
+//!   too long exactly where it is, or lack of memory (`IsReading`, `read`, `too_long`). [`read_by`]
+//!   says the same of a consumer of the bytes.
 //! - [`write_all`] writes all of some bytes, or after a failure the first of them.
-//! - [`Io`] tells just the bytes that its reader or writer tells, how many reads gave bytes and how
-//!   many calls failed.
+//! - [`Io`] exposes the bytes of its reader or writer, how many reads gave bytes and how many calls
+//!   failed.
 //!
 //! # What isn't proved
 //!
@@ -28,8 +28,8 @@
 //!
 //! # Limits
 //!
-//! An input has at most 268,435,456 bytes, told in fewer than 16,777,216 reads. A call that a
-//! signal interrupts is tried at most 1,000,000 times. A message has at most 128 bytes. Start
+//! An input has at most 268,435,456 bytes, and is read in fewer than 16,777,216 reads. A call that
+//! a signal interrupts is tried at most 1,000,000 times. A message has at most 128 bytes. Start
 //! reading at `specs/Inputs` and `specs/Outputs`.
 #![tactic(auto)]
 

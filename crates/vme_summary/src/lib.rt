@@ -13,7 +13,7 @@
 //! - `chunk_judge`, `chunk_summary`, `verdict_state`, `listing_state`: what judges a recording in
 //!   order, some steps at once, without marks for a verdict and with them for a listing.
 //! - `stream_judge`, `judged_chunk`, `discard_steps`: [`Judge`] and [`Lister`] take the steps as
-//!   they are made, and parts that were judged apart ([`JudgedChunk`]), on any thread;
+//!   they are made, and parts that were judged separately ([`JudgedChunk`]), on any thread;
 //!   [`DiscardSteps`] takes steps and judges none.
 //! - `cut`: [`verdict_by_blocks`] and [`listing_by_blocks`] take a capture, and copy none of its
 //!   blocks.

@@ -6,7 +6,8 @@
 //!   allocations in turn.
 //! - `listing_tests`: the rows of listings, as texts that are written and read back.
 //! - `moving_tests`: judged blocks in a list, in a table of atomic_table and through a thread.
-//! - `part_tests`: parts that are judged apart and passed in order, wherever the recording is cut.
+//! - `part_tests`: parts that are judged separately and passed in order, wherever the recording is
+//!   cut.
 //!
 //! Not tried here: a break of each of the rules. vme_eval has one of each, and
 //! `tests/recordings/run` tries the program on them.

@@ -2,13 +2,13 @@
 //!
 //! # Parts
 //!
-//! - `by_workers`: [`read_by_workers`] does with a piece what `TextPieces::read` of vme_bind does. What
-//!   stands before its first time and behind its last is read in order.
+//! - `by_workers`: [`read_by_workers`] does with a piece what `TextPieces::read` of vme_bind does.
+//!   What precedes its first time and follows its last is read in order.
 //! - `cut`: the rest is cut where times begin.
 //! - `speculative`, `chunks`: each part is read ahead of those before it, from the levels that
 //!   likely stand there, and judged as it is read.
-//! - `speculation`: whether these were guessed wrong. What the parts do to the lines is then read
-//!   first.
+//! - `speculation`: whether the assumed levels were wrong. What the parts do to the lines is then
+//!   read first.
 //! - `detached`: calls that are made side by side, by as many threads as there are workers, where
 //!   these can be made. There are four parts for each, the longest first, and a thread that is done
 //!   with one takes the next.
@@ -18,19 +18,19 @@
 //!
 //! # What is proved
 //!
-//! [`read_by_workers`]: for every number of workers, and whatever was guessed, what comes of the
-//! dump is what comes of it where the piece is read in order (`line`, `rest`), or want of memory is
-//! answered. A thread that can't be started changes no answer.
+//! [`read_by_workers`]: for every number of workers, and whatever levels were assumed, the result
+//! is that of reading the piece in order (`line`, `rest`), or that memory ran out. A thread that
+//! can't be started changes no answer.
 //!
 //! # What isn't proved
 //!
-//! That workers overlap, how fast they are, that each part is taken by one of them, how often a
-//! guess is right, and that memory suffices. `tests/workers/run` compares what the program answers
-//! by 1, 2, 3, 4 and 64 workers; this crate has no tests of its own.
+//! That workers overlap, how fast they are, that each part is taken by one of them, how often an
+//! assumption is right, and that memory suffices. `tests/workers/run` compares what the program
+//! answers by 1, 2, 3, 4 and 64 workers; this crate has no tests of its own.
 //!
 //! # Limits
 //!
-//! The levels before a part are guessed by the 16,384 bytes before it. Steps are judged 16,384 at a
+//! The levels before a part are assumed by the 16,384 bytes before it. Steps are judged 16,384 at a
 //! time. Start reading at `by_workers`; docs/ARCHITECTURE.md has the picture.
 #![tactic(auto)]
 

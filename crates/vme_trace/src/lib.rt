@@ -36,9 +36,9 @@
 //! # What isn't proved
 //!
 //! That the definitions say what the standard says: they are to be read, beside docs/PROTOCOL.md,
-//! which says the same in words and lists what is left out. vme_eval computes what they say of
-//! worked recordings. No definition speaks of nanoseconds: only the order of edges counts. Nor is
-//! it proved that memory suffices.
+//! which says the same in words and lists what is left out. The laws of vme_rules_eval and of the
+//! crates below it compute what they say of worked recordings. No definition speaks of nanoseconds:
+//! only the order of edges counts. Nor is it proved that memory suffices.
 //!
 //! # Limits
 //!

@@ -7,7 +7,8 @@
 //! the blocks of a read. `refused_memory` is made for `tests/memory/run`, which refuses each of its
 //! allocations in turn.
 //!
-//! Not tried here: the definitions themselves. vme_eval computes what they say.
+//! Not tried here: the definitions themselves. The laws of vme_rules_eval and of the crates below it
+//! compute what they say of worked recordings.
 #![tactic(auto)]
 
 #[cfg(test)]

@@ -1,22 +1,23 @@
-//! What the words of the command line ask for.
+//! What the arguments of the command line ask for.
 //!
 //! # Parts
 //!
 //! - `command`: the command of the program, with a subcommand for each task, in `clap`'s terms.
-//! - `words`: [`words::order`] reads the words by `clap`'s rules of that command.
-//! - `order`: a task, and an [`Order`]: its numbers, the scope that is named, what an audit is told,
-//!   and its other words.
-//! - `order_fault`: why words are no order.
+//! - `words`: [`words::order`] reads the arguments by `clap`'s rules of that command.
+//! - `order`: a task, and an [`Order`]: its numbers, the scope that is named, the options of an
+//!   audit, and the names of files.
+//! - `order_fault`: why arguments are no order.
 //!
 //! # What is proved
 //!
-//! [`words::order`]: an [`Order`] is what `clap`'s meaning of the command gives the words (`ok`).
-//! It comes exactly where `clap`'s rules find no fault in them, unless memory runs out (`taken`,
-//! `faulty`). Wrong words are answered with a kind of fault that those rules give (`err`).
+//! [`words::order`]: an [`Order`] is what `clap`'s meaning of the command gives the arguments
+//! (`ok`). It comes exactly where `clap`'s rules find no fault in them, unless memory runs out
+//! (`taken`, `faulty`). Invalid arguments are answered with a kind of fault that those rules give
+//! (`err`).
 //!
 //! # What isn't proved
 //!
-//! The texts of usage and help, and the words of a fault. Its tests, in vme_words_tests, try them.
+//! The texts of usage, help and faults. Its tests, in vme_words_tests, try them.
 //!
 //! # Limits
 //!

@@ -1,5 +1,5 @@
-//! Tests of vme_words: what the words of a command line order, by values that stand beside them, and
-//! which words are refused, as wrong ones or because they ask for help.
+//! Tests of vme_words: which order the arguments of a command line give, by values that stand
+//! beside them, and which arguments are refused, as invalid or because they ask for help.
 #![tactic(auto)]
 
 #[cfg(test)]

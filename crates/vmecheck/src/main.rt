@@ -1,12 +1,12 @@
 //! A conformance checker for recordings of a VMEbus backplane (ANSI/IEEE Std 1014-1987).
 //!
-//! The program reads its words, opens files and streams, and no more: vme_program does the rest.
-//! README.md says how it is used.
+//! The program reads its arguments, opens files and streams, and no more: vme_program does the
+//! rest. README.md says how it is used.
 //!
 //! # Parts
 //!
-//! - this file: the words of the command line, standard output and standard error, and what is said
-//!   of wrong words.
+//! - this file: the arguments of the command line, standard output and standard error, and what is
+//!   said of invalid arguments.
 //! - `host`: the files and standard input, as vme_program asks for them.
 //! - `save`: how a file is written beside another, and takes its place.
 //!
@@ -15,7 +15,7 @@
 //! - 0: conforming, confirmed, or written.
 //! - 1: a rule is broken, or a listing isn't the recording's.
 //! - 2: the recording can't be read on (U1 to U4), or the bus is never idle.
-//! - 3: an input, the words, or the place of a file to write are refused.
+//! - 3: an input, the arguments, or the place of a file to write are refused.
 //! - 4: there is no memory.
 //! - 5: the answer can't be written.
 //! - 6: no rule is broken in an audit, and not enough is covered.
@@ -23,14 +23,14 @@
 //!
 //! # What is proved
 //!
-//! Wrong words have status 3, and help and version 0 or 5 (`explain_words`). What is opened for each
-//! word, handed to which command, and answered is proved of vme_program, and what is written by the
-//! bytes of the inputs of vme_commands.
+//! Invalid arguments have status 3, and help and version 0 or 5 (`explain_words`). Which file is
+//! opened for each argument and passed to which command is proved of vme_program; what is written
+//! for the bytes of the inputs is proved of vme_commands.
 //!
 //! # What isn't proved
 //!
-//! That `main` hands on the words, the files by their names, and the standard streams: `./test` runs
-//! the program.
+//! That `main` passes on the arguments, the files by their names, and the standard streams:
+//! `./test` runs the program.
 #![tactic(auto)]
 
 ghost use Rattle.std.specs.Prelude.{◌≡◌, ◌≢◌, ◌⊎◌, IfErr};
