@@ -1,7 +1,7 @@
 -- The data of a write is read from its own text.
 use Rattle.std.proofs.Common.{◌≡◌, ◌==◌, ℕ, ◌+◌, ◌*◌, ◌/◌, ◌%◌, ◌^◌, ◌<◌, Bool, true, not, ◌&&◌, List, [], ◌∷◌, cond}
 use Rattle.std.proofs.Common.{refl, ap, ◌∙◌, arith}
-use Rattle.std.specs.Prelude.{Some, codes, nat_lt}
+use Rattle.std.specs.Prelude.{nat_lt}
 use Rattle.std.proofs.Math.Nat.{mod-eq_of_lt}
 use Rattle.std.specs.List.{list_all}
 use Rattle.std.proofs.lemmas.Bool.{and_from, and_parts, ltb-true, ne_eqb}
@@ -13,8 +13,7 @@ use Rattle.vme_listing.specs.LaneDigits.{is_moved_in, digit_in, flag_in}
 use Rattle.vme_listing.specs.Places.{is_digit_in, are_digits_from, is_lanes}
 use Rattle.vme_listing.specs.RowText.{digit_text, digit_text_in, lanes_text}
 use Rattle.vme_listing.specs.Words.{digit_of, number_after, number_of, flag_of, flags_after, flags_of, moved_of}
-use Rattle.vme_listing.specs.Words.{lanes_of}
-use Rattle.vme_listing.proofs.Cuts.{is_plain}
+use Rattle.vme_listing.specs.Lines.{lanes_of}
 use Rattle.vme_listing.proofs.DigitTexts.{text_past, digit_of-text, flag_of-text, shown-text}
 use Rattle.vme_listing.proofs.Numerals.{last}
 
@@ -152,32 +151,15 @@ moved_read a =
     by_bytes Word = refl
     by_bytes LongWord = refl
 
-pub lanes_read : (a : Lanes) → is_lanes a ≡ true → lanes_of (codes "data") (lanes_text a) ≡ Some a
-unfolding lanes_of
-lanes_read a h = rw (moved_read a, number_read a h, flags_read a h) refl
-
-digit_plain : (moved : Bool) (digit flag : ℕ) → not (digit_text moved digit flag == 32) ≡ true
-digit_plain moved digit flag = ap not (ne_eqb (digit_text moved digit flag) 32
-    (λ e. omega (arith, text_past moved digit flag)))
+-- the data that the eight bytes of its text are
+pub lanes-are : (a : Lanes) → is_lanes a ≡ true → lanes_of (lanes_text a) ≡ a
+lanes-are a h = rw (moved_read a, number_read a h, flags_read a h) refl
 
 digit_stays : (moved : Bool) (digit flag : ℕ) → not (digit_text moved digit flag == 10) ≡ true
 digit_stays moved digit flag = ap not (ne_eqb (digit_text moved digit flag) 10
     (λ e. omega (arith, text_past moved digit flag)))
 
--- no byte of it is a space
-pub lanes-plain : (a : Lanes) → is_plain (lanes_text a) ≡ true
-unfolding lanes_text
-lanes-plain a =
-    and_from _ _ (digit_plain (is_moved_in a 7) (digit_in a 7) (flag_in a 7))
-    (and_from _ _ (digit_plain (is_moved_in a 6) (digit_in a 6) (flag_in a 6))
-    (and_from _ _ (digit_plain (is_moved_in a 5) (digit_in a 5) (flag_in a 5))
-    (and_from _ _ (digit_plain (is_moved_in a 4) (digit_in a 4) (flag_in a 4))
-    (and_from _ _ (digit_plain (is_moved_in a 3) (digit_in a 3) (flag_in a 3))
-    (and_from _ _ (digit_plain (is_moved_in a 2) (digit_in a 2) (flag_in a 2))
-    (and_from _ _ (digit_plain (is_moved_in a 1) (digit_in a 1) (flag_in a 1))
-    (and_from _ _ (digit_plain (is_moved_in a 0) (digit_in a 0) (flag_in a 0)) refl)))))))
-
--- nor a line feed
+-- no byte of it is a line feed
 pub lanes-inside : (a : Lanes) → list_all (λ b. not (b == 10)) (lanes_text a) ≡ true
 unfolding lanes_text
 lanes-inside a =

@@ -1,7 +1,8 @@
 pub mod Addresses
-pub mod Candidates
-pub mod Cuts
+pub mod Glyphs
 pub mod Digits
+pub mod FrontDigits
+pub mod FrontHexadecimals
 pub mod Fronts
 pub mod LineFeeds
 pub mod Numerals
@@ -9,9 +10,11 @@ pub mod DigitTexts
 pub mod LaneTexts
 pub mod RecordedLanes
 pub mod Readings
-pub mod RowWords
 pub mod FoundBreaks
 pub mod RowForms
 pub mod RecordedRows
+pub mod Pieces
+pub mod RowsRead
+pub mod Said
 pub mod WellPlaced
 pub mod InVersions

@@ -19,7 +19,7 @@ use Rattle.vme_trace.specs.declared.class.Class.TheVariants as class
 use Rattle.vme_trace.specs.declared.rule.Rule.{Rule}
 use Rattle.vme_trace.specs.declared.data.Lanes.{Lanes}
 use Rattle.vme_trace.proofs.EveryRule.{every-rule}
-use Rattle.vme_listing.proofs.Cuts.{are_glyphs, decimal-glyphs, hexadecimal-glyphs}
+use Rattle.vme_listing.proofs.Glyphs.{are_glyphs, decimal-glyphs, hexadecimal-glyphs}
 use Rattle.vme_listing.proofs.LaneTexts.{lanes-inside}
 use Rattle.vme_listing.specs.Listed.{tells_resets}
 use Rattle.vme_listing.specs.Places.{is_number, is_edge, has_class, is_address, is_outcome, has_data, is_row}

@@ -1,4 +1,5 @@
 pub mod LaneDigits
+pub mod Lines
 pub mod Listed
 pub mod Places
 pub mod Reading

@@ -38,6 +38,7 @@
 #![tactic(auto)]
 
 pub mod fault;
+mod line;
 pub mod listing;
 mod place;
 pub mod read;

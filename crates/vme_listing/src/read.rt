@@ -9,11 +9,10 @@ ghost use Rattle.vme_listing.specs.declared.row.Row.{Row};
 ghost use Rattle.vme_listing.specs.declared.row.Version.{Version};
 
 use crate::fault::ListFault;
+use crate::line::read_row;
 use crate::listing::Listing;
 use crate::row::{Row, Version};
 use crate::row_reader::RowReader;
-use crate::text::RowBuffer;
-use crate::words::read_row;
 use memchr::memchr;
 use std::alloc::Global;
 
@@ -33,18 +32,14 @@ pub(crate) fn front_header(text: &[u8]) -> Option<(Version, &[u8])>
 }
 
 /// The row of the version whose line is at the front of the text, and what follows the line. Nothing may follow a
-/// verdict. The buffer is for the text of the row.
-pub(crate) fn front_row<'a>(
-    version: Version,
-    text: &'a [u8],
-    buffer: &mut RowBuffer,
-) -> Option<(Row, &'a [u8])>
+/// verdict.
+pub(crate) fn front_row(version: Version, text: &[u8]) -> Option<(Row, &[u8])>
     ensures named { IfSome result (λ front. (is_row version front.0 ≡ true) × IsFront text.now front.0 front.1.now) }
     ensures found { (row : Row) (more : List ℕ) → is_row version row ≡ true → IsFront text.now row more
         → IsSomeAnd result (λ front. (front.0 ≡ row) × (front.1.now ≡ more)) }
 {
     let end = memchr(b'\n', text)?;
-    let row = read_row(version, &text[..end], buffer)?;
+    let row = read_row(version, &text[..end])?;
     let more = &text[end + 1..];
     if row.is_verdict() && !more.is_empty() {
         return None;

@@ -10,7 +10,6 @@ ghost use Rattle.vme_listing.specs.declared.row.Row.{Row};
 use crate::fault::ListFault;
 use crate::read::{front_header, front_row};
 use crate::row::{Row, Version};
-use crate::text::RowBuffer;
 use std::marker::Model;
 
 /// The text of a listing behind its header and the rows that were read from its front.
@@ -21,8 +20,6 @@ pub struct RowReader<'a> {
     /// The last row that was read, and how many were.
     last: Option<Row>,
     count: usize,
-    /// For the text of a row.
-    buffer: RowBuffer,
 }
 
 /// Whether a row, if there is one, is the last of a listing.
@@ -60,7 +57,6 @@ impl<'a> RowReader<'a> {
             rest,
             last: None,
             count: 0,
-            buffer: RowBuffer::new(),
         })
     }
 
@@ -90,7 +86,7 @@ impl<'a> RowReader<'a> {
             return Ok(None);
         }
         let number = self.count + 1;
-        let Some((row, more)) = front_row(self.version, self.rest, &mut self.buffer) else {
+        let Some((row, more)) = front_row(self.version, self.rest) else {
             return Err(ListFault::BadRow { row: number });
         };
         if !row.may_follow(self.last) {

@@ -1,0 +1,154 @@
+-- The number whose digits in base 16 a word is, and data whose text it is.
+use Rattle.std.proofs.Common.{◌≡◌, ℕ, zero, suc, ◌+◌, ◌*◌, ◌/◌, ◌%◌, ◌^◌, ◌<◌, ◌≤◌, Bool, true, false, ◌&&◌}
+use Rattle.std.proofs.Common.{List, [], ◌∷◌, ◌++◌, drop, get_or, length, take, refl, sym, ap, ◌∙◌, arith, length-append}
+use Rattle.std.specs.Prelude.{None, Some, bytes_eq, if◌then◌else◌}
+use Rattle.std.specs.Fmt.{digit_glyph}
+use Rattle.std.proofs.Math.Nat.{pow-le-pow_right, pow-suc}
+use Rattle.std.proofs.lemmas.Bool.{and_from, and_parts, false≢true}
+use Rattle.std.proofs.lemmas.Bool.Decides.{nat_tests}
+use Rattle.std.proofs.lemmas.Grind.{take_at_read}
+use Rattle.std.proofs.lemmas.List.{length-take-le, take_all}
+use Rattle.std.proofs.lemmas.Slice.Eq.{bytes_eq-Decides}
+use Rattle.vme_trace.specs.declared.data.Lanes.{Lanes}
+use Rattle.vme_listing.specs.Lines.{are_hexadecimal, behind, hexadecimal_in, is_hexadecimal, lanes_in, lanes_of}
+use Rattle.vme_listing.specs.RowText.{hexadecimal, lanes_text}
+use Rattle.vme_listing.specs.Words.{number_of}
+use Rattle.vme_listing.proofs.FrontDigits.{behind-take, like, unlike}
+use Rattle.vme_listing.proofs.Numerals.{number_of-hexadecimal}
+
+glyph_hexadecimal : (digit : ℕ) → digit < 16 → is_hexadecimal (digit_glyph true digit) ≡ true
+glyph_hexadecimal digit small = grind (arith, nat_tests)
+
+are_hexadecimal-append : (front back : List ℕ) → are_hexadecimal front ≡ true → are_hexadecimal back ≡ true
+    → are_hexadecimal (front ++ back) ≡ true
+are_hexadecimal-append [] back h k = k
+are_hexadecimal-append (byte ∷ front) back h k =
+    let parts = and_parts (is_hexadecimal byte) (are_hexadecimal front) h in
+    and_from _ _ parts.0 (are_hexadecimal-append front back parts.1 k)
+
+hexadecimal-are : (k n : ℕ) → are_hexadecimal (hexadecimal k n) ≡ true
+unfolding hexadecimal
+hexadecimal-are zero n = refl
+hexadecimal-are (suc k) n =
+    are_hexadecimal-append (hexadecimal k (n / 16)) (digit_glyph true (n % 16) ∷ []) (hexadecimal-are k (n / 16))
+    (and_from _ _ (glyph_hexadecimal (n % 16) (omega arith)) refl)
+
+false_behind : (b c : Bool) → c ≡ false → (b && c) ≡ false
+false_behind true c e = e
+false_behind false c e = refl
+
+-- another byte is in no such word
+pub not-hexadecimal : (word : List ℕ) (i : ℕ) → i < length word → is_hexadecimal (get_or word i 0) ≡ false
+    → are_hexadecimal word ≡ false
+not-hexadecimal [] i within e = absurd (omega arith)
+not-hexadecimal (byte ∷ word) zero within e = rw e refl
+not-hexadecimal (byte ∷ word) (suc i) within e =
+    false_behind (is_hexadecimal byte) (are_hexadecimal word) (not-hexadecimal word i (omega arith) e)
+
+pub hexadecimal-length : (k n : ℕ) → length (hexadecimal k n) ≡ k
+unfolding hexadecimal
+hexadecimal-length zero n = refl
+hexadecimal-length (suc k) n =
+    omega (
+      arith,
+      hexadecimal-length k (n / 16),
+      length-append (hexadecimal k (n / 16)) (digit_glyph true
+          (n % 16) ∷ []),
+    )
+
+hexadecimal-push : (i m number digit : ℕ) → m / 16 ≡ number → m % 16 ≡ digit
+    → hexadecimal (i + 1) m ≡ hexadecimal i number ++ digit_glyph true digit ∷ []
+unfolding hexadecimal
+hexadecimal-push i m number digit front last =
+    let next : i + 1 ≡ suc i = omega arith in
+    ap (λ k. hexadecimal k m) next ∙ ap (λ n. hexadecimal i n ++ digit_glyph true (m % 16) ∷ []) front
+    ∙ ap (λ d. hexadecimal i number ++ digit_glyph true d ∷ []) last
+
+-- one more digit
+pub hexadecimal-more : (word : List ℕ) (i number digit : ℕ) → i < length word → hexadecimal i number ≡ take i word
+    → digit < 16 → digit_glyph true digit ≡ get_or word i 0
+    → hexadecimal (i + 1) (number * 16 + digit) ≡ take (i + 1) word
+hexadecimal-more word i number digit within so_far small glyph =
+    hexadecimal-push i (number * 16 + digit) number digit (omega arith) (omega arith)
+    ∙ ap (λ b. hexadecimal i number ++ b ∷ []) glyph ∙ ap (λ l. l ++ get_or word i 0 ∷ []) so_far
+    ∙ sym (take_at_read word i 0 within).1
+
+pub below-more : (i number digit : ℕ) → number < 16 ^ i → digit < 16 → number * 16 + digit < 16 ^ (i + 1)
+below-more i number digit below small =
+    let next : i + 1 ≡ suc i = omega arith in
+    omega (arith, below, small, pow-suc 16 i, ap (λ k. 16 ^ k) next)
+
+pub below-most : (i most number : ℕ) → i ≤ most → number < 16 ^ i → number < 16 ^ most
+below-most i most number few below = omega (arith, below, pow-le-pow_right {n = 16} (omega arith) few)
+
+pub hexadecimal_in-short : (k : ℕ) (text : List ℕ) → length text < k → hexadecimal_in k text ≡ None
+unfolding hexadecimal_in
+hexadecimal_in-short k text short =
+    rw (unlike (hexadecimal k (number_of 16 (take k text))) (take k text)
+    (λ e. omega (
+      arith,
+      ap length e,
+      hexadecimal-length k (number_of 16 (take k text)),
+      ap length (take_all k text (omega arith)),
+    ))) refl
+
+pub hexadecimal_in-not : (k : ℕ) (text : List ℕ) → are_hexadecimal (take k text) ≡ false → hexadecimal_in k text ≡ None
+unfolding hexadecimal_in
+hexadecimal_in-not k text h =
+    rw (unlike (hexadecimal k (number_of 16 (take k text))) (take k text)
+    (λ e. false≢true (sym h ∙ ap are_hexadecimal (sym e) ∙ hexadecimal-are k (number_of 16 (take k text))))) refl
+
+module _ (k : ℕ) (text : List ℕ) (number : ℕ) (few : k ≤ 8) (within : k ≤ length text)
+    (is : hexadecimal (length (take k text)) number ≡ take k text) (below : number < 16 ^ length (take k text)) where
+  size : length (take k text) ≡ k
+  size = length-take-le k text within
+
+  word-is : hexadecimal k number ≡ take k text
+  word-is = ap (λ n. hexadecimal n number) (sym size) ∙ is
+
+  under : number < 16 ^ k
+  under = omega (arith, below, ap (λ n. 16 ^ n) size)
+
+  by_32_bits : number < 16 ^ 8
+  by_32_bits = below-most k 8 number few under
+
+  pub hexadecimal_in-front : hexadecimal_in k text ≡ Some number
+  unfolding hexadecimal_in
+  hexadecimal_in-front =
+      rw (
+        sym word-is,
+        number_of-hexadecimal k number under (omega (arith, by_32_bits)),
+        like
+            (hexadecimal k number),
+      ) refl
+
+  pub behind-hexadecimal : behind (hexadecimal k number) text ≡ Some (drop k text)
+  behind-hexadecimal = ap (λ w. behind w text) word-is ∙ behind-take k text
+
+-- the data of eight bytes
+pub lanes-length : (a : Lanes) → length (lanes_text a) ≡ 8
+unfolding lanes_text
+lanes-length a = refl
+
+pub lanes_in-short : (text : List ℕ) → length text < 8 → lanes_in text ≡ None
+unfolding lanes_in
+lanes_in-short text short =
+    rw (unlike (lanes_text (lanes_of (take 8 text))) (take 8 text)
+    (λ e. omega (arith, ap length e, lanes-length (lanes_of (take 8 text)), ap length (take_all 8 text (omega arith)))))
+    refl
+
+module _ (text : List ℕ) (a : Lanes) (is : a ≡ lanes_of (take 8 text)) where
+  lanes_in-by : lanes_in text ≡ (if bytes_eq (lanes_text a) (take 8 text) then Some a else None)
+  unfolding lanes_in
+  lanes_in-by = ap (λ b. if bytes_eq (lanes_text b) (take 8 text) then Some b else None) (sym is)
+
+  pub lanes_in-front : bytes_eq (lanes_text a) (take 8 text) ≡ true → lanes_in text ≡ Some a
+  lanes_in-front h = lanes_in-by ∙ (rw h refl)
+
+  pub lanes_in-other : bytes_eq (lanes_text a) (take 8 text) ≡ false → lanes_in text ≡ None
+  lanes_in-other h = lanes_in-by ∙ (rw h refl)
+
+pub behind-lanes : (text : List ℕ) (a : Lanes) → bytes_eq (lanes_text a) (take 8 text) ≡ true
+    → behind (lanes_text a) text ≡ Some (drop 8 text)
+behind-lanes text a h =
+    ap (λ w. behind w text) ((bytes_eq-Decides (lanes_text a) (take 8 text)).0 h) ∙ behind-take 8 text

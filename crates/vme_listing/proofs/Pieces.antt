@@ -1,0 +1,120 @@
+-- What was read at the front of a line is its text, and what stands there is read.
+use Rattle.std.proofs.Common.{◌≡◌, ◌==◌, ℕ, zero, suc, ◌+◌, ◌%◌, ◌^◌, ◌<◌, ◌≤◌, Bool, true, false, not, ◌&&◌, List}
+use Rattle.std.proofs.Common.{[], ◌∷◌, ◌++◌, drop, length, take, refl, sym, ap, ◌∙◌, arith}
+use Rattle.std.specs.Prelude.{Option, None, Some, bytes_eq, decimal, nat_lt, if◌then◌else◌}
+use Rattle.std.specs.Char.{is_ascii_digit}
+use Rattle.std.proofs.lemmas.Bool.{and_from, and_parts, eq-eqb, eqb-true, false≢true, not-true}
+use Rattle.std.proofs.lemmas.Bool.Decides.{nat_tests}
+use Rattle.std.proofs.lemmas.Fmt.{decimal_by_steps, decimal_is_IsNumeral, length-decimal-le}
+use Rattle.std.proofs.lemmas.Option.{none-some, same_Some}
+use Rattle.std.proofs.lemmas.Slice.Eq.{bytes_eq-Decides}
+use Rattle.vme_listing.specs.Lines.{Left, behind, past, past_read, past_piece, or_other, piece, digits_at, number_in}
+
+pub behind-is : (word more : List ℕ) → behind word (word ++ more) ≡ Some more
+behind-is [] more = refl
+behind-is (byte ∷ word) more = rw (eq-eqb byte byte refl) (behind-is word more)
+
+pub behind-said : (word line more : List ℕ) → behind word line ≡ Some more → line ≡ word ++ more
+behind-said [] line more e = same_Some line more e
+behind-said (byte ∷ word) [] more e = absurd (none-some more e)
+behind-said (byte ∷ word) (first ∷ line) more e = by_test (behind-said word line more) (byte == first) refl e
+  where
+    by_test : (behind word line ≡ Some more → line ≡ word ++ more) → (same : Bool) → (byte == first) ≡ same
+        → (if same then behind word line else None) ≡ Some more
+        → first ∷ line ≡ byte ∷ (word ++ more)
+    by_test said true s e = rw (sym (eqb-true byte first s)) (ap (λ l. byte ∷ l) (said e))
+    by_test said false s e = absurd (none-some more e)
+
+pub past-said : (word : List ℕ) (left : Left) (more : List ℕ) → past word left ≡ Some more → left ≡ Some (word ++ more)
+past-said word None more e = absurd (none-some more e)
+past-said word (Some line) more e = ap Some (behind-said word line more e)
+
+module _ {A : Type 0} (read : List ℕ → Option A) (text : A → List ℕ) (other : A) where
+  said-by : (line more : List ℕ) (o : Option A) → past_read read text o line ≡ Some more
+      → Some line ≡ Some (text (or_other read other o) ++ more)
+  said-by line more None e = absurd (none-some more e)
+  said-by line more (Some x) e = ap Some (behind-said (text x) line more e)
+
+  pub piece-said : (left : Left) (more : List ℕ) → past_piece read text left ≡ Some more
+      → left ≡ Some (text (piece read other left) ++ more)
+  piece-said None more e = absurd (none-some more e)
+  piece-said (Some line) more e = said-by line more (read line) e
+
+  module _ (x : A) (more : List ℕ) (e : read (text x ++ more) ≡ Some x) where
+    pub piece-is : piece read other (Some (text x ++ more)) ≡ x
+    piece-is = ap (or_other read other) e
+
+    pub past_piece-is : past_piece read text (Some (text x ++ more)) ≡ Some more
+    past_piece-is = ap (λ o. past_read read text o (text x ++ more)) e ∙ behind-is (text x) more
+
+abbrev pub are_digits : List ℕ → Bool
+are_digits [] = true
+are_digits (byte ∷ word) = is_ascii_digit byte && are_digits word
+
+-- no digit is at the front
+abbrev pub is_end : List ℕ → Bool
+is_end [] = true
+is_end (byte ∷ more) = not (is_ascii_digit byte)
+
+digits-append : (front back : List ℕ) → are_digits front ≡ true → are_digits back ≡ true
+    → are_digits (front ++ back) ≡ true
+digits-append [] back h k = k
+digits-append (byte ∷ front) back h k =
+    let parts = and_parts (is_ascii_digit byte) (are_digits front) h in
+    and_from _ _ parts.0 (digits-append front back parts.1 k)
+
+one_digit : (byte : ℕ) → 48 ≤ byte → byte ≤ 57 → are_digits (byte ∷ []) ≡ true
+one_digit byte h k = grind (arith, nat_tests)
+
+pub decimal-digits : (n : ℕ) → n < 2 ^ 64 → are_digits (decimal n) ≡ true
+decimal-digits n below =
+    decimal_by_steps (λ n ds. are_digits ds ≡ true) (λ n small. one_digit (48 + n) (omega arith) (omega arith))
+    (λ n ds low h. digits-append ds ((48 + n % 10) ∷ []) h (one_digit (48 + n % 10) (omega arith)
+    (omega arith))) n below
+
+digits_at-is : (most : ℕ) (ds more : List ℕ) → are_digits ds ≡ true → length ds ≤ most → is_end more ≡ true
+    → digits_at most (ds ++ more) ≡ ds
+digits_at-is zero [] more h few end = refl
+digits_at-is zero (byte ∷ ds) more h few end = absurd (omega arith)
+digits_at-is (suc most) [] [] h few end = refl
+digits_at-is (suc most) [] (byte ∷ more) h few end = rw (not-true (is_ascii_digit byte) end) refl
+digits_at-is (suc most) (byte ∷ ds) more h few end =
+    let parts = and_parts (is_ascii_digit byte) (are_digits ds) h in
+    rw parts.0 (ap (λ l. byte ∷ l) (digits_at-is most ds more parts.1 (omega arith) end))
+
+less : (m n : ℕ) → m < n → nat_lt m n ≡ true
+less m n h = grind (arith, nat_tests)
+
+pub number_in-is : (n : ℕ) (more : List ℕ) → n < 2 ^ 32 → is_end more ≡ true → number_in (decimal n ++ more) ≡ Some n
+unfolding number_in
+number_in-is n more below end =
+    rw (
+      digits_at-is 10 (decimal n) more (decimal-digits n (omega arith))
+          (length-decimal-le 10 n (omega arith) (omega arith) (omega arith)) end,
+      (decimal_is_IsNumeral n (omega arith)).1,
+      less n (2 ^ 32) below,
+      (bytes_eq-Decides (decimal n) (decimal n)).1 refl,
+    ) refl
+
+-- by the front of a line, as long as the word
+pub behind-by : (word line : List ℕ) → bytes_eq (take (length word) line) word ≡ true
+    → behind word line ≡ Some (drop (length word) line)
+behind-by [] line h = refl
+behind-by (byte ∷ word) [] h = absurd (false≢true h)
+behind-by (byte ∷ word) (first ∷ line) h =
+    let parts = and_parts (first == byte) (bytes_eq (take (length word) line) word) h in
+    rw (eq-eqb byte first (sym (eqb-true first byte parts.0))) (behind-by word line parts.1)
+
+pub behind-not : (word line : List ℕ) → bytes_eq (take (length word) line) word ≡ false → behind word line ≡ None
+behind-not [] line h = absurd (false≢true (sym h))
+behind-not (byte ∷ word) [] h = refl
+behind-not (byte ∷ word) (first ∷ line) h = by_test (behind-not word line) (byte == first) refl
+  where
+    by_test : (bytes_eq (take (length word) line) word ≡ false → behind word line ≡ None) → (same : Bool)
+        → (byte == first) ≡ same → (if same then behind word line else None) ≡ None
+    by_test fails false s = refl
+    by_test fails true s =
+        let e : (first == byte) ≡ true = eq-eqb first byte (sym (eqb-true byte first s)) in
+        fails (ap (λ b. b && bytes_eq (take (length word) line) word) (sym e) ∙ h)
+
+pub ruleset words = (behind-by, behind-not)

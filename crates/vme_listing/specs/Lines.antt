@@ -1,0 +1,307 @@
+-- A row read from its line, from left to right: each piece is one whose text is at the front of what is left.
+use Rattle.std.specs.Prelude.{ℕ, zero, suc, Bool, true, ◌^◌, ◌==◌, ◌&&◌, ◌||◌, List, [], ◌∷◌, drop, length}
+use Rattle.std.specs.Prelude.{take}
+use Rattle.std.specs.Prelude.{Option, None, Some, bytes_eq, codes, decimal, nat_lt, nat_le, if◌then◌else◌}
+use Rattle.std.specs.Char.{is_ascii_digit}
+use Rattle.std.specs.Option.{is_some}
+use Rattle.std.specs.Str.Parse.{digits_value}
+use Rattle.vme_trace.specs.Names.{line_named, rule_named}
+use Rattle.vme_trace.specs.declared.data.Lanes.{Lanes}
+use Rattle.vme_trace.specs.declared.data.MovedBytes.TheVariants.{Nothing}
+use Rattle.vme_trace.specs.declared.rule.Rule.{Rule}
+use Rattle.vme_trace.specs.declared.class.Class.{Class}
+use Rattle.vme_trace.specs.declared.class.Class.TheVariants as class
+use Rattle.vme_listing.specs.RowText.{address_digits, hexadecimal}
+use Rattle.vme_listing.specs.RowText.{lanes_text}
+use Rattle.vme_listing.specs.Words.{flags_of, moved_of, number_of}
+use Rattle.vme_listing.specs.declared.row.AnswerLine.{AnswerLine}
+use Rattle.vme_listing.specs.declared.row.AnswerLine.TheVariants.{Dtack, Berr}
+use Rattle.vme_listing.specs.declared.row.Direction.{Direction}
+use Rattle.vme_listing.specs.declared.row.Direction.TheVariants.{Read, Write}
+use Rattle.vme_listing.specs.declared.row.ListedVerdict.{ListedVerdict}
+use Rattle.vme_listing.specs.declared.row.ListedVerdict.TheVariants.{Conforming, NeverIdle, Broken, Unreadable}
+use Rattle.vme_listing.specs.declared.row.Row.{Row}
+use Rattle.vme_listing.specs.declared.row.Row.TheVariants.{Start, Reset, OpenTenure, Tenure, AddressedCycle}
+use Rattle.vme_listing.specs.declared.row.Row.TheVariants.{FreeCycle, InterruptCycle, Transfer, PendingTransfer}
+use Rattle.vme_listing.specs.declared.row.Row.TheVariants.{Verdict}
+
+-- what is left of a line behind the pieces that were read, or none where one of them wasn't there
+abbrev pub Left : Type 0
+Left = Option (List ℕ)
+
+-- what is left behind a word
+abbrev pub behind : List ℕ → List ℕ → Left
+behind [] line = Some line
+behind (byte ∷ word) [] = None
+behind (byte ∷ word) (first ∷ line) = if byte == first then behind word line else None
+
+abbrev pub past : List ℕ → Left → Left
+past word None = None
+past word (Some line) = behind word line
+
+abbrev pub begins : List ℕ → Left → Bool
+begins word left = is_some (past word left)
+
+-- the piece that is read from the front of a line, in a way of reading, with its text
+module _ {A : Type 0} (read : List ℕ → Option A) (text : A → List ℕ) where
+  abbrev pub past_read : Option A → List ℕ → Left
+  past_read None line = None
+  past_read (Some x) line = behind (text x) line
+
+  abbrev pub past_piece : Left → Left
+  past_piece None = None
+  past_piece (Some line) = past_read (read line) line
+
+-- that piece, or another where none is there
+module _ {A : Type 0} (read : List ℕ → Option A) (other : A) where
+  abbrev pub or_other : Option A → A
+  or_other None = other
+  or_other (Some x) = x
+
+  abbrev pub piece : Left → A
+  piece None = other
+  piece (Some line) = or_other (read line)
+
+-- the digits at the front of a line, at most so many
+abbrev pub digits_at : ℕ → List ℕ → List ℕ
+digits_at zero line = []
+digits_at (suc most) [] = []
+digits_at (suc most) (byte ∷ line) = if is_ascii_digit byte then byte ∷ digits_at most line else []
+
+-- the number whose decimal text these digits are
+unfoldable pub number_in : List ℕ → Option ℕ
+number_in line =
+    if nat_lt (digits_value 10 (digits_at 10 line)) (2 ^ 32)
+    && bytes_eq (decimal (digits_value 10 (digits_at 10 line))) (digits_at 10 line)
+    then Some (digits_value 10 (digits_at 10 line)) else None
+
+-- 0 to 9 and A to F
+abbrev pub is_hexadecimal : ℕ → Bool
+is_hexadecimal byte = (nat_le 48 byte && nat_le byte 57) || (nat_le 65 byte && nat_le byte 70)
+
+abbrev pub are_hexadecimal : List ℕ → Bool
+are_hexadecimal [] = true
+are_hexadecimal (byte ∷ word) = is_hexadecimal byte && are_hexadecimal word
+
+-- the number whose text in base 16, in so many digits, is at the front of a line
+unfoldable pub hexadecimal_in : ℕ → List ℕ → Option ℕ
+hexadecimal_in digits line =
+    if bytes_eq (hexadecimal digits (number_of 16 (take digits line))) (take digits line)
+    then Some (number_of 16 (take digits line)) else None
+
+abbrev pub no_lanes : Lanes
+no_lanes = record { moved = Nothing; value = 0; unknown = 0 }
+
+abbrev pub lanes_of : List ℕ → Lanes
+lanes_of word = record { moved = moved_of word; value = number_of 16 word; unknown = flags_of word }
+
+-- the data whose text is at the front of a line
+unfoldable pub lanes_in : List ℕ → Option Lanes
+lanes_in line =
+    if bytes_eq (lanes_text (lanes_of (take 8 line))) (take 8 line) then Some (lanes_of (take 8 line)) else None
+
+-- what is left behind a word that may be there
+abbrev pub skipped : List ℕ → Left → Left
+skipped word left = if begins word left then past word left else left
+
+module _ (left : Left) where
+  abbrev pub number_at : ℕ
+  number_at = piece number_in 0 left
+
+  abbrev pub past_number : Left
+  past_number = past_piece number_in decimal left
+
+  -- the same below 256
+  abbrev pub small_at : ℕ
+  small_at = if nat_lt number_at 256 then number_at else 0
+
+  abbrev pub past_small : Left
+  past_small = if nat_lt number_at 256 then past_number else None
+
+  abbrev pub edge_at : Option ℕ
+  edge_at = if begins (codes "-") left then None else Some number_at
+
+  abbrev pub past_edge : Left
+  past_edge = if begins (codes "-") left then past (codes "-") left else past_number
+
+  abbrev pub hexadecimal_at : ℕ → ℕ
+  hexadecimal_at digits = piece (hexadecimal_in digits) 0 left
+
+  abbrev pub past_hexadecimal : ℕ → Left
+  past_hexadecimal digits = past_piece (hexadecimal_in digits) (hexadecimal digits) left
+
+  abbrev pub modifier_at : ℕ
+  modifier_at = if nat_lt (hexadecimal_at 2) 256 then hexadecimal_at 2 else 0
+
+  abbrev pub past_modifier : Left
+  past_modifier = if nat_lt (hexadecimal_at 2) 256 then past_hexadecimal 2 else None
+
+  abbrev pub direction_at : Direction
+  direction_at = if begins (codes " read") left then Read else Write
+
+  abbrev pub past_direction : Left
+  past_direction = if begins (codes " read") left then past (codes " read") left else past (codes " write") left
+
+  abbrev pub answer_at : AnswerLine
+  answer_at = if begins (codes " DTACK ") left then Dtack else Berr
+
+  abbrev pub past_answer : Left
+  past_answer = if begins (codes " DTACK ") left then past (codes " DTACK ") left else past (codes " BERR ") left
+
+  abbrev pub class_at : Class
+  class_at = if begins (codes " S ") left then class.S else class.K
+
+  abbrev pub past_class : Left
+  past_class = if begins (codes " S ") left then past (codes " S ") left else past (codes " K ") left
+
+  abbrev pub lanes_at : Lanes
+  lanes_at = piece lanes_in no_lanes left
+
+  abbrev pub past_lanes : Left
+  past_lanes = past_piece lanes_in lanes_text left
+
+module _ (left : Left) where
+  -- data, of which there are none where another word follows
+  abbrev pub data_at : Option Lanes
+  data_at = if begins (codes " data ") left then Some (lanes_at (past (codes " data ") left)) else None
+
+  abbrev pub past_data : Left
+  past_data = if begins (codes " data ") left then past_lanes (past (codes " data ") left) else left
+
+-- a row behind its first word, and what is left behind it
+module _ (left : Left) where
+  abbrev pub level_left : Left
+  level_left = past (codes " level ") (past_number left)
+
+  abbrev pub slot_left : Left
+  slot_left = past (codes " slot ") (past_small level_left)
+
+  abbrev pub end_left : Left
+  end_left = past (codes " end ") (past_small slot_left)
+
+  abbrev pub open_left : Left
+  open_left = past (codes " open end ") (past_number left)
+
+  unfoldable pub tenure_at : Row
+  tenure_at =
+      if begins (codes " open end ") (past_number left) then OpenTenure (number_at left) (edge_at open_left)
+      else Tenure (number_at left) (small_at level_left) (small_at slot_left) (edge_at end_left)
+
+  unfoldable pub past_tenure : Left
+  past_tenure = if begins (codes " open end ") (past_number left) then past_edge open_left else past_edge end_left
+
+  abbrev pub interrupt_left : Left
+  interrupt_left = past (codes " I ") (past_number left)
+
+  abbrev pub interrupt_end : Left
+  interrupt_end = past (codes " end ") (past_small interrupt_left)
+
+  abbrev pub free_left : Left
+  free_left = past (codes " F ") (past_number left)
+
+  abbrev pub free_end : Left
+  free_end = past (codes " end ") (past_modifier free_left)
+
+  abbrev pub class_left : Left
+  class_left = past_class (past_number left)
+
+  abbrev pub address_left : Left
+  address_left = past (codes " ") (past_modifier class_left)
+
+  abbrev pub digits_left : ℕ
+  digits_left = address_digits (modifier_at class_left)
+
+  abbrev pub cycle_end : Left
+  cycle_end = past (codes " end ") (past_hexadecimal address_left digits_left)
+
+  unfoldable pub cycle_at : Row
+  cycle_at =
+      if begins (codes " I ") (past_number left)
+      then InterruptCycle (number_at left) (small_at interrupt_left) (edge_at interrupt_end)
+      else if begins (codes " F ") (past_number left)
+      then FreeCycle (number_at left) (modifier_at free_left) (edge_at free_end)
+      else AddressedCycle (number_at left) (class_at (past_number left)) (modifier_at class_left)
+      (hexadecimal_at address_left digits_left) (edge_at cycle_end)
+
+  unfoldable pub past_cycle : Left
+  past_cycle =
+      if begins (codes " I ") (past_number left) then past_edge interrupt_end
+      else if begins (codes " F ") (past_number left) then past_edge free_end
+      else past_edge cycle_end
+
+  abbrev pub of_left : Left
+  of_left = past (codes " of ") (past_number left)
+
+  abbrev pub answer_left : Left
+  answer_left = past_direction (past_number of_left)
+
+  abbrev pub close_left : Left
+  close_left = past (codes " close ") (past_number (past_answer answer_left))
+
+  unfoldable pub transfer_at : Row
+  transfer_at =
+      if begins (codes " of ") (past_number left)
+      then Transfer (direction_at (past_number of_left)) (answer_at answer_left) (number_at left) (number_at of_left)
+      (number_at (past_answer answer_left)) (edge_at close_left) (data_at (past_edge close_left))
+      else PendingTransfer (number_at left) (direction_at (past_number left))
+
+  unfoldable pub past_transfer : Left
+  past_transfer =
+      if begins (codes " of ") (past_number left) then past_data (past_edge close_left)
+      else past (codes " pending") (past_direction (past_number left))
+
+abbrev pub named_break : (Rule → ℕ → ℕ → ListedVerdict) → Rule → ℕ → Option ℕ → Option ListedVerdict
+named_break kind rule instant None = None
+named_break kind rule instant (Some line) = Some (kind rule instant line)
+
+abbrev pub line_in : Left → Option ℕ
+line_in None = None
+line_in (Some line) = line_named line
+
+abbrev pub break_by : (Rule → ℕ → ℕ → ListedVerdict) → Option Rule → Left → Option ListedVerdict
+break_by kind None left = None
+break_by kind (Some rule) left =
+    named_break kind rule (number_at (past (codes " ") left)) (line_in (past (codes " ") (past_number (past
+    (codes " ") left))))
+
+-- the break that a text says behind its kind
+abbrev pub break_in : (Rule → ℕ → ℕ → ListedVerdict) → Left → Option ListedVerdict
+break_in kind None = None
+break_in kind (Some line) =
+    if nat_le 2 (length line) then break_by kind (rule_named (take 2 line)) (Some (drop 2 line)) else None
+
+unfoldable pub outcome_in : List ℕ → Option ListedVerdict
+outcome_in line =
+    if bytes_eq line (codes "conforming") then Some Conforming
+    else if bytes_eq line (codes "never-idle") then Some NeverIdle
+    else if begins (codes "broken ") (Some line) then break_in Broken (behind (codes "broken ") line)
+    else break_in Unreadable (behind (codes "unreadable ") line)
+
+-- the row, if nothing is left behind it
+abbrev pub whole : Row → Left → Option Row
+whole row None = None
+whole row (Some []) = Some row
+whole row (Some (byte ∷ line)) = None
+
+abbrev pub verdict_by : Option ListedVerdict → Option Row
+verdict_by None = None
+verdict_by (Some outcome) = Some (Verdict outcome)
+
+abbrev pub verdict_in : Left → Option Row
+verdict_in None = None
+verdict_in (Some line) = verdict_by (outcome_in line)
+
+-- the row whose text a line is
+unfoldable pub row_in : List ℕ → Option Row
+row_in line =
+    if begins (codes "transfer ") (Some line)
+    then whole (transfer_at (behind (codes "transfer ") line)) (past_transfer (behind (codes "transfer ") line))
+    else if begins (codes "cycle ") (Some line)
+    then whole (cycle_at (behind (codes "cycle ") line)) (past_cycle (behind (codes "cycle ") line))
+    else if begins (codes "tenure ") (Some line)
+    then whole (tenure_at (behind (codes "tenure ") line)) (past_tenure (behind (codes "tenure ") line))
+    else if begins (codes "start ") (Some line)
+    then whole (Start (number_at (behind (codes "start ") line))) (past_number (behind (codes "start ") line))
+    else if begins (codes "reset ") (Some line)
+    then whole (Reset (number_at (behind (codes "reset ") line))) (past_number (behind (codes "reset ") line))
+    else verdict_in (behind (codes "verdict ") line)
