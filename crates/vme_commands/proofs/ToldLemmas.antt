@@ -11,8 +11,8 @@ use Rattle.vme_bind.specs.Binding.{BoundLines, binding_of}
 use Rattle.vme_bind.specs.declared.fault.BindFault.{BindFault}
 use Rattle.vme_commands.specs.TextAnswers.{BindsDump, IsBindingFor, IsTextOf, ScopeIs}
 use Rattle.vme_commands.specs.declared.bind.NoBinding.TheVariants.{Refused}
+use Rattle.vme_declarations.specs.Scopes.{HasScope}
 use Rattle.vme_find.specs.Recordings.{HasSlots, MakesRecording}
-use Rattle.vme_find.specs.Scopes.{HasScope}
 use denote.Ref.{Bor}
 
 pub text_refused : (read : Result Contents Refusal) (r : Refusal) → AnswerGives (λ (d : Contents). d) (Err r) read

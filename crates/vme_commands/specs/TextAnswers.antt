@@ -3,7 +3,7 @@ use Rattle.std.specs.Prelude.{◌≡◌, ◌++◌, ℕ, Bool, true, false, [], L
 use Rattle.std.specs.Prelude.{IfErr, codes, if◌then◌else◌}
 use Rattle.vcd_read.specs.Contents.{Contents}
 use Rattle.vme_bind.specs.Binding.{BoundLines, binding_of}
-use Rattle.vme_find.specs.Scopes.{has_scope}
+use Rattle.vme_declarations.specs.Scopes.{has_scope}
 use Rattle.vme_find.specs.declared.writing.FoundBinding.{FoundBinding}
 use Rattle.vme_trace.specs.Trace.{Trace}
 use Rattle.vme_answer.specs.Answers.{CommandAnswer, capture_by, refusal_answer}

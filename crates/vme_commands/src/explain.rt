@@ -21,11 +21,11 @@ use vcd_read::{Variables, read_definitions};
 use vme_answer::{Input, Refusal, binding_in, verdict_line, verdict_on, verdict_status};
 use vme_bind::Binding;
 use vme_explain::{Subject, explanation, save_file};
-use vme_find::time_unit;
 use vme_stream::read_all;
 use vme_summary::listing_by_blocks;
 use vme_text::Text;
 use vme_trace::{Capture, Sink, Source, Verdict};
+use vme_variables::time_unit;
 
 /// How many steps a block has.
 const BLOCK: u32 = 16_384;

@@ -37,8 +37,8 @@
 //! # What isn't proved
 //!
 //! The texts of `rules`, `explain` and `variables`, what is shown of a refused input, and which
-//! lines `bind` finds (vme_rules, vme_explain, vme_find); that workers overlap; that memory
-//! suffices (status 4).
+//! lines `bind` finds (vme_rules, vme_explain, vme_variables, vme_line_names); that workers overlap;
+//! that memory suffices (status 4).
 //!
 //! # Limits
 //!

@@ -13,10 +13,10 @@ use crate::refused::{NamedInput, complain_with, show_dump};
 use crate::telling::tell_bytes;
 use std::alloc::Global;
 use vme_answer::{Input, Refusal};
-use vme_find::variables_text;
 use vme_stream::read_all;
 use vme_text::Text;
 use vme_trace::{Sink, Source};
+use vme_variables::variables_text;
 
 /// Writes the variables of a dump to `out`, or to `err` why it can't be read, as `check` says it, and behind it what
 /// the dump, of this name, shows there and what the refusal means. The answer is the exit status: 0, 3 where the dump

@@ -24,7 +24,8 @@ use Rattle.vme_bind.specs.declared.fault.BindFault.{BindFault}
 use Rattle.vme_bind.specs.declared.source.LevelSource.{LevelSource}
 use Rattle.vme_bind.specs.declared.source.LevelSource.TheVariants.{Constant, Variable as Named}
 use Rattle.vme_find.specs.Constants.{BindsConstants, is_constant}
-use Rattle.vme_find.specs.Recordings.{IsDump, MakesRecording}
+use Rattle.vme_declarations.specs.Dumps.{IsDump}
+use Rattle.vme_find.specs.Recordings.{MakesRecording}
 
 -- ---- the sources of the lines
 

@@ -1,6 +1,4 @@
-pub mod BodyLemmas
-pub mod ConstantLemmas
-pub mod ConstantTextLemmas
-pub mod FaultLemmas
-pub mod HeaderLemmas
-pub mod ScopeLemmas
+mod ConstantLemmas
+mod ConstantTextLemmas
+mod FaultLemmas
+mod RecordingLemmas

@@ -1,4 +1,2 @@
 pub mod Constants
-pub mod Counts
 pub mod Recordings
-pub mod Scopes

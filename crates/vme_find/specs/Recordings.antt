@@ -1,10 +1,9 @@
 -- What a binding that is written for a dump has to be.
 use Rattle.std.specs.Prelude.{◌≡◌, ℕ, ◌≤◌, List, Option, Some, None, IfSome, Ok}
-use Rattle.vcd_read.specs.Contents.{Contents}
 use Rattle.vcd_read.specs.Meaning.{dump_of, ReadFails}
 use Rattle.vme_bind.specs.Binding.{BoundLines, binding_of}
 use Rattle.vme_bind.specs.TextCapture.{capture_of_text}
-use Rattle.vme_find.specs.Scopes.{LacksScope}
+use Rattle.vme_declarations.specs.Scopes.{LacksScope}
 use Rattle.vme_find.specs.declared.writing.FindFault.{FindFault}
 use Rattle.vme_find.specs.declared.writing.FindFault.TheVariants.{Dump, NoSuchScope}
 use Rattle.vme_trace.specs.Trace.{Trace}
@@ -17,10 +16,6 @@ pub record MakesRecording (text dump : List ℕ) : Type 0 where
   pub recording : Trace
   pub is_binding : binding_of text ≡ Ok bound
   pub records : capture_of_text bound dump ≡ Ok recording
-
--- the text is a dump without a fault
-abbrev pub IsDump : List ℕ → Type 0
-IsDump text = (contents : Contents) × (dump_of text ≡ Ok contents)
 
 -- the text is a binding of so many slots
 abbrev pub HasSlots : ℕ → List ℕ → Type 0

@@ -1,26 +1,21 @@
 //! A binding for a dump.
 
-ghost use Rattle.std.specs.Prelude.{◌≡◌, ℕ, List, IfErr, IfOk, IfSome, Ok, OnOk, Some, false, true};
-ghost use Rattle.vcd_read.specs.Meaning.{ReadFails, dump_of, instants_from};
-ghost use Rattle.vcd_read.specs.declared.dump.Instant.{Instant};
+ghost use Rattle.std.specs.Prelude.{◌≡◌, ℕ, List, IfErr, IfOk, IfSome, OnOk, Some, false, true};
+ghost use Rattle.vcd_read.specs.Meaning.{ReadFails, dump_of};
 ghost use Rattle.vcd_read.specs.declared.fault.FaultKind.TheVariants.{Memory};
-ghost use Rattle.vme_find.specs.Recordings.{AreSlots, HasSlots, IsDump, IsFindFault, MakesRecording};
-ghost use Rattle.vme_find.specs.Scopes.{HasScope};
+ghost use Rattle.vme_declarations.specs.Dumps.{IsDump};
+ghost use Rattle.vme_declarations.specs.Scopes.{HasScope};
+ghost use Rattle.vme_find.specs.Recordings.{AreSlots, HasSlots, IsFindFault, MakesRecording};
 ghost use Rattle.vme_find.specs.declared.writing.FindFault.TheVariants.{Dump};
 ghost use Rattle.vme_text.specs.Visible.{IsVisible};
 
 use crate::constants::constant_text;
-use crate::declared::{DeclaredNames, NamesReader};
-use crate::finding::find;
-use crate::fitting::Fitted;
-use crate::levels_seen::{LevelsSeen, levels_in};
-use crate::paths::Paths;
-use crate::proposal::Proposal;
-use crate::scope_search::has_scope;
-use crate::told::{is_bus, told, told_constants};
 use std::alloc::{AllocError, Global};
-use vcd_read::{FaultKind, Head, VcdFault, read_definitions};
+use vcd_read::{FaultKind, VcdFault};
 use vme_bind::{BindKind, Binding, CaptureFault, read_binding};
+use vme_declarations::{DeclaredNames, LevelsSeen, has_scope, read_declarations};
+use vme_line_names::find_lines;
+use vme_proposal::{propose_binding, told_constants};
 use vme_text::Text;
 
 /// A binding for a dump, and what is to be said of it.
@@ -188,31 +183,8 @@ fn proposed(
     ensures ok { OnOk result (IsDump dump.now) }
     ensures err { IfErr result (λ fault. ReadFails fault (dump_of dump.now)) }
 {
-    let reader = NamesReader::new(alloc)?;
-    match read_definitions(alloc, dump, reader) {
-        Ok((head, reader)) => proposed_behind(alloc, &head, &reader.into_names(), slots, scope),
-        Err(fault) => Err(fault),
-    }
-}
-
-/// The same, where the definitions are read.
-fn proposed_behind(
-    alloc: Global,
-    head: &Head<'_>,
-    declared: &DeclaredNames,
-    slots: Option<u8>,
-    scope: Option<&[u8]>,
-) -> Result<FoundBinding, VcdFault>
-    ensures ok { OnOk result ((instants : List Instant) × instants_from head.now.nets head.now.body ≡ Ok instants) }
-    ensures err { IfErr result (λ fault. ReadFails fault (instants_from head.now.nets head.now.body)) }
-{
-    match levels_in(alloc, head) {
-        Ok(levels) => match proposal_by(alloc, declared, &levels, slots, scope) {
-            Ok(found) => Ok(found),
-            Err(_) => Err(no_memory()),
-        },
-        Err(fault) => Err(fault),
-    }
+    let (declared, levels) = read_declarations(alloc, dump)?;
+    Ok(proposal_by(alloc, &declared, &levels, slots, scope)?)
 }
 
 /// What is proposed by the names of the variables and by which of them move.
@@ -223,20 +195,11 @@ fn proposal_by(
     slots: Option<u8>,
     scope: Option<&[u8]>,
 ) -> Result<FoundBinding, AllocError> {
-    let found = find(alloc, declared, levels, scope)?;
-    let paths = Paths::new(alloc, declared, &found.scope)?;
-    let slots = match slots {
-        Some(slots) => slots,
-        None => found.slots(),
-    };
-    let fitted = Fitted::new(found);
-    let mut proposal = Proposal::new(alloc, &paths, &fitted);
-    proposal.write(slots)?;
-    let told = told(alloc, &proposal, slots)?;
-    let is_bus = is_bus(&proposal);
+    let found = find_lines(alloc, declared, levels, scope)?;
+    let proposed = propose_binding(alloc, declared, found, slots)?;
     Ok(FoundBinding {
-        text: proposal.into_text(),
-        told,
-        is_bus,
+        text: proposed.text,
+        told: proposed.told,
+        is_bus: proposed.is_bus,
     })
 }

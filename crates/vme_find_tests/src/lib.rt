@@ -1,4 +1,5 @@
-//! Tests of vme_find: bindings found for a dump, and its variables.
+//! Tests of vme_find, vme_declarations, vme_line_names, vme_proposal and vme_variables: bindings
+//! found for a dump, and its variables.
 //!
 //! The lines of the bindings and of the texts stand beside the dumps: names of several styles,
 //! escaped names, ambiguous paths, data lines, SYSRESET found and left out, dumps without a bus,

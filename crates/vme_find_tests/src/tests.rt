@@ -2,7 +2,14 @@ use memchr::memmem;
 use std::alloc::{AllocError, Global};
 use std::test::Fail;
 use vcd_read::{FaultKind, VcdFault};
-use vme_find::{FindFault, time_unit, variables_text, write_binding};
+use vme_declarations::{
+    EMPTY_HASH, VariableBit, front_of, has_scope, hash_of, read_declarations, scopes_of,
+};
+use vme_find::{FindFault, write_binding};
+use vme_line_names::find_lines;
+use vme_proposal::{propose_binding, told_constants};
+use vme_trace::Line;
+use vme_variables::{time_unit, variables_text};
 
 /// A dump of one variable under a standard name, and of one that is none.
 const DUMP: &str = "$timescale 1 ns $end\n$scope module bus $end\n$var wire 1 p as_n $end\n\
@@ -17,6 +24,87 @@ fn variables_are_listed(rt: HostRuntime) -> Result<(), Fail> {
         Ok(text) => assert_eq!(rt; text.as_bytes(), VARIABLES.as_bytes()),
         Err(fault) => assert_eq!(rt; fault.line, 0),
     }
+    Ok(())
+}
+
+#[test]
+fn declarations_are_read(rt: HostRuntime) -> Result<(), Fail> {
+    let alloc = rt.alloc();
+    match read_declarations(alloc, DUMP.as_bytes()) {
+        Ok((declared, levels)) => {
+            assert_eq!(rt; declared.scopes().len(), 2);
+            assert_eq!(rt; declared.path_of(alloc, 1)?.as_slice(), b"bus".as_slice());
+            assert_eq!(rt;
+                scopes_of(alloc, &declared, b"bus")?.as_slice(),
+                [false, true].as_slice()
+            );
+            match declared.variables() {
+                [strobe, other] => {
+                    assert_eq!(rt; declared.name_of(strobe), b"as_n".as_slice());
+                    assert!(rt; levels.moves(strobe.net, 0));
+                    assert!(rt; !levels.moves(other.net, 0));
+                    assert_eq!(rt; other.number_of_bit(0), 3);
+                    assert_eq!(rt; strobe.number_of_bit(0), 0);
+                }
+                _ => assert!(rt; false),
+            }
+        }
+        Err(fault) => assert_eq!(rt; fault.line, 0),
+    }
+    Ok(())
+}
+
+#[test]
+fn a_scope_is_looked_for(rt: HostRuntime) -> Result<(), Fail> {
+    let alloc = rt.alloc();
+    assert_eq!(rt; front_of(alloc, b"bus")?.as_slice(), b"bus.".as_slice());
+    let paths: [(&[u8], bool); 3] = [(b"bus", true), (b"bu", false), (b"bus.as_n", false)];
+    for (path, has) in paths {
+        match has_scope(alloc, DUMP.as_bytes(), path) {
+            Ok(found) => assert_eq!(rt; found, has),
+            Err(fault) => assert_eq!(rt; fault.line, 0),
+        }
+    }
+    Ok(())
+}
+
+#[test]
+fn lines_are_found_and_proposed(rt: HostRuntime) -> Result<(), Fail> {
+    let alloc = rt.alloc();
+    match read_declarations(alloc, DUMP.as_bytes()) {
+        Ok((declared, levels)) => {
+            let found = find_lines(alloc, &declared, &levels, None)?;
+            let first = VariableBit {
+                variable: 0,
+                place: 0,
+            };
+            assert_eq!(rt; found.bit_of_line(Line::AS), Some(first));
+            assert!(rt; found.moves(Line::AS));
+            assert_eq!(rt; found.bit_of_line(Line::DS0), None);
+            let proposed = propose_binding(alloc, &declared, found, Some(2))?;
+            assert!(rt; memmem::find(proposed.text.as_bytes(), b"\nAS = bus.as_n\n").is_some());
+            assert!(rt;
+                proposed
+                    .told
+                    .as_bytes()
+                    .starts_with(b"vmecheck: bound 1 of 19 groups in scope bus, 2 slots")
+            );
+            assert!(rt; !proposed.is_bus);
+        }
+        Err(fault) => assert_eq!(rt; fault.line, 0),
+    }
+    assert!(rt;
+        told_constants(alloc)?
+            .as_bytes()
+            .starts_with(b"vmecheck: bound 0 of 19 groups: ")
+    );
+    Ok(())
+}
+
+/// The value that the authors of the hash publish for the letter a.
+#[test]
+fn a_letter_has_its_published_hash(rt: HostRuntime) -> Result<(), Fail> {
+    assert_eq!(rt; hash_of(EMPTY_HASH, b"a"), 0xaf63_dc4c_8601_ec8c);
     Ok(())
 }
 

@@ -1,4 +1,5 @@
-use Rattle.vme_find.proofs.ScopeLemmas.{has-scope, records-dump}
+use Rattle.vme_declarations.proofs.ScopeLemmas.{has-scope}
+use Rattle.vme_find.proofs.RecordingLemmas.{records-dump}
 use Rattle.vme_find.proofs.writing.binding_in.Goals as goal
 
 pub returns-clause-scope : goal.returns-clause-scope

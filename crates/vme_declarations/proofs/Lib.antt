@@ -1,0 +1,3 @@
+pub mod BodyLemmas
+mod HeaderLemmas
+pub mod ScopeLemmas

@@ -1,0 +1,143 @@
+-- What the search for a scope finds.
+use Rattle.std.proofs.Common.{◌≡◌, ℕ, ◌≤◌, Bool, true, false, ◌&&◌, ◌||◌, List, [], ◌∷◌, ◌++◌, length, take, drop}
+use Rattle.std.proofs.Common.{◌<◌, Option, Ok, Err, Result, refl, sym, ap, ◌∙◌}
+use Rattle.std.proofs.Common.{append_assoc}
+use Rattle.std.specs.Prelude.{fold, bytes_eq, nat_eq}
+use Rattle.std.specs.Bool.{Decides}
+use Rattle.std.specs.List.{list_any, starts_with}
+use Rattle.std.proofs.lemmas.Bool.Decides.{Decides-and, Decides-eqb, same_from_decides}
+use Rattle.std.proofs.lemmas.List.{drop_at, length-take-le, take-append-drop, take_at}
+use Rattle.std.proofs.lemmas.Slice.Eq.{bytes_eq-Decides, starts_is}
+use Rattle.vcd_read.specs.Contents.{Contents}
+use Rattle.vcd_read.specs.declared.dump.Instant.{Instant}
+use Rattle.vcd_read.specs.declared.dump.Variable.{Variable}
+use Rattle.vcd_read.specs.declared.fault.VcdFault.{VcdFault}
+use Rattle.vcd_read.specs.Header.{◌>>=◌, variable_in}
+use Rattle.vcd_read.specs.Meaning.{dump_of, instants_from}
+use Rattle.vcd_read.specs.Scopes.{path_in, with_dot}
+use Rattle.vcd_read.specs.Sections.{Headed, defined}
+use Rattle.vcd_read.proofs.DumpLemmas.{dump_behind, whole_header, with_variables}
+use Rattle.vcd_read.proofs.ScopesLemmas.{path_of-is}
+use Rattle.vme_declarations.specs.Dumps.{IsDump}
+use Rattle.vme_declarations.specs.Scopes.{DefinesScope, HasScope, LacksScope, ScopeSought, has_scope, path_begins, sought_in}
+
+-- ---- the search
+
+or_assoc : (a b c : Bool) → ((a || b) || c) ≡ (a || (b || c))
+or_assoc true b c = refl
+or_assoc false b c = refl
+
+or_none : (a : Bool) → (a || false) ≡ a
+or_none true = refl
+or_none false = refl
+
+abbrev sought : List ℕ → Bool → ScopeSought
+sought front found = record { front = front; is_found = found }
+
+sought_all : (front : List ℕ) (found : Bool) (vs : List Variable) → fold sought_in (sought front found) vs
+    ≡ sought front (found || list_any (path_begins front) vs)
+sought_all front found [] = ap (sought front) (sym (or_none found))
+sought_all front found (v ∷ vs) =
+    sought_all front (found || path_begins front v) vs
+    ∙ ap (sought front) (or_assoc found (path_begins front v) (list_any (path_begins front) vs))
+
+-- what a search from the beginning has found
+pub search-found : (path first front : List ℕ) (found there : Bool) (vs : List Variable) → first ≡ with_dot path
+    → sought front found ≡ fold sought_in (sought first false) vs → found ≡ there → has_scope path vs ≡ there
+search-found path first front found there vs is e here =
+    ap (λ (f : List ℕ). list_any (path_begins f) vs) (sym is)
+    ∙ sym (ap (λ (s : ScopeSought). s.is_found) (e ∙ sought_all first false vs)) ∙ here
+
+-- one variable more
+pub found-more : (front name : List ℕ) (scopes : List (List ℕ)) (net size : ℕ) (index : Option (ℕ × ℕ))
+    (found now : Bool) → 0 < length name → now ≡ (found || starts_with nat_eq (path_in scopes ++ name) front)
+    → sought front now
+    ≡ sought_in (sought front found) (variable_in scopes net size (record { name = name; index = index }))
+found-more front name scopes net size index found now some is =
+    ap (sought front)
+    (is ∙ ap (λ (path : List ℕ). found || starts_with nat_eq path front) (sym (path_of-is scopes name some)))
+
+-- ---- the dump
+
+abbrev WithScope : Bool → List ℕ → List ℕ → Type 0
+WithScope there path text = (contents : Contents) × (dump_of text ≡ Ok contents)
+    × (has_scope path contents.variables ≡ there)
+
+with_scope : (there : Bool) (path text : List ℕ) (variables : List Variable) (instants : List Instant)
+    (r : Result (List Instant) VcdFault) → r ≡ Ok instants → dump_of text ≡ (r >>= with_variables variables)
+    → has_scope path variables ≡ there → WithScope there path text
+with_scope there path text variables instants r ends is has = (
+  record { variables = variables; instants = instants },
+  is ∙ ap (λ (w : Result (List Instant) VcdFault). w >>=
+      with_variables variables) ends,
+  has,
+)
+
+pub lacks-scope : (path text : List ℕ) (h : Headed) (variables : List Variable) → whole_header text
+    ≡ Ok (defined h variables) → (instants : List Instant) × (instants_from h.nets h.body ≡ Ok instants)
+    → has_scope path variables ≡ false → LacksScope path text
+lacks-scope path text h variables head (instants, ends) lacks =
+    with_scope false path text variables instants (instants_from h.nets h.body) ends
+    (dump_behind text (defined h variables) head) lacks
+
+-- a dump whose definitions have the scope
+pub has-scope : (path text : List ℕ) → DefinesScope path text → IsDump text → HasScope path text
+has-scope path text (d, head, has) (contents, is) =
+    by_instants (instants_from d.head.nets d.head.body) (dump_behind text d head)
+  where
+    by_instants : (r : Result (List Instant) VcdFault) → dump_of text ≡ (r >>= with_variables d.variables)
+        → HasScope path text
+    by_instants (Ok instants) e = (record { variables = d.variables; instants = instants }, e, has)
+    by_instants (Err fault) e = let bad : Ok contents ≡ Err fault = sym is ∙ e in cc
+
+-- ---- two texts that begin with a third
+
+-- a text is this and some more
+abbrev Begins : List ℕ → List ℕ → Type 0
+Begins front text = (rest : List ℕ) × (text ≡ front ++ rest)
+
+starts-Decides : (front text : List ℕ) → Decides (starts_with nat_eq text front) (Begins front text)
+starts-Decides front text =
+    let is = starts_is Decides-eqb text front (starts_with nat_eq text front) refl in (
+      λ e. (drop (length front) text, is.0 e),
+      λ h. is.1 h.0 h.1,
+    )
+
+-- the third's first part is as long as the first text
+parts-Decides : (outer inner first second : List ℕ) → length first ≡ length outer
+    → Decides (bytes_eq outer first && starts_with nat_eq inner second) (Begins (first ++ second) (outer ++ inner))
+parts-Decides outer inner first second same =
+    let both = Decides-and {P = outer ≡ first} {Q = Begins second inner} (bytes_eq outer first)
+    (starts_with nat_eq inner second) (bytes_eq-Decides outer first) (starts-Decides second inner) in (
+      λ e. let h = both.0 e in (
+        h.1.0,
+        ap (λ (xs : List ℕ). xs ++ inner) h.0 ∙ ap (λ (xs : List ℕ). first ++ xs) h.1.1
+            ∙ sym (append_assoc first second h.1.0),
+      ),
+      λ h.
+          let whole : outer ++ inner ≡ first ++ (second ++ h.0) = h.1 ∙ append_assoc first second h.0 in
+          both.1 (
+            sym (take_at outer inner (length first) (sym same)) ∙ ap (take (length first)) whole
+                ∙ take_at first (second ++ h.0) (length first) refl,
+            (
+              h.0,
+              sym (drop_at outer inner (length first) (sym same)) ∙ ap (drop (length first)) whole
+                  ∙ drop_at first (second ++ h.0) (length first) refl,
+            ),
+          ),
+    )
+
+-- where the third is cut behind the length of the first
+pub starts-cut : (front outer inner first second : List ℕ) → length outer ≤ length front
+    → first ≡ take (length outer) front → second ≡ drop (length outer) front
+    → starts_with nat_eq (outer ++ inner) front ≡ (bytes_eq outer first && starts_with nat_eq inner second)
+starts-cut front outer inner first second le is_first is_second =
+    let whole : front ≡ first ++ second =
+    sym (take-append-drop (length outer) front)
+    ∙ ap (λ (xs : List ℕ). xs ++ drop (length outer) front) (sym is_first)
+    ∙ ap (λ (xs : List ℕ). first ++ xs) (sym is_second) in
+    ap (λ (f : List ℕ). starts_with nat_eq (outer ++ inner) f) whole
+    ∙ same_from_decides (starts_with nat_eq (outer ++ inner) (first ++ second))
+    (bytes_eq outer first && starts_with nat_eq inner second) (starts-Decides (first ++ second) (outer ++ inner))
+    (parts-Decides outer inner first second
+    (ap (λ (xs : List ℕ). length xs) is_first ∙ length-take-le (length outer) front le))

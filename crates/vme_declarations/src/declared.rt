@@ -1,0 +1,332 @@
+//! The scopes and the variables of a dump, without whole paths: their memory is in proportion to the text.
+
+ghost use Rattle.std.specs.Prelude.{◌≡◌, [], IfOk};
+
+use crate::hash::{EMPTY_HASH, hash_of, hash_of_number};
+use std::alloc::{AllocError, Global};
+use vcd_read::{Declaration, DeclarationVisitor, Scopes};
+
+/// A variable whose name is longer has no name of a line.
+const LONGEST_NAME: usize = 64;
+
+/// Stands for no place.
+pub const NOWHERE: usize = usize::MAX;
+
+/// A scope. The first of all is the one around the others, which has no name.
+#[derive(Clone, Copy)]
+pub struct Scope {
+    /// The place of the scope that it stands in, or `NOWHERE`.
+    pub parent: usize,
+    /// How many scopes with a name it stands in.
+    pub depth: usize,
+    /// Where its name begins among the names.
+    start: usize,
+    /// Where its name ends.
+    end: usize,
+    /// The place of its first variable, or `NOWHERE`.
+    pub first: usize,
+    /// The place of its last variable, or `NOWHERE`.
+    last: usize,
+    /// The next scope with the same remainder of its hash, or `NOWHERE`.
+    next: usize,
+}
+
+/// A variable as it is declared.
+#[derive(Clone, Copy)]
+pub struct DeclaredVariable {
+    /// The place of the scope that it stands in.
+    pub scope: usize,
+    start: usize,
+    end: usize,
+    /// The indices of its leftmost and its rightmost bit.
+    pub index: Option<(u32, u32)>,
+    /// How many bits it has.
+    pub size: u32,
+    /// The net that it is a name of.
+    pub net: u32,
+    /// The next variable of the same scope, or `NOWHERE`.
+    pub next: usize,
+}
+
+/// What takes the scopes and the variables of a header.
+#[derive(Drop)]
+pub(crate) struct NamesReader {
+    open: Scopes,
+    names: DeclaredNames,
+}
+
+/// The scopes and the variables so far. Scopes of one name in one scope are one.
+#[derive(Drop)]
+pub struct DeclaredNames {
+    /// The places of the open scopes, from the outermost.
+    places: Vec<usize>,
+    names: Vec<u8>,
+    scopes: Vec<Scope>,
+    variables: Vec<DeclaredVariable>,
+    /// By the remainder of its hash, the scope that was met last.
+    buckets: Vec<usize>,
+}
+
+/// The hash of a name in a scope.
+fn hash_in(parent: usize, name: &[u8]) -> u64 {
+    hash_of(hash_of_number(EMPTY_HASH, parent as u64), name)
+}
+
+impl DeclaredVariable {
+    /// The number that the variable gives its bit at this place from the left: by its indices, or where it has none, as
+    /// if the rightmost bit were 0.
+    pub fn number_of_bit(&self, place: u32) -> u32 {
+        match self.index {
+            Some((left, right)) if left >= right => left.saturating_sub(place),
+            Some((left, _)) => left.saturating_add(place),
+            None => self.size.saturating_sub(place).saturating_sub(1),
+        }
+    }
+}
+
+impl DeclaredNames {
+    /// The scope around all others, and no variable.
+    fn new(alloc: Global) -> Result<DeclaredNames, AllocError> {
+        let mut scopes = Vec::new(alloc);
+        scopes.push(Scope {
+            parent: NOWHERE,
+            depth: 0,
+            start: 0,
+            end: 0,
+            first: NOWHERE,
+            last: NOWHERE,
+            next: NOWHERE,
+        })?;
+        let mut buckets = Vec::new(alloc);
+        buckets.resize(64, NOWHERE)?;
+        Ok(DeclaredNames {
+            places: Vec::new(alloc),
+            names: Vec::new(alloc),
+            scopes,
+            variables: Vec::new(alloc),
+            buckets,
+        })
+    }
+}
+
+impl DeclaredNames {
+    /// The variables, in the order of their sections.
+    pub fn variables(&self) -> &[DeclaredVariable] {
+        &self.variables
+    }
+
+    /// The scopes; one stands behind the one that it stands in.
+    pub fn scopes(&self) -> &[Scope] {
+        &self.scopes
+    }
+
+    /// The name of a variable, without its index.
+    pub fn name_of(&self, variable: &DeclaredVariable) -> &[u8] {
+        part_of(&self.names, variable.start, variable.end)
+    }
+
+    /// The name of a scope.
+    pub fn scope_name(&self, scope: &Scope) -> &[u8] {
+        part_of(&self.names, scope.start, scope.end)
+    }
+
+    /// The names of a scope and of those around it, joined by dots.
+    pub fn path_of(&self, alloc: Global, place: usize) -> Result<Vec<u8>, AllocError> {
+        let mut around: Vec<usize> = Vec::new(alloc);
+        let mut at = place;
+        for _ in 0..self.scopes.len() {
+            match self.scopes.get(at) {
+                Some(scope) if scope.parent != NOWHERE => {
+                    around.push(at)?;
+                    at = scope.parent;
+                }
+                _ => break,
+            }
+        }
+        let mut path = Vec::new(alloc);
+        for at in around.iter().rev() {
+            if let Some(scope) = self.scopes.get(*at) {
+                if !path.is_empty() {
+                    path.push(b'.')?;
+                }
+                path.extend_from_slice(self.scope_name(scope))?;
+            }
+        }
+        Ok(path)
+    }
+
+    /// The bucket of a hash.
+    fn bucket(&self, hash: u64) -> usize {
+        match (self.buckets.len() as u64).checked_sub(1) {
+            Some(mask) => (hash & mask) as usize,
+            None => 0,
+        }
+    }
+
+    /// The scope of this name in a scope, if it was met before.
+    fn known(&self, parent: usize, name: &[u8]) -> Option<usize> {
+        let bucket = self.bucket(hash_in(parent, name));
+        let mut at = self.buckets.get(bucket).copied().unwrap_or(NOWHERE);
+        for _ in 0..self.scopes.len() {
+            let scope = self.scopes.get(at)?;
+            if scope.parent == parent && self.scope_name(scope) == name {
+                return Some(at);
+            }
+            at = scope.next;
+        }
+        None
+    }
+
+    /// Puts a scope into the bucket of its hash.
+    fn link_scope(&mut self, place: usize) {
+        let Some(scope) = self.scopes.get(place).copied() else {
+            return;
+        };
+        let bucket = self.bucket(hash_in(scope.parent, self.scope_name(&scope)));
+        if let Some(head) = self.buckets.get_mut(bucket) {
+            let next = *head;
+            *head = place;
+            if let Some(scope) = self.scopes.get_mut(place) {
+                scope.next = next;
+            }
+        }
+    }
+
+    /// Makes twice as many buckets.
+    fn double_buckets(&mut self) -> Result<(), AllocError> {
+        let count = self.buckets.len().saturating_mul(2);
+        self.buckets.clear();
+        self.buckets.resize(count, NOWHERE)?;
+        for place in 1..self.scopes.len() {
+            self.link_scope(place);
+        }
+        Ok(())
+    }
+
+    /// The place of the innermost open scope.
+    fn innermost(&self) -> usize {
+        self.places.last().copied().unwrap_or(0)
+    }
+
+    /// The place of the scope of this name in the innermost open one: that of one without a name is its own.
+    fn place_in(&mut self, name: &[u8]) -> Result<usize, AllocError> {
+        let parent = self.innermost();
+        if name.is_empty() {
+            return Ok(parent);
+        }
+        if let Some(place) = self.known(parent, name) {
+            return Ok(place);
+        }
+        let depth = self.scopes.get(parent).map_or(0, |scope| scope.depth);
+        let start = self.names.len();
+        self.names.extend_from_slice(name)?;
+        let place = self.scopes.len();
+        self.scopes.push(Scope {
+            parent,
+            depth: depth.saturating_add(1),
+            start,
+            end: self.names.len(),
+            first: NOWHERE,
+            last: NOWHERE,
+            next: NOWHERE,
+        })?;
+        if place > self.buckets.len() {
+            self.double_buckets()?;
+        } else {
+            self.link_scope(place);
+        }
+        Ok(place)
+    }
+
+    /// Opens a scope.
+    fn open(&mut self, name: &[u8]) -> Result<(), AllocError> {
+        let place = self.place_in(name)?;
+        self.places.push(place)?;
+        Ok(())
+    }
+
+    /// Closes the innermost scope, if one is open.
+    fn close(&mut self) {
+        let _ = self.places.pop();
+    }
+
+    /// Puts a variable behind the others of its scope.
+    fn keep(&mut self, variable: Declaration<'_>) -> Result<(), AllocError> {
+        let scope = self.innermost();
+        let start = self.names.len();
+        self.names.extend_from_slice(variable.name)?;
+        let place = self.variables.len();
+        self.variables.push(DeclaredVariable {
+            scope,
+            start,
+            end: self.names.len(),
+            index: variable.index,
+            size: variable.size,
+            net: variable.net,
+            next: NOWHERE,
+        })?;
+        let Some(around) = self.scopes.get_mut(scope) else {
+            return Ok(());
+        };
+        let last = around.last;
+        around.last = place;
+        if around.first == NOWHERE {
+            around.first = place;
+        }
+        if let Some(before) = self.variables.get_mut(last) {
+            before.next = place;
+        }
+        Ok(())
+    }
+}
+
+/// A part of a text, or nothing where it has none there.
+fn part_of(text: &[u8], start: usize, end: usize) -> &[u8] {
+    text.get(start..end).unwrap_or(b"")
+}
+
+impl NamesReader {
+    /// No scope is open, and no variable is declared.
+    pub(crate) fn new(alloc: Global) -> Result<NamesReader, AllocError>
+        ensures { IfOk result (λ reader. ⟦<NamesReader as DeclarationVisitor>⟧.scopes reader ≡ []) }
+    {
+        let names = DeclaredNames::new(alloc)?;
+        Ok(NamesReader {
+            open: Scopes::new(alloc),
+            names,
+        })
+    }
+
+    /// The scopes and the variables.
+    pub(crate) fn into_names(self) -> DeclaredNames {
+        self.names
+    }
+}
+
+impl DeclarationVisitor for NamesReader {
+    ghost Taken = { Unit {0} };
+
+    ghost taken = { λ d. tt };
+
+    ghost with_variable = { λ none variable. none };
+
+    ghost scopes = { λ d. d.open };
+
+    fn open(&mut self, alloc: Global, name: &[u8]) -> Result<(), AllocError> {
+        self.names.open(name)?;
+        self.open.open(alloc, name)
+    }
+
+    fn close(&mut self) -> bool {
+        self.names.close();
+        self.open.close()
+    }
+
+    fn declare(&mut self, alloc: Global, variable: Declaration<'_>) -> Result<(), AllocError> {
+        let _ = alloc;
+        if variable.name.len() <= LONGEST_NAME {
+            self.names.keep(variable)?;
+        }
+        Ok(())
+    }
+}

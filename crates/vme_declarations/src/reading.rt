@@ -1,0 +1,29 @@
+//! What a dump declares, and which of its bits move, as they are read of its text.
+
+ghost use Rattle.std.specs.Prelude.{◌≡◌, List, IfErr, Ok, OnOk};
+ghost use Rattle.vcd_read.specs.Meaning.{ReadFails, dump_of};
+ghost use Rattle.vme_declarations.specs.Dumps.{IsDump};
+
+use crate::declared::{DeclaredNames, NamesReader};
+use crate::levels_seen::{LevelsSeen, levels_in};
+use std::alloc::Global;
+use vcd_read::{VcdFault, read_definitions};
+
+/// The scopes and the variables of a dump, and which of its bits move. A fault is the first one of the dump; at line 0
+/// it is want of memory.
+pub fn read_declarations(
+    alloc: Global,
+    dump: &[u8],
+) -> Result<(DeclaredNames, LevelsSeen), VcdFault>
+    ensures ok { OnOk result (IsDump dump.now) }
+    ensures err { IfErr result (λ fault. ReadFails fault (dump_of dump.now)) }
+{
+    let reader = NamesReader::new(alloc)?;
+    match read_definitions(alloc, dump, reader) {
+        Ok((head, reader)) => match levels_in(alloc, &head) {
+            Ok(levels) => Ok((reader.into_names(), levels)),
+            Err(fault) => Err(fault),
+        },
+        Err(fault) => Err(fault),
+    }
+}

@@ -1,0 +1,84 @@
+//! Whether a dump has a scope.
+
+ghost use Rattle.std.specs.Prelude.{◌≡◌, ◌++◌, IfErr, IfOk, false, nat_eq, true};
+ghost use Rattle.std.specs.List.{starts_with};
+ghost use Rattle.vcd_read.specs.Meaning.{ReadFails, dump_of};
+ghost use Rattle.vme_declarations.specs.Scopes.{DefinesScope, LacksScope};
+
+use crate::levels_seen::levels_in;
+use crate::scope_paths::front_of;
+use std::alloc::{AllocError, Global};
+use vcd_read::{Declaration, DeclarationVisitor, Scopes, VcdFault, read_definitions};
+
+/// What looks for a variable that stands in a scope, or in one within it.
+#[derive(Drop)]
+struct ScopeSearch {
+    open: Scopes,
+    /// What the path of such a variable begins with.
+    front: Vec<u8>,
+    is_found: bool,
+}
+
+/// Whether two texts, one behind the other, begin with these bytes.
+fn begin_with(outer: &[u8], inner: &[u8], front: &[u8]) -> bool
+    ensures { result ≡ starts_with nat_eq (outer.now ++ inner.now) front.now }
+{
+    if front.len() <= outer.len() {
+        outer.starts_with(front)
+    } else {
+        let (first, second) = front.split_at(outer.len());
+        outer == first && inner.starts_with(second)
+    }
+}
+
+impl DeclarationVisitor for ScopeSearch {
+    ghost use Rattle.vme_declarations.specs.Scopes.{ScopeSought, sought_in};
+
+    ghost Taken = { ScopeSought };
+
+    ghost taken = { λ s. record { front = s.front.items; is_found = s.is_found } };
+
+    ghost with_variable = { sought_in };
+
+    ghost scopes = { λ s. s.open };
+
+    fn open(&mut self, alloc: Global, name: &[u8]) -> Result<(), AllocError> {
+        self.open.open(alloc, name)
+    }
+
+    fn close(&mut self) -> bool {
+        self.open.close()
+    }
+
+    fn declare(&mut self, alloc: Global, variable: Declaration<'_>) -> Result<(), AllocError> {
+        let _ = alloc;
+        self.is_found = self.is_found || begin_with(self.open.path(), variable.name, &self.front);
+        Ok(())
+    }
+}
+
+/// Whether a dump has the scope of a path: a variable that stands in it, or in one within it. The body is read only
+/// where it hasn't. A fault is the first one of the dump; at line 0 it is want of memory.
+pub fn has_scope(alloc: Global, dump: &[u8], path: &[u8]) -> Result<bool, VcdFault>
+    ensures has { IfOk result (λ has. has ≡ true → DefinesScope path.now dump.now) }
+    ensures lacks { IfOk result (λ has. has ≡ false → LacksScope path.now dump.now) }
+    ensures err { IfErr result (λ fault. ReadFails fault (dump_of dump.now)) }
+{
+    let search = ScopeSearch {
+        open: Scopes::new(alloc),
+        front: front_of(alloc, path)?,
+        is_found: false,
+    };
+    match read_definitions(alloc, dump, search) {
+        Ok((head, search)) => {
+            if search.is_found {
+                return Ok(true);
+            }
+            match levels_in(alloc, &head) {
+                Ok(_) => Ok(false),
+                Err(fault) => Err(fault),
+            }
+        }
+        Err(fault) => Err(fault),
+    }
+}

@@ -1,0 +1,227 @@
+//! What stands before and behind the name of a line in the name of a variable.
+
+use vme_declarations::{EMPTY_HASH, hash_of};
+
+/// How a signal of a board goes, the bus's own level first.
+#[derive(Clone, Copy, Debug, PartialEq, Eq)]
+pub(crate) enum Direction {
+    /// Nothing is said.
+    Unsaid,
+    Input,
+    Both,
+    Output,
+    /// What is kept of it in the board.
+    Register,
+    /// Whether it is driven.
+    Enable,
+}
+
+/// What stands before and behind. Two affixes are of one style where their three hashes are the same: marks of polarity
+/// and of direction, and words that say nothing, have no part in these.
+#[derive(Clone, Copy)]
+pub(crate) struct Affix {
+    /// The hash of the words before.
+    pub before: u64,
+    /// The hash of the words behind.
+    pub after: u64,
+    /// The hash of the words for a bus, before and behind.
+    pub bus: u64,
+    pub direction: Direction,
+    /// Whether there is a mark of a signal that is asserted when it is Low.
+    pub is_marked: bool,
+}
+
+/// What a word of an affix is.
+#[derive(Clone, Copy, PartialEq, Eq)]
+enum Mark {
+    Polarity,
+    Direction(Direction),
+    Bus,
+    /// It says nothing.
+    Filler,
+    /// It says something that isn't known here.
+    Word,
+}
+
+/// The words that are known, in lower case.
+const MARKS: [(&[u8], Mark); 55] = [
+    (b"n", Mark::Polarity),
+    (b"l", Mark::Polarity),
+    (b"b", Mark::Polarity),
+    (b"x", Mark::Polarity),
+    (b"z", Mark::Polarity),
+    (b"bar", Mark::Polarity),
+    (b"not", Mark::Polarity),
+    (b"neg", Mark::Polarity),
+    (b"inv", Mark::Polarity),
+    (b"low", Mark::Polarity),
+    (b"lo", Mark::Polarity),
+    (b"al", Mark::Polarity),
+    (b"i", Mark::Direction(Direction::Input)),
+    (b"in", Mark::Direction(Direction::Input)),
+    (b"input", Mark::Direction(Direction::Input)),
+    (b"ni", Mark::Direction(Direction::Input)),
+    (b"io", Mark::Direction(Direction::Both)),
+    (b"nio", Mark::Direction(Direction::Both)),
+    (b"inout", Mark::Direction(Direction::Both)),
+    (b"bi", Mark::Direction(Direction::Both)),
+    (b"bidir", Mark::Direction(Direction::Both)),
+    (b"o", Mark::Direction(Direction::Output)),
+    (b"no", Mark::Direction(Direction::Output)),
+    (b"out", Mark::Direction(Direction::Output)),
+    (b"output", Mark::Direction(Direction::Output)),
+    (b"drv", Mark::Direction(Direction::Output)),
+    (b"drive", Mark::Direction(Direction::Output)),
+    (b"r", Mark::Direction(Direction::Register)),
+    (b"q", Mark::Direction(Direction::Register)),
+    (b"reg", Mark::Direction(Direction::Register)),
+    (b"t", Mark::Direction(Direction::Enable)),
+    (b"tri", Mark::Direction(Direction::Enable)),
+    (b"oe", Mark::Direction(Direction::Enable)),
+    (b"en", Mark::Direction(Direction::Enable)),
+    (b"vme", Mark::Bus),
+    (b"vmebus", Mark::Bus),
+    (b"vme64", Mark::Bus),
+    (b"bus", Mark::Bus),
+    (b"backplane", Mark::Bus),
+    (b"bp", Mark::Bus),
+    (b"p1", Mark::Bus),
+    (b"p2", Mark::Bus),
+    (b"j1", Mark::Bus),
+    (b"j2", Mark::Bus),
+    (b"chain", Mark::Filler),
+    (b"daisy", Mark::Filler),
+    (b"code", Mark::Filler),
+    (b"sig", Mark::Filler),
+    (b"signal", Mark::Filler),
+    (b"net", Mark::Filler),
+    (b"wire", Mark::Filler),
+    (b"line", Mark::Filler),
+    (b"lines", Mark::Filler),
+    (b"pin", Mark::Filler),
+    (b"pad", Mark::Filler),
+];
+
+/// What a word is.
+fn mark_of(word: &[u8]) -> Mark {
+    for (known, mark) in MARKS {
+        if word.eq_ignore_ascii_case(known) {
+            return mark;
+        }
+    }
+    Mark::Word
+}
+
+/// What a word is to which the name of a line is joined without a separator: of one letter it is no direction, since
+/// it may belong to another name, as the `i` of `ia` does.
+fn mark_close(word: &[u8]) -> Mark {
+    let mark = mark_of(word);
+    let is_known = match &mark {
+        Mark::Polarity => word.eq_ignore_ascii_case(b"n") || word.len() > 2,
+        Mark::Direction(_) => word.len() > 1,
+        Mark::Bus => true,
+        Mark::Filler | Mark::Word => false,
+    };
+    if is_known { mark } else { Mark::Word }
+}
+
+/// A text up to its last separator, and its last word.
+fn split_last(text: &[u8]) -> (&[u8], &[u8]) {
+    match text.iter().rposition(|byte| !byte.is_ascii_alphanumeric()) {
+        Some(at) => (&text[..at], &text[at + 1..]),
+        None => (b"", text),
+    }
+}
+
+/// The first word of a text, and what stands behind it.
+fn split_first(text: &[u8]) -> (&[u8], &[u8]) {
+    match text.iter().position(|byte| !byte.is_ascii_alphanumeric()) {
+        Some(at) => (&text[..at], &text[at..]),
+        None => (text, b""),
+    }
+}
+
+/// A hash of a word behind others, in whichever case it is written.
+fn with_word(before: u64, word: &[u8]) -> u64 {
+    let mut hash = before;
+    for byte in word {
+        hash = hash_of(hash, &[byte.to_ascii_lowercase()]);
+    }
+    hash_of(hash, b" ")
+}
+
+/// Whether a byte is a mark of a signal that is asserted when it is Low.
+fn is_sign(byte: u8) -> bool {
+    matches!(byte, b'*' | b'#' | b'/' | b'~' | b'!')
+}
+
+/// What stands before and behind the name of a line.
+pub(crate) fn affix_of(before: &[u8], behind: &[u8]) -> Affix {
+    let mut made = Affix::of_style(EMPTY_HASH, EMPTY_HASH, EMPTY_HASH);
+    let (words, close) = split_last(before);
+    for word in words.split(|byte| !byte.is_ascii_alphanumeric()) {
+        made.take(word, mark_of(word), true);
+    }
+    made.take(close, mark_close(close), true);
+    let (close, words) = split_first(behind);
+    made.take(close, mark_close(close), false);
+    for word in words.split(|byte| !byte.is_ascii_alphanumeric()) {
+        made.take(word, mark_of(word), false);
+    }
+    let has_sign = before.iter().any(|byte| is_sign(*byte))
+        || behind.iter().any(|byte| is_sign(*byte));
+    made.is_marked = made.is_marked || has_sign;
+    made
+}
+
+impl Affix {
+    /// Takes a word before or behind the name.
+    fn take(&mut self, word: &[u8], mark: Mark, is_before: bool) {
+        if word.is_empty() {
+            return;
+        }
+        match mark {
+            Mark::Polarity => self.is_marked = true,
+            Mark::Direction(direction) => self.direction = direction,
+            Mark::Bus => self.bus = with_word(self.bus, word),
+            Mark::Filler => {}
+            Mark::Word if is_before => self.before = with_word(self.before, word),
+            Mark::Word => self.after = with_word(self.after, word),
+        }
+    }
+
+    /// The affix of a style alone.
+    pub(crate) fn of_style(before: u64, after: u64, bus: u64) -> Affix {
+        Affix {
+            before,
+            after,
+            bus,
+            direction: Direction::Unsaid,
+            is_marked: false,
+        }
+    }
+
+    /// Whether two affixes are of one style.
+    pub(crate) fn is_same_style(&self, other: &Affix) -> bool {
+        self.before == other.before && self.after == other.after && self.bus == other.bus
+    }
+
+    /// How well this affix fits a style, the better the less; nothing where it doesn't fit.
+    pub(crate) fn rank_in(&self, style: &Affix) -> Option<u32> {
+        let before = rank_of(self.before, style.before)?;
+        let after = rank_of(self.after, style.after)?;
+        let bus = if self.bus == style.bus { 0 } else { 2 };
+        Some(before.saturating_add(after).saturating_add(bus))
+    }
+}
+
+/// 0 for the same words, and 4 for none.
+fn rank_of(words: u64, style: u64) -> Option<u32> {
+    if words == style {
+        Some(0)
+    } else if words == EMPTY_HASH {
+        Some(4)
+    } else {
+        None
+    }
+}

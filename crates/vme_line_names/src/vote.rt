@@ -1,0 +1,199 @@
+//! The vote of a scope: by which style of names most lines are found among its variables.
+
+use crate::affix::Affix;
+use crate::names::{NameReading, Named, push_readings};
+use std::alloc::{AllocError, Global};
+use vme_declarations::{
+    DeclaredNames, DeclaredVariable, Groups, LevelsSeen, MOST_BITS, NOWHERE, TELLING, count,
+    group_of, has_cycle, has_handshake,
+};
+
+/// The groups that a variable is named as, by one style.
+#[derive(Clone, Copy, Debug, PartialEq, Eq, PartialOrd, Ord)]
+struct Ballot {
+    before: u64,
+    after: u64,
+    bus: u64,
+    /// The place of the variable in the order of declaration.
+    variable: usize,
+    found: Groups,
+    moving: Groups,
+}
+
+/// The style of a scope, and what is found by it.
+#[derive(Clone, Copy)]
+pub(crate) struct ScopeVote {
+    pub scope: usize,
+    /// How many scopes it stands in.
+    pub depth: usize,
+    pub style: Affix,
+    pub found: Groups,
+    pub moving: Groups,
+    variable: usize,
+}
+
+/// What is kept from one scope to the next, so that no memory is taken anew.
+#[derive(Drop)]
+pub(crate) struct VoteCounter {
+    readings: Vec<NameReading>,
+    ballots: Vec<Ballot>,
+    totals: Vec<ScopeVote>,
+}
+
+impl ScopeVote {
+    /// How good the choice is, the best the greatest: where AS, a strobe and an answer are there; where AS and a strobe
+    /// move; where most groups are found; where most of them move; and then where the scope stands in the fewest.
+    pub(crate) fn score(&self) -> (bool, bool, u32, u32, usize) {
+        (
+            has_handshake(self.found),
+            has_cycle(self.moving),
+            count(self.found & TELLING),
+            count(self.moving & TELLING),
+            NOWHERE - self.depth,
+        )
+    }
+}
+
+/// The groups of which a variable of this name has lines, and those of which one moves.
+pub(crate) fn groups_named(
+    variable: &DeclaredVariable,
+    named: &Named,
+    levels: &LevelsSeen,
+) -> (Groups, Groups) {
+    let mut found: Groups = 0;
+    let mut moving: Groups = 0;
+    if variable.size <= MOST_BITS {
+        for place in 0..variable.size {
+            if let Some(line) = named.line_at(variable, place) {
+                found |= group_of(line);
+                if levels.moves(variable.net, (variable.size - place).saturating_sub(1)) {
+                    moving |= group_of(line);
+                }
+            }
+        }
+    }
+    (found, moving)
+}
+
+impl VoteCounter {
+    /// Nothing is kept yet.
+    pub(crate) fn new(alloc: Global) -> VoteCounter {
+        VoteCounter {
+            readings: Vec::new(alloc),
+            ballots: Vec::new(alloc),
+            totals: Vec::new(alloc),
+        }
+    }
+
+    /// The vote of a scope, if anything is found in it.
+    pub(crate) fn vote(
+        &mut self,
+        declared: &DeclaredNames,
+        levels: &LevelsSeen,
+        scope: usize,
+    ) -> Result<Option<ScopeVote>, AllocError> {
+        self.collect(declared, levels, scope)?;
+        let depth = declared.scopes().get(scope).map_or(0, |s| s.depth);
+        self.add_up(scope, depth)?;
+        let mut best: Option<ScopeVote> = None;
+        for total in &self.totals {
+            let is_better = match &best {
+                Some(other) => is_better(total, other),
+                None => true,
+            };
+            if is_better {
+                best = Some(*total);
+            }
+        }
+        let Some(mut best) = best else {
+            return Ok(None);
+        };
+        for total in &self.totals {
+            if total.style.rank_in(&best.style).is_some() {
+                best.found |= total.found;
+                best.moving |= total.moving;
+            }
+        }
+        Ok(Some(best))
+    }
+
+    /// Collects a ballot of each reading of each name in a scope.
+    fn collect(
+        &mut self,
+        declared: &DeclaredNames,
+        levels: &LevelsSeen,
+        scope: usize,
+    ) -> Result<(), AllocError> {
+        self.ballots.clear();
+        let variables = declared.variables();
+        let mut at = declared.scopes().get(scope).map_or(NOWHERE, |s| s.first);
+        for _ in 0..variables.len() {
+            let Some(variable) = variables.get(at) else {
+                break;
+            };
+            self.readings.clear();
+            push_readings(&mut self.readings, declared.name_of(variable))?;
+            self.collect_readings(at, variable, levels)?;
+            at = variable.next;
+        }
+        self.ballots.sort_unstable();
+        Ok(())
+    }
+
+    /// Collects a ballot of each reading of a variable's name.
+    fn collect_readings(
+        &mut self,
+        at: usize,
+        variable: &DeclaredVariable,
+        levels: &LevelsSeen,
+    ) -> Result<(), AllocError> {
+        for reading in &self.readings {
+            let (found, moving) = groups_named(variable, &reading.named, levels);
+            if found != 0 {
+                self.ballots.push(Ballot {
+                    before: reading.affix.before,
+                    after: reading.affix.after,
+                    bus: reading.affix.bus,
+                    variable: at,
+                    found,
+                    moving,
+                })?;
+            }
+        }
+        Ok(())
+    }
+
+    /// Adds up the ballots of each style.
+    fn add_up(&mut self, scope: usize, depth: usize) -> Result<(), AllocError> {
+        self.totals.clear();
+        for ballot in &self.ballots {
+            let style = Affix::of_style(ballot.before, ballot.after, ballot.bus);
+            let is_known = match self.totals.last() {
+                Some(total) => total.style.is_same_style(&style),
+                None => false,
+            };
+            if !is_known {
+                self.totals.push(ScopeVote {
+                    scope,
+                    depth,
+                    style,
+                    found: 0,
+                    moving: 0,
+                    variable: ballot.variable,
+                })?;
+            }
+            if let Some(total) = self.totals.last_mut() {
+                total.found |= ballot.found;
+                total.moving |= ballot.moving;
+                total.variable = total.variable.min(ballot.variable);
+            }
+        }
+        Ok(())
+    }
+}
+
+/// Whether a style is better than another one of the same scope: of equals the one that is declared first.
+fn is_better(style: &ScopeVote, other: &ScopeVote) -> bool {
+    let (new, old) = (style.score(), other.score());
+    new > old || (new == old && style.variable < other.variable)
+}

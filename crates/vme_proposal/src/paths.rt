@@ -1,0 +1,159 @@
+//! How a binding can name bits of the variables of a scope, and of those around it.
+
+use std::alloc::{AllocError, Global};
+use vme_declarations::{DeclaredNames, DeclaredVariable, NOWHERE, front_of, scopes_begun};
+use vme_text::Text;
+
+/// How a binding can name some bits of a variable.
+#[derive(Clone, Copy, PartialEq, Eq)]
+pub(crate) enum Naming {
+    /// By the path alone.
+    Whole,
+    /// By the path and their numbers.
+    Selected,
+    /// Not at all, since the variable has no index.
+    Unnumbered,
+    /// Not at all, since other bits have the same name.
+    Ambiguous,
+}
+
+/// The variables whose path begins as that of a scope, with as many names as they have.
+#[derive(Drop)]
+pub(crate) struct Paths<'a> {
+    declared: &'a DeclaredNames,
+    /// The path of the scope, with a dot at its end.
+    path: Vec<u8>,
+    /// For each scope of the dump, how many bytes of the path its own is, or `NOWHERE`.
+    begun: Vec<usize>,
+    /// The variables of the scopes whose path is a part of this.
+    near: Vec<usize>,
+}
+
+impl<'a> Paths<'a> {
+    /// The variables in the scope of this path and in those around it.
+    pub(crate) fn new(
+        alloc: Global,
+        declared: &'a DeclaredNames,
+        path: &[u8],
+    ) -> Result<Paths<'a>, AllocError> {
+        let dotted = front_of(alloc, path)?;
+        let begun = scopes_begun(alloc, declared, &dotted)?;
+        let mut near = Vec::new(alloc);
+        for (place, variable) in declared.variables().iter().enumerate() {
+            if begun.get(variable.scope).copied().unwrap_or(NOWHERE) != NOWHERE {
+                near.push(place)?;
+            }
+        }
+        Ok(Paths {
+            declared,
+            path: dotted,
+            begun,
+            near,
+        })
+    }
+
+    /// A variable by its place.
+    pub(crate) fn variable(&self, place: usize) -> Option<&DeclaredVariable> {
+        self.declared.variables().get(place)
+    }
+
+    /// The path of the scope of a variable, with a dot at its end.
+    fn around(&self, variable: &DeclaredVariable) -> &[u8] {
+        match self.begun.get(variable.scope) {
+            Some(count) => self.path.get(..*count).unwrap_or(b""),
+            None => b"",
+        }
+    }
+
+    /// Appends the path of a variable.
+    pub(crate) fn push_path(
+        &self,
+        text: &mut Text,
+        variable: &DeclaredVariable,
+    ) -> Result<(), AllocError> {
+        text.push(self.around(variable))?;
+        text.push(self.declared.name_of(variable))
+    }
+
+    /// Whether two variables have one path.
+    fn is_same_path(&self, one: &DeclaredVariable, other: &DeclaredVariable) -> bool {
+        if self.around(one).len() < self.around(other).len() {
+            self.is_same_inside(other, one)
+        } else {
+            self.is_same_inside(one, other)
+        }
+    }
+
+    /// The same, where the first one's scope has the longer path.
+    fn is_same_inside(&self, longer: &DeclaredVariable, shorter: &DeclaredVariable) -> bool {
+        let between = self
+            .around(longer)
+            .get(self.around(shorter).len()..)
+            .unwrap_or(b"");
+        let name = self.declared.name_of(shorter);
+        match name.get(between.len()..) {
+            Some(rest) => name.starts_with(between) && rest == self.declared.name_of(longer),
+            None => false,
+        }
+    }
+
+    /// Whether no other bits have this name.
+    fn is_unique(&self, variable: &DeclaredVariable, selection: Option<(u32, u32)>) -> bool {
+        let bits = bits_meant(variable, selection);
+        self.near.iter().all(|place| match self.variable(*place) {
+            Some(other) if self.is_same_path(variable, other) => {
+                let meant = bits_meant(other, selection);
+                meant.is_none() || meant == bits
+            }
+            _ => true,
+        })
+    }
+
+    /// How the format can name so many bits of a variable from this place on. A name that ends in a bracket can't stand
+    /// alone, since the bracket would be taken for the numbers of its bits.
+    pub(crate) fn naming(&self, place: usize, from: u32, count: u32) -> Naming {
+        let Some(variable) = self.variable(place) else {
+            return Naming::Unnumbered;
+        };
+        let is_whole = variable.size == count;
+        let is_numbered = variable.index.is_some();
+        let ends_in_bracket = self.declared.name_of(variable).ends_with(b"]");
+        let may_be_whole = is_whole && !(is_numbered && count == 1) && !ends_in_bracket;
+        if may_be_whole && self.is_unique(variable, None) {
+            return Naming::Whole;
+        }
+        let selection = selection_of(variable, from, count);
+        if is_numbered && self.is_unique(variable, Some(selection)) {
+            Naming::Selected
+        } else if is_numbered || may_be_whole {
+            Naming::Ambiguous
+        } else {
+            Naming::Unnumbered
+        }
+    }
+}
+
+/// The numbers of the first and the last of so many bits of a variable from this place on.
+pub(crate) fn selection_of(variable: &DeclaredVariable, from: u32, count: u32) -> (u32, u32) {
+    let last = from.saturating_add(count).saturating_sub(1);
+    (variable.number_of_bit(from), variable.number_of_bit(last))
+}
+
+/// The bits that a name means if it is one of this variable: their net, the place of the first one, and their count.
+fn bits_meant(
+    variable: &DeclaredVariable,
+    selection: Option<(u32, u32)>,
+) -> Option<(u32, u32, u32)> {
+    let Some((first, last)) = selection else {
+        return Some((variable.net, 0, variable.size));
+    };
+    let (left, right) = variable.index?;
+    let is_inside = (first <= left && last <= first && right <= last)
+        || (left <= first && first <= last && last <= right);
+    if is_inside {
+        let count = first.abs_diff(last).saturating_add(1);
+        Some((variable.net, left.abs_diff(first), count))
+    } else {
+        None
+    }
+}
