@@ -1,8 +1,7 @@
 use std::alloc::{AllocError, Global};
 use std::process::Abort;
-use std::test::Fail;
 use vme_words::words::order;
-use vme_words::{Order, OrderFault, Task, task_fault};
+use vme_words::{AuditWords, Order, OrderFault, Task, task_fault};
 
 /// The words of a line, the program's name first.
 fn words_of(alloc: Global, line: &str) -> Result<Vec<String>, AllocError> {
@@ -13,70 +12,12 @@ fn words_of(alloc: Global, line: &str) -> Result<Vec<String>, AllocError> {
     Ok(words)
 }
 
-#[test]
-fn orders(rt: HostRuntime) -> Result<(), Fail> {
-    for (line, command, numbers, names) in [
-        (
-            "vmecheck check --block 5 --workers 3 B V",
-            Task::Check,
-            (5, 3),
-            "B V ",
-        ),
-        ("vmecheck check B V", Task::Check, (16384, 4), "B V "),
-        (
-            "vmecheck list B --block=65536 V --workers=64",
-            Task::List,
-            (65536, 64),
-            "B V ",
-        ),
-        (
-            "vmecheck confirm B V L",
-            Task::Confirm,
-            (16384, 4),
-            "B V L ",
-        ),
-        ("vmecheck rules", Task::Rules, (16384, 4), ""),
-        ("vmecheck rules H4", Task::Rules, (16384, 4), "H4 "),
-        ("vmecheck faults", Task::Faults, (16384, 4), ""),
-        (
-            "vmecheck faults BadVar",
-            Task::Faults,
-            (16384, 4),
-            "BadVar ",
-        ),
-        ("vmecheck variables V", Task::Variables, (16384, 4), "V "),
-        ("vmecheck bind V", Task::Bind, (16384, 4), "V "),
-        (
-            "vmecheck bind V --slots 21",
-            Task::Bind,
-            (16384, 4),
-            "V 21 ",
-        ),
-        ("vmecheck explain B V", Task::Explain, (16384, 4), "B V "),
-        (
-            "vmecheck explain --gtkw=F B V",
-            Task::Explain,
-            (16384, 4),
-            "B V F ",
-        ),
-    ] {
-        let words = words_of(rt.alloc(), line)?;
-        match order(rt.alloc(), words.as_slice()) {
-            Ok(order) => {
-                assert_eq!(rt; order.command, command);
-                assert_eq!(rt; (order.block, order.workers), numbers, "{line}");
-                assert_eq!(rt; order.skew, 0, "{line}");
-                let mut told = String::new(rt.alloc());
-                for name in &order.names {
-                    told.push_str(name.as_str())?;
-                    told.push_str(" ")?;
-                }
-                assert!(rt; told.as_str() == names, "{line}");
-            }
-            Err(_) => assert!(rt; false, "{line}"),
-        }
+/// What the arguments of a line order.
+fn order_of(alloc: Global, line: &str) -> Result<Order, OrderFault> {
+    match words_of(alloc, line) {
+        Ok(words) => order(alloc, words.as_slice()),
+        Err(_) => Err(OrderFault::Memory),
     }
-    Ok(())
 }
 
 /// The texts, each with a space behind it.
@@ -89,190 +30,296 @@ fn joined(alloc: Global, texts: &[String]) -> Result<String, AllocError> {
     Ok(all)
 }
 
+/// Whether these are the texts, each with a space behind it.
+fn are_joined(alloc: Global, texts: &[String], wanted: &str) -> bool {
+    match joined(alloc, texts) {
+        Ok(all) => all.as_str() == wanted,
+        Err(_) => false,
+    }
+}
+
+/// Lines, the task that each orders, its block and its workers, and its names, each with a space behind it.
+static ORDERS: [(&str, Task, (u32, u32), &str); 13] = [
+    (
+        "vmecheck check --block 5 --workers 3 B V",
+        Task::Check,
+        (5, 3),
+        "B V ",
+    ),
+    ("vmecheck check B V", Task::Check, (16384, 4), "B V "),
+    (
+        "vmecheck list B --block=65536 V --workers=64",
+        Task::List,
+        (65536, 64),
+        "B V ",
+    ),
+    (
+        "vmecheck confirm B V L",
+        Task::Confirm,
+        (16384, 4),
+        "B V L ",
+    ),
+    ("vmecheck rules", Task::Rules, (16384, 4), ""),
+    ("vmecheck rules H4", Task::Rules, (16384, 4), "H4 "),
+    ("vmecheck faults", Task::Faults, (16384, 4), ""),
+    (
+        "vmecheck faults BadVar",
+        Task::Faults,
+        (16384, 4),
+        "BadVar ",
+    ),
+    ("vmecheck variables V", Task::Variables, (16384, 4), "V "),
+    ("vmecheck bind V", Task::Bind, (16384, 4), "V "),
+    (
+        "vmecheck bind V --slots 21",
+        Task::Bind,
+        (16384, 4),
+        "V 21 ",
+    ),
+    ("vmecheck explain B V", Task::Explain, (16384, 4), "B V "),
+    (
+        "vmecheck explain --gtkw=F B V",
+        Task::Explain,
+        (16384, 4),
+        "B V F ",
+    ),
+];
+
+/// Whether a line orders this, and no skew.
+fn is_ordered(alloc: Global, line: &str, command: Task, numbers: (u32, u32), names: &str) -> bool {
+    match order_of(alloc, line) {
+        Ok(order) => {
+            order.command == command
+                && (order.block, order.workers) == numbers
+                && order.skew == 0
+                && are_joined(alloc, &order.names, names)
+        }
+        Err(_) => false,
+    }
+}
+
 #[test]
-fn audits_are_ordered(rt: HostRuntime) -> Result<(), Fail> {
-    for (line, numbers, stop, is_quiet, texts) in [
-        (
-            "vmecheck audit B V",
-            (1, 0, 4),
-            None,
-            false,
-            ("B V ", "", "none"),
-        ),
-        (
-            "vmecheck audit --allow H4 B V --quiet --stop 2 - --allow=C2=AS W --junit=F --workers 64",
-            (1, 0, 64),
-            Some(2),
-            true,
-            ("B V - W ", "H4 C2=AS ", "F"),
-        ),
-        (
-            "vmecheck audit --transfers 18446744073709551615 --skew=7 --stop=1 -- B --quiet",
-            (u64::MAX, 7, 4),
-            Some(1),
-            false,
-            ("B --quiet ", "", "none"),
-        ),
-    ] {
-        let words = words_of(rt.alloc(), line)?;
-        let Ok(order) = order(rt.alloc(), words.as_slice()) else {
-            assert!(rt; false, "{line}");
-            return Ok(());
-        };
-        let Some(audit) = &order.audit else {
-            assert!(rt; false, "{line}");
-            return Ok(());
-        };
-        assert_eq!(rt; order.command, Task::Audit, "{line}");
-        assert_eq!(rt;
-            (audit.transfers, order.skew, order.workers),
-            numbers,
-            "{line}"
-        );
-        assert_eq!(rt; (audit.stop, audit.is_quiet), (stop, is_quiet), "{line}");
-        let (names, allowed, junit) = texts;
+fn orders(rt: HostRuntime) {
+    for (line, command, numbers, names) in ORDERS.iter() {
         assert!(rt;
-            joined(rt.alloc(), &order.names)?.as_str() == names,
+            is_ordered(rt.alloc(), line, *command, *numbers, names),
             "{line}"
         );
-        assert!(rt;
-            joined(rt.alloc(), &audit.allowed)?.as_str() == allowed,
-            "{line}"
-        );
-        match &audit.junit {
-            Some(path) => assert!(rt; path.as_str() == junit, "{line}"),
-            None => assert!(rt; junit == "none", "{line}"),
-        }
     }
-    Ok(())
+}
+
+/// Lines, the transfers, the skew and the workers of each, where it stops, whether it is quiet, and its names, what it
+/// allows and its path of a report.
+static AUDITS: [(&str, (u64, u64, u32), Option<u64>, bool, (&str, &str, &str)); 3] = [
+    (
+        "vmecheck audit B V",
+        (1, 0, 4),
+        None,
+        false,
+        ("B V ", "", "none"),
+    ),
+    (
+        "vmecheck audit --allow H4 B V --quiet --stop 2 - --allow=C2=AS W --junit=F --workers 64",
+        (1, 0, 64),
+        Some(2),
+        true,
+        ("B V - W ", "H4 C2=AS ", "F"),
+    ),
+    (
+        "vmecheck audit --transfers 18446744073709551615 --skew=7 --stop=1 -- B --quiet",
+        (u64::MAX, 7, 4),
+        Some(1),
+        false,
+        ("B --quiet ", "", "none"),
+    ),
+];
+
+/// Whether an order is of an audit with these transfers, this skew and so many workers.
+fn is_audit(order: &Order, numbers: (u64, u64, u32)) -> bool {
+    let (transfers, skew, workers) = numbers;
+    order.command == Task::Audit
+        && (order.skew, order.workers) == (skew, workers)
+        && order
+            .audit
+            .as_ref()
+            .is_some_and(|audit| audit.transfers == transfers)
+}
+
+/// Whether an audit is told to stop there, to be quiet, what it allows and where its report is written.
+fn is_told(
+    alloc: Global,
+    audit: &AuditWords,
+    stop: Option<u64>,
+    is_quiet: bool,
+    allowed: &str,
+    junit: &str,
+) -> bool {
+    let path = match &audit.junit {
+        Some(path) => path.as_str(),
+        None => "none",
+    };
+    (audit.stop, audit.is_quiet) == (stop, is_quiet)
+        && path == junit
+        && are_joined(alloc, &audit.allowed, allowed)
 }
 
 #[test]
-fn scopes_are_ordered(rt: HostRuntime) -> Result<(), Fail> {
-    for (line, wanted) in [
-        ("vmecheck bind V", "none"),
-        ("vmecheck bind --slots 2 V", "none"),
-        ("vmecheck bind --scope top.bus V", "top.bus"),
-        ("vmecheck bind V --scope=2 --slots=3", "2"),
-        ("vmecheck bind --scope= V", ""),
-        ("vmecheck bind V --scope", "refused"),
-        ("vmecheck bind --scope a --scope b V", "refused"),
-        ("vmecheck check --scope a B V", "refused"),
-        ("vmecheck variables --scope a V", "refused"),
-    ] {
-        let words = words_of(rt.alloc(), line)?;
-        match order(rt.alloc(), words.as_slice()) {
-            Ok(order) => match &order.scope {
-                Some(path) => assert!(rt; path.as_str() == wanted, "{line}"),
-                None => assert!(rt; wanted == "none", "{line}"),
-            },
-            Err(OrderFault::Usage(_error)) => assert!(rt; wanted == "refused", "{line}"),
-            Err(OrderFault::Memory) => assert!(rt; false, "{line}"),
-        }
+fn audits_are_ordered(rt: HostRuntime) {
+    for (line, numbers, stop, is_quiet, (names, allowed, junit)) in AUDITS.iter() {
+        let alloc = rt.alloc();
+        let holds = match order_of(alloc, line) {
+            Ok(order) => {
+                is_audit(&order, *numbers)
+                    && are_joined(alloc, &order.names, names)
+                    && order.audit.as_ref().is_some_and(|audit| is_told(
+                        alloc, audit, *stop, *is_quiet, allowed, junit,
+                    ))
+            }
+            Err(_) => false,
+        };
+        assert!(rt; holds, "{line}");
     }
-    Ok(())
 }
 
-#[test]
-fn skews_are_ordered(rt: HostRuntime) -> Result<(), Fail> {
-    for (line, skew) in [
-        ("vmecheck check --skew 3 B V", Some(3)),
-        ("vmecheck list B V --skew=0", Some(0)),
-        (
-            "vmecheck confirm --skew 18446744073709551615 B V L",
-            Some(u64::MAX),
-        ),
-        ("vmecheck explain --skew 007 --gtkw F B V", Some(7)),
-        ("vmecheck check --skew 18446744073709551616 B V", None),
-        ("vmecheck check --skew ten B V", None),
-        ("vmecheck check --skew= B V", None),
-        ("vmecheck check --skew -1 B V", None),
-        ("vmecheck check --skew=-1 B V", None),
-        ("vmecheck check --skew 1.5 B V", None),
-        ("vmecheck check --skew 1 --skew 2 B V", None),
-        ("vmecheck check B V --skew", None),
-        ("vmecheck bind --skew 1 V", None),
-        ("vmecheck variables --skew 1 V", None),
-    ] {
-        let words = words_of(rt.alloc(), line)?;
-        match order(rt.alloc(), words.as_slice()) {
-            Ok(order) => assert!(rt; Some(order.skew) == skew, "{line}"),
-            Err(OrderFault::Usage(_error)) => assert!(rt; skew.is_none(), "{line}"),
-            Err(OrderFault::Memory) => assert!(rt; false, "{line}"),
-        }
-    }
-    Ok(())
-}
+/// Lines, and the scope that each has.
+static SCOPES: [(&str, &str); 9] = [
+    ("vmecheck bind V", "none"),
+    ("vmecheck bind --slots 2 V", "none"),
+    ("vmecheck bind --scope top.bus V", "top.bus"),
+    ("vmecheck bind V --scope=2 --slots=3", "2"),
+    ("vmecheck bind --scope= V", ""),
+    ("vmecheck bind V --scope", "refused"),
+    ("vmecheck bind --scope a --scope b V", "refused"),
+    ("vmecheck check --scope a B V", "refused"),
+    ("vmecheck variables --scope a V", "refused"),
+];
 
-/// Whether a text is for standard error, if it is one for the user.
-fn goes_to_errors(answer: Result<Order, OrderFault>) -> Option<bool> {
-    match answer {
-        Err(OrderFault::Usage(error)) => Some(error.use_stderr()),
-        Err(OrderFault::Memory) | Ok(_) => None,
+/// Whether a line has this scope: `none` where it has none, and `refused` where it is no order.
+fn has_scope(alloc: Global, line: &str, wanted: &str) -> bool {
+    match order_of(alloc, line) {
+        Ok(order) => match &order.scope {
+            Some(path) => path.as_str() == wanted,
+            None => wanted == "none",
+        },
+        Err(OrderFault::Usage(_error)) => wanted == "refused",
+        Err(OrderFault::Memory) => false,
     }
 }
 
 #[test]
-fn usage(rt: HostRuntime) -> Result<(), Fail> {
-    for (line, is_help) in [
-        ("vmecheck check --block 0 B V", false),
-        ("vmecheck check --block 65537 B V", false),
-        ("vmecheck check --workers 0 B V", false),
-        ("vmecheck check --workers 65 B V", false),
-        ("vmecheck check B", false),
-        ("vmecheck check", false),
-        ("vmecheck check B V W", false),
-        ("vmecheck list B", false),
-        ("vmecheck list --block 0 B V", false),
-        ("vmecheck confirm", false),
-        ("vmecheck confirm B V", false),
-        ("vmecheck confirm B V L M", false),
-        ("vmecheck confirm --block 5 B V L", false),
-        ("vmecheck confirm B V L --workers=2", false),
-        ("vmecheck B V", false),
-        ("vmecheck check --blocks 5 B V", false),
-        ("vmecheck rules H1 H2", false),
-        ("vmecheck faults BadVar TooWide", false),
-        ("vmecheck variables", false),
-        ("vmecheck bind --slots 0 V", false),
-        ("vmecheck bind --slots 22 V", false),
-        ("vmecheck explain B", false),
-        ("vmecheck explain --gtkw B V", false),
-        ("vmecheck audit", false),
-        ("vmecheck audit B", false),
-        ("vmecheck audit --stop 0 B V", false),
-        ("vmecheck audit --stop 1 --stop 2 B V", false),
-        ("vmecheck audit --quiet --quiet B V", false),
-        ("vmecheck audit --block 5 B V", false),
-        ("vmecheck audit --allow B V", false),
-        ("vmecheck audit --transfers -1 B V", false),
-        ("vmecheck help", true),
-        ("vmecheck --version", true),
-        ("vmecheck --help", true),
-        ("vmecheck check -h", true),
-        ("vmecheck list --help", true),
-        ("vmecheck confirm -h", true),
-        ("vmecheck audit --help", true),
-    ] {
-        let words = words_of(rt.alloc(), line)?;
-        let answer = order(rt.alloc(), words.as_slice());
-        assert_eq!(rt; goes_to_errors(answer), Some(!is_help), "{line}");
+fn scopes_are_ordered(rt: HostRuntime) {
+    for (line, wanted) in SCOPES.iter() {
+        assert!(rt; has_scope(rt.alloc(), line, wanted), "{line}");
     }
-    Ok(())
+}
+
+/// Lines, and the skew that each has, if it is an order.
+static SKEWS: [(&str, Option<u64>); 14] = [
+    ("vmecheck check --skew 3 B V", Some(3)),
+    ("vmecheck list B V --skew=0", Some(0)),
+    (
+        "vmecheck confirm --skew 18446744073709551615 B V L",
+        Some(u64::MAX),
+    ),
+    ("vmecheck explain --skew 007 --gtkw F B V", Some(7)),
+    ("vmecheck check --skew 18446744073709551616 B V", None),
+    ("vmecheck check --skew ten B V", None),
+    ("vmecheck check --skew= B V", None),
+    ("vmecheck check --skew -1 B V", None),
+    ("vmecheck check --skew=-1 B V", None),
+    ("vmecheck check --skew 1.5 B V", None),
+    ("vmecheck check --skew 1 --skew 2 B V", None),
+    ("vmecheck check B V --skew", None),
+    ("vmecheck bind --skew 1 V", None),
+    ("vmecheck variables --skew 1 V", None),
+];
+
+/// Whether a line has this skew, or is no order where there is none.
+fn has_skew(alloc: Global, line: &str, skew: Option<u64>) -> bool {
+    match order_of(alloc, line) {
+        Ok(order) => skew == Some(order.skew),
+        Err(OrderFault::Usage(_error)) => skew.is_none(),
+        Err(OrderFault::Memory) => false,
+    }
 }
 
 #[test]
-fn a_wrong_rule_is_told_with_the_usage_of_rules(rt: HostRuntime) -> Result<(), Fail> {
-    let fault = task_fault(rt.alloc(), Task::Rules, "there is no such rule");
+fn skews_are_ordered(rt: HostRuntime) {
+    for (line, skew) in SKEWS.iter() {
+        assert!(rt; has_skew(rt.alloc(), line, *skew), "{line}");
+    }
+}
+
+/// Lines that are no orders, and whether each asks for help.
+static REFUSED: [(&str, bool); 38] = [
+    ("vmecheck check --block 0 B V", false),
+    ("vmecheck check --block 65537 B V", false),
+    ("vmecheck check --workers 0 B V", false),
+    ("vmecheck check --workers 65 B V", false),
+    ("vmecheck check B", false),
+    ("vmecheck check", false),
+    ("vmecheck check B V W", false),
+    ("vmecheck list B", false),
+    ("vmecheck list --block 0 B V", false),
+    ("vmecheck confirm", false),
+    ("vmecheck confirm B V", false),
+    ("vmecheck confirm B V L M", false),
+    ("vmecheck confirm --block 5 B V L", false),
+    ("vmecheck confirm B V L --workers=2", false),
+    ("vmecheck B V", false),
+    ("vmecheck check --blocks 5 B V", false),
+    ("vmecheck rules H1 H2", false),
+    ("vmecheck faults BadVar TooWide", false),
+    ("vmecheck variables", false),
+    ("vmecheck bind --slots 0 V", false),
+    ("vmecheck bind --slots 22 V", false),
+    ("vmecheck explain B", false),
+    ("vmecheck explain --gtkw B V", false),
+    ("vmecheck audit", false),
+    ("vmecheck audit B", false),
+    ("vmecheck audit --stop 0 B V", false),
+    ("vmecheck audit --stop 1 --stop 2 B V", false),
+    ("vmecheck audit --quiet --quiet B V", false),
+    ("vmecheck audit --block 5 B V", false),
+    ("vmecheck audit --allow B V", false),
+    ("vmecheck audit --transfers -1 B V", false),
+    ("vmecheck help", true),
+    ("vmecheck --version", true),
+    ("vmecheck --help", true),
+    ("vmecheck check -h", true),
+    ("vmecheck list --help", true),
+    ("vmecheck confirm -h", true),
+    ("vmecheck audit --help", true),
+];
+
+/// Whether a line is no order, and what is said of it goes to standard error but for help that it asks for.
+fn is_refused(alloc: Global, line: &str, is_help: bool) -> bool {
+    match order_of(alloc, line) {
+        Err(OrderFault::Usage(error)) => error.use_stderr() != is_help,
+        Err(OrderFault::Memory) | Ok(_) => false,
+    }
+}
+
+#[test]
+fn usage(rt: HostRuntime) {
+    for (line, is_help) in REFUSED.iter() {
+        assert!(rt; is_refused(rt.alloc(), line, *is_help), "{line}");
+    }
+}
+
+/// Whether a fault of a use is told with this text.
+fn tells(alloc: Global, fault: OrderFault, wanted: &str) -> bool {
     match fault {
-        OrderFault::Usage(error) => {
-            let text = format!(in rt.alloc(); "{error}")?;
-            assert!(rt;
-                text.as_str().contains("Usage: vmecheck rules [RULE]"),
-                "{text}"
-            );
-        }
-        OrderFault::Memory => assert!(rt; false),
+        OrderFault::Usage(error) => match format!(in alloc; "{error}") {
+            Ok(text) => text.as_str().contains(wanted),
+            Err(_) => false,
+        },
+        OrderFault::Memory => false,
     }
-    Ok(())
+}
+
+#[test]
+fn a_wrong_rule_is_told_with_the_usage_of_rules(rt: HostRuntime) {
+    let fault = task_fault(rt.alloc(), Task::Rules, "there is no such rule");
+    assert!(rt; tells(rt.alloc(), fault, "Usage: vmecheck rules [RULE]"));
 }
