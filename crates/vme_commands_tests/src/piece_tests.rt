@@ -1,6 +1,7 @@
 //! A dump that is judged in pieces: the verdict and the listing are those of the whole text, wherever it is cut.
 
-use crate::tests::{LISTING, Page};
+use crate::tests::{LISTING, Page, has_told};
+use std::alloc::Global;
 use std::io::{self, Read};
 use std::process::Abort;
 use std::test::Fail;
@@ -19,10 +20,10 @@ $upscope $end\n$enddefinitions $end\n";
 const PIECES: [usize; 10] = [1, 2, 3, 5, 8, 13, 21, 34, 64, 4096];
 
 /// How many workers read each dump.
-const WORKERS: [u32; 3] = [1, 2, 5];
+static WORKERS: [u32; 3] = [1, 2, 5];
 
 /// By which skews it settles. No steps lie so near.
-const SKEWS: [u64; 2] = [0, 1];
+static SKEWS: [u64; 2] = [0, 1];
 
 /// A reader that gives so many bytes a read.
 #[derive(Drop)]
@@ -71,8 +72,11 @@ const NEVER_IDLE: Wanted = Wanted {
     status: 2,
 };
 
-/// What is told of a dump with this fault.
-fn faulty(fault: &'static str) -> Wanted {
+/// What is told of a dump with this fault, or of one that conforms where there is none.
+fn told_of(fault: &'static str) -> Wanted {
+    if fault.is_empty() {
+        return CONFORMING;
+    }
     Wanted {
         line: "",
         listing: "",
@@ -83,27 +87,45 @@ fn faulty(fault: &'static str) -> Wanted {
 
 fn expect_pieces<R: Abort + AllocGlobal + Threads + Sync>(rt: &R, dump: &str, wanted: Wanted) {
     for piece in PIECES {
-        for count in WORKERS {
-            let workers = Workers::with_pieces(rt, count, piece, 4 * piece);
-            for skew in SKEWS {
-                expect_verdict(rt, dump, &workers, skew, wanted);
-                expect_listing(rt, dump, &workers, skew, wanted);
-            }
+        for count in WORKERS.iter() {
+            let workers = Workers::with_pieces(rt, *count, piece, 4 * piece);
+            expect_by(rt, dump, &workers, wanted);
         }
     }
 }
 
-fn expect_verdict<R: Abort + AllocGlobal + Threads + Sync>(
+/// Expects that of a dump this is told, whatever the skew.
+fn expect_by<R: Abort + AllocGlobal + Threads + Sync>(
     rt: &R,
+    dump: &str,
+    workers: &Workers<'_, R>,
+    wanted: Wanted,
+) {
+    let piece = workers.piece();
+    for skew in SKEWS.iter() {
+        assert!(rt;
+            checks_by(rt.alloc(), dump, workers, *skew, wanted),
+            "pieces of {piece} bytes: {dump}"
+        );
+        assert!(rt;
+            lists_by(rt.alloc(), dump, workers, *skew, wanted),
+            "pieces of {piece} bytes: {dump}"
+        );
+    }
+}
+
+/// Whether this is the line of the verdict, or else the fault that is told.
+fn checks_by<R: Threads + Sync>(
+    alloc: Global,
     dump: &str,
     workers: &Workers<'_, R>,
     skew: u64,
     wanted: Wanted,
-) {
-    let mut out = Page::new(rt.alloc(), 1000);
-    let mut err = Page::new(rt.alloc(), 1000);
+) -> bool {
+    let mut out = Page::new(alloc, 1000);
+    let mut err = Page::new(alloc, 1000);
     let status = check_by(
-        rt.alloc(),
+        alloc,
         workers,
         &mut Bytes::new(BUILT_IN),
         &mut in_portions(dump, workers.piece()),
@@ -112,22 +134,26 @@ fn expect_verdict<R: Abort + AllocGlobal + Threads + Sync>(
         &mut out,
         &mut err,
     );
-    expect_told(rt, dump, workers.piece(), &out, wanted.line);
-    expect_told(rt, dump, workers.piece(), &err, wanted.fault);
-    assert_eq!(rt; status, wanted.status);
+    has_told(
+        &out,
+        &err,
+        status,
+        (wanted.line, wanted.fault, wanted.status),
+    )
 }
 
-fn expect_listing<R: Abort + AllocGlobal + Threads + Sync>(
-    rt: &R,
+/// The same of the listing.
+fn lists_by<R: Threads + Sync>(
+    alloc: Global,
     dump: &str,
     workers: &Workers<'_, R>,
     skew: u64,
     wanted: Wanted,
-) {
-    let mut out = Page::new(rt.alloc(), 1000);
-    let mut err = Page::new(rt.alloc(), 1000);
+) -> bool {
+    let mut out = Page::new(alloc, 1000);
+    let mut err = Page::new(alloc, 1000);
     let status = list_by(
-        rt.alloc(),
+        alloc,
         workers,
         &mut Bytes::new(BUILT_IN),
         &mut in_portions(dump, workers.piece()),
@@ -136,79 +162,82 @@ fn expect_listing<R: Abort + AllocGlobal + Threads + Sync>(
         &mut out,
         &mut err,
     );
-    expect_told(rt, dump, workers.piece(), &out, wanted.listing);
-    expect_told(rt, dump, workers.piece(), &err, wanted.fault);
-    assert_eq!(rt; status, wanted.status);
+    has_told(
+        &out,
+        &err,
+        status,
+        (wanted.listing, wanted.fault, wanted.status),
+    )
 }
 
-fn expect_told<R: Abort + AllocGlobal>(rt: &R, dump: &str, piece: usize, page: &Page, text: &str) {
-    assert!(rt;
-        page.bytes.as_slice() == text.as_bytes(),
-        "pieces of {piece} bytes: {dump}"
-    );
-}
+/// Bodies of dumps, and the fault of each, or none where it conforms.
+static BODIES: [(&str, &str); 9] = [
+    (
+        "#0 1p 1q 1r 1s 1t 1u\n#10 0p\n#20 0q\n#30 0s\n#40 1p 1q\n#50 1s\n",
+        "",
+    ),
+    // no line feed at the end
+    (
+        "#0 1p 1q 1r 1s 1t 1u\n#10 0p\n#20 0q\n#30 0s\n#40 1p 1q\n#50 1s",
+        "",
+    ),
+    // times in a comment, a value and its code on two lines, brackets, a time twice
+    (
+        "#0 1p 1q 1r $comment #5 0p #7\n#8 b $end 1s 1t 1u\n#10 $dumpall b0\np\n$end\n#20 0q\n#20\n#30 r1.5\n\
+                q 0s\n#40 1p 1q\n#50 1s\n",
+        "",
+    ),
+    // faults at the front, in the middle and at the end
+    ("?\n#0 1p\n", "vmecheck: dump line 11: BadToken\n"),
+    (
+        "#0 1p 1q 1r 1s 1t 1u\n#10 0p\n#9 0q\n#30 0s\n",
+        "vmecheck: dump line 13: TimeBackwards\n",
+    ),
+    (
+        "#0 1p 1q 1r 1s 1t 1u\n#10 0p\n#20 0z\n",
+        "vmecheck: dump line 13: UndeclaredCode\n",
+    ),
+    (
+        "#0 1p 1q 1r 1s 1t 1u\n#10 0p\n#20 b1",
+        "vmecheck: dump line 13: UnfinishedSection\n",
+    ),
+    (
+        "#0 1p 1q 1r 1s 1t 1u\n#10 $dumpall 0p\n#20 0q\n",
+        "vmecheck: dump line 12: UnfinishedSection\n",
+    ),
+    (
+        "#0 1p 1q 1r 1s 1t 1u\n#10 0p $comment\n#20 0q\n",
+        "vmecheck: dump line 12: UnfinishedSection\n",
+    ),
+];
 
 #[test]
 fn dumps_in_pieces(rt: HostRuntime) -> Result<(), Fail> {
-    for (body, wanted) in [
-        (
-            "#0 1p 1q 1r 1s 1t 1u\n#10 0p\n#20 0q\n#30 0s\n#40 1p 1q\n#50 1s\n",
-            CONFORMING,
-        ),
-        // no line feed at the end
-        (
-            "#0 1p 1q 1r 1s 1t 1u\n#10 0p\n#20 0q\n#30 0s\n#40 1p 1q\n#50 1s",
-            CONFORMING,
-        ),
-        // times in a comment, a value and its code on two lines, brackets, a time twice
-        (
-            "#0 1p 1q 1r $comment #5 0p #7\n#8 b $end 1s 1t 1u\n#10 $dumpall b0\np\n$end\n#20 0q\n#20\n#30 r1.5\n\
-                q 0s\n#40 1p 1q\n#50 1s\n",
-            CONFORMING,
-        ),
-        ("", NEVER_IDLE),
-        // faults at the front, in the middle and at the end
-        ("?\n#0 1p\n", faulty("vmecheck: dump line 11: BadToken\n")),
-        (
-            "#0 1p 1q 1r 1s 1t 1u\n#10 0p\n#9 0q\n#30 0s\n",
-            faulty("vmecheck: dump line 13: TimeBackwards\n"),
-        ),
-        (
-            "#0 1p 1q 1r 1s 1t 1u\n#10 0p\n#20 0z\n",
-            faulty("vmecheck: dump line 13: UndeclaredCode\n"),
-        ),
-        (
-            "#0 1p 1q 1r 1s 1t 1u\n#10 0p\n#20 b1",
-            faulty("vmecheck: dump line 13: UnfinishedSection\n"),
-        ),
-        (
-            "#0 1p 1q 1r 1s 1t 1u\n#10 $dumpall 0p\n#20 0q\n",
-            faulty("vmecheck: dump line 12: UnfinishedSection\n"),
-        ),
-        (
-            "#0 1p 1q 1r 1s 1t 1u\n#10 0p $comment\n#20 0q\n",
-            faulty("vmecheck: dump line 12: UnfinishedSection\n"),
-        ),
-    ] {
+    for (body, fault) in BODIES.iter() {
         let mut dump = String::from_str(rt.alloc(), HEAD)?;
         dump.push_str(body)?;
-        expect_pieces(&rt, dump.as_str(), wanted);
+        expect_pieces(&rt, dump.as_str(), told_of(fault));
     }
+    expect_pieces(&rt, HEAD, NEVER_IDLE);
     Ok(())
 }
 
 #[test]
 fn definitions_in_pieces(rt: HostRuntime) {
-    expect_pieces(&rt, "", faulty("vmecheck: dump line 1: NoEndDefinitions\n"));
+    expect_pieces(
+        &rt,
+        "",
+        told_of("vmecheck: dump line 1: NoEndDefinitions\n"),
+    );
     expect_pieces(
         &rt,
         "$scope module\nbus",
-        faulty("vmecheck: dump line 1: UnfinishedSection\n"),
+        told_of("vmecheck: dump line 1: UnfinishedSection\n"),
     );
     expect_pieces(
         &rt,
         "$upscope\n$end\n",
-        faulty("vmecheck: dump line 1: ScopeUnderflow\n"),
+        told_of("vmecheck: dump line 1: ScopeUnderflow\n"),
     );
 }
 

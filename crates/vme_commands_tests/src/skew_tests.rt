@@ -2,13 +2,10 @@
 
 ghost use Rattle.std.specs.Prelude.{◌≤◌};
 
-use crate::tests::{HEAD, NAMES, Page};
+use crate::tests::{HEAD, Page, checks, confirms, explains, has_told, lists, many_steps};
 use std::process::Abort;
 use std::test::Fail;
 use std::thread::Threads;
-use vme_commands::check::check;
-use vme_commands::confirm::confirm_with;
-use vme_commands::explain::explain;
 use vme_commands::list::list;
 use vme_commands::{BLOCK, BUILT_IN, unsettled};
 use vme_stream::Bytes;
@@ -67,7 +64,7 @@ verdict conforming
 const HIDDEN: &str = "broken H4 at instant 3 time 20 line DTACK\n";
 
 /// Skews, the line of the verdict by each, the listing, and the status.
-const WANTED: [(u64, &str, &str, u8); 6] = [
+static WANTED: [(u64, &str, &str, u8); 6] = [
     (0, HIDDEN, BROKEN, 1),
     (2, HIDDEN, BROKEN, 1),
     (3, "conforming\n", SETTLED, 0),
@@ -76,65 +73,40 @@ const WANTED: [(u64, &str, &str, u8); 6] = [
     (u64::MAX, "conforming\n", ONE, 0),
 ];
 
-fn expect_told<R: Abort + AllocGlobal>(rt: &R, skew: u64, out: &Page, err: &Page, text: &str) {
-    assert!(rt; out.bytes.as_slice() == text.as_bytes(), "by {skew}");
-    assert!(rt; err.bytes.is_empty(), "by {skew}");
-}
-
 fn expect_verdict<R: Abort + AllocGlobal + Threads + Sync>(
     rt: &R,
     workers: u32,
-    wanted: (u64, &str, &str, u8),
+    wanted: &(u64, &str, &str, u8),
 )
     requires { (1 ≤ workers) × (workers ≤ 64) }
 {
-    let (skew, line, _, status) = wanted;
-    let mut out = Page::new(rt.alloc(), 1000);
-    let mut err = Page::new(rt.alloc(), 1000);
-    let ended = check(
-        rt,
-        rt.alloc(),
-        &mut Bytes::new(BUILT_IN),
-        &mut Bytes::new(DUMP.as_bytes()),
-        1,
-        workers,
-        skew,
-        &mut out,
-        &mut err,
+    let (skew, line, _, status) = *wanted;
+    let (dump, told) = (DUMP.as_bytes(), (line, "", status));
+    assert!(rt;
+        checks(rt, BUILT_IN, dump, 1, workers, skew, told),
+        "by {skew}"
     );
-    expect_told(rt, skew, &out, &err, line);
-    assert_eq!(rt; ended, status);
 }
 
 fn expect_listing<R: Abort + AllocGlobal + Threads + Sync>(
     rt: &R,
     workers: u32,
-    wanted: (u64, &str, &str, u8),
+    wanted: &(u64, &str, &str, u8),
 )
     requires { (1 ≤ workers) × (workers ≤ 64) }
 {
-    let (skew, _, listing, status) = wanted;
-    let mut out = Page::new(rt.alloc(), 1000);
-    let mut err = Page::new(rt.alloc(), 1000);
-    let ended = list(
-        rt,
-        rt.alloc(),
-        &mut Bytes::new(BUILT_IN),
-        &mut Bytes::new(DUMP.as_bytes()),
-        BLOCK,
-        workers,
-        skew,
-        &mut out,
-        &mut err,
+    let (skew, _, listing, status) = *wanted;
+    let (dump, told) = (DUMP.as_bytes(), (listing, "", status));
+    assert!(rt;
+        lists(rt, BUILT_IN, dump, BLOCK, workers, skew, told),
+        "by {skew}"
     );
-    expect_told(rt, skew, &out, &err, listing);
-    assert_eq!(rt; ended, status);
 }
 
 #[test]
 fn recordings_settle(rt: HostRuntime) {
     unsettled();
-    for wanted in WANTED {
+    for wanted in WANTED.iter() {
         expect_verdict(&rt, 1, wanted);
         expect_verdict(&rt, 3, wanted);
         expect_listing(&rt, 1, wanted);
@@ -149,107 +121,75 @@ fn expect_confirmation<R: Abort + AllocGlobal>(
     text: &str,
     status: u8,
 ) {
-    let mut out = Page::new(rt.alloc(), 1000);
-    let mut err = Page::new(rt.alloc(), 1000);
-    let ended = confirm_with(
-        rt.alloc(),
-        &mut Bytes::new(BUILT_IN),
-        &mut Bytes::new(DUMP.as_bytes()),
-        &mut Bytes::new(listing.as_bytes()),
-        skew,
-        &mut out,
-        &mut err,
+    let mut listing = Bytes::new(listing.as_bytes());
+    let told = (text, "", status);
+    assert!(rt;
+        confirms(
+            rt.alloc(),
+            BUILT_IN,
+            DUMP.as_bytes(),
+            &mut listing,
+            skew,
+            told
+        ),
+        "by {skew}"
     );
-    expect_told(rt, skew, &out, &err, text);
-    assert_eq!(rt; ended, status);
 }
 
 #[test]
 fn a_listing_is_confirmed_by_its_skew(rt: HostRuntime) {
-    for (skew, _, listing, _) in WANTED {
-        expect_confirmation(&rt, skew, listing, "confirmed\n", 0);
+    for (skew, _, listing, _) in WANTED.iter() {
+        expect_confirmation(&rt, *skew, listing, "confirmed\n", 0);
     }
     expect_confirmation(&rt, 2, SETTLED, "not confirmed at row 3\n", 1);
     expect_confirmation(&rt, 12, SETTLED, "not confirmed at row 1\n", 1);
 }
 
+/// Skews, what the explanation by each begins with, and the status.
+static EXPLAINED: [(u64, &str, u8); 4] = [
+    (0, HIDDEN, 1),
+    (2, HIDDEN, 1),
+    (
+        3,
+        "conforming\n\njudged: from instant 1 time 0 to instant 5 time 50\n",
+        0,
+    ),
+    (
+        12,
+        "conforming\n\njudged: from instant 3 time 40 to instant 3 time 40\n",
+        0,
+    ),
+];
+
 #[test]
 fn an_explanation_is_of_what_settled(rt: HostRuntime) {
-    for (skew, text) in [
-        (0, HIDDEN),
-        (2, HIDDEN),
-        (
-            3,
-            "conforming\n\njudged: from instant 1 time 0 to instant 5 time 50\n",
-        ),
-        (
-            12,
-            "conforming\n\njudged: from instant 3 time 40 to instant 3 time 40\n",
-        ),
-    ] {
-        let mut out = Page::new(rt.alloc(), 5000);
-        let mut err = Page::new(rt.alloc(), 100);
-        let _ended = explain(
-            rt.alloc(),
-            &mut Bytes::new(BUILT_IN),
-            &mut Bytes::new(DUMP.as_bytes()),
-            NAMES,
-            skew,
-            &mut out,
-            &mut err,
-        );
+    for (skew, text, status) in EXPLAINED.iter() {
         assert!(rt;
-            out.bytes.as_slice().starts_with(text.as_bytes()),
+            explains(rt.alloc(), BUILT_IN, DUMP, *skew, (text, *status), &[]),
             "by {skew}"
         );
-        assert!(rt; err.bytes.is_empty(), "by {skew}");
     }
 }
 
 /// The limit on blocks holds behind settling: of 4,097 steps two by two one is left.
 #[test]
 fn blocks_are_counted_behind_settling(rt: HostRuntime) -> Result<(), Fail> {
-    let mut dump = String::from_str(rt.alloc(), HEAD)?;
-    for time in 0..4097u32 {
-        let level = if time % 2 == 0 { "1" } else { "0" };
-        dump.push_str(format!(in rt.alloc(); "#{time} {level}p\n")?.as_str())?;
-    }
-    for (skew, text, status) in [
-        (0, "vmecheck: too many blocks\n", 3),
-        (1, "never idle\n", 2),
-    ] {
-        let mut page = Page::new(rt.alloc(), 100);
-        let mut other = Page::new(rt.alloc(), 100);
-        let (out, err) = if skew == 0 {
-            (&mut other, &mut page)
-        } else {
-            (&mut page, &mut other)
-        };
-        let ended = check(
-            &rt,
-            rt.alloc(),
-            &mut Bytes::new(BUILT_IN),
-            &mut Bytes::new(dump.as_bytes()),
-            1,
-            1,
-            skew,
-            out,
-            err,
-        );
-        expect_told(&rt, skew, &page, &other, text);
-        assert_eq!(rt; ended, status);
-    }
+    let dump = many_steps(rt.alloc(), HEAD)?;
+    let too_many = ("", "vmecheck: too many blocks\n", 3);
+    let never_idle = ("never idle\n", "", 2);
+    assert!(rt; checks(&rt, BUILT_IN, dump.as_bytes(), 1, 1, 0, too_many));
+    assert!(rt; checks(&rt, BUILT_IN, dump.as_bytes(), 1, 1, 1, never_idle));
     Ok(())
 }
 
 /// Run with each allocation refused in turn, this shows that the answer is then want of memory.
 #[test]
-fn want_of_memory_by_a_skew_is_told(rt: HostRuntime) -> Result<(), Fail> {
+fn want_of_memory_by_a_skew_is_told(rt: HostRuntime) {
     let (Ok(mut out), Ok(mut err)) = (
         Page::with_room(rt.alloc(), 200),
         Page::with_room(rt.alloc(), 200),
     ) else {
-        return Ok(());
+        return;
     };
     let ended = list(
         &rt,
@@ -262,12 +202,10 @@ fn want_of_memory_by_a_skew_is_told(rt: HostRuntime) -> Result<(), Fail> {
         &mut out,
         &mut err,
     );
-    if ended == 4 {
-        assert!(rt; out.bytes.is_empty());
-        assert!(rt; err.bytes.as_slice() == b"vmecheck: out of memory\n".as_slice());
+    let wanted = if ended == 4 {
+        ("", "vmecheck: out of memory\n", 4)
     } else {
-        assert!(rt; out.bytes.as_slice() == SETTLED.as_bytes());
-        assert!(rt; err.bytes.is_empty() && ended == 0);
-    }
-    Ok(())
+        (SETTLED, "", 0)
+    };
+    assert!(rt; has_told(&out, &err, ended, wanted));
 }

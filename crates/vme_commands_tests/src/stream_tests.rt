@@ -56,7 +56,7 @@ enum Command {
     Confirm,
 }
 
-const COMMANDS: [Command; 3] = [Command::Check, Command::List, Command::Confirm];
+static COMMANDS: [Command; 3] = [Command::Check, Command::List, Command::Confirm];
 
 /// A reader that gives so many bytes a read, is interrupted before each, and fails behind the last.
 #[derive(Drop)]
@@ -192,101 +192,130 @@ fn ended<R: AllocGlobal + Threads + Sync, B: Source, D: Source, L: Source>(
     }
 }
 
-fn expect_refusal<R: Abort + AllocGlobal + Threads + Sync, B: Source, D: Source, L: Source>(
+/// Whether a command writes nothing, and ends as refused with this text.
+fn refuses<R: AllocGlobal + Threads + Sync, B: Source, D: Source, L: Source>(
     rt: &R,
     command: Command,
     binding: &mut B,
     dump: &mut D,
     listing: &mut L,
     text: &str,
-) {
+) -> bool {
     let mut out = Page::new(rt.alloc(), 1000, 1000);
     let mut err = Page::new(rt.alloc(), 1000, 1000);
     let status = ended(rt, command, binding, dump, listing, &mut out, &mut err);
-    assert!(rt; out.bytes.is_empty());
-    assert!(rt; err.bytes.as_slice() == text.as_bytes(), "{text}");
-    assert_eq!(rt; status, 3);
+    out.bytes.is_empty() && err.bytes.as_slice() == text.as_bytes() && status == 3
+}
+
+/// Whether a command tells that the binding can't be read behind this place.
+fn tells_torn_binding<R: AllocGlobal + Threads + Sync>(
+    rt: &R,
+    command: Command,
+    text: &str,
+    place: usize,
+) -> bool {
+    let mut binding = torn_at(text, place, 1000);
+    let mut dump = Bytes::new(DUMP.as_bytes());
+    let mut listing = Bytes::new(LISTING.as_bytes());
+    let wanted = "vmecheck: cannot read binding\n";
+    refuses(rt, command, &mut binding, &mut dump, &mut listing, wanted)
 }
 
 #[test]
 fn torn_bindings(rt: HostRuntime) -> Result<(), Fail> {
     let text = str::from_utf8(BUILT_IN).ok().ok_or("no text")?;
-    for command in COMMANDS {
+    for command in COMMANDS.iter() {
         for place in 0..=text.len() {
-            let mut binding = torn_at(text, place, 1000);
-            let mut dump = Bytes::new(DUMP.as_bytes());
-            let mut listing = Bytes::new(LISTING.as_bytes());
-            let wanted = "vmecheck: cannot read binding\n";
-            expect_refusal(&rt, command, &mut binding, &mut dump, &mut listing, wanted);
+            assert!(rt;
+                tells_torn_binding(&rt, *command, text, place),
+                "at {place}"
+            );
         }
     }
     Ok(())
 }
 
+/// Whether a command tells that the dump from this source can't be read, or what else is wrong with it.
+fn tells_of_dump<R: AllocGlobal + Threads + Sync, D: Source>(
+    rt: &R,
+    command: Command,
+    dump: &mut D,
+    wanted: &str,
+) -> bool {
+    let mut binding = Bytes::new(BUILT_IN);
+    let mut listing = Bytes::new(LISTING.as_bytes());
+    refuses(rt, command, &mut binding, dump, &mut listing, wanted)
+}
+
 #[test]
 fn torn_dumps(rt: HostRuntime) {
-    for command in COMMANDS {
+    for command in COMMANDS.iter() {
         for place in 0..=DUMP.len() {
-            let mut binding = Bytes::new(BUILT_IN);
             let mut dump = torn_at(DUMP, place, 1);
-            let mut listing = Bytes::new(LISTING.as_bytes());
             let wanted = "vmecheck: cannot read dump\n";
-            expect_refusal(&rt, command, &mut binding, &mut dump, &mut listing, wanted);
+            assert!(rt;
+                tells_of_dump(&rt, *command, &mut dump, wanted),
+                "at {place}"
+            );
         }
     }
+}
+
+/// Whether the comparison tells that the listing can't be read behind this place.
+fn tells_torn_listing<R: AllocGlobal + Threads + Sync>(rt: &R, place: usize) -> bool {
+    let mut binding = Bytes::new(BUILT_IN);
+    let mut dump = Bytes::new(DUMP.as_bytes());
+    let mut listing = torn_at(LISTING, place, 7);
+    let wanted = "vmecheck: cannot read listing\n";
+    refuses(
+        rt,
+        Command::Confirm,
+        &mut binding,
+        &mut dump,
+        &mut listing,
+        wanted,
+    )
 }
 
 #[test]
 fn torn_listings(rt: HostRuntime) {
     for place in 0..=LISTING.len() {
-        let mut binding = Bytes::new(BUILT_IN);
-        let mut dump = Bytes::new(DUMP.as_bytes());
-        let mut listing = torn_at(LISTING, place, 7);
-        let wanted = "vmecheck: cannot read listing\n";
-        expect_refusal(
-            &rt,
-            Command::Confirm,
-            &mut binding,
-            &mut dump,
-            &mut listing,
-            wanted,
-        );
+        assert!(rt; tells_torn_listing(&rt, place), "at {place}");
     }
 }
 
-/// Dumps that are long, and too long to be read in pieces of this size or at all: 17,000,000 bytes, the most that there
-/// may be, one more, and as many as 64 bits can count. The reader with pieces of 1,000,000 fills its room.
+/// How many line feeds dumps have, how many come a read, and what is told of each: 17,000,000 bytes, the most that there
+/// may be, one more, and as many as 64 bits can count.
+static LONG_DUMPS: [(usize, usize, &str); 5] = [
+    (
+        17_000_000,
+        100_000,
+        "vmecheck: dump line 17000001: NoEndDefinitions\n",
+    ),
+    (
+        268_435_456,
+        1_000_000,
+        "vmecheck: dump line 268435457: NoEndDefinitions\n",
+    ),
+    (268_435_457, 1_000_000, "vmecheck: dump too long\n"),
+    (usize::MAX, 1, "vmecheck: cannot read dump\n"),
+    (usize::MAX, 1_000_000, "vmecheck: dump too long\n"),
+];
+
+/// Dumps that are long, and too long to be read in pieces of this size or at all. The reader with pieces of 1,000,000
+/// fills its room.
 #[test]
 fn long_dumps(rt: HostRuntime) {
-    for (left, piece, wanted) in [
-        (
-            17_000_000,
-            100_000,
-            "vmecheck: dump line 17000001: NoEndDefinitions\n",
-        ),
-        (
-            268_435_456,
-            1_000_000,
-            "vmecheck: dump line 268435457: NoEndDefinitions\n",
-        ),
-        (268_435_457, 1_000_000, "vmecheck: dump too long\n"),
-        (usize::MAX, 1, "vmecheck: cannot read dump\n"),
-        (usize::MAX, 1_000_000, "vmecheck: dump too long\n"),
-    ] {
-        let mut binding = Bytes::new(BUILT_IN);
-        let mut listing = Bytes::new(LISTING.as_bytes());
+    for (left, piece, wanted) in LONG_DUMPS.iter() {
         let mut line_feeds = LineFeeds {
-            left,
-            piece,
+            left: *left,
+            piece: *piece,
             least_room: usize::MAX,
         };
-        expect_refusal(
-            &rt,
-            Command::Check,
-            &mut binding,
-            &mut Io::new(&mut line_feeds),
-            &mut listing,
-            wanted,
+        let mut dump = Io::new(&mut line_feeds);
+        assert!(rt;
+            tells_of_dump(&rt, Command::Check, &mut dump, wanted),
+            "{wanted}"
         );
         assert!(rt; line_feeds.least_room >= 4_096, "{wanted}");
     }
@@ -294,18 +323,9 @@ fn long_dumps(rt: HostRuntime) {
 
 #[test]
 fn a_reader_that_is_interrupted_for_good(rt: HostRuntime) {
-    for command in COMMANDS {
-        let mut binding = Bytes::new(BUILT_IN);
-        let mut listing = Bytes::new(LISTING.as_bytes());
+    for command in COMMANDS.iter() {
         let wanted = "vmecheck: cannot read dump\n";
-        expect_refusal(
-            &rt,
-            command,
-            &mut binding,
-            &mut Io::new(Stuck),
-            &mut listing,
-            wanted,
-        );
+        assert!(rt; tells_of_dump(&rt, *command, &mut Io::new(Stuck), wanted));
     }
 }
 
@@ -323,22 +343,23 @@ fn a_writer_that_takes_nothing(rt: HostRuntime) {
         &mut Io::new(Deaf),
         &mut Io::new(&mut err),
     );
-    assert!(rt; err.bytes.as_slice() == b"vmecheck: cannot write\n".as_slice());
-    assert_eq!(rt; status, 5);
+    let told = b"vmecheck: cannot write\n".as_slice();
+    assert!(rt; err.bytes.as_slice() == told && status == 5);
 }
 
-/// What a command wrote to a page with so much room, and its status, which are a front of a text and this one.
-fn expect_front<R: Abort + AllocGlobal + Threads + Sync>(
+/// Whether what a command writes to a page with so much room is a front of a text, and this is told and its status.
+fn writes_front<R: AllocGlobal + Threads + Sync>(
     rt: &R,
     command: Command,
     dump: &str,
     text: &str,
     room: usize,
-    wanted: (&str, u8),
-) {
+    told: &str,
+    status: u8,
+) -> bool {
     let mut out = Page::new(rt.alloc(), room, 5);
     let mut err = Page::new(rt.alloc(), 1000, 1000);
-    let status = ended(
+    let ended = ended(
         rt,
         command,
         &mut Bytes::new(BUILT_IN),
@@ -347,12 +368,43 @@ fn expect_front<R: Abort + AllocGlobal + Threads + Sync>(
         &mut out,
         &mut err,
     );
+    Some(out.bytes.as_slice()) == text.as_bytes().get(..room)
+        && err.bytes.as_slice() == told.as_bytes()
+        && ended == status
+}
+
+/// Commands, whether their dump is one without the strobe, and what each writes and its status.
+static WRITTEN: [(Command, bool, &str, u8); 6] = [
+    (Command::Check, false, "conforming\n", 0),
+    (Command::List, false, LISTING, 0),
+    (Command::Confirm, false, "confirmed\n", 0),
+    (
+        Command::Check,
+        true,
+        "broken H4 at instant 3 time 30 line DTACK\n",
+        1,
+    ),
+    (Command::List, true, BROKEN, 1),
+    (Command::Confirm, true, "not confirmed at row 3\n", 1),
+];
+
+/// Expects that a command writes this where there is room for it, and as much as there is room for elsewhere.
+fn expect_fronts<R: Abort + AllocGlobal + Threads + Sync>(
+    rt: &R,
+    command: Command,
+    dump: &str,
+    text: &str,
+    status: u8,
+) {
+    let full = "vmecheck: cannot write\n";
+    for room in 0..text.len() {
+        assert!(rt;
+            writes_front(rt, command, dump, text, room, full, 5),
+            "{text}"
+        );
+    }
     assert!(rt;
-        Some(out.bytes.as_slice()) == text.as_bytes().get(..room),
-        "{text}"
-    );
-    assert!(rt;
-        (err.bytes.as_slice(), status) == (wanted.0.as_bytes(), wanted.1),
+        writes_front(rt, command, dump, text, text.len(), "", status),
         "{text}"
     );
 }
@@ -360,35 +412,9 @@ fn expect_front<R: Abort + AllocGlobal + Threads + Sync>(
 #[test]
 fn full_pages(rt: HostRuntime) -> Result<(), Fail> {
     let broken = DUMP.replace(rt.alloc(), "#20 0q\n", "")?;
-    for (command, dump, text, status) in [
-        (Command::Check, DUMP, "conforming\n", 0),
-        (Command::List, DUMP, LISTING, 0),
-        (Command::Confirm, DUMP, "confirmed\n", 0),
-        (
-            Command::Check,
-            broken.as_str(),
-            "broken H4 at instant 3 time 30 line DTACK\n",
-            1,
-        ),
-        (Command::List, broken.as_str(), BROKEN, 1),
-        (
-            Command::Confirm,
-            broken.as_str(),
-            "not confirmed at row 3\n",
-            1,
-        ),
-    ] {
-        for room in 0..text.len() {
-            expect_front(
-                &rt,
-                command,
-                dump,
-                text,
-                room,
-                ("vmecheck: cannot write\n", 5),
-            );
-        }
-        expect_front(&rt, command, dump, text, text.len(), ("", status));
+    for (command, is_broken, text, status) in WRITTEN.iter() {
+        let dump = if *is_broken { broken.as_str() } else { DUMP };
+        expect_fronts(&rt, *command, dump, text, *status);
     }
     Ok(())
 }

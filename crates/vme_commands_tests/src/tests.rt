@@ -1,4 +1,4 @@
-ghost use Rattle.std.specs.Prelude.{◌≤◌, None};
+ghost use Rattle.std.specs.Prelude.{◌≤◌, IfSome, None};
 
 use std::alloc::{AllocError, Global};
 use std::io::{self, Error, Read};
@@ -27,6 +27,9 @@ pub(crate) const NAMES: InputNames<'static> = InputNames {
     binding: b"bus.bind",
     dump: b"b.vcd",
 };
+
+/// The head of a dump with one variable of one bit.
+const ONE_BIT: &str = "$var wire 1 p AS $end\n$enddefinitions $end\n";
 
 /// A dump with no path of the built-in binding.
 const UNBOUND: &str = "$enddefinitions $end\n";
@@ -93,14 +96,28 @@ impl Read for Broken {
     }
 }
 
-/// What the check of a dump by a binding writes, and its status.
-fn check_text<R: AllocGlobal + Threads + Sync>(
+/// What a command writes and tells, and its status.
+pub(crate) type Wanted<'a> = (&'a str, &'a str, u8);
+
+/// Whether a command wrote and told this.
+pub(crate) fn has_told(out: &Page, err: &Page, status: u8, wanted: Wanted<'_>) -> bool {
+    let (text, told, ended) = wanted;
+    out.bytes.as_slice() == text.as_bytes()
+        && err.bytes.as_slice() == told.as_bytes()
+        && status == ended
+}
+
+/// Whether this is written and told of the check of a dump by a binding.
+pub(crate) fn checks<R: AllocGlobal + Threads + Sync>(
     rt: &R,
     binding: &[u8],
     dump: &[u8],
     block: u32,
-) -> (Page, Page, u8)
-    requires { (1 ≤ block) × (block ≤ 65536) }
+    workers: u32,
+    skew: u64,
+    wanted: Wanted<'_>,
+) -> bool
+    requires { (1 ≤ block) × (block ≤ 65536) × (1 ≤ workers) × (workers ≤ 64) }
 {
     let mut out = Page::new(rt.alloc(), 1000);
     let mut err = Page::new(rt.alloc(), 1000);
@@ -110,12 +127,12 @@ fn check_text<R: AllocGlobal + Threads + Sync>(
         &mut Bytes::new(binding),
         &mut Bytes::new(dump),
         block,
-        1,
-        0,
+        workers,
+        skew,
         &mut out,
         &mut err,
     );
-    (out, err, status)
+    has_told(&out, &err, status, wanted)
 }
 
 fn expect_verdict<R: Abort + AllocGlobal + Threads + Sync>(
@@ -124,24 +141,19 @@ fn expect_verdict<R: Abort + AllocGlobal + Threads + Sync>(
     text: &str,
     status: u8,
 ) {
-    expect_in_blocks(rt, dump, 1, text, status);
-    expect_in_blocks(rt, dump, 3, text, status);
-    expect_in_blocks(rt, dump, BLOCK, text, status);
-}
-
-fn expect_in_blocks<R: Abort + AllocGlobal + Threads + Sync>(
-    rt: &R,
-    dump: &str,
-    block: u32,
-    text: &str,
-    status: u8,
-)
-    requires { (1 ≤ block) × (block ≤ 65536) }
-{
-    let (out, err, ended) = check_text(rt, BUILT_IN, dump.as_bytes(), block);
-    assert!(rt; out.bytes.as_slice() == text.as_bytes(), "{dump}");
-    assert!(rt; err.bytes.is_empty());
-    assert_eq!(rt; ended, status);
+    let wanted = (text, "", status);
+    assert!(rt;
+        checks(rt, BUILT_IN, dump.as_bytes(), 1, 1, 0, wanted),
+        "{dump}"
+    );
+    assert!(rt;
+        checks(rt, BUILT_IN, dump.as_bytes(), 3, 1, 0, wanted),
+        "{dump}"
+    );
+    assert!(rt;
+        checks(rt, BUILT_IN, dump.as_bytes(), BLOCK, 1, 0, wanted),
+        "{dump}"
+    );
 }
 
 fn expect_refusal<R: Abort + AllocGlobal + Threads + Sync>(
@@ -150,10 +162,11 @@ fn expect_refusal<R: Abort + AllocGlobal + Threads + Sync>(
     dump: &str,
     text: &str,
 ) {
-    let (out, err, ended) = check_text(rt, binding.as_bytes(), dump.as_bytes(), BLOCK);
-    assert!(rt; out.bytes.is_empty());
-    assert!(rt; err.bytes.as_slice() == text.as_bytes(), "{text}");
-    assert_eq!(rt; ended, 3);
+    let wanted = ("", text, 3);
+    assert!(rt;
+        checks(rt, binding.as_bytes(), dump.as_bytes(), BLOCK, 1, 0, wanted),
+        "{text}"
+    );
 }
 
 fn dump_of(alloc: Global, head: &str, body: &str) -> Result<String, AllocError> {
@@ -162,93 +175,103 @@ fn dump_of(alloc: Global, head: &str, body: &str) -> Result<String, AllocError> 
     Ok(dump)
 }
 
+/// Bodies of dumps, and the line and the status of the verdict on each.
+static VERDICTS: [(&str, &str, u8); 5] = [
+    (BODY, "conforming\n", 0),
+    ("", "never idle\n", 2),
+    (
+        "#0 1p 1q 1r 1s 1t 1u\n#10 0p\n#20 0s\n#40 1p 1q\n#50 1s\n",
+        "broken H4 at instant 3 time 20 line DTACK\n",
+        1,
+    ),
+    (
+        "#0 1p 1q 1r 1s 1t 1u\n#10 xp\n#20 0q\n#30 0s\n#40 1p 1q\n#50 1s\n",
+        "unreadable U1 at instant 2 time 10 line AS\n",
+        2,
+    ),
+    (
+        "#0 1p 1q 1r 1s 1t 1u\n#10 0p\n#20 0q\n#25 $dumpoff xp xq xr xs xt xu $end\n#30 0s\n#40 1p 1q\n#50 1s\n",
+        "unreadable U1 at instant 4 time 25 line AS\n",
+        2,
+    ),
+];
+
 #[test]
 fn verdicts(rt: HostRuntime) -> Result<(), Fail> {
-    for (body, text, status) in [
-        (BODY, "conforming\n", 0),
-        ("", "never idle\n", 2),
-        (
-            "#0 1p 1q 1r 1s 1t 1u\n#10 0p\n#20 0s\n#40 1p 1q\n#50 1s\n",
-            "broken H4 at instant 3 time 20 line DTACK\n",
-            1,
-        ),
-        (
-            "#0 1p 1q 1r 1s 1t 1u\n#10 xp\n#20 0q\n#30 0s\n#40 1p 1q\n#50 1s\n",
-            "unreadable U1 at instant 2 time 10 line AS\n",
-            2,
-        ),
-        (
-            "#0 1p 1q 1r 1s 1t 1u\n#10 0p\n#20 0q\n#25 $dumpoff xp xq xr xs xt xu $end\n#30 0s\n#40 1p 1q\n#50 1s\n",
-            "unreadable U1 at instant 4 time 25 line AS\n",
-            2,
-        ),
-    ] {
+    for (body, text, status) in VERDICTS.iter() {
         let dump = dump_of(rt.alloc(), HEAD, body)?;
-        expect_verdict(&rt, dump.as_str(), text, status);
+        expect_verdict(&rt, dump.as_str(), text, *status);
     }
     Ok(())
 }
 
-/// What the listing of a dump by the built-in binding writes, and its status.
-fn list_text<R: AllocGlobal + Threads + Sync>(
+/// Whether this is written and told of the listing of a dump by a binding.
+pub(crate) fn lists<R: AllocGlobal + Threads + Sync>(
     rt: &R,
+    binding: &[u8],
     dump: &[u8],
     block: u32,
-    room: usize,
-) -> (Page, Page, u8)
-    requires { (1 ≤ block) × (block ≤ 65536) }
+    workers: u32,
+    skew: u64,
+    wanted: Wanted<'_>,
+) -> bool
+    requires { (1 ≤ block) × (block ≤ 65536) × (1 ≤ workers) × (workers ≤ 64) }
 {
-    let mut out = Page::new(rt.alloc(), room);
+    let mut out = Page::new(rt.alloc(), 1000);
     let mut err = Page::new(rt.alloc(), 1000);
     let status = list(
         rt,
         rt.alloc(),
-        &mut Bytes::new(BUILT_IN),
+        &mut Bytes::new(binding),
         &mut Bytes::new(dump),
         block,
-        1,
-        0,
+        workers,
+        skew,
         &mut out,
         &mut err,
     );
-    (out, err, status)
+    has_told(&out, &err, status, wanted)
 }
 
 fn expect_listing<R: Abort + AllocGlobal + Threads + Sync>(
     rt: &R,
     dump: &str,
-    block: u32,
     text: &str,
     status: u8,
-)
-    requires { (1 ≤ block) × (block ≤ 65536) }
-{
-    let (out, err, ended) = list_text(rt, dump.as_bytes(), block, 1000);
-    assert!(rt; out.bytes.as_slice() == text.as_bytes(), "{dump}");
-    assert!(rt; err.bytes.is_empty());
-    assert_eq!(rt; ended, status);
+) {
+    let wanted = (text, "", status);
+    assert!(rt;
+        lists(rt, BUILT_IN, dump.as_bytes(), 1, 1, 0, wanted),
+        "{dump}"
+    );
+    assert!(rt;
+        lists(rt, BUILT_IN, dump.as_bytes(), BLOCK, 1, 0, wanted),
+        "{dump}"
+    );
 }
+
+/// Bodies of dumps, and the listing of each and its status.
+static LISTINGS: [(&str, &str, u8); 4] = [
+    (BODY, LISTING, 0),
+    ("", "vmecheck listing 3\nverdict never-idle\n", 2),
+    (
+        "#0 1p 1q 1r 1s 1t 1u\n#10 0p\n#20 0s\n#40 1p 1q\n#50 1s\n",
+        "vmecheck listing 3\nstart 1\ntenure 1 open end -\ncycle 2 S 3D FFFFFE end -\n\
+verdict broken H4 3 DTACK\n",
+        1,
+    ),
+    (
+        "#0 1p 1q 1r 1s 1t 1u\n#10 xp\n#20 0q\n#30 0s\n#40 1p 1q\n#50 1s\n",
+        "vmecheck listing 3\nstart 1\ntenure 1 open end -\nverdict unreadable U1 2 AS\n",
+        2,
+    ),
+];
 
 #[test]
 fn listings(rt: HostRuntime) -> Result<(), Fail> {
-    for (body, text, status) in [
-        (BODY, LISTING, 0),
-        ("", "vmecheck listing 3\nverdict never-idle\n", 2),
-        (
-            "#0 1p 1q 1r 1s 1t 1u\n#10 0p\n#20 0s\n#40 1p 1q\n#50 1s\n",
-            "vmecheck listing 3\nstart 1\ntenure 1 open end -\ncycle 2 S 3D FFFFFE end -\n\
-verdict broken H4 3 DTACK\n",
-            1,
-        ),
-        (
-            "#0 1p 1q 1r 1s 1t 1u\n#10 xp\n#20 0q\n#30 0s\n#40 1p 1q\n#50 1s\n",
-            "vmecheck listing 3\nstart 1\ntenure 1 open end -\nverdict unreadable U1 2 AS\n",
-            2,
-        ),
-    ] {
+    for (body, text, status) in LISTINGS.iter() {
         let dump = dump_of(rt.alloc(), HEAD, body)?;
-        expect_listing(&rt, dump.as_str(), 1, text, status);
-        expect_listing(&rt, dump.as_str(), BLOCK, text, status);
+        expect_listing(&rt, dump.as_str(), text, *status);
         expect_confirmation(&rt, dump.as_str(), text, "confirmed\n", 0);
     }
     Ok(())
@@ -261,42 +284,31 @@ const RESET_LISTING: &str =
     "vmecheck listing 3\nstart 1\ntenure 1 open end -\ncycle 2 S 3D FFFFFE end -\n\
 transfer 3 read pending\nreset 4\nstart 6\ntenure 6 open end -\nverdict conforming\n";
 
+/// A dump of that read.
+fn reset_dump(alloc: Global) -> Result<String, AllocError> {
+    let head = HEAD.replace(alloc, "$upscope", "$var wire 1 v SYSRESET $end\n$upscope")?;
+    dump_of(alloc, head.as_str(), RESET_BODY)
+}
+
+/// The built-in binding, and the system reset.
+fn reset_binding(alloc: Global) -> Result<String, Fail> {
+    let text = str::from_utf8(BUILT_IN).ok().ok_or("no text")?;
+    Ok(dump_of(alloc, text, "SYSRESET = bus.SYSRESET\n")?)
+}
+
+/// Expects a listing of that read, which is confirmed.
+fn expect_reset<R: Abort + AllocGlobal + Threads + Sync>(rt: &R, binding: &[u8], dump: &[u8]) {
+    assert!(rt; lists(rt, binding, dump, 1, 1, 0, (RESET_LISTING, "", 0)));
+    let mut listing = Bytes::new(RESET_LISTING.as_bytes());
+    let confirmed = ("confirmed\n", "", 0);
+    assert!(rt; confirms(rt.alloc(), binding, dump, &mut listing, 0, confirmed));
+}
+
 #[test]
 fn a_reset_ends_what_is_judged(rt: HostRuntime) -> Result<(), Fail> {
-    let head = HEAD.replace(
-        rt.alloc(),
-        "$upscope",
-        "$var wire 1 v SYSRESET $end\n$upscope",
-    )?;
-    let dump = dump_of(rt.alloc(), head.as_str(), RESET_BODY)?;
-    let text = str::from_utf8(BUILT_IN).ok().ok_or("no text")?;
-    let binding = dump_of(rt.alloc(), text, "SYSRESET = bus.SYSRESET\n")?;
-    let mut out = Page::new(rt.alloc(), 1000);
-    let mut err = Page::new(rt.alloc(), 1000);
-    let status = list(
-        &rt,
-        rt.alloc(),
-        &mut Bytes::new(binding.as_bytes()),
-        &mut Bytes::new(dump.as_bytes()),
-        1,
-        1,
-        0,
-        &mut out,
-        &mut err,
-    );
-    assert!(rt; out.bytes.as_slice() == RESET_LISTING.as_bytes());
-    assert!(rt; err.bytes.is_empty());
-    assert_eq!(rt; status, 0);
-    let mut listing = Bytes::new(RESET_LISTING.as_bytes());
-    let (out, _, status) = confirm_text(
-        rt.alloc(),
-        binding.as_bytes(),
-        dump.as_bytes(),
-        &mut listing,
-        1000,
-    );
-    assert!(rt; out.bytes.as_slice() == b"confirmed\n".as_slice());
-    assert_eq!(rt; status, 0);
+    let dump = reset_dump(rt.alloc())?;
+    let binding = reset_binding(rt.alloc())?;
+    expect_reset(&rt, binding.as_bytes(), dump.as_bytes());
     let unbound = "broken H2 at instant 4 time 30 line DS0\n";
     expect_verdict(&rt, dump.as_str(), unbound, 1);
     Ok(())
@@ -312,26 +324,27 @@ fn older_listings_are_confirmed(rt: HostRuntime) -> Result<(), Fail> {
     Ok(())
 }
 
-/// What the comparison of a listing with that of a dump writes, and its status.
-fn confirm_text<L: Source>(
+/// Whether this is written and told of the comparison of a listing with that of a dump.
+pub(crate) fn confirms<L: Source>(
     alloc: Global,
     binding: &[u8],
     dump: &[u8],
     listing: &mut L,
-    room: usize,
-) -> (Page, Page, u8) {
-    let mut out = Page::new(alloc, room);
+    skew: u64,
+    wanted: Wanted<'_>,
+) -> bool {
+    let mut out = Page::new(alloc, 1000);
     let mut err = Page::new(alloc, 1000);
     let status = confirm_with(
         alloc,
         &mut Bytes::new(binding),
         &mut Bytes::new(dump),
         listing,
-        0,
+        skew,
         &mut out,
         &mut err,
     );
-    (out, err, status)
+    has_told(&out, &err, status, wanted)
 }
 
 fn expect_confirmation<R: Abort + AllocGlobal>(
@@ -342,40 +355,51 @@ fn expect_confirmation<R: Abort + AllocGlobal>(
     status: u8,
 ) {
     let mut listing = Bytes::new(listing.as_bytes());
-    let (out, err, ended) = confirm_text(rt.alloc(), BUILT_IN, dump.as_bytes(), &mut listing, 1000);
-    assert!(rt; out.bytes.as_slice() == text.as_bytes(), "{text}");
-    assert!(rt; err.bytes.is_empty());
-    assert_eq!(rt; ended, status);
+    let wanted = (text, "", status);
+    assert!(rt;
+        confirms(
+            rt.alloc(),
+            BUILT_IN,
+            dump.as_bytes(),
+            &mut listing,
+            0,
+            wanted
+        ),
+        "{text}"
+    );
 }
+
+/// What stands in the listing in place of what, and what is told of it.
+static UNCONFIRMED: [(&str, &str, &str); 6] = [
+    ("tenure 1 open end -\n", "", "not confirmed at row 2\n"),
+    (
+        "cycle 2 S 3D FFFFFE end 5\n",
+        "",
+        "not confirmed at row 3\n",
+    ),
+    (
+        "FFFFFE end 5\n",
+        "FFFFFE end 4294967295\n",
+        "not confirmed at row 3\n",
+    ),
+    ("close 5", "close 6", "not confirmed at row 4\n"),
+    (
+        "conforming",
+        "broken H4 3 DTACK",
+        "not confirmed at row 5\n",
+    ),
+    (
+        "verdict",
+        "transfer 6 read pending\nverdict",
+        "not confirmed at row 5\n",
+    ),
+];
 
 #[test]
 fn confirmations(rt: HostRuntime) -> Result<(), Fail> {
     let dump = dump_of(rt.alloc(), HEAD, BODY)?;
-    for (old, new, text) in [
-        ("tenure 1 open end -\n", "", "not confirmed at row 2\n"),
-        (
-            "cycle 2 S 3D FFFFFE end 5\n",
-            "",
-            "not confirmed at row 3\n",
-        ),
-        (
-            "FFFFFE end 5\n",
-            "FFFFFE end 4294967295\n",
-            "not confirmed at row 3\n",
-        ),
-        ("close 5", "close 6", "not confirmed at row 4\n"),
-        (
-            "conforming",
-            "broken H4 3 DTACK",
-            "not confirmed at row 5\n",
-        ),
-        (
-            "verdict",
-            "transfer 6 read pending\nverdict",
-            "not confirmed at row 5\n",
-        ),
-    ] {
-        let listing = LISTING.replace(rt.alloc(), old, new)?;
+    for (old, new, text) in UNCONFIRMED.iter() {
+        let listing = LISTING.replace(rt.alloc(), *old, *new)?;
         expect_confirmation(&rt, dump.as_str(), listing.as_str(), text, 1);
     }
     Ok(())
@@ -388,62 +412,84 @@ fn expect_unconfirmed<R: Abort + AllocGlobal, L: Source>(
     listing: &mut L,
     text: &str,
 ) {
-    let (out, err, ended) = confirm_text(rt.alloc(), binding, dump.as_bytes(), listing, 1000);
-    assert!(rt; out.bytes.is_empty());
-    assert!(rt; err.bytes.as_slice() == text.as_bytes(), "{text}");
-    assert_eq!(rt; ended, 3);
+    let wanted = ("", text, 3);
+    assert!(rt;
+        confirms(rt.alloc(), binding, dump.as_bytes(), listing, 0, wanted),
+        "{text}"
+    );
 }
+
+/// What stands in the listing in place of what, and the fault that is told.
+static LISTING_FAULTS: [(&str, &str, &str); 5] = [
+    (LISTING, "", "vmecheck: listing header\n"),
+    ("listing 3", "listing 4", "vmecheck: listing header\n"),
+    (
+        "verdict conforming\n",
+        "",
+        "vmecheck: listing row 5: BadRow\n",
+    ),
+    ("S 3D", "K 3D", "vmecheck: listing row 3: BadRow\n"),
+    ("cycle 2", "cycle 0", "vmecheck: listing row 3: Unsorted\n"),
+];
 
 #[test]
 fn listing_faults(rt: HostRuntime) -> Result<(), Fail> {
     let dump = dump_of(rt.alloc(), HEAD, BODY)?;
-    for (old, new, text) in [
-        (LISTING, "", "vmecheck: listing header\n"),
-        ("listing 3", "listing 4", "vmecheck: listing header\n"),
-        (
-            "verdict conforming\n",
-            "",
-            "vmecheck: listing row 5: BadRow\n",
-        ),
-        ("S 3D", "K 3D", "vmecheck: listing row 3: BadRow\n"),
-        ("cycle 2", "cycle 0", "vmecheck: listing row 3: Unsorted\n"),
-    ] {
-        let listing = LISTING.replace(rt.alloc(), old, new)?;
+    for (old, new, text) in LISTING_FAULTS.iter() {
+        let listing = LISTING.replace(rt.alloc(), *old, *new)?;
         let mut listing = Bytes::new(listing.as_bytes());
         expect_unconfirmed(&rt, BUILT_IN, dump.as_str(), &mut listing, text);
     }
     Ok(())
 }
 
-#[test]
-fn listing_is_read_last(rt: HostRuntime) -> Result<(), Fail> {
-    let dump = dump_of(rt.alloc(), HEAD, BODY)?;
-    let bad_binding = b"slots 22".as_slice();
-    for (binding, dump, text, reads) in [
-        (bad_binding, "", "vmecheck: binding line 1: SlotsFirst\n", 0),
-        (BUILT_IN, "", "vmecheck: dump line 1: NoEndDefinitions\n", 0),
-        (BUILT_IN, UNBOUND, "vmecheck: cannot read listing\n", 1),
-        (
-            BUILT_IN,
-            dump.as_str(),
-            "vmecheck: cannot read listing\n",
-            1,
-        ),
-    ] {
-        let mut broken = Broken { reads: 0 };
-        let mut listing = Io::new(&mut broken);
-        expect_unconfirmed(&rt, binding, dump, &mut listing, text);
-        assert_eq!(rt; broken.reads, reads, "{text}");
-    }
-    Ok(())
+/// Expects that this is told, and so many reads of the listing are made, each of which fails.
+fn expect_reads<R: Abort + AllocGlobal>(
+    rt: &R,
+    binding: &[u8],
+    dump: &str,
+    text: &str,
+    reads: u32,
+) {
+    let mut broken = Broken { reads: 0 };
+    let mut listing = Io::new(&mut broken);
+    expect_unconfirmed(rt, binding, dump, &mut listing, text);
+    assert!(rt; broken.reads == reads, "{text}");
 }
 
 #[test]
+fn listing_is_read_last(rt: HostRuntime) -> Result<(), Fail> {
+    let dump = dump_of(rt.alloc(), HEAD, BODY)?;
+    let unreadable = "vmecheck: cannot read listing\n";
+    let bad_binding = b"slots 22".as_slice();
+    expect_reads(
+        &rt,
+        bad_binding,
+        "",
+        "vmecheck: binding line 1: SlotsFirst\n",
+        0,
+    );
+    expect_reads(
+        &rt,
+        BUILT_IN,
+        "",
+        "vmecheck: dump line 1: NoEndDefinitions\n",
+        0,
+    );
+    expect_reads(&rt, BUILT_IN, UNBOUND, unreadable, 1);
+    expect_reads(&rt, BUILT_IN, dump.as_str(), unreadable, 1);
+    Ok(())
+}
+
+/// Listings of the dump that has no path, and what is told of each.
+static UNBOUND_LISTINGS: [(&str, &str); 2] = [
+    ("", "vmecheck: listing header\n"),
+    (LISTING, "vmecheck: binding line 2: NoSuchPath\n"),
+];
+
+#[test]
 fn binding_that_makes_no_recording_is_told_last(rt: HostRuntime) {
-    for (listing, text) in [
-        ("", "vmecheck: listing header\n"),
-        (LISTING, "vmecheck: binding line 2: NoSuchPath\n"),
-    ] {
+    for (listing, text) in UNBOUND_LISTINGS.iter() {
         let mut listing = Bytes::new(listing.as_bytes());
         expect_unconfirmed(&rt, BUILT_IN, UNBOUND, &mut listing, text);
     }
@@ -468,13 +514,12 @@ fn want_of_memory_is_told(rt: HostRuntime) {
         &mut out,
         &mut err,
     );
-    if ended == 4 {
-        assert!(rt; out.bytes.is_empty());
-        assert!(rt; err.bytes.as_slice() == b"vmecheck: out of memory\n".as_slice());
+    let wanted = if ended == 4 {
+        ("", "vmecheck: out of memory\n", 4)
     } else {
-        assert!(rt; out.bytes.as_slice() == b"confirmed\n".as_slice());
-        assert!(rt; err.bytes.is_empty() && ended == 0);
-    }
+        ("confirmed\n", "", 0)
+    };
+    assert!(rt; has_told(&out, &err, ended, wanted));
 }
 
 #[test]
@@ -487,117 +532,134 @@ $var wire 1 t BERR $end $var wire 1 u IACK $end $enddefinitions $end\n";
     Ok(())
 }
 
+/// The head and the rest of dumps, and the fault that is told of each.
+static DUMP_FAULTS: [(&str, &str, &str); 11] = [
+    (ONE_BIT, "1q", "vmecheck: dump line 3: UndeclaredCode\n"),
+    (ONE_BIT, "b10 p", "vmecheck: dump line 3: TooWide\n"),
+    (ONE_BIT, "#5\n#4", "vmecheck: dump line 4: TimeBackwards\n"),
+    (
+        ONE_BIT,
+        "#18446744073709551616",
+        "vmecheck: dump line 3: NumberTooLarge\n",
+    ),
+    (ONE_BIT, "2p", "vmecheck: dump line 3: BadToken\n"),
+    (
+        ONE_BIT,
+        "$dumpvars 1p",
+        "vmecheck: dump line 3: UnfinishedSection\n",
+    ),
+    (
+        "",
+        "$upscope $end",
+        "vmecheck: dump line 1: ScopeUnderflow\n",
+    ),
+    ("", "$var wire 1 p $end", "vmecheck: dump line 1: BadVar\n"),
+    (
+        "",
+        "$var wire 1 p AS $end\n",
+        "vmecheck: dump line 2: NoEndDefinitions\n",
+    ),
+    (
+        "$var wire 1 p AS $end\n",
+        "$var wire 2 p B $end",
+        "vmecheck: dump line 2: SizeConflict\n",
+    ),
+    ("", "", "vmecheck: dump line 1: NoEndDefinitions\n"),
+];
+
 #[test]
 fn dump_faults(rt: HostRuntime) -> Result<(), Fail> {
-    let head = "$var wire 1 p AS $end\n$enddefinitions $end\n";
-    for (head, body, text) in [
-        (head, "1q", "vmecheck: dump line 3: UndeclaredCode\n"),
-        (head, "b10 p", "vmecheck: dump line 3: TooWide\n"),
-        (head, "#5\n#4", "vmecheck: dump line 4: TimeBackwards\n"),
-        (
-            head,
-            "#18446744073709551616",
-            "vmecheck: dump line 3: NumberTooLarge\n",
-        ),
-        (head, "2p", "vmecheck: dump line 3: BadToken\n"),
-        (
-            head,
-            "$dumpvars 1p",
-            "vmecheck: dump line 3: UnfinishedSection\n",
-        ),
-        (
-            "",
-            "$upscope $end",
-            "vmecheck: dump line 1: ScopeUnderflow\n",
-        ),
-        ("", "$var wire 1 p $end", "vmecheck: dump line 1: BadVar\n"),
-        (
-            "",
-            "$var wire 1 p AS $end\n",
-            "vmecheck: dump line 2: NoEndDefinitions\n",
-        ),
-        (
-            "$var wire 1 p AS $end\n",
-            "$var wire 2 p B $end",
-            "vmecheck: dump line 2: SizeConflict\n",
-        ),
-        ("", "", "vmecheck: dump line 1: NoEndDefinitions\n"),
-    ] {
+    let binding = str::from_utf8(BUILT_IN).ok().ok_or("no text")?;
+    for (head, body, text) in DUMP_FAULTS.iter() {
         let dump = dump_of(rt.alloc(), head, body)?;
-        let (out, err, ended) = check_text(&rt, BUILT_IN, dump.as_bytes(), BLOCK);
-        assert!(rt; out.bytes.is_empty());
-        assert!(rt; err.bytes.as_slice() == text.as_bytes(), "{text}");
-        assert_eq!(rt; ended, 3);
+        expect_refusal(&rt, binding, dump.as_str(), text);
     }
     Ok(())
 }
 
+/// Bindings, and the fault that is told of each.
+static BINDING_FAULTS: [(&str, &str); 6] = [
+    ("AS = 0", "vmecheck: binding line 1: SlotsFirst\n"),
+    ("slots 22", "vmecheck: binding line 1: SlotsFirst\n"),
+    (
+        "slots 1\nBG0.2 = 1",
+        "vmecheck: binding line 2: UnknownName\n",
+    ),
+    ("slots 1\nAS 0", "vmecheck: binding line 2: BadLine\n"),
+    (
+        "slots 1\nAM = 1\nAM3 = 0",
+        "vmecheck: binding line 3: NamedTwice\n",
+    ),
+    ("slots 1\n", "vmecheck: binding line 2: Unbound AS\n"),
+];
+
 #[test]
 fn binding_faults(rt: HostRuntime) {
-    for (binding, text) in [
-        ("AS = 0", "vmecheck: binding line 1: SlotsFirst\n"),
-        ("slots 22", "vmecheck: binding line 1: SlotsFirst\n"),
-        (
-            "slots 1\nBG0.2 = 1",
-            "vmecheck: binding line 2: UnknownName\n",
-        ),
-        ("slots 1\nAS 0", "vmecheck: binding line 2: BadLine\n"),
-        (
-            "slots 1\nAM = 1\nAM3 = 0",
-            "vmecheck: binding line 3: NamedTwice\n",
-        ),
-        ("slots 1\n", "vmecheck: binding line 2: Unbound AS\n"),
-    ] {
+    for (binding, text) in BINDING_FAULTS.iter() {
         expect_refusal(&rt, binding, "", text);
     }
 }
 
+/// What stands in the head of the dump in place of what, and what is told.
+static OTHER_HEADS: [(&str, &str, &str); 2] = [
+    (
+        "$var wire 1 p AS $end\n",
+        "",
+        "vmecheck: binding line 2: NoSuchPath\n",
+    ),
+    (
+        "$upscope",
+        "$var wire 1 v AS $end $upscope",
+        "vmecheck: binding line 2: AmbiguousPath\n",
+    ),
+];
+
+/// What stands in the built-in binding in place of what, and what is told.
+static OTHER_BINDINGS: [(&str, &str, &str); 2] = [
+    (
+        "= bus.AS\n",
+        "= bus.AS[3]\n",
+        "vmecheck: binding line 2: NoSuchPath\n",
+    ),
+    (
+        "BR = 1\n",
+        "BR = bus.AS\n",
+        "vmecheck: binding line 18: WrongWidth\n",
+    ),
+];
+
 #[test]
 fn paths(rt: HostRuntime) -> Result<(), Fail> {
     let built_in = str::from_utf8(BUILT_IN).ok().ok_or("no text")?;
-    let v = dump_of(rt.alloc(), HEAD, BODY)?;
-    let no_as = HEAD.replace(rt.alloc(), "$var wire 1 p AS $end\n", "")?;
-    expect_refusal(
-        &rt,
-        built_in,
-        no_as.as_str(),
-        "vmecheck: binding line 2: NoSuchPath\n",
-    );
-    let two = HEAD.replace(rt.alloc(), "$upscope", "$var wire 1 v AS $end $upscope")?;
-    expect_refusal(
-        &rt,
-        built_in,
-        two.as_str(),
-        "vmecheck: binding line 2: AmbiguousPath\n",
-    );
-    let indexed = built_in.replace(rt.alloc(), "= bus.AS\n", "= bus.AS[3]\n")?;
-    expect_refusal(
-        &rt,
-        indexed.as_str(),
-        v.as_str(),
-        "vmecheck: binding line 2: NoSuchPath\n",
-    );
-    let narrow = built_in.replace(rt.alloc(), "BR = 1\n", "BR = bus.AS\n")?;
-    expect_refusal(
-        &rt,
-        narrow.as_str(),
-        v.as_str(),
-        "vmecheck: binding line 18: WrongWidth\n",
-    );
+    for (old, new, text) in OTHER_HEADS.iter() {
+        let head = HEAD.replace(rt.alloc(), *old, *new)?;
+        expect_refusal(&rt, built_in, head.as_str(), text);
+    }
+    let dump = dump_of(rt.alloc(), HEAD, BODY)?;
+    for (old, new, text) in OTHER_BINDINGS.iter() {
+        let binding = built_in.replace(rt.alloc(), *old, *new)?;
+        expect_refusal(&rt, binding.as_str(), dump.as_str(), text);
+    }
     Ok(())
+}
+
+/// A dump of 4,097 steps, behind a head.
+pub(crate) fn many_steps(alloc: Global, head: &str) -> Result<String, Fail> {
+    let mut dump = String::from_str(alloc, head)?;
+    for time in 0..4097u32 {
+        let level = if time % 2 == 0 { "1" } else { "0" };
+        dump.push_str(format!(in alloc; "#{time} {level}p\n")?.as_str())?;
+    }
+    Ok(dump)
 }
 
 #[test]
 fn blocks(rt: HostRuntime) -> Result<(), Fail> {
-    let mut dump = dump_of(rt.alloc(), HEAD, "")?;
-    for time in 0..4097u32 {
-        let level = if time % 2 == 0 { "1" } else { "0" };
-        dump.push_str(format!(in rt.alloc(); "#{time} {level}p\n")?.as_str())?;
-    }
-    let (_, err, ended) = check_text(&rt, BUILT_IN, dump.as_bytes(), 1);
-    assert!(rt; err.bytes.as_slice() == b"vmecheck: too many blocks\n".as_slice());
-    assert_eq!(rt; ended, 3);
-    expect_in_blocks(&rt, dump.as_str(), 2, "never idle\n", 2);
+    let dump = many_steps(rt.alloc(), HEAD)?;
+    let too_many = ("", "vmecheck: too many blocks\n", 3);
+    let never_idle = ("never idle\n", "", 2);
+    assert!(rt; checks(&rt, BUILT_IN, dump.as_bytes(), 1, 1, 0, too_many));
+    assert!(rt; checks(&rt, BUILT_IN, dump.as_bytes(), 2, 1, 0, never_idle));
     Ok(())
 }
 
@@ -610,171 +672,168 @@ fn words_of(alloc: Global, line: &str) -> Result<Vec<String>, AllocError> {
     Ok(words)
 }
 
+/// Whether a text allows a rule at a line, or at every line where none is named.
+fn allows(text: &str, rule: Rule, line: &str) -> bool {
+    match allowance_of(text.as_bytes()) {
+        Some(read) => read.rule == rule && read.line == Line::from_name(line.as_bytes()),
+        None => false,
+    }
+}
+
+/// Texts that allow nothing.
+static NO_ALLOWANCES: [&str; 7] = ["", "H9", "h4", "H4=", "=AS", "H4=AS=", "H4 =AS"];
+
+/// Whether so many breaks are allowed by the words of a line, or none are read of it.
+fn allows_so_many(alloc: Global, line: &str, count: Option<usize>) -> Result<bool, AllocError> {
+    let texts = words_of(alloc, line)?;
+    let allowed = allowances_of(alloc, texts.as_slice())?;
+    Ok(allowed.as_ref().map(|all| all.len()) == count)
+}
+
 #[test]
 fn allowances_are_read(rt: HostRuntime) -> Result<(), Fail> {
-    for (text, rule, line) in [
-        (b"H4".as_slice(), Rule::H4, None),
-        (b"U1=AS".as_slice(), Rule::U1, Line::from_name(b"AS")),
-        (
-            b"G3=BG3.21".as_slice(),
-            Rule::G3,
-            Line::from_name(b"BG3.21"),
-        ),
-    ] {
-        match allowance_of(text) {
-            Some(read) => assert!(rt; read.rule == rule && read.line == line),
-            None => assert!(rt; false),
-        }
+    assert!(rt; allows("H4", Rule::H4, ""));
+    assert!(rt; allows("U1=AS", Rule::U1, "AS"));
+    assert!(rt; allows("G3=BG3.21", Rule::G3, "BG3.21"));
+    for text in NO_ALLOWANCES.iter() {
+        assert!(rt; allowance_of(text.as_bytes()).is_none(), "{text}");
     }
-    for text in [
-        b"".as_slice(),
-        b"H9",
-        b"h4",
-        b"H4=",
-        b"=AS",
-        b"H4=AS=",
-        b"H4 =AS",
-    ] {
-        assert!(rt; allowance_of(text).is_none());
-    }
-    for (line, count) in [
-        ("H4", Some(1)),
-        ("H4=AS H4 U1=DS0", Some(3)),
-        ("H4 H9 U1", None),
-    ] {
-        let texts = words_of(rt.alloc(), line)?;
-        match allowances_of(rt.alloc(), texts.as_slice())? {
-            Some(all) => assert_eq!(rt; Some(all.len()), count, "{line}"),
-            None => assert_eq!(rt; None, count, "{line}"),
-        }
-    }
+    let alloc = rt.alloc();
+    assert!(rt; allows_so_many(alloc, "H4", Some(1))?);
+    assert!(rt; allows_so_many(alloc, "H4=AS H4 U1=DS0", Some(3))?);
+    assert!(rt; allows_so_many(alloc, "H4 H9 U1", None)?);
     Ok(())
+}
+
+/// Whether a save file has these parts.
+fn has_parts(viewer: &[u8], parts: &[&str]) -> bool {
+    let text = str::from_utf8(viewer).unwrap_or("");
+    for part in parts {
+        if !text.contains(*part) {
+            return false;
+        }
+    }
+    true
+}
+
+/// Whether the explanation of a dump begins so, nothing else is told, this is the status, and a save file has these
+/// parts.
+pub(crate) fn explains(
+    alloc: Global,
+    binding: &[u8],
+    dump: &str,
+    skew: u64,
+    wanted: (&str, u8),
+    parts: &[&str],
+) -> bool {
+    let (text, status) = wanted;
+    let mut out = Page::new(alloc, 5000);
+    let mut err = Page::new(alloc, 100);
+    let (ended, viewer) = explain(
+        alloc,
+        &mut Bytes::new(binding),
+        &mut Bytes::new(dump.as_bytes()),
+        NAMES,
+        skew,
+        &mut out,
+        &mut err,
+    );
+    let is_so = out.bytes.as_slice().starts_with(text.as_bytes())
+        && err.bytes.is_empty()
+        && ended == status;
+    match viewer {
+        Some(viewer) => is_so && has_parts(viewer.as_bytes(), parts),
+        None => false,
+    }
 }
 
 #[test]
 fn an_explanation_begins_with_the_verdict(rt: HostRuntime) -> Result<(), Fail> {
     let dump = dump_of(rt.alloc(), HEAD, BODY)?;
-    let mut out = Page::new(rt.alloc(), 5000);
-    let mut err = Page::new(rt.alloc(), 100);
-    let (status, viewer) = explain(
-        rt.alloc(),
-        &mut Bytes::new(BUILT_IN),
-        &mut Bytes::new(dump.as_bytes()),
-        NAMES,
-        0,
-        &mut out,
-        &mut err,
-    );
-    assert!(rt;
-        out.bytes.as_slice().starts_with(
-            b"conforming\n\njudged: from instant 1 time 0 to instant 6 time 50\n"
-        )
-    );
-    assert!(rt; err.bytes.is_empty() && status == 0 && viewer.is_some());
+    let text = "conforming\n\njudged: from instant 1 time 0 to instant 6 time 50\n";
+    assert!(rt; explains(rt.alloc(), BUILT_IN, dump.as_str(), 0, (text, 0), &[]));
     Ok(())
+}
+
+/// What is written of a binding, what is told of it, and the status.
+type Bound = (&'static str, &'static str, u8);
+
+/// Whether a binding is written for a scope of a dump that begins so, and what is told begins so.
+fn binds(alloc: Global, dump: &str, slots: Option<u8>, path: Option<&[u8]>, bound: Bound) -> bool
+    requires { IfSome slots (λ n. (1 ≤ n) × (n ≤ 21)) }
+{
+    let (head, told, status) = bound;
+    let mut out = Page::new(alloc, 5000);
+    let mut err = Page::new(alloc, 200);
+    let mut dump = Bytes::new(dump.as_bytes());
+    let ended = bind(
+        alloc, &mut dump, b"bus.vcd", slots, path, &mut out, &mut err,
+    );
+    out.bytes.as_slice().starts_with(head.as_bytes())
+        && err.bytes.as_slice().starts_with(told.as_bytes())
+        && ended == status
 }
 
 #[test]
 fn a_binding_is_written(rt: HostRuntime) -> Result<(), Fail> {
     let dump = dump_of(rt.alloc(), HEAD, BODY)?;
-    let mut out = Page::new(rt.alloc(), 5000);
-    let mut err = Page::new(rt.alloc(), 200);
-    let status = bind(
-        rt.alloc(),
-        &mut Bytes::new(dump.as_bytes()),
-        b"bus.vcd",
-        None,
-        None,
-        &mut out,
-        &mut err,
-    );
     let head =
-        b"# Found by the names in the scope bus: look each line over.\nslots 1\nAS = bus.AS\n";
-    assert!(rt; out.bytes.as_slice().starts_with(head));
+        "# Found by the names in the scope bus: look each line over.\nslots 1\nAS = bus.AS\n";
     let told =
         "vmecheck: bound 6 of 19 groups in scope bus, 1 slot; not found: LWORD WRITE BBSY AM A D SYSRESET BR \
 BG0 BG1 BG2 BG3 IA\n";
-    assert!(rt; err.bytes.as_slice() == told.as_bytes() && status == 0);
+    assert!(rt; binds(rt.alloc(), dump.as_str(), None, None, (head, told, 0)));
     Ok(())
 }
 
 #[test]
-fn a_binding_without_a_bus_ends_with_a_status_of_its_own(rt: HostRuntime) -> Result<(), Fail> {
-    let mut out = Page::new(rt.alloc(), 5000);
-    let mut err = Page::new(rt.alloc(), 200);
-    let status = bind(
-        rt.alloc(),
-        &mut Bytes::new(UNBOUND.as_bytes()),
-        b"bus.vcd",
-        None,
-        None,
-        &mut out,
-        &mut err,
+fn a_binding_without_a_bus_ends_with_a_status_of_its_own(rt: HostRuntime) {
+    let bound = (
+        "# NOTHING IS BOUND: ",
+        "vmecheck: bound 0 of 19 groups: ",
+        7,
     );
-    assert!(rt; out.bytes.as_slice().starts_with(b"# NOTHING IS BOUND: "));
-    assert!(rt;
-        err.bytes
-            .as_slice()
-            .starts_with(b"vmecheck: bound 0 of 19 groups: ")
-    );
-    assert_eq!(rt; status, 7);
-    Ok(())
+    assert!(rt; binds(rt.alloc(), UNBOUND, None, None, bound));
 }
 
-/// What the binding of a scope ends with, and what is written of it and told.
-fn expect_bound_in<R: Abort>(
-    rt: &R,
-    alloc: Global,
-    dump: &str,
-    path: &[u8],
-    head: &[u8],
-    told: &[u8],
-    status: u8,
-) {
-    let mut out = Page::new(alloc, 5000);
-    let mut err = Page::new(alloc, 200);
-    let mut dump = Bytes::new(dump.as_bytes());
-    let ended = bind(
-        alloc,
-        &mut dump,
-        b"bus.vcd",
-        Some(2),
-        Some(path),
-        &mut out,
-        &mut err,
-    );
-    assert_eq!(rt; ended, status);
-    assert!(rt; out.bytes.as_slice().starts_with(head));
-    assert!(rt; err.bytes.as_slice().starts_with(told));
-}
+/// What is written and told of the scope of the bus, of none and of another.
+const IN_BUS: Bound = (
+    "# Found by the names in the scope bus: look each line over.\nslots 2\nAS = bus.AS\n",
+    "vmecheck: bound 6 of 19 groups in scope bus, 2 slots; ",
+    0,
+);
+
+const IN_NONE: Bound = (
+    "# NOTHING IS BOUND: no variable outside of all scopes was found ",
+    "vmecheck: bound 0 of 19 groups: no variable outside of all scopes is named ",
+    7,
+);
+
+const IN_ANOTHER: Bound = (
+    "",
+    "vmecheck: no variable of the dump stands in that scope: `vmecheck variables` lists their paths\n",
+    3,
+);
 
 #[test]
 fn a_binding_is_written_for_a_scope(rt: HostRuntime) -> Result<(), Fail> {
     let dump = dump_of(rt.alloc(), HEAD, BODY)?;
-    let alloc = rt.alloc();
-    let head =
-        b"# Found by the names in the scope bus: look each line over.\nslots 2\nAS = bus.AS\n";
-    let told = b"vmecheck: bound 6 of 19 groups in scope bus, 2 slots; ";
-    expect_bound_in(&rt, alloc, dump.as_str(), b"bus", head, told, 0);
-    let nothing = b"# NOTHING IS BOUND: no variable outside of all scopes was found ";
-    let told = b"vmecheck: bound 0 of 19 groups: no variable outside of all scopes is named ";
-    expect_bound_in(&rt, alloc, dump.as_str(), b"", nothing, told, 7);
-    let told =
-        b"vmecheck: no variable of the dump stands in that scope: `vmecheck variables` lists their paths\n";
-    expect_bound_in(&rt, alloc, dump.as_str(), b"bus2", b"", told, 3);
+    let (alloc, dump) = (rt.alloc(), dump.as_str());
+    assert!(rt; binds(alloc, dump, Some(2), Some(b"bus"), IN_BUS));
+    assert!(rt; binds(alloc, dump, Some(2), Some(b""), IN_NONE));
+    assert!(rt; binds(alloc, dump, Some(2), Some(b"bus2"), IN_ANOTHER));
     Ok(())
 }
 
 #[test]
-fn a_kind_of_refusal_is_told(rt: HostRuntime) -> Result<(), Fail> {
+fn a_kind_of_refusal_is_told(rt: HostRuntime) {
     let mut out = Page::new(rt.alloc(), 5000);
     let mut err = Page::new(rt.alloc(), 100);
     let status = tell_faults(rt.alloc(), Some(Kind::BadVar), &mut out, &mut err);
     let told =
         b"BadVar: a declaration that is none\n  expected: `$var`, a type, a size in digits, ";
-    assert!(rt; out.bytes.as_slice().starts_with(told));
-    assert!(rt; err.bytes.is_empty() && status == 0);
-    Ok(())
+    let is_told = out.bytes.as_slice().starts_with(told);
+    assert!(rt; is_told && err.bytes.is_empty() && status == 0);
 }
 
 /// What is told of a dump that gzip compressed.
@@ -785,25 +844,22 @@ it\nBadToken: a token of the dump may not stand where it stands\n  expected: ";
 
 const COMPRESSED_DUMP: &[u8] = b"\x1F\x8B\x08\n";
 
-/// Expects that of a compressed dump nothing is written, and what it is is told.
-fn expect_compressed<R: Abort>(rt: &R, status: u8, out: &Page, err: &Page) {
-    assert_eq!(rt; status, 3);
-    assert!(rt; out.bytes.is_empty());
-    assert!(rt; err.bytes.as_slice().starts_with(COMPRESSED));
+/// Whether of a compressed dump nothing is written, and what it is is told.
+fn is_compressed(status: u8, out: &Page, err: &Page) -> bool {
+    status == 3 && out.bytes.is_empty() && err.bytes.as_slice().starts_with(COMPRESSED)
 }
 
 #[test]
-fn variables_of_a_refused_dump_are_not_told(rt: HostRuntime) -> Result<(), Fail> {
+fn variables_of_a_refused_dump_are_not_told(rt: HostRuntime) {
     let mut out = Page::new(rt.alloc(), 100);
     let mut err = Page::new(rt.alloc(), 5000);
     let mut dump = Bytes::new(COMPRESSED_DUMP);
     let status = tell_variables(rt.alloc(), &mut dump, b"b.vcd", &mut out, &mut err);
-    expect_compressed(&rt, status, &out, &err);
-    Ok(())
+    assert!(rt; is_compressed(status, &out, &err));
 }
 
 #[test]
-fn a_refused_dump_is_not_bound(rt: HostRuntime) -> Result<(), Fail> {
+fn a_refused_dump_is_not_bound(rt: HostRuntime) {
     let mut out = Page::new(rt.alloc(), 100);
     let mut err = Page::new(rt.alloc(), 5000);
     let mut dump = Bytes::new(COMPRESSED_DUMP);
@@ -816,12 +872,11 @@ fn a_refused_dump_is_not_bound(rt: HostRuntime) -> Result<(), Fail> {
         &mut out,
         &mut err,
     );
-    expect_compressed(&rt, status, &out, &err);
-    Ok(())
+    assert!(rt; is_compressed(status, &out, &err));
 }
 
 #[test]
-fn a_refused_dump_is_not_explained(rt: HostRuntime) -> Result<(), Fail> {
+fn a_refused_dump_is_not_explained(rt: HostRuntime) {
     let mut out = Page::new(rt.alloc(), 100);
     let mut err = Page::new(rt.alloc(), 5000);
     let mut binding = Bytes::new(BUILT_IN);
@@ -835,50 +890,29 @@ fn a_refused_dump_is_not_explained(rt: HostRuntime) -> Result<(), Fail> {
         &mut out,
         &mut err,
     );
-    expect_compressed(&rt, status, &out, &err);
-    Ok(())
+    assert!(rt; is_compressed(status, &out, &err));
 }
 
-#[test]
-fn the_viewer_counts_in_the_unit_of_the_time_scale(rt: HostRuntime) -> Result<(), Fail> {
-    let binding = "slots 1\nAS = b.AS\nDS0 = 1\nDS1 = 1\nDTACK = 1\nBERR = 1\nIACK = 1\nAM = b.AM\n\
+/// A binding of AS* and the address modifier.
+const MODIFIER_BINDING: &str =
+    "slots 1\nAS = b.AS\nDS0 = 1\nDS1 = 1\nDTACK = 1\nBERR = 1\nIACK = 1\nAM = b.AM\n\
 LWORD = 1\nWRITE = 1\nA = 1\nBBSY = 1\nBR = 1\nBG0 = 1\nBG1 = 1\nBG2 = 1\nBG3 = 1\nIA = 1\n";
-    let dump =
-        "$timescale 10 ns $end\n$scope module b $end\n$var wire 1 p AS $end\n$var wire 6 q AM $end\n\
+
+/// A dump of them, in which AS* falls too early.
+const MODIFIER_DUMP: &str =
+    "$timescale 10 ns $end\n$scope module b $end\n$var wire 1 p AS $end\n$var wire 6 q AM $end\n\
 $upscope $end\n$enddefinitions $end\n#0 1p b111101 q\n#3 b111110 q\n#5 0p\n";
-    let mut out = Page::new(rt.alloc(), 5000);
-    let mut err = Page::new(rt.alloc(), 100);
-    let (status, viewer) = explain(
-        rt.alloc(),
-        &mut Bytes::new(binding.as_bytes()),
-        &mut Bytes::new(dump.as_bytes()),
-        NAMES,
-        0,
-        &mut out,
-        &mut err,
-    );
-    assert!(rt;
-        out.bytes
-            .as_slice()
-            .starts_with(b"broken B3 at instant 3 time 5 line AS\n")
-            && status == 1
-    );
-    let Some(viewer) = viewer else {
-        assert!(rt; false);
-        return Ok(());
-    };
-    let text = str::from_utf8(viewer.as_bytes()).unwrap_or("");
-    assert!(rt;
-        text.contains("\n[timestart] 0\n*-6.000000 50 -1 "),
-        "{text}"
-    );
-    assert!(rt;
-        text.contains("\n-the broken line\n@28\nb.AS\n@200\n-handshake\n@28\nb.AS\n"),
-        "{text}"
-    );
-    assert!(rt;
-        text.contains("\n-address and data\n@22\nb.AM[5:0]\n"),
-        "{text}"
-    );
-    Ok(())
+
+/// What its save file has.
+static VIEWED: [&str; 3] = [
+    "\n[timestart] 0\n*-6.000000 50 -1 ",
+    "\n-the broken line\n@28\nb.AS\n@200\n-handshake\n@28\nb.AS\n",
+    "\n-address and data\n@22\nb.AM[5:0]\n",
+];
+
+#[test]
+fn the_viewer_counts_in_the_unit_of_the_time_scale(rt: HostRuntime) {
+    let binding = MODIFIER_BINDING.as_bytes();
+    let broken = ("broken B3 at instant 3 time 5 line AS\n", 1);
+    assert!(rt; explains(rt.alloc(), binding, MODIFIER_DUMP, 0, broken, &VIEWED));
 }
