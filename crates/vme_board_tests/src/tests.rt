@@ -1,10 +1,9 @@
-ghost use Rattle.std.specs.Prelude.{◌≡◌, ◌<◌, IfOk};
+ghost use Rattle.std.specs.Prelude.{◌≡◌, IfSome};
 ghost use Rattle.vme_board.specs.Benches.{IsOf, total_of};
 
 use smallvec::SmallVec;
-use std::alloc::{AllocError, Global};
+use std::alloc::Global;
 use std::process::Abort;
-use std::test::Fail;
 use vme_board::{Bench, Board, BoardFault, Closed, DeliveryRefusal, Filed, Refused, Stage};
 use vme_summary::{Judged, Span, join};
 use vme_trace::{
@@ -13,7 +12,7 @@ use vme_trace::{
 
 /// A read by modifier 39 after a grant to slot 2, from the instant on at which every line but A24 to A31 gets high.
 /// The steps stand ten units apart.
-const READ: [&str; 13] = [
+static READ: [&str; 13] = [
     "BR3=0",
     "BG3.0=0",
     "BG3.1=0",
@@ -42,44 +41,58 @@ fn change_of(word: &str) -> Option<Change> {
     })
 }
 
-fn step_of(alloc: Global, time: u64, changes: &[Change]) -> Result<Step, AllocError> {
-    Ok(Step {
+fn step_of(alloc: Global, time: u64, changes: &[Change]) -> Option<Step> {
+    let changes = SmallVec::from_slice(alloc, changes).ok()?;
+    Some(Step {
         time,
-        changes: Changes::new(SmallVec::from_slice(alloc, changes)?),
+        changes: Changes::new(changes),
     })
 }
 
 /// Every line of three slots but A24 to A31 gets high.
-fn all_high(alloc: Global, lines: &Lines) -> Result<Vec<Change>, Fail> {
+fn all_high(alloc: Global, lines: &Lines) -> Option<Vec<Change>> {
     let mut changes = Vec::new(alloc);
     for number in 0..LINE_COUNT {
-        let line = Line::from_number(number).ok_or("no such line")?;
+        let line = Line::from_number(number)?;
         if lines.has(line) && (number < 37 || 44 < number) {
-            changes.push(Change {
-                line,
-                level: Level::High,
-            })?;
+            let level = Level::High;
+            changes.push(Change { line, level }).ok()?;
         }
     }
-    Ok(changes)
+    Some(changes)
+}
+
+/// The changes that a text says.
+fn changes_of(alloc: Global, text: &str) -> Option<Vec<Change>> {
+    let mut changes = Vec::new(alloc);
+    for word in text.split_whitespace() {
+        changes.push(change_of(word)?).ok()?;
+    }
+    Some(changes)
+}
+
+/// Adds a step.
+fn push_step(alloc: Global, steps: &mut Vec<Step>, time: u64, changes: &[Change]) -> Option<()> {
+    steps.push(step_of(alloc, time, changes)?).ok()
+}
+
+/// The steps of the worked recording.
+fn steps_of_read(alloc: Global, opening: &Lines) -> Option<Vec<Step>> {
+    let mut steps = Vec::new(alloc);
+    push_step(alloc, &mut steps, 0, &all_high(alloc, opening)?)?;
+    let mut time = 0u64;
+    for text in READ.iter() {
+        time = time.saturating_add(10);
+        push_step(alloc, &mut steps, time, &changes_of(alloc, text)?)?;
+    }
+    Some(steps)
 }
 
 /// The worked recording, in blocks of one step.
-pub(crate) fn blocks_of_read(alloc: Global) -> Result<Vec<Block>, Fail> {
-    let opening = Lines::new(3).ok_or("no such backplane")?;
-    let mut steps = Vec::new(alloc);
-    steps.push(step_of(alloc, 0, all_high(alloc, &opening)?.as_slice())?)?;
-    let mut time = 0u64;
-    for text in READ {
-        let mut changes = Vec::new(alloc);
-        for word in text.split_whitespace() {
-            changes.push(change_of(word).ok_or("no change")?)?;
-        }
-        time = time.saturating_add(10);
-        steps.push(step_of(alloc, time, changes.as_slice())?)?;
-    }
-    let capture = Capture::new(opening, steps).ok().ok_or("malformed")?;
-    Ok(capture.cut(alloc, 1)?)
+pub(crate) fn blocks_of_read(alloc: Global) -> Option<Vec<Block>> {
+    let opening = Lines::new(3)?;
+    let steps = steps_of_read(alloc, &opening)?;
+    Capture::new(opening, steps).ok()?.cut(alloc, 1).ok()
 }
 
 /// A block of so many steps, at each of which AS changes. None is want of memory.
@@ -89,9 +102,7 @@ pub(crate) fn block_of(alloc: Global, number: u32, first: u64, count: u32) -> Op
     for k in 0..count {
         let level = if k % 2 == 0 { Level::High } else { Level::Low };
         let time = first.saturating_add(u64::from(k));
-        steps
-            .push(step_of(alloc, time, &[Change { line, level }]).ok()?)
-            .ok()?;
+        push_step(alloc, &mut steps, time, &[Change { line, level }])?;
     }
     Some(Block {
         number,
@@ -104,7 +115,7 @@ pub(crate) fn block_of(alloc: Global, number: u32, first: u64, count: u32) -> Op
 pub(crate) fn malformed_block(alloc: Global, number: u32, count: u32) -> Option<Block> {
     let block = block_of(alloc, number, 1, count)?;
     let mut steps = block.steps.into_inner();
-    steps.insert(0, step_of(alloc, 0, &[]).ok()?).ok()?;
+    steps.insert(0, step_of(alloc, 0, &[])?).ok()?;
     Some(Block {
         number,
         opening: block.opening,
@@ -142,29 +153,63 @@ pub(crate) fn is_refused(
     }
 }
 
-/// What is left of the worked recording's board: fourteen blocks, of which the joined recording conforms.
-pub(crate) fn assert_worked(
-    rt: &impl Abort,
-    alloc: Global,
-    closed: Closed,
-    others: u32,
-) -> Result<(), Fail> {
-    assert!(rt; closed.others == others && closed.taken == 0 && closed.contents.len() == 14);
-    let mut whole: Option<Span> = None;
-    for place in closed.contents {
-        let (_, span) = place.ok_or("an empty place")?.into_parts();
-        whole = Some(match whole {
-            None => span,
-            Some(before) => {
-                assert!(rt; before.steps() < 1000 && span.steps() < 1000);
-                join(alloc, &before, &span)?
+/// A span behind those so far, if any.
+fn added(alloc: Global, all: Option<Span>, span: Span) -> Option<Span> {
+    match all {
+        None => Some(span),
+        Some(before) => {
+            if before.steps() < 1000 && span.steps() < 1000 {
+                join(alloc, &before, &span).ok()
+            } else {
+                None
             }
-        });
+        }
     }
-    let whole = whole.ok_or("no block")?;
-    assert!(rt; whole.first() == 0 && whole.steps() == 14);
-    assert!(rt; whole.verdict() == Verdict::Conforming);
-    Ok(())
+}
+
+/// The span of all that a board has, if no place is empty.
+fn whole_of(alloc: Global, contents: Vec<Option<Judged>>) -> Option<Span> {
+    let mut all = None;
+    for place in contents {
+        let span = place?.into_parts().1;
+        all = Some(added(alloc, all, span)?);
+    }
+    all
+}
+
+/// Whether this is what is left of the worked recording's board: fourteen blocks, of which the joined recording
+/// conforms.
+pub(crate) fn is_worked(alloc: Global, closed: Closed, others: u32) -> bool {
+    let is_so = closed.others == others && closed.taken == 0 && closed.contents.len() == 14;
+    match whole_of(alloc, closed.contents) {
+        Some(whole) => {
+            is_so
+                && whole.first() == 0
+                && whole.steps() == 14
+                && whole.verdict() == Verdict::Conforming
+        }
+        None => false,
+    }
+}
+
+/// Closes a board, where memory is refused once at most.
+pub(crate) fn closed_by(alloc: Global, board: Board, bench: Bench) -> Option<Closed>
+    requires { IsOf bench board }
+{
+    match board.close(alloc, bench) {
+        Ok(closed) => Some(closed),
+        Err((board, bench)) => board.close(alloc, bench).ok(),
+    }
+}
+
+/// Whether what the bench leaves of the board is the worked recording.
+pub(crate) fn leaves_worked(alloc: Global, board: Board, bench: Bench, others: u32) -> bool
+    requires { IsOf bench board }
+{
+    match closed_by(alloc, board, bench) {
+        Some(closed) => is_worked(alloc, closed, others),
+        None => false,
+    }
 }
 
 /// Delivers the blocks, from the last, by the two benches in turn.
@@ -191,180 +236,212 @@ fn deliver_in_turn(
 }
 
 #[test]
-fn worked_recording_by_two_benches(rt: HostRuntime) -> Result<(), Fail> {
+fn worked_recording_by_two_benches(rt: HostRuntime) {
     let alloc = rt.alloc();
-    let (board, mut first) = Board::new(alloc, 14, 0).ok().ok_or("no board")?;
+    let (Some((board, mut first)), Some(blocks)) = (board_of(alloc), blocks_of_read(alloc)) else {
+        panic!(rt; "no memory")
+    };
     let mut second = first.split(&board);
-    deliver_in_turn(
-        &rt,
-        alloc,
-        &board,
-        &mut first,
-        &mut second,
-        blocks_of_read(alloc)?,
-    );
+    deliver_in_turn(&rt, alloc, &board, &mut first, &mut second, blocks);
     let bench = first.fold(second, &board);
-    let closed = board.close(alloc, bench).ok().ok_or("no memory")?;
-    assert_worked(&rt, alloc, closed, 0)
+    assert!(rt; leaves_worked(alloc, board, bench, 0));
 }
 
 #[test]
-fn a_dropped_bench_leaves_others(rt: HostRuntime) -> Result<(), Fail> {
+fn a_dropped_bench_leaves_others(rt: HostRuntime) {
     let alloc = rt.alloc();
-    let (board, mut first) = Board::new(alloc, 14, 0).ok().ok_or("no board")?;
+    let (Some((board, mut first)), Some(blocks)) = (board_of(alloc), blocks_of_read(alloc)) else {
+        panic!(rt; "no memory")
+    };
     let mut second = first.split(&board);
-    deliver_in_turn(
-        &rt,
-        alloc,
-        &board,
-        &mut first,
-        &mut second,
-        blocks_of_read(alloc)?,
-    );
+    deliver_in_turn(&rt, alloc, &board, &mut first, &mut second, blocks);
     drop(second);
-    let closed = board.close(alloc, first).ok().ok_or("no memory")?;
-    assert_worked(&rt, alloc, closed, 7)
+    assert!(rt; leaves_worked(alloc, board, first, 7));
 }
 
-#[test]
-fn totals_and_draws(rt: HostRuntime) -> Result<(), Fail> {
-    let alloc = rt.alloc();
-    for total in [0, 4097] {
-        assert!(rt; matches!(Board::new(alloc, total, 65537), Err(BoardFault::BadTotal)));
+/// Whether no board is made for this reason.
+fn is_no_board(alloc: Global, total: u32, draws: u32, fault: BoardFault) -> bool {
+    match Board::new(alloc, total, draws) {
+        Ok(_) => false,
+        Err(found) => found == fault,
     }
-    assert!(rt; matches!(Board::new(alloc, 1, 65537), Err(BoardFault::BadDraws)));
-    assert!(rt; Board::new(alloc, 4096, 65536).is_ok());
-    let (board, mut bench) = Board::new(alloc, 1, 3).ok().ok_or("no board")?;
-    assert!(rt; bench.draw(&board) == Some(0) && bench.draw(&board) == Some(1));
-    assert!(rt; bench.draw(&board) == Some(2) && bench.draw(&board).is_none());
-    Ok(())
+}
+
+/// Whether the bench draws these, and then nothing.
+fn draws_three(board: &Board, bench: &mut Bench) -> bool
+    requires { IsOf bench.old board.now }
+{
+    bench.draw(board) == Some(0)
+        && bench.draw(board) == Some(1)
+        && bench.draw(board) == Some(2)
+        && bench.draw(board).is_none()
 }
 
 #[test]
-fn draws_of_two_benches(rt: HostRuntime) -> Result<(), Fail> {
+fn totals_and_draws(rt: HostRuntime) {
     let alloc = rt.alloc();
-    let (board, mut first) = Board::new(alloc, 1, 130).ok().ok_or("no board")?;
+    assert!(rt; is_no_board(alloc, 0, 65537, BoardFault::BadTotal));
+    assert!(rt; is_no_board(alloc, 4097, 65537, BoardFault::BadTotal));
+    assert!(rt; is_no_board(alloc, 1, 65537, BoardFault::BadDraws));
+    assert!(rt; Board::new(alloc, 4096, 65536).is_ok());
+    let Ok((board, mut bench)) = Board::new(alloc, 1, 3) else {
+        panic!(rt; "no board")
+    };
+    assert!(rt; draws_three(&board, &mut bench));
+}
+
+/// Whether two benches draw in turn, each what the other didn't.
+fn draw_in_turn(board: &Board, first: &mut Bench, second: &mut Bench) -> bool
+    requires { IsOf first.old board.now × IsOf second.old board.now }
+    ensures { IsOf first.new board.now × IsOf second.new board.now }
+{
+    let (least, next) = (first.draw(board), second.draw(board));
+    let (third, last) = (second.draw(board), first.draw(board));
+    least == Some(0) && next == Some(1) && third == Some(2) && last == Some(3)
+}
+
+#[test]
+fn draws_of_two_benches(rt: HostRuntime) {
+    let Ok((board, mut first)) = Board::new(rt.alloc(), 1, 130) else {
+        panic!(rt; "no board")
+    };
     let mut second = first.split(&board);
-    assert!(rt; first.draw(&board) == Some(0) && second.draw(&board) == Some(1));
-    assert!(rt; second.draw(&board) == Some(2) && first.draw(&board) == Some(3));
+    assert!(rt; draw_in_turn(&board, &mut first, &mut second));
     let mut bench = first.fold(second, &board);
     assert!(rt; bench.draw(&board) == Some(4));
-    Ok(())
 }
 
-#[test]
-fn refusals_in_order(rt: HostRuntime) -> Result<(), Fail> {
-    let alloc = rt.alloc();
-    let (board, mut bench) = Board::new(alloc, 14, 0).ok().ok_or("no board")?;
-    let long = || block_of(alloc, 14, 0, 65537).ok_or("no memory");
-    assert!(rt;
-        is_refused(
-            &bench.deliver(alloc, &board, long()?),
-            DeliveryRefusal::Stranger,
-            &long()?
-        )
-    );
-    let long = || malformed_block(alloc, 5, 65536).ok_or("no memory");
-    assert!(rt;
-        is_refused(
-            &bench.deliver(alloc, &board, long()?),
-            DeliveryRefusal::TooLong,
-            &long()?
-        )
-    );
-    let malformed = || malformed_block(alloc, 5, 2).ok_or("no memory");
-    let why = DeliveryRefusal::Malformed { step: 0 };
-    assert!(rt;
-        is_filed(
-            &bench.deliver(alloc, &board, block_of(alloc, 5, 0, 1).ok_or("no memory")?),
-            5
-        )
-    );
-    assert!(rt;
-        is_refused(
-            &bench.deliver(alloc, &board, malformed()?),
-            why,
-            &malformed()?
-        )
-    );
-    Ok(())
-}
-
-/// Block 5 is filed, and refused when it comes again.
-fn file_five(rt: &impl Abort, alloc: Global, board: &Board, bench: &mut Bench) -> Result<(), Fail>
+/// Whether a block is refused for this reason, and handed back as the same.
+fn refuses(
+    alloc: Global,
+    board: &Board,
+    bench: &mut Bench,
+    why: DeliveryRefusal,
+    block: Option<Block>,
+    same: Option<Block>,
+) -> bool
     requires { IsOf bench.old board.now }
     ensures { IsOf bench.new board.now }
 {
-    let given = block_of(alloc, 5, 0, 2).ok_or("no memory")?;
-    let again = block_of(alloc, 5, 7, 3).ok_or("no memory")?;
-    let same = block_of(alloc, 5, 7, 3).ok_or("no memory")?;
-    assert!(rt; is_filed(&bench.deliver(alloc, board, given), 5));
-    assert!(rt;
-        is_refused(
-            &bench.deliver(alloc, board, again),
-            DeliveryRefusal::Doubled,
-            &same
-        )
-    );
-    Ok(())
-}
-
-/// One bench sees block 5 filed, another takes it, and the first sees it taken.
-fn take_five(
-    rt: &impl Abort,
-    board: &Board,
-    first: &mut Bench,
-    second: &mut Bench,
-) -> Option<Judged>
-    requires { IsOf first.old board.now × IsOf second.old board.now × (total_of board.now ≡ 14) }
-    ensures { IsOf first.new board.now × IsOf second.new board.now }
-{
-    assert!(rt; first.look(board, 5) == Stage::Filed && first.look(board, 6) == Stage::Free);
-    let taken = second.take(board, 5);
-    assert!(rt; first.look(board, 5) == Stage::Taken && first.take(board, 5).is_none());
-    taken
-}
-
-#[test]
-fn a_block_is_filed_once_and_taken_once(rt: HostRuntime) -> Result<(), Fail> {
-    let alloc = rt.alloc();
-    let (board, mut first) = board_of(alloc)?;
-    let mut second = first.split(&board);
-    let mut third = first.split(&board);
-    file_five(&rt, alloc, &board, &mut first)?;
-    let judged = take_five(&rt, &board, &mut second, &mut third).ok_or("nothing was taken")?;
-    let given = block_of(alloc, 5, 0, 2).ok_or("no memory")?;
-    assert!(rt; is_equal(judged.block(), &given));
-    let bench = first.fold(second, &board);
-    let closed = board.close(alloc, bench).ok().ok_or("no memory")?;
-    assert!(rt; closed.others == 0 && closed.taken == 1);
-    assert!(rt; closed.contents.iter().all(|place| place.is_none()));
-    Ok(())
-}
-
-/// A board, where memory is refused once at most.
-pub(crate) fn board_of(alloc: Global) -> Result<(Board, Bench), Fail>
-    ensures { IfOk result (λ made. IsOf made.1 made.0 × (total_of made.0 ≡ 14)) }
-{
-    match Board::new(alloc, 14, 0) {
-        Ok(made) => Ok(made),
-        Err(_) => Ok(Board::new(alloc, 14, 0).ok().ok_or("no board")?),
+    match (block, same) {
+        (Some(block), Some(same)) => { is_refused(&bench.deliver(alloc, board, block), why, &same) }
+        _ => false,
     }
 }
 
-/// Delivers a block. Where memory is refused once, the block comes back as it was and nothing is claimed.
-fn deliver_twice(
-    rt: &impl Abort,
+/// Whether a block is filed by its number.
+fn files(alloc: Global, board: &Board, bench: &mut Bench, number: u32, block: Option<Block>) -> bool
+    requires { IsOf bench.old board.now }
+    ensures { IsOf bench.new board.now }
+{
+    match block {
+        Some(block) => is_filed(&bench.deliver(alloc, board, block), number),
+        None => false,
+    }
+}
+
+#[test]
+fn refusals_in_order(rt: HostRuntime) {
+    let alloc = rt.alloc();
+    let Some((board, mut bench)) = board_of(alloc) else {
+        panic!(rt; "no board")
+    };
+    let (long, same) = (block_of(alloc, 14, 0, 65537), block_of(alloc, 14, 0, 65537));
+    let why = DeliveryRefusal::Stranger;
+    assert!(rt; refuses(alloc, &board, &mut bench, why, long, same));
+    let (long, same) = (
+        malformed_block(alloc, 5, 65536),
+        malformed_block(alloc, 5, 65536),
+    );
+    let why = DeliveryRefusal::TooLong;
+    assert!(rt; refuses(alloc, &board, &mut bench, why, long, same));
+    assert!(rt; files(alloc, &board, &mut bench, 5, block_of(alloc, 5, 0, 1)));
+    let (malformed, same) = (malformed_block(alloc, 5, 2), malformed_block(alloc, 5, 2));
+    let why = DeliveryRefusal::Malformed { step: 0 };
+    assert!(rt; refuses(alloc, &board, &mut bench, why, malformed, same));
+}
+
+/// Whether block 5 is filed, and refused when it comes again.
+fn files_five(alloc: Global, board: &Board, bench: &mut Bench) -> bool
+    requires { IsOf bench.old board.now }
+    ensures { IsOf bench.new board.now }
+{
+    let is_filed = files(alloc, board, bench, 5, block_of(alloc, 5, 0, 2));
+    let (again, same) = (block_of(alloc, 5, 7, 3), block_of(alloc, 5, 7, 3));
+    let is_doubled = refuses(alloc, board, bench, DeliveryRefusal::Doubled, again, same);
+    is_filed && is_doubled
+}
+
+/// One bench sees block 5 filed, another takes it, and the first sees it taken.
+fn take_five(board: &Board, first: &mut Bench, second: &mut Bench) -> Option<Judged>
+    requires { IsOf first.old board.now × IsOf second.old board.now × (total_of board.now ≡ 14) }
+    ensures { IsOf first.new board.now × IsOf second.new board.now }
+{
+    let is_filed = first.look(board, 5) == Stage::Filed && first.look(board, 6) == Stage::Free;
+    let taken = second.take(board, 5);
+    let is_taken = first.look(board, 5) == Stage::Taken && first.take(board, 5).is_none();
+    if is_filed && is_taken { taken } else { None }
+}
+
+/// Whether this is the block 5 that was filed.
+pub(crate) fn is_five(alloc: Global, judged: Option<Judged>) -> bool {
+    match (judged, block_of(alloc, 5, 0, 2)) {
+        (Some(judged), Some(given)) => is_equal(judged.block(), &given),
+        _ => false,
+    }
+}
+
+/// Whether one number was taken of the board that the bench closes, and nothing is left.
+fn leaves_nothing(alloc: Global, board: Board, bench: Bench) -> bool
+    requires { IsOf bench board }
+{
+    match closed_by(alloc, board, bench) {
+        Some(closed) => {
+            closed.others == 0
+                && closed.taken == 1
+                && closed.contents.iter().all(|place| place.is_none())
+        }
+        None => false,
+    }
+}
+
+#[test]
+fn a_block_is_filed_once_and_taken_once(rt: HostRuntime) {
+    let alloc = rt.alloc();
+    let Some((board, mut first)) = board_of(alloc) else {
+        panic!(rt; "no board")
+    };
+    let mut second = first.split(&board);
+    let mut third = first.split(&board);
+    assert!(rt; files_five(alloc, &board, &mut first));
+    let taken = take_five(&board, &mut second, &mut third);
+    assert!(rt; is_five(alloc, taken));
+    let bench = first.fold(second, &board);
+    assert!(rt; leaves_nothing(alloc, board, bench));
+}
+
+/// A board, where memory is refused once at most.
+pub(crate) fn board_of(alloc: Global) -> Option<(Board, Bench)>
+    ensures { IfSome result (λ made. IsOf made.1 made.0 × (total_of made.0 ≡ 14)) }
+{
+    match Board::new(alloc, 14, 0) {
+        Ok(made) => Some(made),
+        Err(_) => Board::new(alloc, 14, 0).ok(),
+    }
+}
+
+/// Whether a block is filed. Where memory is refused once, it comes back as it was and nothing is claimed, and it is
+/// delivered again.
+fn is_filed_at_last(
     board: &Board,
     bench: &mut Bench,
     alloc: Global,
     block: Block,
     same: &Block,
-) -> Result<Filed, Refused>
+) -> bool
     requires { IsOf bench.old board.now × (total_of board.now ≡ 14) }
     ensures { IsOf bench.new board.now }
 {
-    assert!(rt; same.number < 14);
     match bench.deliver(alloc, board, block) {
         Err(
             Refused {
@@ -372,38 +449,49 @@ fn deliver_twice(
                 block,
             },
         ) => {
-            assert!(rt; is_equal(&block, same) && bench.look(board, same.number) == Stage::Free);
-            bench.deliver(alloc, board, block)
+            is_equal(&block, same)
+                && bench.look(board, 5) == Stage::Free
+                && is_filed(&bench.deliver(alloc, board, block), 5)
         }
-        answer => answer,
+        answer => is_filed(&answer, 5),
+    }
+}
+
+/// Whether a board has this block 5 alone.
+fn has_five(closed: &Closed, same: &Block) -> bool {
+    for (number, place) in closed.contents.iter().enumerate() {
+        let is_so = match place {
+            Some(judged) => number == 5 && is_equal(judged.block(), same),
+            None => number != 5,
+        };
+        if !is_so {
+            return false;
+        }
+    }
+    closed.others == 0 && closed.taken == 0 && closed.contents.len() == 14
+}
+
+/// A block 5 of twelve steps, where memory is refused once at most.
+fn long_five(alloc: Global) -> Option<Block> {
+    match block_of(alloc, 5, 0, 12) {
+        Some(block) => Some(block),
+        None => block_of(alloc, 5, 0, 12),
     }
 }
 
 /// `tests/memory/run` refuses each of its allocations in turn.
 #[test]
-fn each_growth_fails_once(rt: HostRuntime) -> Result<(), Fail> {
+fn each_growth_fails_once(rt: HostRuntime) {
     let alloc = rt.alloc();
-    let block = || block_of(alloc, 5, 0, 12)
-        .or_else(|| block_of(alloc, 5, 0, 12))
-        .ok_or("no memory");
-    let (given, same) = (block()?, block()?);
-    let (board, mut bench) = board_of(alloc)?;
-    assert!(rt;
-        is_filed(
-            &deliver_twice(&rt, &board, &mut bench, alloc, given, &same),
-            5
-        )
-    );
-    let closed = match board.close(alloc, bench) {
-        Ok(closed) => closed,
-        Err((board, bench)) => board.close(alloc, bench).ok().ok_or("no memory")?,
+    let (Some(given), Some(same)) = (long_five(alloc), long_five(alloc)) else {
+        panic!(rt; "no block")
     };
-    assert!(rt; closed.others == 0 && closed.taken == 0 && closed.contents.len() == 14);
-    for (number, place) in closed.contents.iter().enumerate() {
-        match place {
-            Some(judged) => assert!(rt; number == 5 && is_equal(judged.block(), &same)),
-            None => assert!(rt; number != 5),
-        }
-    }
-    Ok(())
+    let Some((board, mut bench)) = board_of(alloc) else {
+        panic!(rt; "no board")
+    };
+    assert!(rt; is_filed_at_last(&board, &mut bench, alloc, given, &same));
+    let Some(closed) = closed_by(alloc, board, bench) else {
+        panic!(rt; "not closed")
+    };
+    assert!(rt; has_five(&closed, &same));
 }

@@ -1,8 +1,8 @@
-ghost use Rattle.std.specs.Prelude.{◌≡◌, ◌<◌, ◌≤◌, ℕ, ◌+◌, IfOk, vec_len, get_or};
+ghost use Rattle.std.specs.Prelude.{◌≡◌, ◌<◌, ◌≤◌, ℕ, ◌+◌, IfOk, IfSome, vec_len, get_or};
 ghost use Rattle.vme_board.specs.Benches.{IsOf, total_of};
 
 use crate::tests::{
-    assert_worked, block_of, blocks_of_read, board_of, is_equal, is_filed, is_refused,
+    block_of, blocks_of_read, board_of, is_filed, is_five, is_refused, leaves_worked,
     malformed_block,
 };
 use std::alloc::Global;
@@ -11,7 +11,7 @@ use std::sync::Wait;
 use std::test::Fail;
 use std::thread;
 use std::thread::{Promise, Threads, join};
-use vme_board::{Bench, Board, DeliveryRefusal, Filed, Refused, Stage};
+use vme_board::{Bench, Board, Closed, DeliveryRefusal, Filed, Refused, Stage};
 use vme_summary::Judged;
 use vme_trace::{Block, Lines, Steps};
 
@@ -29,35 +29,56 @@ fn deliver_half(alloc: Global, board: &Board, bench: Bench, blocks: Vec<Block>) 
     (bench, all_filed)
 }
 
-#[test]
-fn worked_recording_by_two_threads(rt: HostRuntime) -> Result<(), Fail> {
-    let alloc = rt.alloc();
-    let (board, mut first) = Board::new(alloc, 14, 0).ok().ok_or("no board")?;
-    let second = first.split(&board);
+/// The blocks with even numbers, and the others.
+fn halves(alloc: Global) -> Option<(Vec<Block>, Vec<Block>)> {
     let (mut even, mut odd) = (Vec::new(alloc), Vec::new(alloc));
     for block in blocks_of_read(alloc)? {
         if block.number % 2 == 0 {
-            even.push(block)?;
+            even.push(block).ok()?;
         } else {
-            odd.push(block)?;
+            odd.push(block).ok()?;
         }
     }
-    let shared = &board;
+    Some((even, odd))
+}
+
+/// Each bench delivers its blocks on a thread of its own. Whether all are filed.
+fn deliver_halves(
+    rt: &impl Threads,
+    alloc: Global,
+    board: &Board,
+    benches: (Bench, Bench),
+    blocks: (Vec<Block>, Vec<Block>),
+) -> (Bench, Bench, bool)
+    requires { IsOf benches.0 board.now × IsOf benches.1 board.now }
+    ensures { IsOf result.0 board.now × IsOf result.1 board.now }
+{
+    let (first, second) = benches;
+    let (even, odd) = blocks;
     let ((first, even_filed), (second, odd_filed)) = join(
-        &rt,
+        rt,
         move || -> (Bench, bool)
-            requires { IsOf first shared.now }
-            ensures { IsOf result.0 shared.entry.now }
-        { deliver_half(alloc, shared, first, even) },
+            requires { IsOf first board.now }
+            ensures { IsOf result.0 board.entry.now }
+        { deliver_half(alloc, board, first, even) },
         move || -> (Bench, bool)
-            requires { IsOf second shared.now }
-            ensures { IsOf result.0 shared.entry.now }
-        { deliver_half(alloc, shared, second, odd) },
+            requires { IsOf second board.now }
+            ensures { IsOf result.0 board.entry.now }
+        { deliver_half(alloc, board, second, odd) },
     );
-    assert!(rt; even_filed && odd_filed);
+    (first, second, even_filed && odd_filed)
+}
+
+#[test]
+fn worked_recording_by_two_threads(rt: HostRuntime) {
+    let alloc = rt.alloc();
+    let (Some((board, mut first)), Some(blocks)) = (board_of(alloc), halves(alloc)) else {
+        panic!(rt; "no memory")
+    };
+    let second = first.split(&board);
+    let (first, second, are_filed) = deliver_halves(&rt, alloc, &board, (first, second), blocks);
     let bench = first.fold(second, &board);
-    let closed = board.close(alloc, bench).ok().ok_or("no memory")?;
-    assert_worked(&rt, alloc, closed, 0)
+    assert!(rt; are_filed && leaves_worked(alloc, board, bench, 0));
 }
 
 /// The bench delivers a block on a thread of its own.
@@ -151,89 +172,150 @@ fn draw_apart(rt: &impl Threads, board: &Board, bench: Bench) -> (Bench, Option<
     done
 }
 
+/// Whether benches draw on threads of their own, each what none did before, and then nothing.
+fn draw_by_threads(rt: &impl Threads, board: &Board, first: Bench, second: Bench) -> bool
+    requires { IsOf first board.now × IsOf second board.now }
+{
+    let (first, least) = draw_apart(rt, board, first);
+    let (second, next) = draw_apart(rt, board, second);
+    let (_second, last) = draw_apart(rt, board, second);
+    let (_first, none) = draw_apart(rt, board, first);
+    least == Some(0) && next == Some(1) && last == Some(2) && none.is_none()
+}
+
 #[test]
-fn draws_by_threads(rt: HostRuntime) -> Result<(), Fail> {
-    let (board, mut first) = Board::new(rt.alloc(), 1, 3).ok().ok_or("no board")?;
+fn draws_by_threads(rt: HostRuntime) {
+    let Ok((board, mut first)) = Board::new(rt.alloc(), 1, 3) else {
+        panic!(rt; "no board")
+    };
     let second = first.split(&board);
-    let (first, least) = draw_apart(&rt, &board, first);
-    let (second, next) = draw_apart(&rt, &board, second);
-    let (_second, last) = draw_apart(&rt, &board, second);
-    let (_first, none) = draw_apart(&rt, &board, first);
-    assert!(rt; least == Some(0) && next == Some(1) && last == Some(2) && none.is_none());
-    Ok(())
+    assert!(rt; draw_by_threads(&rt, &board, first, second));
 }
 
-#[test]
-fn refusals_by_threads(rt: HostRuntime) -> Result<(), Fail> {
-    let alloc = rt.alloc();
-    let (board, bench) = board_of(alloc)?;
-    let stranger = || block_of(alloc, 14, 0, 1).ok_or("no memory");
-    let (bench, answer) = deliver_apart(&rt, alloc, &board, bench, stranger()?);
-    assert!(rt; is_refused(&answer, DeliveryRefusal::Stranger, &stranger()?));
-    let long = || block_of(alloc, 4, 0, 65537).ok_or("no memory");
-    let (bench, answer) = deliver_apart(&rt, alloc, &board, bench, long()?);
-    assert!(rt; is_refused(&answer, DeliveryRefusal::TooLong, &long()?));
-    let malformed = || malformed_block(alloc, 5, 2).ok_or("no memory");
-    let (_bench, answer) = deliver_apart(&rt, alloc, &board, bench, malformed()?);
-    assert!(rt;
-        is_refused(
-            &answer,
-            DeliveryRefusal::Malformed { step: 0 },
-            &malformed()?
-        )
-    );
-    Ok(())
-}
-
-/// Block 5 is filed, and refused when it comes again.
-fn file_five(
-    rt: &(impl Threads + Abort),
+/// The bench, if on a thread of its own a block is refused for this reason, and handed back as the same.
+fn refused_apart(
+    rt: &impl Threads,
     alloc: Global,
     board: &Board,
     bench: Bench,
-) -> Result<(), Fail>
+    why: DeliveryRefusal,
+    block: Option<Block>,
+    same: Option<Block>,
+) -> Option<Bench>
+    requires { IsOf bench board.now }
+    ensures { IfSome result (λ bench. IsOf bench board.now) }
+{
+    let (Some(block), Some(same)) = (block, same) else {
+        return None;
+    };
+    let (bench, answer) = deliver_apart(rt, alloc, board, bench, block);
+    if is_refused(&answer, why, &same) {
+        Some(bench)
+    } else {
+        None
+    }
+}
+
+/// The bench, if a stranger is refused, and a block that is too long.
+fn refuses_apart(rt: &impl Threads, alloc: Global, board: &Board, bench: Bench) -> Option<Bench>
+    requires { IsOf bench board.now }
+    ensures { IfSome result (λ bench. IsOf bench board.now) }
+{
+    let (stranger, same) = (block_of(alloc, 14, 0, 1), block_of(alloc, 14, 0, 1));
+    let why = DeliveryRefusal::Stranger;
+    let bench = refused_apart(rt, alloc, board, bench, why, stranger, same)?;
+    let (long, same) = (block_of(alloc, 4, 0, 65537), block_of(alloc, 4, 0, 65537));
+    refused_apart(
+        rt,
+        alloc,
+        board,
+        bench,
+        DeliveryRefusal::TooLong,
+        long,
+        same,
+    )
+}
+
+#[test]
+fn refusals_by_threads(rt: HostRuntime) {
+    let alloc = rt.alloc();
+    let Some((board, bench)) = board_of(alloc) else {
+        panic!(rt; "no board")
+    };
+    let Some(bench) = refuses_apart(&rt, alloc, &board, bench) else {
+        panic!(rt; "not refused")
+    };
+    let (malformed, same) = (malformed_block(alloc, 5, 2), malformed_block(alloc, 5, 2));
+    let why = DeliveryRefusal::Malformed { step: 0 };
+    assert!(rt; refused_apart(&rt, alloc, &board, bench, why, malformed, same).is_some());
+}
+
+/// The bench, if it files a block by its number on a thread of its own.
+fn filed_apart(
+    rt: &impl Threads,
+    alloc: Global,
+    board: &Board,
+    bench: Bench,
+    number: u32,
+    block: Option<Block>,
+) -> Option<Bench>
+    requires { IsOf bench board.now }
+    ensures { IfSome result (λ bench. IsOf bench board.now) }
+{
+    let (bench, answer) = deliver_apart(rt, alloc, board, bench, block?);
+    if is_filed(&answer, number) {
+        Some(bench)
+    } else {
+        None
+    }
+}
+
+/// Whether block 5 is filed, and refused when it comes again.
+fn files_five(rt: &impl Threads, alloc: Global, board: &Board, bench: Bench) -> bool
     requires { IsOf bench board.now }
 {
-    let given = block_of(alloc, 5, 0, 2).ok_or("no memory")?;
-    let again = block_of(alloc, 5, 7, 3).ok_or("no memory")?;
-    let same = block_of(alloc, 5, 7, 3).ok_or("no memory")?;
-    let (bench, answer) = deliver_apart(rt, alloc, board, bench, given);
-    assert!(rt; is_filed(&answer, 5));
-    let (_bench, answer) = deliver_apart(rt, alloc, board, bench, again);
-    assert!(rt; is_refused(&answer, DeliveryRefusal::Doubled, &same));
-    Ok(())
+    let given = block_of(alloc, 5, 0, 2);
+    let Some(bench) = filed_apart(rt, alloc, board, bench, 5, given) else {
+        return false;
+    };
+    let (again, same) = (block_of(alloc, 5, 7, 3), block_of(alloc, 5, 7, 3));
+    refused_apart(
+        rt,
+        alloc,
+        board,
+        bench,
+        DeliveryRefusal::Doubled,
+        again,
+        same,
+    )
+    .is_some()
 }
 
 /// One bench sees block 5 filed, another takes it, and the first sees it taken.
-fn take_five(
-    rt: &(impl Threads + Abort),
-    board: &Board,
-    first: Bench,
-    second: Bench,
-) -> Option<Judged>
+fn take_five(rt: &impl Threads, board: &Board, first: Bench, second: Bench) -> Option<Judged>
     requires { IsOf first board.now × IsOf second board.now × (total_of board.now ≡ 14) }
 {
     let (first, stage) = look_apart(rt, board, first, 5);
     let (first, other) = look_apart(rt, board, first, 6);
-    assert!(rt; stage == Stage::Filed && other == Stage::Free);
+    let is_filed = stage == Stage::Filed && other == Stage::Free;
     let (_second, taken) = take_apart(rt, board, second, 5);
     let (first, stage) = look_apart(rt, board, first, 5);
     let (_first, again) = take_apart(rt, board, first, 5);
-    assert!(rt; stage == Stage::Taken && again.is_none());
-    taken
+    let is_taken = stage == Stage::Taken && again.is_none();
+    if is_filed && is_taken { taken } else { None }
 }
 
 #[test]
-fn filed_once_and_taken_once_by_threads(rt: HostRuntime) -> Result<(), Fail> {
+fn filed_once_and_taken_once_by_threads(rt: HostRuntime) {
     let alloc = rt.alloc();
-    let (board, mut first) = board_of(alloc)?;
+    let Some((board, mut first)) = board_of(alloc) else {
+        panic!(rt; "no board")
+    };
     let second = first.split(&board);
     let third = first.split(&board);
-    file_five(&rt, alloc, &board, first)?;
-    let judged = take_five(&rt, &board, second, third).ok_or("nothing was taken")?;
-    let given = block_of(alloc, 5, 0, 2).ok_or("no memory")?;
-    assert!(rt; is_equal(judged.block(), &given));
-    Ok(())
+    assert!(rt; files_five(&rt, alloc, &board, first));
+    let taken = take_five(&rt, &board, second, third);
+    assert!(rt; is_five(alloc, taken));
 }
 
 /// What one thread did.
@@ -401,56 +483,89 @@ fn deliver_by_eight<R: Threads + Wait>(
     )
 }
 
-/// So many times, each number is filed once.
-fn file_by_eight<R: Threads + Wait + Abort>(rt: &R, alloc: Global, times: u32) -> Result<(), Fail> {
-    for _ in 0..times {
-        let (board, bench) = Board::new(alloc, 4096, 0).ok().ok_or("no board")?;
-        let work = deliver_by_eight(rt, alloc, &board, bench, Share::Range)?;
-        assert!(rt; work.filed == 4096 && work.doubled == 4096);
-        let closed = board.close(alloc, work.bench).ok().ok_or("no memory")?;
-        assert!(rt; closed.others == 0 && closed.contents.len() == 4096);
-        for (number, place) in closed.contents.iter().enumerate() {
-            let judged = place.as_ref().ok_or("an empty place")?;
-            assert!(rt; judged.block().number as usize == number);
+/// Whether each of so many numbers of a board has its block.
+fn has_all(closed: &Closed, count: usize) -> bool {
+    for (number, place) in closed.contents.iter().enumerate() {
+        match place {
+            Some(judged) => {
+                if judged.block().number as usize != number {
+                    return false;
+                }
+            }
+            None => return false,
         }
+    }
+    closed.contents.len() == count
+}
+
+/// Whether this was filed, doubled and hostile, and each number of the board has its block: nothing was taken, and no
+/// bench beside these filed.
+fn leaves_all(
+    alloc: Global,
+    board: Board,
+    work: Work,
+    count: usize,
+    counts: (u32, u32, u32),
+) -> bool
+    requires { IsOf work.bench board }
+{
+    let is_so = (work.filed, work.doubled, work.hostile) == counts;
+    match board.close(alloc, work.bench) {
+        Ok(closed) => is_so && closed.others == 0 && closed.taken == 0 && has_all(&closed, count),
+        Err(_) => false,
+    }
+}
+
+/// Whether each number is filed once by eight benches.
+fn file_by_eight<R: Threads + Wait>(rt: &R, alloc: Global) -> Result<bool, Fail> {
+    let Ok((board, bench)) = Board::new(alloc, 4096, 0) else {
+        return Ok(false);
+    };
+    let work = deliver_by_eight(rt, alloc, &board, bench, Share::Range)?;
+    Ok(leaves_all(alloc, board, work, 4096, (4096, 4096, 0)))
+}
+
+/// The same five times.
+fn file_in_rounds<R: Threads + Wait + Abort>(rt: &R, alloc: Global) -> Result<(), Fail> {
+    for round in 0..5 {
+        assert!(rt; file_by_eight(rt, alloc)?, "in round {round}");
     }
     Ok(())
 }
 
 #[test]
 fn eight_benches_file_once_in_rounds_1_to_5(rt: HostRuntime) -> Result<(), Fail> {
-    file_by_eight(&rt, rt.alloc(), 5)
+    file_in_rounds(&rt, rt.alloc())
 }
 
 #[test]
 fn eight_benches_file_once_in_rounds_6_to_10(rt: HostRuntime) -> Result<(), Fail> {
-    file_by_eight(&rt, rt.alloc(), 5)
+    file_in_rounds(&rt, rt.alloc())
 }
 
 #[test]
 fn eight_benches_file_once_in_rounds_11_to_15(rt: HostRuntime) -> Result<(), Fail> {
-    file_by_eight(&rt, rt.alloc(), 5)
+    file_in_rounds(&rt, rt.alloc())
 }
 
 #[test]
 fn eight_benches_file_once_in_rounds_16_to_20(rt: HostRuntime) -> Result<(), Fail> {
-    file_by_eight(&rt, rt.alloc(), 5)
+    file_in_rounds(&rt, rt.alloc())
 }
 
-/// Among strangers and malformed blocks of all threads, each number is filed once.
+/// Whether each number is filed once among strangers and malformed blocks of all threads.
+fn file_among_hostile<R: Threads + Wait>(rt: &R, alloc: Global) -> Result<bool, Fail> {
+    let Some((board, bench)) = board_of(alloc) else {
+        return Ok(false);
+    };
+    let work = deliver_by_eight(rt, alloc, &board, bench, Share::Hostile)?;
+    Ok(leaves_all(alloc, board, work, 14, (14, 7 * 14, 8 * 28)))
+}
+
 #[test]
 fn hostile_blocks_of_eight_benches(rt: HostRuntime) -> Result<(), Fail> {
-    let alloc = rt.alloc();
-    for _ in 0..25 {
-        let (board, bench) = board_of(alloc)?;
-        let work = deliver_by_eight(&rt, alloc, &board, bench, Share::Hostile)?;
-        assert!(rt; work.filed == 14 && work.doubled == 7 * 14 && work.hostile == 8 * 28);
-        let closed = board.close(alloc, work.bench).ok().ok_or("no memory")?;
-        assert!(rt; closed.others == 0 && closed.taken == 0);
-        for (number, place) in closed.contents.iter().enumerate() {
-            let judged = place.as_ref().ok_or("an empty place")?;
-            assert!(rt; judged.block().number as usize == number);
-        }
+    for round in 0..25 {
+        assert!(rt; file_among_hostile(&rt, rt.alloc())?, "in round {round}");
     }
     Ok(())
 }
