@@ -3,7 +3,6 @@ ghost use Rattle.std.specs.Prelude.{◌≡◌};
 use smallvec::SmallVec;
 use std::alloc::{AllocError, Global};
 use std::marker::Brand;
-use std::test::Fail;
 use vme_bind::StepCollector;
 use vme_skew::{GhostSkew, SettlingVisitor, StepSettler, settle};
 use vme_trace::{Capture, Change, Changes, LINE_COUNT, Level, Line, Lines, Step, StepVisitor};
@@ -89,7 +88,7 @@ const MANY_AT_ONCE: [Row; 3] = [
 ];
 
 /// Steps behind an opening at which each line is high, a skew, and the steps that they settle to.
-const WORKED: [(&[Row], u64, &[Row]); 17] = [
+static WORKED: [(&[Row], u64, &[Row]); 17] = [
     // a step at just the skew belongs to the group, whose lines come in their order
     (
         &THREE_FALLS,
@@ -168,8 +167,11 @@ const WORKED: [(&[Row], u64, &[Row]); 17] = [
     (&MANY, 4, &MANY_AT_ONCE),
 ];
 
+/// More lines than a step keeps without memory of its own, and what they settle to by 4.
+static LARGE: [(&[Row], &[Row]); 1] = [(&MANY, &MANY_AT_ONCE)];
+
 /// A skew and a time, and what is complete of the three falls once that time is reached.
-const TIMES: [(u64, u64, &[Row]); 6] = [
+static TIMES: [(u64, u64, &[Row]); 6] = [
     // a time that is later than a group by just the skew doesn't end it
     (3, 18, &[(10, &[(AS, LOW), (DTACK, LOW)])]),
     // one that is later by one more does
@@ -215,15 +217,12 @@ fn high_lines() -> Option<Lines> {
 }
 
 /// The recording of these steps behind such lines.
-fn recorded(alloc: Global, rows: &[Row]) -> Result<Option<Capture>, AllocError> {
+fn recorded(alloc: Global, rows: &[Row]) -> Option<Capture> {
     let mut steps = Vec::new(alloc);
     for row in rows {
-        steps.push(step(*row, alloc)?)?;
+        steps.push(step(*row, alloc).ok()?).ok()?;
     }
-    let Some(opening) = high_lines() else {
-        return Ok(None);
-    };
-    Ok(Capture::new(opening, steps).ok())
+    Capture::new(high_lines()?, steps).ok()
 }
 
 /// Whether the changes of a step are these.
@@ -350,85 +349,113 @@ fn given_on(
     given_on_by::<Brand>(alloc, opening, rows, skew)
 }
 
-#[test]
-fn worked_recordings_settle(rt: HostRuntime) -> Result<(), Fail> {
-    let opening = high_lines().ok_or("no such lines")?;
-    for (rows, skew, settled) in WORKED {
-        let capture = recorded(rt.alloc(), rows)?.ok_or("malformed")?;
-        let made = settle(rt.alloc(), &capture, skew)?;
-        assert!(rt;
-            is_recorded(&made, &opening, settled),
-            "{skew} {}",
-            rows.len()
-        );
-        assert!(rt;
-            is_recorded(&capture, &opening, rows),
-            "{skew} {}",
-            rows.len()
-        );
-    }
-    Ok(())
+/// Whether a recording settles to these steps, and stays as it is.
+fn settles(alloc: Global, rows: &[Row], skew: u64, settled: &[Row]) -> Option<bool> {
+    let opening = high_lines()?;
+    let capture = recorded(alloc, rows)?;
+    let made = settle(alloc, &capture, skew).ok()?;
+    Some(is_recorded(&made, &opening, settled) && is_recorded(&capture, &opening, rows))
 }
 
 #[test]
-fn steps_settle_as_they_come(rt: HostRuntime) -> Result<(), Fail> {
-    let opening = high_lines().ok_or("no such lines")?;
-    for (rows, skew, settled) in WORKED {
-        let out = settled_as_they_come(rt.alloc(), opening, rows, skew)?;
-        assert!(rt; are_steps(&out, settled), "{skew} {}", rows.len());
+fn worked_recordings_settle(rt: HostRuntime) {
+    for (rows, skew, settled) in WORKED.iter() {
+        let is_so = settles(rt.alloc(), rows, *skew, settled).unwrap_or(false);
+        assert!(rt; is_so, "{skew} {}", rows.len());
     }
-    Ok(())
+}
+
+/// Whether these steps settle so as they come.
+fn settles_as_they_come(alloc: Global, rows: &[Row], skew: u64, settled: &[Row]) -> Option<bool> {
+    let out = settled_as_they_come(alloc, high_lines()?, rows, skew).ok()?;
+    Some(are_steps(&out, settled))
 }
 
 #[test]
-fn settled_steps_are_given_on(rt: HostRuntime) -> Result<(), Fail> {
-    let opening = high_lines().ok_or("no such lines")?;
-    for (rows, skew, settled) in WORKED {
-        let (taken, is_too_long) = given_on(rt.alloc(), &opening, rows, skew)?;
-        assert!(rt; taken.opening == opening, "{skew} {}", rows.len());
-        assert!(rt; are_steps(&taken.steps, settled), "{skew} {}", rows.len());
-        assert!(rt; !is_too_long, "{skew} {}", rows.len());
+fn steps_settle_as_they_come(rt: HostRuntime) {
+    for (rows, skew, settled) in WORKED.iter() {
+        let is_so = settles_as_they_come(rt.alloc(), rows, *skew, settled).unwrap_or(false);
+        assert!(rt; is_so, "{skew} {}", rows.len());
     }
-    Ok(())
+}
+
+/// Whether these steps are given on so, and aren't too many.
+fn gives_on(alloc: Global, rows: &[Row], skew: u64, settled: &[Row]) -> Option<bool> {
+    let opening = high_lines()?;
+    let (taken, is_too_long) = given_on(alloc, &opening, rows, skew).ok()?;
+    Some(taken.opening == opening && are_steps(&taken.steps, settled) && !is_too_long)
 }
 
 #[test]
-fn times_end_groups(rt: HostRuntime) -> Result<(), Fail> {
-    let opening = high_lines().ok_or("no such lines")?;
-    for (skew, time, complete) in TIMES {
-        let out = complete_at(rt.alloc(), opening, &THREE_FALLS, skew, time)?;
-        assert!(rt; are_steps(&out, complete), "{skew} {time}");
+fn settled_steps_are_given_on(rt: HostRuntime) {
+    for (rows, skew, settled) in WORKED.iter() {
+        let is_so = gives_on(rt.alloc(), rows, *skew, settled).unwrap_or(false);
+        assert!(rt; is_so, "{skew} {}", rows.len());
     }
-    Ok(())
+}
+
+/// Whether this is complete of the three falls once a time is reached.
+fn is_complete(alloc: Global, skew: u64, time: u64, complete: &[Row]) -> Option<bool> {
+    let out = complete_at(alloc, high_lines()?, &THREE_FALLS, skew, time).ok()?;
+    Some(are_steps(&out, complete))
+}
+
+#[test]
+fn times_end_groups(rt: HostRuntime) {
+    for (skew, time, complete) in TIMES.iter() {
+        let is_so = is_complete(rt.alloc(), *skew, *time, complete).unwrap_or(false);
+        assert!(rt; is_so, "{skew} {time}");
+    }
+}
+
+/// Whether a recording that settles to these steps by 4 settles to them by 4 again.
+fn stays(alloc: Global, rows: &[Row], settled: &[Row]) -> Option<bool> {
+    let capture = recorded(alloc, rows)?;
+    let once = settle(alloc, &capture, 4).ok()?;
+    let twice = settle(alloc, &once, 4).ok()?;
+    Some(is_recorded(&twice, &high_lines()?, settled))
 }
 
 /// What is settled settles to itself where its steps lie more than the skew apart.
 #[test]
-fn what_is_settled_stays(rt: HostRuntime) -> Result<(), Fail> {
-    let opening = high_lines().ok_or("no such lines")?;
-    let capture = recorded(rt.alloc(), &MANY)?.ok_or("malformed")?;
-    let once = settle(rt.alloc(), &capture, 4)?;
-    let twice = settle(rt.alloc(), &once, 4)?;
-    assert!(rt; is_recorded(&twice, &opening, &MANY_AT_ONCE));
-    Ok(())
+fn what_is_settled_stays(rt: HostRuntime) {
+    for (rows, settled) in LARGE.iter() {
+        assert!(rt; stays(rt.alloc(), rows, settled).unwrap_or(false));
+    }
+}
+
+/// Whether a recording settles to these steps by 4, or memory is refused.
+fn settles_if_at_all(alloc: Global, rows: &[Row], settled: &[Row]) -> bool {
+    let (Some(capture), Some(opening)) = (recorded(alloc, rows), high_lines()) else {
+        return true;
+    };
+    match settle(alloc, &capture, 4) {
+        Ok(made) => is_recorded(&made, &opening, settled),
+        Err(_) => true,
+    }
+}
+
+/// The same of steps as they come, and as they are given on.
+fn comes_if_at_all(alloc: Global, rows: &[Row], settled: &[Row]) -> bool {
+    let Some(opening) = high_lines() else {
+        return true;
+    };
+    let comes = match settled_as_they_come(alloc, opening, rows, 4) {
+        Ok(out) => are_steps(&out, settled),
+        Err(_) => true,
+    };
+    comes
+        && match given_on(alloc, &opening, rows, 4) {
+            Ok((taken, _)) => are_steps(&taken.steps, settled),
+            Err(_) => true,
+        }
 }
 
 /// Run with each allocation refused in turn, this shows that the answer is then want of memory, and else the recording.
 #[test]
 fn want_of_memory_is_the_error(rt: HostRuntime) {
-    let Ok(Some(capture)) = recorded(rt.alloc(), &MANY) else {
-        return;
-    };
-    let Some(opening) = high_lines() else {
-        return;
-    };
-    if let Ok(made) = settle(rt.alloc(), &capture, 4) {
-        assert!(rt; is_recorded(&made, &opening, &MANY_AT_ONCE));
-    }
-    if let Ok(out) = settled_as_they_come(rt.alloc(), opening, &MANY, 4) {
-        assert!(rt; are_steps(&out, &MANY_AT_ONCE));
-    }
-    if let Ok((taken, _)) = given_on(rt.alloc(), &opening, &MANY, 4) {
-        assert!(rt; are_steps(&taken.steps, &MANY_AT_ONCE));
+    for (rows, settled) in LARGE.iter() {
+        assert!(rt; settles_if_at_all(rt.alloc(), rows, settled));
+        assert!(rt; comes_if_at_all(rt.alloc(), rows, settled));
     }
 }
