@@ -4,17 +4,16 @@ ghost use Rattle.vme_summary.specs.Stands.{first_number};
 use smallvec::SmallVec;
 use std::alloc::Global;
 use std::process::Abort;
-use std::test::Fail;
 use vme_book::{Book, BookFault, CloseFault, InsertFault, Whole};
-use vme_listing::read_listing;
-use vme_summary::{Judged, judge_block};
+use vme_listing::{Listing, read_listing};
+use vme_summary::{Judged, Span, judge_block};
 use vme_trace::{
     Block, Break, Capture, Change, Changes, LINE_COUNT, Level, Line, Lines, Rule, Step, Steps,
     Verdict,
 };
 
 /// A read by modifier 39 of a requester in slot 2, in steps ten units apart. `quiet` is every line high but A24 to A31.
-const READ: [&str; 14] = [
+static READ: [&str; 14] = [
     "quiet",
     "BR3=0",
     "BG3.0=0",
@@ -53,121 +52,188 @@ fn change_of(word: &str) -> Option<Change> {
     })
 }
 
-/// A step at a time, of the changes that a text says.
-fn step_of(alloc: Global, lines: &Lines, time: u64, text: &str) -> Result<Step, &'static str> {
+/// The changes of every line to high but A24 to A31.
+fn quiet(alloc: Global, lines: &Lines) -> Option<Vec<Change>> {
     let mut changes = Vec::new(alloc);
-    if text == "quiet" {
-        for number in 0..LINE_COUNT {
-            let line = Line::from_number(number).ok_or("no such line")?;
-            if lines.has(line) && (number < 37 || 44 < number) {
-                let change = Change {
-                    line,
-                    level: Level::High,
-                };
-                changes.push(change).ok().ok_or("no memory")?;
-            }
-        }
-    } else {
-        for word in text.split_whitespace() {
-            let change = change_of(word).ok_or("no change")?;
-            changes.push(change).ok().ok_or("no memory")?;
+    for number in 0..LINE_COUNT {
+        let line = Line::from_number(number)?;
+        if lines.has(line) && (number < 37 || 44 < number) {
+            let level = Level::High;
+            changes.push(Change { line, level }).ok()?;
         }
     }
-    let list = SmallVec::from_slice(alloc, changes.as_slice());
-    Ok(Step {
+    Some(changes)
+}
+
+/// The changes that a text says.
+fn changes_of(alloc: Global, lines: &Lines, text: &str) -> Option<Vec<Change>> {
+    if text == "quiet" {
+        return quiet(alloc, lines);
+    }
+    let mut changes = Vec::new(alloc);
+    for word in text.split_whitespace() {
+        changes.push(change_of(word)?).ok()?;
+    }
+    Some(changes)
+}
+
+/// A step at a time, of the changes that a text says.
+fn step_of(alloc: Global, lines: &Lines, time: u64, text: &str) -> Option<Step> {
+    let changes = changes_of(alloc, lines, text)?;
+    let list = SmallVec::from_slice(alloc, changes.as_slice()).ok()?;
+    Some(Step {
         time,
-        changes: Changes::new(list.ok().ok_or("no memory")?),
+        changes: Changes::new(list),
     })
 }
 
-/// The recording of steps on three slots, all lines unknown before.
-fn capture_of(alloc: Global, parts: &[&str]) -> Result<Capture, &'static str> {
-    let opening = Lines::new(3).ok_or("no such backplane")?;
-    let mut steps = Vec::new(alloc);
-    for part in parts {
-        let time = (steps.len() as u64).saturating_mul(10);
-        let step = step_of(alloc, &opening, time, *part)?;
-        steps.push(step).ok().ok_or("no memory")?;
-    }
-    Capture::new(opening, steps).ok().ok_or("malformed")
+/// Adds a step.
+fn push_step(
+    alloc: Global,
+    steps: &mut Vec<Step>,
+    lines: &Lines,
+    time: u64,
+    text: &str,
+) -> Option<()> {
+    steps.push(step_of(alloc, lines, time, text)?).ok()
 }
 
-/// The read in blocks of some steps.
-fn read_blocks(alloc: Global, size: u32) -> Result<Vec<Block>, &'static str> {
-    capture_of(alloc, &READ)?
-        .cut(alloc, size)
-        .ok()
-        .ok_or("not cut")
+/// The steps of the read.
+fn read_steps(alloc: Global, opening: &Lines) -> Option<Vec<Step>> {
+    let mut steps = Vec::new(alloc);
+    for text in READ.iter() {
+        let time = (steps.len() as u64).saturating_mul(10);
+        push_step(alloc, &mut steps, opening, time, text)?;
+    }
+    Some(steps)
+}
+
+/// The blocks of steps on three slots, so many in each, all lines unknown before.
+fn cut(alloc: Global, opening: Lines, steps: Option<Vec<Step>>, size: u32) -> Option<Vec<Block>> {
+    let capture = Capture::new(opening, steps?).ok()?;
+    capture.cut(alloc, size).ok()
+}
+
+/// The read in single steps.
+fn single_steps(alloc: Global) -> Option<Vec<Block>> {
+    let opening = Lines::new(3)?;
+    cut(alloc, opening, read_steps(alloc, &opening), 1)
+}
+
+/// The read in blocks of five steps.
+fn read_by_fives(alloc: Global) -> Option<Vec<Block>> {
+    let opening = Lines::new(3)?;
+    cut(alloc, opening, read_steps(alloc, &opening), 5)
+}
+
+/// Block 0, 1 or 2 of the read in blocks of five steps.
+fn block_of_read(alloc: Global, number: usize) -> Option<Block> {
+    read_by_fives(alloc)?.get(number)?.copy(alloc).ok()
 }
 
 /// The judged block. Where memory is short once, the block that comes back is judged again.
-fn judged(rt: &impl Abort, alloc: Global, block: Block) -> Result<Judged, Fail> {
-    block.check().expect(rt, "well formed");
-    assert!(rt; block.steps.as_slice().len() <= 1000);
+fn judged(alloc: Global, block: Block) -> Option<Judged> {
+    if let Err(_) = block.check() {
+        return None;
+    }
+    if block.steps.as_slice().len() > 1000 {
+        return None;
+    }
     match judge_block(alloc, block) {
-        Ok(judged) => Ok(judged),
-        Err((block, _)) => Ok(judge_block(alloc, block).ok().ok_or("no memory")?),
+        Ok(judged) => Some(judged),
+        Err((block, _)) => judge_block(alloc, block).ok(),
     }
 }
 
 /// A book. Where memory is short once, it is asked for again.
-fn book_of(alloc: Global, total: u32) -> Result<Book, BookFault> {
+fn book_of(alloc: Global, total: u32) -> Option<Book> {
     match Book::new(alloc, total) {
-        Err(BookFault::Memory) => Book::new(alloc, total),
-        answer => answer,
+        Ok(book) => Some(book),
+        Err(BookFault::Memory) => Book::new(alloc, total).ok(),
+        Err(BookFault::BadTotal) => None,
     }
 }
 
-/// Why a block isn't inserted, where it isn't. Where memory is short once the book tells what it told before, and the
-/// block that comes back is inserted.
-fn refusal(
-    rt: &impl Abort,
-    alloc: Global,
-    book: &mut Book,
-    block: Block,
-) -> Result<Option<InsertFault>, Fail> {
-    let number = block.number;
+/// What inserting a block comes to.
+#[derive(Clone, Copy, PartialEq, Eq)]
+enum Inserted {
+    Taken,
+    Refused(InsertFault),
+    /// The block wasn't judged, or the book or the block that came back aren't as they were.
+    Wrong,
+}
+
+/// What inserting a judged block comes to, which is tried again where memory is short.
+fn insert_judged(alloc: Global, book: &mut Book, judged: Judged) -> Inserted {
+    let number = judged.block().number;
     let before = book.so_far();
-    let (again, why) = match book.insert(alloc, judged(rt, alloc, block)?) {
-        Ok(()) => return Ok(None),
+    let (again, why) = match book.insert(alloc, judged) {
+        Ok(()) => return Inserted::Taken,
         Err(refused) => refused,
     };
-    assert!(rt; book.so_far() == before);
-    assert_eq!(rt; again.block().number, number);
+    if book.so_far() != before || again.block().number != number {
+        return Inserted::Wrong;
+    }
     if why != InsertFault::Memory {
-        return Ok(Some(why));
+        return Inserted::Refused(why);
     }
     match book.insert(alloc, again) {
-        Ok(()) => Ok(None),
-        Err((_, why)) => Ok(Some(why)),
+        Ok(()) => Inserted::Taken,
+        Err((_, why)) => Inserted::Refused(why),
     }
 }
 
-/// Inserts a block.
-fn insert(rt: &impl Abort, alloc: Global, book: &mut Book, block: Block) -> Result<(), Fail> {
-    assert!(rt; refusal(rt, alloc, book, block)?.is_none());
-    Ok(())
+/// What inserting a block comes to. Where memory is short once the book tells what it told before, and the block that
+/// comes back is inserted.
+fn insert(alloc: Global, book: &mut Book, block: Block) -> Inserted {
+    match judged(alloc, block) {
+        Some(judged) => insert_judged(alloc, book, judged),
+        None => Inserted::Wrong,
+    }
+}
+
+/// Whether the book takes a block.
+fn takes(alloc: Global, book: &mut Book, block: Option<Block>) -> bool {
+    match block {
+        Some(block) => insert(alloc, book, block) == Inserted::Taken,
+        None => false,
+    }
+}
+
+/// Whether the book refuses a block for this reason.
+fn refuses(alloc: Global, book: &mut Book, block: Option<Block>, why: InsertFault) -> bool {
+    match block {
+        Some(block) => insert(alloc, book, block) == Inserted::Refused(why),
+        None => false,
+    }
 }
 
 /// What closing a book gives. Where memory is short once, the book tells what it told before, and is closed again.
-fn closed(rt: &impl Abort, alloc: Global, book: Book) -> Result<Whole, (Book, CloseFault)>
+fn closed(alloc: Global, book: Book) -> Result<Whole, CloseFault>
     ensures { IfOk result (λ whole. first_number whole.span ≡ 0) }
 {
     let before = book.so_far();
     match book.close(alloc) {
+        Ok(whole) => Ok(whole),
         Err((again, CloseFault::Memory)) => {
-            assert!(rt; again.so_far() == before);
-            again.close(alloc)
+            if again.so_far() != before {
+                return Err(CloseFault::Memory);
+            }
+            match again.close(alloc) {
+                Ok(whole) => Ok(whole),
+                Err((_, why)) => Err(why),
+            }
         }
-        answer => answer,
+        Err((_, why)) => Err(why),
     }
 }
 
-/// Why a book isn't closed, where it isn't.
-fn refused(rt: &impl Abort, alloc: Global, book: Book) -> Option<CloseFault> {
-    match closed(rt, alloc, book) {
-        Ok(_) => None,
-        Err((_, why)) => Some(why),
+/// Whether a book, which tells that what it has so far conforms, isn't closed for this reason.
+fn stays_open(alloc: Global, book: Book, why: CloseFault) -> bool {
+    let conforms = book.so_far() == Some(Verdict::Conforming);
+    match closed(alloc, book) {
+        Ok(_) => false,
+        Err(found) => conforms && found == why,
     }
 }
 
@@ -181,186 +247,258 @@ fn numbered(number: u32, block: Block) -> Block {
 }
 
 /// The block again, with DS0* alone in its last step.
-fn strobe_last(rt: &impl Abort, alloc: Global, block: Block) -> Result<Block, Fail> {
-    let mut steps = block.steps.into_inner();
-    let last = steps.pop().expect(rt, "a step");
-    steps.push(step_of(alloc, &block.opening, last.time, "DS0=0")?)?;
-    Ok(Block {
-        number: block.number,
-        opening: block.opening,
+fn strobe_last(alloc: Global, block: Block) -> Option<Block> {
+    let Block {
+        number,
+        opening,
+        steps,
+    } = block;
+    let mut steps = steps.into_inner();
+    let time = steps.pop()?.time;
+    push_step(alloc, &mut steps, &opening, time, "DS0=0")?;
+    Some(Block {
+        number,
+        opening,
         steps: Steps::new(steps),
     })
 }
 
 /// The block again, with a first step at another time.
-fn starting_at(rt: &impl Abort, time: u64, block: Block) -> Result<Block, Fail> {
-    let mut steps = block.steps.into_inner();
-    assert!(rt; !steps.is_empty());
-    steps[0].time = time;
-    Ok(Block {
-        number: block.number,
-        opening: block.opening,
+fn starting_at(time: u64, block: Block) -> Option<Block> {
+    let Block {
+        number,
+        opening,
+        steps,
+    } = block;
+    let mut steps = steps.into_inner();
+    steps.first_mut()?.time = time;
+    Some(Block {
+        number,
+        opening,
         steps: Steps::new(steps),
     })
 }
 
-/// The book closes to the worked read: its span ends at a number, and its listing is the one below.
-fn assert_read(rt: &impl Abort, alloc: Global, book: Book, last: u32) -> Result<(), Fail> {
-    let whole = closed(rt, alloc, book).ok().ok_or("not closed")?;
-    assert_eq!(rt; (whole.span.last(), whole.span.steps()), (last, 14));
-    assert_eq!(rt; whole.capture.steps().len(), 14);
-    let rows = match whole.span.listing(alloc) {
-        Ok(listing) => listing,
-        Err(_) => whole.span.listing(alloc)?,
+/// The listing of a span of a whole recording. Where memory is short once, it is made again.
+fn listing_of(alloc: Global, span: &Span) -> Option<Listing>
+    requires { first_number span.now ≡ 0 }
+{
+    match span.listing(alloc) {
+        Ok(listing) => Some(listing),
+        Err(_) => span.listing(alloc).ok(),
+    }
+}
+
+/// What the read's listing reads as. Where memory is short once, it is read again.
+fn listing_of_read(alloc: Global) -> Option<Listing> {
+    match read_listing(alloc, READ_ROWS.as_bytes()) {
+        Ok(listing) => Some(listing),
+        Err(_) => read_listing(alloc, READ_ROWS.as_bytes()).ok(),
+    }
+}
+
+/// Whether the listing of a span is the read's.
+fn lists_read(alloc: Global, span: &Span) -> bool
+    requires { first_number span.now ≡ 0 }
+{
+    match (listing_of(alloc, span), listing_of_read(alloc)) {
+        (Some(listing), Some(wanted)) => listing.rows() == wanted.rows(),
+        _ => false,
+    }
+}
+
+/// Whether the book, which tells that what it has so far conforms, closes to the worked read: its span ends at a number,
+/// and its listing is the one below.
+fn closes_to_read(alloc: Global, book: Book, last: u32) -> bool {
+    let conforms = book.so_far() == Some(Verdict::Conforming);
+    match closed(alloc, book) {
+        Ok(whole) => {
+            conforms
+                && (whole.span.last(), whole.span.steps()) == (last, 14)
+                && whole.capture.steps().len() == 14
+                && lists_read(alloc, &whole.span)
+        }
+        Err(_) => false,
+    }
+}
+
+/// Whether the book takes each block, and tells nothing before block 0, which comes last.
+fn takes_backwards(alloc: Global, book: &mut Book, blocks: Option<Vec<Block>>) -> bool {
+    let Some(blocks) = blocks else {
+        return false;
     };
-    let expected = match read_listing(alloc, READ_ROWS.as_bytes()) {
-        Ok(listing) => listing,
-        Err(_) => read_listing(alloc, READ_ROWS.as_bytes())
-            .ok()
-            .ok_or("not read")?,
-    };
-    assert!(rt; rows.rows() == expected.rows());
-    Ok(())
+    for block in blocks.into_iter().rev() {
+        if book.so_far().is_some() || !takes(alloc, book, Some(block)) {
+            return false;
+        }
+    }
+    true
 }
 
 /// A read cut into single steps, inserted from the last one on, conforms once block 0 is in.
-fn assert_backwards(rt: &impl Abort, alloc: Global) -> Result<(), Fail> {
-    let mut book = book_of(alloc, 14)?;
-    for block in read_blocks(alloc, 1)?.into_iter().rev() {
-        assert!(rt; book.so_far().is_none());
-        insert(rt, alloc, &mut book, block)?;
-    }
-    assert!(rt; book.so_far() == Some(Verdict::Conforming));
-    assert_read(rt, alloc, book, 13)
+#[test]
+fn backwards(rt: HostRuntime) {
+    let alloc = rt.alloc();
+    let Some(mut book) = book_of(alloc, 14) else {
+        panic!(rt; "no book")
+    };
+    assert!(rt; takes_backwards(alloc, &mut book, single_steps(alloc)));
+    assert!(rt; closes_to_read(alloc, book, 13));
 }
 
-/// Three blocks make the read in each of their six orders.
-fn assert_six_orders(rt: &impl Abort, alloc: Global) -> Result<(), Fail> {
-    for order in [
-        [0, 1, 2],
-        [0, 2, 1],
-        [1, 0, 2],
-        [1, 2, 0],
-        [2, 0, 1],
-        [2, 1, 0],
-    ] {
-        let blocks = read_blocks(alloc, 5)?;
-        let mut book = book_of(alloc, 3)?;
-        for number in order {
-            let block = blocks.get(number).ok_or("no such block")?.copy(alloc)?;
-            insert(rt, alloc, &mut book, block)?;
-        }
-        assert!(rt; book.so_far() == Some(Verdict::Conforming));
-        assert_read(rt, alloc, book, 2)?;
+/// The orders of three blocks.
+static ORDERS: [(usize, usize, usize); 6] = [
+    (0, 1, 2),
+    (0, 2, 1),
+    (1, 0, 2),
+    (1, 2, 0),
+    (2, 0, 1),
+    (2, 1, 0),
+];
+
+/// Whether three blocks make the read in this order.
+fn makes_read(alloc: Global, order: (usize, usize, usize)) -> bool {
+    let Some(mut book) = book_of(alloc, 3) else {
+        return false;
+    };
+    takes(alloc, &mut book, block_of_read(alloc, order.0))
+        && takes(alloc, &mut book, block_of_read(alloc, order.1))
+        && takes(alloc, &mut book, block_of_read(alloc, order.2))
+        && closes_to_read(alloc, book, 2)
+}
+
+#[test]
+fn six_orders(rt: HostRuntime) {
+    for order in ORDERS.iter() {
+        assert!(rt; makes_read(rt.alloc(), *order));
     }
-    Ok(())
 }
 
 /// Without block 1, block 0 alone is told of, and block 1 is missing.
-fn assert_missing(rt: &impl Abort, alloc: Global) -> Result<(), Fail> {
-    let mut blocks = read_blocks(alloc, 5)?;
-    let last = blocks.pop().expect(rt, "block 2");
-    let _middle = blocks.pop();
-    let first = blocks.pop().expect(rt, "block 0");
-    let mut book = book_of(alloc, 3)?;
-    insert(rt, alloc, &mut book, first)?;
-    insert(rt, alloc, &mut book, last)?;
-    assert!(rt; book.so_far() == Some(Verdict::Conforming));
-    assert!(rt; refused(rt, alloc, book) == Some(CloseFault::Missing(1)));
-    Ok(())
+#[test]
+fn missing(rt: HostRuntime) {
+    let alloc = rt.alloc();
+    let Some(mut book) = book_of(alloc, 3) else {
+        panic!(rt; "no book")
+    };
+    assert!(rt; takes(alloc, &mut book, block_of_read(alloc, 0)));
+    assert!(rt; takes(alloc, &mut book, block_of_read(alloc, 2)));
+    assert!(rt; stays_open(alloc, book, CloseFault::Missing(1)));
+}
+
+/// Whether the book takes blocks 2 and 1, of which block 1 ends otherwise, and nothing is told before block 0. Block 1 as
+/// it was is refused.
+fn takes_other_lines(alloc: Global, book: &mut Book) -> bool {
+    let Some(middle) = block_of_read(alloc, 1) else {
+        return false;
+    };
+    takes(alloc, book, block_of_read(alloc, 2))
+        && book.so_far().is_none()
+        && takes(alloc, book, strobe_last(alloc, middle))
+        && book.so_far().is_none()
+        && refuses(alloc, book, block_of_read(alloc, 1), InsertFault::Doubled)
 }
 
 /// Block 2 doesn't open with what another block 1 leaves.
-fn assert_torn_by_lines(rt: &impl Abort, alloc: Global) -> Result<(), Fail> {
-    let mut blocks = read_blocks(alloc, 5)?;
-    let last = blocks.pop().expect(rt, "block 2");
-    let middle = blocks.pop().expect(rt, "block 1");
-    let again = middle.copy(alloc)?;
-    let first = blocks.pop().expect(rt, "block 0");
-    let mut book = book_of(alloc, 3)?;
-    insert(rt, alloc, &mut book, last)?;
-    assert!(rt; book.so_far().is_none());
-    insert(rt, alloc, &mut book, strobe_last(rt, alloc, middle)?)?;
-    assert!(rt; book.so_far().is_none());
-    assert!(rt; refusal(rt, alloc, &mut book, again)? == Some(InsertFault::Doubled));
-    insert(rt, alloc, &mut book, first)?;
-    assert!(rt; book.so_far() == Some(Verdict::Conforming));
-    assert!(rt; refused(rt, alloc, book) == Some(CloseFault::Torn(2)));
-    Ok(())
+#[test]
+fn torn_by_lines(rt: HostRuntime) {
+    let alloc = rt.alloc();
+    let Some(mut book) = book_of(alloc, 3) else {
+        panic!(rt; "no book")
+    };
+    assert!(rt; takes_other_lines(alloc, &mut book));
+    assert!(rt; takes(alloc, &mut book, block_of_read(alloc, 0)));
+    assert!(rt; stays_open(alloc, book, CloseFault::Torn(2)));
 }
 
-/// Blocks 1 and 2 join, since block 1 is empty; block 2 doesn't come later than block 0.
-fn assert_torn_across_an_empty_block(rt: &impl Abort, alloc: Global) -> Result<(), Fail> {
-    let mut blocks = read_blocks(alloc, 5)?;
-    let _last = blocks.pop();
-    let middle = blocks.pop().expect(rt, "block 1");
-    let first = blocks.pop().expect(rt, "block 0");
+/// Whether the book takes block 1 as an early block 2, and an empty block 1.
+fn takes_early_and_empty(alloc: Global, book: &mut Book) -> bool {
+    let Some(middle) = block_of_read(alloc, 1) else {
+        return false;
+    };
     let empty = Block {
         number: 1,
         opening: middle.opening,
         steps: Steps::new(Vec::new(alloc)),
     };
-    let early = numbered(2, starting_at(rt, 40, middle)?);
-    let mut book = book_of(alloc, 3)?;
-    insert(rt, alloc, &mut book, early)?;
-    insert(rt, alloc, &mut book, empty)?;
-    insert(rt, alloc, &mut book, first)?;
-    assert!(rt; book.so_far() == Some(Verdict::Conforming));
-    assert!(rt; refused(rt, alloc, book) == Some(CloseFault::Torn(2)));
-    Ok(())
+    let early = starting_at(40, numbered(2, middle));
+    takes(alloc, book, early) && takes(alloc, book, Some(empty))
+}
+
+/// Blocks 1 and 2 join, since block 1 is empty; block 2 doesn't come later than block 0.
+#[test]
+fn torn_across_an_empty_block(rt: HostRuntime) {
+    let alloc = rt.alloc();
+    let Some(mut book) = book_of(alloc, 3) else {
+        panic!(rt; "no book")
+    };
+    assert!(rt; takes_early_and_empty(alloc, &mut book));
+    assert!(rt; takes(alloc, &mut book, block_of_read(alloc, 0)));
+    assert!(rt; stays_open(alloc, book, CloseFault::Torn(2)));
+}
+
+/// Whether no book of so many blocks is made, as they are too few or too many.
+fn is_bad_total(alloc: Global, total: u32) -> bool {
+    match Book::new(alloc, total) {
+        Ok(_) => false,
+        Err(fault) => fault == BookFault::BadTotal,
+    }
+}
+
+/// Whether an empty book isn't closed, as block 0 is missing.
+fn lacks_all(alloc: Global, book: Book) -> bool {
+    match closed(alloc, book) {
+        Ok(_) => false,
+        Err(why) => why == CloseFault::Missing(0),
+    }
 }
 
 /// Totals out of range, and a number that isn't below the total.
-fn assert_ranges(rt: &impl Abort, alloc: Global) -> Result<(), Fail> {
-    assert!(rt; Book::new(alloc, 0).err() == Some(BookFault::BadTotal));
-    assert!(rt; Book::new(alloc, 4097).err() == Some(BookFault::BadTotal));
-    let mut book = book_of(alloc, 3)?;
-    let stranger = numbered(3, read_blocks(alloc, 5)?.pop().expect(rt, "a block"));
-    assert!(rt; refusal(rt, alloc, &mut book, stranger)? == Some(InsertFault::Stranger));
-    assert!(rt; refused(rt, alloc, book) == Some(CloseFault::Missing(0)));
-    Ok(())
-}
-
-fn assert_answers(rt: &impl Abort, alloc: Global) -> Result<(), Fail> {
-    assert_backwards(rt, alloc)?;
-    assert_six_orders(rt, alloc)?;
-    assert_missing(rt, alloc)?;
-    assert_torn_by_lines(rt, alloc)?;
-    assert_torn_across_an_empty_block(rt, alloc)?;
-    assert_ranges(rt, alloc)
-}
-
 #[test]
-fn answers(rt: HostRuntime) -> Result<(), Fail> {
-    assert_answers(&rt, rt.alloc())
+fn ranges(rt: HostRuntime) {
+    let alloc = rt.alloc();
+    assert!(rt; is_bad_total(alloc, 0) && is_bad_total(alloc, 4097));
+    let (Some(mut book), Some(block)) = (book_of(alloc, 3), block_of_read(alloc, 2)) else {
+        panic!(rt; "no book")
+    };
+    let stranger = Some(numbered(3, block));
+    assert!(rt; refuses(alloc, &mut book, stranger, InsertFault::Stranger));
+    assert!(rt; lacks_all(alloc, book));
 }
 
 /// The blocks of the read by fives. Where memory is refused once, they are made again.
-fn blocks_by_fives(alloc: Global) -> Result<Vec<Block>, &'static str> {
-    match read_blocks(alloc, 5) {
-        Ok(blocks) => Ok(blocks),
-        Err(_) => read_blocks(alloc, 5),
+fn blocks_by_fives(alloc: Global) -> Option<Vec<Block>> {
+    match read_by_fives(alloc) {
+        Some(blocks) => Some(blocks),
+        None => read_by_fives(alloc),
     }
+}
+
+/// Whether the book takes each block, and tells after each that what it has conforms.
+fn takes_forwards(alloc: Global, book: &mut Book) -> bool {
+    let Some(blocks) = blocks_by_fives(alloc) else {
+        return false;
+    };
+    for block in blocks {
+        if !takes(alloc, book, Some(block)) || book.so_far() != Some(Verdict::Conforming) {
+            return false;
+        }
+    }
+    true
 }
 
 /// `tests/memory/run` refuses each of its allocations in turn. Blocks in order are joined as further ones are inserted,
 /// and backwards as the book is closed.
 #[test]
-fn each_growth_fails_once(rt: HostRuntime) -> Result<(), Fail> {
+fn each_growth_fails_once(rt: HostRuntime) {
     let alloc = rt.alloc();
-    let mut forwards = book_of(alloc, 3)?;
-    for block in blocks_by_fives(alloc)? {
-        insert(&rt, alloc, &mut forwards, block)?;
-        assert!(rt; forwards.so_far() == Some(Verdict::Conforming));
-    }
-    assert_read(&rt, alloc, forwards, 2)?;
-    let mut backwards = book_of(alloc, 3)?;
-    for block in blocks_by_fives(alloc)?.into_iter().rev() {
-        assert!(rt; backwards.so_far().is_none());
-        insert(&rt, alloc, &mut backwards, block)?;
-    }
-    assert!(rt; backwards.so_far() == Some(Verdict::Conforming));
-    assert_read(&rt, alloc, backwards, 2)
+    let (Some(mut forwards), Some(mut backwards)) = (book_of(alloc, 3), book_of(alloc, 3)) else {
+        panic!(rt; "no books")
+    };
+    assert!(rt; takes_forwards(alloc, &mut forwards));
+    assert!(rt; closes_to_read(alloc, forwards, 2));
+    assert!(rt; takes_backwards(alloc, &mut backwards, blocks_by_fives(alloc)));
+    assert!(rt; closes_to_read(alloc, backwards, 2));
 }
 
 /// How many blocks arrive in each order.
@@ -390,61 +528,85 @@ impl Order {
 }
 
 /// The bus gets quiet, an address line changes in turn, and at last an answer falls with no transfer underway.
-fn many_steps(alloc: Global) -> Result<Capture, Fail> {
-    let opening = Lines::new(3).ok_or("no such backplane")?;
+fn many_steps(alloc: Global, opening: &Lines) -> Option<Vec<Step>> {
     let mut steps = Vec::new(alloc);
-    steps.push(step_of(alloc, &opening, 0, "quiet")?)?;
+    push_step(alloc, &mut steps, opening, 0, "quiet")?;
     for place in 1..4095u64 {
         let text = if place % 2 == 1 { "A05=0" } else { "A05=1" };
-        steps.push(step_of(alloc, &opening, place * 10, text)?)?;
+        push_step(alloc, &mut steps, opening, place * 10, text)?;
     }
-    steps.push(step_of(alloc, &opening, 40950, "DTACK=0")?)?;
-    Ok(Capture::new(opening, steps).ok().ok_or("malformed")?)
+    push_step(alloc, &mut steps, opening, 40950, "DTACK=0")?;
+    Some(steps)
 }
 
-/// Single steps that arrive in an order make the recording again, with its break.
-fn assert_order(rt: &impl Abort, alloc: Global, order: Order) -> Result<(), Fail> {
+/// The blocks of those, each of which can be taken once.
+fn many_blocks(alloc: Global) -> Option<Vec<Option<Block>>> {
+    let opening = Lines::new(3)?;
     let mut blocks = Vec::new(alloc);
-    for block in many_steps(alloc)?.cut(alloc, 1)? {
-        blocks.push(Some(block))?;
+    for block in cut(alloc, opening, many_steps(alloc, &opening), 1)? {
+        blocks.push(Some(block)).ok()?;
     }
-    assert_eq!(rt; blocks.len(), MANY);
-    let mut book = book_of(alloc, 4096)?;
+    Some(blocks)
+}
+
+/// Whether the book takes each block, in an order.
+fn takes_all(alloc: Global, book: &mut Book, order: Order) -> bool {
+    let Some(mut blocks) = many_blocks(alloc) else {
+        return false;
+    };
     for place in 0..MANY {
-        let number = order.number(place);
-        assert!(rt; number < blocks.len());
-        let block = blocks[number].take().ok_or("twice")?;
-        insert(rt, alloc, &mut book, block)?;
+        let block = match blocks.get_mut(order.number(place)) {
+            Some(block) => block.take(),
+            None => None,
+        };
+        if !takes(alloc, book, block) {
+            return false;
+        }
     }
+    blocks.len() == MANY
+}
+
+/// Whether the book closes to the recording of those blocks, with its break.
+fn closes_to_many(alloc: Global, book: Book) -> bool {
     let broken = Verdict::Broken(Break {
         instant: 4096,
         time: 40950,
         rule: Rule::H4,
         line: Line::DTACK,
     });
-    assert!(rt; book.so_far() == Some(broken));
-    let whole = closed(rt, alloc, book).ok().ok_or("not closed")?;
-    assert_eq!(rt; whole.capture.steps().len(), MANY);
-    assert_eq!(rt; whole.span.steps(), 4096);
-    Ok(())
+    let is_broken = book.so_far() == Some(broken);
+    match closed(alloc, book) {
+        Ok(whole) => {
+            is_broken && whole.capture.steps().len() == MANY && whole.span.steps() == 4096
+        }
+        Err(_) => false,
+    }
+}
+
+/// Whether single steps that arrive in an order make the recording again, with its break.
+fn makes_many(alloc: Global, order: Order) -> bool {
+    match book_of(alloc, 4096) {
+        Some(mut book) => takes_all(alloc, &mut book, order) && closes_to_many(alloc, book),
+        None => false,
+    }
 }
 
 #[test]
-fn ascending(rt: HostRuntime) -> Result<(), Fail> {
-    assert_order(&rt, rt.alloc(), Order::Ascending)
+fn ascending(rt: HostRuntime) {
+    assert!(rt; makes_many(rt.alloc(), Order::Ascending));
 }
 
 #[test]
-fn descending(rt: HostRuntime) -> Result<(), Fail> {
-    assert_order(&rt, rt.alloc(), Order::Descending)
+fn descending(rt: HostRuntime) {
+    assert!(rt; makes_many(rt.alloc(), Order::Descending));
 }
 
 #[test]
-fn even_then_odd(rt: HostRuntime) -> Result<(), Fail> {
-    assert_order(&rt, rt.alloc(), Order::EvenThenOdd)
+fn even_then_odd(rt: HostRuntime) {
+    assert!(rt; makes_many(rt.alloc(), Order::EvenThenOdd));
 }
 
 #[test]
-fn shuffled(rt: HostRuntime) -> Result<(), Fail> {
-    assert_order(&rt, rt.alloc(), Order::Shuffled)
+fn shuffled(rt: HostRuntime) {
+    assert!(rt; makes_many(rt.alloc(), Order::Shuffled));
 }
