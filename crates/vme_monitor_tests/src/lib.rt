@@ -1,10 +1,32 @@
-//! Tests of vme_monitor: tables of small monitors, joined and run.
+//! Tests of the monitors in vme_monitor, vme_dtb, vme_stability and vme_chains: worked recordings,
+//! joined and run.
 //!
-//! The breaks, starts and resets that are found are compared with those that stand beside the
-//! recordings, whatever the size of the blocks: where judging starts, again after a reset, of two
-//! monitors at once, and without marks. The only rules here are those of `Known`; the other
-//! monitors are tried in vme_dtb_tests, vme_stability_tests and vme_chains_tests.
+//! The breaks and marks that are found are compared with those that stand beside the recordings,
+//! whatever the size of the blocks; and each memory stands at its place.
+//!
+//! - `recordings`: how recordings are written, and whether a monitor finds in them what is wanted.
+//! - `known_tests`: where judging starts, again after a reset, of two monitors at once, and without
+//!   marks. The only rules here are those of `Known`.
+//! - `handshake_tests`: pipelined cycles and an answer without a transfer (H4); the data of a write,
+//!   known and unknown.
+//! - `stability_tests`: cycles with and without data, and resets that end what is held. U3, U4, S1,
+//!   S2 and S3 are broken; U2 is in vme_summary_tests and vme_eval.
+//! - `grant_tests` and `acknowledge_tests`: a tenure, a grant that is taken twice (B2), one that
+//!   goes past the last slot (B4), a tenure that is open after a reset, an acknowledge along its
+//!   chain, and one that skips a slot (I1).
+//!
+//! Not tried here: breaks of the other rules. Each is broken in a worked recording of vme_eval.
 #![tactic(auto)]
 
 #[cfg(test)]
-mod tests;
+mod acknowledge_tests;
+#[cfg(test)]
+mod grant_tests;
+#[cfg(test)]
+mod handshake_tests;
+#[cfg(test)]
+mod known_tests;
+#[cfg(test)]
+mod recordings;
+#[cfg(test)]
+mod stability_tests;
