@@ -284,8 +284,8 @@ fn torn_listings(rt: HostRuntime) {
     }
 }
 
-/// How many line feeds dumps have, how many come a read, and what is told of each: 17,000,000 bytes, the most that there
-/// may be, one more, and as many as 64 bits can count.
+/// How many line feeds dumps have, how many come a read, and what is told of each: 17,000,000 bytes, the most that
+/// there may be, one more, and as many as 64 bits can count.
 static LONG_DUMPS: [(usize, usize, &str); 5] = [
     (
         17_000_000,

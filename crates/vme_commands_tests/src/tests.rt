@@ -97,10 +97,10 @@ impl Read for Broken {
 }
 
 /// What a command writes and tells, and its status.
-pub(crate) type Wanted<'a> = (&'a str, &'a str, u8);
+pub(crate) type WantedTexts<'a> = (&'a str, &'a str, u8);
 
 /// Whether a command wrote and told this.
-pub(crate) fn has_told(out: &Page, err: &Page, status: u8, wanted: Wanted<'_>) -> bool {
+pub(crate) fn has_told(out: &Page, err: &Page, status: u8, wanted: WantedTexts<'_>) -> bool {
     let (text, told, ended) = wanted;
     out.bytes.as_slice() == text.as_bytes()
         && err.bytes.as_slice() == told.as_bytes()
@@ -115,7 +115,7 @@ pub(crate) fn checks<R: AllocGlobal + Threads + Sync>(
     block: u32,
     workers: u32,
     skew: u64,
-    wanted: Wanted<'_>,
+    wanted: WantedTexts<'_>,
 ) -> bool
     requires { (1 ≤ block) × (block ≤ 65536) × (1 ≤ workers) × (workers ≤ 64) }
 {
@@ -213,7 +213,7 @@ pub(crate) fn lists<R: AllocGlobal + Threads + Sync>(
     block: u32,
     workers: u32,
     skew: u64,
-    wanted: Wanted<'_>,
+    wanted: WantedTexts<'_>,
 ) -> bool
     requires { (1 ≤ block) × (block ≤ 65536) × (1 ≤ workers) × (workers ≤ 64) }
 {
@@ -331,7 +331,7 @@ pub(crate) fn confirms<L: Source>(
     dump: &[u8],
     listing: &mut L,
     skew: u64,
-    wanted: Wanted<'_>,
+    wanted: WantedTexts<'_>,
 ) -> bool {
     let mut out = Page::new(alloc, 1000);
     let mut err = Page::new(alloc, 1000);
@@ -756,10 +756,16 @@ fn an_explanation_begins_with_the_verdict(rt: HostRuntime) -> Result<(), Fail> {
 }
 
 /// What is written of a binding, what is told of it, and the status.
-type Bound = (&'static str, &'static str, u8);
+type WrittenBinding = (&'static str, &'static str, u8);
 
 /// Whether a binding is written for a scope of a dump that begins so, and what is told begins so.
-fn binds(alloc: Global, dump: &str, slots: Option<u8>, path: Option<&[u8]>, bound: Bound) -> bool
+fn binds(
+    alloc: Global,
+    dump: &str,
+    slots: Option<u8>,
+    path: Option<&[u8]>,
+    bound: WrittenBinding,
+) -> bool
     requires { IfSome slots (λ n. (1 ≤ n) × (n ≤ 21)) }
 {
     let (head, told, status) = bound;
@@ -797,19 +803,19 @@ fn a_binding_without_a_bus_ends_with_a_status_of_its_own(rt: HostRuntime) {
 }
 
 /// What is written and told of the scope of the bus, of none and of another.
-const IN_BUS: Bound = (
+const IN_BUS: WrittenBinding = (
     "# Found by the names in the scope bus: look each line over.\nslots 2\nAS = bus.AS\n",
     "vmecheck: bound 6 of 19 groups in scope bus, 2 slots; ",
     0,
 );
 
-const IN_NONE: Bound = (
+const IN_NONE: WrittenBinding = (
     "# NOTHING IS BOUND: no variable outside of all scopes was found ",
     "vmecheck: bound 0 of 19 groups: no variable outside of all scopes is named ",
     7,
 );
 
-const IN_ANOTHER: Bound = (
+const IN_ANOTHER: WrittenBinding = (
     "",
     "vmecheck: no variable of the dump stands in that scope: `vmecheck variables` lists their paths\n",
     3,

@@ -7,10 +7,10 @@ use vme_stability::stability::Stability;
 use vme_trace::{Line, Rule};
 
 /// The steps of a recording on three slots, and its break, the line by its name.
-type Worked = (&'static str, Option<(u32, Rule, &'static str)>);
+type JudgedSteps = (&'static str, Option<(u32, Rule, &'static str)>);
 
 /// Recordings whose bus is granted to slot 2.
-static WORKED: [Worked; 13] = [
+static WORKED: [JudgedSteps; 13] = [
     // an address is held until the answer
     (
         "quiet;BR3=0;BG3.0=0;BG3.1=0;BBSY=0 BR3=1;BG3.0=1;BG3.1=1;\
@@ -82,7 +82,7 @@ static WORKED: [Worked; 13] = [
 ];
 
 /// What a cycle holds may change once the bus is reset, and not before.
-static RESETS: [Worked; 2] = [
+static RESETS: [JudgedSteps; 2] = [
     (
         "quiet;AM1=0 AM2=0 A05=0;AS=0;SYSRESET=0;AS=1 A05=1;SYSRESET=1",
         None,
@@ -94,7 +94,7 @@ static RESETS: [Worked; 2] = [
 ];
 
 /// Whether this is found in a recording, and nothing is shown.
-fn is_judged(alloc: Global, worked: &Worked) -> bool {
+fn is_judged(alloc: Global, worked: &JudgedSteps) -> bool {
     let (steps, want) = *worked;
     let event = match want {
         Some((instant, rule, name)) => match Line::from_name(name.as_bytes()) {
