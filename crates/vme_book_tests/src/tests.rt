@@ -307,8 +307,8 @@ fn lists_read(alloc: Global, span: &Span) -> bool
     }
 }
 
-/// Whether the book, which tells that what it has so far conforms, closes to the worked read: its span ends at a number,
-/// and its listing is the one below.
+/// Whether the book, which tells that what it has so far conforms, closes to the worked read: its span ends at a
+/// number, and its listing is the one below.
 fn closes_to_read(alloc: Global, book: Book, last: u32) -> bool {
     let conforms = book.so_far() == Some(Verdict::Conforming);
     match closed(alloc, book) {
@@ -386,8 +386,8 @@ fn missing(rt: HostRuntime) {
     assert!(rt; stays_open(alloc, book, CloseFault::Missing(1)));
 }
 
-/// Whether the book takes blocks 2 and 1, of which block 1 ends otherwise, and nothing is told before block 0. Block 1 as
-/// it was is refused.
+/// Whether the book takes blocks 2 and 1, of which block 1 ends otherwise, and nothing is told before block 0. Block 1
+/// as it was is refused.
 fn takes_other_lines(alloc: Global, book: &mut Book) -> bool {
     let Some(middle) = block_of_read(alloc, 1) else {
         return false;
