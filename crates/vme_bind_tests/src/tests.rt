@@ -107,7 +107,7 @@ $enddefinitions $end
 
 /// What the binding of the bus has behind its lines, what the dump declares behind AS, its changes, and the steps of
 /// the recording.
-const OF_BUS: [(&str, &str, &str, &str); 5] = [
+static OF_BUS: [(&str, &str, &str, &str); 5] = [
     ("", "", READ, READ_STEPS),
     (
         "D = bus.D\n",
@@ -140,7 +140,7 @@ const OF_BUS: [(&str, &str, &str, &str); 5] = [
 ];
 
 /// The bits of AS, those of BR, and the steps of the recording.
-const OF_VECTORS: [(&str, &str, &str); 3] = [
+static OF_VECTORS: [(&str, &str, &str); 3] = [
     (
         "down[7]",
         "down[4:1]",
@@ -159,7 +159,7 @@ const OF_VECTORS: [(&str, &str, &str); 3] = [
 ];
 
 /// The path of AS, and the declarations of a dump in which it is p: a path may part into scopes anywhere.
-const OF_PATHS: [(&str, &str); 12] = [
+static OF_PATHS: [(&str, &str); 12] = [
     (
         "a.b.c",
         "$scope module a $end $scope begin b $end $var wire 1 p c $end",
@@ -213,23 +213,23 @@ fn together(alloc: Global, parts: &[&str]) -> Result<Vec<u8>, AllocError> {
     Ok(text)
 }
 
-fn bound(alloc: Global, parts: &[&str]) -> Result<Binding, Fail> {
-    let text = together(alloc, parts)?;
-    Ok(read_binding(alloc, text.as_slice())?)
+fn bound(alloc: Global, parts: &[&str]) -> Option<Binding> {
+    let text = together(alloc, parts).ok()?;
+    read_binding(alloc, text.as_slice()).ok()
 }
 
-fn captured(alloc: Global, binding: &[&str], dump: &[&str]) -> Result<Capture, Fail> {
+fn captured(alloc: Global, binding: &[&str], dump: &[&str]) -> Option<Capture> {
     let binding = bound(alloc, binding)?;
-    let text = together(alloc, dump)?;
-    Ok(binding.capture_text(alloc, text.as_slice())?)
+    let text = together(alloc, dump).ok()?;
+    binding.capture_text(alloc, text.as_slice()).ok()
 }
 
 /// The same by a dump that was read before.
-fn captured_by_dump(alloc: Global, binding: &[&str], dump: &[&str]) -> Result<Capture, Fail> {
+fn captured_by_dump(alloc: Global, binding: &[&str], dump: &[&str]) -> Option<Capture> {
     let binding = bound(alloc, binding)?;
-    let text = together(alloc, dump)?;
-    let dump = read_vcd(alloc, text.as_slice())?;
-    Ok(binding.capture(alloc, &dump)?)
+    let text = together(alloc, dump).ok()?;
+    let dump = read_vcd(alloc, text.as_slice()).ok()?;
+    binding.capture(alloc, &dump).ok()
 }
 
 fn sign_of(level: Level) -> u8 {
@@ -267,73 +267,73 @@ fn push(text: &mut Vec<u8>, part: String) -> Result<(), AllocError> {
     Ok(())
 }
 
-/// Whether the steps of a recording are written so.
-fn is_written(alloc: Global, capture: &Capture, wanted: &str) -> Result<bool, AllocError> {
-    let text = written(alloc, capture.steps())?;
-    Ok(text.as_slice() == wanted.as_bytes())
-}
-
-fn assert_recorded(
-    rt: &impl Abort,
-    alloc: Global,
-    binding: &[&str],
-    dump: &[&str],
-    wanted: &str,
-) -> Result<(), Fail> {
-    let capture = captured(alloc, binding, dump)?;
-    assert!(rt; is_written(alloc, &capture, wanted)?, "not {wanted}");
-    Ok(())
-}
-
-#[test]
-fn recordings_of_the_bus(rt: HostRuntime) -> Result<(), Fail> {
-    for (more, declared, changes, wanted) in OF_BUS {
-        let dump = [BUS, declared, DECLARED, changes];
-        assert_recorded(&rt, rt.alloc(), &[BUS_LINES, more], &dump, wanted)?;
+/// Whether steps are written so.
+fn are_written(alloc: Global, steps: &[Step], wanted: &str) -> bool {
+    match written(alloc, steps) {
+        Ok(text) => text.as_slice() == wanted.as_bytes(),
+        Err(_) => false,
     }
-    Ok(())
 }
 
-#[test]
-fn a_dump_that_was_read_is_recorded(rt: HostRuntime) -> Result<(), Fail> {
-    let capture = captured_by_dump(rt.alloc(), &[BUS_LINES], &[BUS, DECLARED, READ])?;
-    assert!(rt; is_written(rt.alloc(), &capture, READ_STEPS)?);
-    Ok(())
-}
-
-#[test]
-fn recordings_of_vectors(rt: HostRuntime) -> Result<(), Fail> {
-    for (strobe, requests, wanted) in OF_VECTORS {
-        let binding = [
-            "slots 1\nAS = ",
-            strobe,
-            "\nBR = ",
-            requests,
-            "\nBG0 = grants\n",
-            OTHERS,
-        ];
-        assert_recorded(&rt, rt.alloc(), &binding, &[VECTORS], wanted)?;
+/// Whether there is a recording, whose steps are written so.
+fn is_written(alloc: Global, capture: Option<Capture>, wanted: &str) -> bool {
+    match capture {
+        Some(capture) => are_written(alloc, capture.steps(), wanted),
+        None => false,
     }
-    Ok(())
 }
 
 #[test]
-fn recordings_by_paths(rt: HostRuntime) -> Result<(), Fail> {
-    for (path, header) in OF_PATHS {
-        let binding = ["slots 1\nAS = ", path, ONES, OTHERS];
-        assert_recorded(
-            &rt,
-            rt.alloc(),
-            &binding,
-            &[header, FALLS],
-            "#1 AS=1\n#2 AS=0\n",
-        )?;
+fn recordings_of_the_bus(rt: HostRuntime) {
+    for (more, declared, changes, wanted) in OF_BUS.iter() {
+        let dump = [BUS, *declared, DECLARED, *changes];
+        let capture = captured(rt.alloc(), &[BUS_LINES, *more], &dump);
+        assert!(rt; is_written(rt.alloc(), capture, wanted), "not {wanted}");
     }
-    Ok(())
+}
+
+#[test]
+fn a_dump_that_was_read_is_recorded(rt: HostRuntime) {
+    let capture = captured_by_dump(rt.alloc(), &[BUS_LINES], &[BUS, DECLARED, READ]);
+    assert!(rt; is_written(rt.alloc(), capture, READ_STEPS));
+}
+
+/// The parts of a binding of AS and BR to bits of vectors.
+fn to_vectors<'a>(strobe: &'a str, requests: &'a str) -> [&'a str; 6] {
+    [
+        "slots 1\nAS = ",
+        strobe,
+        "\nBR = ",
+        requests,
+        "\nBG0 = grants\n",
+        OTHERS,
+    ]
+}
+
+/// The parts of a binding of AS to a path.
+fn to_path(path: &str) -> [&str; 4] {
+    ["slots 1\nAS = ", path, ONES, OTHERS]
+}
+
+#[test]
+fn recordings_of_vectors(rt: HostRuntime) {
+    for (strobe, requests, wanted) in OF_VECTORS.iter() {
+        let capture = captured(rt.alloc(), &to_vectors(strobe, requests), &[VECTORS]);
+        assert!(rt; is_written(rt.alloc(), capture, wanted), "not {wanted}");
+    }
+}
+
+#[test]
+fn recordings_by_paths(rt: HostRuntime) {
+    for (path, header) in OF_PATHS.iter() {
+        let capture = captured(rt.alloc(), &to_path(path), &[*header, FALLS]);
+        let wanted = "#1 AS=1\n#2 AS=0\n";
+        assert!(rt; is_written(rt.alloc(), capture, wanted), "{header}");
+    }
 }
 
 /// What the binding has behind its lines, a line, and the level that it opens with.
-const OPENINGS: [(&str, &str, Level); 9] = [
+static OPENINGS: [(&str, &str, Level); 9] = [
     ("", "AS", Level::Unknown),
     ("", "BBSY", Level::Low),
     ("", "AM1", Level::Low),
@@ -364,31 +364,30 @@ fn has_data_high(lines: &Lines) -> bool {
 }
 
 /// The level of a line in the opening, where the binding has more lines.
-fn opening_level(alloc: Global, more: &str, name: &str) -> Result<Option<Level>, Fail> {
+fn opening_level(alloc: Global, more: &str, name: &str) -> Option<Level> {
     let capture = captured(alloc, &[BUS_LINES, more], &[BUS, DECLARED, READ])?;
-    Ok(level_of(capture.opening(), name))
+    level_of(capture.opening(), name)
 }
 
 #[test]
-fn openings(rt: HostRuntime) -> Result<(), Fail> {
-    for (more, name, level) in OPENINGS {
-        assert!(rt;
-            opening_level(rt.alloc(), more, name)? == Some(level),
-            "{name} {more}"
-        );
+fn openings(rt: HostRuntime) {
+    for (more, name, level) in OPENINGS.iter() {
+        let found = opening_level(rt.alloc(), more, name);
+        assert!(rt; found == Some(*level), "{name} {more}");
     }
-    Ok(())
 }
 
 #[test]
-fn data_lines_that_are_left_out_are_high(rt: HostRuntime) -> Result<(), Fail> {
-    let capture = captured(rt.alloc(), &[BUS_LINES], &[BUS, DECLARED, READ])?;
-    assert!(rt; capture.opening().slots() == 1 && has_data_high(capture.opening()));
-    Ok(())
+fn data_lines_that_are_left_out_are_high(rt: HostRuntime) {
+    let is_so = match captured(rt.alloc(), &[BUS_LINES], &[BUS, DECLARED, READ]) {
+        Some(capture) => capture.opening().slots() == 1 && has_data_high(capture.opening()),
+        None => false,
+    };
+    assert!(rt; is_so);
 }
 
 /// Texts, and their first faults.
-const FAULTS: [(&str, &str); 13] = [
+static FAULTS: [(&str, &str); 13] = [
     ("AS = 0", "binding line 1: SlotsFirst"),
     ("slots 22", "binding line 1: SlotsFirst"),
     ("slots 0", "binding line 1: SlotsFirst"),
@@ -405,7 +404,7 @@ const FAULTS: [(&str, &str); 13] = [
 ];
 
 /// What is behind the lines of the bus, and the first fault.
-const MORE_FAULTS: [(&str, &str); 4] = [
+static MORE_FAULTS: [(&str, &str); 4] = [
     ("D00 = 1\n", "binding line 25: Unbound D01"),
     ("D = 1\nD31 = 1\n", "binding line 25: NamedTwice"),
     ("D32 = 1\n", "binding line 24: UnknownName"),
@@ -416,37 +415,39 @@ const MORE_FAULTS: [(&str, &str); 4] = [
 ];
 
 /// The first fault of a text, as it is shown.
-fn fault_of(alloc: Global, parts: &[&str]) -> Result<String, Fail> {
-    let text = together(alloc, parts)?;
-    let fault = read_binding(alloc, text.as_slice()).err();
-    let fault = fault.ok_or("no fault")?;
-    Ok(format!(in alloc; "{fault}")?)
+fn fault_of(alloc: Global, parts: &[&str]) -> Option<String> {
+    let text = together(alloc, parts).ok()?;
+    let fault = read_binding(alloc, text.as_slice()).err()?;
+    format!(in alloc; "{fault}").ok()
 }
 
-fn assert_fault(rt: &impl Abort, alloc: Global, parts: &[&str], wanted: &str) -> Result<(), Fail> {
-    let found = fault_of(alloc, parts)?;
-    assert!(rt; found.as_str() == wanted, "not {wanted}");
-    Ok(())
+/// Whether this is the first fault of a text.
+fn has_fault(alloc: Global, parts: &[&str], wanted: &str) -> bool {
+    match fault_of(alloc, parts) {
+        Some(found) => found.as_str() == wanted,
+        None => false,
+    }
 }
 
 #[test]
-fn faults_of_bindings(rt: HostRuntime) -> Result<(), Fail> {
-    for (text, wanted) in FAULTS {
-        assert_fault(&rt, rt.alloc(), &[text], wanted)?;
+fn faults_of_bindings(rt: HostRuntime) {
+    for (text, wanted) in FAULTS.iter() {
+        assert!(rt; has_fault(rt.alloc(), &[*text], wanted), "not {wanted}");
     }
-    Ok(())
 }
 
 #[test]
-fn faults_behind_the_lines_of_the_bus(rt: HostRuntime) -> Result<(), Fail> {
-    for (more, wanted) in MORE_FAULTS {
-        assert_fault(&rt, rt.alloc(), &[BUS_LINES, more], wanted)?;
+fn faults_behind_the_lines_of_the_bus(rt: HostRuntime) {
+    for (more, wanted) in MORE_FAULTS.iter() {
+        assert!(rt;
+            has_fault(rt.alloc(), &[BUS_LINES, *more], wanted),
+            "not {wanted}"
+        );
     }
-    Ok(())
 }
 
 /// The bits of AS, those of BR, and the first fault by the lines of the binding.
-const NO_VECTORS: [(&str, &str, &str); 7] = [
+static NO_VECTORS: [(&str, &str, &str); 7] = [
     ("down", "none", "binding line 2: WrongWidth"),
     ("down[8]", "up", "binding line 2: NoSuchPath"),
     ("up[0]", "up[3:0]", "binding line 3: NoSuchPath"),
@@ -457,7 +458,7 @@ const NO_VECTORS: [(&str, &str, &str); 7] = [
 ];
 
 /// The path of AS, the declarations of a dump, and the first fault by the lines of the binding.
-const NO_PATHS: [(&str, &str, &str); 8] = [
+static NO_PATHS: [(&str, &str, &str); 8] = [
     (
         "a.b",
         "$scope module a $end $upscope $end $var wire 1 p b $end",
@@ -508,107 +509,113 @@ fn shown_fault(alloc: Global, fault: CaptureFault) -> Result<String, AllocError>
 }
 
 /// Why the text of a dump makes no recording.
-fn lacked(alloc: Global, binding: &Binding, text: &[u8]) -> Result<String, Fail> {
-    let fault = binding.capture_text(alloc, text).err();
-    Ok(shown_fault(alloc, fault.ok_or("a recording")?)?)
+fn lacked(alloc: Global, binding: &Binding, text: &[u8]) -> Option<String> {
+    let fault = binding.capture_text(alloc, text).err()?;
+    shown_fault(alloc, fault).ok()
 }
 
 /// Why a dump makes none.
-fn lacked_by_dump(alloc: Global, binding: &Binding, text: &[u8]) -> Result<String, Fail> {
-    let dump = read_vcd(alloc, text)?;
-    let fault = binding.capture(alloc, &dump).err();
-    let fault = fault.ok_or("a recording")?;
-    Ok(format!(in alloc; "{fault}")?)
+fn lacked_by_dump(alloc: Global, binding: &Binding, text: &[u8]) -> Option<String> {
+    let dump = read_vcd(alloc, text).ok()?;
+    let fault = binding.capture(alloc, &dump).err()?;
+    format!(in alloc; "{fault}").ok()
+}
+
+/// Whether a binding has this fault with the text of a dump.
+fn text_lacks(alloc: Global, binding: &Binding, text: &[u8], wanted: &str) -> bool {
+    match lacked(alloc, binding, text) {
+        Some(found) => found.as_str() == wanted,
+        None => false,
+    }
+}
+
+/// Whether it has this fault with the dump.
+fn dump_lacks(alloc: Global, binding: &Binding, text: &[u8], wanted: &str) -> bool {
+    match lacked_by_dump(alloc, binding, text) {
+        Some(found) => found.as_str() == wanted,
+        None => false,
+    }
 }
 
 /// Whether a binding has this fault with a dump, and with its text.
-fn lacks(alloc: Global, binding: &[&str], dump: &[&str], wanted: &str) -> Result<bool, Fail> {
-    let binding = bound(alloc, binding)?;
-    let text = together(alloc, dump)?;
-    let found = lacked(alloc, &binding, text.as_slice())?;
-    if found.as_str() != wanted {
-        return Ok(false);
+fn lacks(alloc: Global, binding: &[&str], dump: &[&str], wanted: &str) -> bool {
+    match (bound(alloc, binding), together(alloc, dump)) {
+        (Some(binding), Ok(text)) => {
+            text_lacks(alloc, &binding, text.as_slice(), wanted)
+                && dump_lacks(alloc, &binding, text.as_slice(), wanted)
+        }
+        _ => false,
     }
-    let found = lacked_by_dump(alloc, &binding, text.as_slice())?;
-    Ok(found.as_str() == wanted)
 }
 
 #[test]
-fn what_dumps_of_the_bus_lack(rt: HostRuntime) -> Result<(), Fail> {
+fn what_dumps_of_the_bus_lack(rt: HostRuntime) {
     let alloc = rt.alloc();
     let wanted = "binding line 24: NoSuchPath";
     let more = "SYSRESET = bus.RESET\n";
-    assert!(rt; lacks(alloc, &[BUS_LINES, more], &[BUS, DECLARED, READ], wanted)?);
+    assert!(rt; lacks(alloc, &[BUS_LINES, more], &[BUS, DECLARED, READ], wanted));
     let wanted = "binding line 2: NoSuchPath";
-    assert!(rt;
-        lacks(
-            alloc,
-            &[BUS_LINES],
-            &["$scope module bus $end\n", DECLARED],
-            wanted
-        )?
-    );
+    let dump = ["$scope module bus $end\n", DECLARED];
+    assert!(rt; lacks(alloc, &[BUS_LINES], &dump, wanted));
     let wanted = "binding line 2: AmbiguousPath";
     let other = "$var wire 1 v AS $end\n";
-    assert!(rt; lacks(alloc, &[BUS_LINES], &[BUS, other, DECLARED], wanted)?);
-    Ok(())
+    assert!(rt; lacks(alloc, &[BUS_LINES], &[BUS, other, DECLARED], wanted));
 }
 
 #[test]
-fn what_dumps_of_vectors_lack(rt: HostRuntime) -> Result<(), Fail> {
-    for (strobe, requests, wanted) in NO_VECTORS {
-        let binding = [
-            "slots 1\nAS = ",
-            strobe,
-            "\nBR = ",
-            requests,
-            "\nBG0 = grants\n",
-            OTHERS,
-        ];
+fn what_dumps_of_vectors_lack(rt: HostRuntime) {
+    for (strobe, requests, wanted) in NO_VECTORS.iter() {
+        let binding = to_vectors(strobe, requests);
+        assert!(rt; lacks(rt.alloc(), &binding, &[VECTORS], wanted), "{strobe}");
+    }
+}
+
+#[test]
+fn paths_that_dumps_lack(rt: HostRuntime) {
+    for (path, header, wanted) in NO_PATHS.iter() {
+        let dump = [*header, " $enddefinitions $end"];
         assert!(rt;
-            lacks(rt.alloc(), &binding, &[VECTORS], wanted)?,
-            "{strobe}"
+            lacks(rt.alloc(), &to_path(path), &dump, wanted),
+            "{header}"
         );
     }
-    Ok(())
 }
 
-#[test]
-fn paths_that_dumps_lack(rt: HostRuntime) -> Result<(), Fail> {
-    for (path, header, wanted) in NO_PATHS {
-        let binding = ["slots 1\nAS = ", path, ONES, OTHERS];
-        let dump = [header, " $enddefinitions $end"];
-        assert!(rt; lacks(rt.alloc(), &binding, &dump, wanted)?, "{header}");
-    }
-    Ok(())
-}
-
-#[test]
-fn lines_are_counted_to_a_million(rt: HostRuntime) -> Result<(), Fail> {
-    let mut text = Vec::new(rt.alloc());
-    text.extend_from_slice(b"slots 21\n")?;
+/// A binding of 21 slots with a million lines that are empty.
+fn many_lines(alloc: Global) -> Option<Vec<u8>> {
+    let mut text = Vec::new(alloc);
+    text.extend_from_slice(b"slots 21\n").ok()?;
     for _ in 0..1_000_000 {
-        text.push(b'\n')?;
+        text.push(b'\n').ok()?;
     }
+    Some(text)
+}
+
+#[test]
+fn lines_are_counted_to_a_million(rt: HostRuntime) {
     let unbound = BindFault {
         line: 1_000_002,
         kind: BindKind::Unbound(Line::AS),
     };
-    assert!(rt; read_binding(rt.alloc(), &text).err() == Some(unbound));
-    Ok(())
+    let found = match many_lines(rt.alloc()) {
+        Some(text) => read_binding(rt.alloc(), &text).err(),
+        None => None,
+    };
+    assert!(rt; found == Some(unbound));
 }
 
 /// The text of a dump whose last line is bad.
 const BROKEN: &[u8] = b"$enddefinitions $end\n#1\n2p";
 
 #[test]
-fn a_fault_of_the_dump_comes_before_one_of_the_binding(rt: HostRuntime) -> Result<(), Fail> {
-    let binding = bound(rt.alloc(), &[BUS_LINES])?;
-    let found = lacked(rt.alloc(), &binding, BROKEN)?;
-    assert!(rt; found.as_str() == "dump line 3: BadToken");
-    let found = lacked(rt.alloc(), &binding, &BROKEN[..23])?;
-    assert!(rt; found.as_str() == "binding line 2: NoSuchPath");
-    Ok(())
+fn a_fault_of_the_dump_comes_before_one_of_the_binding(rt: HostRuntime) {
+    let Some(binding) = bound(rt.alloc(), &[BUS_LINES]) else {
+        panic!(rt; "no binding")
+    };
+    let (alloc, wanted) = (rt.alloc(), "dump line 3: BadToken");
+    assert!(rt; text_lacks(alloc, &binding, BROKEN, wanted));
+    let wanted = "binding line 2: NoSuchPath";
+    assert!(rt; text_lacks(alloc, &binding, &BROKEN[..23], wanted));
 }
 
 #[test]
@@ -735,66 +742,83 @@ fn joined(
     speculative: SpeculativeReader,
     piece: &[u8],
     kept: &mut KeptSteps,
-) -> Result<SpeculativeReader, Fail> {
+) -> Option<SpeculativeReader> {
     let from = *speculative.now();
     let own = none_kept(alloc, from);
     let read = shared(&speculative).read_ahead(alloc, piece, speculative.line(), &from, own);
-    let (ahead, own) = read.ok_or("a piece isn't read")?;
+    let (ahead, own) = read?;
     let ahead = sent(ahead);
     if !speculative.may_join(&ahead) {
-        return Err(Fail::new("a piece doesn't fit"));
+        return None;
     }
-    let (speculative, ended) = speculative.join(alloc, ahead)?;
-    keep_all(alloc, kept, ended, own)?;
-    Ok(speculative)
+    let (speculative, ended) = speculative.join(alloc, ahead).ok()?;
+    keep_all(alloc, kept, ended, own).ok()?;
+    Some(speculative)
 }
 
-/// A wave that has read the front of a dump of the bus.
-fn begun(alloc: Global, front: &[&str]) -> Result<(SpeculativeReader, KeptSteps), Fail> {
+/// A text whose definitions end in a front of a dump of the bus.
+fn begun(alloc: Global, front: &[&str]) -> Option<TextPieces<KeptSteps>> {
     let binding = bound(alloc, &[BUS_LINES])?;
-    let front = together(alloc, front)?;
-    let kept = none_kept(alloc, Lines::new(1).ok_or("no slots")?);
-    let text = binding.begin_text(alloc, front.as_slice(), kept)?;
-    Ok(text.ok().ok_or("no definitions")?.into_speculative())
+    let front = together(alloc, front).ok()?;
+    let kept = none_kept(alloc, Lines::new(1)?);
+    let text = binding.begin_text(alloc, front.as_slice(), kept).ok()?;
+    text.ok()
+}
+
+/// The pieces of a wave.
+static PIECES: [&str; 4] = ["#10 0p\n", "#20 0q\n", "#30 0s\n#40 1p 1q\n", "#50 1s\n"];
+
+/// What a wave of those pieces keeps.
+fn kept_of_wave(alloc: Global) -> Option<KeptSteps> {
+    let text = begun(alloc, &[BUS, DECLARED, "#0 1p 1q 1r 1s 1t 1u\n"])?;
+    let (mut speculative, mut kept) = text.into_speculative();
+    for piece in PIECES.iter() {
+        speculative = joined(alloc, speculative, piece.as_bytes(), &mut kept)?;
+    }
+    speculative.with_step_visitor(kept).finish(alloc).ok()
 }
 
 /// A wave of pieces, each of which is a line.
 #[test]
-fn a_wave_of_pieces_records_what_their_text_does(rt: HostRuntime) -> Result<(), Fail> {
-    let alloc = rt.alloc();
-    let (mut speculative, mut kept) = begun(alloc, &[BUS, DECLARED, "#0 1p 1q 1r 1s 1t 1u\n"])?;
-    for line in ["#10 0p\n", "#20 0q\n", "#30 0s\n#40 1p 1q\n", "#50 1s\n"] {
-        speculative = joined(alloc, speculative, line.as_bytes(), &mut kept)?;
+fn a_wave_of_pieces_records_what_their_text_does(rt: HostRuntime) {
+    let is_so = match kept_of_wave(rt.alloc()) {
+        Some(kept) => are_written(rt.alloc(), &kept.steps, READ_STEPS),
+        None => false,
+    };
+    assert!(rt; is_so);
+}
+
+/// Pieces of a body, and whether what is read ends between two items behind each.
+static BETWEEN: [(&str, bool); 7] = [
+    ("#0 1p 1q\n", true),
+    ("$dumpon\n", false),
+    ("#10 0p\n", false),
+    ("$end\n", true),
+    ("b0 \n", false),
+    ("q\n", true),
+    ("$comment\n", false),
+];
+
+/// The first piece behind which it doesn't end as it should, or an empty one. None is a text that isn't read.
+fn first_wrong_end(alloc: Global) -> Option<&'static str> {
+    let mut text = begun(alloc, &[BUS, DECLARED])?;
+    if !text.is_between_items() {
+        return None;
     }
-    let kept = speculative.with_step_visitor(kept).finish(alloc)?;
-    let found = written(alloc, &kept.steps)?;
-    assert!(rt; found.as_slice() == READ_STEPS.as_bytes());
-    Ok(())
+    for (piece, wanted) in BETWEEN.iter() {
+        text = text.read(alloc, piece.as_bytes()).ok()?;
+        if text.is_between_items() != *wanted {
+            return Some(*piece);
+        }
+    }
+    Some("")
 }
 
 /// What is read ends between two items unless an item or a bracket is open.
 #[test]
-fn a_text_is_between_items_outside_of_brackets(rt: HostRuntime) -> Result<(), Fail> {
-    let alloc = rt.alloc();
-    let binding = bound(alloc, &[BUS_LINES])?;
-    let front = together(alloc, &[BUS, DECLARED])?;
-    let kept = none_kept(alloc, Lines::new(1).ok_or("no slots")?);
-    let text = binding.begin_text(alloc, front.as_slice(), kept)?;
-    let mut text = text.ok().ok_or("no definitions")?;
-    assert!(rt; text.is_between_items());
-    for (piece, wanted) in [
-        ("#0 1p 1q\n", true),
-        ("$dumpon\n", false),
-        ("#10 0p\n", false),
-        ("$end\n", true),
-        ("b0 \n", false),
-        ("q\n", true),
-        ("$comment\n", false),
-    ] {
-        text = text.read(alloc, piece.as_bytes())?;
-        assert!(rt; text.is_between_items() == wanted, "{piece}");
-    }
-    Ok(())
+fn a_text_is_between_items_outside_of_brackets(rt: HostRuntime) {
+    let wrong = first_wrong_end(rt.alloc()).unwrap_or("not read");
+    assert!(rt; wrong.is_empty(), "{wrong}");
 }
 
 /// Begins to read the body of a dump whose definitions end in a front, and reads what the front has of it.
@@ -802,63 +826,75 @@ fn stopped_in_front(
     alloc: Global,
     binding: &Binding,
     front: &[u8],
-) -> Result<Result<TextPieces<KeptSteps>, Stopped<KeptSteps>>, Fail> {
-    let kept = none_kept(alloc, Lines::new(1).ok_or("no slots")?);
-    let begun = binding.begin_before_body(alloc, front, kept)?;
-    let (text, rest) = begun.ok().ok_or("no definitions")?;
-    Ok(text.read_until_fault(alloc, rest))
+) -> Option<Result<TextPieces<KeptSteps>, Stopped<KeptSteps>>> {
+    let kept = none_kept(alloc, Lines::new(1)?);
+    let begun = binding.begin_before_body(alloc, front, kept).ok()?;
+    let (text, rest) = begun.ok()?;
+    Some(text.read_until_fault(alloc, rest))
 }
 
-/// Where reading a body in pieces stops, of which the first is in the front.
-fn stopped_by(alloc: Global, body: [&str; 3]) -> Result<Stopped<KeptSteps>, Fail> {
-    let [first, second, third] = body;
-    let binding = bound(alloc, &[BUS_LINES])?;
-    let front = together(alloc, &[BUS, DECLARED, first])?;
-    let text = match stopped_in_front(alloc, &binding, front.as_slice())? {
-        Ok(text) => text,
-        Err(stopped) => return Ok(stopped),
-    };
+/// Where reading further pieces of a body stops.
+fn stopped_behind(
+    alloc: Global,
+    text: TextPieces<KeptSteps>,
+    second: &str,
+    third: &str,
+) -> Option<Stopped<KeptSteps>> {
     let text = match text.read_until_fault(alloc, second.as_bytes()) {
         Ok(text) => text,
-        Err(stopped) => return Ok(stopped),
+        Err(stopped) => return Some(stopped),
     };
     let text = match text.read_until_fault(alloc, third.as_bytes()) {
         Ok(text) => text,
-        Err(stopped) => return Ok(stopped),
+        Err(stopped) => return Some(stopped),
     };
-    Ok(text.finish_or_stop(alloc).err().ok_or("no fault")?)
+    text.finish_or_stop(alloc).err()
+}
+
+/// Where reading a body in pieces stops, of which the first is in the front.
+fn stopped_by(alloc: Global, first: &str, second: &str, third: &str) -> Option<Stopped<KeptSteps>> {
+    let binding = bound(alloc, &[BUS_LINES])?;
+    let front = together(alloc, &[BUS, DECLARED, first]).ok()?;
+    match stopped_in_front(alloc, &binding, front.as_slice())? {
+        Ok(text) => stopped_behind(alloc, text, second, third),
+        Err(stopped) => Some(stopped),
+    }
 }
 
 /// Pieces of a body, the line and kind of its first fault, the steps of the instants that end before it, and the last
 /// time before it.
-const STOPS: [([&str; 3], u64, FaultKind, &str, u64); 4] = [
+static STOPS: [(&str, &str, &str, u64, FaultKind, &str, u64); 4] = [
     (
-        [
-            "#0 1p 1q 1r 1s 1t 1u\n",
-            "#10 0p\n#20 0q\n",
-            "#30 0s 1x\n#40 1p\n",
-        ],
+        "#0 1p 1q 1r 1s 1t 1u\n",
+        "#10 0p\n#20 0q\n",
+        "#30 0s 1x\n#40 1p\n",
         13,
         FaultKind::UndeclaredCode,
         "#0 AS=1 DS0=1 DS1=1 DTACK=1 BERR=1 IACK=1\n#10 AS=0\n#20 DS0=0\n",
         30,
     ),
     (
-        ["#0 1p 1q 1r 1s 1t 1u 2p\n", "", ""],
+        "#0 1p 1q 1r 1s 1t 1u 2p\n",
+        "",
+        "",
         10,
         FaultKind::BadToken,
         "",
         0,
     ),
     (
-        ["", "#0 1p 1q 1r 1s 1t 1u\n#10 0p\n", "#5 1p\n"],
+        "",
+        "#0 1p 1q 1r 1s 1t 1u\n#10 0p\n",
+        "#5 1p\n",
         12,
         FaultKind::TimeBackwards,
         "#0 AS=1 DS0=1 DS1=1 DTACK=1 BERR=1 IACK=1\n",
         10,
     ),
     (
-        ["#0 1p 1q 1r 1s 1t 1u\n", "#10 0p\n#20\n", "$dumpvars 0q\n"],
+        "#0 1p 1q 1r 1s 1t 1u\n",
+        "#10 0p\n#20\n",
+        "$dumpvars 0q\n",
         13,
         FaultKind::UnfinishedSection,
         "#0 AS=1 DS0=1 DS1=1 DTACK=1 BERR=1 IACK=1\n#10 AS=0\n",
@@ -866,46 +902,71 @@ const STOPS: [([&str; 3], u64, FaultKind, &str, u64); 4] = [
     ),
 ];
 
-#[test]
-fn a_fault_comes_with_the_steps_before_it(rt: HostRuntime) -> Result<(), Fail> {
-    let alloc = rt.alloc();
-    for (body, line, kind, steps, last) in STOPS {
-        let Stopped {
-            fault,
-            visitor,
-            time,
-        } = stopped_by(alloc, body)?;
-        assert!(rt; fault == VcdFault { line, kind }, "{fault}");
-        let found = written(alloc, &visitor.steps)?;
-        assert!(rt; found.as_slice() == steps.as_bytes(), "line {line}");
-        assert!(rt; time == last, "line {line}: {time}");
+/// Whether reading stops with this fault behind these steps, the last at this time.
+fn is_stop(
+    alloc: Global,
+    stopped: Option<Stopped<KeptSteps>>,
+    wanted: VcdFault,
+    steps: &str,
+    last: u64,
+) -> bool {
+    match stopped {
+        Some(stopped) => {
+            stopped.fault == wanted
+                && stopped.time == last
+                && are_written(alloc, &stopped.visitor.steps, steps)
+        }
+        None => false,
     }
-    Ok(())
+}
+
+#[test]
+fn a_fault_comes_with_the_steps_before_it(rt: HostRuntime) {
+    for (first, second, third, line, kind, steps, last) in STOPS.iter() {
+        let wanted = VcdFault {
+            line: *line,
+            kind: *kind,
+        };
+        let stopped = stopped_by(rt.alloc(), first, second, third);
+        assert!(rt;
+            is_stop(rt.alloc(), stopped, wanted, steps, *last),
+            "{wanted}"
+        );
+    }
+}
+
+/// The fault of a binding that is known before the body is read, and that of the body.
+fn faults_before_and_in_body(alloc: Global) -> Option<(BindFault, VcdFault)> {
+    let binding = bound(alloc, &[BUS_LINES])?;
+    let front = ["$scope module bus $end\n", DECLARED, "#0 1q 2p\n"];
+    let front = together(alloc, &front).ok()?;
+    let kept = none_kept(alloc, Lines::new(1)?);
+    let begun = binding
+        .begin_before_body(alloc, front.as_slice(), kept)
+        .ok()?;
+    let (text, rest) = begun.ok()?;
+    let known = text.binding_fault()?;
+    if rest != b"#0 1q 2p\n".as_slice() {
+        return None;
+    }
+    let stopped = text.read_until_fault(alloc, rest).err()?;
+    Some((known, stopped.fault))
 }
 
 /// The fault of a binding is known before any of the body is read, which may have a fault of its own.
 #[test]
-fn the_fault_of_a_binding_is_known_before_the_body(rt: HostRuntime) -> Result<(), Fail> {
-    let alloc = rt.alloc();
-    let binding = bound(alloc, &[BUS_LINES])?;
-    let front = together(alloc, &["$scope module bus $end\n", DECLARED, "#0 1q 2p\n"])?;
-    let kept = none_kept(alloc, Lines::new(1).ok_or("no slots")?);
-    let begun = binding.begin_before_body(alloc, front.as_slice(), kept)?;
-    let (text, rest) = begun.ok().ok_or("no definitions")?;
-    let wanted = BindFault {
+fn the_fault_of_a_binding_is_known_before_the_body(rt: HostRuntime) {
+    let known = BindFault {
         line: 2,
         kind: BindKind::NoSuchPath,
     };
-    assert!(rt; text.binding_fault() == Some(wanted) && rest == b"#0 1q 2p\n".as_slice());
-    let fault = text
-        .read_until_fault(alloc, rest)
-        .err()
-        .ok_or("no fault")?
-        .fault;
-    let wanted = VcdFault {
+    let told = VcdFault {
         line: 9,
         kind: FaultKind::BadToken,
     };
-    assert!(rt; fault == wanted, "{fault}");
-    Ok(())
+    let is_so = match faults_before_and_in_body(rt.alloc()) {
+        Some((before, behind)) => before == known && behind == told,
+        None => false,
+    };
+    assert!(rt; is_so);
 }
