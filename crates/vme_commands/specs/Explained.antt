@@ -10,6 +10,7 @@ use Rattle.vme_answer.specs.declared.refusal.Refusal.{Refusal}
 use Rattle.vme_answer.specs.Answers.{CommandAnswer, AnswerGives, capture_by}
 use Rattle.vme_answer.specs.Answers.{verdict_in_blocks}
 use Rattle.vme_answer.specs.Ends.{Ends}
+use Rattle.vme_picture.specs.Pictures.{IsPicture}
 use Rattle.vme_stream.specs.Inputs.{IsReading}
 use Rattle.vme_answer.specs.Texts.{line_of, verdict_status, verdict_text}
 use Rattle.vme_commands.specs.Settled.{settled_judgement, settled_or}
@@ -26,9 +27,13 @@ judged_by skew bound dump = do
 abbrev pub BeginsWithLine : Explained → Type 0
 BeginsWithLine told = (rest : List ℕ) × (told.text ≡ line_of (verdict_text told.verdict) ++ rest)
 
-abbrev pub BeginsWithVerdict : Result Explained Refusal → Type 0
-BeginsWithVerdict (Ok told) = BeginsWithLine told
-BeginsWithVerdict (Err refusal) = Unit {0}
+-- and beside it there is a picture
+abbrev pub IsExplainedWhole : Explained → Type 0
+IsExplainedWhole told = BeginsWithLine told × IsPicture told.files.picture
+
+abbrev pub IsExplained : Result Explained Refusal → Type 0
+IsExplained (Ok told) = IsExplainedWhole told
+IsExplained (Err refusal) = Unit {0}
 
 abbrev pub explained_answer_by : List ℕ → Result Explained Refusal → CommandAnswer
 explained_answer_by more (Ok told) = text_answer (verdict_status told.verdict) told.text
@@ -43,6 +48,6 @@ Explains skew binding dump out err status =
     × IsReading binding.0 binding.1 binding_bytes
     × IsReading dump.0 dump.1 dump_bytes
     × AnswerGives (λ (e : Explained). e.verdict) told (settled_judgement skew binding_bytes dump_bytes 16384)
-    × BeginsWithVerdict told
+    × IsExplained told
     × MayHaveMore told more
     × Ends (explained_answer_by more told) out err status

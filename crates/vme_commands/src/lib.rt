@@ -26,7 +26,8 @@
 //!   `answer` says what is written, and `unwritten` when the status is 5.
 //! - No answer depends on the size of a piece or the number of workers, nor on the size of a block,
 //!   except that a recording may fill too many.
-//! - `explain` begins with the line that `check` writes, and has its status (`Explains`). `bind`
+//! - `explain` begins with the line that `check` writes, and has its status (`Explains`); what it
+//!   draws is a picture (`drawn`). `bind`
 //!   writes only a binding that makes a recording of that dump (`IsBindingFor`). `faults` writes
 //!   exactly the page of a kind, or the pages of all (`ArePages`). After the line of a refusal
 //!   `explain`, `bind` and `variables` write exactly the page of its kind, below an excerpt of the

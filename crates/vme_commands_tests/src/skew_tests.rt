@@ -165,7 +165,14 @@ static EXPLAINED: [(u64, &str, u8); 4] = [
 fn an_explanation_is_of_what_settled(rt: HostRuntime) {
     for (skew, text, status) in EXPLAINED.iter() {
         assert!(rt;
-            explains(rt.alloc(), BUILT_IN, DUMP, *skew, (text, *status), &[]),
+            explains(
+                rt.alloc(),
+                BUILT_IN,
+                DUMP,
+                *skew,
+                (text, *status),
+                (&[], &[])
+            ),
             "by {skew}"
         );
     }

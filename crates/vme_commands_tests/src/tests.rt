@@ -705,9 +705,9 @@ fn allowances_are_read(rt: HostRuntime) -> Result<(), Fail> {
     Ok(())
 }
 
-/// Whether a save file has these parts.
-fn has_parts(viewer: &[u8], parts: &[&str]) -> bool {
-    let text = str::from_utf8(viewer).unwrap_or("");
+/// Whether a file has these parts.
+fn has_parts(file: &[u8], parts: &[&str]) -> bool {
+    let text = str::from_utf8(file).unwrap_or("");
     for part in parts {
         if !text.contains(*part) {
             return false;
@@ -716,20 +716,20 @@ fn has_parts(viewer: &[u8], parts: &[&str]) -> bool {
     true
 }
 
-/// Whether the explanation of a dump begins so, nothing else is told, this is the status, and a save file has these
-/// parts.
+/// Whether the explanation of a dump begins so, nothing else is told, this is the status, and the files have these
+/// parts: the save file the first, the picture the second.
 pub(crate) fn explains(
     alloc: Global,
     binding: &[u8],
     dump: &str,
     skew: u64,
     wanted: (&str, u8),
-    parts: &[&str],
+    parts: (&[&str], &[&str]),
 ) -> bool {
     let (text, status) = wanted;
     let mut out = Page::new(alloc, 5000);
     let mut err = Page::new(alloc, 100);
-    let (ended, viewer) = explain(
+    let (ended, files) = explain(
         alloc,
         &mut Bytes::new(binding),
         &mut Bytes::new(dump.as_bytes()),
@@ -741,8 +741,12 @@ pub(crate) fn explains(
     let is_so = out.bytes.as_slice().starts_with(text.as_bytes())
         && err.bytes.is_empty()
         && ended == status;
-    match viewer {
-        Some(viewer) => is_so && has_parts(viewer.as_bytes(), parts),
+    match files {
+        Some(files) => {
+            is_so
+                && has_parts(files.viewer.as_bytes(), parts.0)
+                && has_parts(files.picture.as_bytes(), parts.1)
+        }
         None => false,
     }
 }
@@ -751,7 +755,11 @@ pub(crate) fn explains(
 fn an_explanation_begins_with_the_verdict(rt: HostRuntime) -> Result<(), Fail> {
     let dump = dump_of(rt.alloc(), HEAD, BODY)?;
     let text = "conforming\n\njudged: from instant 1 time 0 to instant 6 time 50\n";
-    assert!(rt; explains(rt.alloc(), BUILT_IN, dump.as_str(), 0, (text, 0), &[]));
+    let files = (
+        &["[*] written by vmecheck explain\n"][..],
+        &["<!-- written by vmecheck explain -->\n<svg "][..],
+    );
+    assert!(rt; explains(rt.alloc(), BUILT_IN, dump.as_str(), 0, (text, 0), files));
     Ok(())
 }
 
@@ -909,6 +917,9 @@ const MODIFIER_DUMP: &str =
     "$timescale 10 ns $end\n$scope module b $end\n$var wire 1 p AS $end\n$var wire 6 q AM $end\n\
 $upscope $end\n$enddefinitions $end\n#0 1p b111101 q\n#3 b111110 q\n#5 0p\n";
 
+/// What its picture has.
+static PICTURED: [&str; 1] = [">time (10 ns)</text>"];
+
 /// What its save file has.
 static VIEWED: [&str; 3] = [
     "\n[timestart] 0\n*-6.000000 50 -1 ",
@@ -920,5 +931,14 @@ static VIEWED: [&str; 3] = [
 fn the_viewer_counts_in_the_unit_of_the_time_scale(rt: HostRuntime) {
     let binding = MODIFIER_BINDING.as_bytes();
     let broken = ("broken B3 at instant 3 time 5 line AS\n", 1);
-    assert!(rt; explains(rt.alloc(), binding, MODIFIER_DUMP, 0, broken, &VIEWED));
+    assert!(rt;
+        explains(
+            rt.alloc(),
+            binding,
+            MODIFIER_DUMP,
+            0,
+            broken,
+            (&VIEWED, &PICTURED)
+        )
+    );
 }

@@ -1,5 +1,5 @@
 -- Which files are written, and which aren't.
-use Rattle.std.specs.Prelude.{ℕ, Bool, ◌==◌, ◌&&◌, if◌then◌else◌, Option, None, Some}
+use Rattle.std.specs.Prelude.{ℕ, Bool, ◌==◌, ◌&&◌, false, if◌then◌else◌, Option, None, Some}
 use Rattle.vme_explain.specs.declared.saving.FileId.{FileId}
 use Rattle.vme_explain.specs.declared.saving.Present.{Present}
 use Rattle.vme_explain.specs.declared.saving.Present.TheVariants.{Nothing, File, Other}
@@ -9,6 +9,18 @@ use Rattle.vme_explain.specs.declared.saving.SaveRefusal.TheVariants.{Binding, D
 -- two files are one: they have one number on one device
 abbrev pub is_same : FileId → FileId → Bool
 is_same one other = one.device == other.device && one.number == other.number
+
+-- this file stands there
+abbrev pub is_this_file : Present → FileId → Bool
+is_this_file Nothing id = false
+is_this_file (File other is_ours) id = is_same other id
+is_this_file Other id = false
+
+-- one file stands at both places
+abbrev pub is_one_file : Present → Present → Bool
+is_one_file Nothing second = false
+is_one_file (File id is_ours) second = is_this_file second id
+is_one_file Other second = false
 
 -- A file isn't written over the binding or the dump, nor over what this program didn't write.
 abbrev pub save_refusal : Present → FileId → FileId → Option SaveRefusal

@@ -1,5 +1,6 @@
-//! What the text of a break says of the other events, those that make its edge a break.
+//! What is said of the other events of a break, those that make its edge a break.
 
+use crate::driver::{Driver, driver_of};
 use crate::excerpt::levels_from;
 use crate::page::{Subject, push_instant};
 use crate::related_event::{
@@ -89,6 +90,15 @@ fn second_words(rule: Rule) -> EventWords {
     }
 }
 
+/// An event beside the edge of a break.
+#[derive(Drop)]
+pub struct OtherEvent {
+    /// Its instant, if it happened.
+    pub instant: Option<u32>,
+    /// What is said of it, in a line.
+    pub text: Text,
+}
+
 /// Appends the other events of a break, a line for each.
 pub(crate) fn push_others(
     text: &mut Text,
@@ -96,33 +106,34 @@ pub(crate) fn push_others(
     subject: &Subject<'_>,
     found: &Break,
 ) -> Result<(), AllocError> {
-    let start = last_start(subject.rows).unwrap_or(0);
-    if let Some(other) = first_related_event(found.rule, found.line) {
-        push_other(
-            text,
-            alloc,
-            subject,
-            found,
-            start,
-            &other,
-            &first_words(found.rule),
-        )?;
-    }
-    if let Some(other) = second_related_event(found.rule, found.line) {
-        push_other(
-            text,
-            alloc,
-            subject,
-            found,
-            start,
-            &other,
-            &second_words(found.rule),
-        )?;
-    }
-    if found.rule == Rule::B4 {
-        push_passed_on(text, alloc, subject, found, start)?;
+    for other in &others_of(alloc, subject, found)? {
+        text.push(b"other event: ")?;
+        text.push(other.text.as_bytes())?;
+        text.push(b"\n")?;
     }
     Ok(())
+}
+
+/// The other events of a break, in the order in which they are told.
+pub fn others_of(
+    alloc: Global,
+    subject: &Subject<'_>,
+    found: &Break,
+) -> Result<Vec<OtherEvent>, AllocError> {
+    let mut events = Vec::new(alloc);
+    let start = last_start(subject.rows).unwrap_or(0);
+    if let Some(other) = first_related_event(found.rule, found.line) {
+        let words = first_words(found.rule);
+        events.push(other_event(alloc, subject, found, start, &other, &words)?)?;
+    }
+    if let Some(other) = second_related_event(found.rule, found.line) {
+        let words = second_words(found.rule);
+        events.push(other_event(alloc, subject, found, start, &other, &words)?)?;
+    }
+    if found.rule == Rule::B4 {
+        add_passed_on(&mut events, alloc, subject, found, start)?;
+    }
+    Ok(events)
 }
 
 /// The instant of an event, if the break is one of a stretch that is judged.
@@ -134,24 +145,27 @@ fn instant_before(capture: &Capture, other: &RelatedEvent, start: u32, at: u32) 
     }
 }
 
-fn push_other(
-    text: &mut Text,
+/// An event of which a rule speaks, with what is said of it.
+fn other_event(
     alloc: Global,
     subject: &Subject<'_>,
     found: &Break,
     start: u32,
     other: &RelatedEvent,
     words: &EventWords,
-) -> Result<(), AllocError> {
+) -> Result<OtherEvent, AllocError> {
     let capture = subject.capture;
-    text.push(b"other event: ")?;
+    let mut text = Text::new(alloc);
     let Some(instant) = instant_before(capture, other, start, found.instant) else {
         text.push(words.none.as_bytes())?;
-        return text.push(b"\n");
+        return Ok(OtherEvent {
+            instant: None,
+            text,
+        });
     };
     text.push(words.before.as_bytes())?;
     push_line(
-        text,
+        &mut text,
         alloc,
         capture,
         &other.event,
@@ -159,7 +173,7 @@ fn push_other(
         words.before.is_empty(),
     )?;
     text.push(b" at instant ")?;
-    push_instant(text, alloc, capture, instant)?;
+    push_instant(&mut text, alloc, capture, instant)?;
     if let Some(Row::Tenure { level, slot, .. }) = tenure_taken(subject, &other.event, instant) {
         text.push(b", by level ")?;
         text.push_decimal(alloc, u64::from(level))?;
@@ -167,7 +181,10 @@ fn push_other(
         text.push_decimal(alloc, u64::from(slot))?;
     }
     text.push(words.behind.as_bytes())?;
-    text.push(b"\n")
+    Ok(OtherEvent {
+        instant: Some(instant),
+        text,
+    })
 }
 
 /// The tenure that starts with an event.
@@ -244,9 +261,9 @@ fn shows(lines: &Lines, line: Line, level: Level) -> bool {
     lines.has(line) && lines.level(line) == level
 }
 
-/// Appends how the grant that a tenure takes went along its chain.
-fn push_passed_on(
-    text: &mut Text,
+/// Adds how the grant that a tenure takes went along its chain, an event for each net.
+fn add_passed_on(
+    events: &mut Vec<OtherEvent>,
     alloc: Global,
     subject: &Subject<'_>,
     found: &Break,
@@ -265,11 +282,14 @@ fn push_passed_on(
             occurrence: Occurrence::LastOrNow,
         };
         if let Some(instant) = instant_before(capture, &other, start, at) {
-            text.push(b"other event: ")?;
-            push_edge(text, line, " fell at instant ")?;
-            push_instant(text, alloc, capture, instant)?;
-            push_driver(text, alloc, line)?;
-            text.push(b"\n")?;
+            let mut text = Text::new(alloc);
+            push_edge(&mut text, line, " fell at instant ")?;
+            push_instant(&mut text, alloc, capture, instant)?;
+            push_driver(&mut text, alloc, line)?;
+            events.push(OtherEvent {
+                instant: Some(instant),
+                text,
+            })?;
         }
     }
     Ok(())
@@ -289,15 +309,12 @@ fn granted_level(levels: &[Lines]) -> Option<u8> {
 
 /// Appends who drives a net of a chain.
 pub(crate) fn push_driver(text: &mut Text, alloc: Global, line: Line) -> Result<(), AllocError> {
-    let slot = match line.grant_place() {
-        Some((_, 0)) => return text.push(b", driven by the arbiter"),
-        Some((_, place)) => place,
-        None if line.is_acknowledge() => line
-            .number()
-            .saturating_sub(Line::iack(1).number())
-            .saturating_add(1),
-        None => return Ok(()),
-    };
-    text.push(b", driven by slot ")?;
-    text.push_decimal(alloc, u64::from(slot))
+    match driver_of(line) {
+        Some(Driver::Arbiter) => text.push(b", driven by the arbiter"),
+        Some(Driver::Slot(slot)) => {
+            text.push(b", driven by slot ")?;
+            text.push_decimal(alloc, u64::from(slot))
+        }
+        None => Ok(()),
+    }
 }

@@ -4,12 +4,14 @@ ghost use Rattle.std.specs.Prelude.{IfOk};
 ghost use Rattle.vme_text.specs.Visible.{IsVisible};
 
 use crate::broken::{push_driver, push_others};
+use crate::driver::push_label;
 use crate::excerpt::{levels_from, marks_of, time_at};
 use crate::rows::{Part, open_row};
-use crate::shown::lines_shown;
+use crate::scale::time_name;
 use crate::sources::{bound_to, push_variable};
 use crate::summary::{push_never_idle, push_summary};
-use crate::values::{ValueRow, push_value, value_rows};
+use crate::values::{ValueRow, push_value};
+use crate::window::excerpt_of;
 use crate::wrapping::{LONGEST, wrapped};
 use std::alloc::{AllocError, Global};
 use vcd_read::Variable;
@@ -18,12 +20,7 @@ use vme_rules::push_rule;
 use vme_text::{Text, shown_text};
 use vme_trace::{Break, Capture, Class, Lanes, Line, Lines, Verdict};
 
-/// How many instants an excerpt shows before and behind the break.
-const BEFORE: u32 = 8;
-
-const BEHIND: u32 = 3;
-
-/// How many characters the names of rows take.
+/// How many characters the names of rows take at least.
 const NAMES: usize = 8;
 
 /// What is explained.
@@ -41,6 +38,8 @@ pub struct Subject<'a> {
     pub variables: &'a [Variable],
     /// How many units of its time scale a time of the dump stands for, as 10 for 10 ns.
     pub time_unit: u64,
+    /// The time scale of the dump, as `10ns`, or nothing.
+    pub time_scale: &'a [u8],
 }
 
 /// Why a recording is judged as it is: what is said behind the line of its verdict, in visible characters alone.
@@ -77,12 +76,8 @@ fn push_break(
     push_excerpt(text, alloc, subject, found)
 }
 
-/// Appends which tenure, cycle and transfer are open where the listing ends.
-pub(crate) fn push_open(
-    text: &mut Text,
-    alloc: Global,
-    subject: &Subject<'_>,
-) -> Result<(), AllocError> {
+/// Appends which tenure, cycle and transfer are open where the listing ends, a line for each.
+pub fn push_open(text: &mut Text, alloc: Global, subject: &Subject<'_>) -> Result<(), AllocError> {
     for (part, name) in [
         (Part::Tenure, "tenure: "),
         (Part::Cycle, "cycle: "),
@@ -258,8 +253,8 @@ pub(crate) fn push_instant(
     text.push_decimal(alloc, time_at(capture, instant))
 }
 
-/// Appends the variable of the line of a break, and its levels there.
-fn push_line_value(
+/// Appends a line that tells the variable of the line of a break, its levels there, and who drives it, if it is a net.
+pub fn push_line_value(
     text: &mut Text,
     alloc: Global,
     subject: &Subject<'_>,
@@ -288,6 +283,15 @@ fn push_line_value(
     text.push(b"\n")
 }
 
+/// How wide the columns of an excerpt are, in characters.
+#[derive(Clone, Copy)]
+struct Widths {
+    /// That of the names.
+    names: usize,
+    /// That of each instant.
+    column: usize,
+}
+
 /// Appends the levels of some lines around a break, and the values of the buses.
 fn push_excerpt(
     text: &mut Text,
@@ -296,41 +300,60 @@ fn push_excerpt(
     found: &Break,
 ) -> Result<(), AllocError> {
     let capture = subject.capture;
-    let end = capture.steps().len() as u32;
-    let last = found.instant.saturating_add(BEHIND).min(end);
-    let first = found.instant.saturating_sub(BEFORE).min(last);
-    let levels = levels_from(alloc, capture, first as usize, last as usize)?;
-    let values = value_rows(alloc, subject.binding, levels.as_slice())?;
-    let width = column_width(alloc, time_at(capture, last), &values)?;
+    let excerpt = excerpt_of(alloc, subject)?;
+    let all = excerpt.levels.as_slice();
+    let last = excerpt.last;
+    let widths = Widths {
+        names: names_width(alloc, subject, excerpt.lines.as_slice())?,
+        column: column_width(alloc, time_at(capture, last), excerpt.values.as_slice())?,
+    };
     // as many of the instants as fit a line
-    let columns = ((LONGEST - NAMES) / width.max(1)).max(1);
-    let left_out = levels
+    let columns = (LONGEST.saturating_sub(widths.names) / widths.column.max(1)).max(1);
+    let left_out = all
         .len()
         .saturating_sub(columns)
-        .min(found.instant.saturating_sub(first) as usize);
-    let first = first.saturating_add(left_out as u32);
-    let levels = &levels.as_slice()[left_out.min(levels.len())..];
-    push_header(text, alloc, capture, b"instant", first, last, width)?;
-    push_header(text, alloc, capture, b"time", first, last, width)?;
-    let slots = capture.opening().slots();
-    for line in &lines_shown(alloc, found.rule, found.line, slots, levels)? {
-        push_levels(text, alloc, *line, levels, width)?;
+        .min(found.instant.saturating_sub(excerpt.first) as usize);
+    let first = excerpt.first.saturating_add(left_out as u32);
+    let levels = &all[left_out.min(all.len())..];
+    push_padded(text, b"instant", widths.names)?;
+    for instant in first..last.saturating_add(1) {
+        push_number(text, alloc, u64::from(instant), widths.column)?;
     }
-    for row in &values {
-        push_padded(text, row.name.as_bytes())?;
+    text.push(b"\n")?;
+    push_padded(text, time_name(subject.time_scale).as_bytes(), widths.names)?;
+    for instant in first..last.saturating_add(1) {
+        push_number(text, alloc, time_at(capture, instant), widths.column)?;
+    }
+    text.push(b"\n")?;
+    for line in &excerpt.lines {
+        push_levels(text, alloc, *line, levels, widths)?;
+    }
+    for row in &excerpt.values {
+        push_padded(text, row.name.as_bytes(), widths.names)?;
         for place in left_out..left_out.saturating_add(levels.len()) {
-            push_value(text, row, place, width)?;
+            push_value(text, row, place, widths.column)?;
         }
         text.push(b"\n")?;
     }
-    push_padded(text, b"")?;
+    push_padded(text, b"", widths.names)?;
     let before = found.instant.saturating_sub(first) as usize;
     text.push_spaces(
         before
-            .saturating_mul(width)
-            .saturating_add(width.saturating_sub(1)),
+            .saturating_mul(widths.column)
+            .saturating_add(widths.column.saturating_sub(1)),
     )?;
     text.push(b"^\n")
+}
+
+/// How many characters the names of the rows take.
+fn names_width(alloc: Global, subject: &Subject<'_>, lines: &[Line]) -> Result<usize, AllocError> {
+    let mut width = NAMES.max(time_name(subject.time_scale).len());
+    for line in lines {
+        let mut label = Text::new(alloc);
+        push_label(&mut label, alloc, *line)?;
+        width = width.max(label.as_bytes().len());
+    }
+    Ok(width)
 }
 
 /// How many characters a column takes, if this is the greatest time in it: one more than the longest value or time, and
@@ -345,35 +368,23 @@ fn column_width(alloc: Global, time: u64, values: &[ValueRow]) -> Result<usize, 
     Ok(width)
 }
 
-/// Appends the name of a row, as wide as the longest.
-fn push_padded(text: &mut Text, name: &[u8]) -> Result<(), AllocError> {
+/// Appends the name of a row, with spaces up to a width.
+fn push_padded(text: &mut Text, name: &[u8], width: usize) -> Result<(), AllocError> {
     text.push(name)?;
-    text.push_spaces(NAMES.saturating_sub(name.len()))
+    text.push_spaces(width.saturating_sub(name.len()))
 }
 
-/// Appends the instants from a first to a last one, or their times.
-fn push_header(
+/// Appends a number, behind spaces up to a width.
+fn push_number(
     text: &mut Text,
     alloc: Global,
-    capture: &Capture,
-    name: &[u8],
-    first: u32,
-    last: u32,
+    number: u64,
     width: usize,
 ) -> Result<(), AllocError> {
-    push_padded(text, name)?;
-    for instant in first..last.saturating_add(1) {
-        let number = if name.starts_with(b"t") {
-            time_at(capture, instant)
-        } else {
-            u64::from(instant)
-        };
-        let mut digits = Text::new(alloc);
-        digits.push_decimal(alloc, number)?;
-        text.push_spaces(width.saturating_sub(digits.as_bytes().len()))?;
-        text.push(digits.as_bytes())?;
-    }
-    text.push(b"\n")
+    let mut digits = Text::new(alloc);
+    digits.push_decimal(alloc, number)?;
+    text.push_spaces(width.saturating_sub(digits.as_bytes().len()))?;
+    text.push(digits.as_bytes())
 }
 
 /// Appends the levels of a line.
@@ -382,11 +393,13 @@ fn push_levels(
     alloc: Global,
     line: Line,
     levels: &[Lines],
-    width: usize,
+    widths: Widths,
 ) -> Result<(), AllocError> {
-    push_padded(text, line.name().as_bytes())?;
+    let mut label = Text::new(alloc);
+    push_label(&mut label, alloc, line)?;
+    push_padded(text, label.as_bytes(), widths.names)?;
     for mark in &marks_of(alloc, line, levels)? {
-        text.push_spaces(width.saturating_sub(1))?;
+        text.push_spaces(widths.column.saturating_sub(1))?;
         text.push(&[*mark])?;
     }
     text.push(b"\n")

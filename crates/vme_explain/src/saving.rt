@@ -1,7 +1,7 @@
 //! Whether a file may be written where something stands already, and what is said where it may not.
 
 ghost use Rattle.std.specs.Prelude.{◌≡◌};
-ghost use Rattle.vme_explain.specs.Saving.{is_same, save_refusal};
+ghost use Rattle.vme_explain.specs.Saving.{is_one_file, is_same, is_this_file, save_refusal};
 
 use std::alloc::{AllocError, Global};
 use vme_text::{Text, push_shown};
@@ -40,6 +40,8 @@ pub enum SaveRefusal {
     Dump,
     /// It is there, and this program didn't write it.
     Foreign,
+    /// Another file is wanted there too.
+    Shared,
 }
 
 /// Whether two files are one.
@@ -47,6 +49,26 @@ fn is_same(one: FileId, other: FileId) -> bool
     ensures { result ≡ is_same one other }
 {
     one.device == other.device && one.number == other.number
+}
+
+/// Whether this file stands at a place.
+fn is_this_file(present: &Present, id: FileId) -> bool
+    ensures { result ≡ is_this_file present.now id }
+{
+    match present {
+        Present::File { id: other, .. } => is_same(*other, id),
+        _ => false,
+    }
+}
+
+/// Whether one file stands at two places, by whatever links.
+pub fn is_one_file(one: &Present, other: &Present) -> bool
+    ensures { result ≡ is_one_file one.now other.now }
+{
+    match one {
+        Present::File { id, .. } => is_this_file(other, *id),
+        _ => false,
+    }
 }
 
 /// Why a file isn't written where this stands, by the files of the binding and of the dump: an input stands there, or
@@ -76,6 +98,7 @@ pub fn save_refusal_text(
         SaveRefusal::Binding => text.push(b": it is the binding\n")?,
         SaveRefusal::Dump => text.push(b": it is the dump\n")?,
         SaveRefusal::Foreign => text.push(b": it is there, and vmecheck didn't write it\n")?,
+        SaveRefusal::Shared => text.push(b": two files are wanted there\n")?,
     }
     Ok(text)
 }

@@ -1,7 +1,7 @@
 //! Which lines an excerpt shows.
 
 use std::alloc::{AllocError, Global};
-use vme_trace::{Level, Line, Lines, MOST_SLOTS, Rule};
+use vme_trace::{Break, Level, Line, Lines, MOST_SLOTS, Rule};
 
 /// Lines, none of them twice.
 #[derive(Drop)]
@@ -24,38 +24,110 @@ impl Shown {
         Ok(())
     }
 
+    /// Adds a net, if it is Low at one of some instants, or the input of the board that drives the line of the break.
+    fn add_net(&mut self, net: Line, broken: Line, levels: &[Lines]) -> Result<(), AllocError> {
+        if is_low(levels, net) || is_input_of(net, broken) {
+            self.add(net)?;
+        }
+        Ok(())
+    }
+
     /// Adds the request and the nets of a level.
-    fn add_level(&mut self, level: u8, slots: u8) -> Result<(), AllocError> {
+    fn add_level(
+        &mut self,
+        level: u8,
+        broken: Line,
+        slots: u8,
+        levels: &[Lines],
+    ) -> Result<(), AllocError> {
         let level = level.min(3);
         self.add(Line::bus_request(level))?;
         for place in 0..slots.min(MOST_SLOTS) + 1 {
-            self.add(Line::grant(level, place))?;
+            self.add_net(Line::grant(level, place), broken, levels)?;
         }
         Ok(())
     }
 
     /// Adds the levels that are granted at one of some instants.
-    fn add_granted(&mut self, slots: u8, levels: &[Lines]) -> Result<(), AllocError> {
+    fn add_granted(&mut self, broken: Line, slots: u8, levels: &[Lines]) -> Result<(), AllocError> {
         for level in 0..4 {
-            if is_granted(levels, level) {
-                self.add_level(level, slots)?;
+            if is_low(levels, Line::grant(level, 0)) {
+                self.add_level(level, broken, slots, levels)?;
             }
         }
         Ok(())
     }
 
-    fn add_acknowledges(&mut self, slots: u8) -> Result<(), AllocError> {
+    /// Adds the line of a break, and those of which its rule speaks.
+    fn add_broken(
+        &mut self,
+        rule: Rule,
+        line: Line,
+        slots: u8,
+        levels: &[Lines],
+    ) -> Result<(), AllocError> {
+        self.add(line)?;
+        match rule {
+            Rule::G1 | Rule::G2 | Rule::G3 | Rule::G5 => {
+                if let Some(level) = level_of(line) {
+                    self.add_level(level, line, slots, levels)?;
+                }
+                self.add_granted(line, slots, levels)
+            }
+            Rule::G4 | Rule::B4 => {
+                self.add(Line::BBSY)?;
+                self.add_granted(line, slots, levels)
+            }
+            Rule::B1 | Rule::B2 => {
+                self.add_granted(line, slots, levels)?;
+                for level in 0..4 {
+                    self.add(Line::grant(level, 0))?;
+                }
+                Ok(())
+            }
+            Rule::I1 => {
+                self.add(Line::IACK)?;
+                self.add_acknowledges(line, slots, levels)
+            }
+            Rule::I2 | Rule::I3 => {
+                self.add_all(&[Line::AS, Line::DS0, Line::DS1, Line::DTACK, Line::IACK])?;
+                self.add_acknowledges(line, slots, levels)
+            }
+            Rule::I4 | Rule::I5 => self.add_all(&[Line::WRITE, Line::IACK]),
+            Rule::C1 | Rule::C2 => self.add_all(&[Line::WRITE, Line::AS]),
+            Rule::B3 => self.add(Line::BBSY),
+            _ => Ok(()),
+        }
+    }
+
+    /// Adds the nets of the acknowledge chain.
+    fn add_acknowledges(
+        &mut self,
+        broken: Line,
+        slots: u8,
+        levels: &[Lines],
+    ) -> Result<(), AllocError> {
         for slot in 1..slots.min(MOST_SLOTS) + 1 {
-            self.add(Line::iack(slot))?;
+            self.add_net(Line::iack(slot), broken, levels)?;
         }
         Ok(())
     }
 }
 
-/// Whether a level is granted at one of some instants.
-fn is_granted(levels: &[Lines], level: u8) -> bool {
-    let input = Line::grant(level.min(3), 0);
-    levels.iter().any(|lines| lines.has(input) && lines.level(input) == Level::Low)
+/// Whether a line is Low at one of some instants.
+fn is_low(levels: &[Lines], line: Line) -> bool {
+    levels
+        .iter()
+        .any(|lines| lines.has(line) && lines.level(line) == Level::Low)
+}
+
+/// Whether a net is the input of the board that drives a line: the net before it in its chain.
+fn is_input_of(net: Line, line: Line) -> bool {
+    let is_before = line.number() == net.number().saturating_add(1);
+    match line.grant_place() {
+        Some((level, _)) => is_before && level_of(net) == Some(level),
+        None => is_before && line.is_acknowledge() && net.is_acknowledge(),
+    }
 }
 
 /// Whether the bus is reset at one of some instants.
@@ -69,48 +141,19 @@ fn level_of(line: Line) -> Option<u8> {
     Some(level)
 }
 
-/// The lines of which a rule speaks, the line of the break first, then the others of the handshake, and SYSRESET where
-/// it is low.
+/// The lines of which the rule of a break speaks, the line of the break first, then the others of the handshake, and
+/// SYSRESET where it is low. Without a break the first are none.
 pub(crate) fn lines_shown(
     alloc: Global,
-    rule: Rule,
-    line: Line,
+    found: Option<&Break>,
     slots: u8,
     levels: &[Lines],
 ) -> Result<Vec<Line>, AllocError> {
     let mut shown = Shown {
         lines: Vec::new(alloc),
     };
-    shown.add(line)?;
-    match rule {
-        Rule::G1 | Rule::G2 | Rule::G3 | Rule::G5 => {
-            if let Some(level) = level_of(line) {
-                shown.add_level(level, slots)?;
-            }
-            shown.add_granted(slots, levels)?;
-        }
-        Rule::G4 | Rule::B4 => {
-            shown.add(Line::BBSY)?;
-            shown.add_granted(slots, levels)?;
-        }
-        Rule::B1 | Rule::B2 => {
-            shown.add_granted(slots, levels)?;
-            for level in 0..4 {
-                shown.add(Line::grant(level, 0))?;
-            }
-        }
-        Rule::I1 => {
-            shown.add(Line::IACK)?;
-            shown.add_acknowledges(slots)?;
-        }
-        Rule::I2 | Rule::I3 => {
-            shown.add_all(&[Line::AS, Line::DS0, Line::DS1, Line::DTACK, Line::IACK])?;
-            shown.add_acknowledges(slots)?;
-        }
-        Rule::I4 | Rule::I5 => shown.add_all(&[Line::WRITE, Line::IACK])?,
-        Rule::C1 | Rule::C2 => shown.add_all(&[Line::WRITE, Line::AS])?,
-        Rule::B3 => shown.add(Line::BBSY)?,
-        _ => {}
+    if let Some(found) = found {
+        shown.add_broken(found.rule, found.line, slots, levels)?;
     }
     shown.add_all(&[
         Line::AS,

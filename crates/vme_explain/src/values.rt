@@ -3,14 +3,14 @@
 use crate::sources::bound_to;
 use std::alloc::{AllocError, Global};
 use vme_text::Text;
-use vme_trace::{Level, Line, Lines};
+use vme_trace::{Level, Line, Lines, MOST_SLOTS};
 
-/// The most digits or marks of a value in an excerpt.
-const MOST_MARKS: usize = 8;
+/// The most digits of a value in an excerpt.
+pub const MOST_MARKS: usize = 8;
 
 /// Lines whose levels are shown as one value, the leftmost first.
 #[derive(Drop)]
-pub(crate) struct ValueRow {
+pub struct ValueRow {
     /// What the row is called.
     pub name: &'static str,
     /// The values at the instants.
@@ -72,22 +72,50 @@ fn data_line(bit: u8) -> Option<Line> {
     }
 }
 
-/// Which bus a row shows.
+/// The net of a grant chain at a place, if a backplane of so many slots has it.
+fn grant_line(level: u8, place: u8, slots: u8) -> Option<Line> {
+    if place <= slots.min(MOST_SLOTS) {
+        Some(Line::grant(level.min(3), place))
+    } else {
+        None
+    }
+}
+
+/// The net of the acknowledge chain that is so many after the one of slot 1, if a backplane of so many slots has it.
+fn acknowledge_line(distance: u8, slots: u8) -> Option<Line> {
+    if distance < slots.min(MOST_SLOTS) {
+        Some(Line::iack(distance + 1))
+    } else {
+        None
+    }
+}
+
+/// Which bus or chain a row shows.
 #[derive(Clone, Copy)]
 enum ValueBus {
     Modifier,
     Address,
     Data,
+    /// The grant chain of a level, net 0 on the right.
+    Grants(u8),
+    /// The acknowledge chain, the net that slot 1 drives on the right.
+    Acknowledges,
 }
 
-/// The level of the bit of a bus; the address has no bit 0, and the code no more than six, which count as Low.
-fn bus_bit(lines: &Lines, bus: ValueBus, number: u8) -> Option<u8> {
-    let line = match bus {
+/// The line of the bit of a bus, counted from the right.
+fn line_of(bus: ValueBus, number: u8, slots: u8) -> Option<Line> {
+    match bus {
         ValueBus::Modifier => modifier_line(number),
         ValueBus::Address => address_line(number),
         ValueBus::Data => data_line(number),
-    };
-    match line {
+        ValueBus::Grants(level) => grant_line(level, number, slots),
+        ValueBus::Acknowledges => acknowledge_line(number, slots),
+    }
+}
+
+/// The level of the bit of a bus. Bits that it lacks, such as bit 0 of the address, count as Low.
+fn bus_bit(lines: &Lines, bus: ValueBus, number: u8) -> Option<u8> {
+    match line_of(bus, number, lines.slots()) {
         Some(line) => bit(lines, line),
         None => Some(0),
     }
@@ -132,13 +160,15 @@ fn is_low_once(line: Line, levels: &[Lines]) -> bool {
     levels.iter().any(|lines| bit(lines, line) == Some(0))
 }
 
-/// The code, the address and the data at some instants, those of the buses that the binding names. Of an address the
-/// digits that the codes of short and standard space have, where no other code shows, which all have AM5 Low; of data
-/// the lower half, where no long word is asked for, by LWORD.
+/// The code, the address and the data at some instants, those of the buses that the binding names, and the daisy chains
+/// of which a net is Low there, but for those whose nets are shown each by itself. Of an address the digits that the
+/// codes of short and standard space have, where no other code shows, which all have AM5 Low; of data the lower half,
+/// where no long word is asked for, by LWORD.
 pub(crate) fn value_rows(
     alloc: Global,
     binding: &[u8],
     levels: &[Lines],
+    shown: &[Line],
 ) -> Result<Vec<ValueRow>, AllocError> {
     let mut rows = Vec::new(alloc);
     let slots = match levels.first() {
@@ -160,7 +190,44 @@ pub(crate) fn value_rows(
         };
         rows.push(row_of(alloc, "data", ValueBus::Data, width, levels)?)?;
     }
+    for (name, bus) in [
+        ("BG3", ValueBus::Grants(3)),
+        ("BG2", ValueBus::Grants(2)),
+        ("BG1", ValueBus::Grants(1)),
+        ("BG0", ValueBus::Grants(0)),
+        ("IA", ValueBus::Acknowledges),
+    ] {
+        if is_to_be_shown(bus, slots, levels, shown) {
+            let width = chain_digits(bus, slots);
+            rows.push(row_of(alloc, name, bus, width, levels)?)?;
+        }
+    }
     Ok(rows)
+}
+
+/// How many hexadecimal digits the nets of a chain have.
+fn chain_digits(bus: ValueBus, slots: u8) -> usize {
+    let nets = match bus {
+        ValueBus::Grants(_) => usize::from(slots).saturating_add(1),
+        _ => usize::from(slots),
+    };
+    nets.saturating_add(3) / 4
+}
+
+/// Whether a chain is shown as one value: a net of it is Low at one of some instants, and none is shown by itself.
+fn is_to_be_shown(bus: ValueBus, slots: u8, levels: &[Lines], shown: &[Line]) -> bool {
+    let mut is_low = false;
+    for number in 0..MOST_SLOTS + 1 {
+        if let Some(line) = line_of(bus, number, slots) {
+            if shown.contains(&line) {
+                return false;
+            }
+            if is_low_once(line, levels) {
+                is_low = true;
+            }
+        }
+    }
+    is_low
 }
 
 /// Appends a value of a row.

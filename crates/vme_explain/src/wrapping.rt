@@ -7,7 +7,7 @@ use vme_text::Text;
 pub(crate) const LONGEST: usize = 100;
 
 /// A text whose lines, where they are longer, go on in the next one, set in. A word that is longer stays whole.
-pub(crate) fn wrapped(alloc: Global, bytes: &[u8]) -> Result<Text, AllocError> {
+pub fn wrapped(alloc: Global, bytes: &[u8]) -> Result<Text, AllocError> {
     let mut text = Text::new(alloc);
     let mut is_first = true;
     for line in bytes.split(|byte| *byte == b'\n') {

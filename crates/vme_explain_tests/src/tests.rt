@@ -3,9 +3,10 @@ use std::alloc::Global;
 use std::test::Fail;
 use vcd_read::{Variables, read_definitions};
 use vme_explain::{
-    FileId, Occurrence, Part, Present, RelatedEvent, RowKind, SaveRefusal, StepEvent, Subject,
-    count_of, first_of, first_related_event, instant_of, is_save_file, last_of, open_row,
-    save_file, save_refusal, save_refusal_text, second_related_event,
+    Driver, FileId, Occurrence, Part, Present, RelatedEvent, RowKind, SaveRefusal, StepEvent,
+    Subject, count_of, driver_of, first_of, first_related_event, instant_of, is_one_file,
+    is_save_file, last_of, open_row, save_file, save_refusal, save_refusal_text,
+    second_related_event, time_name,
 };
 use vme_listing::{AnswerLine, Direction, Row};
 use vme_trace::{Break, Capture, Change, Changes, Level, Line, Lines, Rule, Step, Verdict};
@@ -101,6 +102,7 @@ fn the_viewer_counts_in_units_and_by_bits(rt: HostRuntime) -> Result<(), Fail> {
         binding: b"slots 1\nAS = b.AS\nAM = b.AM\n",
         variables: variables.as_slice(),
         time_unit: 10,
+        time_scale: b"10ns",
     };
     let text = save_file(rt.alloc(), &subject, b"b.vcd")?;
     let shown =
@@ -117,6 +119,20 @@ fn the_viewer_counts_in_units_and_by_bits(rt: HostRuntime) -> Result<(), Fail> {
     }
     assert!(rt; is_save_file(text.as_bytes()));
     assert!(rt; !is_save_file(b"[*] GTKWave Analyzer\n"));
+    Ok(())
+}
+
+#[test]
+fn times_and_nets_are_named(rt: HostRuntime) -> Result<(), Fail> {
+    assert_eq!(rt; time_name(b"1ns"), "time (ns)");
+    assert_eq!(rt; time_name(b"100ps"), "time (100 ps)");
+    assert_eq!(rt; time_name(b"5ns"), "time");
+    assert_eq!(rt; time_name(b""), "time");
+    assert!(rt; driver_of(Line::grant(3, 0)) == Some(Driver::Arbiter));
+    assert!(rt; driver_of(Line::grant(0, 21)) == Some(Driver::Slot(21)));
+    assert!(rt; driver_of(Line::iack(1)) == Some(Driver::Slot(1)));
+    assert!(rt; driver_of(Line::iack(21)) == Some(Driver::Slot(21)));
+    assert!(rt; driver_of(Line::AS).is_none() && driver_of(Line::data(0)).is_none());
     Ok(())
 }
 
@@ -142,6 +158,10 @@ fn no_input_and_no_file_of_others_is_written_over(rt: HostRuntime) -> Result<(),
     assert!(rt; at(1, 8, true) == Some(SaveRefusal::Dump));
     assert!(rt; at(2, 8, true).is_none());
     assert!(rt; at(1, 9, false) == Some(SaveRefusal::Foreign));
+    let stands = |id, is_ours| Present::File { id, is_ours };
+    assert!(rt; is_one_file(&stands(DUMP, true), &stands(DUMP, false)));
+    assert!(rt; !is_one_file(&stands(DUMP, true), &stands(BINDING, true)));
+    assert!(rt; !is_one_file(&Present::Nothing, &Present::Nothing));
     let text = save_refusal_text(rt.alloc(), "a\u{202E}\u{1B}", SaveRefusal::Dump)?;
     let shown = b"vmecheck: nothing is written over a\\xE2\\x80\\xAE\\x1B: it is the dump\n";
     assert_eq!(rt; text.as_bytes(), shown.as_slice());

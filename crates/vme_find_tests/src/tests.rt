@@ -9,7 +9,7 @@ use vme_find::{FindFault, write_binding};
 use vme_line_names::find_lines;
 use vme_proposal::{propose_binding, told_constants};
 use vme_trace::Line;
-use vme_variables::{time_unit, variables_text};
+use vme_variables::{time_scale, time_unit, variables_text};
 
 /// A dump of one variable under a standard name, and of one that is none.
 const DUMP: &str = "$timescale 1 ns $end\n$scope module bus $end\n$var wire 1 p as_n $end\n\
@@ -266,14 +266,17 @@ fn a_dump_of_no_line_is_told(rt: HostRuntime) -> Result<(), Fail> {
 #[test]
 fn a_time_stands_for_units(rt: HostRuntime) -> Result<(), Fail> {
     assert_eq!(rt; time_unit(rt.alloc(), DUMP.as_bytes())?, 1);
-    for (dump, units) in [
-        ("$timescale 10 ns $end\n$enddefinitions $end\n", 10),
+    for (dump, scale, units) in [
+        ("$timescale 10 ns $end\n$enddefinitions $end\n", "10ns", 10),
         (
             "$comment 7 $end\n$timescale\n\t100us\n$end\n$enddefinitions $end\n",
+            "100us",
             100,
         ),
-        ("$enddefinitions $end\n", 1),
+        ("$enddefinitions $end\n", "", 1),
     ] {
+        let found = time_scale(rt.alloc(), dump.as_bytes())?;
+        assert_eq!(rt; str::from_utf8(found.as_bytes()), Ok(scale));
         assert_eq!(rt; time_unit(rt.alloc(), dump.as_bytes())?, units);
     }
     Ok(())

@@ -1,5 +1,5 @@
 -- What holds of a case that is known.
-use Rattle.std.proofs.Common.{◌≡◌, ℕ, sym, subst}
+use Rattle.std.proofs.Common.{◌≡◌, ◌⊎◌, ℕ, inr, sym, subst}
 use Rattle.std.specs.Prelude.{Option, Some, None, MatchOption, Result, Ok, Err, IfOk}
 
 pub match_some : {X : Type 0} (w : Option X) (x : X) (A : Type 0) (B : X → Type 0) → w ≡ Some x → B x
@@ -8,6 +8,12 @@ match_some {X} w x A B is holds = let P : Option X → Type 0 = λ v. MatchOptio
 
 pub match_none : {X : Type 0} (w : Option X) (A : Type 0) (B : X → Type 0) → w ≡ None → A → MatchOption w A B
 match_none {X} w A B is holds = let P : Option X → Type 0 = λ v. MatchOption v A B in subst P (sym is) holds
+
+-- of two questions the second is asked only where the first has no answer
+pub each_of_two : {X : Type 0} (o : Option X) (A B C D : Type 0) → A → MatchOption o B (λ x. D)
+    → MatchOption o (A × B) (λ x. C ⊎ D)
+each_of_two None A B C D first second = (first, second)
+each_of_two (Some x) A B C D first second = inr second
 
 pub ok_with : {F A : Type 0} (IsIt : A → Type 0) (Did : A → ℕ → Type 0) (a : A) (r : Result ℕ F) → IsIt a
     → IfOk r (Did a) → IfOk r (λ status. (x : A) × IsIt x × Did x status)

@@ -1,6 +1,6 @@
--- What is done with the files that an order names for an explanation, and with the file that it wants written.
-use Rattle.std.specs.Prelude.{◌≡◌, ◌⊎◌, ℕ, List, [], Option, None, Some, MatchOption, option_map, slice_get}
-use Rattle.std.specs.Prelude.{string_bytes}
+-- What is done with the files that an order names for an explanation, and with the files that it wants written.
+use Rattle.std.specs.Prelude.{◌≡◌, ◌⊎◌, ◌||◌, ℕ, Bool, true, false, List, [], Option, None, Some, MatchOption, is_some}
+use Rattle.std.specs.Prelude.{bytes_eq, option_map, slice_get, string_bytes}
 use Rattle.vme_trace.specs.Streams.{Reading, Writing}
 use Rattle.vme_answer.specs.Answers.{refusal_answer}
 use Rattle.vme_answer.specs.Ends.{Tells}
@@ -8,8 +8,11 @@ use Rattle.vme_answer.specs.declared.refusal.Input.{Input}
 use Rattle.vme_answer.specs.declared.refusal.Input.TheVariants.{Binding, Dump}
 use Rattle.vme_answer.specs.declared.refusal.Refusal.TheVariants.{CannotOpen}
 use Rattle.vme_commands.specs.Explained.{Explains}
+use Rattle.vme_explain.specs.Saving.{is_one_file}
 use Rattle.vme_explain.specs.declared.saving.FileId.{FileId}
+use Rattle.vme_explain.specs.declared.saving.Present.{Present}
 use Rattle.vme_explain.specs.declared.saving.SaveRefusal.{SaveRefusal}
+use Rattle.vme_picture.specs.Pictures.{IsPicture}
 use Rattle.vme_stream.specs.Outputs.{Writes}
 use Rattle.vme_words.specs.declared.order.Order.{Order}
 use Rattle.vme_program.specs.Openings.{WithInput}
@@ -17,28 +20,91 @@ use Rattle.vme_program.specs.Saves.{MayBeSaved, RefusesPlace, Saves}
 use Rattle.vme_program.specs.declared.save.InputIds.{InputIds}
 use Rattle.vme_program.specs.declared.environment.Environment.{Ghosts as Environment}
 
--- the word that says where the viewer's file is wanted, if it is
+-- the words that say where the viewer's file and the picture are wanted, if they are
 abbrev pub viewer_word : Order → Option (List ℕ)
 viewer_word order = option_map string_bytes (slice_get order.names.items 2)
 
-module _ {S R : Type 0} (outside : Environment S R) (s : S) (order : Order) where
-  module _ (path : List ℕ) where
-    -- it is explained, and then the viewer's file is written, if there is an explanation
+abbrev pub picture_word : Order → Option (List ℕ)
+picture_word order = option_map string_bytes order.picture
+
+-- neither is wanted, or one is
+abbrev pub AsksNoFile : Order → Type 0
+AsksNoFile order = (viewer_word order ≡ None) × (picture_word order ≡ None)
+
+abbrev pub AsksSomeFile : Order → Type 0
+AsksSomeFile order = (is_some (viewer_word order) ≡ true) ⊎ (is_some (picture_word order) ≡ true)
+
+module _ {S R : Type 0} (outside : Environment S R) (s : S) where
+  -- whether two paths are one, or one file stands at both
+  abbrev pub IsOnePlace : List ℕ → List ℕ → Bool → Type 0
+  IsOnePlace one other both =
+      (a b : Present) × outside.stands_at s one a × outside.stands_at s other b
+      × (both ≡ (bytes_eq one other || is_one_file a b))
+
+  -- where files are wanted at two paths, these are two places, or they are one
+  abbrev pub AreApart : Option (List ℕ) → Option (List ℕ) → Type 0
+  AreApart viewer picture =
+      MatchOption viewer (Unit {0}) (λ one. MatchOption picture (Unit {0}) (λ other. IsOnePlace one other false))
+
+  abbrev pub AreShared : Option (List ℕ) → Option (List ℕ) → Type 0
+  AreShared viewer picture =
+      (one other : List ℕ) × (viewer ≡ Some one) × (picture ≡ Some other) × IsOnePlace one other true
+
+  module _ (inputs : InputIds) where
+    -- a file may be written at this path, if one is wanted there
+    abbrev pub IsAllowed : Option (List ℕ) → Type 0
+    IsAllowed word = MatchOption word (Unit {0}) (λ path. MayBeSaved (outside.stands_at s) path inputs None)
+
+    -- one is wanted there, and may not be written
+    abbrev pub IsRefusedAt : Option (List ℕ) → Type 0
+    IsRefusedAt word =
+        (path : List ℕ) × (refusal : SaveRefusal) × (word ≡ Some path)
+        × MayBeSaved (outside.stands_at s) path inputs (Some refusal)
+
+    -- these bytes are put at this path, if a file is wanted there
+    abbrev pub SavesIfAsked : Option (List ℕ) → List ℕ → ℕ → Writing × Writing → ℕ → Type 0
+    SavesIfAsked word bytes first err status =
+        MatchOption word
+        ((err.1 ≡ err.0) × (status ≡ first))
+        (λ path. Saves (outside.stands_at s) (outside.puts s) path inputs bytes first err status)
+
+  module _ (order : Order) where
+    -- each file that is wanted may be written, or one may not
+    abbrev pub EachIsAllowed : InputIds → Type 0
+    EachIsAllowed inputs = IsAllowed inputs (viewer_word order) × IsAllowed inputs (picture_word order)
+
+    abbrev pub OneIsRefused : InputIds → Type 0
+    OneIsRefused inputs = IsRefusedAt inputs (viewer_word order) ⊎ IsRefusedAt inputs (picture_word order)
+
+    -- and so may both beside each other, or they are wanted at one place
+    abbrev pub AreAllowed : InputIds → Type 0
+    AreAllowed inputs = EachIsAllowed inputs × AreApart (viewer_word order) (picture_word order)
+
+    abbrev pub IsRefused : InputIds → Type 0
+    IsRefused inputs = OneIsRefused inputs ⊎ AreShared (viewer_word order) (picture_word order)
+
+    -- the viewer's file is written and then the picture, each if it is wanted
+    abbrev pub SavesFiles : InputIds → List ℕ → List ℕ → ℕ → Writing × Writing → ℕ → Type 0
+    SavesFiles inputs viewer picture first err status =
+        (between : Writing) × (so_far : ℕ)
+        × SavesIfAsked inputs (viewer_word order) viewer first (err.0, between) so_far
+        × SavesIfAsked inputs (picture_word order) picture so_far (between, err.1) status
+
+    -- it is explained, and then the files are written, if there is an explanation
     abbrev pub ExplainsThenSaves : InputIds → Reading × Reading → Reading × Reading
         → Writing × Writing → Writing × Writing → ℕ → Type 0
     ExplainsThenSaves inputs binding dump out err status =
         (said : Writing) × (first : ℕ) × Explains order.skew binding dump out (err.0, said) first
         × (((err.1 ≡ said) × (status ≡ first))
-        ⊎ ((bytes : List ℕ)
-        × Saves (outside.stands_at s) (outside.puts s) path inputs bytes first (said, err.1) status))
+        ⊎ ((viewer picture : List ℕ) × IsPicture picture
+        × SavesFiles inputs viewer picture first (said, err.1) status))
 
-    -- unless the file may not be written: then nothing is
+    -- unless one of the files may not be written: then nothing is
     abbrev pub ExplainsUnlessRefused : InputIds → Reading × Reading → Reading × Reading
         → Writing × Writing → Writing × Writing → ℕ → Type 0
     ExplainsUnlessRefused inputs binding dump out err status =
-        ((refusal : SaveRefusal) × MayBeSaved (outside.stands_at s) path inputs (Some refusal)
-        × Writes out.0 out.1 [] × RefusesPlace err status)
-        ⊎ (MayBeSaved (outside.stands_at s) path inputs None × ExplainsThenSaves inputs binding dump out err status)
+        (IsRefused inputs × Writes out.0 out.1 [] × RefusesPlace err status)
+        ⊎ (AreAllowed inputs × ExplainsThenSaves inputs binding dump out err status)
 
     -- it can't be told which file an input is: that is told as one that can't be opened
     abbrev pub IsNoFile : Input → Reading → Writing × Writing → Writing × Writing → ℕ → Type 0
@@ -55,18 +121,17 @@ module _ {S R : Type 0} (outside : Environment S R) (s : S) (order : Order) wher
         ⊎ ((d : FileId) × outside.is_file s dump.0 (Some d)
         × ExplainsUnlessRefused (record { binding = b; dump = d }) binding dump out err status)))
 
-  -- the files were opened: it is explained, and the viewer's file is written where a word names one
-  abbrev pub ExplainsOpened : Reading × Reading → Reading × Reading
-      → Writing × Writing → Writing × Writing → ℕ → Type 0
-  ExplainsOpened binding dump out err status =
-      MatchOption (viewer_word order)
-      (Explains order.skew binding dump out err status)
-      (λ path. ExplainsAndSaves path binding dump out err status)
+    -- the files were opened: it is explained, and files are written where words name them
+    abbrev pub ExplainsOpened : Reading × Reading → Reading × Reading
+        → Writing × Writing → Writing × Writing → ℕ → Type 0
+    ExplainsOpened binding dump out err status =
+        (AsksNoFile order × Explains order.skew binding dump out err status)
+        ⊎ (AsksSomeFile order × ExplainsAndSaves binding dump out err status)
 
-  -- behind the binding
-  abbrev pub ExplainsDump : Reading × Reading → Writing × Writing → Writing × Writing → ℕ → Type 0
-  ExplainsDump binding = WithInput (outside.opens s) order Dump (ExplainsOpened binding)
+    -- after the binding
+    abbrev pub ExplainsDump : Reading × Reading → Writing × Writing → Writing × Writing → ℕ → Type 0
+    ExplainsDump binding = WithInput (outside.opens s) order Dump (ExplainsOpened binding)
 
-  -- the binding is opened, and then the dump
-  abbrev pub ExplainsFiles : Writing × Writing → Writing × Writing → ℕ → Type 0
-  ExplainsFiles = WithInput (outside.opens s) order Binding ExplainsDump
+    -- the binding is opened, and then the dump
+    abbrev pub ExplainsFiles : Writing × Writing → Writing × Writing → ℕ → Type 0
+    ExplainsFiles = WithInput (outside.opens s) order Binding ExplainsDump

@@ -1,20 +1,25 @@
-//! The explanation of the files that an order names, and the waveform viewer's file.
+//! The explanation of the files that an order names, the waveform viewer's file, and the picture.
 
-ghost use Rattle.std.specs.Prelude.{◌≡◌, MatchOption, None, Some};
-ghost use Rattle.vme_program.specs.Explanations.{ExplainsAndSaves, ExplainsDump, ExplainsFiles, ExplainsOpened};
-ghost use Rattle.vme_program.specs.Explanations.{ExplainsThenSaves, ExplainsUnlessRefused, viewer_word};
+ghost use Rattle.std.specs.Prelude.{◌≡◌, MatchOption, Some, false, option_map, true};
+ghost use Rattle.vme_program.specs.Explanations.{AreAllowed, AreApart, AreShared, AsksNoFile, AsksSomeFile};
+ghost use Rattle.vme_program.specs.Explanations.{EachIsAllowed, ExplainsAndSaves, IsOnePlace, OneIsRefused};
+ghost use Rattle.vme_program.specs.Explanations.{ExplainsDump, ExplainsFiles, ExplainsOpened, ExplainsThenSaves};
+ghost use Rattle.vme_program.specs.Explanations.{ExplainsUnlessRefused, IsAllowed, IsRefused, IsRefusedAt, SavesFiles};
+ghost use Rattle.vme_program.specs.Explanations.{SavesIfAsked, picture_word, viewer_word};
 
 use crate::environment::Environment;
 use crate::opening::{input_name, open_input, refuse_input};
 use crate::save::{InputIds, refusal_at, refuse_place, save};
 use std::alloc::Global;
 use vme_answer::Input;
-use vme_commands::explain::{InputNames, explain};
+use vme_commands::explain::{ExplainedFiles, InputNames, explain};
+use vme_explain::{SaveRefusal, is_one_file};
 use vme_trace::{Sink, Source};
 use vme_words::Order;
 
 /// Says why and where the recording of the files that an order names is judged as it is, and writes the waveform
-/// viewer's file, if one is wanted. Where that file may not be written, nothing is. The answer is the exit status.
+/// viewer's file and the picture, if they are wanted. Where one of these may not be written, nothing is. The answer is
+/// the exit status.
 #[inline(never)]
 pub fn explain_files<S: Environment, O: Sink, E: Sink>(
     alloc: Global,
@@ -70,36 +75,42 @@ fn explain_opened<S: Environment, O: Sink, E: Sink>(
         (S.Reader.reading dump.old, S.Reader.reading dump.new)
         (O.writing out.old, O.writing out.new) (E.writing err.old, E.writing err.new) result }
 {
-    match viewer_path(order) {
-        Some(path) => explain_and_save(alloc, environment, order, path, binding, dump, out, err),
-        None => {
-            let (status, _) = explain(
-                alloc,
-                binding,
-                dump,
-                input_names(order),
-                order.skew,
-                out,
-                err,
-            );
-            status
-        }
+    if asks_no_file(order) {
+        let (status, _) = explain(
+            alloc,
+            binding,
+            dump,
+            input_names(order),
+            order.skew,
+            out,
+            err,
+        );
+        status
+    } else {
+        explain_and_save(alloc, environment, order, binding, dump, out, err)
     }
 }
 
-/// The same, where the viewer's file is wanted at a path.
+/// Whether no file is wanted beside the explanation.
+fn asks_no_file(order: &Order) -> bool
+    ensures none { result ≡ true → AsksNoFile order.now }
+    ensures some { result ≡ false → AsksSomeFile order.now }
+{
+    viewer_path(order).is_none() && picture_path(order).is_none()
+}
+
+/// The same, where files are wanted.
 #[inline(never)]
 fn explain_and_save<S: Environment, O: Sink, E: Sink>(
     alloc: Global,
     environment: &S,
     order: &Order,
-    path: &str,
     binding: &mut S::Reader,
     dump: &mut S::Reader,
     out: &mut O,
     err: &mut E,
 ) -> u8
-    ensures { ExplainsAndSaves S.Environment environment.now order.now path.now
+    ensures { ExplainsAndSaves S.Environment environment.now order.now
         (S.Reader.reading binding.old, S.Reader.reading binding.new)
         (S.Reader.reading dump.old, S.Reader.reading dump.new)
         (O.writing out.old, O.writing out.new) (E.writing err.old, E.writing err.new) result }
@@ -114,17 +125,7 @@ fn explain_and_save<S: Environment, O: Sink, E: Sink>(
         binding: binding_id,
         dump: dump_id,
     };
-    explain_unless_refused(
-        alloc,
-        environment,
-        order,
-        path,
-        inputs,
-        binding,
-        dump,
-        out,
-        err,
-    )
+    explain_unless_refused(alloc, environment, order, inputs, binding, dump, out, err)
 }
 
 /// The same, where it is known which files the inputs are.
@@ -133,51 +134,172 @@ fn explain_unless_refused<S: Environment, B: Source, D: Source, O: Sink, E: Sink
     alloc: Global,
     environment: &S,
     order: &Order,
-    path: &str,
     inputs: InputIds,
     binding: &mut B,
     dump: &mut D,
     out: &mut O,
     err: &mut E,
 ) -> u8
-    ensures { ExplainsUnlessRefused S.Environment environment.now order.now path.now inputs
+    ensures { ExplainsUnlessRefused S.Environment environment.now order.now inputs
         (B.reading binding.old, B.reading binding.new) (D.reading dump.old, D.reading dump.new)
         (O.writing out.old, O.writing out.new) (E.writing err.old, E.writing err.new) result }
 {
-    match refusal_at(environment, path, inputs) {
-        Some(refusal) => refuse_place(alloc, path, refusal, err),
-        None => explain_then_save(
-            alloc,
-            environment,
-            order,
-            path,
-            inputs,
-            binding,
-            dump,
-            out,
-            err,
-        ),
+    match refused_place(environment, order, inputs) {
+        Some(place) => refuse_place(alloc, place.path, place.refusal, err),
+        None => explain_then_save(alloc, environment, order, inputs, binding, dump, out, err),
     }
 }
 
-/// The same, where the viewer's file may be written.
+/// A path at which no file may be written, and why.
+#[derive(Clone, Copy)]
+struct RefusedPlace<'a> {
+    path: &'a str,
+    refusal: SaveRefusal,
+}
+
+/// The first of the places where files are wanted at which none may be written, or at which both are wanted, if there
+/// is one.
+fn refused_place<'a, S: Environment>(
+    environment: &S,
+    order: &'a Order,
+    inputs: InputIds,
+) -> Option<RefusedPlace<'a>>
+    ensures { MatchOption result (AreAllowed S.Environment environment.now order.now inputs)
+        (λ place. IsRefused S.Environment environment.now order.now inputs) }
+{
+    match refused_by_itself(environment, order, inputs) {
+        Some(place) => Some(place),
+        None => shared_place(environment, viewer_path(order), picture_path(order)),
+    }
+}
+
+/// The first of the places where files are wanted at which none may be written, if there is one.
+fn refused_by_itself<'a, S: Environment>(
+    environment: &S,
+    order: &'a Order,
+    inputs: InputIds,
+) -> Option<RefusedPlace<'a>>
+    ensures { MatchOption result (EachIsAllowed S.Environment environment.now order.now inputs)
+        (λ place. OneIsRefused S.Environment environment.now order.now inputs) }
+{
+    match refused_at(environment, viewer_path(order), inputs) {
+        Some(place) => Some(place),
+        None => refused_at(environment, picture_path(order), inputs),
+    }
+}
+
+/// The place at this path, if another file is wanted there too.
+fn shared_place<'a, S: Environment>(
+    environment: &S,
+    viewer: Option<&str>,
+    picture: Option<&'a str>,
+) -> Option<RefusedPlace<'a>>
+    ensures { MatchOption result
+        (AreApart S.Environment environment.now
+        (option_map (λ path. path.now) viewer.entry) (option_map (λ path. path.now) picture.entry))
+        (λ place. AreShared S.Environment environment.now
+        (option_map (λ path. path.now) viewer.entry) (option_map (λ path. path.now) picture.entry)) }
+{
+    match viewer {
+        Some(viewer) => shared_with(environment, viewer, picture),
+        None => None,
+    }
+}
+
+/// The same, where the other file is wanted at this path.
+fn shared_with<'a, S: Environment>(
+    environment: &S,
+    viewer: &str,
+    picture: Option<&'a str>,
+) -> Option<RefusedPlace<'a>>
+    ensures { MatchOption result
+        (AreApart S.Environment environment.now (Some viewer.now) (option_map (λ path. path.now) picture.entry))
+        (λ place. AreShared S.Environment environment.now (Some viewer.now)
+        (option_map (λ path. path.now) picture.entry)) }
+{
+    match picture {
+        Some(picture) => shared_by(environment, viewer, picture),
+        None => None,
+    }
+}
+
+/// The second of two places, if they are one.
+fn shared_by<'a, S: Environment>(
+    environment: &S,
+    viewer: &str,
+    picture: &'a str,
+) -> Option<RefusedPlace<'a>>
+    ensures { MatchOption result (AreApart S.Environment environment.now (Some viewer.now) (Some picture.now))
+        (λ place. AreShared S.Environment environment.now (Some viewer.now) (Some picture.now)) }
+{
+    if is_one_place(environment, viewer, picture) {
+        Some(RefusedPlace {
+            path: picture,
+            refusal: SaveRefusal::Shared,
+        })
+    } else {
+        None
+    }
+}
+
+/// Whether two paths are one, or one file stands at both.
+fn is_one_place<S: Environment>(environment: &S, one: &str, other: &str) -> bool
+    ensures { IsOnePlace S.Environment environment.now one.now other.now result }
+{
+    let first = environment.present_at(one);
+    let second = environment.present_at(other);
+    let is_one_path = one == other;
+    is_one_path || is_one_file(&first, &second)
+}
+
+/// The place at this path, if a file is wanted there and may not be written.
+fn refused_at<'a, S: Environment>(
+    environment: &S,
+    wanted: Option<&'a str>,
+    inputs: InputIds,
+) -> Option<RefusedPlace<'a>>
+    ensures { MatchOption result
+        (IsAllowed S.Environment environment.now inputs (option_map (λ path. path.now) wanted.entry))
+        (λ place. IsRefusedAt S.Environment environment.now inputs (option_map (λ path. path.now) wanted.entry)) }
+{
+    match wanted {
+        Some(path) => refusal_of(environment, path, inputs),
+        None => None,
+    }
+}
+
+/// This place, if a file may not be written there.
+fn refusal_of<'a, S: Environment>(
+    environment: &S,
+    path: &'a str,
+    inputs: InputIds,
+) -> Option<RefusedPlace<'a>>
+    ensures { MatchOption result (IsAllowed S.Environment environment.now inputs (Some path.now))
+        (λ place. IsRefusedAt S.Environment environment.now inputs (Some path.now)) }
+{
+    match refusal_at(environment, path, inputs) {
+        Some(refusal) => Some(RefusedPlace { path, refusal }),
+        None => None,
+    }
+}
+
+/// The same, where each file that is wanted may be written.
 #[inline(never)]
 fn explain_then_save<S: Environment, B: Source, D: Source, O: Sink, E: Sink>(
     alloc: Global,
     environment: &S,
     order: &Order,
-    path: &str,
     inputs: InputIds,
     binding: &mut B,
     dump: &mut D,
     out: &mut O,
     err: &mut E,
 ) -> u8
-    ensures { ExplainsThenSaves S.Environment environment.now order.now path.now inputs
+    ensures { ExplainsThenSaves S.Environment environment.now order.now inputs
         (B.reading binding.old, B.reading binding.new) (D.reading dump.old, D.reading dump.new)
         (O.writing out.old, O.writing out.new) (E.writing err.old, E.writing err.new) result }
 {
-    let (status, viewer) = explain(
+    let (status, files) = explain(
         alloc,
         binding,
         dump,
@@ -186,25 +308,83 @@ fn explain_then_save<S: Environment, B: Source, D: Source, O: Sink, E: Sink>(
         out,
         err,
     );
-    match viewer {
-        Some(viewer) => save(
-            alloc,
-            environment,
-            path,
-            viewer.as_bytes(),
-            inputs,
-            status,
-            err,
-        ),
+    match files {
+        Some(files) => save_files(alloc, environment, order, &files, inputs, status, err),
+        None => status,
+    }
+}
+
+/// Writes the files that are wanted. The answer is this exit status, or another where one isn't written.
+#[inline(never)]
+fn save_files<S: Environment, E: Sink>(
+    alloc: Global,
+    environment: &S,
+    order: &Order,
+    files: &ExplainedFiles,
+    inputs: InputIds,
+    status: u8,
+    err: &mut E,
+) -> u8
+    ensures { SavesFiles S.Environment environment.now order.now inputs files.now.viewer files.now.picture status
+        (E.writing err.old, E.writing err.new) result }
+{
+    let viewer = files.viewer.as_bytes();
+    let status = save_wanted(
+        alloc,
+        environment,
+        viewer_path(order),
+        viewer,
+        inputs,
+        status,
+        err,
+    );
+    let picture = files.picture.as_bytes();
+    save_wanted(
+        alloc,
+        environment,
+        picture_path(order),
+        picture,
+        inputs,
+        status,
+        err,
+    )
+}
+
+/// Writes a file, where it is wanted. The answer is this exit status, or another where it isn't written.
+#[inline(never)]
+fn save_wanted<S: Environment, E: Sink>(
+    alloc: Global,
+    environment: &S,
+    wanted: Option<&str>,
+    bytes: &[u8],
+    inputs: InputIds,
+    status: u8,
+    err: &mut E,
+) -> u8
+    ensures { SavesIfAsked S.Environment environment.now inputs (option_map (λ path. path.now) wanted.entry)
+        bytes.now status (E.writing err.old, E.writing err.new) result }
+{
+    match wanted {
+        Some(path) => save(alloc, environment, path, bytes, inputs, status, err),
         None => status,
     }
 }
 
 /// The path at which the viewer's file is wanted, if it is.
 fn viewer_path(order: &Order) -> Option<&str>
-    ensures { MatchOption result (viewer_word order.now ≡ None) (λ path. viewer_word order.now ≡ Some path.now) }
+    ensures { option_map (λ path. path.now) result ≡ viewer_word order.now }
 {
     match order.names.get(2) {
+        Some(path) => Some(path.as_str()),
+        None => None,
+    }
+}
+
+/// The path at which the picture is wanted, if it is.
+fn picture_path(order: &Order) -> Option<&str>
+    ensures { option_map (λ path. path.now) result ≡ picture_word order.now }
+{
+    match &order.picture {
         Some(path) => Some(path.as_str()),
         None => None,
     }

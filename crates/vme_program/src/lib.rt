@@ -9,8 +9,8 @@
 //! - `opening`: the file that an order names for an input, or a message that it can't be opened.
 //! - `check`, `list`, `confirm`, `explain`, `bind`, `variables`, `rules`, `faults`, `audit`: one
 //!   command each, over the files that its order names. `input`: a dump on standard input.
-//! - `save`: the waveform viewer's file, which is written over no input and over nothing that the
-//!   program didn't write.
+//! - `save`: the waveform viewer's file and the picture, which are written over no input and over
+//!   nothing that the program didn't write.
 //!
 //! # What is proved
 //!
@@ -20,9 +20,10 @@
 //!   files and numbers that the arguments name (`specs/Programs`).
 //! - The binding is opened, then the dump, then the listing (`WithInput`). A message names the
 //!   first that can't be opened, with status 3, and nothing else is written.
-//! - With `--gtkw` nothing is written where the file may not be written, by what stands
-//!   there; else the explanation is that without it, and the file is put at its path or the status
-//!   says that it isn't (`ExplainsAndSaves`).
+//! - With `--gtkw` or `--svg` nothing is written where one of these files may not be written, by
+//!   what stands there; else the explanation is that without them, and each file is put at its path
+//!   or the status says that it isn't (`ExplainsAndSaves`). What is put for `--svg` is a picture:
+//!   well nested markup in which every name is escaped.
 //! - In an audit the binding is opened, and then each dump in order; a message names the first that
 //!   can't be, with status 3, and nothing is read. What is written of the dumps, with the binding
 //!   and the other arguments, is what vme_audit_command says of these files. Test cases go into the
@@ -35,9 +36,9 @@
 //!
 //! # What isn't proved
 //!
-//! That `rules RULE` is about that rule, and that `--gtkw` writes a file for that dump's name: the
-//! contracts of vme_commands don't say what these texts have; what the file of test cases has, and
-//! that an audit reads standard input once. Tests try these.
+//! That `rules RULE` is about that rule, that `--gtkw` writes a file for that dump's name, and what
+//! the picture of `--svg` shows: the contracts of vme_commands don't say what these texts have; what
+//! the file of test cases has, and that an audit reads standard input once. Tests try these.
 //!
 //! What an [`Environment`] answers is what its ghost members say, and no more: that a file of that
 //! name has those bytes is a matter of who implements it.

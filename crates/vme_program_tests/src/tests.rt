@@ -97,6 +97,14 @@ impl Environment for Shelf {
                 },
                 is_ours: false,
             }
+        } else if path == "save" || path == "link_to_save" {
+            Present::File {
+                id: FileId {
+                    device: 1,
+                    number: 2,
+                },
+                is_ours: true,
+            }
         } else {
             Present::Nothing
         }
@@ -208,6 +216,16 @@ fn happy_paths(rt: HostRuntime) -> Result<(), Fail> {
             (0, 1, 0),
         ),
         (
+            "vmecheck explain --svg new binding dump",
+            "conforming\n",
+            (0, 1, 0),
+        ),
+        (
+            "vmecheck explain --svg new --gtkw save binding dump",
+            "conforming\n",
+            (0, 2, 0),
+        ),
+        (
             "vmecheck variables dump",
             "time scale 1ns\nlast time 50\nchanges bits variable\n      3     1 bus.AS\n",
             (0, 0, 0),
@@ -294,6 +312,21 @@ fn what_is_refused(rt: HostRuntime) -> Result<(), Fail> {
             (3, 0, 0),
         ),
         (
+            "vmecheck explain --gtkw new --svg dump binding dump",
+            "vmecheck: nothing is written over dump",
+            (3, 0, 0),
+        ),
+        (
+            "vmecheck explain --gtkw new --svg new binding dump",
+            "vmecheck: nothing is written over new: two files are wanted there\n",
+            (3, 0, 0),
+        ),
+        (
+            "vmecheck explain --gtkw save --svg link_to_save binding dump",
+            "vmecheck: nothing is written over link_to_save: two files are wanted there\n",
+            (3, 0, 0),
+        ),
+        (
             "vmecheck variables none",
             "vmecheck: cannot open dump\n",
             (3, 0, 0),
@@ -333,6 +366,16 @@ fn what_is_said_first_and_last(rt: HostRuntime) -> Result<(), Fail> {
             "vmecheck explain --gtkw full binding dump",
             "conforming\n",
             (5, 1, 0),
+        ),
+        (
+            "vmecheck explain --svg full binding dump",
+            "conforming\n",
+            (5, 1, 0),
+        ),
+        (
+            "vmecheck explain --gtkw full --svg new binding dump",
+            "conforming\n",
+            (5, 2, 0),
         ),
         (
             "vmecheck audit --junit full binding dump",

@@ -26,5 +26,5 @@ mod changes;
 mod timescale;
 mod variables;
 
-pub use timescale::time_unit;
+pub use timescale::{time_scale, time_unit};
 pub use variables::variables_text;

@@ -54,11 +54,17 @@ fn leading_number(text: &[u8]) -> u64 {
     number
 }
 
+/// The time scale of a dump, as `10ns`; nothing where it has none.
+pub fn time_scale(alloc: Global, dump: &[u8]) -> Result<Text, AllocError> {
+    let mut scale = Text::new(alloc);
+    push_timescale(&mut scale, dump)?;
+    Ok(scale)
+}
+
 /// How many units of its time scale a time of a dump stands for, as 10 for 10 ns; 1 where it has no time scale.
 pub fn time_unit(alloc: Global, dump: &[u8]) -> Result<u64, AllocError>
     ensures { IfOk result (λ units. 1 ≤ units) }
 {
-    let mut scale = Text::new(alloc);
-    push_timescale(&mut scale, dump)?;
+    let scale = time_scale(alloc, dump)?;
     Ok(leading_number(scale.as_bytes()).max(1))
 }

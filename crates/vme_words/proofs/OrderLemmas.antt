@@ -2,7 +2,7 @@
 use Rattle.std.proofs.Common.{◌≡◌, ℕ, ◌<◌, ◌≤◌, ◌^◌, List, [], ◌∷◌, ◌++◌, refl, ap, sym, subst, ◌∙◌, IfErr, IsErrAnd}
 use Rattle.std.proofs.Common.{false, inl, inr, is_some, true, true≢false}
 use Rattle.std.specs.Prelude.{IfSome, Option, Some, None, Result, Ok, Err, codes, find, option_map, slice_get}
-use Rattle.std.specs.Prelude.{unwrap_or}
+use Rattle.std.specs.Prelude.{string_bytes, unwrap_or}
 use Rattle.std.specs.Str.{bytes_eq}
 use Rattle.std.specs.Borrow.{Bor}
 use Rattle.std.specs.Str.Parse.{ParsesUnsigned}
@@ -18,7 +18,8 @@ use Rattle.clap.specs.Words.{subcommand_name_of, subcommand_rows_of}
 use Rattle.clap.specs.declared.parser.matches.ArgMatches.TheViews.{out-ArgMatches}
 use Rattle.vme_words.specs.Orders.{HasAll, HasOrder}
 use Rattle.vme_words.specs.Orders.{HasNumber, HasUnsigned, IsOrder, Says, SaysAudit, SaysConfirmation, SaysOrder}
-use Rattle.vme_words.specs.Orders.{SaysWords, if_given, names_in, number_in, number_of, scope_in, skew_in, task_name}
+use Rattle.vme_words.specs.Orders.{SaysExplanation, SaysWords}
+use Rattle.vme_words.specs.Orders.{if_given, names_in, number_in, number_of, scope_in, skew_in, task_name}
 use Rattle.vme_words.specs.Commands.{greatest_number, vmecheck_app}
 use Rattle.vme_words.specs.OrderFaults.{ComesOf, IsFaultOf}
 use Rattle.vme_words.specs.declared.order_fault.OrderFault.{OrderFault}
@@ -219,12 +220,15 @@ is_bind order rows task says = record {
 }
 
 pub is_explain : (order : Order) (rows : List Row) → order.command ≡ Explain → SaysWords order (skew_in rows) None
-    (names_in rows ++ if_given (first_of (codes "gtkw") rows)) → IsOrder order (Some (codes "explain", rows))
-is_explain order rows task says = record {
-  rows = rows;
-  command = ap (λ (t : Task). Some (task_name t, rows)) (sym task);
-  says = subst (λ (t : Task). Says t order rows) (sym task) says;
-}
+    (names_in rows ++ if_given (first_of (codes "gtkw") rows))
+    → option_map string_bytes order.picture ≡ first_of (codes "svg") rows → IsOrder order (Some (codes "explain", rows))
+is_explain order rows task says picture =
+    let both : SaysExplanation order rows = record { words = says; picture = picture } in
+    record {
+      rows = rows;
+      command = ap (λ (t : Task). Some (task_name t, rows)) (sym task);
+      says = subst (λ (t : Task). Says t order rows) (sym task) both;
+    }
 
 pub is_audit : (order : Order) (rows : List Row) → order.command ≡ Audit → SaysAudit order rows
     → IsOrder order (Some (codes "audit", rows))

@@ -94,6 +94,9 @@ scope = with_index 1 (filled (word_rule (codes "scope")))
 abbrev save_file : Rule
 save_file = with_index 1 (filled (word_rule (codes "gtkw")))
 
+abbrev picture : Rule
+picture = with_index 1 (filled (word_rule (codes "svg")))
+
 abbrev transfers : Rule
 transfers = with_index 1 (filled transfers_rule)
 
@@ -134,7 +137,7 @@ abbrev bind_rules : List Rule
 bind_rules = slots ∷ scope ∷ only_dump ∷ help ∷ []
 
 abbrev explain_rules : List Rule
-explain_rules = save_file ∷ skew ∷ binding ∷ dump ∷ help ∷ []
+explain_rules = save_file ∷ picture ∷ skew ∷ binding ∷ dump ∷ help ∷ []
 
 recording_known : EachKnown recording_rules recording_rules
 unfolding clap_on_literals
@@ -249,7 +252,10 @@ explain_known = (
       record { own = refl; acts = refl; defaults = refl },
       (
         record { own = refl; acts = refl; defaults = refl },
-        (record { own = refl; acts = tt; defaults = refl }, tt),
+        (
+          record { own = refl; acts = refl; defaults = refl },
+          (record { own = refl; acts = tt; defaults = refl }, tt),
+        ),
       ),
     ),
   ),
@@ -379,15 +385,15 @@ explain_has words e =
     let rows = rows_after explain_rules [] words in
     let before = (settled explain_rules (walk explain_rules [] nothing_held words).held).rows in
     let given = two_given (is_given (codes "BINDING") rows) (is_given (codes "DUMP") rows) level.1 in
-    let behind_file = with_default before save_file in
-    let in_skew = row_says explain_rules rows skew (Unsigned 0 greatest_number) level.0 explain_known.1.0.own refl
-    (defaults_keep (codes "skew") (binding ∷ dump ∷ help ∷ []) (with_default behind_file skew)
-    (default_adds behind_file skew (codes "0") [] refl)) in
+    let behind_files = with_default (with_default before save_file) picture in
+    let in_skew = row_says explain_rules rows skew (Unsigned 0 greatest_number) level.0 explain_known.1.1.0.own refl
+    (defaults_keep (codes "skew") (binding ∷ dump ∷ help ∷ []) (with_default behind_files skew)
+    (default_adds behind_files skew (codes "0") [] refl)) in
     record {
       skew = record { text = in_skew.0; read = in_skew.1; says = in_skew.2 };
       names = record {
-        binding = given_text explain_rules rows binding level.0 explain_known.1.1.0.own given.0;
-        dump = given_text explain_rules rows dump level.0 explain_known.1.1.1.0.own given.1;
+        binding = given_text explain_rules rows binding level.0 explain_known.1.1.1.0.own given.0;
+        dump = given_text explain_rules rows dump level.0 explain_known.1.1.1.1.0.own given.1;
       };
     }
 

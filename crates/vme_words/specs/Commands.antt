@@ -118,11 +118,16 @@ bind_app =
     with_rule (with_rule (with_rule (new_app (codes "bind")) slots_rule) (word_rule (codes "scope")))
     (file_rule (codes "DUMP"))
 
--- `explain [--gtkw FILE] [--skew T] BINDING DUMP`
+-- `explain [--gtkw FILE] [--svg FILE] [--skew T] BINDING DUMP`
 abbrev pub explain_app : App
 explain_app =
-    with_rule (with_rule (with_rule (with_rule (new_app (codes "explain")) (word_rule (codes "gtkw"))) skew_rule)
-    (file_rule (codes "BINDING"))) (file_rule (codes "DUMP"))
+    with_rule
+    (with_rule
+    (with_rule
+    (with_rule (with_rule (new_app (codes "explain")) (word_rule (codes "gtkw"))) (word_rule (codes "svg")))
+    skew_rule)
+    (file_rule (codes "BINDING")))
+    (file_rule (codes "DUMP"))
 
 -- the program, with the subcommands that judge recordings by a binding and nothing more
 abbrev pub recordings_app : App

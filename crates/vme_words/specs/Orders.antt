@@ -86,6 +86,11 @@ pub record SaysWords (order : Order) (skew : Option ℕ) (scope : Option Text) (
   pub audit : order.audit ≡ None
   pub names : map (λ name. Some (string_bytes name)) order.names.items ≡ words
 
+-- the matches of the subcommand that explains are this order, with the words of the files that are wanted
+pub record SaysExplanation (order : Order) (rows : List Row) : Type 0 where
+  pub words : SaysWords order (skew_in rows) None (names_in rows ++ if_given (first_of (codes "gtkw") rows))
+  pub picture : option_map string_bytes order.picture ≡ first_of (codes "svg") rows
+
 -- the matches are what an audit is told
 pub record SaysAuditWords (words : AuditWords) (rows : List Row) : Type 0 where
   pub transfers : number_in (codes "transfers") rows ≡ Some words.transfers
@@ -114,8 +119,7 @@ Says Faults order rows = SaysWords order (Some 0) None (if_given (first_of (code
 Says Variables order rows = SaysWords order (Some 0) None (first_of (codes "DUMP") rows ∷ [])
 Says Bind order rows = SaysWords order (Some 0) (scope_in rows)
     (first_of (codes "DUMP") rows ∷ if_given (first_of (codes "slots") rows))
-Says Explain order rows = SaysWords order (skew_in rows) None
-    (names_in rows ++ if_given (first_of (codes "gtkw") rows))
+Says Explain order rows = SaysExplanation order rows
 Says Audit order rows = SaysAudit order rows
 
 -- the subcommand that was met, with its matches, is this order

@@ -227,6 +227,7 @@ pub(crate) fn explain_command<'a>(alloc: Global) -> Result<Command<'a>, AllocErr
         "Judges a recording, and says why and where",
     );
     let command = with_arg(command, save_file_option(alloc));
+    let command = with_arg(command, picture_option(alloc));
     let command = with_arg(command, skew_option(alloc));
     let command = with_arg(command, binding_file(alloc));
     with_arg(command, dump_file(alloc))
@@ -257,6 +258,15 @@ fn save_file_option<'a>(alloc: Global) -> Arg<'a>
 {
     Arg::new(alloc, "gtkw").long("gtkw").help(
         "A file to write for the waveform viewer, with a marker at the break",
+    )
+}
+
+fn picture_option<'a>(alloc: Global) -> Arg<'a>
+    ensures rule { rule_of result ≡ word_rule (codes "svg") }
+    ensures local { result.global ≡ false }
+{
+    Arg::new(alloc, "svg").long("svg").help(
+        "An SVG file to write, with a picture of the lines around the break",
     )
 }
 

@@ -39,6 +39,8 @@ pub struct Order {
     pub skew: u64,
     /// The scope whose lines are bound, as its names joined by dots, if a binding is to be written and one is named.
     pub scope: Option<String>,
+    /// The file of the picture to draw, if an explanation is asked for and one is wanted.
+    pub picture: Option<String>,
     /// The words behind the task, by it: the binding and the dump, and for a confirmation the listing, or for an
     /// explanation the waveform viewer's file, if one is wanted; the binding and each dump of an audit; the dump, and
     /// for a binding the number of slots, if it is told; or a rule, or a fault, if one is named.

@@ -1,6 +1,6 @@
 //! How the words of the command line are read.
 
-ghost use Rattle.std.specs.Prelude.{◌≡◌, ◌≤◌, ◌∷◌, ◌++◌, [], codes, IfErr, IfOk, IfSome, Some, is_some, map};
+ghost use Rattle.std.specs.Prelude.{◌≡◌, ◌≤◌, ◌∷◌, ◌++◌, [], codes, IfErr, IfOk, IfSome, None, Some, is_some, map};
 ghost use Rattle.std.specs.Prelude.{option_map, string_bytes, true};
 ghost use Rattle.clap.specs.Words.{fault_of, first_of, found_of, kind_of, rows_of, subcommand_of, subcommand_rows_of};
 ghost use Rattle.vme_words.specs.Commands.{vmecheck_app};
@@ -144,6 +144,7 @@ fn recording_order(
             workers,
             skew,
             scope: None,
+            picture: None,
             names,
             audit: None,
         })),
@@ -168,6 +169,7 @@ fn confirm_order(alloc: Global, found: &ArgMatches<'_>) -> Result<Option<Order>,
             workers: 4,
             skew,
             scope: None,
+            picture: None,
             names,
             audit: None,
         })),
@@ -240,7 +242,8 @@ fn explain_order(alloc: Global, found: &ArgMatches<'_>) -> Result<Option<Order>,
     match names_in(alloc, found)? {
         Some(names) => {
             let names = with_given(alloc, names, found, "gtkw")?;
-            Ok(Some(order_of_words(Task::Explain, skew, None, names)))
+            let picture = word_of(alloc, found, "svg")?;
+            Ok(Some(order_to_explain(skew, names, picture)))
         }
         None => Ok(None),
     }
@@ -272,6 +275,7 @@ fn audit_order(alloc: Global, found: &ArgMatches<'_>) -> Result<Option<Order>, A
         workers,
         skew,
         scope: None,
+        picture: None,
         names,
         audit: Some(audit),
     }))
@@ -312,6 +316,26 @@ fn order_of_words(command: Task, skew: u64, scope: Option<String>, names: Vec<St
         workers: 4,
         skew,
         scope,
+        picture: None,
+        names,
+        audit: None,
+    }
+}
+
+/// An order to explain, of this skew, these words and this picture, with the other numbers that the others have by
+/// default.
+fn order_to_explain(skew: u64, names: Vec<String>, picture: Option<String>) -> Order
+    ensures command { result.command ≡ Task.Explain }
+    ensures says { SaysWords result (Some skew) None (map (λ name. Some (string_bytes name)) names.items) }
+    ensures picture { option_map string_bytes result.picture ≡ option_map string_bytes picture }
+{
+    Order {
+        command: Task::Explain,
+        block: 16_384,
+        workers: 4,
+        skew,
+        scope: None,
+        picture,
         names,
         audit: None,
     }

@@ -194,6 +194,35 @@ static SCOPES: [(&str, &str); 9] = [
     ("vmecheck variables --scope a V", "refused"),
 ];
 
+/// Lines, the file of the picture that each has, and how many names.
+static PICTURES: [(&str, &str, usize); 4] = [
+    ("vmecheck explain B V", "none", 2),
+    ("vmecheck explain --svg P B V", "P", 2),
+    ("vmecheck explain --svg=P --gtkw F B V", "P", 3),
+    ("vmecheck explain B V --gtkw F", "none", 3),
+];
+
+/// Whether a line has this file for the picture, `none` where it has none, and so many names.
+fn has_picture(alloc: Global, line: &str, wanted: &str, count: usize) -> bool {
+    match order_of(alloc, line) {
+        Ok(order) => {
+            let is_named = match &order.picture {
+                Some(path) => path.as_str() == wanted,
+                None => wanted == "none",
+            };
+            is_named && order.names.len() == count
+        }
+        Err(_) => false,
+    }
+}
+
+#[test]
+fn the_picture_is_a_word_of_its_own(rt: HostRuntime) {
+    for (line, wanted, count) in PICTURES.iter() {
+        assert!(rt; has_picture(rt.alloc(), line, wanted, *count), "{line}");
+    }
+}
+
 /// Whether a line has this scope: `none` where it has none, and `refused` where it is no order.
 fn has_scope(alloc: Global, line: &str, wanted: &str) -> bool {
     match order_of(alloc, line) {
@@ -251,7 +280,7 @@ fn skews_are_ordered(rt: HostRuntime) {
 }
 
 /// Lines that are no orders, and whether each asks for help.
-static REFUSED: [(&str, bool); 38] = [
+static REFUSED: [(&str, bool); 41] = [
     ("vmecheck check --block 0 B V", false),
     ("vmecheck check --block 65537 B V", false),
     ("vmecheck check --workers 0 B V", false),
@@ -275,6 +304,9 @@ static REFUSED: [(&str, bool); 38] = [
     ("vmecheck bind --slots 22 V", false),
     ("vmecheck explain B", false),
     ("vmecheck explain --gtkw B V", false),
+    ("vmecheck explain --svg B V", false),
+    ("vmecheck explain --svg F --svg G B V", false),
+    ("vmecheck check --svg F B V", false),
     ("vmecheck audit", false),
     ("vmecheck audit B", false),
     ("vmecheck audit --stop 0 B V", false),

@@ -6,6 +6,7 @@ use std::fs::{self, File, Metadata};
 use std::io::{self, ErrorKind, IsTerminal, Read, Stdin, Write};
 use std::os::unix::fs::MetadataExt;
 use vme_explain::{FileId, Present, is_save_file};
+use vme_picture::is_picture;
 use vme_program::{Environment, Written};
 use vme_stream::Io;
 use vme_trace::{Failed, Source};
@@ -161,7 +162,7 @@ fn is_ours(rt: &HostRuntime, path: &str) -> bool {
     };
     let mut begin = [0; BEGIN];
     match file.read(&mut begin) {
-        Ok(count) => is_save_file(&begin[..count]),
+        Ok(count) => is_save_file(&begin[..count]) || is_picture(&begin[..count]),
         Err(_) => false,
     }
 }

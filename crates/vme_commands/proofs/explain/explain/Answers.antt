@@ -1,9 +1,9 @@
 use Rattle.vme_commands.proofs.explain.explain.Goals as goal
 
-pub returns : goal.returns
-returns g c =
+pub returns-clause-told : goal.returns-clause-told
+returns-clause-told g c =
     let (binding, dump, binding_reading, dump_reading, given) = c.explained_from-told.ensures.read in
-    let (more, has_more, ends) = c.tell_explained.ensures in (
+    let (more, has_more, ends) = c.tell_explained.ensures.told in (
       binding,
       dump,
       c.explained_from-told.result,
@@ -15,3 +15,6 @@ returns g c =
       has_more,
       ends,
     )
+
+pub returns-clause-drawn : goal.returns-clause-drawn
+returns-clause-drawn g c = c.tell_explained.ensures.drawn c.explained_from-told.ensures.begins

@@ -1,8 +1,10 @@
-use Rattle.vme_program.proofs.Cases.{match_none, match_some}
+use Rattle.std.proofs.Common.{inl, inr}
 use Rattle.vme_program.proofs.explain.explain_opened.Goals as goal
 
-pub returns-in-Some : goal.returns-in-Some
-returns-in-Some g c = match_some _ _ _ _ c.in-Some.ensures c.explain_and_save.ensures
+pub returns-then-asks_no_file : goal.returns-then-asks_no_file
+returns-then-asks_no_file g c =
+    inl (c.asks_no_file.ensures.none c.if-asks_no_file.true, c.explain-status.ensures.told)
 
-pub returns-in-None : goal.returns-in-None
-returns-in-None g c = match_none _ _ _ c.in-None.ensures c.explain-status.ensures
+pub returns-else-asks_no_file : goal.returns-else-asks_no_file
+returns-else-asks_no_file g c =
+    inr (c.asks_no_file.ensures.some c.if-asks_no_file.false, c.explain_and_save.ensures)

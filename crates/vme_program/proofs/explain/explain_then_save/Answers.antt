@@ -4,8 +4,13 @@ use Rattle.vme_program.proofs.explain.explain_then_save.Goals as goal
 pub returns-in-Some : goal.returns-in-Some
 returns-in-Some g c =
     let said = g.E.Sink.writing c.explain-status.new.err in
-    (said, c.explain-status.result.0, c.explain-status.ensures, inr (_, c.save.ensures))
+    let drawn = rw c.in-Some.is at c.explain-status.ensures.drawn in
+    (said, c.explain-status.result.0, c.explain-status.ensures.told, inr (_, _, drawn, c.save_files.ensures))
 
 pub returns-in-None : goal.returns-in-None
-returns-in-None g c =
-    (g.E.Sink.writing c.explain-status.new.err, c.explain-status.result.0, c.explain-status.ensures, inl (refl, refl))
+returns-in-None g c = (
+  g.E.Sink.writing c.explain-status.new.err,
+  c.explain-status.result.0,
+  c.explain-status.ensures.told,
+  inl (refl, refl),
+)

@@ -1,0 +1,69 @@
+//! What an excerpt shows: the levels around a break, in which lines, and the values of buses.
+
+ghost use Rattle.std.specs.Prelude.{◌≤◌};
+
+use crate::excerpt::levels_from;
+use crate::page::Subject;
+use crate::shown::lines_shown;
+use crate::values::{ValueRow, value_rows};
+use std::alloc::{AllocError, Global};
+use vme_trace::{Break, Line, Lines, Verdict};
+
+/// How many instants an excerpt shows before and after the break.
+const BEFORE: u32 = 8;
+
+const BEHIND: u32 = 3;
+
+/// What an excerpt shows.
+#[derive(Drop)]
+pub struct Excerpt {
+    /// The first instant.
+    pub first: u32,
+    /// The last one.
+    pub last: u32,
+    /// The levels from the first to the last.
+    pub levels: Vec<Lines>,
+    /// The lines that are shown each by itself.
+    pub lines: Vec<Line>,
+    /// Those that are shown together.
+    pub values: Vec<ValueRow>,
+}
+
+/// The break that a verdict names, if it names one.
+pub fn break_of(verdict: &Verdict) -> Option<&Break> {
+    match verdict {
+        Verdict::Broken(found) | Verdict::Unreadable(found) => Some(found),
+        _ => None,
+    }
+}
+
+/// The first and the last instant that are shown around one, in a recording that ends at this instant.
+fn window(around: u32, end: u32) -> (u32, u32)
+    ensures { result.0 ≤ result.1 }
+{
+    let last = around.saturating_add(BEHIND).min(end);
+    (around.saturating_sub(BEFORE).min(last), last)
+}
+
+/// What is shown around the break, or at the end of the recording, where there is none.
+pub fn excerpt_of(alloc: Global, subject: &Subject<'_>) -> Result<Excerpt, AllocError> {
+    let capture = subject.capture;
+    let end = capture.steps().len() as u32;
+    let found = break_of(subject.verdict);
+    let around = match found {
+        Some(found) => found.instant,
+        None => end.saturating_sub(BEHIND),
+    };
+    let (first, last) = window(around, end);
+    let levels = levels_from(alloc, capture, first as usize, last as usize)?;
+    let slots = capture.opening().slots();
+    let lines = lines_shown(alloc, found, slots, levels.as_slice())?;
+    let values = value_rows(alloc, subject.binding, levels.as_slice(), lines.as_slice())?;
+    Ok(Excerpt {
+        first,
+        last,
+        levels,
+        lines,
+        values,
+    })
+}

@@ -1,0 +1,172 @@
+//! The instants of a picture with their times, the break, and the other events.
+
+use crate::drawing::{
+    Area, BoxKind, PathKind, Point, WordStyle, push_box, push_number, push_path, push_point,
+    push_straight, push_words,
+};
+use crate::layout::{CHARACTER, Layout, MARGIN, TOP};
+use crate::markup::Markup;
+use std::alloc::{AllocError, Global};
+use vme_explain::{OtherEvent, Subject, time_at, time_name};
+use vme_text::Text;
+use vme_trace::Break;
+
+/// Where the marks of events stand, the instants, and the times.
+const MARKS: u64 = 45;
+
+const INSTANTS: u64 = 60;
+
+const TIMES: u64 = 74;
+
+/// How many letters of events stand at one instant.
+const MOST_LETTERS: usize = 4;
+
+/// Adds the instants and their times, and a line for each.
+pub(crate) fn push_axis(
+    markup: &mut Markup,
+    alloc: Global,
+    subject: &Subject<'_>,
+    layout: &Layout,
+) -> Result<(), AllocError> {
+    push_row_name(markup, alloc, INSTANTS, b"instant")?;
+    push_row_name(
+        markup,
+        alloc,
+        TIMES,
+        time_name(subject.time_scale).as_bytes(),
+    )?;
+    let mut grid = Text::new(alloc);
+    for place in 0..layout.columns {
+        let x = layout.edge(u64::from(place));
+        let instant = layout.instant(place);
+        let time = time_at(subject.capture, instant);
+        push_number(markup, alloc, Point { x, y: INSTANTS }, u64::from(instant))?;
+        push_number(markup, alloc, Point { x, y: TIMES }, time)?;
+        push_point(&mut grid, alloc, b"M", Point { x, y: TOP })?;
+        push_straight(&mut grid, alloc, b"V", layout.bottom())?;
+    }
+    push_path(markup, alloc, PathKind::Grid, grid.as_bytes())
+}
+
+/// Adds what the row of this height is called.
+fn push_row_name(
+    markup: &mut Markup,
+    alloc: Global,
+    y: u64,
+    name: &[u8],
+) -> Result<(), AllocError> {
+    push_words(
+        markup,
+        alloc,
+        Point { x: MARGIN, y },
+        WordStyle::Plain,
+        name,
+    )
+}
+
+/// The letter of an event, by its place among those that are told.
+pub(crate) fn letter(place: usize) -> u8 {
+    b'a' + (place.min(25) as u8)
+}
+
+/// The letters of the events at an instant.
+fn letters_at(alloc: Global, others: &[OtherEvent], instant: u32) -> Result<Text, AllocError> {
+    let mut letters = Text::new(alloc);
+    let mut count: usize = 0;
+    for (place, other) in others.iter().enumerate() {
+        if other.instant == Some(instant) {
+            if count < MOST_LETTERS {
+                letters.push(&[letter(place)])?;
+            }
+            count = count.saturating_add(1);
+        }
+    }
+    if count > MOST_LETTERS {
+        letters.push(b"..")?;
+    }
+    Ok(letters)
+}
+
+/// Adds the line of the break, with the name of its rule, and those of the other events, each with its letter.
+pub(crate) fn push_events(
+    markup: &mut Markup,
+    alloc: Global,
+    found: Option<&Break>,
+    others: &[OtherEvent],
+    layout: &Layout,
+) -> Result<(), AllocError> {
+    for place in 0..layout.columns {
+        let x = layout.edge(u64::from(place));
+        let instant = layout.instant(place);
+        let letters = letters_at(alloc, others, instant)?;
+        match found {
+            Some(found) if found.instant == instant => {
+                push_break(markup, alloc, found, letters.as_bytes(), layout, x)?;
+            }
+            _ if letters.as_bytes().is_empty() => {}
+            _ => push_other(markup, alloc, letters.as_bytes(), layout, x)?,
+        }
+    }
+    Ok(())
+}
+
+/// Adds the line of the break.
+fn push_break(
+    markup: &mut Markup,
+    alloc: Global,
+    found: &Break,
+    letters: &[u8],
+    layout: &Layout,
+    x: u64,
+) -> Result<(), AllocError> {
+    let mut words = Text::new(alloc);
+    words.push(found.rule.name().as_bytes())?;
+    if !letters.is_empty() {
+        words.push(b" ")?;
+        words.push(letters)?;
+    }
+    push_event_line(markup, alloc, PathKind::Break, x, layout)?;
+    let width = (words.as_bytes().len() as u64)
+        .saturating_mul(CHARACTER)
+        .saturating_add(6);
+    let area = Area {
+        corner: Point {
+            x: x.saturating_sub(width / 2),
+            y: MARKS - 10,
+        },
+        width,
+        height: 13,
+    };
+    push_box(markup, alloc, BoxKind::Black, area)?;
+    let at = Point { x, y: MARKS };
+    push_words(markup, alloc, at, WordStyle::Inverse, words.as_bytes())
+}
+
+/// Adds the line of other events.
+fn push_other(
+    markup: &mut Markup,
+    alloc: Global,
+    letters: &[u8],
+    layout: &Layout,
+    x: u64,
+) -> Result<(), AllocError> {
+    push_event_line(markup, alloc, PathKind::Other, x, layout)?;
+    let at = Point { x, y: MARKS };
+    push_words(markup, alloc, at, WordStyle::Middle, letters)
+}
+
+/// Adds a line from the mark of an event down through all rows, but for the instant and the time.
+fn push_event_line(
+    markup: &mut Markup,
+    alloc: Global,
+    kind: PathKind,
+    x: u64,
+    layout: &Layout,
+) -> Result<(), AllocError> {
+    let mut points = Text::new(alloc);
+    push_point(&mut points, alloc, b"M", Point { x, y: MARKS + 3 })?;
+    push_straight(&mut points, alloc, b"V", INSTANTS - 9)?;
+    push_point(&mut points, alloc, b"M", Point { x, y: TOP - 2 })?;
+    push_straight(&mut points, alloc, b"V", layout.bottom().saturating_add(2))?;
+    push_path(markup, alloc, kind, points.as_bytes())
+}

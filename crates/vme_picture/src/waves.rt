@@ -1,0 +1,166 @@
+//! Lines by their levels: High above, Low below, and hatched where the level isn't known.
+
+use crate::drawing::{
+    Area, BoxKind, PathKind, Point, WordStyle, push_box, push_path, push_point, push_straight,
+    push_words,
+};
+use crate::layout::{Layout, MARGIN, ROW, SLOPE};
+use crate::markup::Markup;
+use std::alloc::{AllocError, Global};
+use vme_explain::{Excerpt, marks_of, push_label};
+use vme_text::Text;
+use vme_trace::Line;
+
+/// How far below the top of its row a line is that is High; one that is Low is as far above the end of it.
+const INSET: u64 = 3;
+
+/// How far below the top of its row a name stands.
+pub(crate) const BASE: u64 = 12;
+
+/// The mark of a level that isn't known.
+const UNKNOWN: u8 = b'x';
+
+/// Adds a row for each line of an excerpt that is shown by itself; that of the break in bold.
+pub(crate) fn push_waves(
+    markup: &mut Markup,
+    alloc: Global,
+    excerpt: &Excerpt,
+    broken: Option<Line>,
+    layout: &Layout,
+) -> Result<(), AllocError> {
+    for (row, line) in excerpt.lines.iter().enumerate() {
+        let y = layout.row(row as u64);
+        let is_broken = match broken {
+            Some(broken) => broken == *line,
+            None => false,
+        };
+        push_name(markup, alloc, *line, is_broken, y)?;
+        let marks = marks_of(alloc, *line, excerpt.levels.as_slice())?;
+        let shown = &marks.as_slice()[marks.len().min(layout.left_out as usize)..];
+        let shown = &shown[..shown.len().min(layout.columns as usize)];
+        push_unknown(markup, alloc, shown, y, layout)?;
+        push_known(markup, alloc, shown, is_broken, y, layout)?;
+    }
+    Ok(())
+}
+
+fn push_name(
+    markup: &mut Markup,
+    alloc: Global,
+    line: Line,
+    is_broken: bool,
+    y: u64,
+) -> Result<(), AllocError> {
+    let mut label = Text::new(alloc);
+    push_label(&mut label, alloc, line)?;
+    let at = Point {
+        x: MARGIN,
+        y: y.saturating_add(BASE),
+    };
+    let style = if is_broken {
+        WordStyle::Bold
+    } else {
+        WordStyle::Plain
+    };
+    push_words(markup, alloc, at, style, label.as_bytes())
+}
+
+/// Where a line of this mark stands in the row that begins at y, if its level is known.
+fn height_of(mark: u8, y: u64) -> Option<u64> {
+    match mark {
+        b'1' => Some(y.saturating_add(INSET)),
+        b'0' => Some(y.saturating_add(ROW - INSET)),
+        _ => None,
+    }
+}
+
+/// Adds the levels that are known, as one path.
+fn push_known(
+    markup: &mut Markup,
+    alloc: Global,
+    marks: &[u8],
+    is_broken: bool,
+    y: u64,
+    layout: &Layout,
+) -> Result<(), AllocError> {
+    let mut points = Text::new(alloc);
+    let mut before: Option<u64> = None;
+    for (place, mark) in marks.iter().enumerate() {
+        let now = height_of(*mark, y);
+        if now != before {
+            push_edge(&mut points, alloc, before, now, layout.edge(place as u64))?;
+            before = now;
+        }
+    }
+    if before.is_some() {
+        push_straight(&mut points, alloc, b"H", layout.edge(marks.len() as u64))?;
+    }
+    let kind = if is_broken {
+        PathKind::BrokenWave
+    } else {
+        PathKind::Wave
+    };
+    push_path(markup, alloc, kind, points.as_bytes())
+}
+
+/// Appends what a path does at an edge: it ends where the level before was known, and goes on where the next one is.
+fn push_edge(
+    points: &mut Text,
+    alloc: Global,
+    before: Option<u64>,
+    now: Option<u64>,
+    x: u64,
+) -> Result<(), AllocError> {
+    if before.is_some() {
+        push_straight(points, alloc, b"H", x)?;
+    }
+    match now {
+        Some(y) if before.is_some() => {
+            let to = Point {
+                x: x.saturating_add(SLOPE),
+                y,
+            };
+            push_point(points, alloc, b"L", to)
+        }
+        Some(y) => push_point(points, alloc, b"M", Point { x, y }),
+        None => Ok(()),
+    }
+}
+
+/// Whether the level at a place isn't known.
+fn is_unknown(marks: &[u8], place: usize) -> bool {
+    match marks.get(place) {
+        Some(mark) => *mark == UNKNOWN,
+        None => false,
+    }
+}
+
+/// Adds a hatched box for each stretch whose level isn't known.
+fn push_unknown(
+    markup: &mut Markup,
+    alloc: Global,
+    marks: &[u8],
+    y: u64,
+    layout: &Layout,
+) -> Result<(), AllocError> {
+    let mut begin: usize = 0;
+    for (place, mark) in marks.iter().enumerate() {
+        let next = place.saturating_add(1);
+        if *mark != UNKNOWN {
+            begin = next;
+        } else if !is_unknown(marks, next) {
+            let x = layout.edge(begin as u64);
+            let area = Area {
+                corner: Point {
+                    x,
+                    y: y.saturating_add(INSET),
+                },
+                width: layout.edge(next as u64).saturating_sub(x),
+                height: ROW - 2 * INSET,
+            };
+            push_box(markup, alloc, BoxKind::Hatched, area)?;
+            begin = next;
+        }
+    }
+    Ok(())
+}

@@ -1,0 +1,188 @@
+//! The whole picture.
+
+ghost use Rattle.std.specs.Prelude.{◌≡◌, IfOk, nat_eq};
+ghost use Rattle.std.specs.List.{starts_with};
+ghost use Rattle.vme_picture.specs.Pictures.{IsPicture, picture_mark};
+ghost use Rattle.vme_text.specs.Visible.{IsVisible};
+
+use crate::axis::{push_axis, push_events};
+use crate::buses::push_buses;
+use crate::drawing::{
+    Area, BoxKind, HATCHING, Point, WordStyle, push_box, push_line_of, push_words,
+};
+use crate::layout::{LINE, Layout, MARGIN, WIDTH};
+use crate::markup::{Attribute, Attributes, Markup, Tag, element_text};
+use crate::paragraphs::{line_count, paragraphs, push_paragraphs};
+use crate::waves::push_waves;
+use std::alloc::{AllocError, Global};
+use vme_explain::{Subject, break_of, excerpt_of, others_of};
+use vme_text::Text;
+
+/// How a picture begins.
+fn mark() -> &'static [u8]
+    ensures { result.now ≡ picture_mark }
+{
+    b"<!-- written by vmecheck explain -->\n"
+}
+
+/// Whether a file begins as a picture of this program.
+pub fn is_picture(begin: &[u8]) -> bool
+    ensures { result ≡ starts_with nat_eq begin.now picture_mark }
+{
+    begin.starts_with(mark())
+}
+
+/// The picture of an explanation, under this title: the levels around the break, or at the end of the recording, where
+/// there is none.
+pub fn picture(alloc: Global, subject: &Subject<'_>, title: &[u8]) -> Result<Text, AllocError>
+    ensures whole { IfOk result IsPicture }
+    ensures visible { IfOk result (λ text. IsVisible text) }
+{
+    let parts = parts_of(alloc, subject, first_line(title))?;
+    let whole = element_text(
+        alloc,
+        Tag::Svg,
+        parts.attributes.as_bytes(),
+        parts.inner.as_bytes(),
+    )?;
+    let mut text = Text::new(alloc);
+    text.push(mark())?;
+    text.push(whole.as_bytes())?;
+    text.push(b"\n")?;
+    Ok(text)
+}
+
+/// The first line of a text.
+fn first_line(text: &[u8]) -> &[u8] {
+    match text.iter().position(|byte| *byte == b'\n') {
+        Some(end) => &text[..end],
+        None => text,
+    }
+}
+
+/// The parts of the element that a picture is.
+#[derive(Drop)]
+struct Parts {
+    attributes: Attributes,
+    inner: Markup,
+}
+
+fn parts_of(alloc: Global, subject: &Subject<'_>, title: &[u8]) -> Result<Parts, AllocError> {
+    let found = break_of(subject.verdict);
+    let excerpt = excerpt_of(alloc, subject)?;
+    let others = match found {
+        Some(found) => others_of(alloc, subject, found)?,
+        None => Vec::new(alloc),
+    };
+    let place = match found {
+        Some(found) => Some(found.instant.saturating_sub(excerpt.first)),
+        None => None,
+    };
+    let layout = Layout::of(alloc, subject, &excerpt, place)?;
+    let words = paragraphs(alloc, subject, found, others.as_slice())?;
+    let below = layout.bottom().saturating_add(8);
+    let height = height_of(below, line_count(words.as_bytes()));
+    let mut inner = Markup::new(alloc);
+    inner.push_end_of_line()?;
+    push_head(&mut inner, alloc, title, height)?;
+    push_axis(&mut inner, alloc, subject, &layout)?;
+    push_events(&mut inner, alloc, found, others.as_slice(), &layout)?;
+    let broken = match found {
+        Some(found) => Some(found.line),
+        None => None,
+    };
+    push_waves(&mut inner, alloc, &excerpt, broken, &layout)?;
+    push_buses(&mut inner, alloc, &excerpt, &layout)?;
+    push_paragraphs(&mut inner, alloc, words.as_bytes(), below)?;
+    Ok(Parts {
+        attributes: whole_attributes(alloc, height)?,
+        inner,
+    })
+}
+
+/// How high a picture is that has so many lines of words from a height on: whole millimetres.
+fn height_of(below: u64, lines: usize) -> u64 {
+    let end = below
+        .saturating_add(LINE.saturating_mul(lines as u64))
+        .saturating_add(MARGIN);
+    (end.saturating_add(3) / 4).saturating_mul(4)
+}
+
+/// The attributes of a picture that is so high.
+fn whole_attributes(alloc: Global, height: u64) -> Result<Attributes, AllocError> {
+    let mut attributes = Attributes::new(alloc);
+    attributes.push(alloc, Attribute::Xmlns, b"http://www.w3.org/2000/svg")?;
+    attributes.push(
+        alloc,
+        Attribute::Width,
+        millimetres(alloc, WIDTH)?.as_bytes(),
+    )?;
+    attributes.push(
+        alloc,
+        Attribute::Height,
+        millimetres(alloc, height)?.as_bytes(),
+    )?;
+    let mut view = Text::new(alloc);
+    view.push(b"0 0 ")?;
+    view.push_decimal(alloc, WIDTH)?;
+    view.push(b" ")?;
+    view.push_decimal(alloc, height)?;
+    attributes.push(alloc, Attribute::ViewBox, view.as_bytes())?;
+    attributes.push(
+        alloc,
+        Attribute::FontFamily,
+        b"'DejaVu Sans Mono', Menlo, Consolas, 'Courier New', monospace",
+    )?;
+    attributes.push(alloc, Attribute::FontSize, b"10")?;
+    Ok(attributes)
+}
+
+/// So many units, which are whole millimetres.
+fn millimetres(alloc: Global, units: u64) -> Result<Text, AllocError> {
+    let mut text = Text::new(alloc);
+    text.push_decimal(alloc, units / 4)?;
+    text.push(b"mm")?;
+    Ok(text)
+}
+
+/// Adds the title, what boxes are hatched with, and the white of the page.
+fn push_head(
+    markup: &mut Markup,
+    alloc: Global,
+    title: &[u8],
+    height: u64,
+) -> Result<(), AllocError> {
+    let mut called = Markup::new(alloc);
+    called.push_characters(alloc, title)?;
+    push_line_of(markup, alloc, Tag::Title, &Attributes::new(alloc), &called)?;
+    push_hatching(markup, alloc)?;
+    let page = Area {
+        corner: Point { x: 0, y: 0 },
+        width: WIDTH,
+        height,
+    };
+    push_box(markup, alloc, BoxKind::White, page)?;
+    let at = Point {
+        x: MARGIN,
+        y: MARGIN + 10,
+    };
+    push_words(markup, alloc, at, WordStyle::Bold, title)
+}
+
+/// Adds what the boxes of levels that aren't known are hatched with.
+fn push_hatching(markup: &mut Markup, alloc: Global) -> Result<(), AllocError> {
+    let mut stroke = Attributes::new(alloc);
+    stroke.push(alloc, Attribute::D, b"M0 4L4 0")?;
+    stroke.push(alloc, Attribute::Stroke, b"#000")?;
+    stroke.push(alloc, Attribute::StrokeWidth, b"0.6")?;
+    let mut strokes = Markup::new(alloc);
+    strokes.push_element(alloc, Tag::Path, &stroke, &Markup::new(alloc))?;
+    let mut attributes = Attributes::new(alloc);
+    attributes.push(alloc, Attribute::Id, HATCHING.as_bytes())?;
+    attributes.push_number(alloc, Attribute::Width, 4)?;
+    attributes.push_number(alloc, Attribute::Height, 4)?;
+    attributes.push(alloc, Attribute::PatternUnits, b"userSpaceOnUse")?;
+    let mut pattern = Markup::new(alloc);
+    pattern.push_element(alloc, Tag::Pattern, &attributes, &strokes)?;
+    push_line_of(markup, alloc, Tag::Defs, &Attributes::new(alloc), &pattern)
+}

@@ -1,0 +1,116 @@
+use smallvec::SmallVec;
+use std::alloc::Global;
+use std::test::Fail;
+use vcd_read::{Variables, read_definitions};
+use vme_explain::Subject;
+use vme_picture::{Attribute, Attributes, Markup, Tag, is_picture, picture};
+use vme_trace::{Break, Capture, Change, Changes, Level, Line, Lines, Rule, Step, Verdict};
+
+#[test]
+fn names_are_escaped_and_elements_are_closed(rt: HostRuntime) -> Result<(), Fail> {
+    let mut inner = Markup::new(rt.alloc());
+    inner.push_characters(rt.alloc(), b"a<b>&\"c\"\x1B")?;
+    inner.push_end_of_line()?;
+    let mut attributes = Attributes::new(rt.alloc());
+    attributes.push(rt.alloc(), Attribute::Fill, b"\"><x")?;
+    attributes.push_number(rt.alloc(), Attribute::X, 12)?;
+    let mut markup = Markup::new(rt.alloc());
+    markup.push_element(rt.alloc(), Tag::Text, &attributes, &inner)?;
+    markup.push_element(
+        rt.alloc(),
+        Tag::Path,
+        &Attributes::new(rt.alloc()),
+        &Markup::new(rt.alloc()),
+    )?;
+    let wanted =
+        b"<text fill=\"&quot;&gt;&lt;x\" x=\"12\">a&lt;b&gt;&amp;&quot;c&quot;\\x1B\n</text><path></path>";
+    assert_eq!(rt; markup.as_bytes(), wanted.as_slice());
+    Ok(())
+}
+
+/// The definitions of a dump, one of whose names would be markup.
+const DEFINITIONS: &str =
+    "$timescale 10 ns $end\n$scope module b $end\n$var wire 1 p <AS>&\"1\" $end\n\
+$upscope $end\n$enddefinitions $end\n";
+
+/// A recording of one slot whose lines of the handshake are High, and then change one by one, at each instant one.
+fn recorded(alloc: Global, changes: &[(Line, Level)]) -> Result<Option<Capture>, Fail> {
+    let Some(mut opening) = Lines::new(1) else {
+        return Ok(None);
+    };
+    for line in [Line::AS, Line::DS0, Line::DS1, Line::DTACK, Line::BERR] {
+        if opening.has(line) {
+            opening.set(line, Level::High);
+        }
+    }
+    let mut steps = Vec::new(alloc);
+    for (line, level) in changes {
+        let change = Change {
+            line: *line,
+            level: *level,
+        };
+        let time = (steps.len() as u64).saturating_mul(10);
+        let changes = Changes::new(SmallVec::from_slice(alloc, &[change])?);
+        steps.push(Step { time, changes })?;
+    }
+    Ok(Capture::new(opening, steps).ok())
+}
+
+#[test]
+fn a_break_is_drawn(rt: HostRuntime) -> Result<(), Fail> {
+    let definitions = read_definitions(
+        rt.alloc(),
+        DEFINITIONS.as_bytes(),
+        Variables::new(rt.alloc()),
+    );
+    let found = recorded(
+        rt.alloc(),
+        &[
+            (Line::BBSY, Level::High),
+            (Line::AS, Level::Low),
+            (Line::AS, Level::High),
+        ],
+    )?;
+    let (Ok((_, variables)), Some(capture)) = (definitions, found) else {
+        assert!(rt; false);
+        return Ok(());
+    };
+    let verdict = Verdict::Broken(Break {
+        rule: Rule::B3,
+        instant: 2,
+        time: 10,
+        line: Line::AS,
+    });
+    let subject = Subject {
+        capture: &capture,
+        rows: &[],
+        verdict: &verdict,
+        binding: b"slots 1\nAS = b.<AS>&\"1\"\n",
+        variables: variables.as_slice(),
+        time_unit: 10,
+        time_scale: b"10ns",
+    };
+    let drawn = picture(
+        rt.alloc(),
+        &subject,
+        b"broken B3 at instant 2 time 10 line AS\n",
+    )?;
+    assert!(rt; is_picture(drawn.as_bytes()));
+    assert!(rt; !is_picture(b"<?xml version=\"1.0\"?>\n<svg>"));
+    let text = str::from_utf8(drawn.as_bytes()).unwrap_or("");
+    for part in [
+        "<!-- written by vmecheck explain -->\n<svg xmlns=\"http://www.w3.org/2000/svg\" width=\"160mm\" ",
+        "<title>broken B3 at instant 2 time 10 line AS</title>\n",
+        ">time (10 ns)</text>\n",
+        // the edges of AS, which falls where the third column begins and rises where the fourth does
+        "<path d=\"M102 87H342L346 97H462L466 87H582\" fill=\"none\" stroke=\"#000\" stroke-width=\"1.6\"></path>\n",
+        "<text x=\"342\" y=\"45\" text-anchor=\"middle\" font-weight=\"bold\" fill=\"#fff\">B3</text>\n",
+        ">B3: AS falls",
+        ">tenure: none</text>\n",
+        ">line AS: variable b.&lt;AS&gt;&amp;&quot;1&quot;, 1 before and 0 at the break</text>\n",
+    ] {
+        assert!(rt; text.contains(part), "{part} in {text}");
+    }
+    assert!(rt; text.ends_with("</text>\n</svg>\n"));
+    Ok(())
+}
