@@ -30,7 +30,7 @@ pub enum Refusal {
     CannotOpen(Input),
     /// Reading failed, or didn't reach the end.
     CannotRead(Input),
-    /// An input has over 268,435,456 bytes.
+    /// An input has over 268,435,456 bytes, or a listing over 137,438,953,472.
     TooLong(Input),
     /// The binding has a fault, or can't be used on the dump.
     BadBinding(BindFault),

@@ -23,8 +23,8 @@ use Rattle.vme_stream.specs.Outputs.{FailsToWrite, Writes}
 use Rattle.vme_step_auditor.specs.ReadBy.{GivenSteps, read_by, read_of}
 use Rattle.vme_step_reader.specs.StepReading.{StepReading, whole_reading}
 use Rattle.vme_audit_command.specs.Bodies.{AuditsRest, EndsBehind, HasGiven, IsLater, ended_at}
-use Rattle.vme_audit_command.specs.SettledReadings.{settled_by, skew_of}
-use Rattle.vme_audit_command.specs.SettledSteps.{ComesOut, IsSettlerFor}
+use Rattle.vme_dump_steps.specs.SettledReadings.{settled_by, skew_of}
+use Rattle.vme_dump_steps.specs.SettledSteps.{ComesOut, IsSettlerFor}
 use Rattle.vme_audit_command.specs.Definitions.{IsBodyBegun, ReadsDefinitions}
 use Rattle.vme_audit_command.specs.DumpAnswers.{AuditsBehind, AuditsDump, DumpAnswer, DumpRules, EndsAs, answer_by}
 use Rattle.vme_audit_command.specs.DumpAnswers.{reading_answer, dump_answer, last_lines}
@@ -230,35 +230,6 @@ given-first skew settler first r comes given few whole begun = record {
   whole = whole;
   formed = begun.formed;
 }
-
--- nothing comes out before the first step
-none-first : (skew : ℕ) (given : Trace) → given.steps ≡ [] → given ≡ settled_until skew 0 given
-unfolding settled_until settled
-none-first skew given none =
-    ap (λ (l : List Step). record given { steps = l })
-    (none ∙ sym (ap (filter (is_complete skew 0)) (no-steps (settled skew given).steps
-    (omega (arith, no_longer skew given, ap (λ (l : List Step). length l) none)))))
-  where
-    no-steps : (l : List Step) → length l ≤ 0 → l ≡ []
-    no-steps [] le = refl
-    no-steps (x ∷ xs) le = absurd (omega (arith, le))
-
-pub comes-first : (skew : ℕ) (opening : Levels) (time : ℕ) (given : Trace) → given.opening ≡ opening
-    → given.steps ≡ [] → (settler : Option Settling)
-    → IsSettlerFor skew opening settler → ComesOut (skew_of skew) settler given time given
-comes-first zero opening time given opens none None is = refl
-comes-first (suc n) opening time given opens none (Some s) is = record {
-  by = ap (λ (x : Settling). x.skew) is;
-  took = ap (λ (x : Settling). x.given) is ∙ ap (λ (v : Levels). record { opening = v; steps = [] }) (sym opens)
-      ∙ ap (λ (l : List Step). record { opening = given.opening; steps = l }) (sym none);
-  in_order = ap (λ (x : Settling). x.in_order) is;
-  known = omega (arith, ap (λ (x : Settling). x.reached) is);
-  settled = none-first (suc n) given none
-      ∙ ap (λ (k : ℕ). settled_until (suc n) k given) (sym (ap (λ (x : Settling). x.reached) is));
-  came = ap (λ (x : Settling). x.out) is ∙ sym none;
-}
-comes-first zero opening time given opens none (Some s) is = absurd is
-comes-first (suc n) opening time given opens none None is = absurd is
 
 all-behind : (a b : Option (List ℕ)) (done more : List ℕ) → Consumes a b done → IfSome b (λ told. more ≡ told)
     → IfSome a (λ told. done ++ more ≡ told)

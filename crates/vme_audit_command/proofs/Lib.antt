@@ -1,5 +1,4 @@
 pub mod WriteLemmas
-pub mod SettlingLemmas
 pub mod Onward
 pub mod BodyLemmas
 pub mod LastLemmas

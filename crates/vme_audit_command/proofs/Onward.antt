@@ -21,25 +21,13 @@ use Rattle.vme_skew.proofs.SettlerSteps.{until-recording}
 use Rattle.vme_step_reader.specs.StepReading.{StepReading, whole_reading}
 use Rattle.vme_step_reader.specs.Stops.{StopsBehind}
 use Rattle.vme_step_reader.specs.declared.stopped_steps.StoppedSteps.{StoppedSteps}
+use Rattle.vme_dump_steps.proofs.ReadSteps.{StepsFollow, StepsWithin, TimeGoesOn, so-far-formed, so-far-opens}
+use Rattle.vme_dump_steps.proofs.ReadSteps.{steps-from, steps-to, stopped-parts, whole-formed, whole-opens}
 use Rattle.vme_audit_command.specs.Bodies.{HasGiven}
 use Rattle.vme_audit_command.specs.Definitions.{GivenIsPrefix, IsFormed}
-use Rattle.vme_audit_command.specs.SettledReadings.{settled_before, settled_by, settled_so_far, settled_whole}
-use Rattle.vme_audit_command.specs.SettledSteps.{ComesOut, GoOnFrom, GoOnTo}
+use Rattle.vme_dump_steps.specs.SettledReadings.{settled_before, settled_by, settled_so_far, settled_whole}
+use Rattle.vme_dump_steps.specs.SettledSteps.{ComesOut, GoOnFrom, GoOnTo}
 use Rattle.vme_step_auditor.specs.ReadBy.{GivenSteps}
-
--- the times of the steps that are still to come
-abbrev pub StepsFollow : Type 0
-StepsFollow = (r : StepReading) (rest : List ℕ) (steps : List Step)
-    → (whole_reading r rest).recorded ≡ with_steps r.given steps
-    → All (λ (step : Step). (whole_reading r []).time ≤ step.time) steps
-
-abbrev pub StepsWithin : Type 0
-StepsWithin = (r : StepReading) (rest : List ℕ) (steps : List Step)
-    → (whole_reading r rest).recorded ≡ with_steps r.given steps
-    → All (λ (step : Step). step.time ≤ (whole_reading r rest).time) steps
-
-abbrev pub TimeGoesOn : Type 0
-TimeGoesOn = (r : StepReading) (rest : List ℕ) → (whole_reading r []).time ≤ (whole_reading r rest).time
 
 -- a recording goes on with another
 pub record GoesOnWith (t u : Trace) : Type 0 where
@@ -57,32 +45,7 @@ goes-nowhere t formed few = record {
   few = few;
 }
 
-all-front : (P : Step → Type 0) (xs ys : List Step) → All P (xs ++ ys) → All P xs
-all-front P [] ys h = All-nil P
-all-front P (x ∷ xs) ys h = All-cons P x xs (All-head P x (xs ++ ys) h) (all-front P xs ys (All-tail P x (xs ++ ys) h))
-
 -- ---- what is settled
-
-so-far-opens : (skew : Option ℕ) (time : ℕ) (t : Trace) → (settled_so_far skew time t).opening ≡ t.opening
-unfolding settled_until settled
-so-far-opens None time t = refl
-so-far-opens (Some skew) time t = refl
-
-whole-opens : (skew : Option ℕ) (t : Trace) → (settled_whole skew t).opening ≡ t.opening
-unfolding settled
-whole-opens None t = refl
-whole-opens (Some skew) t = refl
-
-pub so-far-formed : (skew : Option ℕ) (time : ℕ) (t : Trace) → length t.opening.levels ≡ line_count
-    → malformed_step t ≡ None → malformed_step (settled_so_far skew time t) ≡ None
-so-far-formed None time t whole formed = formed
-so-far-formed (Some skew) time t whole formed =
-    (until-recording skew time t (record { whole = whole; formed = formed })).formed
-
-pub whole-formed : (skew : Option ℕ) (t : Trace) → length t.opening.levels ≡ line_count → malformed_step t ≡ None
-    → malformed_step (settled_whole skew t) ≡ None
-whole-formed None t whole formed = formed
-whole-formed (Some skew) t whole formed = (is_recording skew t (record { whole = whole; formed = formed })).formed
 
 so-far-grows : (skew : Option ℕ) (known time : ℕ) (t : Trace) (steps : List Step)
     → All (λ (step : Step). known ≤ step.time) steps → known ≤ time
@@ -193,16 +156,6 @@ module _ (front : GivenIsPrefix) (follows : StepsFollow) (on : TimeGoesOn) (skew
 
 -- ---- steps that are read
 
-stopped-parts : (line : ℕ) (kind : FaultKind) (t : Trace) (time : ℕ) (reading : TextReading)
-    → StopsAs line kind t time reading → (kind ≡ vcd.Memory → ⊥)
-    → (reading.recorded ≡ t) × (reading.fault ≡ Some (record { line = line; kind = kind })) × (reading.time ≡ time)
-stopped-parts line vcd.Memory t time reading stops other = absurd (other refl)
-stopped-parts line kind t time reading stops other = (
-  ap (λ (r : TextReading). r.recorded) stops,
-  ap (λ (r : TextReading). r.fault) stops,
-  ap (λ (r : TextReading). r.time) stops,
-)
-
 module _ (follows : StepsFollow) (within : StepsWithin) (on : TimeGoesOn) (skew : Option ℕ)
     (settler : Option Settling) (audit : GivenSteps) (r : StepReading) (h : HasGiven skew settler audit r) where
   -- before a fault
@@ -257,12 +210,7 @@ module _ (follows : StepsFollow) (within : StepsWithin) (on : TimeGoesOn) (skew 
   module _ (bytes : List ℕ) (steps : List Step)
       (is : (whole_reading r bytes).recorded ≡ with_steps r.given steps) where
     pub last-from : GoOnFrom r.given (whole_reading r []).time steps
-    last-from = record {
-      formed = sym (ap malformed_step is) ∙ h.formed bytes;
-      whole = h.whole;
-      few = h.few;
-      follows = follows r bytes steps is;
-    }
+    last-from = steps-from follows r h.whole h.few h.formed bytes steps is
 
     pub last-is : (whole_reading r bytes).fault ≡ None
         → (settled_by skew (whole_reading r bytes)).recorded ≡ settled_whole skew (with_steps r.given steps)
@@ -283,33 +231,6 @@ module _ (follows : StepsFollow) (within : StepsWithin) (on : TimeGoesOn) (skew 
   module _ (front : GivenIsPrefix) (next : StepReading) (steps : List Step) (piece : List ℕ)
       (taken : (rest : List ℕ) → whole_reading r (piece ++ rest) ≡ whole_reading next rest)
       (given : next.given ≡ with_steps r.given steps) where
-    piece-is : (more : List Step)
-        × ((whole_reading r (piece ++ [])).recorded ≡ with_steps r.given (steps ++ more))
-    piece-is =
-        let (more, is) = front next [] in (
-          more,
-          ap (λ (x : TextReading). x.recorded) (taken []) ∙ is ∙ ap (λ (x : Trace). with_steps x more) given
-              ∙ ap (λ (l : List Step). record r.given { steps = l }) (append_assoc r.given.steps steps more),
-        )
-
-    time-is : (whole_reading r (piece ++ [])).time ≡ (whole_reading next []).time
-    time-is = ap (λ (x : TextReading). x.time) (taken [])
-
     pub piece-to : malformed_step next.given ≡ None
         → GoOnTo r.given (whole_reading r []).time steps (whole_reading next []).time
-    piece-to formed =
-        let (more, is) = piece-is in
-        let bytes = piece ++ [] in
-        record {
-          go = record {
-            formed = sym (ap malformed_step given) ∙ formed;
-            whole = h.whole;
-            few = h.few;
-            follows = all-front (λ (step : Step). (whole_reading r []).time ≤ step.time) steps more
-                (follows r bytes (steps ++ more) is);
-          };
-          within = subst (λ (n : ℕ). All (λ (step : Step). step.time ≤ n) steps) time-is
-              (all-front (λ (step : Step). step.time ≤ (whole_reading r bytes).time) steps more
-              (within r bytes (steps ++ more) is));
-          on = subst (λ (n : ℕ). (whole_reading r []).time ≤ n) time-is (on r bytes);
-        }
+    piece-to formed = steps-to follows within on front r h.whole h.few next steps piece taken given formed

@@ -1,8 +1,6 @@
 pub mod DumpAudits
 pub mod Audits
 pub mod LastLines
-pub mod SettledReadings
-pub mod SettledSteps
 pub mod Bodies
 pub mod Definitions
 pub mod DumpAnswers

@@ -12,7 +12,6 @@ ghost use Rattle.vme_audit_command.specs.Definitions.{IsBodyBegun};
 ghost use Rattle.vme_audit_command.specs.DumpAnswers.{AuditsBehind, AuditsDump};
 ghost use Rattle.vme_audit_command.specs.DumpAudits.{TellsText};
 ghost use Rattle.vme_audit_command.specs.LastLines.{TellsOutcome, counts_unless, outcome_line_of};
-ghost use Rattle.vme_audit_command.specs.SettledSteps.{IsSettlerFor};
 ghost use Rattle.vme_audit_command.specs.declared.told.TellFault.TheVariants.{Memory as NoMemory};
 
 use crate::body::{audit_body, audit_last};
@@ -27,10 +26,11 @@ use vme_audit_lines::{
     count_lines, dump_head, outcome_line, outcome_status, unasked_is_never_asked,
 };
 use vme_bind::Binding;
+use vme_dump_steps::settler_for;
 use vme_skew::StepSettler;
 use vme_step_auditor::{AuditRules, StepAuditor};
 use vme_step_reader::StepReader;
-use vme_trace::{Lines, Sink, Source};
+use vme_trace::{Sink, Source};
 
 /// Tells what a recording has, unless that isn't wanted.
 fn tell_counts<O: Sink>(
@@ -125,17 +125,6 @@ fn tell_outcome<O: Sink>(
     match tell_counts(alloc, auditor, options.is_quiet, head, out) {
         Ok(()) => tell_end(alloc, auditor, options.transfers, head, case, out),
         Err(fault) => Err(fault),
-    }
-}
-
-/// What settles the steps of a dump, if there is a skew.
-fn settler_for(alloc: Global, opening: &Lines, skew: u64) -> Option<StepSettler>
-    ensures { IsSettlerFor skew opening.now result }
-{
-    if skew == 0 {
-        None
-    } else {
-        Some(StepSettler::new(alloc, *opening, skew))
     }
 }
 

@@ -31,3 +31,4 @@ pub mod Stretches
 pub mod TransferRows
 pub mod Transfers
 pub mod Truth
+pub mod Taking

@@ -1,9 +1,13 @@
 -- The rows of a recording, stretch by stretch, and how far they are followed behind an instant.
-use Rattle.std.specs.Prelude.{◌≡◌, ℕ, ◌+◌, ◌<◌, ◌≤◌, ◌&&◌, List, [], ◌∷◌, ◌++◌, Option, None, Some, nat_lt}
+use Rattle.std.specs.Prelude.{◌≡◌, ℕ, ◌+◌, ◌*◌, ◌<◌, ◌≤◌, ◌&&◌, true, List, [], ◌∷◌, ◌++◌, Option, None, Some, nat_lt}
 use Rattle.std.specs.Prelude.{if◌then◌else◌}
 use Rattle.vme_trace.specs.Judged.{IsSpanOf, Stretch, is_reset_at, span_end, span_from}
 use Rattle.vme_trace.specs.Rules.{all_rules}
-use Rattle.vme_trace.specs.Trace.{Trace, last_instant}
+use Rattle.vme_trace.specs.Followed.{with_steps}
+use Rattle.vme_trace.specs.Levels.{Levels}
+use Rattle.vme_trace.specs.Trace.{Trace, last_instant, levels_after}
+use Rattle.vme_trace.specs.WellFormed.{are_changes, capture_limit}
+use Rattle.vme_trace.specs.declared.step.Step.{Step}
 use Rattle.vme_trace.specs.Verdict.{break_before, least_break}
 use Rattle.vme_trace.specs.declared.verdict.Break.{Break}
 use Rattle.vme_trace.proofs.JudgedSpans.{Awaits, spans_after}
@@ -79,3 +83,30 @@ module _ {Whole Source : Type 0} (gave : Whole → Source → List Row → Type 
   pub record Checks (checker : Checker Source) : Type 0 where
     pub at : IsBusOf t checker.bus
     pub stage_is : IsStage (checker.bus.instant + 1) checker.outcome checker.rows checker.stage
+
+-- ---- what a check says of itself to those who make it step by step
+
+-- a recording before its first step
+abbrev pub at_opening : Levels → Trace
+at_opening levels = record { opening = levels; steps = [] }
+
+-- the levels behind a recording
+abbrev pub last_levels : Trace → Levels
+last_levels t = levels_after t.opening t.steps
+
+-- a step that may be the next of a recording
+pub record MayGoOn (recorded : Trace) (step : Step) : Type 0 where
+  pub within : last_instant recorded < capture_limit
+  pub sound : are_changes (last_levels recorded) 0 step.changes ≡ true
+
+-- the steps of this recording were taken
+pub record HasFollowed {Source : Type 0} (recorded : Trace) (checker : Checker Source) : Type 0 where
+  pub instant : checker.bus.instant ≡ last_instant recorded
+  pub levels : checker.bus.levels ≡ last_levels recorded
+  pub few : checker.rows.compared.taken ≤ 4 * checker.bus.instant + 4
+
+-- and the rows that were given are compared with those of the recording, however it goes on
+abbrev pub HasCompared : {Whole Source : Type 0} → (Whole → Source → List Row → Type 0) → (Source → Type 0) → Whole
+    → Version → Trace → Checker Source → Type 0
+HasCompared gave is_over whole version recorded checker =
+    (more : List Step) → Checks gave is_over whole version (with_steps recorded more) checker

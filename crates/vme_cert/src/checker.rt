@@ -1,6 +1,7 @@
 //! The stretches of a recording, step by step: from an idle instant to a reset, a lost line or a break.
 
-ghost use Rattle.std.specs.Prelude.{◌≡◌, ◌+◌, ◌*◌, ◌<◌, ◌≤◌, List, [], true, if◌then◌else◌};
+ghost use Rattle.std.specs.Prelude.{◌≡◌, ◌+◌, ◌*◌, ◌<◌, ◌≤◌, List, [], ◌∷◌, true, if◌then◌else◌};
+ghost use Rattle.vme_trace.specs.Followed.{with_steps};
 ghost use Rattle.vme_trace.specs.Rules.{is_unreadable};
 ghost use Rattle.vme_trace.specs.Trace.{Trace, changed, last_instant, levels_at};
 ghost use Rattle.vme_trace.specs.WellFormed.{are_changes, capture_limit};
@@ -11,11 +12,12 @@ ghost use Rattle.vme_listing.specs.declared.row.Version.{Version};
 
 use crate::bus::Bus;
 use crate::compare::Answer;
+use crate::comparison::Comparison;
 use crate::open_rows::OpenRows;
 use crate::source::RowSource;
 use crate::state::State;
 use vme_listing::{ListedVerdict, Row, Version};
-use vme_trace::{Change, Line, Lines, Rule};
+use vme_trace::{Change, Line, Lines, Rule, Step};
 
 /// What is judged at an instant.
 #[derive(Clone, Copy)]
@@ -28,9 +30,10 @@ enum Stage {
     Ended,
 }
 
-/// A check of the rows of a listing against a recording, as it is made.
+/// A check of the rows of a listing against a recording, whose steps are taken one by one. What it has come to is
+/// `HasFollowed` and `HasCompared`, in `specs/Checking.antt`.
 #[derive(Drop)]
-pub(crate) struct Checker<S: RowSource> {
+pub struct Checker<S: RowSource> {
     bus: Bus,
     rows: OpenRows<S>,
     stage: Stage,
@@ -40,18 +43,16 @@ pub(crate) struct Checker<S: RowSource> {
 
 impl<S: RowSource> Checker<S> {
     ghost use Rattle.vme_cert.specs.Breaking.{LeadToInstant};
-    ghost use Rattle.vme_cert.specs.Checking.{Checks, IsJudging, IsWaiting};
+    ghost use Rattle.vme_cert.specs.Checking.{Checks, HasCompared, HasFollowed, IsJudging, IsWaiting, MayGoOn, at_opening};
     ghost use Rattle.vme_cert.specs.Comparing.{Decides};
     ghost use Rattle.vme_cert.specs.Instant.{IsBusOf};
     ghost use Rattle.vme_cert.specs.declared.checker.Stage.TheVariants.{Ended, Waiting};
 
-    /// At the opening.
-    pub(crate) fn new(opening: &Lines, version: Version, source: S) -> Checker<S>
-        ensures checks { (whole : S.Whole) (t : Trace) → t.opening ≡ opening.now → S.gave whole source []
-            → Checks S.gave S.is_over whole version t result }
-        ensures instant { result.bus.instant ≡ 0 }
-        ensures few { result.rows.compared.taken ≤ 4 }
-        ensures levels { result.bus.levels ≡ opening.now }
+    /// At the opening: of the rows none was given, and they are to be in this version.
+    pub fn new(opening: &Lines, version: Version, source: S) -> Checker<S>
+        ensures taken { HasFollowed (at_opening opening.now) result }
+        ensures compared { (whole : S.Whole) → S.gave whole source []
+            → HasCompared S.gave S.is_over whole version (at_opening opening.now) result }
     {
         let mut checker = Checker {
             bus: Bus::opening(opening),
@@ -130,8 +131,8 @@ impl<S: RowSource> Checker<S> {
         self.stage = Stage::Judging(state.later(&self.bus));
     }
 
-    /// Takes the changes of the next step.
-    pub(crate) fn step(&mut self, changes: &[Change])
+    /// Goes on by the changes of the next step.
+    fn go_on(&mut self, changes: &[Change])
         requires limit { self.old.bus.instant < capture_limit }
         requires changes { are_changes self.old.bus.levels 0 changes.now ≡ true }
         requires few { self.old.rows.compared.taken ≤ 4 * self.old.bus.instant + 4 }
@@ -151,13 +152,25 @@ impl<S: RowSource> Checker<S> {
         }
     }
 
+    /// Takes the next step of the recording.
+    pub fn take(&mut self, step: &Step)
+        requires { (recorded : Trace) × HasFollowed recorded self.old × MayGoOn recorded step.now }
+        ensures taken { (recorded : Trace) → HasFollowed recorded self.old
+            → HasFollowed (with_steps recorded (step.now ∷ [])) self.new }
+        ensures compared { (whole : S.Whole) (version : Version) (recorded : Trace) → HasFollowed recorded self.old
+            → HasCompared S.gave S.is_over whole version recorded self.old
+            → HasCompared S.gave S.is_over whole version (with_steps recorded (step.now ∷ [])) self.new }
+    {
+        self.go_on(step.changes.as_slice());
+    }
+
     /// What the rows say, where the recording is whole; and what they come from.
-    pub(crate) fn finish(self) -> (Answer, S)
-        requires { self.rows.compared.taken ≤ 4 * self.bus.instant + 4 }
-        ensures { (whole : S.Whole) (version : Version) (t : Trace) → self.bus.instant ≡ last_instant t
-            → Checks S.gave S.is_over whole version t self
+    pub fn finish(self) -> (Answer, S)
+        requires { (recorded : Trace) × HasFollowed recorded self }
+        ensures { (whole : S.Whole) (version : Version) (recorded : Trace) → HasFollowed recorded self
+            → HasCompared S.gave S.is_over whole version recorded self
             → (more : List Row) × S.gave whole result.1 more
-            × Decides S.is_over more (rows_in version (recorded_rows t)) result.1 result.0 }
+            × Decides S.is_over more (rows_in version (recorded_rows recorded)) result.1 result.0 }
     {
         let Checker {
             bus: _,
@@ -167,5 +180,32 @@ impl<S: RowSource> Checker<S> {
         } = self;
         rows.follow(Row::Verdict(outcome));
         rows.compared.finish()
+    }
+
+    /// What the rows come from, where nothing is to be said of them.
+    pub fn into_source(self) -> S
+        ensures { (whole : S.Whole) (version : Version) (recorded : Trace) → HasFollowed recorded self
+            → HasCompared S.gave S.is_over whole version recorded self
+            → (rows : List Row) × S.gave whole result rows }
+    {
+        let Checker {
+            bus: _,
+            rows,
+            stage: _,
+            outcome: _,
+        } = self;
+        let OpenRows {
+            compared,
+            tenure: _,
+            cycle: _,
+            transfer: _,
+        } = rows;
+        let Comparison {
+            source,
+            version: _,
+            taken: _,
+            wrong: _,
+        } = compared;
+        source
     }
 }

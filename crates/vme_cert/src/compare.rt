@@ -32,7 +32,7 @@ fn check<S: RowSource>(capture: &Capture, version: Version, source: S) -> (Answe
 {
     let mut checker = Checker::new(capture.opening(), version, source);
     for step in capture.steps() {
-        checker.step(step.changes.as_slice());
+        checker.take(step);
     }
     checker.finish()
 }

@@ -6,7 +6,9 @@
 //! [`confirm`] says yes exactly where the rows, the verdict's included, are those of the recording
 //! (`listing_of`), and else names the first row that differs: its contract is `DecidesListing`, in
 //! `specs/Agreement.antt`. [`confirm_text`] says the same of a text (`DecidesText`), or names its
-//! first fault. No monitor and no summary has a part in them.
+//! first fault. No monitor and no summary has a part in them. Both stand on [`Checker`], which takes
+//! a recording step by step and the rows from any [`RowSource`], such as a text that is read in
+//! pieces.
 //!
 //! # What has to be trusted
 //!
@@ -60,4 +62,6 @@ mod search;
 mod source;
 mod state;
 
+pub use checker::Checker;
 pub use compare::{Answer, confirm, confirm_text};
+pub use source::RowSource;

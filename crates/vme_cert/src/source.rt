@@ -8,7 +8,7 @@ ghost use Rattle.vme_listing.specs.declared.row.Row.{Row};
 use vme_listing::{ListFault, Row, RowReader};
 
 /// What gives rows, one by one.
-pub(crate) trait RowSource: Drop {
+pub trait RowSource: Drop {
     /// What all of them are of.
     ghost Whole: { Type 0 };
 

@@ -11,7 +11,8 @@ use Rattle.vme_answer.specs.declared.refusal.Refusal.{Refusal}
 use Rattle.vme_answer.specs.declared.refusal.Refusal.TheVariants.{Memory}
 use Rattle.vme_answer.specs.Answers.{AnswerGives, binding_read, capture_by, dump_read, verdict_in_blocks}
 use Rattle.vme_commands.specs.Explained.{judged_by}
-use Rattle.vme_commands.specs.Settled.{settled_judgement, settled_or, settled_read}
+use Rattle.vme_commands.specs.Settled.{settled_judgement, settled_read}
+use Rattle.vme_skew.specs.Settled.{settled_or}
 use Rattle.vme_answer.proofs.AnswerLemmas.{capture_read-bound, capture_read-refused, passes_through}
 use Rattle.vme_commands.proofs.SettledLemmas.{judgement-refused, read-refused}
 

@@ -1,6 +1,5 @@
 pub mod AllowanceLemmas
 pub mod CheckLemmas
-pub mod ConfirmLemmas
 pub mod ExplainLemmas
 pub mod JudgedLemmas
 pub mod ListLemmas

@@ -18,64 +18,21 @@ use Rattle.vme_bind.specs.declared.fault.BindFault.{BindFault}
 use Rattle.vme_bind.specs.declared.fault.BindKind.TheVariants.{TooManySteps}
 use Rattle.vme_bind.proofs.CaptureLemmas.{levels-all}
 use Rattle.vme_bind.proofs.TextCaptureLemmas.{recorded-formed}
-use Rattle.vme_skew.specs.Settled.{IsRecording, settled}
-use Rattle.vme_skew.proofs.Laws.{by_zero, no_longer}
+use Rattle.vme_skew.specs.Settled.{IsRecording, settled, settled_or}
+use Rattle.vme_skew.proofs.CapturesStay.{capture-stays}
+use Rattle.vme_skew.proofs.Laws.{no_longer}
 use Rattle.vme_stream.specs.Inputs.{longest_input}
-use Rattle.vme_listing.specs.Listed.{Listed}
 use Rattle.vme_answer.specs.Answers.{AnswerGives, binding_read, capture_by, capture_read, dump_read, judgement_of}
-use Rattle.vme_answer.specs.Answers.{or_bad_binding, or_bad_dump, recorded_by, recording_read, verdict_in_blocks}
+use Rattle.vme_answer.specs.Answers.{or_bad_binding, or_bad_dump, recording_read, verdict_in_blocks}
 use Rattle.vme_answer.specs.Refusals.{judging_refusal}
 use Rattle.vme_answer.specs.declared.refusal.Input.TheVariants.{Dump}
 use Rattle.vme_answer.specs.declared.refusal.Refusal.{Refusal}
 use Rattle.vme_answer.specs.declared.refusal.Refusal.TheVariants.{Memory, TooLong}
 use Rattle.vme_answer.proofs.AnswerLemmas.{capture_read-recorded, passes_through}
 use Rattle.vme_summary.specs.declared.stream_judge.NoVerdict.TheVariants as NoVerdict
-use Rattle.vme_commands.specs.Confirmations.{compared, compared_settled}
 use Rattle.vme_commands.specs.Judged.{in_blocks}
 use Rattle.vme_commands.specs.Listings.{recording_of as listed_recording}
-use Rattle.vme_commands.specs.Settled.{settled_judgement, settled_or, settled_read, settled_recorded, settled_recording}
-
--- ---- what binding and dump make is a recording
-
--- a recording, if it isn't too long
-abbrev limited_by : Trace → Bool → Result Trace BindFault
-limited_by made long = if long then Err (record { line = 0; kind = TooManySteps }) else Ok made
-
-short-stays : (made : Trace) → IsRecording made → (long : Bool) → settled_or 0 (limited_by made long)
-    ≡ limited_by made long
-short-stays made is true = refl
-short-stays made is false = ap Ok (by_zero made is)
-
-module _ {W : Type 0} (made : W → Trace) where
-  abbrev or_limited : W → Result Trace BindFault
-  or_limited w = limited (made w)
-
-  abbrev or_made : W → Result Trace BindFault
-  or_made w = Ok (made w)
-
-  -- what is made of some bound groups, if there are any and it isn't too long, where all that is made is a recording
-  made-stays : (r : Result W BindFault) → ((w : W) → r ≡ Ok w → IsRecording (made w))
-      → settled_or 0 (r >>= or_limited) ≡ (r >>= or_limited)
-  made-stays (Err fault) is = refl
-  made-stays (Ok w) is = short-stays (made w) (is w refl) (nat_lt capture_limit (length (made w).steps))
-
-  made-told : (r : Result W BindFault) (w : W) → r ≡ Ok w → or_binding (r >>= or_made) ≡ Ok (made w)
-  made-told r w is = ap (λ (r : Result W BindFault). or_binding (r >>= or_made)) is
-
-capture-stays : (bound : BoundLines) (bytes : List ℕ) (contents : Contents) → dump_of bytes ≡ Ok contents
-    → settled_or 0 (capture_of bound contents) ≡ capture_of bound contents
-unfolding capture_of recording recording_of recording_of_text
-capture-stays bound bytes contents dump_is =
-    made-stays (λ groups. recording bound.slots groups contents.instants (length contents.instants))
-    (bound_groups_in contents.variables bound.assignments)
-    (λ groups is. record {
-      whole = levels-all bound.slots groups contents.instants 0;
-      formed =
-          recorded-formed bound bytes (recording bound.slots groups contents.instants (length contents.instants))
-          (ap (text.recording_read bound) dump_is
-          ∙ made-told (λ groups. recording bound.slots groups contents.instants (length contents.instants))
-          (bound_groups_in contents.variables bound.assignments) groups is);
-    })
+use Rattle.vme_commands.specs.Settled.{settled_judgement, settled_read, settled_recording}
 
 -- ---- by 0 all stays
 
@@ -115,20 +72,10 @@ captured-stays bound (Ok contents) of =
     (capture-stays bound of.0 contents of.1)
 captured-stays bound (Err r) of = refl
 
-recorded-stays : (bound : BoundLines) (read : Result Contents Refusal) → OfText read → settled_recorded 0
-    (recorded_by bound read) ≡ recorded_by bound read
-recorded-stays bound (Ok contents) of = ap Ok (capture-stays bound of.0 contents of.1)
-recorded-stays bound (Err r) of = refl
-
 -- what a binding makes of a text
 pub text-stays : (bound : BoundLines) (bytes : List ℕ) → settled_or 0 (capture_by bound (or_bad_dump (dump_of bytes)))
     ≡ capture_by bound (or_bad_dump (dump_of bytes))
 text-stays bound bytes = captured-stays bound (or_bad_dump (dump_of bytes)) (of_dump bytes (dump_of bytes) refl)
-
--- and of a dump
-pub dump-stays : (bound : BoundLines) (d : Option (List ℕ)) → settled_recorded 0 (recorded_by bound (dump_read d))
-    ≡ recorded_by bound (dump_read d)
-dump-stays bound d = recorded-stays bound (dump_read d) (of_text d)
 
 abbrev captured_by : Option (List ℕ) → BoundLines → Result Trace Refusal
 captured_by d bound = capture_by bound (dump_read d)
@@ -149,39 +96,12 @@ pub recording-stays : (b d : Option (List ℕ)) (block : ℕ) → settled_record
 unfolding settled_recording listed_recording
 recording-stays b d block = ap (λ (r : Result Trace Refusal). r >>= in_blocks block) (read-stays b d)
 
-abbrev with_listed : Listed → Result Trace BindFault → Result (Listed × Trace) Refusal
-with_listed given recorded = or_bad_binding recorded >>= λ t. Ok (given, t)
-
-pub compared-stays : (b d : Option (List ℕ)) (given : Result Listed Refusal)
-    → compared_settled 0 (binding_read b) (dump_read d) given ≡ compared (binding_read b) (dump_read d) given
-compared-stays b d given = by_binding (binding_read b)
-  where
-    by_given : (bound : BoundLines) (contents : Contents) → OfText (Ok contents) → (given : Result Listed Refusal)
-        → compared_settled 0 (Ok bound) (Ok contents) given ≡ compared (Ok bound) (Ok contents) given
-    by_given bound contents of (Ok listing) = ap (with_listed listing) (capture-stays bound of.0 contents of.1)
-    by_given bound contents of (Err r) = refl
-
-    by_dump : (bound : BoundLines) (read : Result Contents Refusal) → OfText read
-        → compared_settled 0 (Ok bound) read given ≡ compared (Ok bound) read given
-    by_dump bound (Ok contents) of = by_given bound contents of given
-    by_dump bound (Err r) of = refl
-
-    by_binding : (r : Result BoundLines Refusal) → compared_settled 0 r (dump_read d) given
-        ≡ compared r (dump_read d) given
-    by_binding (Ok bound) = by_dump bound (dump_read d) (of_text d)
-    by_binding (Err r) = refl
-
 -- ---- the same, of a skew that is 0
 
 pub text-unsettled : (skew : ℕ) → skew ≡ 0 → (bound : BoundLines) (bytes : List ℕ)
     → settled_or skew (capture_by bound (or_bad_dump (dump_of bytes))) ≡ capture_by bound (or_bad_dump (dump_of bytes))
 text-unsettled skew none bound bytes =
     ap (λ (s : ℕ). settled_or s (capture_by bound (or_bad_dump (dump_of bytes)))) none ∙ text-stays bound bytes
-
-pub dump-unsettled : (skew : ℕ) → skew ≡ 0 → (bound : BoundLines) (d : Option (List ℕ))
-    → settled_recorded skew (recorded_by bound (dump_read d)) ≡ recorded_by bound (dump_read d)
-dump-unsettled skew none bound d =
-    ap (λ (s : ℕ). settled_recorded s (recorded_by bound (dump_read d))) none ∙ dump-stays bound d
 
 pub judgement-unsettled : (skew : ℕ) → skew ≡ 0 → (b d : Option (List ℕ)) (block : ℕ)
     → settled_judgement skew b d block ≡ judgement_of b d block
@@ -211,23 +131,6 @@ pub read-refused : (skew : ℕ) (b d : Option (List ℕ)) (r : Refusal) → Give
     → GivesTrace (Err r) (settled_read skew b d)
 unfolding settled_read
 read-refused skew b d r is = settled-refused skew (capture_read b d) r is
-
-abbrev Recorded : Type 0
-Recorded = Result (Result Trace BindFault) Refusal
-
-abbrev GivesRecorded : Recorded → Recorded → Type 0
-GivesRecorded found read = AnswerGives (λ (recorded : Result Trace BindFault). recorded) found read
-
-pub recorded-gives : (skew : ℕ) (read : Recorded) (recorded : Result Trace BindFault) (found : Recorded)
-    → read ≡ Ok recorded → GivesRecorded found (Ok (settled_or skew recorded))
-    → GivesRecorded found (settled_recorded skew read)
-recorded-gives skew read recorded found is given =
-    subst (GivesRecorded found) (sym (ap (settled_recorded skew) is)) given
-
-pub recorded-refused : (skew : ℕ) (read : Recorded) (r : Refusal) → GivesRecorded (Err r) read
-    → GivesRecorded (Err r) (settled_recorded skew read)
-recorded-refused skew read Memory is = tt
-recorded-refused skew read r is = ap (settled_recorded skew) is
 
 -- ---- and what is judged and listed of that
 

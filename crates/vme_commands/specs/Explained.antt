@@ -13,7 +13,8 @@ use Rattle.vme_answer.specs.Ends.{Ends}
 use Rattle.vme_picture.specs.Pictures.{IsPicture}
 use Rattle.vme_stream.specs.Inputs.{IsReading}
 use Rattle.vme_answer.specs.Texts.{line_of, verdict_status, verdict_text}
-use Rattle.vme_commands.specs.Settled.{settled_judgement, settled_or}
+use Rattle.vme_commands.specs.Settled.{settled_judgement}
+use Rattle.vme_skew.specs.Settled.{settled_or}
 use Rattle.vme_commands.specs.Refused.{MayHaveMore, refusal_with}
 use Rattle.vme_commands.specs.TextAnswers.{text_answer}
 

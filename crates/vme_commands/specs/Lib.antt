@@ -1,5 +1,4 @@
 pub mod AllowanceTexts
-pub mod Confirmations
 pub mod Explained
 pub mod Judged
 pub mod Listings

@@ -5,21 +5,11 @@ use Rattle.vcd_read.specs.Header.{◌>>=◌}
 use Rattle.vme_trace.specs.Streams.{Reading, Writing}
 use Rattle.vme_trace.specs.Trace.{Trace}
 use Rattle.vme_trace.specs.declared.verdict.Verdict.{Verdict}
-use Rattle.vme_skew.specs.Settled.{settled}
+use Rattle.vme_skew.specs.Settled.{settled_or}
 use Rattle.vme_answer.specs.Answers.{CommandAnswer, AnswerGives, answer_by, capture_read, verdict_in_blocks}
 use Rattle.vme_answer.specs.Ends.{Does}
 use Rattle.vme_answer.specs.declared.refusal.Refusal.{Refusal}
 use Rattle.vme_commands.specs.Judged.{in_blocks}
-
--- a recording settled by a skew, or why there is none
-abbrev pub settled_or : {E : Type 0} → ℕ → Result Trace E → Result Trace E
-settled_or skew (Ok t) = Ok (settled skew t)
-settled_or skew (Err e) = Err e
-
--- the same, where there is a dump of which a binding makes a recording or none
-abbrev pub settled_recorded : {E F : Type 0} → ℕ → Result (Result Trace E) F → Result (Result Trace E) F
-settled_recorded skew (Ok recorded) = Ok (settled_or skew recorded)
-settled_recorded skew (Err fault) = Err fault
 
 -- the recording that a binding makes of a dump, settled by a skew, or the first reason that there is none
 unfoldable pub settled_read : ℕ → Option (List ℕ) → Option (List ℕ) → Result Trace Refusal

@@ -5,7 +5,8 @@ ghost use Rattle.vme_bind.specs.Capture.{limited};
 ghost use Rattle.vme_answer.specs.Answers.{AnswerGives, dump_read, or_bad_binding, recording_by, recording_read};
 ghost use Rattle.vme_stream.specs.Inputs.{IsReading, longest_input};
 ghost use Rattle.vme_trace.specs.WellFormed.{capture_limit, malformed_step};
-ghost use Rattle.vme_commands.specs.Settled.{settled_or, settled_read};
+ghost use Rattle.vme_commands.specs.Settled.{settled_read};
+ghost use Rattle.vme_skew.specs.Settled.{settled_or};
 
 use crate::ordered_dump::OrderedDump;
 use std::alloc::Global;

@@ -3,8 +3,8 @@
 //!
 //! # Parts
 //!
-//! - `check`, `list`, `confirm`: [`check::check`] judges a recording and [`list::list`] lists it,
-//!   by [`Workers`]; [`confirm::confirm_with`] compares a listing with that of a recording.
+//! - `check`, `list`: [`check::check`] judges a recording and [`list::list`] lists it, by
+//!   [`Workers`]. A listing is compared with that of a recording by vme_confirm_command.
 //! - `explain`, `bind`, `variables`, `rules`, `faults`: [`explain::explain`] says why a recording
 //!   is judged so, [`bind::bind`] writes a binding for a dump, [`tell_variables`] the variables,
 //!   [`tell_rules`] what the rules ask, and [`tell_faults`] what the refusals of inputs mean.
@@ -20,19 +20,18 @@
 //!
 //! # What is proved
 //!
-//! - `check`, `list` and `confirm_with`: where the inputs are read whole, no write fails and memory
-//!   suffices, exactly the defined line or text is written, with its status, or exactly the first
-//!   fault (`exact`). The rows that `list` writes split the judged edges (`split`). In every case
-//!   `answer` says what is written, and `unwritten` when the status is 5.
+//! - `check` and `list`: where the inputs are read whole, no write fails and memory suffices,
+//!   exactly the defined line or text is written, with its status, or exactly the first fault
+//!   (`exact`). The rows that `list` writes split the judged edges (`split`). In every case `answer`
+//!   says what is written, and `unwritten` when the status is 5.
 //! - No answer depends on the size of a piece or the number of workers, nor on the size of a block,
 //!   except that a recording may fill too many.
 //! - `explain` begins with the line that `check` writes, and has its status (`Explains`); what it
-//!   draws is a picture (`drawn`). `bind`
-//!   writes only a binding that makes a recording of that dump (`IsBindingFor`). `faults` writes
-//!   exactly the page of a kind, or the pages of all (`ArePages`). After the line of a refusal
-//!   `explain`, `bind` and `variables` write exactly the page of its kind, below an excerpt of the
-//!   input, unless memory runs out (`IsMore`). [`words_status`]: 3 for invalid arguments; help and
-//!   version 0, or 5 where they weren't written.
+//!   draws is a picture (`drawn`). `bind` writes only a binding that makes a recording of that dump
+//!   (`IsBindingFor`). `faults` writes exactly the page of a kind, or the pages of all (`ArePages`).
+//!   After the line of a refusal `explain`, `bind` and `variables` write exactly the page of its
+//!   kind, below an excerpt of the input, unless memory runs out (`IsMore`). [`words_status`]: 3 for
+//!   invalid arguments; help and version 0, or 5 where they weren't written.
 //! - [`allowance_of`] reads each allowance from its text, and nothing else from any text.
 //!
 //! # What isn't proved
@@ -55,7 +54,6 @@ mod allowance;
 pub mod bind;
 mod built_in;
 pub mod check;
-pub mod confirm;
 mod dump_judge;
 pub mod explain;
 mod faults;

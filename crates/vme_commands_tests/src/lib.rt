@@ -1,9 +1,9 @@
 //! Tests of vme_commands: what its commands write and answer, by inputs whose answers stand beside
 //! them.
 //!
-//! - `tests`: verdicts, listings, comparisons, faults of each input, bindings, explanations, what
-//!   an audit allows. `want_of_memory_is_told` is made for `tests/memory/run`, which refuses each
-//!   of its allocations in turn.
+//! - `tests`: verdicts, listings, faults of each input, bindings, explanations, what an audit
+//!   allows. `want_of_memory_is_told` is made for `tests/memory/run`, which refuses each of its
+//!   allocations in turn.
 //! - `stream_tests`: readers that fail or never end, and writers that fail, at each place; inputs
 //!   that are too long.
 //! - `piece_tests`: dumps that are cut anywhere and read by several workers.

@@ -2,7 +2,7 @@
 
 ghost use Rattle.std.specs.Prelude.{◌≤◌};
 
-use crate::tests::{HEAD, Page, checks, confirms, explains, has_told, lists, many_steps};
+use crate::tests::{HEAD, Page, checks, explains, has_told, lists, many_steps};
 use std::process::Abort;
 use std::test::Fail;
 use std::thread::Threads;
@@ -112,37 +112,6 @@ fn recordings_settle(rt: HostRuntime) {
         expect_listing(&rt, 1, wanted);
         expect_listing(&rt, 3, wanted);
     }
-}
-
-fn expect_confirmation<R: Abort + AllocGlobal>(
-    rt: &R,
-    skew: u64,
-    listing: &str,
-    text: &str,
-    status: u8,
-) {
-    let mut listing = Bytes::new(listing.as_bytes());
-    let told = (text, "", status);
-    assert!(rt;
-        confirms(
-            rt.alloc(),
-            BUILT_IN,
-            DUMP.as_bytes(),
-            &mut listing,
-            skew,
-            told
-        ),
-        "by {skew}"
-    );
-}
-
-#[test]
-fn a_listing_is_confirmed_by_its_skew(rt: HostRuntime) {
-    for (skew, _, listing, _) in WANTED.iter() {
-        expect_confirmation(&rt, *skew, listing, "confirmed\n", 0);
-    }
-    expect_confirmation(&rt, 2, SETTLED, "not confirmed at row 3\n", 1);
-    expect_confirmation(&rt, 12, SETTLED, "not confirmed at row 1\n", 1);
 }
 
 /// Skews, what the explanation by each begins with, and the status.

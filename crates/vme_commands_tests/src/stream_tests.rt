@@ -6,7 +6,6 @@ use std::process::Abort;
 use std::test::Fail;
 use std::thread::Threads;
 use vme_commands::check::check;
-use vme_commands::confirm::confirm_with;
 use vme_commands::list::list;
 use vme_commands::{BLOCK, BUILT_IN};
 use vme_stream::{Bytes, Io};
@@ -53,10 +52,9 @@ verdict broken H4 3 DTACK
 enum Command {
     Check,
     List,
-    Confirm,
 }
 
-static COMMANDS: [Command; 3] = [Command::Check, Command::List, Command::Confirm];
+static COMMANDS: [Command; 2] = [Command::Check, Command::List];
 
 /// A reader that gives so many bytes a read, is interrupted before each, and fails behind the last.
 #[derive(Drop)]
@@ -173,12 +171,11 @@ impl Write for Deaf {
 }
 
 /// The status with which a command ends.
-fn ended<R: AllocGlobal + Threads + Sync, B: Source, D: Source, L: Source>(
+fn ended<R: AllocGlobal + Threads + Sync, B: Source, D: Source>(
     rt: &R,
     command: Command,
     binding: &mut B,
     dump: &mut D,
-    listing: &mut L,
     out: &mut Page,
     err: &mut Page,
 ) -> u8 {
@@ -188,22 +185,20 @@ fn ended<R: AllocGlobal + Threads + Sync, B: Source, D: Source, L: Source>(
     match command {
         Command::Check => check(rt, alloc, binding, dump, BLOCK, 1, 0, out, err),
         Command::List => list(rt, alloc, binding, dump, BLOCK, 1, 0, out, err),
-        Command::Confirm => confirm_with(alloc, binding, dump, listing, 0, out, err),
     }
 }
 
 /// Whether a command writes nothing, and ends as refused with this text.
-fn refuses<R: AllocGlobal + Threads + Sync, B: Source, D: Source, L: Source>(
+fn refuses<R: AllocGlobal + Threads + Sync, B: Source, D: Source>(
     rt: &R,
     command: Command,
     binding: &mut B,
     dump: &mut D,
-    listing: &mut L,
     text: &str,
 ) -> bool {
     let mut out = Page::new(rt.alloc(), 1000, 1000);
     let mut err = Page::new(rt.alloc(), 1000, 1000);
-    let status = ended(rt, command, binding, dump, listing, &mut out, &mut err);
+    let status = ended(rt, command, binding, dump, &mut out, &mut err);
     out.bytes.is_empty() && err.bytes.as_slice() == text.as_bytes() && status == 3
 }
 
@@ -216,9 +211,8 @@ fn tells_torn_binding<R: AllocGlobal + Threads + Sync>(
 ) -> bool {
     let mut binding = torn_at(text, place, 1000);
     let mut dump = Bytes::new(DUMP.as_bytes());
-    let mut listing = Bytes::new(LISTING.as_bytes());
     let wanted = "vmecheck: cannot read binding\n";
-    refuses(rt, command, &mut binding, &mut dump, &mut listing, wanted)
+    refuses(rt, command, &mut binding, &mut dump, wanted)
 }
 
 #[test]
@@ -243,8 +237,7 @@ fn tells_of_dump<R: AllocGlobal + Threads + Sync, D: Source>(
     wanted: &str,
 ) -> bool {
     let mut binding = Bytes::new(BUILT_IN);
-    let mut listing = Bytes::new(LISTING.as_bytes());
-    refuses(rt, command, &mut binding, dump, &mut listing, wanted)
+    refuses(rt, command, &mut binding, dump, wanted)
 }
 
 #[test]
@@ -258,29 +251,6 @@ fn torn_dumps(rt: HostRuntime) {
                 "at {place}"
             );
         }
-    }
-}
-
-/// Whether the comparison tells that the listing can't be read behind this place.
-fn tells_torn_listing<R: AllocGlobal + Threads + Sync>(rt: &R, place: usize) -> bool {
-    let mut binding = Bytes::new(BUILT_IN);
-    let mut dump = Bytes::new(DUMP.as_bytes());
-    let mut listing = torn_at(LISTING, place, 7);
-    let wanted = "vmecheck: cannot read listing\n";
-    refuses(
-        rt,
-        Command::Confirm,
-        &mut binding,
-        &mut dump,
-        &mut listing,
-        wanted,
-    )
-}
-
-#[test]
-fn torn_listings(rt: HostRuntime) {
-    for place in 0..=LISTING.len() {
-        assert!(rt; tells_torn_listing(&rt, place), "at {place}");
     }
 }
 
@@ -364,7 +334,6 @@ fn writes_front<R: AllocGlobal + Threads + Sync>(
         command,
         &mut Bytes::new(BUILT_IN),
         &mut Bytes::new(dump.as_bytes()),
-        &mut Bytes::new(LISTING.as_bytes()),
         &mut out,
         &mut err,
     );
@@ -374,10 +343,9 @@ fn writes_front<R: AllocGlobal + Threads + Sync>(
 }
 
 /// Commands, whether their dump is one without the strobe, and what each writes and its status.
-static WRITTEN: [(Command, bool, &str, u8); 6] = [
+static WRITTEN: [(Command, bool, &str, u8); 4] = [
     (Command::Check, false, "conforming\n", 0),
     (Command::List, false, LISTING, 0),
-    (Command::Confirm, false, "confirmed\n", 0),
     (
         Command::Check,
         true,
@@ -385,7 +353,6 @@ static WRITTEN: [(Command, bool, &str, u8); 6] = [
         1,
     ),
     (Command::List, true, BROKEN, 1),
-    (Command::Confirm, true, "not confirmed at row 3\n", 1),
 ];
 
 /// Expects that a command writes this where there is room for it, and as much as there is room for elsewhere.

@@ -1,19 +1,17 @@
 ghost use Rattle.std.specs.Prelude.{◌≤◌, IfSome, None};
 
 use std::alloc::{AllocError, Global};
-use std::io::{self, Error, Read};
 use std::process::Abort;
 use std::test::Fail;
 use std::thread::Threads;
 use vme_commands::bind::bind;
 use vme_commands::check::check;
-use vme_commands::confirm::confirm_with;
 use vme_commands::explain::{InputNames, explain};
 use vme_commands::list::list;
 use vme_commands::{BLOCK, BUILT_IN, allowance_of, allowances_of, tell_faults, tell_variables};
 use vme_faults::Kind;
-use vme_stream::{Bytes, Io};
-use vme_trace::{Failed, Line, Rule, Sink, Source};
+use vme_stream::Bytes;
+use vme_trace::{Failed, Line, Rule, Sink};
 
 pub(crate) const HEAD: &str = "$timescale 1 ns $end\n$scope module bus $end\n\
 $var wire 1 p AS $end\n$var wire 1 q DS0 $end\n$var wire 1 r DS1 $end\n\
@@ -80,19 +78,6 @@ impl Sink for Page {
             }
             None => Ok(bytes.len()),
         }
-    }
-}
-
-/// A reader of which each read fails, and how many were made.
-#[derive(Drop)]
-struct Broken {
-    reads: u32,
-}
-
-impl Read for Broken {
-    fn read(&mut self, _buffer: &mut [u8]) -> io::Result<usize> {
-        self.reads = self.reads.saturating_add(1);
-        Err(Error::from(io::ErrorKind::Other))
     }
 }
 
@@ -272,7 +257,6 @@ fn listings(rt: HostRuntime) -> Result<(), Fail> {
     for (body, text, status) in LISTINGS.iter() {
         let dump = dump_of(rt.alloc(), HEAD, body)?;
         expect_listing(&rt, dump.as_str(), text, *status);
-        expect_confirmation(&rt, dump.as_str(), text, "confirmed\n", 0);
     }
     Ok(())
 }
@@ -296,230 +280,15 @@ fn reset_binding(alloc: Global) -> Result<String, Fail> {
     Ok(dump_of(alloc, text, "SYSRESET = bus.SYSRESET\n")?)
 }
 
-/// Expects a listing of that read, which is confirmed.
-fn expect_reset<R: Abort + AllocGlobal + Threads + Sync>(rt: &R, binding: &[u8], dump: &[u8]) {
-    assert!(rt; lists(rt, binding, dump, 1, 1, 0, (RESET_LISTING, "", 0)));
-    let mut listing = Bytes::new(RESET_LISTING.as_bytes());
-    let confirmed = ("confirmed\n", "", 0);
-    assert!(rt; confirms(rt.alloc(), binding, dump, &mut listing, 0, confirmed));
-}
-
 #[test]
 fn a_reset_ends_what_is_judged(rt: HostRuntime) -> Result<(), Fail> {
     let dump = reset_dump(rt.alloc())?;
     let binding = reset_binding(rt.alloc())?;
-    expect_reset(&rt, binding.as_bytes(), dump.as_bytes());
+    let listed = (RESET_LISTING, "", 0);
+    assert!(rt; lists(&rt, binding.as_bytes(), dump.as_bytes(), 1, 1, 0, listed));
     let unbound = "broken H2 at instant 4 time 30 line DS0\n";
     expect_verdict(&rt, dump.as_str(), unbound, 1);
     Ok(())
-}
-
-#[test]
-fn older_listings_are_confirmed(rt: HostRuntime) -> Result<(), Fail> {
-    let dump = dump_of(rt.alloc(), HEAD, BODY)?;
-    for version in ["listing 1", "listing 2"] {
-        let listing = LISTING.replace(rt.alloc(), "listing 3", version)?;
-        expect_confirmation(&rt, dump.as_str(), listing.as_str(), "confirmed\n", 0);
-    }
-    Ok(())
-}
-
-/// Whether this is written and told of the comparison of a listing with that of a dump.
-pub(crate) fn confirms<L: Source>(
-    alloc: Global,
-    binding: &[u8],
-    dump: &[u8],
-    listing: &mut L,
-    skew: u64,
-    wanted: WantedTexts<'_>,
-) -> bool {
-    let mut out = Page::new(alloc, 1000);
-    let mut err = Page::new(alloc, 1000);
-    let status = confirm_with(
-        alloc,
-        &mut Bytes::new(binding),
-        &mut Bytes::new(dump),
-        listing,
-        skew,
-        &mut out,
-        &mut err,
-    );
-    has_told(&out, &err, status, wanted)
-}
-
-fn expect_confirmation<R: Abort + AllocGlobal>(
-    rt: &R,
-    dump: &str,
-    listing: &str,
-    text: &str,
-    status: u8,
-) {
-    let mut listing = Bytes::new(listing.as_bytes());
-    let wanted = (text, "", status);
-    assert!(rt;
-        confirms(
-            rt.alloc(),
-            BUILT_IN,
-            dump.as_bytes(),
-            &mut listing,
-            0,
-            wanted
-        ),
-        "{text}"
-    );
-}
-
-/// What stands in the listing in place of what, and what is told of it.
-static UNCONFIRMED: [(&str, &str, &str); 6] = [
-    ("tenure 1 open end -\n", "", "not confirmed at row 2\n"),
-    (
-        "cycle 2 S 3D FFFFFE end 5\n",
-        "",
-        "not confirmed at row 3\n",
-    ),
-    (
-        "FFFFFE end 5\n",
-        "FFFFFE end 4294967295\n",
-        "not confirmed at row 3\n",
-    ),
-    ("close 5", "close 6", "not confirmed at row 4\n"),
-    (
-        "conforming",
-        "broken H4 3 DTACK",
-        "not confirmed at row 5\n",
-    ),
-    (
-        "verdict",
-        "transfer 6 read pending\nverdict",
-        "not confirmed at row 5\n",
-    ),
-];
-
-#[test]
-fn confirmations(rt: HostRuntime) -> Result<(), Fail> {
-    let dump = dump_of(rt.alloc(), HEAD, BODY)?;
-    for (old, new, text) in UNCONFIRMED.iter() {
-        let listing = LISTING.replace(rt.alloc(), *old, *new)?;
-        expect_confirmation(&rt, dump.as_str(), listing.as_str(), text, 1);
-    }
-    Ok(())
-}
-
-fn expect_unconfirmed<R: Abort + AllocGlobal, L: Source>(
-    rt: &R,
-    binding: &[u8],
-    dump: &str,
-    listing: &mut L,
-    text: &str,
-) {
-    let wanted = ("", text, 3);
-    assert!(rt;
-        confirms(rt.alloc(), binding, dump.as_bytes(), listing, 0, wanted),
-        "{text}"
-    );
-}
-
-/// What stands in the listing in place of what, and the fault that is told.
-static LISTING_FAULTS: [(&str, &str, &str); 5] = [
-    (LISTING, "", "vmecheck: listing header\n"),
-    ("listing 3", "listing 4", "vmecheck: listing header\n"),
-    (
-        "verdict conforming\n",
-        "",
-        "vmecheck: listing row 5: BadRow\n",
-    ),
-    ("S 3D", "K 3D", "vmecheck: listing row 3: BadRow\n"),
-    ("cycle 2", "cycle 0", "vmecheck: listing row 3: Unsorted\n"),
-];
-
-#[test]
-fn listing_faults(rt: HostRuntime) -> Result<(), Fail> {
-    let dump = dump_of(rt.alloc(), HEAD, BODY)?;
-    for (old, new, text) in LISTING_FAULTS.iter() {
-        let listing = LISTING.replace(rt.alloc(), *old, *new)?;
-        let mut listing = Bytes::new(listing.as_bytes());
-        expect_unconfirmed(&rt, BUILT_IN, dump.as_str(), &mut listing, text);
-    }
-    Ok(())
-}
-
-/// Expects that this is told, and so many reads of the listing are made, each of which fails.
-fn expect_reads<R: Abort + AllocGlobal>(
-    rt: &R,
-    binding: &[u8],
-    dump: &str,
-    text: &str,
-    reads: u32,
-) {
-    let mut broken = Broken { reads: 0 };
-    let mut listing = Io::new(&mut broken);
-    expect_unconfirmed(rt, binding, dump, &mut listing, text);
-    assert!(rt; broken.reads == reads, "{text}");
-}
-
-#[test]
-fn listing_is_read_last(rt: HostRuntime) -> Result<(), Fail> {
-    let dump = dump_of(rt.alloc(), HEAD, BODY)?;
-    let unreadable = "vmecheck: cannot read listing\n";
-    let bad_binding = b"slots 22".as_slice();
-    expect_reads(
-        &rt,
-        bad_binding,
-        "",
-        "vmecheck: binding line 1: SlotsFirst\n",
-        0,
-    );
-    expect_reads(
-        &rt,
-        BUILT_IN,
-        "",
-        "vmecheck: dump line 1: NoEndDefinitions\n",
-        0,
-    );
-    expect_reads(&rt, BUILT_IN, UNBOUND, unreadable, 1);
-    expect_reads(&rt, BUILT_IN, dump.as_str(), unreadable, 1);
-    Ok(())
-}
-
-/// Listings of the dump that has no path, and what is told of each.
-static UNBOUND_LISTINGS: [(&str, &str); 2] = [
-    ("", "vmecheck: listing header\n"),
-    (LISTING, "vmecheck: binding line 2: NoSuchPath\n"),
-];
-
-#[test]
-fn binding_that_makes_no_recording_is_told_last(rt: HostRuntime) {
-    for (listing, text) in UNBOUND_LISTINGS.iter() {
-        let mut listing = Bytes::new(listing.as_bytes());
-        expect_unconfirmed(&rt, BUILT_IN, UNBOUND, &mut listing, text);
-    }
-}
-
-/// Run with each allocation refused in turn, this shows that the answer is then want of memory.
-#[test]
-fn want_of_memory_is_told(rt: HostRuntime) {
-    let (Ok(dump), Ok(mut out), Ok(mut err)) = (
-        dump_of(rt.alloc(), HEAD, BODY),
-        Page::with_room(rt.alloc(), 100),
-        Page::with_room(rt.alloc(), 100),
-    ) else {
-        return;
-    };
-    let ended = confirm_with(
-        rt.alloc(),
-        &mut Bytes::new(BUILT_IN),
-        &mut Bytes::new(dump.as_bytes()),
-        &mut Bytes::new(LISTING.as_bytes()),
-        0,
-        &mut out,
-        &mut err,
-    );
-    let wanted = if ended == 4 {
-        ("", "vmecheck: out of memory\n", 4)
-    } else {
-        ("confirmed\n", "", 0)
-    };
-    assert!(rt; has_told(&out, &err, ended, wanted));
 }
 
 #[test]
@@ -749,6 +518,36 @@ pub(crate) fn explains(
         }
         None => false,
     }
+}
+
+/// Whether an explanation was begun, or want of memory was told, and nothing else.
+fn begins_or_lacks_memory(out: &Page, err: &Page, status: u8) -> bool {
+    if status == 4 {
+        return err.bytes.as_slice() == b"vmecheck: out of memory\n".as_slice();
+    }
+    out.bytes.as_slice().starts_with(b"conforming\n") && err.bytes.is_empty() && status == 0
+}
+
+/// Run with each allocation refused in turn, this shows that the answer is then want of memory.
+#[test]
+fn want_of_memory_is_told(rt: HostRuntime) {
+    let (Ok(dump), Ok(mut out), Ok(mut err)) = (
+        dump_of(rt.alloc(), HEAD, BODY),
+        Page::with_room(rt.alloc(), 5000),
+        Page::with_room(rt.alloc(), 100),
+    ) else {
+        return;
+    };
+    let (ended, _) = explain(
+        rt.alloc(),
+        &mut Bytes::new(BUILT_IN),
+        &mut Bytes::new(dump.as_bytes()),
+        NAMES,
+        0,
+        &mut out,
+        &mut err,
+    );
+    assert!(rt; begins_or_lacks_memory(&out, &err, ended));
 }
 
 #[test]

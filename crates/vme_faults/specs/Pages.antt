@@ -34,7 +34,7 @@ means_of kind.BadRow = codes "a row of the listing isn't written as a row is, or
 means_of kind.Unsorted = codes "a row of the listing isn't behind the one before it"
 means_of kind.CannotOpen = codes "the file of an input can't be opened"
 means_of kind.CannotRead = codes "the bytes of an input can't be had"
-means_of kind.TooLong = codes "an input has over 268,435,456 bytes"
+means_of kind.TooLong = codes "an input has over 268,435,456 bytes, or a listing over 137,438,953,472"
 means_of kind.TooManyBlocks = codes "over 4,096 blocks of the size that was asked"
 means_of kind.OutOfMemory = codes "there is no memory, or none is given"
 
@@ -129,7 +129,7 @@ causes_of kind.CannotOpen = codes "a name that is misspelt; another folder; a fi
 causes_of kind.CannotRead =
     codes "a folder in the file's place; a disk or a network that fails; a pipe that gives a few"
     ++ turn ++ codes "bytes at once, 16,777,216 times"
-causes_of kind.TooLong = codes "a long simulation; a dump of the whole design; a listing of a long recording"
+causes_of kind.TooLong = codes "a long simulation; a dump of the whole design"
 causes_of kind.TooManyBlocks = codes "a small `--block` of a long recording"
 causes_of kind.OutOfMemory = codes "a limit, as by `ulimit -v` or of a container; a long recording"
 

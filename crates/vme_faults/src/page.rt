@@ -243,9 +243,9 @@ const CANNOT_READ: Page = Page {
 
 const TOO_LONG: Page = Page {
     kind: Kind::TooLong,
-    means: "an input has over 268,435,456 bytes",
+    means: "an input has over 268,435,456 bytes, or a listing over 137,438,953,472",
     expected: "a shorter input",
-    causes: "a long simulation; a dump of the whole design; a listing of a long recording",
+    causes: "a long simulation; a dump of the whole design",
     remedy: "`audit` takes dumps of any length; for the other commands record the backplane's scope\n    \
      alone, `$dumpvars(1, backplane)`, or cut the dump",
 };

@@ -18,3 +18,5 @@ pub mod RowsRead
 pub mod Said
 pub mod WellPlaced
 pub mod InVersions
+pub mod RowLengths
+pub mod KnownFronts

@@ -103,6 +103,21 @@ pub record Unread : Type 0 where
   pub last : Option Row
   pub count : ℕ
 
+-- how far a text is read: its version, the last of the rows that were read, and how many they are
+pub record RowsSoFar : Type 0 where
+  pub version : Version
+  pub last : Option Row
+  pub count : ℕ
+
+-- and what is left of the text
+abbrev pub behind_rows : RowsSoFar → List ℕ → Unread
+behind_rows so_far rest =
+    record { version = so_far.version; rest = rest; last = so_far.last; count = so_far.count }
+
+-- some bytes are the rest of a text, and nothing follows; or something may
+abbrev pub IsFollowedBy : Bool → List ℕ → Type 0
+IsFollowedBy is_rest future = is_rest ≡ true → future ≡ []
+
 -- these rows were read from the front of the text
 pub record HasRead (text : List ℕ) (rows : List Row) (unread : Unread) : Type 0 where
   pub read : IsRead text unread.version rows unread.rest

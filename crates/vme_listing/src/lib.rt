@@ -8,7 +8,8 @@
 //! - `text`, `write`: the text of rows; a listing written in pieces ([`write_listing`]).
 //! - `words`, `read`, `fault`: the row that a line may be; a listing from its text
 //!   ([`read_listing`]); the first fault of a text.
-//! - `row_reader`: the rows of a text, one by one ([`RowReader`]).
+//! - `listing_pieces`: the rows of a text that comes in pieces, one by one ([`ListingPieces`]);
+//!   `row_reader`: those of a whole text ([`RowReader`]).
 //!
 //! # What is proved
 //!
@@ -19,7 +20,8 @@
 //! - [`listings_are_well_placed`]: the listing of every recording is, so what is written of it is
 //!   read back as it was.
 //! - [`RowReader::next`] gives the rows of a text one by one, and by the same reading the first
-//!   fault.
+//!   fault. [`ListingPieces::next`] does so of a text of which the next bytes are known: no line has
+//!   more than [`LONGEST_LINE`] bytes, so what stands at their front holds whatever follows.
 //!
 //! # What isn't proved
 //!
@@ -29,7 +31,8 @@
 //! # Limits
 //!
 //! There are versions 1 to 3: from 2 on a write has its data, and 3 has resets. The decimal numbers
-//! of a text are below 2^32. A listing is written in pieces of at most 4,096 bytes.
+//! of a text are below 2^32. A line has at most 96 bytes. A listing is written in pieces of at most
+//! 4,096 bytes.
 //!
 //! # In which order to read
 //!
@@ -40,6 +43,7 @@
 pub mod fault;
 mod line;
 pub mod listing;
+pub mod listing_pieces;
 mod place;
 pub mod read;
 pub mod row;
@@ -50,8 +54,9 @@ pub mod write;
 
 pub use fault::ListFault;
 pub use listing::{Listing, listings_are_well_placed};
+pub use listing_pieces::ListingPieces;
 pub use read::read_listing;
 pub use row::{AnswerLine, Direction, ListedVerdict, Row, Version};
 pub use row_reader::RowReader;
-pub use text::data_digits;
+pub use text::{LONGEST_LINE, data_digits};
 pub use write::{Write, write_listing};

@@ -8,40 +8,27 @@ ghost use Rattle.vme_listing.specs.declared.fault.ListFault.TheVariants.{BadHead
 ghost use Rattle.vme_listing.specs.declared.row.Row.{Row};
 
 use crate::fault::ListFault;
-use crate::read::{front_header, front_row};
+use crate::listing_pieces::ListingPieces;
 use crate::row::{Row, Version};
 use std::marker::Model;
 
 /// The text of a listing behind its header and the rows that were read from its front.
 #[derive(Drop)]
 pub struct RowReader<'a> {
-    version: Version,
+    pieces: ListingPieces,
     rest: &'a [u8],
-    /// The last row that was read, and how many were.
-    last: Option<Row>,
-    count: usize,
-}
-
-/// Whether a row, if there is one, is the last of a listing.
-fn is_last(row: Option<Row>) -> bool
-    ensures { result ≡ ends_listing row }
-{
-    match row {
-        Some(row) => row.is_verdict(),
-        None => false,
-    }
 }
 
 impl<'a> Model for RowReader<'a> {
-    ghost use Rattle.vme_listing.specs.Reading.{Unread};
+    ghost use Rattle.vme_listing.specs.Reading.{Unread, behind_rows};
 
     ghost Value = { Unread };
 
     ghost use Rattle.std.specs.Prelude.{◌+◌, ◌^◌, ◌<◌, length};
 
-    ghost view = { λ a. record { version = a.version; rest = a.rest.now; last = a.last; count = a.count } };
+    ghost view = { λ a. behind_rows a.pieces a.rest.now };
 
-    ghost invariant = { λ a. a.count + length a.rest.now < 2 ^ 63 };
+    ghost invariant = { λ a. a.pieces.count + length a.rest.now < 2 ^ 63 };
 }
 
 impl<'a> RowReader<'a> {
@@ -51,12 +38,10 @@ impl<'a> RowReader<'a> {
         ensures fault { result ≡ None → IsFirstFault text.now BadHeader }
         ensures none { result ≡ None → HasNoListing text.now }
     {
-        let (version, rest) = front_header(text)?;
+        let (pieces, count) = ListingPieces::begin(text, true)?;
         Some(RowReader {
-            version,
-            rest,
-            last: None,
-            count: 0,
+            pieces,
+            rest: &text[count..],
         })
     }
 
@@ -64,7 +49,7 @@ impl<'a> RowReader<'a> {
     pub fn version(&self) -> Version
         ensures { result ≡ self.now.version }
     {
-        self.version
+        self.pieces.version()
     }
 
     /// The next row, or none where the listing is whole; or the first fault of the text, and the reader is left as it
@@ -82,22 +67,13 @@ impl<'a> RowReader<'a> {
         ensures stays { ends_listing self.old.last ≡ true → (result ≡ Ok None) × (self.new ≡ self.old) }
         ensures left { IfErr result (λ fault. self.new ≡ self.old) }
     {
-        if is_last(self.last) {
-            return Ok(None);
+        match self.pieces.next(self.rest, true) {
+            Ok(Some((row, count))) => {
+                self.rest = &self.rest[count..];
+                Ok(Some(row))
+            }
+            Ok(None) => Ok(None),
+            Err(fault) => Err(fault),
         }
-        let number = self.count + 1;
-        let Some((row, more)) = front_row(self.version, self.rest) else {
-            return Err(ListFault::BadRow { row: number });
-        };
-        if !row.may_follow(self.last) {
-            return Err(ListFault::BadRow { row: number });
-        }
-        if !row.ascends(self.version, self.last) {
-            return Err(ListFault::Unsorted { row: number });
-        }
-        self.rest = more;
-        self.last = Some(row);
-        self.count = number;
-        Ok(Some(row))
     }
 }

@@ -13,8 +13,8 @@ use crate::row::{AnswerLine, Direction, ListedVerdict, Row, Version};
 use std::marker::Model;
 use vme_trace::{Class, Lanes, Line, Rule, Space};
 
-/// How many bytes a line of a listing has at most.
-pub(crate) const LONGEST_LINE: usize = 96;
+/// How many bytes a line of a listing has at most, its line feed too.
+pub const LONGEST_LINE: usize = 96;
 
 /// How many bytes are held together at most.
 pub(crate) const MOST: usize = 4096;

@@ -2,7 +2,7 @@
 use Rattle.std.specs.Prelude.{ℕ, List, Option}
 use Rattle.vme_trace.specs.Streams.{Reading, Writing}
 use Rattle.vme_answer.specs.declared.refusal.Input.TheVariants.{Binding, Dump, Listing}
-use Rattle.vme_commands.specs.Confirmations.{Confirms}
+use Rattle.vme_confirm_command.specs.Confirmations.{Confirms}
 use Rattle.vme_commands.specs.Listings.{WritesListing}
 use Rattle.vme_commands.specs.Settled.{ChecksSettled}
 use Rattle.vme_words.specs.declared.order.Order.{Order}

@@ -6,7 +6,7 @@ use crate::environment::Environment;
 use crate::opening::{open_input, refuse_input};
 use std::alloc::Global;
 use vme_answer::Input;
-use vme_commands::confirm::confirm_with;
+use vme_confirm_command::confirm::confirm_with;
 use vme_trace::{Sink, Source};
 use vme_words::Order;
 
@@ -66,8 +66,11 @@ fn confirm_listing<S: Environment, B: Source, D: Source, O: Sink, E: Sink>(
         (O.writing out.old, O.writing out.new) (E.writing err.old, E.writing err.new) result }
 {
     match open_input(environment, order, Input::Listing) {
-        Some(mut listing) => {
-            confirm_with(alloc, binding, dump, &mut listing, order.skew, out, err)
+        Some(listing) => {
+            let (status, _listing) = confirm_with(
+                alloc, binding, dump, listing, order.skew, out, err,
+            );
+            status
         }
         None => refuse_input(Input::Listing, err),
     }

@@ -8,3 +8,4 @@ pub mod Laws
 pub mod SettlerSteps
 pub mod StepByStep
 pub mod WorkedAgree
+pub mod CapturesStay

@@ -1,7 +1,7 @@
 -- A recording by probes that tell one moment of the bus at several times, and what it settles to: its instants are
 -- taken in groups, of which each makes one step.
 use Rattle.std.specs.Prelude.{◌≡◌, ℕ, zero, suc, Bool, ◌+◌, ◌-◌, ◌==◌, ◌||◌, List, [], ◌++◌, length, nat_lt, None}
-use Rattle.std.specs.Prelude.{filter, if◌then◌else◌}
+use Rattle.std.specs.Prelude.{filter, if◌then◌else◌, Result, Ok, Err}
 use Rattle.vme_trace.specs.LineNumbers.{line_count}
 use Rattle.vme_trace.specs.Trace.{Trace, levels_at, time_at, last_instant}
 use Rattle.vme_trace.specs.WellFormed.{malformed_step}
@@ -39,6 +39,11 @@ module _ (skew : ℕ) (t : Trace) where
 unfoldable pub settled : ℕ → Trace → Trace
 settled skew t =
     record t { steps = steps_before skew t (last_instant t) ++ step_to skew t (last_instant t) }
+
+-- the same, or why there is no recording
+abbrev pub settled_or : {E : Type 0} → ℕ → Result Trace E → Result Trace E
+settled_or skew (Ok t) = Ok (settled skew t)
+settled_or skew (Err e) = Err e
 
 -- an instant of a settled recording is complete once a time is read that is more than the skew later: no step that
 -- follows belongs to its group

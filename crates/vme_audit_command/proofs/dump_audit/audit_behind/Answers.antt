@@ -1,7 +1,8 @@
 use Rattle.std.proofs.Common.{[], sym}
 use Rattle.vme_step_reader.specs.StepReading.{whole_reading}
-use Rattle.vme_audit_command.specs.SettledReadings.{skew_of}
-use Rattle.vme_audit_command.proofs.AnswerLemmas.{behind-untold, behind-with, behind-without, comes-first, given-first}
+use Rattle.vme_dump_steps.specs.SettledReadings.{skew_of}
+use Rattle.vme_dump_steps.proofs.FirstSteps.{comes-first}
+use Rattle.vme_audit_command.proofs.AnswerLemmas.{behind-untold, behind-with, behind-without, given-first}
 use Rattle.vme_audit_command.proofs.AnswerLemmas.{no-lines}
 use Rattle.vme_audit_command.proofs.dump_audit.audit_behind.Goals as goal
 

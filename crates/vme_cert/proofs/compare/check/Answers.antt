@@ -1,40 +1,28 @@
 -- Each step makes the next levels, and the checker follows.
-use Rattle.std.proofs.Common.{◌≡◌, ◌+◌, ◌∙◌, length, sym, ap, subst, arith}
-use Rattle.vme_trace.specs.Levels.{Levels}
-use Rattle.vme_trace.specs.Trace.{changed, levels_at}
-use Rattle.vme_trace.specs.WellFormed.{are_changes}
-use Rattle.vme_cert.proofs.Steps.{made, sound-step, step_at}
+use Rattle.std.proofs.Common.{length, ap, subst, arith}
+use Rattle.vme_trace.specs.Trace.{Trace}
+use Rattle.vme_cert.specs.Checking.{HasCompared, HasFollowed, at_opening}
+use Rattle.vme_cert.proofs.Steps.{step_at}
+use Rattle.vme_cert.proofs.Taking.{goes_on-to, may-go_on, recorded_to, whole-to}
 use Rattle.vme_cert.proofs.compare.check.Goals as goal
 
 pub loop-step-init : goal.loop-step-init
-unfolding levels_at
-loop-step-init g c = record {
-  instant = c.new-checker.ensures.instant;
-  levels = c.new-checker.ensures.levels ∙ c.opening.ensures.opening;
-  few = omega (arith, c.new-checker.ensures.few);
-  checks = λ whole gave. c.new-checker.ensures.checks whole c.args.capture.now (sym c.opening.ensures.opening) gave;
-}
+loop-step-init g c =
+    let opening = c.opening.ensures.opening in
+    record {
+      taken = subst (λ l. HasFollowed (at_opening l) c.new-checker.result) opening c.new-checker.ensures.taken;
+      compared = λ whole gave.
+          subst (λ l. HasCompared g.S.RowSource.gave g.S.RowSource.is_over whole c.args.version (at_opening l)
+          c.new-checker.result) opening (c.new-checker.ensures.compared whole gave);
+    }
 
-pub step-requires-clause-limit : goal.step-requires-clause-limit
-step-requires-clause-limit g c =
-    omega (
-      arith,
-      c.loop-step.invariant.instant,
-      c.loop-step-test.true,
-      c.steps-step-items.ensures.sound.limited,
-      ap (λ xs. length xs) c.steps-step-items.ensures.steps,
-    )
-
-pub step-requires-clause-changes : goal.step-requires-clause-changes
-step-requires-clause-changes g c =
+pub take-requires : goal.take-requires
+take-requires g c =
     let t = c.args.capture.now in
     let i = c.loop-step.step-index in
     let found = step_at t c.steps-step-items.result.now i c.step-item.result c.steps-step-items.ensures.steps
     c.loop-step-test.true c.step-item.is in
-    ap (λ (w : Levels). are_changes w 0 c.as_slice.result.now) c.loop-step.invariant.levels
-    ∙ (ap (are_changes (levels_at t i) 0) c.as_slice.ensures
-    ∙ sound-step t i c.step-item.result found
-    c.steps-step-items.ensures.sound.well_formed)
+    (recorded_to t i, c.loop-step.invariant.taken, may-go_on t i c.step-item.result c.steps-step-items.ensures.sound found)
 
 pub loop-step-preserved : goal.loop-step-preserved
 loop-step-preserved g c =
@@ -42,27 +30,31 @@ loop-step-preserved g c =
     let i = c.loop-step.step-index in
     let found = step_at t c.steps-step-items.result.now i c.step-item.result c.steps-step-items.ensures.steps
     c.loop-step-test.true c.step-item.is in
-    let here = c.loop-step.invariant.instant in
-    let there = made t i c.step-item.result found
-    ∙ ap (changed (levels_at t i)) (sym c.as_slice.ensures) in
+    let on = goes_on-to t i c.step-item.result found in
+    let taken = c.loop-step.invariant.taken in
     record {
-      instant = c.step.ensures.instant ∙ ap (λ n. n + 1) here;
-      levels = c.step.ensures.levels ∙ (ap (λ (w : Levels). changed w c.as_slice.result.now)
-          c.loop-step.invariant.levels ∙ sym there);
-      few = omega (arith, c.step.ensures.few, c.step.ensures.instant, here);
-      checks = λ whole gave. c.step.ensures.checks whole c.args.version t
-          (subst (λ n. levels_at t (n + 1) ≡ changed (levels_at t n) c.as_slice.result.now) (sym here) there)
-          (omega (arith, here, c.loop-step-test.true, ap (λ xs. length xs) c.steps-step-items.ensures.steps))
-          (c.loop-step.invariant.checks whole gave);
+      taken = subst (λ (u : Trace). HasFollowed u c.take.new.self) on (c.take.ensures.taken (recorded_to t i) taken);
+      compared = λ whole gave.
+          subst (λ (u : Trace). HasCompared g.S.RowSource.gave g.S.RowSource.is_over whole c.args.version u
+          c.take.new.self) on
+          (c.take.ensures.compared whole c.args.version (recorded_to t i) taken
+          (c.loop-step.invariant.compared whole gave));
     }
+
+pub finish-requires : goal.finish-requires
+finish-requires g c = (recorded_to c.args.capture.now c.loop-step.step-index, c.loop-step.invariant.taken)
 
 pub returns : goal.returns
 returns g c whole gave =
-    c.finish.ensures whole c.args.version c.args.capture.now
-    (omega (
+    let t = c.args.capture.now in
+    let i = c.loop-step.step-index in
+    let all = whole-to t i (omega (
       arith,
-      c.loop-step.invariant.instant,
       c.loop-step-test.false,
       ap (λ xs. length xs) c.steps-step-items.ensures.steps,
-    ))
-    (c.loop-step.invariant.checks whole gave)
+    )) in
+    let checker = c.loop-step.checker in
+    c.finish.ensures whole c.args.version t
+    (subst (λ (u : Trace). HasFollowed u checker) all c.loop-step.invariant.taken)
+    (subst (λ (u : Trace). HasCompared g.S.RowSource.gave g.S.RowSource.is_over whole c.args.version u checker) all
+    (c.loop-step.invariant.compared whole gave))

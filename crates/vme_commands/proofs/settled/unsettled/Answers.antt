@@ -1,4 +1,4 @@
-use Rattle.vme_commands.proofs.SettledLemmas.{compared-stays, judgement-stays, read-stays, recording-stays}
+use Rattle.vme_commands.proofs.SettledLemmas.{judgement-stays, read-stays, recording-stays}
 use Rattle.vme_commands.proofs.settled.unsettled.Goals as goal
 
 pub returns-clause-read : goal.returns-clause-read
@@ -9,6 +9,3 @@ returns-clause-judgement c = judgement-stays
 
 pub returns-clause-recording : goal.returns-clause-recording
 returns-clause-recording c = recording-stays
-
-pub returns-clause-compared : goal.returns-clause-compared
-returns-clause-compared c = compared-stays

@@ -5,7 +5,8 @@ use Rattle.vme_program.proofs.confirm.confirm_listing.Goals as goal
 
 pub returns-in-Some : goal.returns-in-Some
 returns-in-Some g c =
-    inr ((_, g.S.Reader.Source.reading c.confirm_with.new.listing), c.in-Some.ensures, c.confirm_with.ensures.answer)
+    let (status, listing) = c.confirm_with-status.result in
+    inr ((_, g.S.Reader.Source.reading listing), c.in-Some.ensures, c.confirm_with-status.ensures.answer)
 
 pub returns-in-None : goal.returns-in-None
 returns-in-None g c = inl (

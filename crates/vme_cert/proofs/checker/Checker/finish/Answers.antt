@@ -1,19 +1,30 @@
-use Rattle.std.proofs.Common.{◌+◌, ◌∙◌, false, List, ◌∷◌, ◌++◌, [], length, refl, sym, ap, subst}
+use Rattle.std.proofs.Common.{◌+◌, ◌∙◌, false, List, ◌∷◌, ◌++◌, [], length, refl, sym, ap, subst, arith}
+use Rattle.vme_trace.specs.Trace.{Trace}
 use Rattle.vme_listing.specs.Recorded.{recorded_rows, rows_in}
 use Rattle.vme_listing.specs.declared.row.Row.{Row}
 use Rattle.vme_listing.specs.declared.row.Row.TheVariants.{Verdict}
-use Rattle.vme_cert.specs.Checking.{IsStage}
+use Rattle.vme_cert.specs.Checking.{Checks, IsStage}
 use Rattle.vme_cert.specs.Comparing.{IsCompared, is_at}
 use Rattle.vme_cert.specs.Following.{is_open}
 use Rattle.vme_cert.proofs.Checking.{ended}
 use Rattle.vme_cert.proofs.Comparing.{compared-fewer}
 use Rattle.vme_cert.proofs.Following.{all-off, none-at}
 use Rattle.vme_cert.proofs.Placing.{rows_in-length}
+use Rattle.vme_cert.proofs.Taking.{all-taken}
 use Rattle.vme_cert.proofs.checker.Checker.finish.Goals as goal
 
+pub follow-requires : goal.follow-requires
+follow-requires g c = omega (arith, c.requires.1.few, c.args.self.bus.within)
+
+pub finish-requires : goal.finish-requires
+finish-requires g c = omega (arith, c.follow.ensures.taken, c.requires.1.few, c.args.self.bus.within)
+
 pub returns : goal.returns
-returns g c whole v t last h =
+returns g c whole v t taken compared =
     let self = c.args.self in
+    let last = taken.instant in
+    let h = subst (λ (u : Trace). Checks g.S.RowSource.gave g.S.RowSource.is_over whole v u self) (all-taken t)
+    (compared []) in
     let e = ended g.S.RowSource.gave g.S.RowSource.is_over whole v t self.outcome self.rows self.stage
     (subst (λ n. IsStage g.S.RowSource.gave g.S.RowSource.is_over whole v t (n + 1) self.outcome self.rows self.stage)
     last h.stage_is) in

@@ -1,44 +1,30 @@
-use Rattle.std.proofs.Common.{◌∙◌, ap, arith, refl, subst, sym}
-use Rattle.std.proofs.lemmas.Bool.{true≢false}
-use Rattle.vme_listing.specs.Places.{may_follow}
-use Rattle.vme_listing.specs.Reading.{HasRead, IsTextOfListing, listed}
-use Rattle.vme_listing.proofs.Readings.{bad-is, follows_from, follows_parts, has_read_more, unsorted-is}
-use Rattle.vme_listing.proofs.Readings.{whole-is}
+use Rattle.std.proofs.Common.{ℕ, [], ◌∷◌, ◌++◌, ap, drop, refl, subst, sym}
+use Rattle.std.specs.Prelude.{IfSome, Ok, Option}
+use Rattle.vme_listing.specs.Reading.{HasRead, IsTextOfListing, Unread, behind_rows, listed}
+use Rattle.vme_listing.specs.declared.row.Row.{Row}
+use Rattle.vme_listing.proofs.KnownFronts.{known_whole, left_whole}
 use Rattle.vme_listing.proofs.row_reader.RowReader.next.Goals as goal
 
-pub returns-then-is_last-clause-whole : goal.returns-then-is_last-clause-whole
-returns-then-is_last-clause-whole c text rows h e = subst (λ u. IsTextOfListing text (listed u.version rows))
-    c.self.view_is (whole-is text rows _ (subst (HasRead text rows) (sym c.self.view_is) h) (sym c.is_last.ensures
-    ∙ c.if-is_last.true))
+pub returns-in-Ok-Some-clause-row : goal.returns-in-Ok-Some-clause-row
+returns-in-Ok-Some-clause-row c text rows h =
+    let pieces = c.self.inside.pieces in
+    let rest = c.self.inside.rest.now in
+    left_whole text (rows ++ c.in-Ok-Some.row ∷ []) c.next.new.self rest c.in-Ok-Some.count
+    (subst (λ (found : Option (Row × ℕ)). IfSome found (λ next. HasRead text (rows ++ next.0 ∷ [])
+    (behind_rows c.next.new.self (drop next.1 rest ++ [])))) c.in-Ok-Some.field-0-is
+    (c.in-Ok-Some.ensures.row text [] rows (λ _. refl)
+    (known_whole text rows pieces rest (subst (HasRead text rows) (sym c.self.view_is) h))))
 
-pub overflow_add-number : goal.overflow_add-number
-overflow_add-number c = omega (arith, c.self.invariant)
+pub returns-in-Ok-None-clause-whole : goal.returns-in-Ok-None-clause-whole
+returns-in-Ok-None-clause-whole c text rows h e =
+    let pieces = c.self.inside.pieces in
+    subst (λ (u : Unread). IsTextOfListing text (listed u.version rows)) c.self.view_is
+    (c.in-Ok-None.ensures.whole text [] rows (λ _. refl)
+    (known_whole text rows pieces c.self.inside.rest.now (subst (HasRead text rows) (sym c.self.view_is) h))
+    (ap (λ (found : Option (Row × ℕ)). Ok found) c.in-Ok-None.field-0-is))
 
-pub returns-in_default-clause-fault : goal.returns-in_default-clause-fault
-returns-in_default-clause-fault c text rows h =
-    bad-is text rows _ (subst (HasRead text rows) (sym c.self.view_is) h) (sym c.is_last.ensures ∙ c.if-is_last.false) _
-    refl
-    (λ row more is may front. c.in_default.ensures.found row more is front)
-
-pub returns-then-not-may_follow-clause-fault : goal.returns-then-not-may_follow-clause-fault
-returns-then-not-may_follow-clause-fault c text rows h =
-    bad-is text rows _ (subst (HasRead text rows) (sym c.self.view_is) h) (sym c.is_last.ensures ∙ c.if-is_last.false) _
-    refl
-    (λ row more is may front.
-    let same = c.in-Some.ensures.found row more is front in
-    true≢false (sym may ∙ ap (λ r. may_follow c.self.inside.last r) (sym same.0) ∙ sym c.if-not-may_follow.ensures))
-
-pub returns-then-not-ascends-clause-fault : goal.returns-then-not-ascends-clause-fault
-returns-then-not-ascends-clause-fault c text rows h =
-    unsorted-is text rows _ (subst (HasRead text rows) (sym c.self.view_is) h) (sym c.is_last.ensures
-    ∙ c.if-is_last.false) _ c.in-Some.row c.in-Some.more.now refl
-    c.in-Some.ensures.named.0 (sym c.if-not-may_follow.ensures) (sym c.if-not-ascends.ensures) c.in-Some.ensures.named.1
-    (λ other behind is front. (c.in-Some.ensures.found other behind is front).0)
-
-pub returns-clause-row : goal.returns-clause-row
-returns-clause-row c text rows h =
-    let f = follows_from c.self.inside.version c.self.inside.last c.in-Some.row c.in-Some.ensures.named.0
-    (sym c.if-not-may_follow.ensures) (sym c.if-not-ascends.ensures) in
-    has_read_more text rows _ (subst (HasRead text rows) (sym c.self.view_is) h) (sym c.is_last.ensures
-    ∙ c.if-is_last.false) c.in-Some.row c.in-Some.more.now f c.in-Some.ensures.named.1
-    (λ other behind g e. c.in-Some.ensures.found other behind (follows_parts _ _ other g).0 e)
+pub returns-in-Err-clause-fault : goal.returns-in-Err-clause-fault
+returns-in-Err-clause-fault c text rows h =
+    c.in-Err.ensures.fault text [] rows (λ _. refl)
+    (known_whole text rows c.self.inside.pieces c.self.inside.rest.now
+    (subst (HasRead text rows) (sym c.self.view_is) h))

@@ -1,8 +1,0 @@
--- The steps so far were taken.
-use Rattle.std.proofs.Common.{◌≡◌, take}
-use Rattle.vme_audit_command.specs.SettledSteps.{all_taken}
-use Rattle.vme_audit_command.proofs.settling.take_all.Given as goal
-
-abbrev pub invariant-loop-step : goal.invariant-loop-step
-invariant-loop-step l =
-    l.settler ≡ all_taken l.initial.settler (take l.step-index l.steps) l.settled.items

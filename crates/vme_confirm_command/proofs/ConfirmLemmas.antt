@@ -1,0 +1,158 @@
+-- What the steps of confirming a listing give.
+use Rattle.std.proofs.Common.{◌≡◌, ◌≤◌, ◌<◌, ◌↔◌, ℕ, suc, List, length, refl, ap, sym, subst, ◌∙◌, inl, inr, arith}
+use Rattle.std.specs.Prelude.{Option, Some, Result, Ok, Err}
+use Rattle.std.proofs.lemmas.Bool.{le-leb, lt-leb}
+use Rattle.vcd_read.specs.Contents.{Contents}
+use Rattle.vme_bind.specs.Binding.{BoundLines}
+use Rattle.vme_trace.specs.Trace.{Trace}
+use Rattle.vme_listing.specs.Listed.{Listed}
+use Rattle.vme_listing.specs.Reading.{IsFirstFault, IsNoListing}
+use Rattle.vme_listing.specs.declared.fault.ListFault.{ListFault}
+use Rattle.vme_listing.specs.declared.fault.ListFault.TheVariants as list
+use Rattle.vme_cert.specs.declared.compare.Answer.{Answer as Confirmation}
+use Rattle.vme_cert.specs.declared.compare.Answer.TheVariants.{Yes, No}
+use Rattle.vme_answer.specs.Answers.{CommandAnswer, AnswerGives, binding_read, dump_read}
+use Rattle.vme_confirm_command.specs.Confirmations.{Confirms, GivesConfirmation, GivesRows, IsConfirmation, IsFound, IsListing}
+use Rattle.vme_confirm_command.specs.Confirmations.{compared_settled, confirmation_answer_by}
+use Rattle.vme_confirm_command.specs.Confirmations.{confirmation_status, listing_text, longest_listing, TellsConfirmation}
+use Rattle.vme_answer.specs.Ends.{Tells, Ends}
+use Rattle.vme_stream.specs.Inputs.{TellsWhole}
+use Rattle.vme_answer.specs.Refusals.{listing_refusal}
+use Rattle.vme_answer.specs.declared.refusal.Input.TheVariants.{Listing}
+use Rattle.vme_answer.specs.declared.refusal.Refusal.{Refusal}
+use Rattle.vme_answer.specs.declared.refusal.Refusal.TheVariants.{Memory, TooLong}
+use Rattle.vme_answer.proofs.EndLemmas.{not_both, read_is, refusal_status-small, unwritten_by}
+use Rattle.vme_trace.specs.Streams.{Reading, Writing}
+
+pub binding_lacks : (skew : ℕ) (binding : Result BoundLines Refusal) (dump : Result Contents Refusal)
+    (listing : Result Listed Refusal) (r : Refusal) → AnswerGives (λ (b : BoundLines). b) (Err r) binding
+    → GivesConfirmation (Err r) (compared_settled skew binding dump listing)
+binding_lacks skew binding dump listing Memory is = tt
+binding_lacks skew binding dump listing r is = ap
+    (λ (w : Result BoundLines Refusal). compared_settled skew w dump listing) is
+
+-- a listing that isn't too long, and one that is
+pub text-fits : (text : List ℕ) → length text ≤ longest_listing → listing_text (Some text) ≡ Ok text
+text-fits text short = rw (le-leb (length text) longest_listing short) refl
+
+pub text-long : (text : List ℕ) → longest_listing < length text → listing_text (Some text) ≡ Err (TooLong Listing)
+text-long text long = rw (lt-leb (length text) longest_listing long) refl
+
+-- a text that is no listing's has its first fault
+pub listing_fault : (text : List ℕ) (fault : ListFault) → IsFirstFault text fault → IsNoListing text fault
+    → GivesRows (Ok text) (Err (listing_refusal fault))
+listing_fault text list.BadHeader first none = (list.BadHeader, refl, first, none)
+listing_fault text (list.BadRow row) first none = (list.BadRow row, refl, first, none)
+listing_fault text (list.Unsorted row) first none = (list.Unsorted row, refl, first, none)
+listing_fault text list.Memory first none = tt
+
+confirmation_status-small : (found : Confirmation) → confirmation_status found ≤ 4
+confirmation_status-small Yes = omega arith
+confirmation_status-small (No row) = omega arith
+
+confirmation_answer_by-small : (found : Result Confirmation Refusal) → (confirmation_answer_by found).status ≤ 4
+confirmation_answer_by-small (Ok found) = confirmation_status-small found
+confirmation_answer_by-small (Err r) = refusal_status-small r
+
+pub Confirms-unwritten : (skew : ℕ) (binding dump listing : Reading × Reading) (out err : Writing × Writing)
+    (status : ℕ) → Confirms skew binding dump listing out err status
+    → (status ≡ 5) ↔ (out.1.failures ≡ suc out.0.failures)
+Confirms-unwritten skew binding dump listing out err status confirms =
+    let (
+      binding_bytes,
+      dump_bytes,
+      listing_bytes,
+      given,
+      found,
+      binding_read,
+      dump_read,
+      listing_read,
+      rows,
+      answered,
+      end,
+    ) = confirms in
+    unwritten_by confirmation_answer_by confirmation_answer_by-small found out err status end
+
+-- ---- the exact answer
+
+is_found : (found : Result Confirmation Refusal) (said : Result (Listed × Trace) Refusal) → (found ≡ Err Memory → ⊥)
+    → GivesConfirmation found said
+    → IsFound found said
+is_found (Ok answer) said memory given = given
+is_found (Err Memory) said memory given = absurd (memory refl)
+is_found (Err r) said memory given = given
+
+refused_alike : (found : Result Confirmation Refusal) (r : Refusal) → IsFound found (Err r) → found ≡ Err r
+refused_alike (Ok answer) r is = absurd (cc is.2)
+refused_alike (Err q) r is =
+    let same : r ≡ q = cc is in
+    ap (λ (w : Refusal). Err w) (sym same)
+
+is_listing : (text : Result (List ℕ) Refusal) (given : Result Listed Refusal) → (given ≡ Err Memory → ⊥)
+    → GivesRows text given → IsListing text given
+is_listing text (Ok rows) memory is = is
+is_listing text (Err Memory) memory is = absurd (memory refl)
+is_listing text (Err r) memory is = is
+
+is_confirmation : (skew : ℕ) (binding : Result BoundLines Refusal) (dump : Result Contents Refusal)
+    (text : Result (List ℕ) Refusal) (given : Result Listed Refusal)
+    (found : Result Confirmation Refusal) → (found ≡ Err Memory → ⊥) → GivesRows text given → GivesConfirmation found
+    (compared_settled skew binding dump given)
+    → IsConfirmation skew binding dump text found
+is_confirmation skew (Err r) dump text given found memory rows is = refused_alike found r
+    (is_found found (Err r) memory is)
+is_confirmation skew (Ok bound) (Err r) text given found memory rows is = refused_alike found r
+    (is_found found (Err r) memory is)
+is_confirmation skew (Ok bound) (Ok contents) text given found memory rows is =
+    let said : IsFound found (compared_settled skew (Ok bound) (Ok contents) given) = is_found found
+    (compared_settled skew (Ok bound) (Ok contents) given) memory is in
+    let none : (given ≡ Err Memory → ⊥) =
+    λ lacks. memory
+    (refused_alike found Memory
+    (subst (λ (g : Result Listed Refusal). IsFound found (compared_settled skew (Ok bound) (Ok contents) g)) lacks
+    said)) in
+    (given, none, is_listing text given none rows, said)
+
+was_told : (answer : CommandAnswer) (out err : Writing × Writing) (status : ℕ) → Ends answer out err status
+    → out.1.failures ≡ out.0.failures → Tells answer out err status
+was_told answer out err status (inl told) same = told
+was_told answer out err status (inr failed) same = absurd (not_both out.1.failures out.0.failures same failed.out_is.1)
+
+-- inputs that are told whole, and no failure, give exactly their answer
+pub Confirms-exact : (skew : ℕ) (binding dump listing : Reading × Reading) (out err : Writing × Writing) (status : ℕ)
+    → Confirms skew binding dump listing out err status
+    → (b d l : List ℕ) → TellsWhole binding.0 binding.1 b → TellsWhole dump.0 dump.1 d → TellsWhole listing.0 listing.1
+    l
+    → out.1.failures ≡ out.0.failures → (status ≡ 4 → ⊥)
+    → TellsConfirmation skew b d l out err status
+Confirms-exact skew binding dump listing out err status confirms b d l told_b told_d told_l same memory =
+    let (
+      binding_bytes,
+      dump_bytes,
+      listing_bytes,
+      given,
+      found,
+      binding_reading,
+      dump_reading,
+      listing_reading,
+      rows,
+      answered,
+      end,
+    ) = confirms in
+    let told : Tells (confirmation_answer_by found) out err status = was_told (confirmation_answer_by found) out err
+    status end same in
+    let none : (found ≡ Err Memory → ⊥) =
+    λ lacks. memory (told.status_is ∙ ap (λ (f : Result Confirmation Refusal). (confirmation_answer_by f).status) lacks)
+    in
+    let is = is_confirmation skew (binding_read binding_bytes) (dump_read dump_bytes) (listing_text listing_bytes) given
+    found none rows answered in
+    let b_is : binding_bytes ≡ Some b = read_is binding.0 binding.1 binding_bytes b binding_reading told_b in
+    let d_is : dump_bytes ≡ Some d = read_is dump.0 dump.1 dump_bytes d dump_reading told_d in
+    let l_is : listing_bytes ≡ Some l = read_is listing.0 listing.1 listing_bytes l listing_reading told_l in
+    let with_b = subst (λ (x : Option (List ℕ)). IsConfirmation skew (binding_read x) (dump_read dump_bytes)
+    (listing_text listing_bytes) found) b_is is in
+    let with_d = subst (λ (x : Option (List ℕ)). IsConfirmation skew (binding_read (Some b)) (dump_read x)
+    (listing_text listing_bytes) found) d_is with_b in
+    let with_l = subst (λ (x : Option (List ℕ)). IsConfirmation skew (binding_read (Some b)) (dump_read (Some d))
+    (listing_text x) found) l_is with_d in
+    (found, with_l, told)

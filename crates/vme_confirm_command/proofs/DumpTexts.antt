@@ -1,0 +1,121 @@
+-- What reading the text of a dump comes to is what the dump says.
+use Rattle.std.proofs.Common.{◌≡◌, ℕ, List, [], length, Option, None, Some, refl, sym, ap, subst, ◌∙◌}
+use Rattle.std.specs.Prelude.{Result, Ok, Err}
+use Rattle.vcd_read.specs.Contents.{Contents}
+use Rattle.vcd_read.specs.Header.{◌>>=◌}
+use Rattle.vcd_read.specs.Meaning.{dump_of, instants_from}
+use Rattle.vcd_read.specs.Sections.{Defined}
+use Rattle.vcd_read.specs.declared.dump.Instant.{Instant}
+use Rattle.vcd_read.specs.declared.dump.Variable.{Variable}
+use Rattle.vcd_read.specs.declared.fault.VcdFault.{VcdFault}
+use Rattle.vcd_read.proofs.DumpLemmas.{contents_behind, dump_of-header, whole_header}
+use Rattle.vme_trace.specs.Trace.{Trace}
+use Rattle.vme_bind.specs.Binding.{BoundLines}
+use Rattle.vme_bind.specs.BoundGroups.{bound_groups_in}
+use Rattle.vme_bind.specs.Capture.{capture_of, limited, recording, recording_of}
+use Rattle.vme_bind.specs.TextCapture.{or_binding, or_dump}
+use Rattle.vme_bind.specs.TextReading.{TextReading, body_reading, reading_behind, reading_by, reading_of_text}
+use Rattle.vme_bind.specs.declared.fault.BindFault.{BindFault}
+use Rattle.vme_bind.specs.declared.fault.CaptureFault.{CaptureFault}
+use Rattle.vme_bind.specs.declared.fault.CaptureFault.TheVariants.{Dump}
+
+-- the type of what a function gives, where it doesn't fail
+abbrev OkOf : {A B E : Type 0} → (A → Result B E) → Type 0
+OkOf {A} {B} f = B
+
+abbrev Groups : Type 0
+Groups = OkOf (bound_groups_in [])
+
+module _ (b : BoundLines) where
+  pub record Agrees (dump : Result Contents VcdFault) (reading : Result TextReading CaptureFault) : Type 0 where
+    pub whole : (r : TextReading) → reading ≡ Ok r → r.fault ≡ None
+        → (contents : Contents) × (dump ≡ Ok contents) × (recording_of b contents ≡ Ok r.recorded)
+    pub faulty : (r : TextReading) (fault : VcdFault) → reading ≡ Ok r → r.fault ≡ Some fault → dump ≡ Err fault
+    pub fails : (fault : VcdFault) → reading ≡ Err (Dump fault) → dump ≡ Err fault
+
+  same_reading : (x y : TextReading) → ◌≡◌ {A = Result TextReading CaptureFault} (Ok x) (Ok y) → x ≡ y
+  same_reading x y e = cc
+
+  none_some : (x y : Option VcdFault) (fault : VcdFault) → x ≡ y → x ≡ None → y ≡ Some fault → ⊥
+  none_some x y fault same none some = absurd (cc)
+
+  same_fault : (x y : VcdFault) → ◌≡◌ {A = Option VcdFault} (Some x) (Some y) → x ≡ y
+  same_fault x y e = cc
+
+  module _ (d : Defined (List Variable)) where
+    abbrev with_variables : List Instant → Result Contents VcdFault
+    with_variables instants = Ok (record { variables = d.variables; instants = instants })
+
+    abbrev read_by : Groups → Result TextReading CaptureFault
+    read_by groups = Ok (body_reading b.slots groups d.head)
+
+    by_instants : (groups : Groups) → bound_groups_in d.variables b.assignments ≡ Ok groups
+        → (r : Result (List Instant) VcdFault)
+        → Agrees (r >>= with_variables) (Ok (reading_by b.slots groups d.head r))
+    unfolding recording_of
+    by_instants groups e (Ok instants) = record {
+      whole = λ r is none. (
+        record { variables = d.variables; instants = instants },
+        refl,
+        ap (λ (w : Result Groups BindFault). w >>= λ g. Ok (recording b.slots g instants (length instants)))
+            e
+            ∙ ap (λ (x : TextReading). Ok x.recorded)
+            (same_reading (reading_by b.slots groups d.head (Ok instants)) r is),
+      );
+      faulty = λ r fault is some.
+          absurd (none_some None r.fault fault (ap (λ (x : TextReading). x.fault)
+          (same_reading (reading_by b.slots groups d.head (Ok instants)) r is)) refl some);
+      fails = λ fault is. absurd (cc);
+    }
+    by_instants groups e (Err first) = record {
+      whole = λ r is none.
+          let same = ap (λ (x : TextReading). x.fault)
+          (same_reading (reading_by b.slots groups d.head (Err first)) r is) in
+          absurd (none_some r.fault (Some first) first (sym same) none refl);
+      faulty = λ r fault is some.
+          let same = ap (λ (x : TextReading). x.fault)
+          (same_reading (reading_by b.slots groups d.head (Err first)) r is) in
+          ap (λ (f : VcdFault). Err f) (same_fault first fault (same ∙ some));
+      fails = λ fault is. absurd (cc);
+    }
+
+    by_groups : (groups : Result Groups BindFault) → bound_groups_in d.variables b.assignments ≡ groups
+        → Agrees (instants_from d.head.nets d.head.body >>= with_variables) (or_binding groups >>= read_by)
+    by_groups (Ok groups) e = by_instants groups e (instants_from d.head.nets d.head.body)
+    by_groups (Err own) e = record {
+      whole = λ r is none. absurd (cc);
+      faulty = λ r fault is some. absurd (cc);
+      fails = λ fault is. absurd (cc);
+    }
+
+  by_header : (h : Result (Defined (List Variable)) VcdFault)
+      → Agrees (h >>= contents_behind) (or_dump h >>= reading_behind b)
+  by_header (Ok d) = by_groups d (bound_groups_in d.variables b.assignments) refl
+  by_header (Err first) = record {
+    whole = λ r is none. absurd (cc);
+    faulty = λ r fault is some. absurd (cc);
+    fails = λ fault is. let same : first ≡ fault = cc in ap (λ (f : VcdFault). Err f) same;
+  }
+
+  pub agree : (text : List ℕ) → Agrees (dump_of text) (reading_of_text b text)
+  unfolding reading_of_text
+  agree text =
+      subst (λ (dump : Result Contents VcdFault). Agrees dump (or_dump (whole_header text) >>= reading_behind b))
+      (sym (dump_of-header text)) (by_header (whole_header text))
+
+  same_trace : (x y : Trace) → ◌≡◌ {A = Result Trace BindFault} (Ok x) (Ok y) → x ≡ y
+  same_trace x y e = cc
+
+  module _ (contents : Contents) (t : Trace) where
+    abbrev made : Groups → Trace
+    made groups = recording b.slots groups contents.instants (length contents.instants)
+
+    by_made : (groups : Result Groups BindFault) → (groups >>= λ g. Ok (made g)) ≡ Ok t
+        → (groups >>= λ g. limited (made g)) ≡ limited t
+    by_made (Ok groups) is = ap limited (same_trace (made groups) t is)
+    by_made (Err own) is = absurd (cc)
+
+    -- what is captured is what is recorded, if it isn't too long
+    pub captured-is : recording_of b contents ≡ Ok t → capture_of b contents ≡ limited t
+    unfolding recording_of capture_of
+    captured-is = by_made (bound_groups_in contents.variables b.assignments)

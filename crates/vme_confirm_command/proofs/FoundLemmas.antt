@@ -1,0 +1,195 @@
+-- What is found of a listing is the answer to it.
+use Rattle.std.proofs.Common.{◌≡◌, ℕ, List, [], ◌++◌, Option, Some, refl, sym, ap, subst, ◌∙◌}
+use Rattle.std.specs.Prelude.{Result, Ok, Err}
+use Rattle.vcd_read.specs.Contents.{Contents}
+use Rattle.vcd_read.specs.Header.{◌>>=◌}
+use Rattle.vme_trace.specs.Streams.{Reading}
+use Rattle.vme_trace.specs.Trace.{Trace}
+use Rattle.vme_bind.specs.Binding.{BoundLines}
+use Rattle.vme_bind.specs.Capture.{capture_of}
+use Rattle.vme_bind.specs.declared.fault.BindFault.{BindFault}
+use Rattle.vme_listing.specs.Listed.{Listed}
+use Rattle.vme_listing.specs.Reading.{listed}
+use Rattle.vme_listing.specs.Recorded.{recorded_rows, rows_in}
+use Rattle.vme_listing.specs.declared.row.Row.{Row}
+use Rattle.vme_listing.specs.declared.row.Version.{Version}
+use Rattle.vme_stream.specs.Inputs.{IsReading}
+use Rattle.vme_cert.specs.Agreement.{DecidesListing}
+use Rattle.vme_cert.specs.declared.compare.Answer.{Answer}
+use Rattle.vme_cert.specs.declared.compare.Answer.TheVariants.{Yes, No}
+use Rattle.vme_cert.specs.Comparing.{Decides}
+use Rattle.vme_cert.proofs.Deciding.{decides-all}
+use Rattle.vme_answer.specs.Answers.{dump_read, or_bad_binding}
+use Rattle.vme_answer.specs.declared.refusal.Refusal.{Refusal}
+use Rattle.vme_answer.specs.declared.refusal.Refusal.TheVariants.{BadBinding, Memory}
+use Rattle.vme_skew.specs.Settled.{settled_or}
+use Rattle.vme_confirm_command.specs.Confirmations.{GivesConfirmation, GivesRows, compared_settled}
+use Rattle.vme_confirm_command.specs.DumpReadings.{BeginsDump, Compares, FindsOf, IsDumpRefused, IsReadDump}
+use Rattle.vme_confirm_command.specs.HeldInputs.{InputSoFar}
+use Rattle.vme_confirm_command.specs.declared.definitions.Begun.{Begun}
+use Rattle.vme_confirm_command.specs.declared.definitions.Begun.TheVariants.{Body, Unusable}
+use Rattle.vme_confirm_command.proofs.HeldLemmas.{some-reading}
+use Rattle.vme_confirm_command.specs.FoundRows.{DecidesSo, EndsFound, FindsRows, IsAnswerTo}
+use Rattle.vme_confirm_command.specs.RowsOfListing.{EndsRows, rows_refusal}
+use Rattle.vme_confirm_command.proofs.ConfirmLemmas.{text-fits}
+use Rattle.vme_confirm_command.specs.declared.rows_fault.RowsFault.{RowsFault}
+
+-- ---- a listing that is read to its end
+
+module _ (version : Version) (right : List Row) (given more : List Row) (over : Type 0) (ends : over → more ≡ []) where
+  decided : (answer : Answer) → DecidesSo given right over answer → DecidesListing (given ++ more) right answer
+  decided Yes h = decides-all {Source = Unit {0}} (λ _. over) given more right tt Yes h ends
+  decided (No row) h = decides-all {Source = Unit {0}} (λ _. over) given more right tt (No row) h ends
+
+-- it has no fault
+pub found-whole : (old : Reading) (version : Version) (now : Reading) (given : List Row) (over : Type 0)
+    (right : Result (List Row) BindFault) (found : Result Answer BindFault) → EndsRows old version now given over (Ok tt)
+    → FindsRows version right found given over → (result : Result Answer Refusal)
+    → result ≡ or_bad_binding found → EndsFound old version now right result
+found-whole old version now given over right found ends finds result is =
+    let (text, more, reading, short, text_is, none) = ends in (
+      Some text,
+      Ok (listed version (given ++ more)),
+      reading,
+      subst (λ w. GivesRows w (Ok (listed version (given ++ more)))) (sym (text-fits text short))
+          (text_is.0, text_is.1),
+      by_right right found finds (more) none is,
+    )
+  where
+    by_right : (right : Result (List Row) BindFault) (found : Result Answer BindFault)
+        → FindsRows version right found given over → (more : List Row) → (over → more ≡ [])
+        → result ≡ or_bad_binding found
+        → IsAnswerTo version right (Ok (listed version (given ++ more))) result
+    by_right (Ok rights) (Ok answer) finds more none is =
+        (answer, is, refl, decided version rights given more over none answer finds)
+    by_right (Err own) (Err fault) finds more none is =
+        is ∙ ap (λ (f : BindFault). Err (BadBinding f)) (sym finds)
+    by_right (Ok rights) (Err fault) finds more none is = absurd finds
+    by_right (Err own) (Ok answer) finds more none is = absurd finds
+
+-- it has one
+pub found-faulty : (old : Reading) (version : Version) (now : Reading) (given : List Row) (over : Type 0)
+    (right : Result (List Row) BindFault) (fault : RowsFault) → EndsRows old version now given over (Err fault)
+    → (result : Result Answer Refusal) → result ≡ Err (rows_refusal fault)
+    → EndsFound old version now right result
+found-faulty old version now given over right fault ends result is =
+    let (bytes, reading, gives) = ends in
+    (bytes, Err (rows_refusal fault), reading, gives, is)
+
+-- ---- the answer
+
+module _ (skew : ℕ) (bound : BoundLines) (contents : Contents) (dump : Option (List ℕ))
+    (dump_is : dump_read dump ≡ Ok contents) where
+  said : Result Listed Refusal → Result (Listed × Trace) Refusal
+  said given = compared_settled skew (Ok bound) (dump_read dump) given
+
+  said_is : (given : Result Listed Refusal) → said given ≡ compared_settled skew (Ok bound) (Ok contents) given
+  unfolding said
+  said_is given = ap (λ (w : Result Contents Refusal). compared_settled skew (Ok bound) w given) dump_is
+
+  lacks : (refusal : Refusal) (w : Result (Listed × Trace) Refusal) → w ≡ Err refusal
+      → GivesConfirmation (Err refusal) w
+  lacks Memory w is = tt
+  lacks refusal w is = is
+
+  abbrev with_given : Listed → Result Trace BindFault → Result (Listed × Trace) Refusal
+  with_given given r = or_bad_binding r >>= λ t. Ok (given, t)
+
+  -- of the recording
+  pub confirms-found : (version : Version) (t : Trace) → settled_or skew (capture_of bound contents) ≡ Ok t
+      → (given : Result Listed Refusal) (found : Result Answer Refusal)
+      → IsAnswerTo version (Ok (rows_in version (recorded_rows t))) given found
+      → GivesConfirmation found (compared_settled skew (Ok bound) (dump_read dump) given)
+  unfolding said
+  confirms-found version t is (Err refusal) found found_is =
+      subst (λ f. GivesConfirmation f (said (Err refusal))) (sym found_is)
+      (lacks refusal (said (Err refusal)) (said_is (Err refusal)))
+  confirms-found version t is (Ok given) found found_is =
+      let (answer, same, version_is, decides) = found_is in
+      subst (λ f. GivesConfirmation f (said (Ok given))) (sym same) (
+        given,
+        t,
+        said_is (Ok given) ∙ ap (with_given given) is,
+        subst (λ (v : Version). DecidesListing given.rows (rows_in v (recorded_rows t)) answer) (sym version_is)
+            decides,
+      )
+
+  -- where there is none
+  pub confirms-none : (version : Version) (fault : BindFault) → capture_of bound contents ≡ Err fault
+      → (given : Result Listed Refusal) (found : Result Answer Refusal)
+      → IsAnswerTo version (Err fault) given found
+      → GivesConfirmation found (compared_settled skew (Ok bound) (dump_read dump) given)
+  unfolding said
+  confirms-none version fault is (Err refusal) found found_is =
+      subst (λ f. GivesConfirmation f (said (Err refusal))) (sym found_is)
+      (lacks refusal (said (Err refusal)) (said_is (Err refusal)))
+  confirms-none version fault is (Ok given) found found_is =
+      subst (λ f. GivesConfirmation f (said (Ok given))) (sym found_is)
+      (lacks (BadBinding fault) (said (Ok given))
+      (said_is (Ok given) ∙ ap (λ (r : Result Trace BindFault). with_given given (settled_or skew r)) is))
+
+-- where there is no dump
+pub confirms-refused : (skew : ℕ) (bound : BoundLines) (old now : Reading) (refusal : Refusal)
+    → IsDumpRefused old now refusal
+    → (dump : Option (List ℕ)) × IsReading old now dump
+    × GivesConfirmation (Err refusal) (compared_settled skew (Ok bound) (dump_read dump) (Err Memory))
+confirms-refused skew bound old now Memory is = (is.0, is.1, tt)
+confirms-refused skew bound old now refusal is = (
+  is.0,
+  is.1,
+  ap (λ (w : Result Contents Refusal). compared_settled skew (Ok bound) w (Err Memory)) is.2,
+)
+
+-- ---- what is found of a recording, or of none
+
+decides-so : {Source : Type 0} (is_over : Source → Type 0) (given right : List Row) (source : Source) (answer : Answer)
+    → Decides is_over given right source answer → DecidesSo given right (is_over source) answer
+decides-so is_over given right source Yes h = h
+decides-so is_over given right source (No row) h = h
+
+module _ {Whole Source : Type 0} (whole : Whole) (source : Source) (gave : Whole → Source → List Row → Type 0)
+    (is_over : Source → Type 0) (version : Version) (bound : BoundLines) (skew : ℕ) (old now : Reading)
+    (r : Result (Result Answer BindFault) Refusal) (compares : Compares gave is_over whole version bound skew old now r
+    source) where
+  pub compares-found : (found : Result Answer BindFault) → r ≡ Ok found
+      → (contents : Contents) × IsReadDump old now contents
+      × FindsOf gave is_over whole version bound skew contents found source
+  compares-found found is =
+      subst (λ (w : Result (Result Answer BindFault) Refusal). Compares gave is_over whole version bound skew old now w
+      source) is compares
+
+  pub compares-refused : (refusal : Refusal) → r ≡ Err refusal
+      → IsDumpRefused old now refusal × ((rows : List Row) × gave whole source rows)
+  compares-refused refusal is =
+      subst (λ (w : Result (Result Answer BindFault) Refusal). Compares gave is_over whole version bound skew old now w
+      source) is compares
+
+module _ {Whole Source : Type 0} (whole : Whole) (source : Source) (gave : Whole → Source → List Row → Type 0)
+    (is_over : Source → Type 0) (version : Version) (bound : BoundLines) (skew : ℕ) (contents : Contents)
+    (dump : Option (List ℕ)) (dump_is : dump_read dump ≡ Ok contents) where
+  pub found-of : (found : Result Answer BindFault)
+      → FindsOf gave is_over whole version bound skew contents found source
+      → (right : Result (List Row) BindFault) × (given : List Row) × gave whole source given
+      × FindsRows version right found given (is_over source)
+      × ((listing : Result Listed Refusal) (result : Result Answer Refusal) → IsAnswerTo version right listing result
+      → GivesConfirmation result (compared_settled skew (Ok bound) (dump_read dump) listing))
+  found-of (Ok answer) finds =
+      let (t, is, rest) = finds in
+      let (more, gives, decides) = rest in (
+        Ok (rows_in version (recorded_rows t)),
+        more,
+        gives,
+        decides-so is_over more (rows_in version (recorded_rows t)) source answer decides,
+        confirms-found skew bound contents dump dump_is version t is,
+      )
+  found-of (Err fault) finds =
+      let (rows, gives) = finds.1 in
+      (Err fault, rows, gives, refl, confirms-none skew bound contents dump dump_is version fault finds.0)
+
+-- the dump is read somehow
+pub begun-read : (bound : BoundLines) (old now : Reading) (input : InputSoFar) (begun : Begun)
+    → BeginsDump bound old now input (Ok begun) → (bytes : Option (List ℕ)) × IsReading old now bytes
+begun-read bound old now input (Body r) at = some-reading old now at.done input at.read
+begun-read bound old now input (Unusable fault) is =
+    let (contents, dump, fault_is) = is in
+    (Some dump.text, dump.reading)

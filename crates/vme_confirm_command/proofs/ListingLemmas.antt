@@ -1,0 +1,137 @@
+-- The rows of a listing as they are given.
+use Rattle.std.proofs.Common.{◌≡◌, ◌≤◌, ℕ, true, false, List, [], ◌∷◌, ◌++◌, length, Option, None, Some, ap, subst, ◌∙◌}
+use Rattle.std.proofs.Common.{append_assoc}
+use Rattle.std.specs.Prelude.{MatchOption, Result, Ok, Err, is_some}
+use Rattle.vme_trace.specs.Streams.{Reading}
+use Rattle.vme_listing.specs.Reading.{IsTextOfListing, RowsSoFar, listed}
+use Rattle.vme_listing.specs.declared.fault.ListFault.{ListFault}
+use Rattle.vme_listing.specs.declared.row.Row.{Row}
+use Rattle.vme_listing.specs.declared.row.Version.{Version}
+use Rattle.vme_stream.specs.declared.input.InFault.{InFault}
+use Rattle.vme_confirm_command.specs.Confirmations.{longest_listing}
+use Rattle.vme_confirm_command.specs.HeldInputs.{FailsAs, InputSoFar, IsAllOf}
+use Rattle.vme_confirm_command.specs.RowsOfListing.{AreRead, EndsAt, EndsRows, GaveRows, HasTextFault, IsOver, IsWholeText}
+use Rattle.vme_confirm_command.specs.RowsOfListing.{ReadsRow}
+use Rattle.vme_confirm_command.specs.declared.rows_fault.RowsFault.{RowsFault}
+use Rattle.vme_confirm_command.specs.declared.rows_fault.RowsFault.TheVariants.{Input, Text}
+use Rattle.vme_confirm_command.proofs.HeldLemmas.{all-read}
+use Rattle.vme_confirm_command.proofs.RowLemmas.{ends-whole, input-refused, text-refused, whole-text}
+
+-- ---- one row more
+
+module _ (old : Reading) (version : Version) (now : Reading) (input : InputSoFar) (rows : List Row) where
+  pub ends-none : (fault : Option RowsFault) → GaveRows old version now input None fault rows
+      → EndsAt old version now input None fault rows
+  ends-none (Some fault) gave = gave
+  ends-none None gave = absurd gave
+
+  pub rows-read : (so_far : RowsSoFar) (fault : Option RowsFault) → fault ≡ None
+      → GaveRows old version now input (Some so_far) fault rows
+      → (input.limit ≡ longest_listing) × (so_far.version ≡ version) × AreRead old now input (Ok so_far) rows
+  rows-read so_far None none gave = gave
+  rows-read so_far (Some fault) none gave = absurd (cc)
+
+  pub gives-on : (so_far : RowsSoFar) (fault : Option RowsFault) → fault ≡ None → input.limit ≡ longest_listing
+      → so_far.version ≡ version → (row : Option Row) → ReadsRow old now input so_far rows (Ok row)
+      → MatchOption row (EndsAt old version now input (Some so_far) fault rows)
+      (λ row. GaveRows old version now input (Some so_far) fault (rows ++ row ∷ []))
+  gives-on so_far (Some fault) none limit same row reads = absurd (cc)
+  gives-on so_far None none limit same (Some row) reads = (limit, same, reads)
+  gives-on so_far None none limit same None reads =
+      let (done, read, whole) = reads.1 in (
+        (limit, same, reads.0),
+        (done, read, subst (λ (v : Version). IsWholeText done input v rows) same whole),
+      )
+
+pub over-none : (fault : Option RowsFault) → IsOver None fault
+over-none None = tt
+over-none (Some fault) = tt
+
+pub over-at : (so_far : RowsSoFar) (fault : Option RowsFault) → fault ≡ None → IsOver (Some so_far) None
+    → IsOver (Some so_far) fault
+over-at so_far None none over = over
+over-at so_far (Some fault) none over = tt
+
+pub is-over-at : (so_far : RowsSoFar) (fault : Option RowsFault) → fault ≡ None → IsOver (Some so_far) fault
+    → IsOver (Some so_far) None
+is-over-at so_far None none over = over
+is-over-at so_far (Some fault) none over = absurd (cc)
+
+-- one more was given, or none is
+
+module _ (old : Reading) (version : Version) (now : Reading) (input : InputSoFar) (pieces : Option RowsSoFar)
+    (fault : Option RowsFault) (given : List Row) where
+  abbrev Gives : Option Row → Type 0
+  Gives row = MatchOption row (EndsAt old version now input pieces fault given)
+      (λ r. GaveRows old version now input pieces fault (given ++ r ∷ []))
+
+  pub one-more : (row : Option Row) → is_some row ≡ true → Gives row
+      → (r : Row) × GaveRows old version now input pieces fault (given ++ r ∷ [])
+  one-more (Some r) some h = (r, h)
+  one-more None some h = absurd (cc)
+
+  pub no-more : (row : Option Row) → is_some row ≡ false → Gives row
+      → EndsAt old version now input pieces fault given
+  no-more None none h = h
+  no-more (Some r) none h = absurd (cc)
+
+pub never-some : (row : Option Row) → is_some row ≡ true → row ≡ None → ⊥
+never-some None some none = cc
+never-some (Some r) some none = cc
+
+-- ---- the end
+
+-- the listing is whole
+pub whole-ends : (old : Reading) (version : Version) (now : Reading) (input : InputSoFar) (pieces : Option RowsSoFar)
+    (fault : Option RowsFault) → fault ≡ None → (rows more : List Row) (over : Type 0) → (over → more ≡ [])
+    → EndsAt old version now input pieces fault (rows ++ more) → EndsRows old version now rows over (Ok tt)
+whole-ends old version now input pieces (Some fault) none rows more over none_more ends = absurd (cc)
+whole-ends old version now input None None none rows more over none_more ends = absurd ends
+whole-ends old version now input (Some so_far) None none rows more over none_more ends =
+    let (done, read, whole) = ends.1 in
+    let all = all-read old now done input read (ends-whole done input version (rows ++ more) whole) in (
+      done ++ input.held,
+      more,
+      all.0,
+      subst (λ n. length (done ++ input.held) ≤ n) ends.0.0 all.1,
+      whole-text done input version (rows ++ more) whole,
+      none_more,
+    )
+
+-- there is a fault
+pub fault-gave : (old : Reading) (version : Version) (now : Reading) (input : InputSoFar) (pieces : Option RowsSoFar)
+    (given : Option RowsFault) (fault : RowsFault) → given ≡ Some fault → (rows : List Row)
+    → EndsAt old version now input pieces given rows → GaveRows old version now input pieces (Some fault) rows
+fault-gave old version now input pieces None fault is rows ends = absurd (cc)
+fault-gave old version now input pieces (Some own) fault is rows ends =
+    subst (λ (f : Option RowsFault). GaveRows old version now input pieces f rows) is ends
+
+-- more rows were given before it
+pub ends-behind : (old : Reading) (version : Version) (now : Reading) (rows more : List Row) (over : Type 0)
+    → (over → more ≡ []) → (result : Result (Unit {0}) RowsFault)
+    → EndsRows old version now (rows ++ more) (Unit {0}) result → EndsRows old version now rows over result
+ends-behind old version now rows more over none_more (Err fault) ends = ends
+ends-behind old version now rows more over none_more (Ok u) ends =
+    let (text, rest, reading, short, is, none) = ends in (
+      text,
+      more ++ rest,
+      reading,
+      short,
+      subst (λ (l : List Row). IsTextOfListing text (listed version l)) (append_assoc rows more rest) is,
+      λ o. ap (λ (l : List Row). l ++ rest) (none_more o) ∙ none tt,
+    )
+
+module _ (old : Reading) (version : Version) (now : Reading) (rows : List Row) where
+  pub input-ends : (fault : InFault) → FailsAs longest_listing old now fault
+      → EndsRows old version now rows (Unit {0}) (Err (Input fault))
+  input-ends fault fails = input-refused old now fault fails
+
+  -- the text has a fault, and all of it was read
+  pub text-ends : (done : List ℕ) (input : InputSoFar) (more : List ℕ) (fault : ListFault)
+      → IsAllOf old now (done ++ (input.held ++ more)) longest_listing → HasTextFault done input fault
+      → (input.is_whole ≡ true → more ≡ []) → EndsRows old version now rows (Unit {0}) (Err (Text fault))
+  text-ends done input more fault all has ends = (
+    Some (done ++ (input.held ++ more)),
+    all.0,
+    text-refused (done ++ (input.held ++ more)) fault all.1 (has more ends),
+  )

@@ -1,0 +1,188 @@
+-- The rows of a listing as its bytes are read.
+use Rattle.std.proofs.Common.{◌≡◌, ℕ, ◌+◌, ◌^◌, ◌≤◌, ◌<◌, Bool, true, false, List, [], ◌∷◌, ◌++◌, length, take, drop}
+use Rattle.std.proofs.Common.{Option, None, Some, refl, sym, ap, subst, ◌∙◌, arith, append_assoc, append-nil, length-append}
+use Rattle.std.proofs.Common.{length-drop, take-append-drop}
+use Rattle.std.specs.Prelude.{Ok, Err, is_none}
+use Rattle.vme_trace.specs.Streams.{Reading}
+use Rattle.vme_listing.specs.Reading.{HasRead, IsFaultOfText, IsFollowedBy, IsTextOfListing}
+use Rattle.vme_listing.specs.Reading.{RowsSoFar, behind_rows, listed}
+use Rattle.vme_listing.specs.declared.fault.ListFault.{ListFault}
+use Rattle.vme_listing.specs.declared.row.Row.{Row}
+use Rattle.vme_listing.specs.declared.row.Version.{Version}
+use Rattle.vme_stream.specs.Inputs.{IsReading}
+use Rattle.vme_stream.specs.declared.input.InFault.{InFault}
+use Rattle.vme_stream.specs.declared.input.InFault.TheVariants as failed
+use Rattle.vme_answer.specs.Refusals.{listing_refusal}
+use Rattle.vme_answer.specs.declared.refusal.Input.TheVariants.{Listing}
+use Rattle.vme_answer.specs.declared.refusal.Refusal.TheVariants.{TooLong}
+use Rattle.vme_confirm_command.specs.Confirmations.{GivesRows, listing_text, longest_listing}
+use Rattle.vme_confirm_command.specs.HeldInputs.{FailsAs, InputSoFar, IsReadTo}
+use Rattle.vme_confirm_command.specs.RowsOfListing.{AreCounted, GaveRows, IsSomeReading, rows_refusal}
+use Rattle.vme_confirm_command.specs.declared.rows_fault.RowsFault.{RowsFault}
+use Rattle.vme_confirm_command.specs.declared.rows_fault.RowsFault.TheVariants.{Input, Text}
+use Rattle.vme_confirm_command.proofs.ConfirmLemmas.{listing_fault, text-fits, text-long}
+use Rattle.vme_confirm_command.specs.RowsOfListing.{AreRead, HasReadRows, IsCounted, HoldsMore, IsWholeText}
+use Rattle.vme_confirm_command.proofs.HeldLemmas.{some-reading, taken-first}
+
+-- ---- more bytes are held
+
+pub fill-none : (input : InputSoFar) → HoldsMore input input
+fill-none input = record {
+  more = [];
+  held = sym (append-nil input.held);
+  none = λ whole. (refl, whole);
+  limit = refl;
+}
+
+pub fill-more : (first now later : InputSoFar) (more : List ℕ) → HoldsMore first now → later.held ≡ now.held ++ more
+    → later.limit ≡ now.limit → now.is_whole ≡ false → HoldsMore first later
+fill-more first now later more filled held limit going = record {
+  more = filled.more ++ more;
+  held = held ∙ ap (λ l. l ++ more) filled.held ∙ append_assoc first.held filled.more more;
+  none = λ whole. let ended = (filled.none whole).1 in absurd (cc);
+  limit = limit ∙ filled.limit;
+}
+
+-- what follows a shorter front
+followed : (old new : InputSoFar) (filled : HoldsMore old new) (future : List ℕ) → IsFollowedBy new.is_whole future
+    → IsFollowedBy old.is_whole (filled.more ++ future)
+followed old new filled future ends whole =
+    let none = filled.none whole in
+    ap (λ l. l ++ future) none.0 ∙ ends none.1
+
+behind : (old new : InputSoFar) (filled : HoldsMore old new) (future : List ℕ)
+    → old.held ++ (filled.more ++ future) ≡ new.held ++ future
+behind old new filled future =
+    sym (append_assoc old.held filled.more future) ∙ ap (λ l. l ++ future) (sym filled.held)
+
+pub rows-filled : (done : List ℕ) (old new : InputSoFar) (so_far : RowsSoFar) (rows : List Row) → HoldsMore old new
+    → HasReadRows done old so_far rows → HasReadRows done new so_far rows
+rows-filled done old new so_far rows filled has future ends =
+    subst (λ l. HasRead (done ++ l) rows (behind_rows so_far l)) (behind old new filled future)
+    (has (filled.more ++ future) (followed old new filled future ends))
+
+-- ---- some of them are taken
+
+module _ (done held : List ℕ) (n : ℕ) where
+  pub split-at : (future : List ℕ) → (done ++ take n held) ++ (drop n held ++ future) ≡ done ++ (held ++ future)
+  split-at future =
+      append_assoc done (take n held) (drop n held ++ future)
+      ∙ ap (λ l. done ++ l) (sym (append_assoc (take n held) (drop n held) future))
+      ∙ ap (λ l. done ++ (l ++ future)) (take-append-drop n held)
+
+module _ (old now : Reading) (done : List ℕ) (input : InputSoFar) (h : IsReadTo old now done input) (n : ℕ)
+    (within : n ≤ length input.held) (so_far : RowsSoFar) (rows : List Row) where
+  -- rows are read in them
+  pub rows-taken : ((future : List ℕ) → IsFollowedBy input.is_whole future
+      → HasRead (done ++ (input.held ++ future)) rows (behind_rows so_far (drop n input.held ++ future)))
+      → AreRead old now (record input { held = drop n input.held }) (Ok so_far) rows
+  rows-taken has = (
+    done ++ take n input.held,
+    taken-first old now done input h n within,
+    λ future ends. subst (λ l. HasRead l rows (behind_rows so_far (drop n input.held ++ future)))
+        (sym (split-at done input.held n future)) (has future ends),
+  )
+
+-- and counted
+pub counted-filled : (so_far : RowsSoFar) (old new : InputSoFar)
+    → new.read + length old.held ≡ old.read + length new.held → (old.read < 2 ^ 62 → new.read < 2 ^ 62)
+    → IsCounted so_far old → IsCounted so_far new
+counted-filled so_far old new same small counted = (omega (arith, same, counted.0), small counted.1)
+
+pub counted-next : (old new : RowsSoFar) (input : InputSoFar) (n : ℕ) → IsCounted old input → new.count ≡ old.count + 1
+    → 0 < n → n ≤ length input.held → IsCounted new (record input { held = drop n input.held })
+counted-next old new input n counted one some within =
+    (omega (arith, counted.0, one, some, within, length-drop n input.held), counted.1)
+
+pub counted-first : (so_far : RowsSoFar) (input : InputSoFar) (n : ℕ) → so_far.count ≡ 0 → input.read < 2 ^ 62
+    → length input.held ≤ input.read → IsCounted so_far (record input { held = drop n input.held })
+counted-first so_far input n none small within = (omega (arith, none, within, length-drop n input.held), small)
+
+-- ---- the end of a listing
+
+longer : (text : List ℕ) (byte : ℕ) → text ≡ text ++ byte ∷ [] → ⊥
+longer text byte e = omega (arith, ap length e, length-append text (byte ∷ []))
+
+-- a listing that is whole whatever follows is followed by nothing
+pub ends-whole : (done : List ℕ) (input : InputSoFar) (version : Version) (rows : List Row)
+    → IsWholeText done input version rows → input.is_whole ≡ true
+ends-whole done input version rows whole = by_flag input.is_whole refl
+  where
+    by_flag : (flag : Bool) → input.is_whole ≡ flag → input.is_whole ≡ true
+    by_flag true e = e
+    by_flag false e =
+        let none = whole [] (λ ends. refl) in
+        let one = whole (0 ∷ []) (λ ends. absurd (cc)) in
+        absurd (longer (done ++ (input.held ++ [])) 0
+        (sym none.1 ∙ (one.1 ∙ (ap (λ l. done ++ (l ++ 0 ∷ [])) (sym (append-nil input.held))
+        ∙ sym (append_assoc done (input.held ++ []) (0 ∷ []))))))
+
+pub whole-text : (done : List ℕ) (input : InputSoFar) (version : Version) (rows : List Row)
+    → IsWholeText done input version rows → IsTextOfListing (done ++ input.held) (listed version rows)
+whole-text done input version rows whole =
+    subst (λ l. IsTextOfListing (done ++ l) (listed version rows)) (append-nil input.held) (whole [] (λ ends. refl))
+
+-- ---- the rows of a listing
+
+-- where rows are read there is no fault
+pub no-fault : (so_far : RowsSoFar) (fault : Option RowsFault) (input : InputSoFar)
+    → AreCounted (Some so_far) fault input → fault ≡ None
+no-fault so_far fault input counted = by_fault fault (counted so_far refl).0
+  where
+    by_fault : (f : Option RowsFault) → is_none f ≡ true → f ≡ None
+    by_fault None e = refl
+    by_fault (Some own) e = absurd (cc)
+
+pub are-counted : (so_far : RowsSoFar) (fault : Option RowsFault) (input : InputSoFar) → fault ≡ None
+    → IsCounted so_far input → AreCounted (Some so_far) fault input
+are-counted so_far fault input none counted x is =
+    (ap is_none none, subst (λ (u : RowsSoFar). IsCounted u input) (same x is) counted)
+  where
+    same : (x : RowsSoFar) → ◌≡◌ {A = Option RowsSoFar} (Some so_far) (Some x) → so_far ≡ x
+    same x e = cc
+
+pub is-counted : (so_far : RowsSoFar) (fault : Option RowsFault) (input : InputSoFar)
+    → AreCounted (Some so_far) fault input → IsCounted so_far input
+is-counted so_far fault input counted = (counted so_far refl).1
+
+pub none-counted : (fault : Option RowsFault) (input : InputSoFar) → AreCounted None fault input
+none-counted fault input x is = absurd (cc)
+
+-- what was read of a source is some reading of it
+pub read-some-how : (old : Reading) (version : Version) (now : Reading) (input : InputSoFar) (pieces : Option RowsSoFar)
+    (fault : Option RowsFault) (rows : List Row) → GaveRows old version now input pieces fault rows
+    → IsSomeReading old now
+read-some-how old version now input pieces (Some (Text fault)) rows gave =
+    let (done, read, has) = gave.1 in
+    some-reading old now done input read
+read-some-how old version now input pieces (Some (Input fault)) rows gave = fails-some fault gave.1
+  where
+    fails-some : (fault : InFault) → FailsAs longest_listing old now fault → IsSomeReading old now
+    fails-some failed.Read fails = (None, fails)
+    fails-some failed.TooLong fails = (Some fails.0, fails.2)
+    fails-some failed.Memory fails = fails
+read-some-how old version now input (Some so_far) None rows gave =
+    let (done, read, has) = gave.2 in
+    some-reading old now done input read
+read-some-how old version now input None None rows gave = absurd gave
+
+-- ---- the end
+
+-- the text of a listing with a fault
+pub text-refused : (text : List ℕ) (fault : ListFault) → length text ≤ longest_listing → IsFaultOfText text fault
+    → GivesRows (listing_text (Some text)) (Err (rows_refusal (Text fault)))
+text-refused text fault short is =
+    subst (λ w. GivesRows w (Err (listing_refusal fault))) (sym (text-fits text short))
+    (listing_fault text fault is.0 is.1)
+
+-- a listing that can't be had
+pub input-refused : (old now : Reading) (fault : InFault) → FailsAs longest_listing old now fault
+    → (bytes : Option (List ℕ)) × IsReading old now bytes
+    × GivesRows (listing_text bytes) (Err (rows_refusal (Input fault)))
+input-refused old now failed.Read fails = (None, fails, refl)
+input-refused old now failed.TooLong fails = (
+  Some fails.0,
+  fails.2,
+  subst (λ w. GivesRows w (Err (TooLong Listing))) (sym (text-long fails.0 fails.1)) refl,
+)
+input-refused old now failed.Memory fails = (fails.0, fails.1, tt)

@@ -1,0 +1,149 @@
+-- Steps that are compared one by one.
+use Rattle.std.proofs.Common.{◌≡◌, ℕ, ◌+◌, ◌≤◌, ◌<◌, Bool, true, false, List, [], ◌∷◌, ◌++◌, length, take}
+use Rattle.std.proofs.Common.{get_or, Option, None, Some, refl, sym, ap, ◌∙◌, arith, append_assoc, append-nil, length-append}
+use Rattle.std.specs.Prelude.{Ok, Err, nat_lt, slice_get}
+use Rattle.std.proofs.lemmas.Bool.Decides.{nat_tests}
+use Rattle.std.proofs.lemmas.List.{get_or-append-add, length-take-le, take_all}
+use Rattle.std.proofs.lemmas.Option.{same_Some, slice_get-get_or, slice_get_read, slice_get_within}
+use Rattle.std.proofs.Math.Seq.{take-append-add}
+use Rattle.vme_trace.specs.Followed.{with_steps}
+use Rattle.vme_trace.specs.Levels.{Levels}
+use Rattle.vme_trace.specs.Trace.{Trace, levels_at}
+use Rattle.vme_trace.specs.WellFormed.{are_changes, capture_limit, malformed_step}
+use Rattle.vme_trace.specs.declared.step.Step.{Step}
+use Rattle.vme_trace.proofs.CutBlocks.{levels_at-taken, taken_more}
+use Rattle.vme_bind.specs.Capture.{limited}
+use Rattle.vme_bind.specs.declared.fault.BindKind.TheVariants.{TooManySteps}
+use Rattle.vme_skew.specs.Settled.{settled_until}
+use Rattle.vme_skew.specs.Settling.{Settling}
+use Rattle.vme_skew.proofs.Complete.{until-front}
+use Rattle.vme_skew.proofs.Laws.{no_longer}
+use Rattle.vme_cert.specs.Checking.{MayGoOn, last_levels}
+use Rattle.vme_cert.proofs.Steps.{sound-step}
+use Rattle.vme_dump_steps.specs.SettledReadings.{settled_so_far, settled_whole}
+use Rattle.vme_dump_steps.specs.SettledSteps.{ComesOut}
+use Rattle.vme_confirm_command.specs.StepChecks.{ComesTo, StepsMayFollow}
+
+-- ---- one step more of some
+
+found_behind : (xs ys : List Step) (k : ℕ) (y : Step) → slice_get ys k ≡ Some y
+    → slice_get (xs ++ ys) (length xs + k) ≡ Some y
+found_behind xs ys k y is =
+    let below = slice_get_within ys k y is in
+    let same : y ≡ get_or ys k y = same_Some y (get_or ys k y) (sym is ∙ slice_get-get_or ys k y below) in
+    slice_get_read (xs ++ ys) (length (xs ++ ys)) (length xs + k) y refl
+    (omega (arith, below, length-append xs ys)) (same ∙ sym (get_or-append-add xs ys k y))
+
+module _ (recorded : Trace) (steps : List Step) (i : ℕ) (step : Step) (found : slice_get steps i ≡ Some step) where
+  pub next-to : with_steps (with_steps recorded (take i steps)) (step ∷ []) ≡ with_steps recorded (take (i + 1) steps)
+  next-to =
+      ap (λ (l : List Step). record recorded { steps = l }) (append_assoc recorded.steps (take i steps) (step ∷ [])
+      ∙ ap (λ (l : List Step). recorded.steps ++ l) (sym (taken_more steps i step found)))
+
+  pub may-next : StepsMayFollow recorded steps → MayGoOn (with_steps recorded (take i steps)) step
+  may-next may =
+      let below = slice_get_within steps i step found in
+      let few : length (take i steps) ≡ i = length-take-le i steps (omega (arith, below)) in
+      let t = with_steps recorded steps in
+      let n : ℕ = length recorded.steps + i in
+      let levels : levels_at t n ≡ last_levels (with_steps recorded (take i steps)) =
+      levels_at-taken t n ∙ ap (λ (l : List Step). last_levels (record recorded { steps = l }))
+      (take-append-add recorded.steps steps i) in
+      record {
+        within = omega (arith, may.within, below, few, length-append recorded.steps (take i steps));
+        sound = ap (λ (w : Levels). are_changes w 0 step.changes) (sym levels)
+            ∙ sound-step t n step (found_behind recorded.steps steps i step found) may.formed;
+      }
+
+pub none-taken : (recorded : Trace) (steps : List Step) → with_steps recorded (take 0 steps) ≡ recorded
+none-taken recorded steps = ap (λ (l : List Step). record recorded { steps = l }) (append-nil recorded.steps)
+
+pub all-of : (steps : List Step) (i : ℕ) → length steps ≤ i → take i steps ≡ steps
+all-of steps i past = take_all i steps past
+
+-- ---- how many steps there are
+
+so-far-shorter : (skew : Option ℕ) (time : ℕ) (t : Trace)
+    → length (settled_so_far skew time t).steps ≤ length t.steps
+so-far-shorter None time t = omega arith
+so-far-shorter (Some skew) time t =
+    let (rest, is) = until-front skew time t in
+    omega (
+      arith,
+      no_longer skew t,
+      ap (λ (u : Trace). length u.steps) is,
+      length-append (settled_until skew time t).steps rest,
+    )
+
+whole-shorter : (skew : Option ℕ) (t : Trace) → length (settled_whole skew t).steps ≤ length t.steps
+whole-shorter None t = omega arith
+whole-shorter (Some skew) t = no_longer skew t
+
+module _ (skew : Option ℕ) (t given : Trace) (made : List Step) (few : length given.steps ≤ capture_limit) where
+  pub may-so_far : (time : ℕ) → with_steps t made ≡ settled_so_far skew time given
+      → malformed_step (settled_so_far skew time given) ≡ None → StepsMayFollow t made
+  may-so_far time is formed = record {
+    formed = ap malformed_step is ∙ formed;
+    within = omega (
+      arith,
+      few,
+      so-far-shorter skew time given,
+      ap (λ (u : Trace). length u.steps) is,
+      length-append t.steps made,
+    );
+  }
+
+  pub may-whole : with_steps t made ≡ settled_whole skew given → malformed_step (settled_whole skew given) ≡ None
+      → StepsMayFollow t made
+  may-whole is formed = record {
+    formed = ap malformed_step is ∙ formed;
+    within = omega (
+      arith,
+      few,
+      whole-shorter skew given,
+      ap (λ (u : Trace). length u.steps) is,
+      length-append t.steps made,
+    );
+  }
+
+-- too many came
+pub many-came : (skew : Option ℕ) (given : Trace) (time : ℕ) (settler : Option Settling) (count : ℕ) (flag : Bool)
+    (t : Trace) (steps : List Step) → ComesTo skew given time settler count flag t
+    → (flag ≡ false → capture_limit < count + length steps)
+    → capture_limit < length (given.steps ++ steps)
+many-came skew given time settler count true t steps comes many =
+    omega (arith, comes, length-append given.steps steps)
+many-came skew given time settler count false t steps comes many =
+    omega (arith, comes.0, many refl, length-append given.steps steps)
+
+pub not-many : (skew : Option ℕ) (given : Trace) (time : ℕ) (settler : Option Settling) (count : ℕ) (flag : Bool)
+    (t : Trace) → ComesTo skew given time settler count flag t → flag ≡ false
+    → (count ≡ length given.steps) × (count ≤ capture_limit) × ComesOut skew settler given time t
+not-many skew given time settler count true t comes e = absurd (cc)
+not-many skew given time settler count false t comes e = comes
+
+pub comes-many : (skew : Option ℕ) (given : Trace) (time : ℕ) (settler : Option Settling) (count : ℕ) (flag : Bool)
+    (t : Trace) → flag ≡ true → capture_limit < length given.steps → ComesTo skew given time settler count flag t
+comes-many skew given time settler count true t e many = many
+comes-many skew given time settler count false t e many = absurd (cc)
+
+pub comes-few : (skew : Option ℕ) (given : Trace) (time : ℕ) (settler : Option Settling) (count : ℕ) (flag : Bool)
+    (t : Trace) → flag ≡ false → count ≡ length given.steps → count ≤ capture_limit
+    → ComesOut skew settler given time t → ComesTo skew given time settler count flag t
+comes-few skew given time settler count true t e same few comes = absurd (cc)
+comes-few skew given time settler count false t e same few comes = (same, few, comes)
+
+-- ---- the limit of a recording
+
+below_limit : (n : ℕ) → n ≤ capture_limit → nat_lt capture_limit n ≡ false
+below_limit n few = grind (arith, nat_tests)
+
+past_limit : (n : ℕ) → capture_limit < n → nat_lt capture_limit n ≡ true
+past_limit n many = grind (arith, nat_tests)
+
+pub limited-fits : (t : Trace) → length t.steps ≤ capture_limit → limited t ≡ Ok t
+limited-fits t few = rw (below_limit (length t.steps) few) refl
+
+pub limited-long : (t : Trace) → capture_limit < length t.steps
+    → limited t ≡ Err (record { line = 0; kind = TooManySteps })
+limited-long t many = rw (past_limit (length t.steps) many) refl

@@ -1,0 +1,64 @@
+-- Settled by 0, what is compared stays.
+use Rattle.std.proofs.Common.{◌≡◌, ℕ, Bool, true, false, List, length, refl, ap}
+use Rattle.std.specs.Prelude.{Option, Some, None, Result, Ok, Err, nat_le, if◌then◌else◌}
+use Rattle.vcd_read.specs.Contents.{Contents}
+use Rattle.vcd_read.specs.Header.{◌>>=◌}
+use Rattle.vcd_read.specs.Meaning.{dump_of}
+use Rattle.vcd_read.specs.declared.fault.VcdFault.{VcdFault}
+use Rattle.vme_trace.specs.Trace.{Trace}
+use Rattle.vme_bind.specs.Binding.{BoundLines}
+use Rattle.vme_bind.specs.declared.fault.BindFault.{BindFault}
+use Rattle.vme_listing.specs.Listed.{Listed}
+use Rattle.vme_skew.proofs.CapturesStay.{capture-stays}
+use Rattle.vme_stream.specs.Inputs.{longest_input}
+use Rattle.vme_answer.specs.Answers.{binding_read, dump_read, or_bad_binding, or_bad_dump}
+use Rattle.vme_answer.specs.declared.refusal.Input.TheVariants.{Dump}
+use Rattle.vme_answer.specs.declared.refusal.Refusal.{Refusal}
+use Rattle.vme_answer.specs.declared.refusal.Refusal.TheVariants.{TooLong}
+use Rattle.vme_confirm_command.specs.Confirmations.{compared, compared_settled}
+
+-- the contents, if there are any, are those of a text
+abbrev OfText : Result Contents Refusal → Type 0
+OfText (Ok contents) = (bytes : List ℕ) × (dump_of bytes ≡ Ok contents)
+OfText (Err refusal) = Unit {0}
+
+of_dump : (bytes : List ℕ) (r : Result Contents VcdFault) → dump_of bytes ≡ r → OfText (or_bad_dump r)
+of_dump bytes (Ok contents) is = (bytes, is)
+of_dump bytes (Err fault) is = tt
+
+abbrev or_dumped : List ℕ → Result Contents Refusal
+or_dumped bytes = or_bad_dump (dump_of bytes)
+
+abbrev whole_if : List ℕ → Bool → Result (List ℕ) Refusal
+whole_if bytes short = if short then Ok bytes else Err (TooLong Dump)
+
+of_text : (d : Option (List ℕ)) → OfText (dump_read d)
+unfolding dump_read
+of_text None = tt
+of_text (Some bytes) = by_test (nat_le (length bytes) longest_input)
+  where
+    by_test : (short : Bool) → OfText (whole_if bytes short >>= or_dumped)
+    by_test true = of_dump bytes (dump_of bytes) refl
+    by_test false = tt
+
+abbrev with_listed : Listed → Result Trace BindFault → Result (Listed × Trace) Refusal
+with_listed given recorded = or_bad_binding recorded >>= λ t. Ok (given, t)
+
+pub compared-stays : (b d : Option (List ℕ)) (given : Result Listed Refusal)
+    → compared_settled 0 (binding_read b) (dump_read d) given ≡ compared (binding_read b) (dump_read d) given
+compared-stays b d given = by_binding (binding_read b)
+  where
+    by_given : (bound : BoundLines) (contents : Contents) → OfText (Ok contents) → (given : Result Listed Refusal)
+        → compared_settled 0 (Ok bound) (Ok contents) given ≡ compared (Ok bound) (Ok contents) given
+    by_given bound contents of (Ok listing) = ap (with_listed listing) (capture-stays bound of.0 contents of.1)
+    by_given bound contents of (Err r) = refl
+
+    by_dump : (bound : BoundLines) (read : Result Contents Refusal) → OfText read
+        → compared_settled 0 (Ok bound) read given ≡ compared (Ok bound) read given
+    by_dump bound (Ok contents) of = by_given bound contents of given
+    by_dump bound (Err r) of = refl
+
+    by_binding : (r : Result BoundLines Refusal) → compared_settled 0 r (dump_read d) given
+        ≡ compared r (dump_read d) given
+    by_binding (Ok bound) = by_dump bound (dump_read d) (of_text d)
+    by_binding (Err r) = refl

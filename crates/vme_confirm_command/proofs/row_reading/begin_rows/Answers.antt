@@ -1,0 +1,44 @@
+-- The rows begin behind the header.
+use Rattle.std.proofs.Common.{◌≤◌, ℕ, Bool, List, [], ◌++◌, drop, length, refl, subst, sym, arith}
+use Rattle.std.specs.Prelude.{Ok}
+use Rattle.vme_listing.specs.Reading.{HasNoListing, HasRead, IsFirstFault, IsFollowedBy, behind_rows}
+use Rattle.vme_listing.specs.declared.fault.ListFault.TheVariants.{BadHeader}
+use Rattle.vme_confirm_command.specs.HeldInputs.{FailsAs, InputSoFar}
+use Rattle.vme_confirm_command.specs.RowsOfListing.{AreRead, IsCounted}
+use Rattle.vme_confirm_command.proofs.RowLemmas.{counted-first, rows-taken}
+use Rattle.vme_confirm_command.proofs.row_reading.begin_rows.Goals as goal
+
+pub returns-in-Err-clause-begun : goal.returns-in-Err-clause-begun
+returns-in-Err-clause-begun g c old read limit =
+    subst (λ n. FailsAs n old (g.L.Source.reading c.fill.new.source) c.in-Err.fault) limit
+    (c.in-Err.ensures.fails old [] read)
+
+pub returns-in-Some-clause-begun : goal.returns-in-Some-clause-begun
+returns-in-Some-clause-begun g c old read limit =
+    let now = g.L.Source.reading c.fill.new.source in
+    let n = c.in-Some.count in
+    let pieces = c.in-Some.pieces in
+    subst (λ (i : InputSoFar). AreRead old now i (Ok pieces) []) (sym c.take_first.ensures)
+    (rows-taken old now [] c.fill.new.input (c.in_default.ensures.read old [] read) n
+    (subst (λ (l : List ℕ). n ≤ length l) c.bytes.ensures.held c.in-Some.ensures.within) pieces []
+    (λ future ends. subst (λ (l : List ℕ). HasRead (l ++ future) [] (behind_rows pieces (drop n l ++ future)))
+    c.bytes.ensures.held (c.in-Some.ensures.read future)))
+
+pub returns-in-None-clause-begun : goal.returns-in-None-clause-begun
+returns-in-None-clause-begun g c old read limit = (
+  [],
+  c.in_default.ensures.read old [] read,
+  λ future ends.
+      let follows = subst (λ (b : Bool). IsFollowedBy b future) (sym c.is_whole.ensures) ends in (
+        subst (λ (l : List ℕ). IsFirstFault (l ++ future) BadHeader) c.bytes.ensures.held
+            (c.in-None.ensures.fault future follows refl),
+        subst (λ (l : List ℕ). HasNoListing (l ++ future)) c.bytes.ensures.held
+            (c.in-None.ensures.none future follows refl),
+      ),
+)
+
+pub returns-in-Some-clause-counted : goal.returns-in-Some-clause-counted
+returns-in-Some-clause-counted g c =
+    subst (IsCounted c.in-Some.pieces) (sym c.take_first.ensures)
+    (counted-first c.in-Some.pieces c.fill.new.input c.in-Some.count c.in-Some.ensures.first
+    (c.fill.ensures.small c.requires.small) (omega (arith, c.fill.ensures.counted, c.requires.held)))

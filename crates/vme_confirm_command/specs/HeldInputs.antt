@@ -1,0 +1,71 @@
+-- How far an input is read, of which some bytes were taken.
+use Rattle.std.specs.Prelude.{◌≡◌, ℕ, suc, ◌+◌, ◌-◌, ◌*◌, ◌≤◌, ◌<◌, if◌then◌else◌, Bool, true, false, List, [], ◌++◌, length, Option, None, Some, IfSome}
+use Rattle.std.specs.Io.KnownBytes.{Consumes}
+use Rattle.vme_trace.specs.Streams.{Reading}
+use Rattle.vme_stream.specs.Inputs.{IsReading, most_reads}
+use Rattle.vme_stream.specs.declared.input.InFault.{InFault}
+use Rattle.vme_stream.specs.declared.input.InFault.TheVariants.{Read, TooLong, Memory}
+
+-- the bytes that are held of an input; its limit, and how much room each read has; how many bytes were read, and how
+-- many reads gave some; and whether its end was reached
+pub record InputSoFar : Type 0 where
+  pub held : List ℕ
+  pub limit : ℕ
+  pub room : ℕ
+  pub read : ℕ
+  pub reads : ℕ
+  pub is_whole : Bool
+
+-- where each read has room for so many bytes, few of them can be full before the limit is passed
+pub record MayLimit (limit room : ℕ) : Type 0 where
+  pub some : 0 < room
+  pub few : limit ≤ 65536 * room
+  pub small : room ≤ 4194304
+
+abbrev pub not_read : ℕ → ℕ → InputSoFar
+not_read limit room =
+    record { held = []; limit = limit; room = room; read = 0; reads = 0; is_whole = false }
+
+-- so many of some reads were full, and gave as many bytes as they had room for
+pub record HasFull (old now : Reading) (reads room bytes full : ℕ) : Type 0 where
+  pub counted : old.short_reads + reads ≡ now.short_reads + full
+  pub enough : full * room ≤ bytes
+
+-- Where it is whole, these are all bytes that its source told.
+abbrev pub IsToldWhole : Bool → Reading → List ℕ → ℕ → ℕ → Type 0
+IsToldWhole true old bytes read limit = IfSome old.left (λ told. bytes ≡ told) × (read ≤ limit)
+IsToldWhole false old bytes read limit = Unit {0}
+
+-- a source was read on from one state to another, and of its bytes these were taken and the others are held
+pub record IsReadTo (old now : Reading) (done : List ℕ) (input : InputSoFar) : Type 0 where
+  pub consumed : Consumes old.left now.left (done ++ input.held)
+  pub read : length (done ++ input.held) ≡ input.read
+  pub failures : now.failures ≡ old.failures
+  pub reads : now.reads ≡ old.reads + input.reads
+  pub some : input.reads ≤ input.read
+  pub full : ℕ
+  pub has_full : HasFull old now input.reads input.room input.read full
+  pub bounded : input.reads ≤ most_reads
+  pub limits : MayLimit input.limit input.room
+  pub within : input.read ≤ input.limit + input.room
+  pub whole : IsToldWhole input.is_whole old (done ++ input.held) input.read input.limit
+  pub in_time : input.is_whole ≡ true → input.reads < most_reads
+
+-- more bytes are held, or there are no more
+pub record IsGrown (before after : InputSoFar) : Type 0 where
+  pub more : List ℕ
+  pub held : after.held ≡ before.held ++ more
+
+-- so many reads may follow
+abbrev pub reads_left : InputSoFar → ℕ
+reads_left input = if input.is_whole then 0 else suc (most_reads - input.reads)
+
+-- these are all bytes of an input, and not too many
+abbrev pub IsAllOf : Reading → Reading → List ℕ → ℕ → Type 0
+IsAllOf old now bytes limit = IsReading old now (Some bytes) × (length bytes ≤ limit)
+
+-- an input can't be had: it can't be read, has more bytes than the limit, or there was no memory for them
+abbrev pub FailsAs : ℕ → Reading → Reading → InFault → Type 0
+FailsAs limit old now Read = IsReading old now None
+FailsAs limit old now TooLong = (bytes : List ℕ) × (limit < length bytes) × IsReading old now (Some bytes)
+FailsAs limit old now Memory = (bytes : Option (List ℕ)) × IsReading old now bytes

@@ -1,0 +1,51 @@
+-- How far the steps of a dump are compared with rows.
+use Rattle.std.specs.Prelude.{◌≡◌, ℕ, ◌+◌, ◌≤◌, ◌<◌, Bool, true, false, List, length, Option, None, Result, Ok, Err}
+use Rattle.vme_trace.specs.Followed.{with_steps}
+use Rattle.vme_trace.specs.Trace.{Trace}
+use Rattle.vme_trace.specs.WellFormed.{capture_limit, malformed_step}
+use Rattle.vme_trace.specs.declared.step.Step.{Step}
+use Rattle.vme_bind.specs.Capture.{limited}
+use Rattle.vme_bind.specs.declared.fault.BindFault.{BindFault}
+use Rattle.vme_listing.specs.Recorded.{recorded_rows, rows_in}
+use Rattle.vme_listing.specs.declared.row.Row.{Row}
+use Rattle.vme_listing.specs.declared.row.Version.{Version}
+use Rattle.vme_skew.specs.Settling.{Settling}
+use Rattle.vme_cert.specs.Checking.{HasCompared, HasFollowed}
+use Rattle.vme_cert.specs.Comparing.{Decides}
+use Rattle.vme_cert.specs.declared.checker.Checker.{Checker}
+use Rattle.vme_cert.specs.declared.compare.Answer.{Answer}
+use Rattle.vme_dump_steps.specs.SettledReadings.{settled_whole}
+use Rattle.vme_dump_steps.specs.SettledSteps.{ComesOut}
+
+-- the steps that were given are counted, and this came out of them; or they are too many
+abbrev pub ComesTo : Option ℕ → Trace → ℕ → Option Settling → ℕ → Bool → Trace → Type 0
+ComesTo skew given time settler count true t = capture_limit < length given.steps
+ComesTo skew given time settler count false t =
+    (count ≡ length given.steps) × (count ≤ capture_limit) × ComesOut skew settler given time t
+
+-- these steps may follow a recording
+pub record StepsMayFollow (recorded : Trace) (steps : List Step) : Type 0 where
+  pub formed : malformed_step (with_steps recorded steps) ≡ None
+  pub within : length recorded.steps + length steps ≤ capture_limit
+
+-- all steps of this recording were given by a dump up to a time, and what came out of them was taken
+pub record HasStepped {Source : Type 0} (skew : Option ℕ) (given : Trace) (time : ℕ) (t : Trace)
+    (settler : Option Settling) (checker : Checker Source) (count : ℕ) (is_too_long : Bool) : Type 0 where
+  pub comes : ComesTo skew given time settler count is_too_long t
+  pub taken : HasFollowed t checker
+
+module _ {Whole Source : Type 0} (gave : Whole → Source → List Row → Type 0) (is_over : Source → Type 0) (whole : Whole)
+    (version : Version) where
+  -- rows of this whole are compared with those of some recording
+  pub record IsComparing (checker : Checker Source) : Type 0 where
+    pub t : Trace
+    pub taken : HasFollowed t checker
+    pub compared : HasCompared gave is_over whole version t checker
+
+  -- of a whole recording this was found, unless it is too long
+  abbrev pub Finds : Option ℕ → Trace → Result Answer BindFault → Source → Type 0
+  Finds skew given (Ok answer) source =
+      (limited given ≡ Ok given)
+      × ((more : List Row) × gave whole source more
+      × Decides is_over more (rows_in version (recorded_rows (settled_whole skew given))) source answer)
+  Finds skew given (Err fault) source = (limited given ≡ Err fault) × ((rows : List Row) × gave whole source rows)

@@ -1,0 +1,199 @@
+//! The body of a dump, whose steps are compared with rows as they become complete.
+
+ghost use Rattle.std.specs.Prelude.{◌≡◌, ◌≤◌, ℕ, List, [], IfOk, Option, Ok};
+ghost use Rattle.vme_trace.specs.Streams.{Reading};
+ghost use Rattle.vme_trace.specs.Trace.{Trace};
+ghost use Rattle.vme_bind.specs.Binding.{BoundLines};
+ghost use Rattle.vme_listing.specs.declared.row.Version.{Version};
+ghost use Rattle.vme_stream.specs.Inputs.{longest_input};
+ghost use Rattle.vme_cert.specs.Checking.{HasCompared};
+ghost use Rattle.vme_dump_steps.specs.SettledReadings.{skew_of};
+ghost use Rattle.vme_confirm_command.specs.DumpReadings.{Compares, IsAtBody, IsBodyUnread, IsChecked, IsDumpRefused};
+ghost use Rattle.vme_confirm_command.specs.DumpReadings.{MayBeRead, BeginsDump};
+ghost use Rattle.vme_confirm_command.specs.PieceChecks.{ChecksOn, FailsPiece, IsAtEnd, ReadsPiece};
+ghost use Rattle.vme_confirm_command.specs.StepChecks.{IsComparing};
+
+use crate::definitions::{Begun, refused_for, unread};
+use crate::held_input::HeldInput;
+use crate::step_check::StepCheck;
+use std::alloc::Global;
+use vcd_read::VcdFault;
+use vme_answer::Refusal;
+use vme_bind::BindFault;
+use vme_cert::{Answer, RowSource};
+use vme_listing::Version;
+use vme_step_reader::{StepReader, StoppedSteps, given_is_a_prefix, times_go_on};
+use vme_trace::{Lines, Source};
+
+fn fault_of(stopped: StoppedSteps) -> VcdFault
+    ensures { result ≡ stopped.fault }
+{
+    let StoppedSteps {
+        fault,
+        time: _,
+        steps: _,
+    } = stopped;
+    fault
+}
+
+/// Takes the first of the bytes that are held, as many as are whole tokens, and gives their steps to a check. It fails
+/// for a fault of the dump, or for want of memory.
+fn check_piece<S: RowSource>(
+    alloc: Global,
+    reader: StepReader,
+    input: &mut HeldInput,
+    check: &mut StepCheck<S>,
+) -> Result<StepReader, Option<VcdFault>>
+    requires { (skew : Option ℕ) × (t : Trace) × IsChecked skew reader t check.old }
+    ensures reads { (bound : BoundLines) (old now : Reading) → IsAtBody bound old now input.old reader
+        → ReadsPiece bound old now input.new result }
+    ensures checks { (skew : Option ℕ) (t : Trace) → IsChecked skew reader t check.old
+        → IfOk result (ChecksOn S.gave S.is_over skew t check.old check.new) }
+    ensures comparing { (whole : S.Whole) (version : Version)
+        → IsComparing S.gave S.is_over whole version check.old.checker
+        → IsComparing S.gave S.is_over whole version check.new.checker }
+    ensures input { (input.new.limit ≡ input.old.limit) × (input.new.is_whole ≡ input.old.is_whole)
+        × (input.new.reads ≡ input.old.reads) }
+{
+    given_is_a_prefix();
+    times_go_on();
+    match reader.take(alloc, input.bytes()) {
+        Ok((reader, steps, count)) => {
+            input.take_first(count);
+            let time = reader.time();
+            match check.take(alloc, steps, time) {
+                Ok(()) => Ok(reader),
+                Err(_) => Err(None),
+            }
+        }
+        Err(stopped) => Err(Some(fault_of(stopped))),
+    }
+}
+
+/// Takes the last bytes, and says what was found.
+fn check_last<S: RowSource>(
+    alloc: Global,
+    reader: StepReader,
+    bytes: &[u8],
+    check: StepCheck<S>,
+) -> (Result<Result<Answer, BindFault>, Refusal>, S)
+    requires { (skew : Option ℕ) × (t : Trace) × IsChecked skew reader t check }
+    ensures { (bound : BoundLines) (old now : Reading) (skew : ℕ) (t : Trace) (whole : S.Whole) (version : Version)
+        → IsChecked (skew_of skew) reader t check
+        → HasCompared S.gave S.is_over whole version t check.checker
+        → IsAtEnd bound old now bytes.now reader
+        → Compares S.gave S.is_over whole version bound skew old now result.0 result.1 }
+{
+    given_is_a_prefix();
+    times_go_on();
+    match reader.finish(alloc, bytes) {
+        Ok(steps) => {
+            let (found, rows) = check.finish(alloc, steps);
+            match found {
+                Ok(found) => (Ok(found), rows),
+                Err(_) => (Err(Refusal::Memory), rows),
+            }
+        }
+        Err(stopped) => (
+            Err(Refusal::of_dump(fault_of(stopped))),
+            check.into_source(),
+        ),
+    }
+}
+
+/// Why a body isn't read on: for a fault of the dump, or for want of memory.
+fn refused_in_body<D: Source>(
+    dump: &mut D,
+    input: &mut HeldInput,
+    fault: Option<VcdFault>,
+) -> Refusal
+    ensures { (old : Reading) → input.old.limit ≡ longest_input
+        → FailsPiece old (D.reading dump.old) input.old fault → IsDumpRefused old (D.reading dump.new) result }
+{
+    match fault {
+        Some(fault) => refused_for(dump, input, fault),
+        None => Refusal::Memory,
+    }
+}
+
+/// Reads a body to its end, and compares its steps.
+fn compare_body<D: Source, S: RowSource>(
+    alloc: Global,
+    dump: &mut D,
+    input: &mut HeldInput,
+    reader: StepReader,
+    check: StepCheck<S>,
+) -> (Result<Result<Answer, BindFault>, Refusal>, S)
+    requires { (skew : Option ℕ) × (t : Trace) × IsChecked skew reader t check }
+    ensures { (bound : BoundLines) (old : Reading) (skew : ℕ) (t : Trace) (whole : S.Whole) (version : Version)
+        → IsChecked (skew_of skew) reader t check
+        → HasCompared S.gave S.is_over whole version t check.checker
+        → IsAtBody bound old (D.reading dump.old) input.old reader → input.old.limit ≡ longest_input
+        → Compares S.gave S.is_over whole version bound skew old (D.reading dump.new) result.0 result.1 }
+{
+    let mut reader = reader;
+    let mut check = check;
+    while !input.is_whole() {
+        reader = match check_piece(alloc, reader, input, &mut check) {
+            Ok(reader) => reader,
+            Err(fault) => {
+                let refusal = refused_in_body(dump, input, fault);
+                return (Err(refusal), check.into_source());
+            }
+        };
+        if let Err(fault) = input.read(dump) {
+            return (Err(unread(fault)), check.into_source());
+        }
+    }
+    check_last(alloc, reader, input.bytes(), check)
+}
+
+/// The levels that a body opens with, which are those of a backplane.
+fn opening_of(reader: &StepReader) -> &Lines
+    ensures is { result.now ≡ reader.now.given.opening }
+    ensures few { reader.now.given.opening.slots ≤ 21 }
+{
+    prove!(reader.opening().slots() <= 21);
+    reader.opening()
+}
+
+/// A check before the first step of a body.
+fn first_check<S: RowSource>(
+    alloc: Global,
+    reader: &StepReader,
+    skew: u64,
+    version: Version,
+    rows: S,
+) -> StepCheck<S>
+    requires { IsBodyUnread reader.now }
+    ensures checked { IsChecked (skew_of skew) reader.now reader.now.given result }
+    ensures compared { (whole : S.Whole) → S.gave whole rows []
+        → HasCompared S.gave S.is_over whole version reader.now.given result.checker }
+{
+    StepCheck::new(alloc, opening_of(reader), skew, version, rows)
+}
+
+/// Compares rows with those of the recording that a binding makes of a dump whose definitions were read, settled by a
+/// skew; or says why it makes none. What the rows come from is handed back.
+pub(crate) fn compare_begun<D: Source, S: RowSource>(
+    alloc: Global,
+    dump: &mut D,
+    input: &mut HeldInput,
+    begun: Begun,
+    skew: u64,
+    version: Version,
+    rows: S,
+) -> (Result<Result<Answer, BindFault>, Refusal>, S)
+    requires { MayBeRead begun }
+    ensures { (bound : BoundLines) (old : Reading) (whole : S.Whole) → S.gave whole rows []
+        → BeginsDump bound old (D.reading dump.old) input.old (Ok begun) → input.old.limit ≡ longest_input
+        → Compares S.gave S.is_over whole version bound skew old (D.reading dump.new) result.0 result.1 }
+{
+    match begun {
+        Begun::Body(reader) => {
+            let check = first_check(alloc, &reader, skew, version, rows);
+            compare_body(alloc, dump, input, reader, check)
+        }
+        Begun::Unusable(fault) => (Ok(Err(fault)), rows),
+    }
+}

@@ -1,0 +1,235 @@
+//! Whether a listing is that of a recording.
+
+ghost use Rattle.std.specs.Prelude.{◌≡◌, ◌≢◌, ◌↔◌, ℕ, suc, List, Option, Ok, Err, Result};
+ghost use Rattle.vme_listing.specs.Listed.{Listed};
+ghost use Rattle.vme_answer.specs.Answers.{binding_read, dump_read};
+ghost use Rattle.vme_confirm_command.specs.Confirmations.{Confirms, GivesConfirmation, GivesRows, TellsConfirmation};
+ghost use Rattle.vme_confirm_command.specs.Confirmations.{compared, compared_settled, confirmation_answer_by};
+ghost use Rattle.vme_confirm_command.specs.Confirmations.{confirmation_status, confirmation_text, listing_text};
+ghost use Rattle.vme_answer.specs.Ends.{Ends};
+ghost use Rattle.vme_answer.specs.Texts.{line_of};
+ghost use Rattle.vme_stream.specs.Inputs.{IsReading, TellsWhole, longest_input};
+ghost use Rattle.vme_trace.specs.Streams.{Reading};
+ghost use Rattle.vme_bind.specs.Binding.{BoundLines};
+ghost use Rattle.vme_bind.specs.declared.fault.BindFault.{BindFault};
+ghost use Rattle.vme_listing.specs.declared.row.Row.{Row};
+ghost use Rattle.vme_listing.specs.declared.row.Version.{Version};
+ghost use Rattle.vme_confirm_command.specs.DumpReadings.{MayBeRead, BeginsDump};
+ghost use Rattle.vme_confirm_command.specs.FoundRows.{EndsFound, FindsRows};
+ghost use Rattle.vme_confirm_command.specs.RowsOfListing.{GaveRows, IsOver};
+ghost use Rattle.vme_answer.specs.declared.refusal.Refusal.{Refusal};
+
+use crate::body::compare_begun;
+use crate::definitions::{Begun, dump_input, read_definitions};
+use crate::held_input::HeldInput;
+use crate::listing_rows::{ListingRows, listing_input};
+use std::alloc::Global;
+use vme_answer::{Refusal, binding_from, cannot_write_line, refusal_line};
+use vme_bind::{BindFault, Binding};
+use vme_cert::Answer;
+use vme_stream::{Message, complain, write_message};
+use vme_trace::{Sink, Source};
+
+/// Whether a listing is that of the recording that a binding makes of a dump, settled by a skew, in its version: writes
+/// the answer to `out`, or to `err` why there is none. The answer is the exit status: 0 confirmed, 1 not, 3 where an
+/// input is refused, 4 for want of memory, 5 where the answer can't be written. What the listing was read from is
+/// handed back.
+///
+/// The binding is read, then the dump, and beside it the listing, each row as the recording comes to it: what is found
+/// is told once both are read. A binding that can't be used on the dump is told after the faults of these. The listing
+/// is compared by the definitions alone, by no monitor. A failure of `err` is ignored.
+pub fn confirm_with<B: Source, D: Source, L: Source + Drop, O: Sink, E: Sink>(
+    alloc: Global,
+    binding: &mut B,
+    dump: &mut D,
+    listing: L,
+    skew: u64,
+    out: &mut O,
+    err: &mut E,
+) -> (u8, L)
+    ensures answer { Confirms skew
+        (B.reading binding.old, B.reading binding.new) (D.reading dump.old, D.reading dump.new)
+        (L.reading listing, L.reading result.1)
+        (O.writing out.old, O.writing out.new) (E.writing err.old, E.writing err.new) result.0 }
+    ensures unwritten { (result.0 ≡ 5) ↔ ((O.writing out.new).failures ≡ suc (O.writing out.old).failures) }
+
+    // Inputs that are told whole, no failure, and memory give exactly the answer that is defined.
+    ensures exact { (b d l : List ℕ) → TellsWhole (B.reading binding.old) (B.reading binding.new) b
+        → TellsWhole (D.reading dump.old) (D.reading dump.new) d
+        → TellsWhole (L.reading listing) (L.reading result.1) l
+        → (O.writing out.new).failures ≡ (O.writing out.old).failures → result.0 ≢ 4
+        → TellsConfirmation skew b d l
+        (O.writing out.old, O.writing out.new) (E.writing err.old, E.writing err.new) result.0 }
+{
+    answer(alloc, binding, dump, listing, skew, out, err)
+}
+
+/// Settled by 0, what is compared is the recording that a binding makes of a dump, as it is: a law, and a call does
+/// nothing.
+pub fn unsettled_comparison()
+    ensures { (b d : Option (List ℕ)) (given : Result Listed Refusal)
+        → compared_settled 0 (binding_read b) (dump_read d) given ≡ compared (binding_read b) (dump_read d) given }
+{}
+
+fn answer<B: Source, D: Source, L: Source + Drop, O: Sink, E: Sink>(
+    alloc: Global,
+    binding: &mut B,
+    dump: &mut D,
+    listing: L,
+    skew: u64,
+    out: &mut O,
+    err: &mut E,
+) -> (u8, L)
+    ensures { Confirms skew
+        (B.reading binding.old, B.reading binding.new) (D.reading dump.old, D.reading dump.new)
+        (L.reading listing, L.reading result.1)
+        (O.writing out.old, O.writing out.new) (E.writing err.old, E.writing err.new) result.0 }
+{
+    let (found, listing) = comparison(alloc, binding, dump, listing, skew);
+    (tell(found, out, err), listing)
+}
+
+/// Writes an answer, or why there is none.
+fn tell<O: Sink, E: Sink>(found: Result<Answer, Refusal>, out: &mut O, err: &mut E) -> u8
+    ensures { Ends (confirmation_answer_by found)
+        (O.writing out.old, O.writing out.new) (E.writing err.old, E.writing err.new) result }
+{
+    match found {
+        Ok(found) => tell_found(found, out, err),
+        Err(refusal) => {
+            complain(err, refusal_line(&refusal));
+            refusal.status()
+        }
+    }
+}
+
+/// Writes an answer.
+fn tell_found<O: Sink, E: Sink>(found: Answer, out: &mut O, err: &mut E) -> u8
+    ensures { Ends (confirmation_answer_by (Ok found))
+        (O.writing out.old, O.writing out.new) (E.writing err.old, E.writing err.new) result }
+{
+    match write_message(out, confirmation_line(found)) {
+        Ok(()) => confirmation_status(found),
+        Err(_) => {
+            complain(err, cannot_write_line());
+            5
+        }
+    }
+}
+
+/// Compares a listing with that of the recording that a binding makes of a dump, settled by a skew.
+fn comparison<B: Source, D: Source, L: Source + Drop>(
+    alloc: Global,
+    binding: &mut B,
+    dump: &mut D,
+    listing: L,
+    skew: u64,
+) -> (Result<Answer, Refusal>, L)
+    ensures { (binding_bytes dump_bytes listing_bytes : Option (List ℕ)) × (given : Result Listed Refusal)
+        × IsReading (B.reading binding.old) (B.reading binding.new) binding_bytes
+        × IsReading (D.reading dump.old) (D.reading dump.new) dump_bytes
+        × IsReading (L.reading listing) (L.reading result.1) listing_bytes
+        × GivesRows (listing_text listing_bytes) given
+        × GivesConfirmation result.0
+        (compared_settled skew (binding_read binding_bytes) (dump_read dump_bytes) given) }
+{
+    match binding_from(alloc, binding) {
+        Ok(bound) => comparison_bound(alloc, &bound, dump, listing, skew),
+        Err(refusal) => (Err(refusal), listing),
+    }
+}
+
+fn comparison_bound<D: Source, L: Source + Drop>(
+    alloc: Global,
+    bound: &Binding,
+    dump: &mut D,
+    listing: L,
+    skew: u64,
+) -> (Result<Answer, Refusal>, L)
+    ensures { (dump_bytes listing_bytes : Option (List ℕ)) × (given : Result Listed Refusal)
+        × IsReading (D.reading dump.old) (D.reading dump.new) dump_bytes
+        × IsReading (L.reading listing) (L.reading result.1) listing_bytes
+        × GivesRows (listing_text listing_bytes) given
+        × GivesConfirmation result.0 (compared_settled skew (Ok bound.now) (dump_read dump_bytes) given) }
+{
+    let Ok(mut input) = dump_input(alloc) else {
+        return (Err(Refusal::Memory), listing);
+    };
+    match read_definitions(alloc, bound, dump, &mut input) {
+        Ok(begun) => comparison_begun(alloc, dump, &mut input, begun, listing, skew),
+        Err(refusal) => (Err(refusal), listing),
+    }
+}
+
+/// Compares a listing with that of the recording that a binding makes of a dump whose definitions were read.
+fn comparison_begun<D: Source, L: Source + Drop>(
+    alloc: Global,
+    dump: &mut D,
+    input: &mut HeldInput,
+    begun: Begun,
+    listing: L,
+    skew: u64,
+) -> (Result<Answer, Refusal>, L)
+    requires { MayBeRead begun }
+    ensures { (bound : BoundLines) (old : Reading)
+        → BeginsDump bound old (D.reading dump.old) input.old (Ok begun) → input.old.limit ≡ longest_input
+        → (dump_bytes listing_bytes : Option (List ℕ)) × (given : Result Listed Refusal)
+        × IsReading old (D.reading dump.new) dump_bytes
+        × IsReading (L.reading listing) (L.reading result.1) listing_bytes
+        × GivesRows (listing_text listing_bytes) given
+        × GivesConfirmation result.0 (compared_settled skew (Ok bound) (dump_read dump_bytes) given) }
+{
+    let Ok(text) = listing_input(alloc) else {
+        return (Err(Refusal::Memory), listing);
+    };
+    let rows = ListingRows::begin(listing, text);
+    let version = rows.version();
+    let (found, rows) = compare_begun(alloc, dump, input, begun, skew, version, rows);
+    match found {
+        Ok(found) => comparison_found(found, rows),
+        Err(refusal) => (Err(refusal), rows.into_source()),
+    }
+}
+
+/// What is found of the rows of a listing holds once the listing is read to its end and has no fault.
+fn comparison_found<L: Source + Drop>(
+    found: Result<Answer, BindFault>,
+    rows: ListingRows<L>,
+) -> (Result<Answer, Refusal>, L)
+    ensures { (old : Reading) (version : Version) (given : List Row) (right : Result (List Row) BindFault)
+        → GaveRows old version (L.reading rows.source) rows.input rows.pieces rows.fault given
+        → FindsRows version right found given (IsOver rows.pieces rows.fault)
+        → EndsFound old version (L.reading result.1) right result.0 }
+{
+    let (ended, listing) = rows.finish();
+    match ended {
+        Ok(()) => match found {
+            Ok(answer) => (Ok(answer), listing),
+            Err(fault) => (Err(Refusal::BadBinding(fault)), listing),
+        },
+        Err(fault) => (Err(fault.refusal()), listing),
+    }
+}
+
+/// The line that tells whether a listing is confirmed.
+fn confirmation_line(found: Answer) -> Message
+    ensures { result ≡ line_of (confirmation_text found) }
+{
+    match found {
+        Answer::Yes => Message::new().with(b"confirmed").with_line_feed(),
+        Answer::No { row } => Message::new()
+            .with(b"not confirmed at row ")
+            .with_decimal(row as u64)
+            .with_line_feed(),
+    }
+}
+
+/// The exit status: 0 confirmed, 1 not.
+fn confirmation_status(found: Answer) -> u8
+    ensures { result ≡ confirmation_status found }
+{
+    match found {
+        Answer::Yes => 0,
+        Answer::No { .. } => 1,
+    }
+}

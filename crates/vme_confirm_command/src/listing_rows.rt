@@ -1,0 +1,181 @@
+//! The rows of a listing, read one by one up to its first fault.
+
+ghost use Rattle.std.specs.Prelude.{◌≡◌, ◌<◌, ◌∷◌, ◌++◌, ℕ, List, [], Option, None, Some, IfOk, IfSome, MatchOption};
+ghost use Rattle.vme_listing.specs.Reading.{RowsSoFar};
+ghost use Rattle.vme_trace.specs.Streams.{Reading};
+ghost use Rattle.vme_listing.specs.declared.row.Row.{Row};
+ghost use Rattle.vme_listing.specs.declared.row.Version.{Version};
+ghost use Rattle.vme_confirm_command.specs.HeldInputs.{not_read};
+ghost use Rattle.vme_confirm_command.specs.RowsOfListing.{AreCounted, EndsAt, EndsRows, GaveRows, IsOver};
+ghost use Rattle.vme_confirm_command.specs.RowsOfListing.{IsSomeReading, rows_left};
+
+use crate::held_input::HeldInput;
+use crate::row_reading::{begin_rows, next_row};
+use crate::rows_fault::RowsFault;
+use std::alloc::{AllocError, Global};
+use vme_cert::RowSource;
+use vme_listing::{ListingPieces, Row, Version};
+use vme_trace::Source;
+
+/// How many bytes a listing has at most: 512 for each step that a recording may have, which is more than the rows of
+/// an instant have.
+pub(crate) const LONGEST_LISTING: u64 = 137_438_953_472;
+
+/// How much room each read of a listing has.
+pub(crate) const LISTING_ROOM: usize = 2_097_152;
+
+/// The rows of a listing that are still to be read.
+#[derive(Drop)]
+pub(crate) struct ListingRows<L: Source + Drop> {
+    source: L,
+    input: HeldInput,
+    /// How far the rows are read, unless there is a fault.
+    pieces: Option<ListingPieces>,
+    fault: Option<RowsFault>,
+    ghost counted: { AreCounted pieces fault input },
+}
+
+/// What a listing is read to.
+pub(crate) fn listing_input(alloc: Global) -> Result<HeldInput, AllocError>
+    ensures { IfOk result (λ input. input ≡ not_read LONGEST_LISTING LISTING_ROOM) }
+{
+    HeldInput::new(alloc, LONGEST_LISTING, LISTING_ROOM)
+}
+
+impl<L: Source + Drop> ListingRows<L> {
+    /// Begins behind the header, if there is one.
+    pub fn begin(source: L, input: HeldInput) -> ListingRows<L>
+        requires { input ≡ not_read LONGEST_LISTING LISTING_ROOM }
+        ensures gave { (version : Version) → IfSome result.pieces (λ so_far. so_far.version ≡ version)
+            → GaveRows (L.reading source) version (L.reading result.source) result.input result.pieces result.fault [] }
+    {
+        let mut source = source;
+        let mut input = input;
+        let pieces = match begin_rows(&mut source, &mut input) {
+            Ok(pieces) => pieces,
+            Err(fault) => {
+                return ListingRows {
+                    source,
+                    input,
+                    pieces: None,
+                    fault: Some(fault),
+                };
+            }
+        };
+        ListingRows {
+            source,
+            input,
+            pieces: Some(pieces),
+            fault: None,
+        }
+    }
+
+    /// The version that the header says. Without a header it is any.
+    pub fn version(&self) -> Version
+        ensures { IfSome self.now.pieces (λ so_far. so_far.version ≡ result) }
+    {
+        match &self.pieces {
+            Some(pieces) => pieces.version(),
+            None => Version::Three,
+        }
+    }
+
+    /// The next row, if there is one.
+    fn give(&mut self) -> Option<Row>
+        ensures gave { (old : Reading) (version : Version) (rows : List Row)
+            → GaveRows old version (L.reading self.old.source) self.old.input self.old.pieces self.old.fault rows
+            → MatchOption result (EndsAt old version (L.reading self.new.source) self.new.input self.new.pieces
+            self.new.fault rows) (λ row. GaveRows old version (L.reading self.new.source) self.new.input
+            self.new.pieces self.new.fault (rows ++ row ∷ [])) }
+        ensures over { result ≡ None → IsOver self.new.pieces self.new.fault }
+        ensures stays { IsOver self.old.pieces self.old.fault → result ≡ None }
+        ensures shorter { IfSome result (λ row. rows_left self.new.input < rows_left self.old.input) }
+    {
+        let Some(mut pieces) = self.pieces.take() else {
+            return None;
+        };
+        match next_row(&mut self.source, &mut self.input, &mut pieces) {
+            Ok(row) => {
+                self.pieces = Some(pieces);
+                row
+            }
+            Err(fault) => {
+                self.fault = Some(fault);
+                None
+            }
+        }
+    }
+
+    /// Reads what is left. The answer is the first fault of the listing, if it has one; and what it was read from.
+    pub fn finish(self) -> (Result<(), RowsFault>, L)
+        ensures { (old : Reading) (version : Version) (rows : List Row)
+            → GaveRows old version (L.reading self.source) self.input self.pieces self.fault rows
+            → EndsRows old version (L.reading result.1) rows (IsOver self.pieces self.fault) result.0 }
+    {
+        let mut rows = self;
+        while rows.give().is_some() {}
+        let ListingRows {
+            source,
+            input,
+            pieces: _,
+            fault,
+        } = rows;
+        match fault {
+            None => (Ok(()), source),
+            Some(fault) => read_on(source, input, fault),
+        }
+    }
+
+    /// What it was read from.
+    pub fn into_source(self) -> L
+        ensures { (old : Reading) (version : Version) (rows : List Row)
+            → GaveRows old version (L.reading self.source) self.input self.pieces self.fault rows
+            → IsSomeReading old (L.reading result) }
+    {
+        let ListingRows {
+            source,
+            input: _,
+            pieces: _,
+            fault: _,
+        } = self;
+        source
+    }
+}
+
+/// Reads on behind a fault, to the end: that the listing can't be had at all comes before one of its text.
+fn read_on<L: Source + Drop>(
+    source: L,
+    input: HeldInput,
+    fault: RowsFault,
+) -> (Result<(), RowsFault>, L)
+    ensures { (old : Reading) (version : Version) (rows : List Row) (pieces : Option RowsSoFar)
+        → GaveRows old version (L.reading source) input pieces (Some fault) rows
+        → EndsRows old version (L.reading result.1) rows (Unit {0}) result.0 }
+{
+    let mut source = source;
+    let mut input = input;
+    match fault {
+        RowsFault::Input(fault) => (Err(RowsFault::Input(fault)), source),
+        RowsFault::Text(fault) => match input.read_rest(&mut source) {
+            Ok(()) => (Err(RowsFault::Text(fault)), source),
+            Err(fault) => (Err(RowsFault::Input(fault)), source),
+        },
+    }
+}
+
+impl<L: Source + Drop> RowSource for ListingRows<L> {
+    ghost use Rattle.std.specs.Prelude.{List};
+    ghost use Rattle.vme_trace.specs.Streams.{Reading};
+    ghost use Rattle.vme_listing.specs.declared.row.Version.{Version};
+    ghost use Rattle.vme_confirm_command.specs.RowsOfListing.{GaveRows, IsOver};
+
+    ghost Whole = { Reading × Version };
+
+    ghost gave = { λ whole s rows. GaveRows whole.0 whole.1 (L.reading s.source) s.input s.pieces s.fault rows };
+
+    ghost is_over = { λ s. IsOver s.pieces s.fault };
+
+    fn next(&mut self) -> Option<Row> {
+        self.give()
+    }
+}

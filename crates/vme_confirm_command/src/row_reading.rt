@@ -1,0 +1,89 @@
+//! The next row of a listing, of which as many bytes are read as a line has at most.
+
+ghost use Rattle.std.specs.Prelude.{◌≡◌, ◌+◌, ◌^◌, ◌<◌, ◌≤◌, ℕ, List, [], true, false, Option, Some, None, Ok, IfErr, IfOk, IfSome, OnOk, length};
+ghost use Rattle.vme_trace.specs.Streams.{Reading};
+ghost use Rattle.vme_listing.specs.Places.{ends_listing};
+ghost use Rattle.vme_listing.specs.declared.row.Row.{Row};
+ghost use Rattle.vme_confirm_command.specs.Confirmations.{longest_listing};
+ghost use Rattle.vme_confirm_command.specs.HeldInputs.{FailsAs, IsReadTo};
+ghost use Rattle.vme_confirm_command.specs.RowsOfListing.{AreRead, HoldsMore, IsCounted, ReadsRow, rows_left};
+
+use crate::held_input::HeldInput;
+use crate::rows_fault::RowsFault;
+use vme_listing::{LONGEST_LINE, ListFault, ListingPieces, Row};
+use vme_stream::InFault;
+use vme_trace::Source;
+
+/// Reads until there are more bytes than a line has, or the input ends.
+fn fill<L: Source>(source: &mut L, input: &mut HeldInput) -> Result<(), InFault>
+    ensures read { (old : Reading) (done : List ℕ) → IsReadTo old (L.reading source.old) done input.old
+        → OnOk result (IsReadTo old (L.reading source.new) done input.new) }
+    ensures filled { OnOk result (HoldsMore input.old input.new) }
+    ensures enough { OnOk result (input.new.is_whole ≡ false → LONGEST_LINE < length input.new.held) }
+    ensures fails { (old : Reading) (done : List ℕ) → IsReadTo old (L.reading source.old) done input.old
+        → IfErr result (FailsAs input.old.limit old (L.reading source.new)) }
+    ensures counted { input.new.read + length input.old.held ≡ input.old.read + length input.new.held }
+    ensures small { input.old.read < 2 ^ 62 → input.new.read < 2 ^ 62 }
+    ensures limit { (input.new.limit ≡ input.old.limit) × (input.new.room ≡ input.old.room) }
+{
+    while !input.is_whole() && input.bytes().len() <= LONGEST_LINE {
+        if let Err(fault) = input.read(source) {
+            return Err(fault);
+        }
+    }
+    Ok(())
+}
+
+/// Begins behind the header of a listing, of which nothing is read.
+pub(crate) fn begin_rows<L: Source>(
+    source: &mut L,
+    input: &mut HeldInput,
+) -> Result<ListingPieces, RowsFault>
+    requires small { input.old.read < 2 ^ 62 }
+    requires held { length input.old.held ≤ input.old.read }
+    ensures begun { (old : Reading) → IsReadTo old (L.reading source.old) [] input.old
+        → input.old.limit ≡ longest_listing → AreRead old (L.reading source.new) input.new result [] }
+    ensures counted { IfOk result (λ so_far. IsCounted so_far input.new) }
+    ensures limit { input.new.limit ≡ input.old.limit }
+{
+    if let Err(fault) = fill(source, input) {
+        return Err(RowsFault::Input(fault));
+    }
+    match ListingPieces::begin(input.bytes(), input.is_whole()) {
+        Some((pieces, count)) => {
+            input.take_first(count);
+            Ok(pieces)
+        }
+        None => Err(RowsFault::Text(ListFault::BadHeader)),
+    }
+}
+
+/// The next row, or none where the listing is whole.
+pub(crate) fn next_row<L: Source>(
+    source: &mut L,
+    input: &mut HeldInput,
+    pieces: &mut ListingPieces,
+) -> Result<Option<Row>, RowsFault>
+    requires counted { IsCounted pieces.old input.old }
+    ensures row { (old : Reading) (rows : List Row) → AreRead old (L.reading source.old) input.old (Ok pieces.old) rows
+        → input.old.limit ≡ longest_listing
+        → ReadsRow old (L.reading source.new) input.new pieces.new rows result }
+    ensures counted { OnOk result (IsCounted pieces.new input.new) }
+    ensures version { pieces.new.version ≡ pieces.old.version }
+    ensures limit { input.new.limit ≡ input.old.limit }
+    ensures over { result ≡ Ok None → ends_listing pieces.new.last ≡ true }
+    ensures shorter { IfOk result (λ row. IfSome row (λ _. rows_left input.new < rows_left input.old)) }
+    ensures stays { ends_listing pieces.old.last ≡ true → IfOk result (λ row. row ≡ None) }
+{
+    if let Err(fault) = fill(source, input) {
+        return Err(RowsFault::Input(fault));
+    }
+    match pieces.next(input.bytes(), input.is_whole()) {
+        Ok(Some((row, count))) => {
+            input.take_first(count);
+            Ok(Some(row))
+        }
+        Ok(None) => Ok(None),
+        Err(fault) => Err(RowsFault::Text(fault)),
+    }
+}

@@ -1,0 +1,164 @@
+//! The steps of a dump, settled if there is a skew, as they are compared with rows.
+
+ghost use Rattle.std.specs.Prelude.{◌≡◌, ◌+◌, ◌-◌, ◌≤◌, ◌<◌, ℕ, Bool, List, [], true, false, length, Option, None, IfOk, OnOk};
+ghost use Rattle.vme_trace.specs.Followed.{with_steps};
+ghost use Rattle.vme_trace.specs.LineNumbers.{line_count};
+ghost use Rattle.vme_trace.specs.Trace.{Trace};
+ghost use Rattle.vme_trace.specs.WellFormed.{capture_limit};
+ghost use Rattle.vme_listing.specs.declared.row.Row.{Row};
+ghost use Rattle.vme_listing.specs.declared.row.Version.{Version};
+ghost use Rattle.vme_cert.specs.Checking.{HasCompared, HasFollowed, at_opening};
+ghost use Rattle.vme_dump_steps.specs.SettledReadings.{skew_of};
+ghost use Rattle.vme_dump_steps.specs.SettledSteps.{GoOnFrom, GoOnTo};
+ghost use Rattle.vme_confirm_command.specs.StepChecks.{Finds, HasStepped, IsComparing, StepsMayFollow};
+
+use std::alloc::{AllocError, Global};
+use vme_bind::{BindFault, BindKind};
+use vme_cert::{Answer, Checker, RowSource};
+use vme_dump_steps::{last_steps, settled_steps, settler_for};
+use vme_listing::Version;
+use vme_skew::StepSettler;
+use vme_trace::{Lines, Step};
+
+/// How many steps a recording has at most.
+const MOST_STEPS: usize = 268_435_456;
+
+/// What the steps of a dump come to, as they come.
+#[derive(Drop)]
+pub(crate) struct StepCheck<S: RowSource> {
+    settler: Option<StepSettler>,
+    checker: Checker<S>,
+    /// How many steps came, and whether they are too many: then nothing more is compared.
+    count: usize,
+    is_too_long: bool,
+}
+
+/// Gives steps to a checker.
+fn check_all<S: RowSource>(checker: &mut Checker<S>, steps: &[Step])
+    requires { (recorded : Trace) × HasFollowed recorded checker.old × StepsMayFollow recorded steps.now }
+    ensures taken { (recorded : Trace) → HasFollowed recorded checker.old
+        → HasFollowed (with_steps recorded steps.now) checker.new }
+    ensures compared { (whole : S.Whole) (version : Version) (recorded : Trace) → HasFollowed recorded checker.old
+        → HasCompared S.gave S.is_over whole version recorded checker.old
+        → HasCompared S.gave S.is_over whole version (with_steps recorded steps.now) checker.new }
+{
+    for step in steps {
+        checker.take(step);
+    }
+}
+
+impl<S: RowSource> StepCheck<S> {
+    /// Before the first step.
+    pub fn new(alloc: Global, opening: &Lines, skew: u64, version: Version, rows: S) -> StepCheck<S>
+        ensures stepped { (time : ℕ) → HasStepped (skew_of skew) (at_opening opening.now) time (at_opening opening.now)
+            result.settler result.checker result.count result.is_too_long }
+        ensures compared { (whole : S.Whole) → S.gave whole rows []
+            → HasCompared S.gave S.is_over whole version (at_opening opening.now) result.checker }
+        ensures whole { length opening.now.levels ≡ line_count }
+    {
+        StepCheck {
+            settler: settler_for(alloc, opening, skew),
+            checker: Checker::new(opening, version, rows),
+            count: 0,
+            is_too_long: false,
+        }
+    }
+
+    /// Counts the steps that follow, and says whether they aren't too many.
+    fn counts(&mut self, steps: usize) -> bool
+        ensures few { result ≡ true → (self.new.count ≡ self.old.count + steps) × (self.new.is_too_long ≡ false)
+            × (self.old.is_too_long ≡ false) }
+        ensures within { result ≡ true → self.old.count ≤ capture_limit → self.new.count ≤ capture_limit }
+        ensures many { result ≡ false → self.old.is_too_long ≡ false → capture_limit < self.old.count + steps }
+        ensures long { result ≡ false → self.new.is_too_long ≡ true }
+        ensures left { (self.new.settler ≡ self.old.settler) × (self.new.checker ≡ self.old.checker) }
+    {
+        if self.is_too_long || self.count > MOST_STEPS || steps > MOST_STEPS - self.count {
+            self.is_too_long = true;
+            return false;
+        }
+        self.count += steps;
+        true
+    }
+
+    /// Takes the steps that follow once the dump has told this time.
+    pub fn take(&mut self, alloc: Global, steps: Vec<Step>, time: u64) -> Result<(), AllocError>
+        requires { (skew : Option ℕ) × (given : Trace) × (from : ℕ) × (t : Trace)
+            × HasStepped skew given from t self.old.settler self.old.checker self.old.count self.old.is_too_long
+            × GoOnTo given from steps.items time }
+        ensures stepped { (skew : Option ℕ) (given : Trace) (from : ℕ) (t : Trace)
+            → HasStepped skew given from t self.old.settler self.old.checker self.old.count self.old.is_too_long
+            → GoOnTo given from steps.items time
+            → OnOk result ((later : Trace) × HasStepped skew (with_steps given steps.items) time later
+            self.new.settler self.new.checker self.new.count self.new.is_too_long
+            × ((whole : S.Whole) (version : Version)
+            → HasCompared S.gave S.is_over whole version t self.old.checker
+            → HasCompared S.gave S.is_over whole version later self.new.checker)) }
+        ensures comparing { (whole : S.Whole) (version : Version)
+            → IsComparing S.gave S.is_over whole version self.old.checker
+            → IsComparing S.gave S.is_over whole version self.new.checker }
+    {
+        if !self.counts(steps.len()) {
+            return Ok(());
+        }
+        let settled = settled_steps(alloc, &mut self.settler, steps, time)?;
+        check_all(&mut self.checker, settled.as_slice());
+        Ok(())
+    }
+
+    /// Takes the last steps. What the rows say where the recording is whole, unless it is too long, and what they come
+    /// from.
+    pub fn finish(
+        self,
+        alloc: Global,
+        steps: Vec<Step>,
+    ) -> (Result<Result<Answer, BindFault>, AllocError>, S)
+        requires { (skew : Option ℕ) × (given : Trace) × (from : ℕ) × (t : Trace)
+            × HasStepped skew given from t self.settler self.checker self.count self.is_too_long
+            × GoOnFrom given from steps.items }
+        ensures finds { (whole : S.Whole) (version : Version) (skew : Option ℕ) (given : Trace) (from : ℕ) (t : Trace)
+            → HasStepped skew given from t self.settler self.checker self.count self.is_too_long
+            → HasCompared S.gave S.is_over whole version t self.checker → GoOnFrom given from steps.items
+            → IfOk result.0 (λ found. Finds S.gave S.is_over whole version skew (with_steps given steps.items) found
+            result.1) }
+        ensures left { (whole : S.Whole) (version : Version)
+            → IsComparing S.gave S.is_over whole version self.checker → (rows : List Row) × S.gave whole result.1 rows }
+    {
+        let mut check = self;
+        if !check.counts(steps.len()) {
+            let fault = BindFault {
+                line: 0,
+                kind: BindKind::TooManySteps,
+            };
+            return (Ok(Err(fault)), check.into_source());
+        }
+        match last_steps(alloc, &mut check.settler, steps) {
+            Ok(settled) => {
+                check_all(&mut check.checker, settled.as_slice());
+                let StepCheck {
+                    settler: _,
+                    checker,
+                    count: _,
+                    is_too_long: _,
+                } = check;
+                let (answer, rows) = checker.finish();
+                (Ok(Ok(answer)), rows)
+            }
+            Err(error) => (Err(error), check.into_source()),
+        }
+    }
+
+    /// What the rows come from, where nothing is to be said of them.
+    pub fn into_source(self) -> S
+        ensures { (whole : S.Whole) (version : Version) → IsComparing S.gave S.is_over whole version self.checker
+            → (rows : List Row) × S.gave whole result rows }
+    {
+        let StepCheck {
+            settler: _,
+            checker,
+            count: _,
+            is_too_long: _,
+        } = self;
+        checker.into_source()
+    }
+}

@@ -1,0 +1,156 @@
+//! Inputs that come in pieces, readers that fail, and pages that are full.
+
+use crate::tests::{BINDING, DUMP, LISTING, WantedConfirmation, confirms_from};
+use std::alloc::Global;
+use std::io::{self, Error, ErrorKind, Read};
+use vme_stream::{Bytes, Io};
+use vme_trace::Source;
+
+/// A reader that gives so many bytes a read, is interrupted before each, and ends or fails behind the last.
+#[derive(Drop)]
+struct Pieces<'a> {
+    left: &'a [u8],
+    piece: usize,
+    fails: bool,
+    interrupted: bool,
+}
+
+impl Read for Pieces<'_> {
+    fn read(&mut self, buffer: &mut [u8]) -> io::Result<usize> {
+        self.interrupted = !self.interrupted;
+        if self.interrupted {
+            return Err(Error::from(ErrorKind::Interrupted));
+        }
+        if self.left.is_empty() && self.fails {
+            return Err(Error::from(ErrorKind::Other));
+        }
+        let count = self.left.len().min(buffer.len()).min(self.piece);
+        buffer[..count].copy_from_slice(&self.left[..count]);
+        self.left = &self.left[count..];
+        Ok(count)
+    }
+}
+
+/// A source of a text, so many bytes a read.
+fn in_pieces(text: &str, piece: usize) -> Io<Pieces<'_>> {
+    Io::new(Pieces {
+        left: text.as_bytes(),
+        piece,
+        fails: false,
+        interrupted: false,
+    })
+}
+
+/// A source of the bytes up to a place, so many a read, that fails there.
+fn torn_at(text: &str, place: usize, piece: usize) -> Io<Pieces<'_>> {
+    Io::new(Pieces {
+        left: text.as_bytes().get(..place).unwrap_or_default(),
+        piece,
+        fails: true,
+        interrupted: false,
+    })
+}
+
+/// A reader of a header and so many line feeds.
+#[derive(Drop)]
+struct HeaderAndFeeds {
+    header: &'static [u8],
+    left: usize,
+}
+
+impl Read for HeaderAndFeeds {
+    fn read(&mut self, buffer: &mut [u8]) -> io::Result<usize> {
+        if !self.header.is_empty() {
+            let count = self.header.len().min(buffer.len());
+            buffer[..count].copy_from_slice(&self.header[..count]);
+            self.header = &self.header[count..];
+            return Ok(count);
+        }
+        let count = buffer.len().min(self.left);
+        buffer[..count].fill(b'\n');
+        self.left -= count;
+        Ok(count)
+    }
+}
+
+/// Whether this is written and told of these inputs.
+fn confirms<D: Source + Drop, L: Source + Drop>(
+    alloc: Global,
+    mut dump: D,
+    listing: L,
+    wanted: WantedConfirmation<'_>,
+) -> bool {
+    confirms_from(alloc, BINDING, &mut dump, listing, 0, 1000, wanted)
+}
+
+/// Whether the listing is confirmed where dump and listing come so many bytes a read.
+fn confirms_in_pieces(alloc: Global, of_dump: usize, of_listing: usize) -> bool {
+    confirms(
+        alloc,
+        in_pieces(DUMP, of_dump),
+        in_pieces(LISTING, of_listing),
+        ("confirmed\n", "", 0),
+    )
+}
+
+#[test]
+fn pieces_of_any_length(rt: HostRuntime) {
+    for piece in 1..=300 {
+        assert!(rt; confirms_in_pieces(rt.alloc(), piece, 1), "{piece}");
+        assert!(rt; confirms_in_pieces(rt.alloc(), 1, piece), "{piece}");
+    }
+}
+
+/// Whether it is told that the dump can't be read behind this place.
+fn tells_torn_dump(alloc: Global, place: usize) -> bool {
+    confirms(
+        alloc,
+        torn_at(DUMP, place, 1),
+        Bytes::new(LISTING.as_bytes()),
+        ("", "vmecheck: cannot read dump\n", 3),
+    )
+}
+
+#[test]
+fn torn_dumps(rt: HostRuntime) {
+    for place in 0..=DUMP.len() {
+        assert!(rt; tells_torn_dump(rt.alloc(), place), "at {place}");
+    }
+}
+
+/// Whether it is told that the listing can't be read behind this place.
+fn tells_torn_listing(alloc: Global, place: usize) -> bool {
+    confirms(
+        alloc,
+        Bytes::new(DUMP.as_bytes()),
+        torn_at(LISTING, place, 7),
+        ("", "vmecheck: cannot read listing\n", 3),
+    )
+}
+
+#[test]
+fn torn_listings(rt: HostRuntime) {
+    for place in 0..=LISTING.len() {
+        assert!(rt; tells_torn_listing(rt.alloc(), place), "at {place}");
+    }
+}
+
+#[test]
+fn full_pages(rt: HostRuntime) {
+    let mut dump = Bytes::new(DUMP.as_bytes());
+    let listing = Bytes::new(LISTING.as_bytes());
+    let wanted = ("", "vmecheck: cannot write\n", 5);
+    assert!(rt; confirms_from(rt.alloc(), BINDING, &mut dump, listing, 0, 0, wanted));
+}
+
+/// A listing of more bytes than a dump may have.
+#[test]
+fn a_long_listing(rt: HostRuntime) {
+    let line_feeds = HeaderAndFeeds {
+        header: b"vmecheck listing 3\n",
+        left: 300_000_000,
+    };
+    let dump = Bytes::new(DUMP.as_bytes());
+    let wanted = ("", "vmecheck: listing row 1: BadRow\n", 3);
+    assert!(rt; confirms(rt.alloc(), dump, Io::new(line_feeds), wanted));
+}

@@ -1,0 +1,504 @@
+//! The answer to whole texts.
+
+use std::alloc::{AllocError, Global};
+use std::io::{self, Error, Read};
+use vme_confirm_command::confirm::confirm_with;
+use vme_stream::{Bytes, Io};
+use vme_trace::{Failed, Sink, Source};
+
+pub(crate) const BINDING: &[u8] = b"slots 1
+AS = bus.AS
+DS0 = bus.DS0
+DS1 = bus.DS1
+DTACK = bus.DTACK
+BERR = bus.BERR
+IACK = bus.IACK
+AM0 = 1
+AM1 = 0
+AM2 = 1
+AM3 = 1
+AM4 = 1
+AM5 = 1
+LWORD = 1
+WRITE = 1
+A = 1
+BBSY = 0
+BR = 1
+BG0 = 1
+BG1 = 1
+BG2 = 1
+BG3 = 1
+IA = 1
+";
+
+/// A dump of one read cycle.
+pub(crate) const DUMP: &str = "$timescale 1 ns $end
+$scope module bus $end
+$var wire 1 p AS $end
+$var wire 1 q DS0 $end
+$var wire 1 r DS1 $end
+$var wire 1 s DTACK $end
+$var wire 1 t BERR $end
+$var wire 1 u IACK $end
+$upscope $end
+$enddefinitions $end
+#0 1p 1q 1r 1s 1t 1u
+#10 0p
+#20 0q
+#30 0s
+#40 1p 1q
+#50 1s
+";
+
+/// A dump with no path of the binding.
+const UNBOUND: &str = "$enddefinitions $end\n";
+
+/// The listing of the dump by the binding.
+pub(crate) const LISTING: &str = "vmecheck listing 3
+start 1
+tenure 1 open end -
+cycle 2 S 3D FFFFFE end 5
+transfer 3 of 2 read DTACK 4 close 5
+verdict conforming
+";
+
+/// A sink that holds what it took, up to a count of bytes at which writes fail.
+#[derive(Drop)]
+struct Page {
+    bytes: Vec<u8>,
+    room: usize,
+    failures: u64,
+}
+
+impl Page {
+    fn new(alloc: Global, room: usize) -> Page {
+        Page {
+            bytes: Vec::new(alloc),
+            room,
+            failures: 0,
+        }
+    }
+
+    /// A sink whose memory is taken before the first write.
+    fn with_room(alloc: Global, room: usize) -> Result<Page, AllocError> {
+        Ok(Page {
+            bytes: Vec::with_capacity(alloc, room)?,
+            room,
+            failures: 0,
+        })
+    }
+}
+
+impl Sink for Page {
+    ghost writing = { λ page. record { taken = None; failures = page.failures } };
+
+    fn write(&mut self, bytes: &[u8]) -> Result<usize, Failed> {
+        if self.bytes.len() < self.room && self.bytes.extend_from_slice(bytes).is_ok() {
+            return Ok(bytes.len());
+        }
+        match self.failures.checked_add(1) {
+            Some(failures) => {
+                self.failures = failures;
+                Err(Failed)
+            }
+            None => Ok(bytes.len()),
+        }
+    }
+}
+
+/// A reader of which each read fails.
+#[derive(Drop)]
+struct Broken;
+
+impl Read for Broken {
+    fn read(&mut self, _buffer: &mut [u8]) -> io::Result<usize> {
+        Err(Error::from(io::ErrorKind::Other))
+    }
+}
+
+/// What is written and told of a comparison, and its status.
+pub(crate) type WantedConfirmation<'a> = (&'a str, &'a str, u8);
+
+/// Whether this was written and told, with this status.
+fn has_told(out: &Page, err: &Page, status: u8, wanted: WantedConfirmation<'_>) -> bool {
+    let (text, told, ended) = wanted;
+    out.bytes.as_slice() == text.as_bytes()
+        && err.bytes.as_slice() == told.as_bytes()
+        && status == ended
+}
+
+/// Whether this is written, to a page with so much room, and told of the comparison of a listing with that of a dump.
+pub(crate) fn confirms_from<D: Source, L: Source + Drop>(
+    alloc: Global,
+    binding: &[u8],
+    dump: &mut D,
+    listing: L,
+    skew: u64,
+    room: usize,
+    wanted: WantedConfirmation<'_>,
+) -> bool {
+    let mut out = Page::new(alloc, room);
+    let mut err = Page::new(alloc, 1000);
+    let (status, _) = confirm_with(
+        alloc,
+        &mut Bytes::new(binding),
+        dump,
+        listing,
+        skew,
+        &mut out,
+        &mut err,
+    );
+    has_told(&out, &err, status, wanted)
+}
+
+/// Whether this is written and told of a listing and a dump.
+fn confirms<L: Source + Drop>(
+    alloc: Global,
+    binding: &[u8],
+    dump: &str,
+    listing: L,
+    skew: u64,
+    wanted: WantedConfirmation<'_>,
+) -> bool {
+    let mut dump = Bytes::new(dump.as_bytes());
+    confirms_from(alloc, binding, &mut dump, listing, skew, 1000, wanted)
+}
+
+/// Whether this is written and told of the dump and its listing, in which one text stands in place of another.
+fn confirms_other_listing(
+    alloc: Global,
+    old: &str,
+    new: &str,
+    wanted: WantedConfirmation<'_>,
+) -> Option<bool> {
+    let listing = LISTING.replace(alloc, old, new).ok()?;
+    let listing = Bytes::new(listing.as_bytes());
+    Some(confirms(alloc, BINDING, DUMP, listing, 0, wanted))
+}
+
+/// Whether this is written and told of a listing and the dump, in which one text stands in place of another.
+fn confirms_other_dump(
+    alloc: Global,
+    old: &str,
+    new: &str,
+    listing: &str,
+    wanted: WantedConfirmation<'_>,
+) -> Option<bool> {
+    let dump = DUMP.replace(alloc, old, new).ok()?;
+    let listing = Bytes::new(listing.as_bytes());
+    Some(confirms(alloc, BINDING, dump.as_str(), listing, 0, wanted))
+}
+
+/// What stands in the listing in place of what, what is written of it, and the status.
+static CONFIRMATIONS: [(&str, &str, &str, u8); 9] = [
+    ("listing 3", "listing 3", "confirmed\n", 0),
+    ("listing 3", "listing 2", "confirmed\n", 0),
+    ("listing 3", "listing 1", "confirmed\n", 0),
+    ("tenure 1 open end -\n", "", "not confirmed at row 2\n", 1),
+    (
+        "cycle 2 S 3D FFFFFE end 5\n",
+        "",
+        "not confirmed at row 3\n",
+        1,
+    ),
+    (
+        "FFFFFE end 5\n",
+        "FFFFFE end 4294967295\n",
+        "not confirmed at row 3\n",
+        1,
+    ),
+    ("close 5", "close 6", "not confirmed at row 4\n", 1),
+    (
+        "conforming",
+        "broken H4 3 DTACK",
+        "not confirmed at row 5\n",
+        1,
+    ),
+    (
+        "verdict",
+        "transfer 6 read pending\nverdict",
+        "not confirmed at row 5\n",
+        1,
+    ),
+];
+
+#[test]
+fn confirmations(rt: HostRuntime) {
+    for (old, new, text, status) in CONFIRMATIONS.iter() {
+        let wanted = (*text, "", *status);
+        let is_so = confirms_other_listing(rt.alloc(), old, new, wanted).unwrap_or(false);
+        assert!(rt; is_so, "{old} {new}");
+    }
+}
+
+/// What stands in the dump in place of what, and its listing.
+static OTHER_DUMPS: [(&str, &str, &str); 3] = [
+    (
+        "#0 1p 1q 1r 1s 1t 1u\n#10 0p\n#20 0q\n#30 0s\n#40 1p 1q\n#50 1s\n",
+        "",
+        "vmecheck listing 3\nverdict never-idle\n",
+    ),
+    (
+        "#20 0q\n",
+        "",
+        "vmecheck listing 3\nstart 1\ntenure 1 open end -\ncycle 2 S 3D FFFFFE end -\n\
+verdict broken H4 3 DTACK\n",
+    ),
+    (
+        "#10 0p",
+        "#10 xp",
+        "vmecheck listing 3\nstart 1\ntenure 1 open end -\nverdict unreadable U1 2 AS\n",
+    ),
+];
+
+#[test]
+fn other_verdicts(rt: HostRuntime) {
+    for (old, new, listing) in OTHER_DUMPS.iter() {
+        let wanted = ("confirmed\n", "", 0);
+        let is_so = confirms_other_dump(rt.alloc(), old, new, listing, wanted).unwrap_or(false);
+        assert!(rt; is_so, "{listing}");
+    }
+}
+
+/// What stands in the listing in place of what, and the fault that is told.
+static LISTING_FAULTS: [(&str, &str, &str); 6] = [
+    (LISTING, "", "vmecheck: listing header\n"),
+    ("listing 3", "listing 4", "vmecheck: listing header\n"),
+    (
+        "verdict conforming\n",
+        "",
+        "vmecheck: listing row 5: BadRow\n",
+    ),
+    (
+        "conforming\n",
+        "conforming\n\n",
+        "vmecheck: listing row 5: BadRow\n",
+    ),
+    ("S 3D", "K 3D", "vmecheck: listing row 3: BadRow\n"),
+    ("cycle 2", "cycle 0", "vmecheck: listing row 3: Unsorted\n"),
+];
+
+#[test]
+fn listing_faults(rt: HostRuntime) {
+    for (old, new, text) in LISTING_FAULTS.iter() {
+        let wanted = ("", *text, 3);
+        let is_so = confirms_other_listing(rt.alloc(), old, new, wanted).unwrap_or(false);
+        assert!(rt; is_so, "{old} {new}");
+    }
+}
+
+/// Bindings and dumps, and what is told of each beside a listing that can't be read.
+static TOLD_BEFORE: [(&[u8], &str, &str); 4] = [
+    (b"slots 22", "", "vmecheck: binding line 1: SlotsFirst\n"),
+    (BINDING, "", "vmecheck: dump line 1: NoEndDefinitions\n"),
+    (BINDING, UNBOUND, "vmecheck: cannot read listing\n"),
+    (BINDING, DUMP, "vmecheck: cannot read listing\n"),
+];
+
+#[test]
+fn listing_is_told_last(rt: HostRuntime) {
+    for (binding, dump, text) in TOLD_BEFORE.iter() {
+        let listing = Io::new(Broken);
+        let wanted = ("", *text, 3);
+        assert!(rt;
+            confirms(rt.alloc(), binding, dump, listing, 0, wanted),
+            "{text}"
+        );
+    }
+}
+
+#[test]
+fn a_fault_of_a_body_is_told_before_the_listing(rt: HostRuntime) {
+    let alloc = rt.alloc();
+    let wanted = ("", "vmecheck: dump line 16: UndeclaredCode\n", 3);
+    assert!(rt; confirms_other_dump(alloc, "#50 1s", "#50 1!", "", wanted) == Some(true));
+    assert!(rt; confirms_other_dump(alloc, "#50 1s", "#50 1!", LISTING, wanted) == Some(true));
+}
+
+/// Dumps with no path of the binding, listings, and what is told.
+static UNBOUND_DUMPS: [(&str, &str, &str); 3] = [
+    (UNBOUND, "", "vmecheck: listing header\n"),
+    (UNBOUND, LISTING, "vmecheck: binding line 2: NoSuchPath\n"),
+    (
+        "$enddefinitions $end\n1!\n",
+        LISTING,
+        "vmecheck: dump line 2: UndeclaredCode\n",
+    ),
+];
+
+#[test]
+fn binding_that_makes_no_recording_is_told_last(rt: HostRuntime) {
+    for (dump, listing, text) in UNBOUND_DUMPS.iter() {
+        let listing = Bytes::new(listing.as_bytes());
+        let wanted = ("", *text, 3);
+        assert!(rt;
+            confirms(rt.alloc(), BINDING, dump, listing, 0, wanted),
+            "{text}"
+        );
+    }
+}
+
+/// Run with each allocation refused in turn, this shows that the answer is then want of memory.
+#[test]
+fn want_of_memory_is_told(rt: HostRuntime) {
+    let (Ok(mut out), Ok(mut err)) = (
+        Page::with_room(rt.alloc(), 100),
+        Page::with_room(rt.alloc(), 100),
+    ) else {
+        return;
+    };
+    let (ended, _) = confirm_with(
+        rt.alloc(),
+        &mut Bytes::new(BINDING),
+        &mut Bytes::new(DUMP.as_bytes()),
+        Bytes::new(LISTING.as_bytes()),
+        3,
+        &mut out,
+        &mut err,
+    );
+    let wanted = if ended == 4 {
+        ("", "vmecheck: out of memory\n", 4)
+    } else {
+        ("confirmed\n", "", 0)
+    };
+    assert!(rt; has_told(&out, &err, ended, wanted));
+}
+
+/// A dump whose answer is told before its strobe.
+const LATE_STROBE: &str = "$timescale 1 ns $end
+$scope module bus $end
+$var wire 1 p AS $end
+$var wire 1 q DS0 $end
+$var wire 1 r DS1 $end
+$var wire 1 s DTACK $end
+$var wire 1 t BERR $end
+$var wire 1 u IACK $end
+$upscope $end
+$enddefinitions $end
+#0 1p 1q 1r 1s 1t 1u
+#10 0p
+#20 0s
+#23 0q
+#40 1p 1q
+#50 1s
+";
+
+/// Its listing by a skew under 3.
+const BROKEN: &str = "vmecheck listing 3
+start 1
+tenure 1 open end -
+cycle 2 S 3D FFFFFE end -
+verdict broken H4 3 DTACK
+";
+
+/// By 3: both fall at one instant.
+const SETTLED: &str = "vmecheck listing 3
+start 1
+tenure 1 open end -
+cycle 2 S 3D FFFFFE end 4
+transfer 3 of 2 read DTACK 3 close 4
+verdict conforming
+";
+
+/// By 12: AS too falls at the first instant.
+const LATE: &str = "vmecheck listing 3
+start 3
+tenure 3 open end -
+verdict conforming
+";
+
+/// By more than the recording is long: it has one instant.
+const ONE: &str = "vmecheck listing 3
+start 1
+tenure 1 open end -
+verdict conforming
+";
+
+/// Skews, a listing, what is written of it by each, and the status.
+static SKEWS: [(u64, &str, &str, u8); 8] = [
+    (0, BROKEN, "confirmed\n", 0),
+    (2, BROKEN, "confirmed\n", 0),
+    (3, SETTLED, "confirmed\n", 0),
+    (12, LATE, "confirmed\n", 0),
+    (50, ONE, "confirmed\n", 0),
+    (u64::MAX, ONE, "confirmed\n", 0),
+    (2, SETTLED, "not confirmed at row 3\n", 1),
+    (12, SETTLED, "not confirmed at row 1\n", 1),
+];
+
+#[test]
+fn a_listing_is_confirmed_by_its_skew(rt: HostRuntime) {
+    for (skew, listing, text, status) in SKEWS.iter() {
+        let listing = Bytes::new(listing.as_bytes());
+        let wanted = (*text, "", *status);
+        assert!(rt;
+            confirms(rt.alloc(), BINDING, LATE_STROBE, listing, *skew, wanted),
+            "{skew} {text}"
+        );
+    }
+}
+
+/// The binding with the system reset, which is bound by a line more.
+const RESET_BINDING: &[u8] = b"slots 1
+AS = bus.AS
+DS0 = bus.DS0
+DS1 = bus.DS1
+DTACK = bus.DTACK
+BERR = bus.BERR
+IACK = bus.IACK
+AM0 = 1
+AM1 = 0
+AM2 = 1
+AM3 = 1
+AM4 = 1
+AM5 = 1
+LWORD = 1
+WRITE = 1
+A = 1
+BBSY = 0
+BR = 1
+BG0 = 1
+BG1 = 1
+BG2 = 1
+BG3 = 1
+IA = 1
+SYSRESET = bus.SYSRESET
+";
+
+/// A dump of a read that a reset ends, after which the bus is idle again.
+const RESET: &str = "$timescale 1 ns $end
+$scope module bus $end
+$var wire 1 p AS $end
+$var wire 1 q DS0 $end
+$var wire 1 r DS1 $end
+$var wire 1 s DTACK $end
+$var wire 1 t BERR $end
+$var wire 1 u IACK $end
+$var wire 1 v SYSRESET $end
+$upscope $end
+$enddefinitions $end
+#0 1p 1q 1r 1s 1t 1u 1v
+#10 0p
+#20 0q
+#25 0v
+#30 1p 1q
+#40 1v
+";
+
+const RESET_LISTING: &str = "vmecheck listing 3
+start 1
+tenure 1 open end -
+cycle 2 S 3D FFFFFE end -
+transfer 3 read pending
+reset 4
+start 6
+tenure 6 open end -
+verdict conforming
+";
+
+#[test]
+fn a_reset_is_confirmed(rt: HostRuntime) {
+    let listing = Bytes::new(RESET_LISTING.as_bytes());
+    let wanted = ("confirmed\n", "", 0);
+    assert!(rt; confirms(rt.alloc(), RESET_BINDING, RESET, listing, 0, wanted));
+}

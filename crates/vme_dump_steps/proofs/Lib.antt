@@ -1,0 +1,3 @@
+pub mod SettlingLemmas
+pub mod FirstSteps
+pub mod ReadSteps

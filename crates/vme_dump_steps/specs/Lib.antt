@@ -1,0 +1,2 @@
+pub mod SettledReadings
+pub mod SettledSteps

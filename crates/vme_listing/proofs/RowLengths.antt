@@ -1,0 +1,158 @@
+-- How long the text of a row is at most.
+use Rattle.std.proofs.Common.{◌≡◌, ℕ, ◌+◌, ◌/◌, ◌^◌, ◌<◌, ◌≤◌, Bool, true, false, ◌&&◌, List, [], ◌∷◌, ◌++◌, length, refl}
+use Rattle.std.proofs.Common.{sym, ap, arith, length-append}
+use Rattle.std.specs.Prelude.{Option, None, Some, ◌==◌, codes, decimal, nat_lt, nat_le, if◌then◌else◌}
+use Rattle.std.specs.Fmt.{digits}
+use Rattle.std.proofs.lemmas.Bool.{agree_below, agree_below_at, and_parts, eqb-true, leb-true, ltb-true}
+use Rattle.std.proofs.lemmas.Fmt.{length-decimal-le}
+use Rattle.vme_trace.specs.Cycle.{highest_address, is_extended, is_standard, is_short}
+use Rattle.vme_trace.specs.LineNumbers.{line_count}
+use Rattle.vme_trace.specs.Names.{line_name}
+use Rattle.vme_trace.specs.Rules.{rule_name}
+use Rattle.vme_trace.specs.declared.class.Class.{Class}
+use Rattle.vme_trace.specs.declared.class.Class.TheVariants as class
+use Rattle.vme_trace.specs.declared.data.Lanes.{Lanes}
+use Rattle.vme_trace.specs.declared.rule.Rule.{Rule}
+use Rattle.vme_trace.proofs.EveryRule.{every-rule}
+use Rattle.vme_listing.specs.Listed.{tells_resets}
+use Rattle.vme_listing.specs.Places.{has_class, has_data, is_address, is_edge, is_number, is_outcome, is_row}
+use Rattle.vme_listing.specs.RowText.{address_digits, answer_text, break_text, class_text, data_text, direction_text}
+use Rattle.vme_listing.specs.RowText.{edge_text, hexadecimal, line_of, row_text}
+use Rattle.vme_listing.specs.declared.row.AnswerLine.{AnswerLine}
+use Rattle.vme_listing.specs.declared.row.AnswerLine.TheVariants.{Dtack, Berr}
+use Rattle.vme_listing.specs.declared.row.Direction.{Direction}
+use Rattle.vme_listing.specs.declared.row.Direction.TheVariants.{Read, Write}
+use Rattle.vme_listing.specs.declared.row.ListedVerdict.{ListedVerdict}
+use Rattle.vme_listing.specs.declared.row.ListedVerdict.TheVariants.{Conforming, NeverIdle, Broken, Unreadable}
+use Rattle.vme_listing.specs.declared.row.Row.{Row}
+use Rattle.vme_listing.specs.declared.row.Row.TheVariants.{Start, Reset, OpenTenure, Tenure, AddressedCycle, FreeCycle}
+use Rattle.vme_listing.specs.declared.row.Row.TheVariants.{InterruptCycle, Transfer, PendingTransfer, Verdict}
+use Rattle.vme_listing.specs.declared.row.Version.{Version}
+use Rattle.vme_listing.proofs.FrontHexadecimals.{hexadecimal-length, lanes-length}
+
+decimal-short : (n : ℕ) → n < 2 ^ 32 → length (decimal n) ≤ 10
+decimal-short n h = length-decimal-le 10 n (omega arith) (omega arith) (omega arith)
+
+number-short : (n : ℕ) → is_number n ≡ true → length (decimal n) ≤ 10
+number-short n h = decimal-short n (ltb-true n (2 ^ 32) h)
+
+edge-short : (edge : Option ℕ) → is_edge edge ≡ true → length (edge_text edge) ≤ 10
+edge-short None h = omega arith
+edge-short (Some n) h = number-short n h
+
+class-short : (class : Class) → length (class_text class) ≤ 1
+class-short class.S = omega arith
+class-short class.K = omega arith
+class-short class.I = omega arith
+class-short class.F = omega arith
+
+direction-short : (direction : Direction) → length (direction_text direction) ≤ 5
+direction-short Read = omega arith
+direction-short Write = omega arith
+
+answer-short : (line : AnswerLine) → length (answer_text line) ≤ 5
+answer-short Dtack = omega arith
+answer-short Berr = omega arith
+
+data-short : (lanes : Option Lanes) → length (data_text lanes) ≤ 14
+data-short None = omega arith
+data-short (Some a) = omega (arith, lanes-length a, length-append {A = ℕ})
+
+digits_by : (extended standard short : Bool)
+    → ((if extended then 31 else if standard then 23 else if short then 15 else 0) + 1) / 4 ≤ 8
+digits_by true standard short = omega arith
+digits_by false true short = omega arith
+digits_by false false true = omega arith
+digits_by false false false = omega arith
+
+few_digits : (modifier : ℕ) → address_digits modifier ≤ 8
+unfolding highest_address
+few_digits modifier = digits_by (is_extended modifier) (is_standard modifier) (is_short modifier)
+
+rule-short : (rule : Rule) → length (rule_name rule) ≡ 2
+rule-short rule = eqb-true (length (rule_name rule)) 2 (every-rule (λ r. length (rule_name r) == 2) refl rule)
+
+all_lines : agree_below (λ l. nat_le (length (line_name l)) 16) (λ l. true) line_count ≡ true
+unfolding digits
+all_lines = refl
+
+line-short : (line : ℕ) → nat_lt line line_count ≡ true → length (line_name line) ≤ 16
+line-short line h = leb-true (length (line_name line)) 16
+    (agree_below_at (λ l. nat_le (length (line_name l)) 16) (λ l. true) line_count line all_lines
+    (ltb-true line line_count h))
+
+break-short : (rule : Rule) (instant line : ℕ) → is_number instant ≡ true → nat_lt line line_count ≡ true
+    → length (break_text rule instant line) ≤ 30
+break-short rule instant line p q =
+    simp length-append (omega (arith, rule-short rule, number-short instant p, line-short line q))
+
+outcome-short : (outcome : ListedVerdict) → is_outcome outcome ≡ true → length (row_text (Verdict outcome)) ≤ 95
+unfolding row_text
+outcome-short Conforming h = omega arith
+outcome-short NeverIdle h = omega arith
+outcome-short (Broken rule instant line) h =
+    let parts = and_parts _ (nat_lt line line_count) h in
+    let short = break-short rule instant line (and_parts _ (is_number instant) parts.0).1 parts.1 in
+    omega (arith, short, length-append (codes "verdict broken ") (break_text rule instant line))
+outcome-short (Unreadable rule instant line) h =
+    let parts = and_parts _ (nat_lt line line_count) h in
+    let short = break-short rule instant line (and_parts _ (is_number instant) parts.0).1 parts.1 in
+    omega (arith, short, length-append (codes "verdict unreadable ") (break_text rule instant line))
+
+row-short : (version : Version) (row : Row) → is_row version row ≡ true → length (row_text row) ≤ 95
+unfolding is_row row_text
+row-short version (Start instant) h = simp length-append (omega (arith, number-short instant h))
+row-short version (Reset instant) h =
+    let n = number-short instant (and_parts (tells_resets version) (is_number instant) h).1 in
+    simp length-append (omega (arith, n))
+row-short version (OpenTenure start end) h =
+    let p = and_parts (is_number start) (is_edge end) h in
+    simp length-append (omega (arith, number-short start p.0, edge-short end p.1))
+row-short version (Tenure start level slot end) h =
+    let e = and_parts (is_number start && nat_lt level 4 && nat_le 1 slot && nat_le slot 21) (is_edge end) h in
+    let most = and_parts (is_number start && nat_lt level 4 && nat_le 1 slot) (nat_le slot 21) e.0 in
+    let least = and_parts (is_number start && nat_lt level 4) (nat_le 1 slot) most.0 in
+    let p = and_parts (is_number start) (nat_lt level 4) least.0 in
+    let l = decimal-short level (omega (arith, ltb-true level 4 p.1)) in
+    let n = decimal-short slot (omega (arith, leb-true slot 21 most.1)) in
+    simp length-append (omega (arith, number-short start p.0, l, n, edge-short end e.1))
+row-short version (AddressedCycle start class modifier address end) h =
+    let e = and_parts (is_number start && has_class modifier class && is_address modifier address) (is_edge end) h in
+    let a = and_parts (is_number start && has_class modifier class) (is_address modifier address) e.0 in
+    let p = and_parts (is_number start) (has_class modifier class) a.0 in
+    let s = number-short start p.0 in
+    let k = class-short class in
+    let m = hexadecimal-length 2 modifier in
+    let n = hexadecimal-length (address_digits modifier) address in
+    simp length-append (omega (arith, s, k, m, n, few_digits modifier, edge-short end e.1))
+row-short version (FreeCycle start modifier end) h =
+    let e = and_parts _ (is_edge end) h in
+    let free = and_parts (is_number start && nat_lt modifier 64) _ e.0 in
+    let p = and_parts (is_number start) (nat_lt modifier 64) free.0 in
+    let m = hexadecimal-length 2 modifier in
+    simp length-append (omega (arith, number-short start p.0, m, edge-short end e.1))
+row-short version (InterruptCycle start level end) h =
+    let e = and_parts (is_number start && nat_lt level 8) (is_edge end) h in
+    let p = and_parts (is_number start) (nat_lt level 8) e.0 in
+    let l = decimal-short level (omega (arith, ltb-true level 8 p.1)) in
+    simp length-append (omega (arith, number-short start p.0, l, edge-short end e.1))
+row-short version (Transfer direction line start cycle answer close lanes) h =
+    let d = and_parts (is_number start && is_number cycle && is_number answer && is_edge close)
+    (has_data version direction lanes) h in
+    let e = and_parts (is_number start && is_number cycle && is_number answer) (is_edge close) d.0 in
+    let a = and_parts (is_number start && is_number cycle) (is_number answer) e.0 in
+    let p = and_parts (is_number start) (is_number cycle) a.0 in
+    let s = number-short start p.0 in
+    let i = number-short cycle p.1 in
+    let w = direction-short direction in
+    let l = answer-short line in
+    let n = number-short answer a.1 in
+    simp length-append (omega (arith, s, i, w, l, n, edge-short close e.1, data-short lanes))
+row-short version (PendingTransfer start direction) h =
+    simp length-append (omega (arith, number-short start h, direction-short direction))
+row-short version (Verdict outcome) h = outcome-short outcome h
+
+-- a line with its line feed
+pub line-short-enough : (version : Version) (row : Row) → is_row version row ≡ true → length (line_of row) ≤ 96
+line-short-enough version row h =
+    simp length-append (omega (arith, row-short version row h))
