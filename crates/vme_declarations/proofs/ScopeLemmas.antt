@@ -19,7 +19,8 @@ use Rattle.vcd_read.specs.Sections.{Headed, defined}
 use Rattle.vcd_read.proofs.DumpLemmas.{dump_behind, whole_header, with_variables}
 use Rattle.vcd_read.proofs.ScopesLemmas.{path_of-is}
 use Rattle.vme_declarations.specs.Dumps.{IsDump}
-use Rattle.vme_declarations.specs.Scopes.{DefinesScope, HasScope, LacksScope, ScopeSought, has_scope, path_begins, sought_in}
+use Rattle.vme_declarations.specs.Scopes.{DefinesScope, HasScope, LacksScope, ScopeSought, has_scope, path_begins}
+use Rattle.vme_declarations.specs.Scopes.{sought_in}
 
 -- ---- the search
 

@@ -10,7 +10,8 @@ returns-then-eq c =
     let le : length c.args.outer.now ≤ length front = omega (arith, c.if-front-outer.false) in
     c.starts_with-then-eq.ensures.value
     ∙ sym (starts-cut front c.args.outer.now c.args.inner.now _ _ le c.split_at.ensures.front c.split_at.ensures.back
-    ∙ ap (λ (b : Bool). b && starts_with nat_eq c.args.inner.now c.split_at.result.1.now) (sym c.eq.ensures ∙ c.if-eq.true))
+    ∙ ap (λ (b : Bool). b && starts_with nat_eq c.args.inner.now c.split_at.result.1.now)
+    (sym c.eq.ensures ∙ c.if-eq.true))
 
 pub returns-else-eq : goal.returns-else-eq
 returns-else-eq c =
@@ -18,4 +19,5 @@ returns-else-eq c =
     let le : length c.args.outer.now ≤ length front = omega (arith, c.if-front-outer.false) in
     c.if-eq.false
     ∙ sym (starts-cut front c.args.outer.now c.args.inner.now _ _ le c.split_at.ensures.front c.split_at.ensures.back
-    ∙ ap (λ (b : Bool). b && starts_with nat_eq c.args.inner.now c.split_at.result.1.now) (sym c.eq.ensures ∙ c.if-eq.false))
+    ∙ ap (λ (b : Bool). b && starts_with nat_eq c.args.inner.now c.split_at.result.1.now)
+    (sym c.eq.ensures ∙ c.if-eq.false))
