@@ -43,7 +43,8 @@ pub struct Checker<S: RowSource> {
 
 impl<S: RowSource> Checker<S> {
     ghost use Rattle.vme_cert.specs.Breaking.{LeadToInstant};
-    ghost use Rattle.vme_cert.specs.Checking.{Checks, HasCompared, HasFollowed, IsJudging, IsWaiting, MayGoOn, at_opening};
+    ghost use Rattle.vme_cert.specs.Checking.{Checks, HasCompared, HasFollowed, IsJudging, IsWaiting, MayGoOn};
+    ghost use Rattle.vme_cert.specs.Checking.{at_opening};
     ghost use Rattle.vme_cert.specs.Comparing.{Decides};
     ghost use Rattle.vme_cert.specs.Instant.{IsBusOf};
     ghost use Rattle.vme_cert.specs.declared.checker.Stage.TheVariants.{Ended, Waiting};

@@ -12,9 +12,11 @@ use Rattle.vme_listing.specs.declared.fault.ListFault.TheVariants as list
 use Rattle.vme_cert.specs.declared.compare.Answer.{Answer as Confirmation}
 use Rattle.vme_cert.specs.declared.compare.Answer.TheVariants.{Yes, No}
 use Rattle.vme_answer.specs.Answers.{CommandAnswer, AnswerGives, binding_read, dump_read}
-use Rattle.vme_confirm_command.specs.Confirmations.{Confirms, GivesConfirmation, GivesRows, IsConfirmation, IsFound, IsListing}
+use Rattle.vme_confirm_command.specs.Confirmations.{Confirms, GivesConfirmation, GivesRows, IsConfirmation, IsFound}
+use Rattle.vme_confirm_command.specs.Confirmations.{IsListing}
 use Rattle.vme_confirm_command.specs.Confirmations.{compared_settled, confirmation_answer_by}
-use Rattle.vme_confirm_command.specs.Confirmations.{confirmation_status, listing_text, longest_listing, TellsConfirmation}
+use Rattle.vme_confirm_command.specs.Confirmations.{confirmation_status, listing_text, longest_listing}
+use Rattle.vme_confirm_command.specs.Confirmations.{TellsConfirmation}
 use Rattle.vme_answer.specs.Ends.{Tells, Ends}
 use Rattle.vme_stream.specs.Inputs.{TellsWhole}
 use Rattle.vme_answer.specs.Refusals.{listing_refusal}

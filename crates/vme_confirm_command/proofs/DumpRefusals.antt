@@ -33,7 +33,8 @@ read_or whole = whole >>= λ text. or_bad_dump (dump_of text)
 pub dump-is : (text : List ℕ) → length text ≤ longest_input → (r : Result Contents VcdFault) → dump_of text ≡ r
     → dump_read (Some text) ≡ or_bad_dump r
 unfolding dump_read
-dump-is text short r is = ap read_or (whole_is Dump text short) ∙ ap (λ (w : Result Contents VcdFault). or_bad_dump w) is
+dump-is text short r is =
+    ap read_or (whole_is Dump text short) ∙ ap (λ (w : Result Contents VcdFault). or_bad_dump w) is
 
 -- it can't be had
 pub unread-is : (old now : Reading) (fault : InFault) → FailsAs longest_input old now fault

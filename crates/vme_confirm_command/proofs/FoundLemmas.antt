@@ -43,7 +43,8 @@ module _ (version : Version) (right : List Row) (given more : List Row) (over : 
 
 -- it has no fault
 pub found-whole : (old : Reading) (version : Version) (now : Reading) (given : List Row) (over : Type 0)
-    (right : Result (List Row) BindFault) (found : Result Answer BindFault) → EndsRows old version now given over (Ok tt)
+    (right : Result (List Row) BindFault) (found : Result Answer BindFault)
+    → EndsRows old version now given over (Ok tt)
     → FindsRows version right found given over → (result : Result Answer Refusal)
     → result ≡ or_bad_binding found → EndsFound old version now right result
 found-whole old version now given over right found ends finds result is =

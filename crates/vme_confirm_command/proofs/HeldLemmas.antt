@@ -13,7 +13,8 @@ use Rattle.vme_stream.proofs.InputLemmas.{gives_more, in_time, read_to_end, read
 use Rattle.vme_stream.specs.InFaults.{InputFailsBy}
 use Rattle.vme_stream.specs.declared.input.InFault.{InFault}
 use Rattle.vme_stream.specs.declared.input.InFault.TheVariants as failed
-use Rattle.vme_confirm_command.specs.HeldInputs.{FailsAs, InputSoFar, IsAllOf, IsReadTo, IsToldWhole, MayLimit, not_read}
+use Rattle.vme_confirm_command.specs.HeldInputs.{FailsAs, InputSoFar, IsAllOf, IsReadTo, IsToldWhole, MayLimit}
+use Rattle.vme_confirm_command.specs.HeldInputs.{not_read}
 
 module _ (old now : Reading) (done : List ℕ) (input : InputSoFar) (h : IsReadTo old now done input) where
   -- some of what is held is taken
@@ -162,7 +163,8 @@ module _ (old now : Reading) (done : List ℕ) (input : InputSoFar) (h : IsReadT
       more-full full room read n enough all = omega (arith, suc-mul full room, enough, all)
 
       -- more bytes are read
-      pub read-on : input.read + length more ≤ input.limit + input.room → (length more < input.room → later.short_reads ≡ suc now.short_reads)
+      pub read-on : input.read + length more ≤ input.limit + input.room
+          → (length more < input.room → later.short_reads ≡ suc now.short_reads)
           → (input.room ≤ length more → later.short_reads ≡ now.short_reads)
           → IsReadTo old later done
           (record input { held = input.held ++ more; read = input.read + length more; reads = input.reads + 1 })
@@ -223,8 +225,8 @@ module _ (old now later : Reading) (done : List ℕ) (before after : InputSoFar)
   read-some some read reads whole consumed same reads_are short full less going within =
       subst (IsReadTo old later done)
       (sym (same-input after
-      (record before { held = before.held ++ more; read = before.read + length more; reads = before.reads + 1 }) held limit
-      room (read ∙ ap (λ n. before.read + n) (sym long)) reads whole))
+      (record before { held = before.held ++ more; read = before.read + length more; reads = before.reads + 1 }) held
+      limit room (read ∙ ap (λ n. before.read + n) (sym long)) reads whole))
       (read-on old now done before h later more (omega (arith, some, long)) consumed same reads_are less going
       (omega (arith, long, within)) (λ l. short (omega (arith, l, long))) (λ l. full (omega (arith, l, long))))
 

@@ -10,7 +10,8 @@ use Rattle.vme_listing.specs.declared.row.Version.{Version}
 use Rattle.vme_stream.specs.declared.input.InFault.{InFault}
 use Rattle.vme_confirm_command.specs.Confirmations.{longest_listing}
 use Rattle.vme_confirm_command.specs.HeldInputs.{FailsAs, InputSoFar, IsAllOf}
-use Rattle.vme_confirm_command.specs.RowsOfListing.{AreRead, EndsAt, EndsRows, GaveRows, HasTextFault, IsOver, IsWholeText}
+use Rattle.vme_confirm_command.specs.RowsOfListing.{AreRead, EndsAt, EndsRows, GaveRows, HasTextFault, IsOver}
+use Rattle.vme_confirm_command.specs.RowsOfListing.{IsWholeText}
 use Rattle.vme_confirm_command.specs.RowsOfListing.{ReadsRow}
 use Rattle.vme_confirm_command.specs.declared.rows_fault.RowsFault.{RowsFault}
 use Rattle.vme_confirm_command.specs.declared.rows_fault.RowsFault.TheVariants.{Input, Text}

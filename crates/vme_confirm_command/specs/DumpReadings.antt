@@ -110,5 +110,6 @@ module _ {Whole Source : Type 0} (gave : Whole → Source → List Row → Type 
       (capture_of bound contents ≡ Err fault) × ((rows : List Row) × gave whole source rows)
 
   abbrev pub Compares : Reading → Reading → Result (Result Answer BindFault) Refusal → Source → Type 0
-  Compares old now (Ok found) source = (contents : Contents) × IsReadDump old now contents × FindsOf contents found source
+  Compares old now (Ok found) source =
+      (contents : Contents) × IsReadDump old now contents × FindsOf contents found source
   Compares old now (Err refusal) source = IsDumpRefused old now refusal × ((rows : List Row) × gave whole source rows)

@@ -1,5 +1,6 @@
 -- How far an input is read, of which some bytes were taken.
-use Rattle.std.specs.Prelude.{◌≡◌, ℕ, suc, ◌+◌, ◌-◌, ◌*◌, ◌≤◌, ◌<◌, if◌then◌else◌, Bool, true, false, List, [], ◌++◌, length, Option, None, Some, IfSome}
+use Rattle.std.specs.Prelude.{◌≡◌, ℕ, suc, ◌+◌, ◌-◌, ◌*◌, ◌≤◌, ◌<◌, if◌then◌else◌, Bool, true, false, List, [], ◌++◌}
+use Rattle.std.specs.Prelude.{length, Option, None, Some, IfSome}
 use Rattle.std.specs.Io.KnownBytes.{Consumes}
 use Rattle.vme_trace.specs.Streams.{Reading}
 use Rattle.vme_stream.specs.Inputs.{IsReading, most_reads}

@@ -4,7 +4,8 @@ use Rattle.std.specs.Prelude.{Result, Ok, Err, is_none}
 use Rattle.std.specs.Option.{ForSome}
 use Rattle.vme_trace.specs.Streams.{Reading}
 use Rattle.vme_listing.specs.Places.{ends_listing}
-use Rattle.vme_listing.specs.Reading.{HasRead, IsFaultOfText, IsFollowedBy, IsTextOfListing, RowsSoFar, behind_rows, listed}
+use Rattle.vme_listing.specs.Reading.{HasRead, IsFaultOfText, IsFollowedBy, IsTextOfListing, RowsSoFar, behind_rows}
+use Rattle.vme_listing.specs.Reading.{listed}
 use Rattle.vme_listing.specs.declared.fault.ListFault.{ListFault}
 use Rattle.vme_listing.specs.declared.row.Row.{Row}
 use Rattle.vme_listing.specs.declared.row.Version.{Version}

@@ -12,7 +12,8 @@ ghost use Rattle.vme_answer.specs.declared.refusal.Refusal.TheVariants.{BadBindi
 ghost use Rattle.vme_bind.specs.declared.fault.BindFault.{BindFault};
 ghost use Rattle.vme_confirm_command.specs.declared.definitions.Begun.TheVariants.{Body, Unusable};
 ghost use Rattle.vme_confirm_command.specs.HeldInputs.{IsReadTo, not_read};
-ghost use Rattle.vme_confirm_command.specs.DumpReadings.{HasFaultBefore, IsDumpRefused, MayBeRead, MayBeReadIf, MayBegin};
+ghost use Rattle.vme_confirm_command.specs.DumpReadings.{HasFaultBefore, IsDumpRefused, MayBeRead, MayBeReadIf};
+ghost use Rattle.vme_confirm_command.specs.DumpReadings.{MayBegin};
 ghost use Rattle.vme_confirm_command.specs.DumpReadings.{BeginsDump};
 
 use crate::held_input::HeldInput;

@@ -1,6 +1,7 @@
 //! The next row of a listing, of which as many bytes are read as a line has at most.
 
-ghost use Rattle.std.specs.Prelude.{◌≡◌, ◌+◌, ◌^◌, ◌<◌, ◌≤◌, ℕ, List, [], true, false, Option, Some, None, Ok, IfErr, IfOk, IfSome, OnOk, length};
+ghost use Rattle.std.specs.Prelude.{◌≡◌, ◌+◌, ◌^◌, ◌<◌, ◌≤◌, ℕ, List, [], true, false, Option, Some, None, Ok, IfErr};
+ghost use Rattle.std.specs.Prelude.{IfOk, IfSome, OnOk, length};
 ghost use Rattle.vme_trace.specs.Streams.{Reading};
 ghost use Rattle.vme_listing.specs.Places.{ends_listing};
 ghost use Rattle.vme_listing.specs.declared.row.Row.{Row};

@@ -1,5 +1,6 @@
 -- How long the text of a row is at most.
-use Rattle.std.proofs.Common.{◌≡◌, ℕ, ◌+◌, ◌/◌, ◌^◌, ◌<◌, ◌≤◌, Bool, true, false, ◌&&◌, List, [], ◌∷◌, ◌++◌, length, refl}
+use Rattle.std.proofs.Common.{◌≡◌, ℕ, ◌+◌, ◌/◌, ◌^◌, ◌<◌, ◌≤◌, Bool, true, false, ◌&&◌, List, [], ◌∷◌, ◌++◌, length}
+use Rattle.std.proofs.Common.{refl}
 use Rattle.std.proofs.Common.{sym, ap, arith, length-append}
 use Rattle.std.specs.Prelude.{Option, None, Some, ◌==◌, codes, decimal, nat_lt, nat_le, if◌then◌else◌}
 use Rattle.std.specs.Fmt.{digits}

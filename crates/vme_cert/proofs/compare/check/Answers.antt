@@ -21,8 +21,11 @@ take-requires g c =
     let t = c.args.capture.now in
     let i = c.loop-step.step-index in
     let found = step_at t c.steps-step-items.result.now i c.step-item.result c.steps-step-items.ensures.steps
-    c.loop-step-test.true c.step-item.is in
-    (recorded_to t i, c.loop-step.invariant.taken, may-go_on t i c.step-item.result c.steps-step-items.ensures.sound found)
+    c.loop-step-test.true c.step-item.is in (
+      recorded_to t i,
+      c.loop-step.invariant.taken,
+      may-go_on t i c.step-item.result c.steps-step-items.ensures.sound found,
+    )
 
 pub loop-step-preserved : goal.loop-step-preserved
 loop-step-preserved g c =

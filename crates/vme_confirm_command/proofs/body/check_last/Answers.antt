@@ -30,7 +30,8 @@ returns-in-Ok-found g c bound old now skew t whole version h compared end =
     finds-of g.S.RowSource.gave g.S.RowSource.is_over whole version bound skew c.finish-found.result.1 old now
     c.args.bytes.now r end (with_steps r.given steps) c.in-Ok.ensures.recorded c.in-Ok.ensures.whole
     (record { whole = h.sound.whole; formed = c.in-Ok.ensures.formed }) c.in-Ok-found.found
-    (rw c.in-Ok-found.is at (c.finish-found.ensures.finds whole version (skew_of skew) r.given (whole_reading r []).time t h.stepped compared go))
+    (rw c.in-Ok-found.is at (c.finish-found.ensures.finds whole version (skew_of skew) r.given
+    (whole_reading r []).time t h.stepped compared go))
 
 pub returns-in-Err-found : goal.returns-in-Err-found
 returns-in-Err-found g c bound old now skew t whole version h compared end = (

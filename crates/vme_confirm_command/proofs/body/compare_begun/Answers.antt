@@ -14,8 +14,8 @@ pub returns-in-Body : goal.returns-in-Body
 returns-in-Body g c bound old whole gave begun limit =
     c.compare_body.ensures bound old c.args.skew c.in-Body.reader.given whole c.args.version
     c.first_check-check.ensures.checked (c.first_check-check.ensures.compared whole gave)
-    (subst (λ (b : Begun). BeginsDump bound old (g.D.Source.reading c.args.dump.now) c.args.input.now (Ok b)) c.in-Body.is
-    begun) limit
+    (subst (λ (b : Begun). BeginsDump bound old (g.D.Source.reading c.args.dump.now) c.args.input.now (Ok b))
+    c.in-Body.is begun) limit
 
 pub returns-in-Unusable : goal.returns-in-Unusable
 returns-in-Unusable g c bound old whole gave begun limit =

@@ -29,8 +29,8 @@ loop-reader-preserved g c =
       at = λ bound old at.
           let next = c.in-Ok.ensures.reads bound old now (inv.at bound old at) in
           body-grown bound old now input c.in-Ok.reader next (g.D.Source.reading c.read.new.source) c.read.new.self
-          (c.check_piece.ensures.input.1 ∙ (sym c.is_whole.ensures ∙ c.loop-reader-test.true)) c.in_default.ensures.grown
-          (c.in_default.ensures.read old next.done next.read);
+          (c.check_piece.ensures.input.1 ∙ (sym c.is_whole.ensures ∙ c.loop-reader-test.true))
+          c.in_default.ensures.grown (c.in_default.ensures.read old next.done next.read);
       checks = λ skew t h.
           let (later, checked, compared) = inv.checks skew t h in
           let (last, last_checked, last_compared) = c.in-Ok.ensures.checks skew later checked in
@@ -75,5 +75,5 @@ returns g c bound old skew t whole version h first at limit =
     let (later, checked, compared) = inv.checks (skew_of skew) t h in
     c.check_last.ensures bound old now skew later whole version checked (compared whole version first)
     (subst (λ (l : List ℕ). IsAtEnd bound old now l c.loop-reader.reader) (sym c.bytes.ensures.held)
-    (body-ends bound old now c.loop-reader.input c.loop-reader.reader (inv.at bound old at) (sym c.is_whole.ensures ∙ c.loop-reader-test.false)
-    (inv.limit ∙ limit)))
+    (body-ends bound old now c.loop-reader.input c.loop-reader.reader (inv.at bound old at)
+    (sym c.is_whole.ensures ∙ c.loop-reader-test.false) (inv.limit ∙ limit)))

@@ -7,12 +7,14 @@ use Rattle.vme_listing.specs.declared.row.Version.{Version}
 use Rattle.vme_confirm_command.specs.RowsOfListing.{GaveRows, IsOver}
 use Rattle.vme_answer.specs.declared.refusal.Refusal.TheVariants.{Memory}
 use Rattle.vme_stream.proofs.InputLemmas.{unread}
-use Rattle.vme_confirm_command.proofs.FoundLemmas.{begun-read, compares-found, compares-refused, confirms-refused, found-of}
+use Rattle.vme_confirm_command.proofs.FoundLemmas.{begun-read, compares-found, compares-refused, confirms-refused}
+use Rattle.vme_confirm_command.proofs.FoundLemmas.{found-of}
 use Rattle.vme_confirm_command.proofs.confirm.comparison_begun.Goals as goal
 
 pub returns-in_default : goal.returns-in_default
 returns-in_default g c bound old begun limit =
-    let (bytes, reading) = begun-read bound old (g.D.Source.reading c.args.dump.now) c.args.input.now c.args.begun begun in
+    let (bytes, reading) = begun-read bound old (g.D.Source.reading c.args.dump.now) c.args.input.now c.args.begun begun
+    in
     let listing = unread (g.L.Source.reading c.args.listing) in
     (bytes, listing.0, Err Memory, reading, listing.1, tt, tt)
 
@@ -24,10 +26,16 @@ returns-in-Ok-found g c bound old begun limit =
     let rows = c.compare_begun-found.result.1 in
     let whole : Reading × Version = (listing, version) in
     let gave = c.begin-rows.ensures.gave version c.version-version.ensures in
-    let (contents, dump, finds) = compares-found whole rows (λ (w : Reading × Version) s (l : List Row). GaveRows w.0 w.1 (g.L.Source.reading s.source) s.input s.pieces s.fault l) (λ s. IsOver s.pieces s.fault) version bound c.args.skew old now
+    let (contents, dump, finds) = compares-found whole rows
+    (λ (w : Reading × Version) s (l : List Row). GaveRows w.0 w.1 (g.L.Source.reading s.source) s.input s.pieces
+    s.fault l)
+    (λ s. IsOver s.pieces s.fault) version bound c.args.skew old now
     c.compare_begun-found.result.0 (c.compare_begun-found.ensures bound old whole gave begun limit)
     c.in-Ok-found.found c.in-Ok-found.is in
-    let (right, given, gives, is, confirms) = found-of whole rows (λ (w : Reading × Version) s (l : List Row). GaveRows w.0 w.1 (g.L.Source.reading s.source) s.input s.pieces s.fault l) (λ s. IsOver s.pieces s.fault) version bound c.args.skew contents
+    let (right, given, gives, is, confirms) = found-of whole rows
+    (λ (w : Reading × Version) s (l : List Row). GaveRows w.0 w.1 (g.L.Source.reading s.source) s.input s.pieces
+    s.fault l)
+    (λ s. IsOver s.pieces s.fault) version bound c.args.skew contents
     (Some dump.text) dump.is c.in-Ok-found.found finds in
     let (bytes, said, reading, read_rows, answer) = c.comparison_found.ensures listing version given right gives is in
     (Some dump.text, bytes, said, dump.reading, reading, read_rows, confirms said c.comparison_found.result.0 answer)
@@ -40,7 +48,10 @@ returns-in-Err g c bound old begun limit =
     let rows = c.compare_begun-found.result.1 in
     let whole : Reading × Version = (listing, version) in
     let gave = c.begin-rows.ensures.gave version c.version-version.ensures in
-    let (refused, rest) = compares-refused whole rows (λ (w : Reading × Version) s (l : List Row). GaveRows w.0 w.1 (g.L.Source.reading s.source) s.input s.pieces s.fault l) (λ s. IsOver s.pieces s.fault) version bound c.args.skew old now
+    let (refused, rest) = compares-refused whole rows
+    (λ (w : Reading × Version) s (l : List Row). GaveRows w.0 w.1 (g.L.Source.reading s.source) s.input s.pieces
+    s.fault l)
+    (λ s. IsOver s.pieces s.fault) version bound c.args.skew old now
     c.compare_begun-found.result.0 (c.compare_begun-found.ensures bound old whole gave begun limit)
     c.in-Err.refusal c.in-Err.is in
     let (given, gives) = rest in

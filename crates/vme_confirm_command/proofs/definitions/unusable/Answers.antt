@@ -34,8 +34,9 @@ returns-clause-read g c old h limit =
     let now = g.D.Source.reading c.loop-input.dump in
     let input = c.loop-input.input in
     let all = subst (IsAllOf old now input.held) (c.loop-input.invariant.limit ∙ limit)
-    (all-read old now [] input (c.loop-input.invariant.read old h) (sym c.is_whole.ensures ∙ c.loop-input-test.false)) in
+    (all-read old now [] input (c.loop-input.invariant.read old h) (sym c.is_whole.ensures ∙ c.loop-input-test.false))
+    in
     ends-unusable c.args.bound.now old now input.held all input c.in-Err-captured_in.refusal
     (subst (λ (l : List ℕ). AnswerGives (λ (t : Trace). t) (Err c.in-Err-captured_in.refusal)
-    (capture_by c.args.bound.now (or_bad_dump (dump_of l)))) c.bytes.ensures.held c.in-Err-captured_in.ensures) c.unusable_for.result
-    c.unusable_for.ensures.unusable c.unusable_for.ensures.refused
+    (capture_by c.args.bound.now (or_bad_dump (dump_of l)))) c.bytes.ensures.held c.in-Err-captured_in.ensures)
+    c.unusable_for.result c.unusable_for.ensures.unusable c.unusable_for.ensures.refused

@@ -9,7 +9,8 @@ use Rattle.vme_confirm_command.proofs.listing_rows.read_on.Goals as goal
 pub returns-in-Input : goal.returns-in-Input
 returns-in-Input g c old version rows pieces gave =
     let now = g.L.Source.reading c.args.source in
-    let had = subst (λ (f : RowsFault). GaveRows old version now c.args.input pieces (Some f) rows) c.in-Input.is gave in
+    let had = subst (λ (f : RowsFault). GaveRows old version now c.args.input pieces (Some f) rows) c.in-Input.is gave
+    in
     input-ends old version now rows c.in-Input.fault had.1
 
 pub returns-in-Ok : goal.returns-in-Ok

@@ -23,8 +23,8 @@ returns-in-Ok-Some-clause-row g c old rows are limit =
     let row = c.in-Ok-Some.row in
     let n = c.in-Ok-Some.count in
     let next = c.next.new.self in
-    let filled = rows-filled done c.args.input.now c.fill.new.input c.args.pieces.now rows c.in_default.ensures.filled has
-    in
+    let filled = rows-filled done c.args.input.now c.fill.new.input c.args.pieces.now rows c.in_default.ensures.filled
+    has in
     let within = subst (λ (l : List ℕ). n ≤ length l) c.bytes.ensures.held
     (subst (λ (found : Option (Row × ℕ)). IfSome found (λ next. (0 < next.1) × (next.1 ≤ length c.bytes.result.now)))
     c.in-Ok-Some.field-0-is c.in-Ok-Some.ensures.within).1 in
@@ -52,7 +52,8 @@ returns-in-Ok-None-clause-row g c old rows are limit =
       (
         done,
         now_read,
-        λ future ends. subst (λ (p : RowsSoFar). HasRead (done ++ (held ++ future)) rows (behind_rows p (held ++ future)))
+        λ future ends.
+            subst (λ (p : RowsSoFar). HasRead (done ++ (held ++ future)) rows (behind_rows p (held ++ future)))
             (sym same) (filled future ends),
       ),
       (

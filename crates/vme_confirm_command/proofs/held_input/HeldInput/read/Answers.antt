@@ -16,7 +16,8 @@ returns-then-self-clause-fails g c old done h =
     let read = ap (λ (i : InputSoFar). i.read) c.self.view_is in
     let limit = ap (λ (i : InputSoFar). i.limit) c.self.view_is in
     too-long old (g.R.Source.reading c.args.source.now) done c.args.self.now h
-    (omega (arith, c.self.invariant.3, c.if-self-eq-MOST_READS.false, reads)) (omega (arith, c.if-self.true, read, limit))
+    (omega (arith, c.self.invariant.3, c.if-self-eq-MOST_READS.false, reads))
+    (omega (arith, c.if-self.true, read, limit))
 
 pub returns-in-Err-clause-fails : goal.returns-in-Err-clause-fails
 returns-in-Err-clause-fails g c old done h =
@@ -50,8 +51,9 @@ returns-then-count-eq0-clause-read g c old done h =
     let (more, long, held, consumed) = c.in-Ok.ensures.bytes in
     let none = c.if-count-eq0.true in
     read-none old now later done before after (subst (IsReadTo old now done) (sym c.self.view_is) h) more c.in-Ok.count
-    long (held ∙ ap (λ l. l ++ more) c.forget_first.ensures) refl c.read_behind.ensures.room none refl refl refl consumed
-    (c.in-Ok.ensures.end none) c.in-Ok.ensures.ok (c.in-Ok.ensures.reads.0 none) (c.in-Ok.ensures.short_reads.0 none)
+    long (held ∙ ap (λ l. l ++ more) c.forget_first.ensures) refl c.read_behind.ensures.room none refl refl refl
+    consumed (c.in-Ok.ensures.end none) c.in-Ok.ensures.ok (c.in-Ok.ensures.reads.0 none)
+    (c.in-Ok.ensures.short_reads.0 none)
     (omega (arith, c.self.invariant.3, c.if-self-eq-MOST_READS.false)) (omega (arith, c.if-self.false))
 
 pub returns-clause-read : goal.returns-clause-read
@@ -78,8 +80,9 @@ returns-clause-read g c old done h =
     let (more, long, held, consumed) = c.in-Ok.ensures.bytes in
     let some : 0 < c.in-Ok.count = omega (arith, c.if-count-eq0.false) in
     read-some old now later done before after (subst (IsReadTo old now done) (sym c.self.view_is) h) more c.in-Ok.count
-    long (held ∙ ap (λ l. l ++ more) c.forget_first.ensures) refl c.read_behind.ensures.room some refl refl refl consumed
-    c.in-Ok.ensures.ok (c.in-Ok.ensures.reads.1 some) (c.in-Ok.ensures.short_reads.1 some) c.in-Ok.ensures.short_reads.2
+    long (held ∙ ap (λ l. l ++ more) c.forget_first.ensures) refl c.read_behind.ensures.room some refl refl refl
+    consumed c.in-Ok.ensures.ok (c.in-Ok.ensures.reads.1 some) (c.in-Ok.ensures.short_reads.1 some)
+    c.in-Ok.ensures.short_reads.2
     (omega (arith, c.self.invariant.3, c.if-self-eq-MOST_READS.false))
     (ap (λ (i : InputSoFar). i.is_whole) c.self.view_is ∙ c.requires)
     (omega (arith, c.if-self.false, c.in-Ok.ensures.few))

@@ -1,5 +1,6 @@
 -- All that is held is taken before each read.
-use Rattle.std.proofs.Common.{◌≤◌, ℕ, List, [], ◌++◌, append_assoc, append-nil, length, refl, sym, ap, subst, take, ◌∙◌, arith}
+use Rattle.std.proofs.Common.{◌≤◌, ℕ, List, [], ◌++◌, append_assoc, append-nil, length, refl, sym, ap, subst, take, ◌∙◌}
+use Rattle.std.proofs.Common.{arith}
 use Rattle.std.proofs.lemmas.Bool.{true≢false}
 use Rattle.vme_confirm_command.specs.HeldInputs.{FailsAs, InputSoFar, IsAllOf, IsReadTo}
 use Rattle.vme_confirm_command.proofs.HeldLemmas.{all-read, rest-same, taken-first}
@@ -10,8 +11,8 @@ loop-self-init g c = record {
   read = λ old done h. (
     [],
     [],
-    subst (λ (l : List ℕ). IsReadTo old (g.R.Source.reading c.args.source.now) l c.args.self.now) (sym (append-nil done))
-        h,
+    subst (λ (l : List ℕ). IsReadTo old (g.R.Source.reading c.args.source.now) l c.args.self.now)
+        (sym (append-nil done)) h,
     sym (append-nil c.args.self.now.held),
     λ _. refl,
   );

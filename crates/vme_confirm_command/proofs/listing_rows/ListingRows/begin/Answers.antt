@@ -11,7 +11,8 @@ returns g c = record {
       let old = g.L.Source.reading c.args.source in
       let limit = ap (λ (i : InputSoFar). i.limit) c.requires in
       let first = subst (λ (i : InputSoFar). IsReadTo old old [] i) (sym c.requires)
-      (first-read old longest_listing 2097152 (record { some = omega arith; few = omega arith; small = omega arith })) in
+      (first-read old longest_listing 2097152 (record { some = omega arith; few = omega arith; small = omega arith }))
+      in
       (c.begin_rows.ensures.limit ∙ limit, is, c.in-Ok.ensures.begun old first limit);
 }
 
@@ -21,6 +22,7 @@ returns-in-Err g c = record {
       let old = g.L.Source.reading c.args.source in
       let limit = ap (λ (i : InputSoFar). i.limit) c.requires in
       let first = subst (λ (i : InputSoFar). IsReadTo old old [] i) (sym c.requires)
-      (first-read old longest_listing 2097152 (record { some = omega arith; few = omega arith; small = omega arith })) in
+      (first-read old longest_listing 2097152 (record { some = omega arith; few = omega arith; small = omega arith }))
+      in
       (c.begin_rows.ensures.limit ∙ limit, c.in-Err.ensures.begun old first limit);
 }

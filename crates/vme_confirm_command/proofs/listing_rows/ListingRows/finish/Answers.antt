@@ -24,10 +24,11 @@ loop-preserved g c =
     record {
       gave = λ old version rows gave.
           let (more, here, none) = inv.gave old version rows gave in
-          let (row, given) = one-more old version now next.input next.pieces next.fault (rows ++ more) c.give.result some
-          (c.give.ensures.gave old version (rows ++ more) here) in (
+          let (row, given) = one-more old version now next.input next.pieces next.fault (rows ++ more) c.give.result
+          some (c.give.ensures.gave old version (rows ++ more) here) in (
             more ++ row ∷ [],
-            subst (GaveRows old version now next.input next.pieces next.fault) (append_assoc rows more (row ∷ [])) given,
+            subst (GaveRows old version now next.input next.pieces next.fault) (append_assoc rows more (row ∷ []))
+                given,
             λ over. absurd (never-some c.give.result some (c.give.ensures.stays (inv.over over))),
           );
       over = λ over. absurd (never-some c.give.result some (c.give.ensures.stays (inv.over over)));

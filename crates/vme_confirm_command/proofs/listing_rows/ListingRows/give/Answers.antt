@@ -35,7 +35,8 @@ returns-in-Ok-clause-gave g c old version rows gave =
     let so_far = c.in-Some.pieces in
     let now = g.L.Source.reading c.next_row.new.source in
     let none = no-fault so_far self.fault self.input
-    (subst (λ (p : Option RowsSoFar). AreCounted p self.fault self.input) (sym c.take.ensures.value ∙ c.in-Some.is) self.counted) in
+    (subst (λ (p : Option RowsSoFar). AreCounted p self.fault self.input) (sym c.take.ensures.value ∙ c.in-Some.is)
+    self.counted) in
     let (limit, same, are) = rows-read old version (g.L.Source.reading self.source) self.input rows so_far self.fault
     none
     (subst (λ (p : Option RowsSoFar). GaveRows old version (g.L.Source.reading self.source) self.input p self.fault
@@ -49,11 +50,12 @@ returns-in-Err-clause-gave g c old version rows gave =
     let self = c.args.self.now in
     let so_far = c.in-Some.pieces in
     let none = no-fault so_far self.fault self.input
-    (subst (λ (p : Option RowsSoFar). AreCounted p self.fault self.input) (sym c.take.ensures.value ∙ c.in-Some.is) self.counted) in
+    (subst (λ (p : Option RowsSoFar). AreCounted p self.fault self.input) (sym c.take.ensures.value ∙ c.in-Some.is)
+    self.counted) in
     let (limit, same, are) = rows-read old version (g.L.Source.reading self.source) self.input rows so_far self.fault
     none
     (subst (λ (p : Option RowsSoFar). GaveRows old version (g.L.Source.reading self.source) self.input p self.fault
     rows) (sym c.take.ensures.value ∙ c.in-Some.is) gave) in
-    subst (λ (p : Option RowsSoFar). EndsAt old version (g.L.Source.reading c.next_row.new.source) c.next_row.new.input p
-    (Some c.in-Err.fault) rows) (sym c.take.ensures.after)
+    subst (λ (p : Option RowsSoFar). EndsAt old version (g.L.Source.reading c.next_row.new.source) c.next_row.new.input
+    p (Some c.in-Err.fault) rows) (sym c.take.ensures.after)
     (c.next_row.ensures.limit ∙ limit, c.in-Err.ensures.row old rows are limit)

@@ -26,7 +26,8 @@ returns-in_default-clause-fault c text future rows ends h =
     (subst (λ (u : RowsSoFar). HasRead text rows (behind_rows u (bytes ++ future))) (sym c.self.view_is) h)
     (sym c.is_last.ensures ∙ c.if-is_last.false) _ refl
     (λ row more is may front.
-    let known = front-known c.self.inside.version c.args.is_rest bytes future ends c.requires.enough row is more front in
+    let known = front-known c.self.inside.version c.args.is_rest bytes future ends c.requires.enough row is more front
+    in
     c.in_default.ensures.found row known.0 is known.1)
 
 pub returns-then-not-may_follow-clause-fault : goal.returns-then-not-may_follow-clause-fault
@@ -36,7 +37,8 @@ returns-then-not-may_follow-clause-fault c text future rows ends h =
     (subst (λ (u : RowsSoFar). HasRead text rows (behind_rows u (bytes ++ future))) (sym c.self.view_is) h)
     (sym c.is_last.ensures ∙ c.if-is_last.false) _ refl
     (λ row more is may front.
-    let known = front-known c.self.inside.version c.args.is_rest bytes future ends c.requires.enough row is more front in
+    let known = front-known c.self.inside.version c.args.is_rest bytes future ends c.requires.enough row is more front
+    in
     let same = c.in-Some.ensures.found row known.0 is known.1 in
     true≢false (sym may ∙ ap (λ r. may_follow c.self.inside.last r) (sym same.0) ∙ sym c.if-not-may_follow.ensures))
 
