@@ -1,0 +1,438 @@
+-- A field that is read is the field that was written, and what was written is read again.
+use Rattle.std.proofs.Common.{◌≡◌, ℕ, zero, suc, ◌+◌, ◌-◌, ◌^◌, ◌<◌, ◌≤◌, Bool, true, false, cond, ltb, eqb, ◌&&◌}
+use Rattle.std.proofs.Common.{List, []}
+use Rattle.std.proofs.Common.{◌∷◌, ◌++◌, length, get_or, take, drop, Option, Some, None, Result, Ok, Err, refl, sym}
+use Rattle.std.proofs.Common.{ap}
+use Rattle.std.proofs.Common.{subst, ◌∙◌, append_assoc, arith, inl, inr, ◌⊎◌}
+use Rattle.std.specs.Prelude.{IfSome, nat_le, nat_lt, slice_get}
+use Rattle.std.specs.Int.{Width, w16, w32, w64, byte_len, from_le_bytes, to_le_bytes}
+use Rattle.std.proofs.lemmas.Bool.{and_from, and_parts, cases_lt, eqb-false, eqb-true, leb-true, le-leb, le-ltb}
+use Rattle.std.proofs.lemmas.Bool.{lt-ltb, ltb-false}
+use Rattle.std.proofs.lemmas.Bool.{ltb-true}
+use Rattle.std.proofs.lemmas.List.{drop_at, get_or-drop, get_or-take, get_or_past, length-append, length-take}
+use Rattle.std.proofs.lemmas.List.{take-append-drop, take_at}
+use Rattle.std.proofs.lemmas.Nat.{from_le_bytes-to_le_bytes_2, from_le_bytes-to_le_bytes_4}
+use Rattle.std.proofs.lemmas.Nat.{from_le_bytes-to_le_bytes_8, le_bytes_2, le_bytes_4, le_bytes_8}
+use Rattle.vme_trace.specs.LineNumbers.{line_count}
+use Rattle.vme_trace.specs.Names.{rule_number}
+use Rattle.vme_trace.specs.Rules.{all_rules}
+use Rattle.vme_trace.specs.declared.rule.Rule.{Rule}
+use Rattle.vme_trace.specs.declared.rule.Rule.TheVariants as rule
+use Rattle.vme_part_format.specs.declared.fault.PartFaultKind.TheVariants as fault
+use Rattle.vme_part_format.specs.declared.fault.FieldFault.{FieldFault}
+use Rattle.vme_part_format.specs.declared.table.TableEntry.{TableEntry}
+use Rattle.vme_part_format.specs.declared.wide.WideBreak.{WideBreak}
+use Rattle.vme_part_format.specs.Bounds.{CanWrite, FitsBreak, FitsEntry}
+use Rattle.vme_part_format.specs.PartText.{entry_bytes, event_bytes, flag, way_bytes}
+use Rattle.vme_part_format.specs.Reading.{◌>>=◌, break_at, byte_at, entry_at, event_at, event_by, fault_at, flag_at}
+use Rattle.vme_part_format.specs.Reading.{may_break, number_at, or_fault, read_break, way_at, way_number_at}
+
+abbrev pub IsBytes : List ℕ → Type 0
+IsBytes bytes = (i : ℕ) → get_or bytes i 0 < 256
+
+pub IsBytes-drop : (n : ℕ) (bytes : List ℕ) → IsBytes bytes → IsBytes (drop n bytes)
+IsBytes-drop n bytes h i = rw get_or-drop (h (n + i))
+
+pub IsBytes-take : (n : ℕ) (bytes : List ℕ) → IsBytes bytes → IsBytes (take n bytes)
+IsBytes-take n bytes h i =
+    elim (cases_lt i n) [
+      | inl lt ↦ rw (get_or-take n bytes i 0 lt) (h i)
+      | inr le ↦ rw (get_or_past (take n bytes) i 0 (omega (arith, length-take n bytes))) (omega arith)
+    ]
+
+pub IsBytes-rest : (b : ℕ) (bytes : List ℕ) → IsBytes (b ∷ bytes) → IsBytes bytes
+IsBytes-rest b bytes h i = h (suc i)
+
+-- the value of a step that did not fail
+pub bind_ok : {A B : Type 0} (r : Result A FieldFault) (f : A → Result B FieldFault) (y : B) → (r >>= f) ≡ Ok y
+    → (x : A) × (r ≡ Ok x) × (f x ≡ Ok y)
+bind_ok (Ok x) f y e = (x, refl, e)
+bind_ok (Err d) f y e = absurd cc
+
+-- a test that did not fail
+pub guard_out : {A : Type 0} (b : Bool) (d : FieldFault) (x y : A) → cond b (Err d) (Ok x) ≡ Ok y
+    → (b ≡ false) × (x ≡ y)
+guard_out true d x y e = absurd cc
+guard_out false d x y e = (refl, cc)
+
+pub guard_in : {A : Type 0} (b : Bool) (d : FieldFault) (x y : A) → cond b (Ok x) (Err d) ≡ Ok y
+    → (b ≡ true) × (x ≡ y)
+guard_in true d x y e = (refl, cc)
+guard_in false d x y e = absurd cc
+
+abbrev done : {A : Type 0} → A → Result A FieldFault
+done x = Ok x
+
+pub ok_is : {A : Type 0} (x y : A) → done x ≡ done y → x ≡ y
+ok_is x y e = cc
+
+abbrev there : {A : Type 0} → A → Option A
+there x = Some x
+
+pub some_is : {A : Type 0} (x y : A) → there x ≡ there y → x ≡ y
+some_is x y e = cc
+
+pub found_ok : {A : Type 0} (d : FieldFault) (o : Option A) (y : A) → or_fault d o ≡ Ok y → o ≡ Some y
+found_ok d None y e = absurd cc
+found_ok d (Some x) y e = ap (λ (z : _). there z) (ok_is x y e)
+
+-- what a reader took from the front
+pub record Takes (bytes text rest : List ℕ) : Type 0 where
+  pub parts : bytes ≡ text ++ rest
+  pub rest_fits : IsBytes rest
+
+pub Takes-then : (a x b y c : List ℕ) → Takes a x b → Takes b y c → Takes a (x ++ y) c
+Takes-then a x b y c p q = record {
+  parts = p.parts ∙ ap (λ (t : List ℕ). x ++ t) q.parts ∙ sym (append_assoc x y c);
+  rest_fits
+      = q.rest_fits;
+}
+
+-- ---- numbers
+
+pub record IsWide (w : Width) (limit : ℕ) : Type 0 where
+  pub len : (n : ℕ) → length (to_le_bytes w n) ≡ byte_len w
+  pub back : (bytes : List ℕ) → length bytes ≡ byte_len w → IsBytes bytes
+      → to_le_bytes w (from_le_bytes w bytes) ≡ bytes
+  pub again : (n : ℕ) → n < limit → from_le_bytes w (to_le_bytes w n) ≡ n
+  pub below : (bytes : List ℕ) → IsBytes bytes → from_le_bytes w bytes < limit
+
+pub wide16 : IsWide w16 (2 ^ 16)
+wide16 = record {
+  len = λ n. refl;
+  back = λ bytes len fits. le_bytes_2 bytes _ len fits refl;
+  again = λ n lt. from_le_bytes-to_le_bytes_2 n lt;
+  below = λ bytes fits. omega (arith, fits 0, fits 1);
+}
+
+pub wide32 : IsWide w32 (2 ^ 32)
+wide32 = record {
+  len = λ n. refl;
+  back = λ bytes len fits. le_bytes_4 bytes _ len fits refl;
+  again = λ n lt. from_le_bytes-to_le_bytes_4 n lt;
+  below = λ bytes fits. omega (arith, fits 0, fits 1, fits 2, fits 3);
+}
+
+pub wide64 : IsWide w64 (2 ^ 64)
+wide64 = record {
+  len = λ n. refl;
+  back = λ bytes len fits. le_bytes_8 bytes _ len fits refl;
+  again = λ n lt. from_le_bytes-to_le_bytes_8 n lt;
+  below = λ bytes fits. omega (arith, fits 0, fits 1, fits 2, fits 3, fits 4, fits 5, fits 6, fits 7);
+}
+
+pub number_takes : (w : Width) (limit : ℕ) (wide : IsWide w limit) (bytes : List ℕ) (n : ℕ) (rest : List ℕ)
+    → IsBytes bytes → number_at w bytes ≡ Ok (n, rest) → Takes bytes (to_le_bytes w n) rest × (n < limit)
+number_takes w limit wide bytes n rest fits e =
+    let g = guard_out (ltb (length bytes) (byte_len w)) (fault_at fault.CutShort bytes)
+    (from_le_bytes w (take (byte_len w) bytes), drop (byte_len w) bytes) (n, rest) e in
+    let long : byte_len w ≤ length bytes = ltb-false _ _ g.0 in
+    let n-is : from_le_bytes w (take (byte_len w) bytes) ≡ n = ap (λ (p : ℕ × List ℕ). p.0) g.1 in
+    let rest-is : drop (byte_len w) bytes ≡ rest = ap (λ (p : ℕ × List ℕ). p.1) g.1 in
+    let front : to_le_bytes w n ≡ take (byte_len w) bytes =
+    rw (← n-is) (wide.back (take (byte_len w) bytes) (omega (arith, length-take (byte_len w) bytes))
+    (IsBytes-take (byte_len w) bytes fits)) in (
+      record {
+        parts = rw (front, ← rest-is) (sym (take-append-drop (byte_len w) bytes));
+        rest_fits = rw (← rest-is) (IsBytes-drop (byte_len w) bytes fits);
+      },
+      rw (← n-is) (wide.below (take (byte_len w) bytes) (IsBytes-take (byte_len w) bytes fits)),
+    )
+
+pub number_again : (w : Width) (limit : ℕ) (wide : IsWide w limit) (n : ℕ) (rest : List ℕ) → n < limit
+    → number_at w (to_le_bytes w n ++ rest) ≡ Ok (n, rest)
+number_again w limit wide n rest lt =
+    let len = wide.len n in
+    let long : ltb (length (to_le_bytes w n ++ rest)) (byte_len w) ≡ false =
+    le-ltb _ _ (omega (arith, length-append (to_le_bytes w n) rest)) in
+    rw (
+      long,
+      take_at (to_le_bytes w n) rest (byte_len w) len,
+      drop_at (to_le_bytes w n) rest (byte_len w) len,
+      wide.again n lt,
+    ) refl
+
+pub byte_takes : (bytes : List ℕ) (x : ℕ × List ℕ) → IsBytes bytes → byte_at bytes ≡ Ok x
+    → Takes bytes (x.0 ∷ []) x.1 × (x.0 < 256)
+byte_takes [] x fits e = absurd cc
+byte_takes (b ∷ bytes) x fits e =
+    subst (λ (y : ℕ × List ℕ). Takes (b ∷ bytes) (y.0 ∷ []) y.1 × (y.0 < 256)) (ok_is (b, bytes) x e)
+    (record { parts = refl; rest_fits = IsBytes-rest b bytes fits }, fits 0)
+
+pub flag_takes : (bytes : List ℕ) (x : Bool × List ℕ) → IsBytes bytes → flag_at bytes ≡ Ok x
+    → Takes bytes (flag x.0 ∷ []) x.1
+unfolding flag_at
+flag_takes [] x fits e = absurd cc
+flag_takes (zero ∷ bytes) x fits e =
+    subst (λ (y : Bool × List ℕ). Takes (0 ∷ bytes) (flag y.0 ∷ []) y.1) (ok_is (false, bytes) x e)
+    (record { parts = refl; rest_fits = IsBytes-rest 0 bytes fits })
+flag_takes (suc zero ∷ bytes) x fits e =
+    subst (λ (y : Bool × List ℕ). Takes (1 ∷ bytes) (flag y.0 ∷ []) y.1) (ok_is (true, bytes) x e)
+    (record { parts = refl; rest_fits = IsBytes-rest 1 bytes fits })
+flag_takes (suc (suc b) ∷ bytes) x fits e = absurd cc
+
+pub flag_again : (b : Bool) (rest : List ℕ) → flag_at (flag b ∷ rest) ≡ Ok (b, rest)
+unfolding flag_at
+flag_again true rest = refl
+flag_again false rest = refl
+
+-- ---- breaks
+
+is_numbered : ℕ → List Rule → Bool
+is_numbered k [] = true
+is_numbered k (r ∷ rs) = eqb (rule_number r) k && is_numbered (k + 1) rs
+
+all_numbered : is_numbered 0 all_rules ≡ true
+unfolding is_numbered
+all_numbered = refl
+
+numbered_at : (k : ℕ) (rs : List Rule) (n : ℕ) (r : Rule) → is_numbered k rs ≡ true → slice_get rs n ≡ Some r
+    → rule_number r ≡ k + n
+unfolding is_numbered
+numbered_at k [] n r ok e = absurd cc
+numbered_at k (q ∷ rs) zero r ok e =
+    let p = and_parts (eqb (rule_number q) k) (is_numbered (k + 1) rs) ok in
+    subst (λ (s : Rule). rule_number s ≡ k + 0) (some_is q r e) (omega (arith, eqb-true (rule_number q) k p.0))
+numbered_at k (q ∷ rs) (suc n) r ok e =
+    let p = and_parts (eqb (rule_number q) k) (is_numbered (k + 1) rs) ok in
+    omega (arith, numbered_at (k + 1) rs n r p.1 e)
+
+-- the rule at a place has the place as its number
+pub rule_numbered : (n : ℕ) (r : Rule) → slice_get all_rules n ≡ Some r → rule_number r ≡ n
+rule_numbered n r e = omega (arith, numbered_at 0 all_rules n r all_numbered e)
+
+-- each rule is at its place
+pub rule_there : (r : Rule) → slice_get all_rules (rule_number r) ≡ Some r
+rule_there rule.U1 = refl
+rule_there rule.U2 = refl
+rule_there rule.U3 = refl
+rule_there rule.U4 = refl
+rule_there rule.H1 = refl
+rule_there rule.H2 = refl
+rule_there rule.H3 = refl
+rule_there rule.H4 = refl
+rule_there rule.H5 = refl
+rule_there rule.H6 = refl
+rule_there rule.H7 = refl
+rule_there rule.H8 = refl
+rule_there rule.S1 = refl
+rule_there rule.S2 = refl
+rule_there rule.S3 = refl
+rule_there rule.C1 = refl
+rule_there rule.C2 = refl
+rule_there rule.G1 = refl
+rule_there rule.G2 = refl
+rule_there rule.G3 = refl
+rule_there rule.G4 = refl
+rule_there rule.G5 = refl
+rule_there rule.B1 = refl
+rule_there rule.B2 = refl
+rule_there rule.B3 = refl
+rule_there rule.B4 = refl
+rule_there rule.I1 = refl
+rule_there rule.I2 = refl
+rule_there rule.I3 = refl
+rule_there rule.I4 = refl
+rule_there rule.I5 = refl
+
+-- the bytes of a break behind the number of its rule
+abbrev pub break_bytes : WideBreak → List ℕ
+break_bytes b = b.line ∷ (to_le_bytes w64 b.instant ++ to_le_bytes w64 b.time)
+
+-- a break of a rule was read
+pub record IsRead (steps : ℕ) (rule : Rule) (bytes : List ℕ) (x : Option WideBreak × List ℕ) : Type 0 where
+  pub found : WideBreak
+  pub is : x.0 ≡ Some found
+  pub of : found.rule ≡ rule
+  pub fits : FitsBreak steps found
+  pub taken : Takes bytes (break_bytes found) x.1
+
+break_parts : (steps line instant : ℕ) → may_break steps line instant ≡ true
+    → (line < line_count) × (0 < instant) × (instant ≤ steps)
+break_parts steps line instant e =
+    let p = and_parts (nat_lt line line_count && nat_lt 0 instant) (nat_le instant steps) e in
+    let q = and_parts (nat_lt line line_count) (nat_lt 0 instant) p.0 in
+    (ltb-true _ _ q.0, ltb-true _ _ q.1, leb-true _ _ p.1)
+
+pub break_takes : (steps : ℕ) (rule : Rule) (bad : FieldFault) (bytes : List ℕ) (x : Option WideBreak × List ℕ)
+    → IsBytes bytes → break_at steps rule bad bytes ≡ Ok x → IsRead steps rule bytes x
+unfolding break_at
+break_takes steps rule bad bytes x fits e =
+    let a = bind_ok (byte_at bytes) (λ line. number_at w64 line.1 >>= λ instant. number_at w64 instant.1 >>= λ time.
+    cond (may_break steps line.0 instant.0) (Ok (Some (read_break rule line.0 instant.0 time.0), time.1)) (Err bad))
+    x e in
+    let b = bind_ok (number_at w64 a.0.1) (λ instant. number_at w64 instant.1 >>= λ time.
+    cond (may_break steps a.0.0 instant.0) (Ok (Some (read_break rule a.0.0 instant.0 time.0), time.1)) (Err bad))
+    x a.2 in
+    let c = bind_ok (number_at w64 b.0.1) (λ time.
+    cond (may_break steps a.0.0 b.0.0) (Ok (Some (read_break rule a.0.0 b.0.0 time.0), time.1)) (Err bad)) x b.2 in
+    let g = guard_in (may_break steps a.0.0 b.0.0) bad (Some (read_break rule a.0.0 b.0.0 c.0.0), c.0.1) x c.2 in
+    let p = break_parts steps a.0.0 b.0.0 g.0 in
+    let t0 = byte_takes bytes a.0 fits a.1 in
+    let t1 = number_takes w64 (2 ^ 64) wide64 a.0.1 b.0.0 b.0.1 t0.0.rest_fits b.1 in
+    let t2 = number_takes w64 (2 ^ 64) wide64 b.0.1 c.0.0 c.0.1 t1.0.rest_fits c.1 in
+    let t12 = Takes-then a.0.1 (to_le_bytes w64 b.0.0) b.0.1 (to_le_bytes w64 c.0.0) c.0.1 t1.0 t2.0 in
+    let t02 = Takes-then bytes (a.0.0 ∷ []) a.0.1 (to_le_bytes w64 b.0.0 ++ to_le_bytes w64 c.0.0) c.0.1 t0.0 t12 in
+    subst (λ (y : Option WideBreak × List ℕ). IsRead steps rule bytes y) g.1
+    (record {
+      found = read_break rule a.0.0 b.0.0 c.0.0;
+      is = refl;
+      of = refl;
+      fits = record { line = p.0; instant = (p.1, p.2, t1.1); time = t2.1 };
+      taken = t02;
+    })
+
+pub break_again : (steps : ℕ) (bad : FieldFault) (b : WideBreak) (rest : List ℕ) → FitsBreak steps b
+    → break_at steps b.rule bad (break_bytes b ++ rest) ≡ Ok (Some b, rest)
+unfolding break_at
+break_again steps bad b rest fits =
+    let may : may_break steps b.line b.instant ≡ true =
+    and_from (nat_lt b.line line_count && nat_lt 0 b.instant) (nat_le b.instant steps)
+    (and_from (nat_lt b.line line_count) (nat_lt 0 b.instant) (lt-ltb _ _ fits.line) (lt-ltb _ _ fits.instant.0))
+    (le-leb _ _ fits.instant.1) in
+    let regrouped : break_bytes b ++ rest
+    ≡ b.line ∷ (to_le_bytes w64 b.instant ++ (to_le_bytes w64 b.time ++ rest)) =
+    ap (λ (t : List ℕ). b.line ∷ t) (append_assoc (to_le_bytes w64 b.instant) (to_le_bytes w64 b.time) rest) in
+    ap (break_at steps b.rule bad) regrouped
+    ∙ rw (
+      number_again w64 (2 ^ 64) wide64 b.instant (to_le_bytes w64 b.time ++ rest) fits.instant.2,
+      number_again w64 (2 ^ 64) wide64 b.time rest fits.time,
+      may,
+    ) refl
+
+-- the bytes of a rule's number and 1, and then of the break
+named_bytes : (b : WideBreak) (number : ℕ) → 0 < number → rule_number b.rule ≡ number - 1
+    → number ∷ break_bytes b ≡ event_bytes (Some b)
+named_bytes b number some e = ap (λ (k : ℕ). k ∷ break_bytes b) (omega (arith, e))
+
+-- which way a test went
+pub chosen : {A : Type 0} (b : Bool) (x y z : A) → cond b x y ≡ z → ((b ≡ true) × (x ≡ z)) ⊎ ((b ≡ false) × (y ≡ z))
+chosen true x y z e = inl (refl, e)
+chosen false x y z e = inr (refl, e)
+
+-- what an event that was read is
+abbrev EventTaken : ℕ → List ℕ → Option WideBreak × List ℕ → Type 0
+EventTaken steps bytes x = Takes bytes (event_bytes x.0) x.1 × IfSome x.0 (FitsBreak steps)
+
+no_event : (steps number : ℕ) (bytes : List ℕ) (x : Option WideBreak × List ℕ) → IsBytes bytes → number ≡ 0
+    → (None, bytes) ≡ x → EventTaken steps (number ∷ bytes) x
+no_event steps number bytes x fits zero-is e =
+    subst (λ (n : ℕ). EventTaken steps (n ∷ bytes) x) (sym zero-is)
+    (subst (λ (y : Option WideBreak × List ℕ). EventTaken steps (0 ∷ bytes) y) e
+    (record { parts = refl; rest_fits = fits }, tt))
+
+some_event : (steps : ℕ) (bad : FieldFault) (number : ℕ) (bytes : List ℕ) (x : Option WideBreak × List ℕ)
+    → IsBytes bytes → 0 < number
+    → (or_fault bad (slice_get all_rules (number - 1)) >>= λ rule. break_at steps rule bad bytes) ≡ Ok x
+    → EventTaken steps (number ∷ bytes) x
+some_event steps bad number bytes x fits some e =
+    let a = bind_ok (or_fault bad (slice_get all_rules (number - 1))) (λ rule. break_at steps rule bad bytes) x e in
+    let place : rule_number a.0 ≡ number - 1 =
+    rule_numbered (number - 1) a.0 (found_ok bad (slice_get all_rules (number - 1)) a.0 a.1) in
+    let r = break_takes steps a.0 bad bytes x fits a.2 in
+    let named : number ∷ break_bytes r.found ≡ event_bytes (Some r.found) =
+    named_bytes r.found number some (ap rule_number r.of ∙ place) in
+    let took : Takes (number ∷ bytes) (number ∷ break_bytes r.found) x.1 =
+    record { parts = ap (λ (t : List ℕ). number ∷ t) r.taken.parts; rest_fits = r.taken.rest_fits } in
+    subst (λ (o : Option WideBreak). Takes (number ∷ bytes) (event_bytes o) x.1 × IfSome o (FitsBreak steps))
+    (sym r.is) (subst (λ (t : List ℕ). Takes (number ∷ bytes) t x.1) named took, r.fits)
+
+event_by_takes : (steps : ℕ) (bad : FieldFault) (number : ℕ) (bytes : List ℕ) (x : Option WideBreak × List ℕ)
+    → IsBytes bytes → event_by steps bad number bytes ≡ Ok x → EventTaken steps (number ∷ bytes) x
+unfolding event_by
+event_by_takes steps bad number bytes x fits e =
+    let none : Result (Option WideBreak × List ℕ) FieldFault = Ok (None, bytes) in
+    let some = or_fault bad (slice_get all_rules (number - 1)) >>= λ rule. break_at steps rule bad bytes in
+    elim (chosen (eqb number 0) none some (Ok x) e) [
+      | inl h ↦ no_event steps number bytes x fits (eqb-true number 0 h.0) (ok_is (None, bytes) x h.1)
+      | inr h ↦ some_event steps bad number bytes x fits (omega (arith, eqb-false number 0 h.0)) h.1
+    ]
+
+pub event_takes : (steps : ℕ) (bytes : List ℕ) (x : Option WideBreak × List ℕ) → IsBytes bytes
+    → event_at steps bytes ≡ Ok x → Takes bytes (event_bytes x.0) x.1 × IfSome x.0 (FitsBreak steps)
+unfolding event_at
+event_takes steps [] x fits e = absurd cc
+event_takes steps (b ∷ bytes) x fits e =
+    event_by_takes steps (fault_at fault.BadBreak (b ∷ bytes)) b bytes x (IsBytes-rest b bytes fits) e
+
+pub is_false : (b : Bool) → (b ≡ true → ⊥) → b ≡ false
+is_false true h = absurd (h refl)
+is_false false h = refl
+
+event_by_again : (steps : ℕ) (bad : FieldFault) (b : WideBreak) (rest : List ℕ) → FitsBreak steps b
+    → event_by steps bad (rule_number b.rule + 1) (break_bytes b ++ rest) ≡ Ok (Some b, rest)
+unfolding event_by
+event_by_again steps bad b rest fits =
+    let some : eqb (rule_number b.rule + 1) 0 ≡ false =
+    is_false (eqb (rule_number b.rule + 1) 0)
+    (λ e. omega (arith, eqb-true (rule_number b.rule + 1) 0 e)) in
+    let one : rule_number b.rule + 1 - 1 ≡ rule_number b.rule = omega arith in
+    rw (some, one, rule_there b.rule) (break_again steps bad b rest fits)
+
+pub event_again : (steps : ℕ) (o : Option WideBreak) (rest : List ℕ) → IfSome o (FitsBreak steps)
+    → event_at steps (event_bytes o ++ rest) ≡ Ok (o, rest)
+unfolding event_at event_by
+event_again steps None rest fits = refl
+event_again steps (Some b) rest fits =
+    event_by_again steps (fault_at fault.BadBreak ((rule_number b.rule + 1) ∷ (break_bytes b ++ rest))) b rest fits
+
+-- ---- where a way goes on
+
+pub way_number_takes : (listing : Bool) (bytes : List ℕ) (x : ℕ × List ℕ) → IsBytes bytes
+    → way_number_at listing bytes ≡ Ok x → Takes bytes (way_bytes listing x.0) x.1 × CanWrite listing x.0
+way_number_takes true bytes x fits e = number_takes w32 (2 ^ 32) wide32 bytes x.0 x.1 fits e
+way_number_takes false bytes x fits e = byte_takes bytes x fits e
+
+pub way_number_again : (listing : Bool) (n : ℕ) (rest : List ℕ) → CanWrite listing n
+    → way_number_at listing (way_bytes listing n ++ rest) ≡ Ok (n, rest)
+way_number_again true n rest fits = number_again w32 (2 ^ 32) wide32 n rest fits
+way_number_again false n rest fits = refl
+
+pub way_takes : (listing : Bool) (ways : ℕ) (bytes : List ℕ) (x : ℕ × List ℕ) → IsBytes bytes
+    → way_at listing ways bytes ≡ Ok x → Takes bytes (way_bytes listing x.0) x.1 × CanWrite listing x.0 × (x.0 < ways)
+unfolding way_at
+way_takes listing ways bytes x fits e =
+    let bad = fault_at fault.BadWay bytes in
+    let a = bind_ok (way_number_at listing bytes) (λ n. cond (ltb n.0 ways) (Ok n) (Err bad)) x e in
+    let g = guard_in (ltb a.0.0 ways) bad a.0 x a.2 in
+    let t = way_number_takes listing bytes a.0 fits a.1 in
+    subst
+    (λ (y : ℕ × List ℕ). Takes bytes (way_bytes listing y.0) y.1 × CanWrite listing y.0 × (y.0 < ways))
+    g.1 (t.0, t.1, ltb-true _ _ g.0)
+
+pub way_again : (listing : Bool) (ways n : ℕ) (rest : List ℕ) → CanWrite listing n → n < ways
+    → way_at listing ways (way_bytes listing n ++ rest) ≡ Ok (n, rest)
+unfolding way_at
+way_again listing ways n rest fits below = rw (way_number_again listing n rest fits, lt-ltb n ways below) refl
+
+-- an entry that is read may be written
+pub record IsEntry (listing : Bool) (steps ways : ℕ) (e : TableEntry) : Type 0 where
+  pub fits : FitsEntry steps ways e
+  pub can : CanWrite listing e.next
+
+pub entry_takes : (listing : Bool) (steps ways : ℕ) (bytes : List ℕ) (x : TableEntry × List ℕ) → IsBytes bytes
+    → entry_at listing steps ways bytes ≡ Ok x
+    → Takes bytes (entry_bytes listing x.0) x.1 × IsEntry listing steps ways x.0
+unfolding entry_at
+entry_takes listing steps ways bytes x fits e =
+    let a = bind_ok (way_at listing ways bytes)
+    (λ next. event_at steps next.1 >>= λ event. Ok (record { next = next.0; event = event.0 }, event.1)) x e in
+    let b = bind_ok (event_at steps a.0.1) (λ event. Ok (record { next = a.0.0; event = event.0 }, event.1)) x a.2 in
+    let t0 = way_takes listing ways bytes a.0 fits a.1 in
+    let t1 = event_takes steps a.0.1 b.0 t0.0.rest_fits b.1 in
+    let t01 = Takes-then bytes (way_bytes listing a.0.0) a.0.1 (event_bytes b.0.0) b.0.1 t0.0 t1.0 in
+    let made : TableEntry × List ℕ = (record { next = a.0.0; event = b.0.0 }, b.0.1) in
+    subst
+    (λ (y : TableEntry × List ℕ). Takes bytes (entry_bytes listing y.0) y.1 × IsEntry listing steps ways y.0)
+    (ok_is made x b.2)
+    (t01, record { fits = record { next = t0.2; event = t1.1 }; can = t0.1 })
+
+pub entry_again : (listing : Bool) (steps ways : ℕ) (e : TableEntry) (rest : List ℕ) → IsEntry listing steps ways e
+    → entry_at listing steps ways (entry_bytes listing e ++ rest) ≡ Ok (e, rest)
+unfolding entry_at
+entry_again listing steps ways e rest fits =
+    ap (entry_at listing steps ways) (append_assoc (way_bytes listing e.next) (event_bytes e.event) rest)
+    ∙ rw (
+      way_again listing ways e.next (event_bytes e.event ++ rest) fits.can fits.fits.next,
+      event_again steps e.event rest fits.fits.event,
+    ) refl

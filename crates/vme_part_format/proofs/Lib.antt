@@ -1,0 +1,12 @@
+pub mod FieldLaws
+pub mod LevelFacts
+pub mod LevelLaws
+pub mod LevelLoops
+pub mod Loops
+pub mod MarkLaws
+pub mod PartLaws
+pub mod SegmentLaws
+pub mod SizeLaws
+pub mod SumLaws
+pub mod TableLaws
+pub mod WriteLaws

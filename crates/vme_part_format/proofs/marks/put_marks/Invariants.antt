@@ -1,0 +1,12 @@
+use Rattle.std.proofs.Common.{◌≡◌, ◌++◌, drop}
+use Rattle.vme_part_format.specs.Bounds.{AreAscending}
+use Rattle.vme_part_format.specs.PartText.{marks_bytes}
+use Rattle.vme_part_format.proofs.marks.put_marks.Given as goal
+
+abbrev pub invariant-loop-mark : goal.invariant-loop-mark
+invariant-loop-mark l =
+    record {
+      ascend : AreAscending l.before (drop l.mark-index l.marks);
+      put : l.out.items ++ marks_bytes l.before (drop l.mark-index l.marks)
+          ≡ l.fn.out.items ++ marks_bytes 0 l.marks;
+    }

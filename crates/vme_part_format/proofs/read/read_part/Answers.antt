@@ -1,0 +1,37 @@
+use Rattle.std.proofs.Common.{◌≡◌, ℕ, List, Result, Ok, Err, refl, ap, subst, ◌∙◌, arith}
+use Rattle.std.specs.Prelude.{IfOk, IsErr}
+use Rattle.vme_part_format.specs.declared.fault.PartFault.{PartFault}
+use Rattle.vme_part_format.specs.declared.fault.ReadError.{ReadError}
+use Rattle.vme_part_format.specs.declared.part.Part.{Part}
+use Rattle.vme_part_format.specs.Bounds.{FitsPart}
+use Rattle.vme_part_format.specs.PartText.{part_bytes}
+use Rattle.vme_part_format.specs.Reading.{IsPartReading, part_at}
+use Rattle.vme_part_format.specs.Sums.{DifferInOne}
+use Rattle.vme_part_format.specs.Tables.{PartValue, part_value}
+use Rattle.vme_part_format.proofs.FieldLaws.{IsBytes}
+use Rattle.vme_part_format.proofs.PartLaws.{part_again, part_apart, part_takes}
+use Rattle.vme_part_format.proofs.read.read_part.Goals as goal
+
+found_part : (bytes : List ℕ) (r : Result Part ReadError) → IsBytes bytes → IsPartReading part_value r (part_at bytes)
+    → IfOk r (λ p. FitsPart (part_value p) × (bytes ≡ part_bytes (part_value p)))
+found_part bytes (Ok p) fits e = part_takes bytes (part_value p) fits e
+found_part bytes (Err f) fits e = tt
+
+pub returns-clause-found : goal.returns-clause-found
+returns-clause-found c =
+    found_part c.args.bytes.now c.read_checked.result (λ i. omega (arith, c.type_inv.bytes i)) c.read_checked.ensures
+
+pub returns-clause-only : goal.returns-clause-only
+returns-clause-only c = λ p fits e.
+    subst (λ (read : Result PartValue PartFault). IsPartReading part_value c.read_checked.result read)
+    (ap part_at e ∙ part_again p fits) c.read_checked.ensures
+
+changed : (bytes : List ℕ) (r : Result Part ReadError) → IsBytes bytes → IsPartReading part_value r (part_at bytes)
+    → (p : PartValue) → DifferInOne bytes (part_bytes p) → IsErr r
+changed bytes (Ok q) fits e p d =
+    absurd (part_apart bytes (part_value q) p fits (part_takes bytes (part_value q) fits e).1 d)
+changed bytes (Err f) fits e p d = refl
+
+pub returns-clause-changed : goal.returns-clause-changed
+returns-clause-changed c =
+    changed c.args.bytes.now c.read_checked.result (λ i. omega (arith, c.type_inv.bytes i)) c.read_checked.ensures

@@ -1,0 +1,5 @@
+pub mod Tables
+pub mod Sums
+pub mod PartText
+pub mod Reading
+pub mod Bounds

@@ -1,0 +1,201 @@
+-- The bytes of a part. Numbers are written with their least byte first.
+use Rattle.std.specs.Prelude.{ℕ, ◌+◌, ◌-◌, ◌*◌, ◌==◌, Bool, true, false, List, [], ◌∷◌, ◌++◌, length, map, flat_map}
+use Rattle.std.specs.Prelude.{take, drop, Option, None, Some, codes, nat_lt, if◌then◌else◌}
+use Rattle.std.specs.List.{range_with_len}
+use Rattle.std.specs.Int.{w16, w32, w64, to_le_bytes}
+use Rattle.vme_trace.specs.Levels.{Levels, level_at}
+use Rattle.vme_trace.specs.LineNumbers.{DTACK, has_line, line_count}
+use Rattle.vme_trace.specs.Names.{rule_number}
+use Rattle.vme_trace.specs.declared.class.Class.{Class}
+use Rattle.vme_trace.specs.declared.class.Class.TheVariants as class
+use Rattle.vme_trace.specs.declared.data.MovedBytes.{MovedBytes}
+use Rattle.vme_trace.specs.declared.data.MovedBytes.TheVariants.{Nothing, OddByte, EvenByte, Word, LongWord}
+use Rattle.vme_trace.specs.declared.level.Level.{Level}
+use Rattle.vme_trace.specs.declared.level.Level.TheVariants.{Low, High, Unknown}
+use Rattle.vme_monitor.specs.declared.mark.MarkKind.{MarkKind}
+use Rattle.vme_monitor.specs.declared.mark.MarkKind.TheVariants as kind
+use Rattle.vme_part_format.specs.declared.segment.SegmentTimes.{SegmentTimes}
+use Rattle.vme_part_format.specs.declared.table.TableEntry.{TableEntry}
+use Rattle.vme_part_format.specs.declared.wide.WideBreak.{WideBreak}
+use Rattle.vme_part_format.specs.declared.wide.WideMark.{WideMark}
+use Rattle.vme_part_format.specs.Sums.{sum_of}
+use Rattle.vme_part_format.specs.Tables.{NodeValue, PartValue, SegmentValue, TableValue}
+
+-- ---- levels
+
+abbrev pub level_code : Level → ℕ
+level_code Low = 0
+level_code High = 1
+level_code Unknown = 2
+
+-- the levels of four lines in one byte
+abbrev pub quad : Level → Level → Level → Level → ℕ
+quad a b c d = level_code a + 4 * level_code b + 16 * level_code c + 64 * level_code d
+
+abbrev pub packed : List Level → List ℕ
+packed [] = []
+packed (a ∷ []) = []
+packed (a ∷ b ∷ []) = []
+packed (a ∷ b ∷ c ∷ []) = []
+packed (a ∷ b ∷ c ∷ d ∷ ls) = quad a b c d ∷ packed ls
+
+-- the level of a line, which is unknown where the backplane doesn't have the line
+abbrev pub seen_level : Levels → ℕ → Level
+seen_level v l = if has_line v.slots l then level_at v l else Unknown
+
+abbrev pub seen_levels : Levels → List Level
+seen_levels v = map (seen_level v) (range_with_len 0 line_count)
+
+unfoldable pub levels_bytes : Levels → List ℕ
+levels_bytes v = packed (seen_levels v)
+
+-- ---- breaks, and where a way goes on
+
+abbrev pub event_bytes : Option WideBreak → List ℕ
+event_bytes None = 0 ∷ []
+event_bytes (Some b) =
+    (rule_number b.rule + 1) ∷ b.line ∷ (to_le_bytes w64 b.instant ++ to_le_bytes w64 b.time)
+
+-- four bytes in a part with marks, else one
+abbrev pub way_bytes : Bool → ℕ → List ℕ
+way_bytes true next = to_le_bytes w32 next
+way_bytes false next = next ∷ []
+
+abbrev pub entry_bytes : Bool → TableEntry → List ℕ
+entry_bytes listing e = way_bytes listing e.next ++ event_bytes e.event
+
+-- ---- marks
+
+-- how many bytes a distance has, as a code: 0, 1, 2, 4 or 8
+abbrev pub width_code : ℕ → ℕ
+width_code n =
+    if n == 0 then 0 else if nat_lt n 256 then 1 else if nat_lt n 65536 then 2 else if nat_lt n 4294967296 then 3
+    else 4
+
+abbrev pub bytes_of_width : ℕ → ℕ → List ℕ
+bytes_of_width code n =
+    if code == 0 then [] else if code == 1 then n ∷ [] else if code == 2 then to_le_bytes w16 n
+    else if code == 3 then to_le_bytes w32 n else to_le_bytes w64 n
+
+abbrev pub class_code : Class → ℕ
+class_code class.S = 5
+class_code class.K = 6
+class_code class.I = 7
+class_code class.F = 8
+
+abbrev pub moved_code : MovedBytes → ℕ
+moved_code Nothing = 0
+moved_code OddByte = 1
+moved_code EvenByte = 2
+moved_code Word = 3
+moved_code LongWord = 4
+
+abbrev pub kind_code : MarkKind → ℕ
+kind_code kind.Reset = 0
+kind_code kind.Start = 1
+kind_code kind.Open = 2
+kind_code (kind.Tenure level slot) = 3
+kind_code kind.TenureEnd = 4
+kind_code (kind.Cycle c am address) = class_code c
+kind_code kind.CycleEnd = 9
+kind_code (kind.Transfer write) = if write then 11 else 10
+kind_code (kind.Answer line) = if line == DTACK then 12 else 13
+kind_code (kind.WriteAnswer line moved unknown value) = if line == DTACK then 14 else 15
+kind_code kind.Close = 16
+
+abbrev pub kind_bytes : MarkKind → List ℕ
+kind_bytes kind.Reset = []
+kind_bytes kind.Start = []
+kind_bytes kind.Open = []
+kind_bytes (kind.Tenure level slot) = level ∷ slot ∷ []
+kind_bytes kind.TenureEnd = []
+kind_bytes (kind.Cycle c am address) = am ∷ to_le_bytes w32 address
+kind_bytes kind.CycleEnd = []
+kind_bytes (kind.Transfer write) = []
+kind_bytes (kind.Answer line) = []
+kind_bytes (kind.WriteAnswer line moved unknown value) = moved_code moved ∷ unknown ∷ to_le_bytes w32 value
+kind_bytes kind.Close = []
+
+-- a mark so many instants after the one before it
+unfoldable pub spaced_bytes : ℕ → MarkKind → List ℕ
+spaced_bytes n k =
+    (32 * width_code n + kind_code k) ∷ (bytes_of_width (width_code n) n ++ kind_bytes k)
+
+-- a mark behind an instant
+abbrev pub mark_bytes : ℕ → WideMark → List ℕ
+mark_bytes before m = spaced_bytes (m.instant - before) m.kind
+
+abbrev pub marks_bytes : ℕ → List WideMark → List ℕ
+marks_bytes before [] = []
+marks_bytes before (m ∷ ms) = mark_bytes before m ++ marks_bytes m.instant ms
+
+-- ---- tables
+
+unfoldable pub node_bytes : NodeValue → List ℕ
+node_bytes n =
+    to_le_bytes w32 n.next ++ (event_bytes n.event ++ (to_le_bytes w32 (length n.marks) ++ marks_bytes 0 n.marks))
+
+-- memory 2 isn't written: it stays as it is and shows nothing
+abbrev pub written : List TableEntry → List TableEntry
+written es = take 2 es ++ drop 3 es
+
+abbrev pub count_bytes : Bool → ℕ → List ℕ
+count_bytes true n = to_le_bytes w32 n
+count_bytes false n = []
+
+unfoldable pub table_bytes : Bool → TableValue → List ℕ
+table_bytes listing t =
+    count_bytes listing (length t.nodes)
+    ++ (flat_map (entry_bytes listing) (written t.entries) ++ flat_map node_bytes t.nodes)
+
+-- ---- segments
+
+abbrev pub times_bytes : Option SegmentTimes → List ℕ
+times_bytes None = 0 ∷ []
+times_bytes (Some t) = 1 ∷ (to_le_bytes w64 t.number ++ (to_le_bytes w64 t.first ++ to_le_bytes w64 t.last))
+
+-- the tables of held lines, of grants and of interrupt acknowledge
+abbrev pub chains_bytes : Bool → SegmentValue → List ℕ
+chains_bytes listing s =
+    table_bytes listing s.stability ++ (table_bytes listing s.grant ++ table_bytes listing s.acknowledge)
+
+abbrev pub tables_bytes : Bool → SegmentValue → List ℕ
+tables_bytes listing s =
+    table_bytes listing s.known ++ (table_bytes listing s.handshake ++ chains_bytes listing s)
+
+-- which files a segment covers, and how many steps they have
+abbrev pub head_bytes : SegmentValue → List ℕ
+head_bytes s = to_le_bytes w64 s.first ++ (s.order ∷ to_le_bytes w64 s.steps)
+
+-- the levels before it, and those that it leaves
+abbrev pub lines_bytes : SegmentValue → List ℕ
+lines_bytes s = s.opening.slots ∷ (levels_bytes s.opening ++ levels_bytes s.left)
+
+unfoldable pub segment_bytes : Bool → SegmentValue → List ℕ
+segment_bytes listing s = head_bytes s ++ (lines_bytes s ++ (times_bytes s.times ++ tables_bytes listing s))
+
+-- ---- the whole
+
+abbrev pub flag : Bool → ℕ
+flag true = 1
+flag false = 0
+
+abbrev pub name_bytes : List ℕ
+name_bytes = codes "vmepart"
+
+abbrev pub version_byte : ℕ
+version_byte = 49
+
+-- the sum of the backplane, whether there are marks, and how many segments there are
+abbrev pub front_bytes : PartValue → List ℕ
+front_bytes p = to_le_bytes w64 p.backplane ++ (flag p.listing ∷ to_le_bytes w32 (length p.segments))
+
+unfoldable pub body_bytes : PartValue → List ℕ
+body_bytes p = front_bytes p ++ flat_map (segment_bytes p.listing) p.segments
+
+-- what the sum is of
+abbrev pub summed_bytes : PartValue → List ℕ
+summed_bytes p = name_bytes ++ version_byte ∷ body_bytes p
+
+unfoldable pub part_bytes : PartValue → List ℕ
+part_bytes p = summed_bytes p ++ to_le_bytes w64 (sum_of (summed_bytes p))

@@ -1,0 +1,68 @@
+-- What a part says, without where it lies in memory.
+use Rattle.std.specs.Prelude.{ℕ, ◌+◌, ◌-◌, ◌^◌, Bool, List, map, Option}
+use Rattle.vme_trace.specs.Levels.{Levels}
+use Rattle.vme_part_format.specs.declared.part.Part.{Part}
+use Rattle.vme_part_format.specs.declared.segment.Segment.{Segment}
+use Rattle.vme_part_format.specs.declared.segment.SegmentTimes.{SegmentTimes}
+use Rattle.vme_part_format.specs.declared.table.OutcomeTable.{OutcomeTable}
+use Rattle.vme_part_format.specs.declared.table.TableEntry.{TableEntry}
+use Rattle.vme_part_format.specs.declared.table.TableNode.{TableNode}
+use Rattle.vme_part_format.specs.declared.wide.WideBreak.{WideBreak}
+use Rattle.vme_part_format.specs.declared.wide.WideMark.{WideMark}
+
+pub record NodeValue : Type 0 where
+  pub next : ℕ
+  pub event : Option WideBreak
+  pub marks : List WideMark
+
+abbrev pub node_value : TableNode → NodeValue
+node_value n = record { next = n.next; event = n.event; marks = n.marks.items }
+
+pub record TableValue : Type 0 where
+  pub entries : List TableEntry
+  pub nodes : List NodeValue
+
+abbrev pub table_value : OutcomeTable → TableValue
+table_value t = record { entries = t.entries.items; nodes = map node_value t.nodes.items }
+
+pub record SegmentValue : Type 0 where
+  pub first : ℕ
+  pub order : ℕ
+  pub steps : ℕ
+  pub opening : Levels
+  pub left : Levels
+  pub times : Option SegmentTimes
+  pub known : TableValue
+  pub handshake : TableValue
+  pub stability : TableValue
+  pub grant : TableValue
+  pub acknowledge : TableValue
+
+abbrev pub segment_value : Segment → SegmentValue
+segment_value s =
+    record {
+      first = s.first;
+      order = s.order;
+      steps = s.steps;
+      opening = s.opening;
+      left = s.left;
+      times = s.times;
+      known = table_value s.known;
+      handshake = table_value s.handshake;
+      stability = table_value s.stability;
+      grant = table_value s.grant;
+      acknowledge = table_value s.acknowledge;
+    }
+
+-- the number of the last file of a segment
+abbrev pub last_of : ℕ → ℕ → ℕ
+last_of first order = first + (2 ^ order - 1)
+
+pub record PartValue : Type 0 where
+  pub backplane : ℕ
+  pub listing : Bool
+  pub segments : List SegmentValue
+
+abbrev pub part_value : Part → PartValue
+part_value p =
+    record { backplane = p.backplane; listing = p.listing; segments = map segment_value p.segments.items }

@@ -1,0 +1,24 @@
+//! Breaks and marks whose numbers have 64 bits.
+
+use vme_monitor::mark::MarkKind;
+use vme_trace::{Line, Rule};
+
+/// A rule that is broken: when, and on which line. Its numbers have 64 bits.
+#[derive(Clone, Copy, Debug, PartialEq, Eq)]
+pub struct WideBreak {
+    /// At which instant: 1 is the first step.
+    pub instant: u64,
+    /// The time of that instant, in the unit of the recording.
+    pub time: u64,
+    /// The rule that is broken.
+    pub rule: Rule,
+    /// The line whose edge or level breaks it.
+    pub line: Line,
+}
+
+/// Something that happens, and the instant of the step at which it does, a number of 64 bits.
+#[derive(Debug, PartialEq, Eq, Drop)]
+pub struct WideMark {
+    pub instant: u64,
+    pub kind: MarkKind,
+}

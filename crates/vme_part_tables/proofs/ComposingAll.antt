@@ -1,0 +1,20 @@
+-- What is composed and pruned says both.
+use Rattle.std.proofs.Common.{◌≡◌, ℕ, ◌+◌, ap, ◌∙◌, arith, length}
+use Rattle.vme_part_format.specs.Tables.{TableValue}
+use Rattle.vme_part_tables.specs.Composed.{CanCompose, table_on}
+use Rattle.vme_part_tables.specs.Pruned.{IsPruned}
+use Rattle.vme_part_tables.specs.Runs.{SaysBoth}
+use Rattle.vme_part_tables.proofs.Composing.{composed_count, composed_memories, composed_says}
+use Rattle.vme_part_tables.proofs.Fitting.{composed_fits}
+
+pub both_pruned : (a b : TableValue) (steps : ℕ) → CanCompose a b → (u : TableValue) → IsPruned (table_on a b steps) u
+    → SaysBoth steps a b u
+both_pruned a b steps c u p =
+    record {
+      counted = p.counted ∙ composed_memories a b steps c;
+      few = omega (arith, p.few, composed_count a b steps c);
+      ways = p.ways;
+      fits = λ listing count more small f g.
+          p.fits listing count (steps + more) (composed_fits steps more small listing count a b f g c);
+      outcomes = λ k. p.outcomes k ∙ composed_says a b steps c k;
+    }

@@ -1,0 +1,191 @@
+-- What is made of tables that can be written can be written.
+use Rattle.std.proofs.Common.{inl, inr, ◌≡◌, ℕ, zero, suc, ◌+◌, ◌-◌, ◌<◌, ◌≤◌, ◌^◌, Bool, true, false, List, [], ◌∷◌}
+use Rattle.std.proofs.Common.{◌++◌, length, map}
+use Rattle.std.proofs.Common.{get_or, Option, Some, None, refl, ap, sym, subst, ◌∙◌, arith, length-append}
+use Rattle.std.specs.Prelude.{◌⊎◌, All, IfSome, slice_get}
+use Rattle.std.specs.Option.{option_map, option_or}
+use Rattle.std.proofs.lemmas.Bool.{lt-ltb, le-ltb, cases_lt}
+use Rattle.std.proofs.lemmas.List.{length-map, map-append}
+use Rattle.std.proofs.lemmas.List.Elements.{All-map}
+use Rattle.std.proofs.lemmas.Option.{slice_get_cases, slice_get_within}
+use Rattle.vme_part_format.specs.Bounds.{FitMarks, FitNodes, FitsBreak, FitsEntry, FitsMark, FitsNode, FitsTable}
+use Rattle.vme_part_format.specs.Bounds.{HasNodes}
+use Rattle.vme_part_format.specs.Bounds.{stays}
+use Rattle.vme_part_format.specs.Tables.{NodeValue, TableValue}
+use Rattle.vme_part_format.specs.declared.table.TableEntry.{TableEntry}
+use Rattle.vme_part_format.specs.declared.wide.WideBreak.{WideBreak}
+use Rattle.vme_part_format.specs.declared.wide.WideMark.{WideMark}
+use Rattle.vme_part_tables.specs.Ways.{HasWays, NodesGoOn, later, later_break, later_mark}
+use Rattle.vme_part_tables.specs.Composed.{CanCompose, entry_of, entry_on, event_on, later_node, next_on, node_on}
+use Rattle.vme_part_tables.specs.Composed.{nodes_on, table_on}
+use Rattle.vme_part_tables.proofs.Composing.{composed_memories, composed_ways, count_on}
+
+-- a table that can be written has ways
+nodes_have_ways : (count steps : ℕ) (ns : List NodeValue) → FitNodes count steps ns → NodesGoOn count ns
+nodes_have_ways count steps [] f = tt
+nodes_have_ways count steps (n ∷ ns) f = (f.0.next, nodes_have_ways count steps ns f.1)
+
+pub has_ways : (listing : Bool) (count steps : ℕ) (t : TableValue) → FitsTable listing count steps t → HasWays t
+has_ways listing count steps t f =
+    let e = f.as_many in
+    record {
+      few = rw f.as_many f.few;
+      entries = λ k d h. rw f.as_many (f.entries k d h).next;
+      nodes = rw f.as_many (nodes_have_ways count steps t.nodes f.nodes);
+    }
+
+pub at_two : {A : Type 0} (front : List A) (x : A) (back : List A) → length front ≡ 2 → slice_get (front ++ x ∷ back) 2
+    ≡ Some x
+at_two [] x back l = absurd (omega arith)
+at_two (a ∷ []) x back l = absurd (omega arith)
+at_two (a ∷ b ∷ []) x back l = refl
+at_two (a ∷ b ∷ c ∷ ds) x back l = absurd (omega arith)
+
+stays_on : (es : List TableEntry) (between steps : ℕ) → slice_get es 2 ≡ Some stays
+    → entry_on es steps between stays ≡ stays
+stays_on es between steps h =
+    let within = slice_get_within es 2 stays h in
+    rw (h, lt-ltb 2 (length es) within) refl
+
+module _ (steps more : ℕ) (fits : steps + more < 2 ^ 64) where
+  break_first : (b : WideBreak) → FitsBreak steps b → FitsBreak (steps + more) b
+  break_first b f =
+      record {
+        line = f.line;
+        instant = (f.instant.0, omega (arith, f.instant.1), f.instant.2);
+        time = f.time;
+      }
+
+  break_second : (b : WideBreak) → FitsBreak more b → FitsBreak (steps + more) (later_break steps b)
+  break_second b f =
+      let low = f.instant.1 in
+      let positive = f.instant.0 in
+      record {
+        line = f.line;
+        instant = (omega arith, omega arith, omega arith);
+        time = f.time;
+      }
+
+  found_both : (a b : Option WideBreak) → IfSome a (FitsBreak steps) → IfSome b (FitsBreak more)
+      → IfSome (option_or a (option_map (later_break steps) b)) (FitsBreak (steps + more))
+  found_both None None f g = tt
+  found_both None (Some b) f g = break_second b g
+  found_both (Some a) b f g = break_first a f
+
+  found_first : (a : Option WideBreak) → IfSome a (FitsBreak steps) → IfSome a (FitsBreak (steps + more))
+  found_first None f = tt
+  found_first (Some a) f = break_first a f
+
+  found_second : (b : Option WideBreak) → IfSome b (FitsBreak more)
+      → IfSome (option_map (later_break steps) b) (FitsBreak (steps + more))
+  found_second None f = tt
+  found_second (Some b) f = break_second b f
+
+  marks_first : (before : ℕ) (ms : List WideMark) → FitMarks steps before ms → FitMarks (steps + more) before ms
+  marks_first before [] f = tt
+  marks_first before (m ∷ ms) f =
+      let i = f.0.instant in
+      (record { kind = f.0.kind; instant = (i.0, i.1, omega (arith, i.2), i.3) }, marks_first m.instant ms f.1)
+
+  marks_second : (before start : ℕ) (ms : List WideMark) → start ≤ before + steps → FitMarks more before ms
+      → FitMarks (steps + more) start (map (later_mark steps) ms)
+  marks_second before start [] h f = tt
+  marks_second before start (m ∷ ms) h f =
+      let i = f.0.instant in
+      let positive = i.0 in
+      let behind = i.1 in
+      let low = i.2 in (
+        record { kind = f.0.kind; instant = (omega arith, omega arith, omega arith, omega arith) },
+        marks_second m.instant (later steps m.instant) ms (omega arith) f.1,
+      )
+
+  module _ (listing : Bool) (count : ℕ) (a b : TableValue) (f : FitsTable listing count steps a)
+      (g : FitsTable listing count more b) (c : CanCompose a b) where
+    -- the break where a way goes on
+    break_at : (w : ℕ) → IfSome (entry_of b.entries w).event (FitsBreak more)
+    break_at w = by_place (slice_get_cases b.entries w).1
+      where
+        by_place : ((x : TableEntry) × (w < length b.entries) × (slice_get b.entries w ≡ Some x)
+            × (get_or b.entries w x ≡ x)) ⊎ ((length b.entries ≤ w) × (slice_get b.entries w ≡ None))
+            → IfSome (entry_of b.entries w).event (FitsBreak more)
+        by_place (inl there) =
+            let e = there.2 in
+            rw e (subst (λ (x : TableEntry). IfSome x.event (FitsBreak more)) there.3
+            (g.entries w there.0 there.1).event)
+        by_place (inr past) = let e = past.1 in rw e tt
+
+    event_fits : (w : ℕ) (ev : Option WideBreak) → IfSome ev (FitsBreak steps)
+        → IfSome (event_on b.entries steps w ev) (FitsBreak (steps + more))
+    event_fits w ev h = by_place (cases_lt w (length b.entries))
+      where
+        by_place : ((w < length b.entries) ⊎ (length b.entries ≤ w))
+            → IfSome (event_on b.entries steps w ev) (FitsBreak (steps + more))
+        by_place (inl k) =
+            rw (lt-ltb w (length b.entries) k) (found_both ev (entry_of b.entries w).event h (break_at w))
+        by_place (inr k) = rw (le-ltb w (length b.entries) k) (found_first ev h)
+
+    nodes_fit_second : (ns : List NodeValue) → FitNodes count more ns
+        → FitNodes count (steps + more) (map (later_node steps) ns)
+    nodes_fit_second [] h = tt
+    nodes_fit_second (n ∷ ns) h = (
+      record {
+        next = rw (length-map ns (later_node steps)) h.0.next;
+        event = found_second n.event h.0.event;
+        some = rw (length-map n.marks (later_mark steps)) h.0.some;
+        marks = marks_second 0 0 n.marks (omega arith) h.0.marks;
+      },
+      nodes_fit_second ns h.1,
+    )
+
+    nodes_fit : (ns : List NodeValue) → FitNodes count steps ns
+        → NodesGoOn count (nodes_on b.entries steps ns ++ map (later_node steps) b.nodes)
+        → FitNodes count (steps + more) (nodes_on b.entries steps ns ++ map (later_node steps) b.nodes)
+    nodes_fit [] h w = nodes_fit_second b.nodes g.nodes
+    nodes_fit (n ∷ ns) h w = (
+      record {
+        next = w.0;
+        event = event_fits n.next n.event h.0.event;
+        some = h.0.some;
+        marks = marks_first 0 n.marks h.0.marks;
+      },
+      nodes_fit ns h.1 w.1,
+    )
+
+    listed_both : (l : Bool) → HasNodes l a.nodes → HasNodes l b.nodes → HasNodes l (table_on a b steps).nodes
+    listed_both true h k = tt
+    listed_both false h k = rw (h, k) refl
+
+    ended_both : (table_on a b steps).entries ≡ map (entry_on b.entries steps (length a.nodes)) f.ended.0
+        ++ stays ∷ map (entry_on b.entries steps (length a.nodes)) f.ended.1
+    ended_both =
+        let on = entry_on b.entries steps (length a.nodes) in
+        let second : slice_get b.entries 2 ≡ Some stays
+        = ap (λ es. slice_get es 2) g.ended.3 ∙ at_two g.ended.0 stays g.ended.1 g.ended.2 in
+        ap (map on) f.ended.3
+        ∙ (map-append on f.ended.0 (stays ∷ f.ended.1)
+        ∙ ap (λ e. map on f.ended.0 ++ e ∷ map on f.ended.1) (stays_on b.entries (length a.nodes) steps second))
+
+    pub composed_fits : FitsTable listing count (steps + more) (table_on a b steps)
+    composed_fits =
+        let ways = composed_ways a b steps c in
+        let memories : length (table_on a b steps).entries ≡ count = composed_memories a b steps c ∙ f.as_many in
+        record {
+          as_many = memories;
+          ended = (
+            map (entry_on b.entries steps (length a.nodes)) f.ended.0,
+            map (entry_on b.entries steps (length a.nodes)) f.ended.1,
+            length-map f.ended.0 (entry_on b.entries steps (length a.nodes)) ∙ f.ended.2,
+            ended_both,
+          );
+          entries = λ k d h. record {
+            next = rw (← memories) (ways.entries k d h);
+            event =
+                All-map (λ (e : TableEntry). IfSome e.event (FitsBreak (steps + more)))
+                (entry_on b.entries steps (length a.nodes)) a.entries
+                (λ k d h. event_fits (get_or a.entries k d).next (get_or a.entries k d).event (f.entries k d h).event) k
+                d h;
+          };
+          nodes = nodes_fit a.nodes f.nodes (subst (λ m. NodesGoOn m (table_on a b steps).nodes) memories ways.nodes);
+          few = rw (← memories) ways.few;
+          listed = listed_both listing f.listed g.listed;
+        }

@@ -1,0 +1,90 @@
+-- A table of two tells of the run over the steps of both.
+use Rattle.std.proofs.Common.{◌≡◌, ℕ, ◌+◌, ◌<◌, ◌≤◌, ◌^◌, Bool, true, false, List, [], ◌∷◌, ◌++◌, length, map, Option}
+use Rattle.std.proofs.Common.{Some, None}
+use Rattle.std.proofs.Common.{refl, ap, sym, ◌∙◌, arith}
+use Rattle.std.specs.Option.{option_map, option_or}
+use Rattle.std.proofs.lemmas.List.{map-append}
+use Rattle.vme_trace.specs.declared.verdict.Break.{Break}
+use Rattle.vme_monitor.specs.Outcome.{EventWithin, IsWithin, MarksWithin, Outcome, earlier, followed, shifted_break}
+use Rattle.vme_monitor.specs.Outcome.{shifted_mark}
+use Rattle.vme_monitor.specs.declared.mark.Mark.{Mark}
+use Rattle.vme_part_format.specs.Tables.{TableValue}
+use Rattle.vme_part_format.specs.declared.wide.WideBreak.{WideBreak}
+use Rattle.vme_part_format.specs.declared.wide.WideMark.{WideMark}
+use Rattle.vme_part_tables.specs.Ways.{WayOutcome, gone_on, later, later_break, later_mark, outcome_in}
+use Rattle.vme_part_tables.specs.Runs.{SaysBoth, ShowsMarks, TellsRun, TellsRuns, break_of, mark_of}
+
+module _ (m n : ℕ) (fits : m + n < 2 ^ 64) where
+  later_is : (i : ℕ) → i ≤ n → later m i ≡ i + m
+  later_is i h = omega arith
+
+  later_found : (e : Option WideBreak) (f : Option Break) → option_map break_of e ≡ f → EventWithin n f
+      → option_map break_of (option_map (later_break m) e) ≡ option_map (shifted_break m) f
+  later_found None None s h = refl
+  later_found None (Some c) s h = absurd (cc)
+  later_found (Some b) None s h = absurd (cc)
+  later_found (Some b) (Some c) s h =
+      let same : break_of b ≡ c = cc in
+      let at : b.instant ≡ c.instant = ap (λ (k : Break). k.instant) same in
+      let on : later m b.instant ≡ b.instant + m = later_is b.instant (omega arith) in
+      ap Some (ap (λ i. record { instant = i; time = b.time; rule = b.rule; line = b.line }) on
+      ∙ ap (shifted_break m) same)
+
+  later_shown : (ws : List WideMark) (ms : List Mark) → map mark_of ws ≡ ms → MarksWithin n ms
+      → map mark_of (map (later_mark m) ws) ≡ map (shifted_mark m) ms
+  later_shown [] [] s h = refl
+  later_shown [] (y ∷ ys) s h = absurd (cc)
+  later_shown (w ∷ ws) [] s h = absurd (cc)
+  later_shown (w ∷ ws) (y ∷ ys) s h =
+      let same : mark_of w ≡ y = cc in
+      let rest : map mark_of ws ≡ ys = cc in
+      let at : w.instant ≡ y.instant = ap (λ (k : Mark). k.instant) same in
+      let on : later m w.instant ≡ w.instant + m = later_is w.instant (omega arith) in
+      let one : mark_of (later_mark m w) ≡ shifted_mark m y
+      = ap (λ i. record { instant = i; kind = w.kind }) on ∙ ap (shifted_mark m) same in
+      let more = later_shown ws ys rest h.2 in
+      cc
+
+  earlier_of : (a b : Option WideBreak) (e f : Option Break) → option_map break_of a ≡ e → option_map break_of b ≡ f
+      → option_map break_of (option_or a b) ≡ earlier e f
+  earlier_of None b None f p q = q
+  earlier_of None b (Some e) f p q = absurd (cc)
+  earlier_of (Some a) b None f p q = absurd (cc)
+  earlier_of (Some a) b (Some e) f p q = p
+
+  module _ {P : Type 0} (place : P → ℕ) where
+    pub marks_of_both : (listing : Bool) (a b : WayOutcome) (r s : Outcome P) → ShowsMarks listing a r
+        → ShowsMarks listing b s → IsWithin n s → ShowsMarks listing (gone_on m a b) (followed m r s)
+    marks_of_both true a b r s p q h =
+        map-append mark_of a.marks (map (later_mark m) b.marks)
+        ∙ (ap (λ k. k ++ map mark_of (map (later_mark m) b.marks)) p
+        ∙ ap (λ k. r.marks ++ k) (later_shown b.marks s.marks q h.1))
+    marks_of_both false a b r s p q h =
+        ap (λ k. k ++ map (later_mark m) b.marks) p ∙ ap (map (later_mark m)) q
+
+    pub tells_both : (listing : Bool) (a b : WayOutcome) (r s : Outcome P) → TellsRun listing place a r
+        → TellsRun listing place b s → IsWithin n s → TellsRun listing place (gone_on m a b) (followed m r s)
+    tells_both listing a b r s p q h =
+        record {
+          leaving = q.leaving;
+          event = earlier_of a.event (option_map (later_break m) b.event) r.event (option_map (shifted_break m) s.event)
+              p.event (later_found b.event s.event q.event h.0);
+          marks = marks_of_both listing a b r s p.marks q.marks h;
+        }
+
+    pub tables_tell_both : (listing : Bool) (memories : ℕ) (first second both : TableValue) (f g h : P → Outcome P)
+        → SaysBoth m first second both → TellsRuns listing memories place first f
+        → TellsRuns listing memories place second g → ((p : P) → IsWithin n (g p))
+        → ((p : P) → h p ≡ followed m (f p) (g (f p).leaving)) → TellsRuns listing memories place both h
+    tables_tell_both listing memories first second both f g h s p q within whole =
+        record {
+          counted = s.counted ∙ p.counted;
+          ways = s.ways;
+          tells = λ k.
+              let a = p.tells k in
+              let b = rw (← a.leaving) at (q.tells (f k).leaving) in
+              rw (s.outcomes (place k), whole k)
+              (tells_both listing (outcome_in first (place k))
+              (outcome_in second (outcome_in first (place k)).leaving) (f k) (g (f k).leaving) a b
+              (within (f k).leaving));
+        }

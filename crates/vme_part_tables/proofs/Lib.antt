@@ -1,0 +1,11 @@
+mod Stepping
+mod Walking
+pub mod Composing
+pub mod Joining
+mod Pruning
+mod Keeping
+mod Marking
+pub mod Fitting
+mod FittingPruned
+mod PruningAll
+mod ComposingAll

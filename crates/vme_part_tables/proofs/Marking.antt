@@ -1,0 +1,319 @@
+-- What is said through nodes in the order in which they are made.
+use Rattle.std.proofs.Common.{inl, inr, ◌≡◌, ℕ, zero, suc, ◌+◌, ◌-◌, ◌^◌, ◌<◌, ◌≤◌, get_or, true, List, []}
+use Rattle.std.proofs.Common.{◌∷◌, ◌++◌, length, map, reverse}
+use Rattle.std.proofs.Common.{Option, Some, None, refl, ap, sym, subst, ◌∙◌, arith, length-append, append-nil}
+use Rattle.std.proofs.Common.{eqb}
+use Rattle.std.specs.Prelude.{◌⊎◌, All, slice_get}
+use Rattle.std.specs.Option.{option_map, option_map_or, option_or}
+use Rattle.std.proofs.lemmas.Bool.{lt-ltb, le-ltb, cases_lt, eqb-true}
+use Rattle.std.proofs.lemmas.List.Elements.{All-append}
+use Rattle.std.proofs.lemmas.List.{length-map, length-reverse, map-append, reverse-append}
+use Rattle.std.proofs.lemmas.Option.{get_or_from_slice_get, slice_get_cases}
+use Rattle.vme_trace.specs.declared.verdict.Break.{Break}
+use Rattle.vme_monitor.specs.Outcome.{Outcome, earlier}
+use Rattle.vme_monitor.specs.declared.mark.Mark.{Mark}
+use Rattle.vme_part_format.specs.Tables.{NodeValue, TableValue, node_value}
+use Rattle.vme_part_format.specs.declared.table.TableEntry.{TableEntry}
+use Rattle.vme_part_format.specs.declared.table.TableNode.{TableNode}
+use Rattle.vme_part_format.specs.declared.wide.WideBreak.{WideBreak}
+use Rattle.vme_part_format.specs.declared.wide.WideMark.{WideMark}
+use Rattle.vme_part_tables.specs.Ways.{HasWays, WayOutcome, behind_break, behind_marks, ended_in, from_entry}
+use Rattle.vme_part_tables.specs.Ways.{outcome_in, walked}
+use Rattle.vme_part_tables.specs.Runs.{TellsRun, TellsRuns, break_of, mark_of}
+use Rattle.vme_part_tables.specs.Marked.{AreMade, MadeGoOn, SayBelow, SaysBehind, entry_made}
+use Rattle.vme_part_tables.specs.Marked.{made_says, onward_at}
+use Rattle.vme_part_tables.specs.Marked.{says_at, turned}
+use Rattle.vme_part_tables.specs.declared.marked.Onward.{Onward}
+use Rattle.vme_part_tables.proofs.Walking.{behind_two, walked_here, walked_memory, walked_past}
+
+reverse_one : (xs : List NodeValue) (n : NodeValue) → reverse (xs ++ n ∷ []) ≡ n ∷ reverse xs
+reverse_one xs n = reverse-append xs (n ∷ [])
+
+module _ (m : ℕ) where
+  turned_memory : (k w : ℕ) → w < m → turned m k w ≡ w
+  turned_memory k w h = rw (lt-ltb w m h) refl
+
+  turned_node : (k w : ℕ) → m ≤ w → turned m k w ≡ m + (k - 1 - (w - m))
+  turned_node k w h = rw (le-ltb w m h) refl
+
+  pub turned_below : (k w : ℕ) → w < m + k → turned m k w < m + k
+  turned_below k w h = by_place (cases_lt w m)
+    where
+      by_place : ((w < m) ⊎ (m ≤ w)) → turned m k w < m + k
+      by_place (inl i) = rw (turned_memory k w i) h
+      by_place (inr i) = rw (turned_node k w i) (omega arith)
+
+  -- one more node leaves what is said from others
+  pub says_still : (made : List NodeValue) (n : NodeValue) (ev : Option WideBreak) (w : ℕ) → w < m + length made
+      → made_says m (made ++ n ∷ []) ev w ≡ made_says m made ev w
+  says_still made n ev w h = by_place (cases_lt w m)
+    where
+      count : length (made ++ n ∷ []) ≡ length made + 1
+      count = length-append made (n ∷ [])
+
+      by_place : ((w < m) ⊎ (m ≤ w)) → made_says m (made ++ n ∷ []) ev w ≡ made_says m made ev w
+      by_place (inl i) =
+          rw (
+            turned_memory (length (made ++ n ∷ [])) w i,
+            turned_memory (length made) w i,
+            walked_memory m (reverse (made ++ n ∷ [])) w i,
+            walked_memory m (reverse made) w i,
+          ) refl
+      by_place (inr i) =
+          let to : turned m (length (made ++ n ∷ [])) w ≡ turned m (length made) w + 1
+          = turned_node (length (made ++ n ∷ [])) w i
+          ∙ (ap (λ k. m + (k - 1 - (w - m))) count ∙ rw (turned_node (length made) w i) (omega arith)) in
+          let past : m < turned m (length made) w + 1 = rw (turned_node (length made) w i) (omega arith) in
+          let e : turned m (length made) w + 1 - 1 ≡ turned m (length made) w = omega arith in
+          rw (to, reverse_one made n, walked_past m n (reverse made) (turned m (length made) w + 1) past, e) refl
+
+  -- and from it
+  pub says_new : (made : List NodeValue) (n : NodeValue)
+      → made_says m (made ++ n ∷ []) None (m + length made)
+      ≡ behind_marks n.marks (behind_break n.event (walked m (reverse made) n.next))
+  says_new made n =
+      let count : length (made ++ n ∷ []) ≡ length made + 1 = length-append made (n ∷ []) in
+      let to : turned m (length (made ++ n ∷ [])) (m + length made) ≡ m
+      = turned_node (length (made ++ n ∷ [])) (m + length made) (omega arith)
+      ∙ (ap (λ k. m + (k - 1 - (m + length made - m))) count ∙ omega arith) in
+      rw (to, reverse_one made n, walked_here m n (reverse made)) refl
+
+  pub made_go_on : (made : List NodeValue) (n : NodeValue) → MadeGoOn m made → n.next < m + length made
+      → MadeGoOn m (made ++ n ∷ [])
+  made_go_on made n g h = rw (reverse_one made n) (rw (length-reverse made) h, g)
+
+break_or : (a b : Option WideBreak) → option_map break_of (option_or a b)
+    ≡ earlier (option_map break_of a) (option_map break_of b)
+break_or None b = refl
+break_or (Some a) b = refl
+
+-- a break is said before what follows
+pub says_break : (ev : Option WideBreak) (w : WayOutcome) → SaysBehind (option_map break_of ev) [] w (behind_break ev w)
+says_break ev w = record { leaving = refl; event = break_or ev w.event; marks = refl }
+
+pub says_marks : (ev : Option WideBreak) (ws : List WideMark) (ms : List Mark) (w : WayOutcome) → map mark_of ws ≡ ms
+    → SaysBehind (option_map break_of ev) ms w (behind_marks ws (behind_break ev w))
+says_marks ev ws ms w e =
+    record {
+      leaving = refl;
+      event = break_or ev w.event;
+      marks = map-append mark_of ws w.marks ∙ ap (λ k. k ++ map mark_of w.marks) e;
+    }
+
+-- nothing but a break before a way
+pub through_nothing : (m : ℕ) (made : List NodeValue) (ev on : Option WideBreak) (w : ℕ)
+    → SaysBehind (option_map break_of ev) [] (made_says m made on w) (made_says m made (option_or ev on) w)
+through_nothing m made ev on w =
+    subst (SaysBehind (option_map break_of ev) [] (made_says m made on w))
+    (sym (behind_two ev on (walked m (reverse made) (turned m (length made) w))))
+    (says_break ev (made_says m made on w))
+
+-- a new node before a way
+pub through_node : (m : ℕ) (made : List NodeValue) (n : NodeValue) (ev on : Option WideBreak) (w : ℕ) (ms : List Mark)
+    → n.event ≡ option_or ev on → n.next ≡ turned m (length made) w → map mark_of n.marks ≡ ms
+    → SaysBehind (option_map break_of ev) ms (made_says m made on w)
+    (made_says m (made ++ n ∷ []) None (m + length made))
+through_node m made n ev on w ms event next marks =
+    let rest = walked m (reverse made) in
+    let same : made_says m (made ++ n ∷ []) None (m + length made)
+    ≡ behind_marks n.marks (behind_break ev (made_says m made on w)) =
+    says_new m made n
+    ∙ (ap (λ k. behind_marks n.marks (behind_break k (rest n.next))) event
+    ∙ (ap (λ k. behind_marks n.marks (behind_break (option_or ev on) (rest k))) next
+    ∙ ap (behind_marks n.marks) (behind_two ev on (rest (turned m (length made) w))))) in
+    subst (SaysBehind (option_map break_of ev) ms (made_says m made on w)) (sym same)
+    (says_marks ev n.marks ms (made_says m made on w) marks)
+
+earlier_none : (e : Option Break) → earlier e None ≡ e
+earlier_none None = refl
+earlier_none (Some b) = refl
+
+-- a memory says its own run
+pub row_tells : {P : Type 0} (place : P → ℕ) (m : ℕ) (made : List NodeValue) (p : P) (ev : Option Break)
+    (ms : List Mark)
+    (r : WayOutcome) → place p < m → SaysBehind ev ms (made_says m made None (place p)) r
+    → TellsRun true place r (record { leaving = p; event = ev; marks = ms })
+row_tells place m made p ev ms r h s =
+    let ends : made_says m made None (place p) ≡ ended_in (place p) =
+    ap (λ k. behind_break None (walked m (reverse made) k)) (turned_memory m (length made) (place p) h)
+    ∙ ap (behind_break None) (walked_memory m (reverse made) (place p) h) in
+    let s = subst (λ w. SaysBehind ev ms w r) ends s in
+    record { leaving = s.leaving; event = s.event ∙ earlier_none ev; marks = s.marks ∙ append-nil ms }
+
+-- where places go on, and one more
+pub onward_before : (os : List Onward) (o : Onward) (k : ℕ) → k < length os
+    → onward_at (os ++ o ∷ []) k ≡ onward_at os k
+onward_before [] o k h = absurd (omega arith)
+onward_before (x ∷ xs) o zero h = refl
+onward_before (x ∷ xs) o (suc k) h = onward_before xs o k (omega arith)
+
+pub onward_last : (os : List Onward) (o : Onward) (k : ℕ) → k ≡ length os → onward_at (os ++ o ∷ []) k ≡ o
+onward_last [] o zero e = refl
+onward_last [] o (suc k) e = absurd (omega arith)
+onward_last (x ∷ xs) o zero e = absurd (omega arith)
+onward_last (x ∷ xs) o (suc k) e = onward_last xs o k (omega arith)
+
+pub map_reverse : {A B : Type 0} (f : A → B) (xs : List A) → map f (reverse xs) ≡ reverse (map f xs)
+map_reverse f [] = refl
+map_reverse f (x ∷ xs) =
+    ap (map f) (reverse-append (x ∷ []) xs)
+    ∙ (map-append f (reverse xs) (x ∷ [])
+    ∙ (ap (λ k. k ++ f x ∷ []) (map_reverse f xs) ∙ sym (reverse-append (f x ∷ []) (map f xs))))
+
+-- a node that was pushed
+module _ (m : ℕ) (old new : List TableNode) (n : TableNode) (pushed : new ≡ old ++ n ∷ []) where
+  values : map node_value new ≡ map node_value old ++ node_value n ∷ []
+  values = ap (map node_value) pushed ∙ map-append node_value old (n ∷ [])
+
+  pub pushed_kept : (ev : Option WideBreak) (w : ℕ) → w < m + length old
+      → made_says m (map node_value new) ev w ≡ made_says m (map node_value old) ev w
+  pushed_kept ev w h =
+      ap (λ l. made_says m l ev w) values
+      ∙ says_still m (map node_value old) (node_value n) ev w (rw (length-map old node_value) h)
+
+  pub pushed_go_on : MadeGoOn m (map node_value old) → n.next < m + length old → MadeGoOn m (map node_value new)
+  pushed_go_on g h =
+      subst (MadeGoOn m) (sym values)
+      (made_go_on m (map node_value old) (node_value n) g (rw (length-map old node_value) h))
+
+  pub pushed_says : (ev on : Option WideBreak) (w k : ℕ) (ms : List Mark) → k ≡ m + length old
+      → n.event ≡ option_or ev on → n.next ≡ turned m (length old) w → map mark_of n.marks.items ≡ ms
+      → SaysBehind (option_map break_of ev) ms (made_says m (map node_value old) on w)
+      (made_says m (map node_value new) None k)
+  pushed_says ev on w k ms at event next marks =
+      let many = length-map old node_value in
+      let made = map node_value old in
+      let to : made_says m (map node_value new) None k
+      ≡ made_says m (made ++ node_value n ∷ []) None (m + length made) =
+      ap (λ j. made_says m (map node_value new) None j) (at ∙ ap (λ j. m + j) (sym many))
+      ∙ ap (λ l. made_says m l None (m + length made)) values in
+      subst (SaysBehind (option_map break_of ev) ms (made_says m made on w)) (sym to)
+      (through_node m made (node_value n) ev on w ms event (next ∙ ap (λ j. turned m j w) (sym many)) marks)
+
+-- the table of nodes that were made
+module _ (m : ℕ) (made ns : List NodeValue) (onward : List Onward) (es : List TableEntry) (some : 0 < m)
+    (few : m + length made < 2 ^ 32) (g : MadeGoOn m made) (ways : AreMade m made onward) (count : length es ≡ m)
+    (entries : (k : ℕ) → k < m → slice_get es k ≡ Some (entry_made m (length made) (onward_at onward k)))
+    (turn : ns ≡ reverse made) where
+  abbrev table : TableValue
+  table = record { entries = es; nodes = ns }
+
+  onward_below : (k : ℕ) → (onward_at onward k).way < m + length made
+  onward_below k = by_place (slice_get_cases onward k).1
+    where
+      by_place : ((x : Onward) × (k < length onward) × (slice_get onward k ≡ Some x) × (get_or onward k x ≡ x))
+          ⊎ ((length onward ≤ k) × (slice_get onward k ≡ None)) → (onward_at onward k).way < m + length made
+      by_place (inl there) =
+          let e = there.2 in
+          rw e (subst (λ (x : Onward). x.way < m + length made) there.3 (ways k there.0 there.1))
+      by_place (inr past) = let e = past.1 in rw e (omega arith)
+
+  pub table_says : (k : ℕ) → k < m → outcome_in table k ≡ says_at m made (onward_at onward k)
+  table_says k h =
+      let o = onward_at onward k in
+      let w = turned m (length made) o.way in
+      ap (λ e. option_map_or (from_entry table) e (ended_in k)) (entries k h)
+      ∙ (ap (λ j. behind_break o.event (walked j ns w)) count ∙ ap (λ l. behind_break o.event (walked m l w)) turn)
+
+  pub table_ways : HasWays table
+  table_ways =
+      let nodes : length ns ≡ length made = ap length turn ∙ length-reverse made in
+      record {
+        few = rw (count, nodes) few;
+        entries = λ k d h.
+            let below : k < m = omega arith in
+            let e = get_or_from_slice_get es k (entry_made m (length made) (onward_at onward k)) d (entries k below) in
+            let next = ap (λ (x : TableEntry). x.next) e in
+            let low = turned_below m (length made) (onward_at onward k).way (onward_below k) in
+            rw (next, count, nodes) low;
+        nodes = rw (count, turn) g;
+      }
+
+pub no_marks : (ms : List Mark) → eqb (length ms) 0 ≡ true → ms ≡ []
+no_marks [] e = refl
+no_marks (m ∷ ms) e = let none = eqb-true (length (m ∷ ms)) 0 e in absurd (omega arith)
+
+-- one place more goes on
+all_one : (P : Onward → Type 0) (o : Onward) → P o → All P (o ∷ [])
+all_one P o p zero d h = p
+all_one P o p (suc k) d h = absurd (omega arith)
+
+module _ (m : ℕ) (first new : List TableNode) (os ps : List Onward) (o : Onward) (pushed : ps ≡ os ++ o ∷ [])
+    (ways : AreMade m (map node_value first) os) (more : length first ≤ length new) (way : o.way < m + length new) where
+  pub made_step : AreMade m (map node_value new) ps
+  made_step =
+      let P : Onward → Type 0 = λ x. x.way < m + length (map node_value new) in
+      let a = length-map first node_value in
+      let b = length-map new node_value in
+      subst (All P) (sym pushed)
+      (All-append P os (o ∷ []) (λ k d h. let low = ways k d h in omega (arith, low, a, b, more))
+      (all_one P o (omega (arith, b, way))))
+
+-- a place that is there
+pub onward_made : (m : ℕ) (made : List NodeValue) (os : List Onward) (k : ℕ) → AreMade m made os → k < length os
+    → (onward_at os k).way < m + length made
+onward_made m made os k ways h = by_place (slice_get_cases os k).1
+  where
+    by_place : ((x : Onward) × (k < length os) × (slice_get os k ≡ Some x) × (get_or os k x ≡ x))
+        ⊎ ((length os ≤ k) × (slice_get os k ≡ None)) → (onward_at os k).way < m + length made
+    by_place (inl there) =
+        let e = there.2 in
+        rw e (subst (λ (x : Onward). x.way < m + length made) there.3 (ways k there.0 there.1))
+    by_place (inr past) = absurd (omega arith)
+
+-- one that may not be there
+pub onward_low : (m : ℕ) (made : List NodeValue) (os : List Onward) (k : ℕ) → 0 < m → AreMade m made os
+    → (onward_at os k).way < m + length made
+onward_low m made os k some ways = by_place (slice_get_cases os k).1
+  where
+    by_place : ((x : Onward) × (k < length os) × (slice_get os k ≡ Some x) × (get_or os k x ≡ x))
+        ⊎ ((length os ≤ k) × (slice_get os k ≡ None)) → (onward_at os k).way < m + length made
+    by_place (inl there) =
+        let e = there.2 in
+        rw e (subst (λ (x : Onward). x.way < m + length made) there.3 (ways k there.0 there.1))
+    by_place (inr past) = let e = past.1 in rw e (omega arith)
+
+abbrev pub Stays : ℕ → List TableNode → List TableNode → Type 0
+Stays m first new =
+    (ev : Option WideBreak) (w : ℕ) → w < m + length first
+    → made_says m (map node_value new) ev w ≡ made_says m (map node_value first) ev w
+
+-- a memory more
+pub memory_step : {P : Type 0} (place : P → ℕ) (m : ℕ) (first new : List TableNode) (os ps : List Onward) (o : Onward)
+    (says : ℕ → Outcome P) (i : ℕ) → ps ≡ os ++ o ∷ [] → length os ≡ i → AreMade m (map node_value first) os
+    → Stays m first new → TellsRun true place (says_at m (map node_value new) o) (says i)
+    → SayBelow place m (map node_value first) os i says → SayBelow place m (map node_value new) ps (i + 1) says
+memory_step place m first new os ps o says i pushed count ways stays here below k h = by_place (cases_lt k i)
+  where
+    by_place : ((k < i) ⊎ (i ≤ k)) → TellsRun true place (says_at m (map node_value new) (onward_at ps k)) (says k)
+    by_place (inl j) =
+        let inside : k < length os = omega arith in
+        let many = length-map first node_value in
+        let made = onward_made m (map node_value first) os k ways inside in
+        let at : onward_at ps k ≡ onward_at os k
+        = ap (λ (x : List Onward). onward_at x k) pushed ∙ onward_before os o k inside in
+        let still = stays (onward_at os k).event (onward_at os k).way (omega (arith, made, many)) in
+        subst (λ w. TellsRun true place w (says k))
+        (sym (ap (says_at m (map node_value new)) at ∙ still)) (below k j)
+    by_place (inr j) =
+        let same : i ≡ k = omega arith in
+        let last : k ≡ length os = omega arith in
+        let at : onward_at ps k ≡ o = ap (λ (x : List Onward). onward_at x k) pushed ∙ onward_last os o k last in
+        subst (λ w. TellsRun true place w (says k)) (sym (ap (says_at m (map node_value new)) at))
+        (subst (λ j. TellsRun true place (says_at m (map node_value new) o) (says j)) same here)
+
+-- a table that says of each memory what is said from its place
+pub marked_tells : {P : Type 0} (place : P → ℕ) (nth : ℕ → P) (count : ℕ) (made : List NodeValue)
+    (onward : List Onward) (says : P → Outcome P) (t : TableValue) → ((p : P) → place p < count)
+    → ((p : P) → nth (place p) ≡ p) → SayBelow place count made onward count (λ k. says (nth k))
+    → ((k : ℕ) → k < count → outcome_in t k ≡ says_at count made (onward_at onward k)) → length t.entries ≡ count
+    → HasWays t → TellsRuns true count place t says
+marked_tells place nth count made onward says t placed found say told many ways =
+    record {
+      counted = many;
+      ways = ways;
+      tells = λ p.
+          subst (λ w. TellsRun true place w (says p)) (sym (told (place p) (placed p)))
+          (subst (λ q. TellsRun true place (says_at count made (onward_at onward (place p))) (says q)) (found p)
+          (say (place p) (placed p)));
+    }

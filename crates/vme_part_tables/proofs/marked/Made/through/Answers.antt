@@ -1,0 +1,56 @@
+use Rattle.std.proofs.Common.{◌≡◌, ◌+◌, ◌<◌, [], ap, sym, ◌∙◌, arith, length, map, rules}
+use Rattle.vme_part_format.specs.Tables.{node_value}
+use Rattle.vme_part_format.specs.declared.table.TableNode.{TableNode}
+use Rattle.vme_part_tables.specs.Marked.{turned}
+use Rattle.vme_part_tables.proofs.Marking.{no_marks, pushed_go_on, pushed_kept, pushed_says, through_nothing}
+use Rattle.vme_part_tables.proofs.Marking.{turned_below}
+use Rattle.vme_part_tables.proofs.marked.Made.through.Goals as goal
+
+pub returns-then-is_empty-clause-says : goal.returns-then-is_empty-clause-says
+returns-then-is_empty-clause-says c =
+    let empty : c.args.marks.now ≡ [] = no_marks c.args.marks.now (sym c.is_empty.ensures ∙ c.if-is_empty.true) in
+    rw (empty, c.or-event.ensures)
+    (through_nothing c.args.self.now.memories (map node_value c.args.self.now.nodes.items) c.args.event
+    c.args.onward.event c.args.onward.way)
+
+pub returns-clause-says : goal.returns-clause-says
+returns-clause-says c =
+    let m = c.args.self.now.memories in
+    let old = c.args.self.now.nodes.items in
+    let n : TableNode = record {
+      next = c.turned-next.result;
+      event = c.or-event.result;
+      marks =
+          c.in_ok-marks.marks;
+    } in
+    let len : c.len-made.result ≡ length old = search rules in
+    pushed_says m old c.push.new.self.items n c.in_ok-push.ensures.items c.args.event c.args.onward.event
+    c.args.onward.way (m + c.len-made.result) c.args.marks.now (ap (λ k. m + k) len) c.or-event.ensures
+    (c.turned-next.ensures ∙ ap (λ k. turned m k c.args.onward.way) len) c.in_ok-marks.ensures
+
+pub returns-clause-kept : goal.returns-clause-kept
+returns-clause-kept c =
+    let n : TableNode = record {
+      next = c.turned-next.result;
+      event = c.or-event.result;
+      marks =
+          c.in_ok-marks.marks;
+    } in
+    pushed_kept c.args.self.now.memories c.args.self.now.nodes.items c.push.new.self.items n c.in_ok-push.ensures.items
+
+pub returns-clause-made : goal.returns-clause-made
+returns-clause-made c =
+    let m = c.args.self.now.memories in
+    let old = c.args.self.now.nodes.items in
+    let n : TableNode = record {
+      next = c.turned-next.result;
+      event = c.or-event.result;
+      marks =
+          c.in_ok-marks.marks;
+    } in
+    let len : c.len-made.result ≡ length old = search rules in
+    let next : c.turned-next.result ≡ turned m (length old) c.args.onward.way
+    = c.turned-next.ensures ∙ ap (λ k. turned m k c.args.onward.way) len in
+    let low : c.turned-next.result < m + length old
+    = rw next (turned_below m (length old) c.args.onward.way c.requires.onward) in
+    pushed_go_on m old c.push.new.self.items n c.in_ok-push.ensures.items c.requires.made low

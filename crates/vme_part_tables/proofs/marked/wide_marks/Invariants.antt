@@ -1,0 +1,6 @@
+use Rattle.std.proofs.Common.{◌≡◌, map, take}
+use Rattle.vme_part_tables.specs.Runs.{mark_of}
+use Rattle.vme_part_tables.proofs.marked.wide_marks.Given as goal
+
+abbrev pub invariant-loop-mark : goal.invariant-loop-mark
+invariant-loop-mark l = map mark_of l.all.items ≡ take l.mark-index l.marks

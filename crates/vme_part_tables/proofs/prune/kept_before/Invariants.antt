@@ -1,0 +1,11 @@
+use Rattle.std.proofs.Common.{◌≡◌, ℕ, ◌<◌, get_or, take, vec_len}
+use Rattle.vme_part_tables.specs.Pruned.{kept_count}
+use Rattle.vme_part_tables.proofs.prune.kept_before.Given as goal
+
+abbrev pub invariant-loop-is_kept : goal.invariant-loop-is_kept
+invariant-loop-is_kept l =
+    record {
+      as_many : vec_len l.counts ≡ l.is_kept-index;
+      count : l.count ≡ kept_count (take l.is_kept-index l.keeps);
+      counts : (k : ℕ) → k < l.is_kept-index → get_or l.counts.items k 0 ≡ kept_count (take k l.keeps);
+    }

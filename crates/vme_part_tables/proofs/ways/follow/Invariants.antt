@@ -1,0 +1,17 @@
+use Rattle.std.proofs.Common.{◌≡◌, drop, length, map}
+use Rattle.std.specs.Option.{option_or}
+use Rattle.vme_part_format.specs.Tables.{node_value, table_value}
+use Rattle.vme_part_tables.specs.Ways.{outcome_in, walked}
+use Rattle.vme_part_tables.proofs.ways.follow.Given as goal
+
+abbrev pub invariant-loop-node : goal.invariant-loop-node
+invariant-loop-node l =
+    record {
+      memories : l.memories ≡ length l.table.entries.items;
+      leaving : (walked (length l.table.entries.items) (map node_value (drop l.node-index l.table.nodes.items))
+          l.way).leaving
+          ≡ (outcome_in (table_value l.fn.table) l.fn.memory).leaving;
+      event : option_or l.event
+          (walked (length l.table.entries.items) (map node_value (drop l.node-index l.table.nodes.items)) l.way).event
+          ≡ (outcome_in (table_value l.fn.table) l.fn.memory).event;
+    }

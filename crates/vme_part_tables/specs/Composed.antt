@@ -1,0 +1,64 @@
+-- The table of the steps of two.
+use Rattle.std.specs.Prelude.{◌≡◌, ℕ, ◌+◌, ◌<◌, ◌^◌, List, [], ◌∷◌, ◌++◌, length, map, Option, None, nat_lt}
+use Rattle.std.specs.Prelude.{if◌then◌else◌, slice_get}
+use Rattle.std.specs.Option.{option_map, option_map_or, option_or}
+use Rattle.vme_part_format.specs.Tables.{NodeValue, TableValue}
+use Rattle.vme_part_format.specs.declared.table.TableEntry.{TableEntry}
+use Rattle.vme_part_format.specs.declared.wide.WideBreak.{WideBreak}
+use Rattle.vme_part_tables.specs.Ways.{HasWays, later_break, later_mark}
+
+-- the entry of a memory
+abbrev pub entry_of : List TableEntry → ℕ → TableEntry
+entry_of es memory = option_map_or (λ e. e) (slice_get es memory) (record { next = memory; event = None })
+
+-- where a way goes on that ends in a memory, with so many nodes of the first table behind
+abbrev pub next_on : List TableEntry → ℕ → ℕ → ℕ
+next_on second between way =
+    let next = (entry_of second way).next in
+    if nat_lt way (length second) then (if nat_lt next (length second) then next else next + between) else way
+
+-- and its break
+abbrev pub event_on : List TableEntry → ℕ → ℕ → Option WideBreak → Option WideBreak
+event_on second steps way event =
+    if nat_lt way (length second) then option_or event (option_map (later_break steps) (entry_of second way).event)
+    else event
+
+abbrev pub entry_on : List TableEntry → ℕ → ℕ → TableEntry → TableEntry
+entry_on second steps between e =
+    record { next = next_on second between e.next; event = event_on second steps e.next e.event }
+
+abbrev pub node_on : List TableEntry → ℕ → ℕ → NodeValue → NodeValue
+node_on second steps between n =
+    record { next = next_on second between n.next; event = event_on second steps n.next n.event; marks = n.marks }
+
+-- a list whose elements are changed by a function of how many are behind each
+abbrev pub map_rest : {A B : Type 0} → (ℕ → A → B) → List A → List B
+map_rest f [] = []
+map_rest f (x ∷ xs) = f (length xs) x ∷ map_rest f xs
+
+-- each node, with as many nodes behind as there are
+abbrev pub nodes_on : List TableEntry → ℕ → List NodeValue → List NodeValue
+nodes_on second steps ns = map_rest (node_on second steps) ns
+
+abbrev pub later_node : ℕ → NodeValue → NodeValue
+later_node by n =
+    record { next = n.next; event = option_map (later_break by) n.event; marks = map (later_mark by) n.marks }
+
+-- the table of both, where some nodes may be on no way
+abbrev pub table_on : TableValue → TableValue → ℕ → TableValue
+table_on a b steps =
+    record {
+      entries = map (entry_on b.entries steps (length a.nodes)) a.entries;
+      nodes = nodes_on b.entries steps a.nodes ++ map (later_node steps) b.nodes;
+    }
+
+-- where the entries go on, so many nodes further, has numbers of 32 bits
+abbrev pub NextsFit : List TableEntry → ℕ → Type 0
+NextsFit es n = (memory : ℕ) → memory < length es → (entry_of es memory).next + n < 2 ^ 32
+
+-- two tables make one
+pub record CanCompose (a b : TableValue) : Type 0 where
+  pub first : HasWays a
+  pub second : HasWays b
+  pub as_many : length b.entries ≡ length a.entries
+  pub few : length a.entries + (length a.nodes + length b.nodes) < 2 ^ 32

@@ -1,0 +1,5 @@
+pub mod Ways
+pub mod Composed
+pub mod Pruned
+pub mod Runs
+pub mod Marked

@@ -1,0 +1,53 @@
+-- A table with marks of what a monitor's summary says.
+use Rattle.std.specs.Prelude.{◌≡◌, ℕ, ◌+◌, ◌-◌, ◌<◌, true, List, ◌++◌, All, Option, None, length, map, reverse}
+use Rattle.std.specs.Prelude.{slice_get, nat_lt, if◌then◌else◌}
+use Rattle.std.specs.Option.{option_map, option_map_or}
+use Rattle.vme_trace.specs.declared.verdict.Break.{Break}
+use Rattle.vme_monitor.specs.Outcome.{Outcome, earlier}
+use Rattle.vme_monitor.specs.declared.mark.Mark.{Mark}
+use Rattle.vme_part_format.specs.Tables.{NodeValue}
+use Rattle.vme_part_format.specs.declared.table.TableEntry.{TableEntry}
+use Rattle.vme_part_format.specs.declared.wide.WideBreak.{WideBreak}
+use Rattle.vme_part_tables.specs.Ways.{NodesGoOn, WayOutcome, behind_break, walked}
+use Rattle.vme_part_tables.specs.Runs.{TellsRun, break_of, mark_of}
+use Rattle.vme_part_tables.specs.declared.marked.Onward.{Onward}
+
+-- a way that says a break and marks, and then what another says
+pub record SaysBehind (found : Option Break) (shown : List Mark) (w r : WayOutcome) : Type 0 where
+  pub leaving : r.leaving ≡ w.leaving
+  pub event : option_map break_of r.event ≡ earlier found (option_map break_of w.event)
+  pub marks : map mark_of r.marks ≡ shown ++ map mark_of w.marks
+
+-- where a way goes on that names a node by how many were made before it: the last one made comes first
+abbrev pub turned : ℕ → ℕ → ℕ → ℕ
+turned memories made way = if nat_lt way memories then way else memories + (made - 1 - (way - memories))
+
+-- what is said from there, through nodes in the order in which they were made
+abbrev pub made_says : ℕ → List NodeValue → Option WideBreak → ℕ → WayOutcome
+made_says memories made event way =
+    behind_break event (walked memories (reverse made) (turned memories (length made) way))
+
+-- nodes that were made go on with memories or with those made before
+abbrev pub MadeGoOn : ℕ → List NodeValue → Type 0
+MadeGoOn memories made = NodesGoOn memories (reverse made)
+
+-- where places go on
+abbrev pub AreMade : ℕ → List NodeValue → List Onward → Type 0
+AreMade memories made onward = All (λ (o : Onward). o.way < memories + length made) onward
+
+-- where a place goes on, if it is there
+abbrev pub onward_at : List Onward → ℕ → Onward
+onward_at onward place = option_map_or (λ o. o) (slice_get onward place) (record { event = None; way = 0 })
+
+-- what is said from there
+abbrev pub says_at : ℕ → List NodeValue → Onward → WayOutcome
+says_at memories made o = made_says memories made o.event o.way
+
+-- from each of the first places what is said is its run
+abbrev pub SayBelow : {P : Type 0} → (P → ℕ) → ℕ → List NodeValue → List Onward → ℕ → (ℕ → Outcome P) → Type 0
+SayBelow {P} place memories made onward n runs =
+    (k : ℕ) → k < n → TellsRun true place (says_at memories made (onward_at onward k)) (runs k)
+
+-- the entry of a memory
+abbrev pub entry_made : ℕ → ℕ → Onward → TableEntry
+entry_made memories made o = record { next = turned memories made o.way; event = o.event }

@@ -1,0 +1,31 @@
+//! Tables of a part: what a memory comes to in one, and how tables are made of others.
+//!
+//! # Parts of this crate
+//!
+//! - `ways`: ways through a table. [`follow`] says which memory is left and which rule is broken
+//!   first, [`put_marks_on_way`] adds the marks.
+//! - `compose`: [`composed`] makes one table of two; `prune`: without what no way reaches.
+//! - `marked`: [`marked_table`] makes a table with marks of what a monitor's summary says.
+//!
+//! # What is proved
+//!
+//! A table is what it says of each memory that enters (`outcome_in`, `specs/Ways`). [`follow`] and
+//! [`put_marks_on_way`] say exactly that. What [`composed`] says of a memory is what the first
+//! table says of it and then, so many instants later, what the second says of the memory that the
+//! first leaves (`gone_on`); and if both tables can be written as parts of a file, it can
+//! (`SaysBoth`). [`marked_table`] tells of each memory that enters what the summary does: the
+//! memory that is left, the first break and the marks (`TellsRuns`).
+//!
+//! # What isn't proved
+//!
+//! That memory suffices. That of the nodes which no way reaches none is left.
+#![tactic(auto)]
+
+mod compose;
+mod marked;
+mod prune;
+mod ways;
+
+pub use compose::{are_few_together, composed};
+pub use marked::{marked_table, widened};
+pub use ways::{follow, later_break, put_marks_on_way};

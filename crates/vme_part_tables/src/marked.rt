@@ -1,0 +1,209 @@
+//! A table with marks of what a monitor's summary says.
+
+ghost use Rattle.std.specs.Prelude.{◌≡◌, ℕ, ◌+◌, ◌<◌, ◌≤◌, ◌^◌, IfOk, OnOk, Option, length, map, [], true};
+ghost use Rattle.std.specs.Option.{option_map};
+ghost use Rattle.vme_part_format.specs.Tables.{node_value, table_value};
+ghost use Rattle.vme_part_format.specs.declared.wide.WideBreak.{WideBreak};
+ghost use Rattle.vme_part_tables.specs.Marked.{AreMade, MadeGoOn, SayBelow, SaysBehind, made_says, says_at};
+ghost use Rattle.vme_part_tables.specs.Marked.{onward_at as onward_at_of, turned as turned_of};
+ghost use Rattle.vme_part_tables.specs.Runs.{TellsRuns, break_of, mark_of};
+ghost use Rattle.vme_part_tables.specs.Ways.{HasWays, outcome_in};
+
+use std::alloc::{AllocError, Global};
+use vme_monitor::finite::Finite;
+use vme_monitor::mark::Mark;
+use vme_monitor::monitor::Monitor;
+use vme_part_format::{OutcomeTable, TableEntry, TableNode, WideBreak, WideMark};
+use vme_trace::Break;
+
+/// A break with numbers of 64 bits.
+pub fn widened(found: Option<Break>) -> Option<WideBreak>
+    ensures { option_map break_of result ≡ found }
+{
+    match found {
+        Some(found) => Some(WideBreak {
+            instant: u64::from(found.instant),
+            time: found.time,
+            rule: found.rule,
+            line: found.line,
+        }),
+        None => None,
+    }
+}
+
+fn wide_marks(alloc: Global, marks: &[Mark]) -> Result<Vec<WideMark>, AllocError>
+    ensures { IfOk result (λ v. map mark_of v.items ≡ marks.now) }
+{
+    let mut all = Vec::with_capacity(alloc, marks.len())?;
+    for mark in marks {
+        all.push(WideMark {
+            instant: u64::from(mark.instant),
+            kind: mark.kind,
+        })?;
+    }
+    Ok(all)
+}
+
+/// Where ways go on from a memory: the break up to the next node, and a memory, or the number of memories and
+/// of nodes that were made before that node.
+#[derive(Clone, Copy)]
+struct Onward {
+    event: Option<WideBreak>,
+    way: u32,
+}
+
+/// Nodes in the order in which they were made, each with the distance to the one that it goes on with.
+#[derive(Drop)]
+struct Made {
+    memories: u32,
+    nodes: Vec<TableNode>,
+}
+
+/// Where a way goes on in nodes of which the last one made is the first.
+fn turned(memories: u32, made: u32, way: u32) -> u32
+    requires few { memories + made < 2 ^ 32 }
+    requires way { way < memories + made }
+    ensures { result ≡ turned_of memories made way }
+{
+    if way < memories {
+        way
+    } else {
+        memories + (made - 1 - (way - memories))
+    }
+}
+
+impl Made {
+    /// The way through some marks to where it goes on, by a node if there are marks.
+    fn through(
+        &mut self,
+        alloc: Global,
+        event: Option<WideBreak>,
+        marks: &[Mark],
+        onward: Onward,
+    ) -> Result<Onward, AllocError>
+        requires few { self.old.memories + length self.old.nodes.items < 2 ^ 32 }
+        requires onward { onward.way < self.old.memories + length self.old.nodes.items }
+        requires made { MadeGoOn self.old.memories (map node_value self.old.nodes.items) }
+        ensures memories { OnOk result (self.new.memories ≡ self.old.memories) }
+        ensures more { OnOk result (length self.old.nodes.items ≤ length self.new.nodes.items) }
+        ensures one { OnOk result (length self.new.nodes.items ≤ length self.old.nodes.items + 1) }
+        ensures made { OnOk result (MadeGoOn self.old.memories (map node_value self.new.nodes.items)) }
+        ensures way { IfOk result (λ o. o.way < self.old.memories + length self.new.nodes.items) }
+        ensures kept { OnOk result
+            ((before : Option WideBreak) (way : ℕ) → way < self.old.memories + length self.old.nodes.items
+            → made_says self.old.memories (map node_value self.new.nodes.items) before way
+            ≡ made_says self.old.memories (map node_value self.old.nodes.items) before way) }
+        ensures says { IfOk result (λ o. SaysBehind (option_map break_of event) marks.now
+            (made_says self.old.memories (map node_value self.old.nodes.items) onward.event onward.way)
+            (made_says self.old.memories (map node_value self.new.nodes.items) o.event o.way)) }
+    {
+        let event = event.or(onward.event);
+        if marks.is_empty() {
+            return Ok(Onward {
+                event,
+                way: onward.way,
+            });
+        }
+        let made = self.nodes.len() as u32;
+        let next = turned(self.memories, made, onward.way);
+        let marks = wide_marks(alloc, marks)?;
+        self.nodes.push(TableNode { next, event, marks })?;
+        Ok(Onward {
+            event: None,
+            way: self.memories + made,
+        })
+    }
+}
+
+/// Where ways go on from the memories of a monitor, by what a summary says of each.
+fn memory_ways<M: Finite>(
+    alloc: Global,
+    made: &mut Made,
+    summary: &M::Summary,
+) -> Result<Vec<Onward>, AllocError>
+    requires empty { made.old.nodes.items ≡ [] }
+    requires memories { made.old.memories ≡ M.COUNT }
+    ensures memories { OnOk result (made.new.memories ≡ made.old.memories) }
+    ensures count { OnOk result (length made.new.nodes.items ≤ M.COUNT) }
+    ensures made { OnOk result (MadeGoOn made.old.memories (map node_value made.new.nodes.items)) }
+    ensures ways { IfOk result (λ v. AreMade made.old.memories (map node_value made.new.nodes.items) v.items) }
+    ensures says { IfOk result
+        (λ v. SayBelow M.place_of made.old.memories (map node_value made.new.nodes.items) v.items M.COUNT
+        (λ k. M.outcome summary.now (M.nth_of k))) }
+{
+    let mut onward = Vec::with_capacity(alloc, M::COUNT)?;
+    for place in 0..M::COUNT {
+        let memory = M::nth(place);
+        let left = M::leaving(summary, memory);
+        let found = M::event(summary, memory);
+        let marks = M::marks(alloc, summary, memory)?;
+        let next = Onward {
+            event: None,
+            way: M::place(left) as u32,
+        };
+        let way = made.through(alloc, widened(found), marks.as_slice(), next)?;
+        onward.push(way)?;
+    }
+    Ok(onward)
+}
+
+/// Where a place goes on, if it is there.
+fn onward_at(onward: &[Onward], place: usize) -> Onward
+    ensures { result ≡ onward_at_of onward.now place }
+{
+    match onward.get(place) {
+        Some(way) => *way,
+        None => Onward {
+            event: None,
+            way: 0,
+        },
+    }
+}
+
+/// The table of nodes that were made, and of places from which ways go on, one for each memory.
+fn made_table(
+    alloc: Global,
+    made: Made,
+    onward: &[Onward],
+    memories: usize,
+) -> Result<OutcomeTable, AllocError>
+    requires some { 0 < memories }
+    requires memories { made.memories ≡ memories }
+    requires few { memories + length made.nodes.items < 2 ^ 32 }
+    requires made { MadeGoOn memories (map node_value made.nodes.items) }
+    requires ways { AreMade memories (map node_value made.nodes.items) onward.now }
+    ensures says { IfOk result (λ t. (k : ℕ) → k < memories → outcome_in (table_value t) k
+        ≡ says_at memories (map node_value made.nodes.items) (onward_at_of onward.now k)) }
+    ensures ways { IfOk result (λ t. HasWays (table_value t)) }
+    ensures counted { IfOk result (λ t. length t.entries.items ≡ memories) }
+{
+    let count = made.nodes.len() as u32;
+    let mut entries = Vec::with_capacity(alloc, memories)?;
+    for place in 0..memories {
+        let way = onward_at(onward, place);
+        entries.push(TableEntry {
+            next: turned(made.memories, count, way.way),
+            event: way.event,
+        })?;
+    }
+    let mut nodes = made.nodes;
+    nodes.reverse();
+    Ok(OutcomeTable { entries, nodes })
+}
+
+/// The table with marks of what a monitor's summary says: a node for each memory of which it says marks.
+pub fn marked_table<M: Finite>(
+    alloc: Global,
+    summary: &M::Summary,
+) -> Result<OutcomeTable, AllocError>
+    requires { 0 < M.COUNT }
+    ensures { IfOk result (λ t. TellsRuns true M.COUNT M.place_of (table_value t) (λ p. M.outcome summary.now p)) }
+{
+    let mut made = Made {
+        memories: M::COUNT as u32,
+        nodes: Vec::new(alloc),
+    };
+    let onward = memory_ways::<M>(alloc, &mut made, summary)?;
+    let table = made_table(alloc, made, onward.as_slice(), M::COUNT)?;
+    Ok(table)
+}

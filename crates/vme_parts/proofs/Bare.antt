@@ -1,0 +1,89 @@
+-- A table without marks that has an entry for each memory.
+use Rattle.std.proofs.Common.{inl, inr, ◌≡◌, ℕ, zero, suc, ◌+◌, ◌<◌, ◌≤◌, ◌^◌, Bool, false, List, [], ◌∷◌, ◌++◌, length}
+use Rattle.std.proofs.Common.{refl, ap, subst}
+use Rattle.std.proofs.Common.{◌∙◌, arith, Option, Some, None}
+use Rattle.std.specs.Prelude.{◌⊎◌, slice_get}
+use Rattle.std.specs.Option.{option_map, option_map_or, option_or}
+use Rattle.std.proofs.lemmas.Bool.{cases_lt}
+use Rattle.std.proofs.lemmas.Option.{get_or_from_slice_get}
+use Rattle.vme_monitor.specs.Outcome.{Outcome}
+use Rattle.vme_part_format.specs.Tables.{TableValue}
+use Rattle.vme_part_format.specs.declared.table.TableEntry.{TableEntry}
+use Rattle.vme_part_format.specs.declared.wide.WideBreak.{WideBreak}
+use Rattle.vme_part_tables.specs.Runs.{TellsRun, TellsRuns, break_of}
+use Rattle.vme_part_tables.specs.Ways.{WayOutcome, ended_in, from_entry, outcome_in}
+
+get_before : {X : Type 0} (xs : List X) (x y : X) (k : ℕ) → slice_get xs k ≡ Some x → slice_get (xs ++ y ∷ []) k
+    ≡ Some x
+get_before [] x y k e = absurd (cc)
+get_before (z ∷ zs) x y zero e = e
+get_before (z ∷ zs) x y (suc k) e = get_before zs x y k e
+
+get_last : {X : Type 0} (xs : List X) (x : X) (k : ℕ) → k ≡ length xs → slice_get (xs ++ x ∷ []) k ≡ Some x
+get_last [] x zero e = refl
+get_last [] x (suc k) e = absurd (omega arith)
+get_last (z ∷ zs) x zero e = absurd (omega arith)
+get_last (z ∷ zs) x (suc k) e = get_last zs x k (omega arith)
+
+or_none : (e : Option WideBreak) → option_or e None ≡ e
+or_none None = refl
+or_none (Some b) = refl
+
+module _ {P : Type 0} (place : P → ℕ) (nth : ℕ → P) (says : P → Outcome P) where
+  -- an entry says what the memory at a place comes to
+  pub record IsRow (k : ℕ) (e : TableEntry) : Type 0 where
+    pub next : e.next ≡ place (says (nth k)).leaving
+    pub event : option_map break_of e.event ≡ (says (nth k)).event
+
+  -- so do the first entries
+  abbrev pub AreRows : List TableEntry → ℕ → Type 0
+  AreRows es n = (k : ℕ) → k < n → (e : TableEntry) × (slice_get es k ≡ Some e) × IsRow k e
+
+  pub rows_more : (es : List TableEntry) (e : TableEntry) (n : ℕ) → length es ≡ n → IsRow n e → AreRows es n
+      → AreRows (es ++ e ∷ []) (n + 1)
+  rows_more es e n count row rows k h = by_place (cases_lt k n)
+    where
+      by_place : ((k < n) ⊎ (n ≤ k)) → (x : TableEntry) × (slice_get (es ++ e ∷ []) k ≡ Some x) × IsRow k x
+      by_place (inl i) = let r = rows k i in (r.0, get_before es r.0 e k r.1, r.2)
+      by_place (inr i) =
+          let same : n ≡ k = omega arith in
+          (e, get_last es e k (omega arith), subst (λ j. IsRow j e) same row)
+
+  pub bare_tells : (count : ℕ) (es : List TableEntry) → count < 2 ^ 32 → length es ≡ count → AreRows es count
+      → ((p : P) → place p < count) → ((p : P) → nth (place p) ≡ p)
+      → TellsRuns false count place (record { entries = es; nodes = [] }) says
+  bare_tells count es few many rows placed found =
+      record {
+        counted = many;
+        ways = record {
+          few = omega (arith, few, many);
+          entries = λ k d h.
+              let below : k < count = omega arith in
+              let r = rows k below in
+              let e = get_or_from_slice_get es k r.0 d r.1 in
+              let next = ap (λ (x : TableEntry). x.next) e ∙ r.2.next in
+              omega (arith, next, placed (says (nth k)).leaving, many);
+          nodes = tt;
+        };
+        tells = λ p.
+            let r = rows (place p) (placed p) in
+            let t : TableValue = record { entries = es; nodes = [] } in
+            let at : outcome_in t (place p) ≡ from_entry t r.0
+            = ap (λ o. option_map_or (from_entry t) o (ended_in (place p))) r.1 in
+            record {
+              leaving = ap (λ (w : WayOutcome). w.leaving) at ∙ (r.2.next ∙ ap (λ q. place (says q).leaving) (found p));
+              event = ap (λ (w : WayOutcome). option_map break_of w.event) at
+                  ∙ (ap (option_map break_of) (or_none r.0.event) ∙ (r.2.event ∙ ap (λ q. (says q).event) (found p)));
+              marks = ap (λ (w : WayOutcome). w.marks) at;
+            };
+      }
+
+-- a table that tells of runs tells of what they are
+pub tells_same : {P : Type 0} (listing : Bool) (count : ℕ) (place : P → ℕ) (t : TableValue) (f g : P → Outcome P)
+    → ((p : P) → f p ≡ g p) → TellsRuns listing count place t f → TellsRuns listing count place t g
+tells_same listing count place t f g e s =
+    record {
+      counted = s.counted;
+      ways = s.ways;
+      tells = λ p. subst (TellsRun listing place (outcome_in t (place p))) (e p) (s.tells p);
+    }

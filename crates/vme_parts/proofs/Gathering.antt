@@ -1,0 +1,164 @@
+-- Segments that are gathered one by one.
+use Rattle.std.proofs.Common.{inl, inr, ◌≡◌, ℕ, Bool, List, [], ◌∷◌, ◌++◌, length, take, drop, refl}
+use Rattle.std.proofs.Common.{sym, subst}
+use Rattle.std.proofs.Common.{Option, Some, None, append_assoc, arith}
+use Rattle.std.specs.Prelude.{◌⊎◌, All, Contains}
+use Rattle.std.proofs.Math.Seq.{drop-append_seam, take-append_seam}
+use Rattle.std.proofs.lemmas.List.Elements.{All-contains, All-drop, All-head, All-push, All-same, All-tail}
+use Rattle.std.proofs.lemmas.List.Elements.{All-take}
+use Rattle.std.proofs.lemmas.List.Elements.{Contains-append_left, Contains-append_right}
+use Rattle.std.proofs.lemmas.List.Elements.{Contains-push, Contains-push_cases}
+use Rattle.vme_part_format.specs.Bounds.{FitSegments, FitsSegment}
+use Rattle.vme_part_format.specs.Tables.{SegmentValue, last_of}
+use Rattle.vme_parts.specs.Buddies.{AreBuddies}
+use Rattle.vme_parts.specs.Files.{SegmentCovers, SegmentsCover, files_of}
+use Rattle.vme_parts.specs.Gathering.{Ascend, Gathered}
+use Rattle.vme_parts.specs.Joined.{IsOfBoth}
+use Rattle.vme_parts.specs.Stands.{SegmentStandsFor}
+use Rattle.vme_parts.proofs.Merging.{both_fit, both_stand, covered_first, covered_second, covers_both}
+
+pub all_front : {X : Type 0} (P : X → Type 0) (xs ys : List X) → All P (xs ++ ys) → All P xs
+all_front P xs ys all = All-same P xs (take (length xs) (xs ++ ys)) (sym (take-append_seam xs ys))
+    (All-take P (length xs) (xs ++ ys) all)
+
+all_back : {X : Type 0} (P : X → Type 0) (xs ys : List X) → All P (xs ++ ys) → All P ys
+all_back P xs ys all = All-same P ys (drop (length xs) (xs ++ ys)) (sym (drop-append_seam xs ys))
+    (All-drop P (length xs) (xs ++ ys) all)
+
+pub all_last : {X : Type 0} (P : X → Type 0) (xs : List X) (x : X) → All P (xs ++ x ∷ []) → P x
+all_last P xs x all = All-contains P (xs ++ x ∷ []) x all (Contains-push xs x)
+
+-- two at the end become one
+all_merged : {X : Type 0} (P : X → Type 0) (xs : List X) (s t r : X) → (P s → P t → P r) → All P (xs ++ s ∷ t ∷ [])
+    → All P (xs ++ r ∷ [])
+all_merged P xs s t r both all =
+    let back = all_back P xs (s ∷ t ∷ []) all in
+    All-push P xs r (all_front P xs (s ∷ t ∷ []) all)
+    (both (All-head P s (t ∷ []) back) (All-head P t [] (All-tail P s (t ∷ []) back)))
+
+cover_more : (xs : List SegmentValue) (x : SegmentValue) (n : ℕ) → SegmentsCover xs n → SegmentsCover (xs ++ x ∷ []) n
+cover_more xs x n c = (c.0, Contains-append_left xs (x ∷ []) c.0 c.1, c.2)
+
+cover_last : (xs : List SegmentValue) (x : SegmentValue) (n : ℕ) → SegmentCovers x n → SegmentsCover (xs ++ x ∷ []) n
+cover_last xs x n c = (x, Contains-push xs x, c)
+
+cover_cases : (xs : List SegmentValue) (x : SegmentValue) (n : ℕ) → SegmentsCover (xs ++ x ∷ []) n
+    → SegmentsCover xs n ⊎ SegmentCovers x n
+cover_cases xs x n c = by_place (Contains-push_cases xs x c.0 c.1)
+  where
+    by_place : (Contains xs c.0 ⊎ (x ≡ c.0)) → SegmentsCover xs n ⊎ SegmentCovers x n
+    by_place (inl h) = inl (c.0, h, c.2)
+    by_place (inr e) = inr (subst (λ (s : SegmentValue). SegmentCovers s n) (sym e) c.2)
+
+pub gathered_none : Gathered [] []
+gathered_none =
+    record {
+      order = tt;
+      covers = λ n. (λ c. c, λ c. c);
+      stand = λ listing files all. all;
+      fits = λ listing all. all;
+    }
+
+-- one more behind
+pub gathered_pushed : (done ss : List SegmentValue) (x : SegmentValue) → Gathered done ss → Ascend None (ss ++ x ∷ [])
+    → Gathered (done ++ x ∷ []) (ss ++ x ∷ [])
+gathered_pushed done ss x g order =
+    record {
+      order = order;
+      covers = λ n. (
+        λ c. to n (λ h. (g.covers n).0 h) (cover_cases ss x n c),
+        λ c. back n (λ h. (g.covers n).1 h) (cover_cases done x n c),
+      );
+      stand = λ listing files all.
+          let P : SegmentValue → Type 0 = λ s. SegmentStandsFor listing s (files_of files s) in
+          All-push P ss x (g.stand listing files (all_front P done (x ∷ []) all)) (all_last P done x all);
+      fits = λ listing all.
+          All-push (FitsSegment listing) ss x (g.fits listing (all_front (FitsSegment listing) done (x ∷ []) all))
+          (all_last (FitsSegment listing) done x all);
+    }
+  where
+    to : (n : ℕ) → (SegmentsCover ss n → SegmentsCover done n) → (SegmentsCover ss n ⊎ SegmentCovers x n)
+        → SegmentsCover (done ++ x ∷ []) n
+    to n h (inl c) = cover_more done x n (h c)
+    to n h (inr c) = cover_last done x n c
+
+    back : (n : ℕ) → (SegmentsCover done n → SegmentsCover ss n) → (SegmentsCover done n ⊎ SegmentCovers x n)
+        → SegmentsCover (ss ++ x ∷ []) n
+    back n h (inl c) = cover_more ss x n (h c)
+    back n h (inr c) = cover_last ss x n c
+
+-- one more that lies within another
+pub gathered_within : (done ss : List SegmentValue) (x s : SegmentValue) → Gathered done ss → Contains ss s
+    → ((n : ℕ) → SegmentCovers x n → SegmentCovers s n) → Gathered (done ++ x ∷ []) ss
+gathered_within done ss x s g there within =
+    record {
+      order = g.order;
+      covers = λ n. (
+        λ c. cover_more done x n ((g.covers n).0 c),
+        λ c. back n (λ h. (g.covers n).1 h) (cover_cases done x n c),
+      );
+      stand = λ listing files all.
+          let P : SegmentValue → Type 0 = λ s. SegmentStandsFor listing s (files_of files s) in
+          g.stand listing files (all_front P done (x ∷ []) all);
+      fits = λ listing all. g.fits listing (all_front (FitsSegment listing) done (x ∷ []) all);
+    }
+  where
+    back : (n : ℕ) → (SegmentsCover done n → SegmentsCover ss n) → (SegmentsCover done n ⊎ SegmentCovers x n)
+        → SegmentsCover ss n
+    back n h (inl c) = h c
+    back n h (inr c) = (s, there, within n c)
+
+-- what begins where the one before began ends later: the order stays
+order_merged : (before : Option ℕ) (front : List SegmentValue) (s t r : SegmentValue) → r.first ≡ s.first
+    → Ascend before (front ++ s ∷ t ∷ []) → Ascend before (front ++ r ∷ [])
+order_merged None [] s t r e a = (tt, tt)
+order_merged (Some l) [] s t r e a = (rw e a.0, tt)
+order_merged before (x ∷ xs) s t r e a = (a.0, order_merged (Some (last_of x.first x.order)) xs s t r e a.1)
+
+-- two buddies at the end become one
+pub gathered_merged : (done front : List SegmentValue) (s t r : SegmentValue) → Gathered done (front ++ s ∷ t ∷ [])
+    → IsOfBoth s t r → AreBuddies s t → Gathered done (front ++ r ∷ [])
+gathered_merged done front s t r g b h =
+    record {
+      order = order_merged None front s t r b.first g.order;
+      covers = λ n. (
+        λ c. (g.covers n).0 (to n (cover_cases front r n c)),
+        λ c. back n ((g.covers n).1 c),
+      );
+      stand = λ listing files all.
+          all_merged (λ (s : SegmentValue). SegmentStandsFor listing s (files_of files s)) front s t r
+          (both_stand s t r b h listing files) (g.stand listing files all);
+      fits = λ listing all.
+          all_merged (FitsSegment listing) front s t r (both_fit s t r b h listing) (g.fits listing all);
+    }
+  where
+    to_two : (n : ℕ) → (SegmentCovers s n ⊎ SegmentCovers t n) → SegmentsCover (front ++ s ∷ t ∷ []) n
+    to_two n (inl c) = (s, Contains-append_right front (s ∷ t ∷ []) s (0, omega arith, refl), c)
+    to_two n (inr c) = (t, Contains-append_right front (s ∷ t ∷ []) t (1, omega arith, refl), c)
+
+    to : (n : ℕ) → (SegmentsCover front n ⊎ SegmentCovers r n) → SegmentsCover (front ++ s ∷ t ∷ []) n
+    to n (inl c) = (c.0, Contains-append_left front (s ∷ t ∷ []) c.0 c.1, c.2)
+    to n (inr c) = to_two n (covers_both s t r b h n c)
+
+    back : (n : ℕ) → SegmentsCover (front ++ s ∷ t ∷ []) n → SegmentsCover (front ++ r ∷ []) n
+    back n c =
+        let split : (front ++ s ∷ []) ++ t ∷ [] ≡ front ++ s ∷ t ∷ [] = append_assoc front (s ∷ []) (t ∷ []) in
+        by_last n (cover_cases (front ++ s ∷ []) t n (subst (λ xs. SegmentsCover xs n) (sym split) c))
+      where
+        by_first : (n : ℕ) → (SegmentsCover front n ⊎ SegmentCovers s n) → SegmentsCover (front ++ r ∷ []) n
+        by_first n (inl c) = cover_more front r n c
+        by_first n (inr c) = cover_last front r n (covered_first s t r b h n c)
+
+        by_last : (n : ℕ) → (SegmentsCover (front ++ s ∷ []) n ⊎ SegmentCovers t n) → SegmentsCover (front ++ r ∷ []) n
+        by_last n (inl c) = by_first n (cover_cases front s n c)
+        by_last n (inr c) = cover_last front r n (covered_second s t r b h n c)
+
+-- segments that ascend and can be written each can be written together
+pub fit_together : (listing : Bool) (before : Option ℕ) (ss : List SegmentValue) → Ascend before ss
+    → All (FitsSegment listing) ss → FitSegments listing before ss
+fit_together listing before [] a all = tt
+fit_together listing before (s ∷ ss) a all = (
+  All-head (FitsSegment listing) s ss all,
+  a.0,
+  fit_together listing (Some (last_of s.first s.order)) ss a.1 (All-tail (FitsSegment listing) s ss all),
+)

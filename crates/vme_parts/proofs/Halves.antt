@@ -1,0 +1,65 @@
+-- Two segments that are the halves of one, and the segment that they make.
+use Rattle.std.proofs.Common.{inl, inr, ◌≡◌, ℕ, ◌+◌, ◌%◌, ◌^◌, Bool, true, false, sym, ◌∙◌, arith}
+use Rattle.std.proofs.Common.{Option, Some, None, refl}
+use Rattle.std.specs.Prelude.{◌==◌, ◌&&◌, nat_lt, not}
+use Rattle.std.specs.Option.{is_some}
+use Rattle.std.proofs.lemmas.Bool.{and_parts, eqb-true, ltb-true}
+use Rattle.std.proofs.lemmas.Nat.{pow_pos}
+use Rattle.vme_part_format.specs.Tables.{SegmentValue, TableValue}
+use Rattle.vme_part_tables.specs.Composed.{CanCompose}
+use Rattle.vme_part_tables.specs.Runs.{SaysBoth}
+use Rattle.vme_parts.specs.Buddies.{AreBuddies, FewNodes, IsTableOf, are_buddies}
+use Rattle.vme_parts.specs.Gathering.{IsSegment, Precedes}
+use Rattle.vme_parts.specs.Joined.{IsOfBoth}
+
+-- what the test tells
+pub buddies_are : (s t : SegmentValue) → are_buddies s t ≡ true → AreBuddies s t
+buddies_are s t e =
+    let all = and_parts (s.order == t.order && nat_lt s.order 62 && t.first == s.first + 2 ^ s.order)
+    (s.first % 2 ^ (s.order + 1) == 0) e in
+    let more = and_parts (s.order == t.order && nat_lt s.order 62) (t.first == s.first + 2 ^ s.order) all.0 in
+    let two = and_parts (s.order == t.order) (nat_lt s.order 62) more.0 in
+    let begins = eqb-true t.first (s.first + 2 ^ s.order) more.1 in
+    record {
+      same_order = sym (eqb-true s.order t.order two.0);
+      low = ltb-true s.order 62 two.1;
+      behind = omega (arith, begins, pow_pos s.order);
+      aligned = eqb-true (s.first % 2 ^ (s.order + 1)) 0 all.1;
+    }
+
+-- no value, by a test
+pub none_by_test : (o : Option ℕ) (r : Bool) → is_some o ≡ not r → r ≡ true → o ≡ None
+none_by_test None r e t = refl
+none_by_test (Some x) true e t = absurd (cc)
+none_by_test (Some x) false e t = absurd (cc)
+
+pub can_compose : (n : ℕ) (a b : TableValue) → IsTableOf n a → IsTableOf n b → FewNodes a b → CanCompose a b
+can_compose n a b p q few =
+    record { first = p.ways; second = q.ways; as_many = q.counted ∙ sym p.counted; few = few }
+
+table_of_both : (n steps : ℕ) (a b c : TableValue) → SaysBoth steps a b c → IsTableOf n a → IsTableOf n c
+table_of_both n steps a b c s p = record { ways = s.ways; counted = s.counted ∙ p.counted }
+
+-- one of two is a segment, as the first is
+pub segment_of_both : (s t r : SegmentValue) → IsOfBoth s t r → AreBuddies s t → IsSegment s → IsSegment r
+segment_of_both s t r b h p =
+    record {
+      numbers = record {
+        low = rw b.first p.numbers.low;
+        few = omega (arith, b.order, h.low);
+        aligned = rw (b.first, b.order) h.aligned;
+      };
+      tables = record {
+        known = table_of_both 4 s.steps s.known t.known r.known b.known p.tables.known;
+        handshake = table_of_both 147 s.steps s.handshake t.handshake r.handshake b.handshake p.tables.handshake;
+        stability = table_of_both 13 s.steps s.stability t.stability r.stability b.stability p.tables.stability;
+        grant = table_of_both 35 s.steps s.grant t.grant r.grant b.grant p.tables.grant;
+        acknowledge = table_of_both 11 s.steps s.acknowledge t.acknowledge r.acknowledge b.acknowledge
+            p.tables.acknowledge;
+      };
+    }
+
+-- and it comes before what the second comes before
+pub first_of_both : (s t r n : SegmentValue) → IsOfBoth s t r → AreBuddies s t → Precedes t n → Precedes r n
+first_of_both s t r n b h (inl k) = inl (omega (arith, b.first, h.behind, k))
+first_of_both s t r n b h (inr k) = inl (omega (arith, b.first, h.behind, k.0))

@@ -1,0 +1,165 @@
+-- What is looked at before a part is written.
+use Rattle.std.proofs.Common.{◌≡◌, ℕ, ◌+◌, ◌^◌, ◌<◌, ◌≤◌, Bool, true, false, List, [], ◌∷◌, ◌++◌, length}
+use Rattle.std.proofs.Common.{map}
+use Rattle.std.proofs.Common.{get_or, take, drop, set, refl, ap, sym, subst, ◌∙◌, arith, Some, None}
+use Rattle.std.specs.Prelude.{All, not, slice_get}
+use Rattle.std.proofs.Math.Bool.{beq}
+use Rattle.std.specs.List.{range_with_len}
+use Rattle.std.proofs.lemmas.List.{drop_all, drop_more, get_or-map, length-map, length-set, take_all, take_more}
+use Rattle.std.proofs.lemmas.List.{take_more_set}
+use Rattle.std.proofs.lemmas.List.Elements.{All-push}
+use Rattle.std.proofs.lemmas.List.FromFn.{map-range_with_len_more}
+use Rattle.vme_trace.specs.Levels.{Levels, set_level}
+use Rattle.vme_trace.specs.LineNumbers.{line_count}
+use Rattle.vme_trace.specs.declared.level.Level.{Level}
+use Rattle.vme_part_format.specs.Bounds.{FitMarks, FitNodes, FitsEntry, FitsLevels, FitsMark, FitsNode, FitsTable}
+use Rattle.vme_part_format.specs.Bounds.{FitSegments, FitsPart, FitsSegment, HasNodes, stays}
+use Rattle.vme_part_format.specs.PartText.{seen_level}
+use Rattle.vme_part_format.specs.Tables.{NodeValue, node_value, part_value, segment_value, table_value}
+use Rattle.vme_part_format.specs.declared.part.Part.{Part}
+use Rattle.vme_part_format.specs.declared.segment.Segment.{Segment}
+use Rattle.vme_part_format.specs.declared.table.OutcomeTable.{OutcomeTable}
+use Rattle.vme_part_format.specs.declared.table.TableEntry.{TableEntry}
+use Rattle.vme_part_format.specs.declared.table.TableNode.{TableNode}
+use Rattle.vme_part_format.specs.declared.wide.WideMark.{WideMark}
+
+-- ---- levels
+
+-- the levels of the lines before a number are those that a backplane shows
+pub record SeesBefore (seen lines : Levels) (n : ℕ) : Type 0 where
+  pub slots : seen.slots ≡ lines.slots
+  pub many : length seen.levels ≡ line_count
+  pub done : take n seen.levels ≡ map (seen_level lines) (range_with_len 0 n)
+
+pub sees_more : (seen new lines : Levels) (n : ℕ) → n < line_count → new ≡ set_level seen n (seen_level lines n)
+    → SeesBefore seen lines n → SeesBefore new lines (n + 1)
+sees_more seen new lines n lt made was =
+    let levels : new.levels ≡ set seen.levels n (seen_level lines n) = ap (λ (v : Levels). v.levels) made in
+    record {
+      slots = ap (λ (v : Levels). v.slots) made ∙ was.slots;
+      many = ap (λ (xs : List Level). length xs) levels ∙ (length-set seen.levels n (seen_level lines n) ∙ was.many);
+      done = ap (λ (xs : List Level). take (n + 1) xs) levels
+          ∙ (take_more_set seen.levels n (seen_level lines n) (omega (arith, lt, was.many))
+          ∙ (ap (λ (xs : List Level). xs ++ seen_level lines n ∷ []) was.done
+          ∙ sym (map-range_with_len_more (seen_level lines) 0 n n (omega arith))));
+    }
+
+pub sees_whole : (seen lines : Levels) (n : ℕ) → n ≡ line_count → SeesBefore seen lines n → seen ≡ lines
+    → 1 ≤ lines.slots → lines.slots ≤ 21 → FitsLevels lines
+sees_whole seen lines n e was same least most =
+    let whole : SeesBefore seen lines line_count = subst (SeesBefore seen lines) e was in
+    record {
+      slots = (least, most);
+      seen = ap (λ (v : Levels). v.levels) (sym same)
+          ∙ (sym (take_all line_count seen.levels (omega (arith, was.many))) ∙ whole.done);
+    }
+
+-- ---- marks, nodes and entries
+
+pub mark_more : (steps before : ℕ) (ms : List WideMark) (i : ℕ) (m : WideMark) → i < length ms → m ≡ get_or ms i m
+    → FitsMark steps before m → (FitMarks steps before (drop i ms) → FitMarks steps 0 ms)
+    → FitMarks steps m.instant (drop (i + 1) ms) → FitMarks steps 0 ms
+mark_more steps before ms i m lt e one was rest =
+    let at : drop i ms ≡ m ∷ drop (i + 1) ms
+    = drop_more ms i m lt ∙ ap (λ (x : WideMark). x ∷ drop (i + 1) ms) (sym e) in
+    was (subst (FitMarks steps before) (sym at) (one, rest))
+
+pub marks_whole : (steps before : ℕ) (ms : List WideMark) (i : ℕ) → length ms ≤ i
+    → (FitMarks steps before (drop i ms) → FitMarks steps 0 ms) → FitMarks steps 0 ms
+marks_whole steps before ms i h was = was (subst (FitMarks steps before) (sym (drop_all i ms h)) tt)
+
+node_drop : (ns : List TableNode) (i : ℕ) (n : TableNode) → i < length ns → n ≡ get_or ns i n
+    → drop i (map node_value ns) ≡ node_value n ∷ drop (i + 1) (map node_value ns)
+node_drop ns i n h e =
+    let vs = map node_value ns in
+    let at : get_or vs i (node_value n) ≡ node_value n =
+    get_or-map node_value ns i n (node_value n) h ∙ ap node_value (sym e) in
+    drop_more vs i (node_value n) (omega (arith, h, length-map ns node_value))
+    ∙ ap (λ (x : NodeValue). x ∷ drop (i + 1) vs) at
+
+pub node_more : (memories steps behind : ℕ) (ns : List TableNode) (i : ℕ) (n : TableNode) → i < length ns
+    → n ≡ get_or ns i n → behind ≡ length (drop (i + 1) (map node_value ns))
+    → FitsNode memories steps behind (node_value n)
+    → (FitNodes memories steps (drop i (map node_value ns)) → FitNodes memories steps (map node_value ns))
+    → FitNodes memories steps (drop (i + 1) (map node_value ns)) → FitNodes memories steps (map node_value ns)
+node_more memories steps behind ns i n h e many one was rest =
+    was
+    (subst (FitNodes memories steps) (sym (node_drop ns i n h e))
+    (subst (λ k. FitsNode memories steps k (node_value n)) many one, rest))
+
+pub nodes_whole : (memories steps : ℕ) (ns : List TableNode) (i : ℕ) → length ns ≤ i
+    → (FitNodes memories steps (drop i (map node_value ns)) → FitNodes memories steps (map node_value ns))
+    → FitNodes memories steps (map node_value ns)
+nodes_whole memories steps ns i h was =
+    was
+    (subst (FitNodes memories steps) (sym (drop_all i (map node_value ns) (omega (arith, h, length-map ns node_value))))
+    tt)
+
+pub all_more : {X : Type 0} (P : X → Type 0) (xs : List X) (i : ℕ) (x : X) → i < length xs → x ≡ get_or xs i x → P x
+    → All P (take i xs) → All P (take (i + 1) xs)
+all_more P xs i x h is one was =
+    let more : take (i + 1) xs ≡ take i xs ++ x ∷ []
+    = take_more xs i x h ∙ ap (λ y. take i xs ++ y ∷ []) (sym is) in
+    subst (All P) (sym more) (All-push P (take i xs) x was one)
+
+pub all_whole : {X : Type 0} (P : X → Type 0) (xs : List X) (i : ℕ) → length xs ≤ i → All P (take i xs) → All P xs
+all_whole P xs i h was = subst (All P) (take_all i xs h) was
+
+-- memory 2 stands between the first two entries and those behind
+pub stands_between : (es : List TableEntry) → slice_get es 2 ≡ Some stays
+    → (front : List TableEntry) × (back : List TableEntry) × (length front ≡ 2) × (es ≡ front ++ stays ∷ back)
+stands_between [] e = absurd (cc)
+stands_between (a ∷ []) e = absurd (cc)
+stands_between (a ∷ b ∷ []) e = absurd (cc)
+stands_between (a ∷ b ∷ x ∷ back) e =
+    let same : x ≡ stays = cc in
+    (a ∷ b ∷ [], back, refl, ap (λ (y : TableEntry). a ∷ b ∷ y ∷ back) same)
+
+-- ---- a table
+
+pub table_fit : (listing : Bool) (memories steps : ℕ) (t : OutcomeTable) → length t.entries.items ≡ memories
+    → memories + length t.nodes.items < 2 ^ 32 → (listing ≡ false → length t.nodes.items ≡ 0)
+    → slice_get t.entries.items 2 ≡ Some stays
+    → All (FitsEntry steps (memories + length t.nodes.items)) t.entries.items
+    → FitNodes memories steps (map node_value t.nodes.items) → FitsTable listing memories steps (table_value t)
+table_fit listing memories steps t as_many few none stays_there entries nodes =
+    let count : length (map node_value t.nodes.items) ≡ length t.nodes.items = length-map t.nodes.items node_value in
+    record {
+      as_many = as_many;
+      ended = stands_between t.entries.items stays_there;
+      entries = subst (λ k. All (FitsEntry steps (memories + k)) t.entries.items) (sym count) entries;
+      nodes = nodes;
+      few = omega (arith, few, count);
+      listed = by_listing listing none;
+    }
+  where
+    no_nodes : (ns : List TableNode) → length ns ≡ 0 → map node_value ns ≡ []
+    no_nodes [] e = refl
+    no_nodes (n ∷ ns) e = absurd (omega (arith, e))
+
+    by_listing : (b : Bool) → (b ≡ false → length t.nodes.items ≡ 0) → HasNodes b (map node_value t.nodes.items)
+    by_listing true none = tt
+    by_listing false none = no_nodes t.nodes.items (none refl)
+
+-- two flags that a test doesn't tell apart
+pub same_flag : (a b : Bool) → not (beq a b) ≡ false → a ≡ b
+same_flag true true e = refl
+same_flag true false e = absurd (cc)
+same_flag false true e = absurd (cc)
+same_flag false false e = refl
+
+-- a part of one segment
+pub one_fits : (p : Part) (s : Segment) → p.backplane < 2 ^ 64 → length p.segments.items ≡ 1
+    → s ≡ get_or p.segments.items 0 s → FitsSegment p.listing (segment_value s) → FitsPart (part_value p)
+one_fits p s small one is fits =
+    record {
+      backplane = small;
+      few = omega (arith, one, length-map p.segments.items segment_value);
+      segments = all_fit p.segments.items one is;
+    }
+  where
+    all_fit : (xs : List Segment) → length xs ≡ 1 → s ≡ get_or xs 0 s
+        → FitSegments p.listing None (map segment_value xs)
+    all_fit [] n e = absurd (omega (arith, n))
+    all_fit (x ∷ []) n e = (subst (λ (y : Segment). FitsSegment p.listing (segment_value y)) e fits, tt, tt)
+    all_fit (x ∷ y ∷ xs) n e = absurd (omega (arith, n))

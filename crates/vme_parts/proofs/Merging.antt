@@ -1,0 +1,121 @@
+-- One segment in place of two buddies.
+use Rattle.std.proofs.Common.{inl, inr, ◌≡◌, ℕ, ◌+◌, ◌<◌, ◌≤◌, ◌^◌, Bool, List}
+use Rattle.std.proofs.Common.{◌++◌}
+use Rattle.std.proofs.Common.{take, drop, ap, sym, subst, ◌∙◌, arith, Option, Some, None}
+use Rattle.std.specs.Prelude.{◌⊎◌}
+use Rattle.std.proofs.Math.Seq.{take-add}
+use Rattle.std.proofs.Common.{true}
+use Rattle.std.proofs.lemmas.Bool.{cases_lt, ltb-true}
+use Rattle.std.proofs.lemmas.List.{drop-drop}
+use Rattle.std.proofs.lemmas.Nat.{pow_pos}
+use Rattle.vme_trace.specs.declared.block.Block.{Block}
+use Rattle.vme_trace.specs.Levels.{Levels}
+use Rattle.vme_summary.specs.Joins.{is_later}
+use Rattle.vme_part_format.specs.Bounds.{FitsSegment, FitsTimes}
+use Rattle.vme_part_format.specs.Tables.{SegmentValue}
+use Rattle.vme_part_format.specs.declared.segment.SegmentTimes.{SegmentTimes}
+use Rattle.vme_parts.specs.Buddies.{AreBuddies}
+use Rattle.vme_parts.specs.Files.{SegmentCovers, files_of}
+use Rattle.vme_parts.specs.Joined.{IsOfBoth, joined_times}
+use Rattle.vme_parts.specs.Meeting.{ends_at, starts_at}
+use Rattle.vme_parts.specs.Stands.{SegmentStandsFor}
+use Rattle.vme_parts.proofs.Standing.{segment_stands_for_both, twice}
+
+module _ (s t r : SegmentValue) (b : IsOfBoth s t r) (h : AreBuddies s t) where
+  begins : t.first ≡ s.first + 2 ^ s.order
+  begins = omega (arith, h.behind, pow_pos s.order)
+
+  -- the files of both
+  pub files_of_both : (files : List Block) → files_of files s ++ files_of files t ≡ files_of files r
+  files_of_both files =
+      let size = 2 ^ s.order in
+      let second : files_of files t ≡ take size (drop size (drop s.first files)) =
+      ap (λ k. take (2 ^ k) (drop t.first files)) h.same_order
+      ∙ (ap (λ k. take size (drop k files)) begins
+      ∙ ap (take size) (sym (drop-drop size s.first files))) in
+      let order : 2 ^ r.order ≡ size + size = ap (λ k. 2 ^ k) b.order ∙ twice s.order in
+      ap (λ x. files_of files s ++ x) second
+      ∙ (sym (take-add size size (drop s.first files))
+      ∙ (ap (λ k. take k (drop s.first files)) (sym order) ∙ ap (λ k. take (2 ^ r.order) (drop k files)) (sym b.first)))
+
+  pub both_stand : (listing : Bool) (files : List Block) → SegmentStandsFor listing s (files_of files s)
+      → SegmentStandsFor listing t (files_of files t) → SegmentStandsFor listing r (files_of files r)
+  both_stand listing files p q =
+      subst (SegmentStandsFor listing r) (files_of_both files)
+      (segment_stands_for_both s t r b listing (files_of files s) (files_of files t) p q)
+
+  -- what it covers
+  pub covers_both : (n : ℕ) → SegmentCovers r n → (SegmentCovers s n) ⊎ (SegmentCovers t n)
+  covers_both n c = by_place (cases_lt n t.first)
+    where
+      order : 2 ^ r.order ≡ 2 ^ s.order + 2 ^ s.order
+      order = ap (λ k. 2 ^ k) b.order ∙ twice s.order
+
+      same : 2 ^ t.order ≡ 2 ^ s.order
+      same = ap (λ k. 2 ^ k) h.same_order
+
+      by_place : ((n < t.first) ⊎ (t.first ≤ n)) → (SegmentCovers s n) ⊎ (SegmentCovers t n)
+      by_place (inl k) = inl (omega (arith, b.first, c.0), omega (arith, begins, pow_pos s.order))
+      by_place (inr k) = inr (k, omega (arith, c.1, order, same, b.first, begins, pow_pos s.order))
+
+  pub covered_first : (n : ℕ) → SegmentCovers s n → SegmentCovers r n
+  covered_first n c =
+      let order = ap (λ k. 2 ^ k) b.order ∙ twice s.order in
+      (omega (arith, b.first, c.0), omega (arith, c.1, order, b.first, pow_pos s.order))
+
+  pub covered_second : (n : ℕ) → SegmentCovers t n → SegmentCovers r n
+  covered_second n c =
+      let order = ap (λ k. 2 ^ k) b.order ∙ twice s.order in
+      let same = ap (λ k. 2 ^ k) h.same_order in
+      (omega (arith, b.first, c.0, begins), omega (arith, c.1, order, same, b.first, begins, pow_pos s.order))
+
+  times_fit : (a c : Option SegmentTimes) → FitsTimes s.first s.order s.steps a → FitsTimes t.first t.order t.steps c
+      → is_later (ends_at a) (starts_at c) ≡ true → FitsTimes r.first r.order r.steps (joined_times a c)
+  times_fit None None f g l = omega (arith, f, g, b.steps)
+  times_fit None (Some c) f g l =
+      let order = ap (λ k. 2 ^ k) b.order ∙ twice s.order in
+      let same = ap (λ k. 2 ^ k) h.same_order in (
+        omega (arith, f, g.0, b.steps),
+        omega (arith, g.1, begins, b.first),
+        omega (arith, g.2, order, same, b.first, begins, pow_pos s.order),
+        g.3,
+        g.4,
+      )
+  times_fit (Some a) None f g l =
+      let order = ap (λ k. 2 ^ k) b.order ∙ twice s.order in (
+        omega (arith, f.0, b.steps),
+        omega (arith, f.1, b.first),
+        omega (arith, f.2, order, b.first, pow_pos s.order),
+        f.3,
+        f.4,
+      )
+  times_fit (Some a) (Some c) f g l =
+      let order = ap (λ k. 2 ^ k) b.order ∙ twice s.order in
+      let later = ltb-true a.last c.first l in (
+        omega (arith, f.0, b.steps),
+        omega (arith, f.1, b.first),
+        omega (arith, f.2, order, b.first, pow_pos s.order),
+        omega (arith, f.3, g.3, later),
+        g.4,
+      )
+
+  pub both_fit : (listing : Bool) → FitsSegment listing s → FitsSegment listing t → FitsSegment listing r
+  both_fit listing f g =
+      let small : s.steps + t.steps < 2 ^ 64 = rw (← b.steps) b.counts in
+      record {
+        numbers = record {
+          low = rw b.first f.numbers.low;
+          few = omega (arith, b.order, h.low);
+          aligned = rw (b.first, b.order) h.aligned;
+        };
+        steps = b.counts;
+        opening = rw b.opening f.opening;
+        left = rw b.left g.left;
+        slots = rw (b.left, b.opening) (g.slots ∙ (ap (λ (v : Levels). v.slots) b.meets.opened ∙ f.slots));
+        times = rw b.times (times_fit s.times t.times f.times g.times b.meets.later);
+        known = rw b.steps (b.known.fits listing 4 t.steps small f.known g.known);
+        handshake = rw b.steps (b.handshake.fits listing 147 t.steps small f.handshake g.handshake);
+        stability = rw b.steps (b.stability.fits listing 13 t.steps small f.stability g.stability);
+        grant = rw b.steps (b.grant.fits listing 35 t.steps small f.grant g.grant);
+        acknowledge = rw b.steps (b.acknowledge.fits listing 11 t.steps small f.acknowledge g.acknowledge);
+      }

@@ -1,0 +1,83 @@
+-- Judging goes past a segment.
+use Rattle.std.proofs.Common.{◌≡◌, ℕ, ◌+◌, ◌<◌, ◌^◌, Bool, List, [], ◌++◌, length, length-append, refl, ap, sym, subst}
+use Rattle.std.proofs.Common.{◌∙◌, arith}
+use Rattle.std.proofs.Common.{Option, true}
+use Rattle.std.specs.Option.{option_or}
+use Rattle.vme_trace.specs.Blocks.{joined_steps}
+use Rattle.vme_trace.specs.Levels.{Levels}
+use Rattle.vme_trace.specs.Trace.{levels_after}
+use Rattle.vme_trace.specs.declared.block.Block.{Block}
+use Rattle.vme_trace.specs.declared.step.Step.{Step}
+use Rattle.vme_summary.specs.Extents.{Meets, joined_extent}
+use Rattle.vme_summary.specs.Joins.{is_later}
+use Rattle.vme_summary.specs.declared.extent.Extent.{Extent}
+use Rattle.vme_summary.proofs.Chains.{steps-append}
+use Rattle.vme_summary.proofs.Extents.{extent_joined, left_by_steps}
+use Rattle.vme_part_format.specs.Tables.{SegmentValue}
+use Rattle.vme_parts.specs.Joined.{joined_times}
+use Rattle.vme_parts.specs.Meeting.{FilesGoOn, ends_at, starts_at}
+use Rattle.vme_parts.specs.Progress.{HasJudgedFiles, HasStates, TellsAll}
+use Rattle.vme_parts.specs.Stands.{SegmentStandsFor, extent_of}
+use Rattle.vme_parts.specs.declared.judging.Judging.{Judging}
+use Rattle.vme_parts.specs.declared.state.States.{States}
+use Rattle.vme_parts.proofs.Standing.{ends_of_both, starts_of_both}
+
+-- what the monitors come to past a segment, whatever stood before
+abbrev pub PastTables : States → States → ℕ → SegmentValue → Type 0
+PastTables before after steps s =
+    (listing : Bool) (o v : Levels) (x y : List Step) → v ≡ levels_after o x → steps ≡ length x
+    → length x + length y < 2 ^ 64 → HasStates before o x → TellsAll listing s v y → HasStates after o (x ++ y)
+
+pub tells_all : (listing : Bool) (s : SegmentValue) (ys : List Block) → SegmentStandsFor listing s ys
+    → TellsAll listing s s.opening (joined_steps ys)
+tells_all listing s ys p =
+    record {
+      known = p.known;
+      handshake = p.handshake;
+      stability = p.stability;
+      grant = p.grant;
+      acknowledge = p.acknowledge;
+    }
+
+pub first_judged : (j : Judging) (begun : States) (s : SegmentValue) → j.left ≡ s.left → j.times ≡ s.times
+    → j.steps ≡ s.steps → s.steps < 2 ^ 64 → HasStates begun s.opening [] → PastTables begun j.states 0 s
+    → (listing : Bool) (bs : List Block) → SegmentStandsFor listing s bs → HasJudgedFiles j (extent_of s) bs
+first_judged j begun s left times steps small none past listing bs p =
+    record {
+      extent = p.extent;
+      left = left;
+      starts = ap starts_at times;
+      ends = ap ends_at times;
+      counted = steps ∙ p.counted;
+      found = past listing s.opening s.opening [] (joined_steps bs) refl refl (omega (arith, small, p.counted)) none
+          (tells_all listing s bs p);
+    }
+
+module _ (j r : Judging) (s : SegmentValue) (goes_on : FilesGoOn j.left j.times s.opening s.times) (left : r.left
+    ≡ s.left)
+    (times : r.times ≡ joined_times j.times s.times) (steps : r.steps ≡ j.steps + s.steps) (small : r.steps < 2 ^ 64)
+    (past : PastTables j.states r.states j.steps s) where
+  pub past_segment : (listing : Bool) (e : Extent) (bs ys : List Block) → HasJudgedFiles j e bs
+      → SegmentStandsFor listing s ys
+      → s.first ≡ e.last + 1 → HasJudgedFiles r (joined_extent e (extent_of s)) (bs ++ ys)
+  past_segment listing e bs ys was p n =
+      let later : is_later e.ends (starts_at s.times) ≡ true
+      = subst (λ (t : Option ℕ). is_later t (starts_at s.times) ≡ true) was.ends goes_on.later in
+      let meets : Meets e (extent_of s)
+      = record { numbered = n; opened = goes_on.opened ∙ was.left; later = later } in
+      let opens : s.opening ≡ levels_after e.opening (joined_steps bs)
+      = goes_on.opened ∙ (was.left ∙ sym (left_by_steps e bs was.extent)) in
+      let fits : length (joined_steps bs) + length (joined_steps ys) < 2 ^ 64
+      = omega (arith, small, steps, was.counted, p.counted) in
+      record {
+        extent = extent_joined e (extent_of s) bs ys was.extent p.extent meets;
+        left = left;
+        starts =
+            ap starts_at times
+            ∙ (starts_of_both j.times s.times ∙ ap (λ (t : Option ℕ). option_or t (starts_at s.times)) was.starts);
+        ends = ap ends_at times ∙ (ends_of_both j.times s.times ∙ ap (option_or (ends_at s.times)) was.ends);
+        counted = rw (steps-append bs ys, length-append, ← was.counted, ← p.counted) steps;
+        found = rw (steps-append bs ys)
+            (past listing e.opening s.opening (joined_steps bs) (joined_steps ys) opens was.counted fits was.found
+            (tells_all listing s ys p));
+      }

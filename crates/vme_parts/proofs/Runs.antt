@@ -1,0 +1,72 @@
+-- The monitors' runs over steps that follow one another.
+use Rattle.std.proofs.Common.{◌≡◌, ℕ, ◌+◌, ◌<◌, ◌^◌, Bool, List, ◌++◌, length}
+use Rattle.vme_trace.specs.Levels.{Levels}
+use Rattle.vme_trace.specs.Trace.{levels_after}
+use Rattle.vme_trace.specs.declared.step.Step.{Step}
+use Rattle.vme_monitor.specs.KnownSpec.{known_begin, known_ends, known_next, known_opens, known_resets}
+use Rattle.vme_monitor.specs.KnownSpec.{known_observation}
+use Rattle.vme_monitor.specs.Outcome.{IsWithin, Outcome, followed}
+use Rattle.vme_monitor.specs.OverStretches.{observed, phase_step}
+use Rattle.vme_monitor.specs.Run.{nothing, machine_step}
+use Rattle.vme_monitor.specs.RuleMonitors.{run_within}
+use Rattle.vme_monitor.specs.Runs.{run_joined}
+use Rattle.vme_dtb.specs.Machine.{dtb_begin, dtb_ends, dtb_opens, dtb_observation, dtb_step}
+use Rattle.vme_stability.specs.StabilitySpec.{stability_begin, stability_ends, stability_next, stability_opens}
+use Rattle.vme_stability.specs.StabilitySpec.{stability_observation}
+use Rattle.vme_chains.specs.GrantSpec.{grant_begin, grant_ends, grant_next, grant_opens, grant_observation}
+use Rattle.vme_chains.specs.AcknowledgeSpec.{acknowledge_begin, acknowledge_ends, acknowledge_next, acknowledge_opens}
+use Rattle.vme_chains.specs.AcknowledgeSpec.{acknowledge_observation}
+use Rattle.vme_summary.specs.Runs.{known_run, handshake_run, stability_run, grant_run, acknowledge_run}
+use Rattle.vme_part_format.specs.Tables.{TableValue}
+use Rattle.vme_part_tables.specs.Runs.{SaysBoth, TellsRuns}
+use Rattle.vme_part_tables.proofs.Joining.{tables_tell_both}
+
+-- a run goes on where steps end, and its instants count from 1 to the number of steps
+pub record IsRun {P : Type 0} (run : P → Levels → List Step → Outcome P) : Type 0 where
+  pub joined : (p : P) (o : Levels) (x y : List Step)
+      → run p o (x ++ y) ≡ followed (length x) (run p o x) (run (run p o x).leaving (levels_after o x) y)
+  pub within : (p : P) (o : Levels) (x : List Step) → IsWithin (length x) (run p o x)
+
+pub known_is_run : IsRun known_run
+unfolding known_run
+known_is_run =
+    let next = machine_step (observed known_observation)
+    (phase_step known_begin known_opens known_resets known_ends known_next) in
+    record { joined = λ p o x y. run_joined next x y p o; within = λ p o x. run_within next x p o }
+
+pub handshake_is_run : IsRun handshake_run
+unfolding handshake_run
+handshake_is_run =
+    let next = machine_step (observed dtb_observation) (phase_step dtb_begin dtb_opens nothing dtb_ends dtb_step) in
+    record { joined = λ p o x y. run_joined next x y p o; within = λ p o x. run_within next x p o }
+
+pub stability_is_run : IsRun stability_run
+unfolding stability_run
+stability_is_run =
+    let next = machine_step (observed stability_observation)
+    (phase_step stability_begin stability_opens nothing stability_ends stability_next) in
+    record { joined = λ p o x y. run_joined next x y p o; within = λ p o x. run_within next x p o }
+
+pub grant_is_run : IsRun grant_run
+unfolding grant_run
+grant_is_run =
+    let next = machine_step (observed grant_observation)
+    (phase_step grant_begin grant_opens nothing grant_ends grant_next) in
+    record { joined = λ p o x y. run_joined next x y p o; within = λ p o x. run_within next x p o }
+
+pub acknowledge_is_run : IsRun acknowledge_run
+unfolding acknowledge_run
+acknowledge_is_run =
+    let next = machine_step (observed acknowledge_observation)
+    (phase_step acknowledge_begin acknowledge_opens nothing acknowledge_ends acknowledge_next) in
+    record { joined = λ p o x y. run_joined next x y p o; within = λ p o x. run_within next x p o }
+
+pub tables_of_both : {P : Type 0} (run : P → Levels → List Step → Outcome P) → IsRun run → (place : P → ℕ)
+    (listing : Bool) (count : ℕ) (o v : Levels) (x y : List Step) (a b c : TableValue) → v ≡ levels_after o x
+    → length x + length y < 2 ^ 64 → SaysBoth (length x) a b c
+    → TellsRuns listing count place a (λ p. run p o x) → TellsRuns listing count place b (λ p. run p v y)
+    → TellsRuns listing count place c (λ p. run p o (x ++ y))
+tables_of_both run law place listing count o v x y a b c e fits s p q =
+    tables_tell_both (length x) (length y) fits place listing count a b c (λ k. run k o x) (λ k. run k v y)
+    (λ k. run k o (x ++ y)) s p q (λ k. law.within k v y)
+    (λ k. rw e (law.joined k o x y))

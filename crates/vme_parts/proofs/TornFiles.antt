@@ -1,0 +1,208 @@
+-- The first of some files that doesn't follow those before it.
+use Rattle.std.proofs.Common.{inl, inr, ◌≡◌, ℕ, ◌+◌, ◌≤◌, Bool, true, List, [], ◌∷◌, ◌++◌, refl, ap, sym}
+use Rattle.std.proofs.Common.{◌∙◌}
+use Rattle.std.proofs.Common.{append-nil, arith, subst, Option, Some, None}
+use Rattle.std.specs.Option.{option_map, option_or}
+use Rattle.std.proofs.lemmas.Bool.{ltb-true}
+use Rattle.vme_trace.specs.Block.{trace_of}
+use Rattle.vme_trace.specs.Blocks.{joined_steps}
+use Rattle.vme_trace.specs.WellFormed.{malformed_step}
+use Rattle.vme_trace.specs.declared.block.Block.{Block}
+use Rattle.vme_trace.specs.declared.step.Step.{Step}
+use Rattle.vme_summary.specs.Extents.{IsExtent}
+use Rattle.vme_summary.specs.Joins.{BlocksJoin, first_time, is_later, last_time, left_by}
+use Rattle.vme_summary.specs.declared.extent.Extent.{Extent}
+use Rattle.vme_summary.proofs.Chains.{GoOn, apart, chain_joins, chain_of, last_left, last_number, left_after}
+use Rattle.vme_summary.proofs.Chains.{number_after, steps-append, timed, united}
+use Rattle.vme_summary.proofs.Extents.{join_meets, one_joins, one_sound}
+use Rattle.vme_summary.proofs.Times.{last_time-append, later_none, or_none}
+use Rattle.vme_part_format.specs.Tables.{SegmentValue}
+use Rattle.vme_part_format.specs.declared.segment.SegmentTimes.{SegmentTimes}
+use Rattle.vme_parts.specs.Meeting.{IsEarlyFile, IsTornAt, ends_at, starts_at}
+use Rattle.vme_parts.specs.Progress.{HasJudgedFiles, IsTornIn}
+use Rattle.vme_parts.specs.Stands.{SegmentStandsFor, extent_of, first_with_step}
+use Rattle.vme_parts.specs.declared.judging.Judging.{Judging}
+
+-- the extent of a block alone
+abbrev extent_alone : Block → Extent
+extent_alone b =
+    record {
+      first = b.number;
+      last = b.number;
+      opening = b.opening;
+      left = left_by b;
+      starts = first_time b.steps;
+      ends = last_time b.steps;
+    }
+
+alone : (b : Block) → malformed_step (trace_of b) ≡ None → IsExtent (extent_alone b) (b ∷ [])
+alone b sound =
+    record {
+      join = one_joins b;
+      sound = one_sound b sound;
+      first = refl;
+      last = refl;
+      opening = refl;
+      left = refl;
+      starts = ap first_time (sym (append-nil b.steps));
+      ends = ap last_time (sym (append-nil b.steps));
+    }
+
+-- files up to the first one that has a step
+record Split (ys : List Block) (n : ℕ) : Type 0 where
+  front : List Block
+  one : Block
+  back : List Block
+  parts : ys ≡ front ++ one ∷ back
+  numbered : one.number ≡ n
+  still : joined_steps front ≡ []
+  starts : first_time one.steps ≡ first_time (joined_steps ys)
+
+split_more : (y : Block) (ys : List Block) (n : ℕ) → y.steps ≡ [] → Split ys n → Split (y ∷ ys) n
+split_more y ys n e r =
+    record {
+      front = y ∷ r.front;
+      one = r.one;
+      back = r.back;
+      parts = ap (λ k. y ∷ k) r.parts;
+      numbered = r.numbered;
+      still = ap (λ (xs : List Step). xs ++ joined_steps r.front) e ∙ r.still;
+      starts = r.starts ∙ ap (λ (xs : List Step). first_time (xs ++ joined_steps ys)) (sym e);
+    }
+
+split_here : (y : Block) (ys : List Block) (n : ℕ) (x : Step) (xs : List Step) → y.steps ≡ x ∷ xs → y.number ≡ n
+    → Split (y ∷ ys) n
+split_here y ys n x xs e number =
+    record {
+      front = [];
+      one = y;
+      back = ys;
+      parts = refl;
+      numbered = number;
+      still = refl;
+      starts = rw e refl;
+    }
+
+split : (ys : List Block) (n : ℕ) → Some n ≡ first_with_step ys → Split ys n
+split [] n e = absurd (cc)
+split (y ∷ ys) n e = by_steps y.steps refl (split ys n)
+  where
+    by_steps : (xs : List Step) → y.steps ≡ xs → (Some n ≡ first_with_step ys → Split ys n) → Split (y ∷ ys) n
+    by_steps [] f rest = split_more y ys n f (rest (rw f at e))
+    by_steps (x ∷ xs) f rest =
+        let own : Some n ≡ Some y.number = rw f at e in
+        split_here y ys n x xs f cc
+
+module _ (j : Judging) (s : SegmentValue) (listing : Bool) (e : Extent) (bs ys : List Block) (k : ℕ)
+    (was : HasJudgedFiles j e bs) (p : SegmentStandsFor listing s ys) (n : s.first ≡ e.last + 1) where
+  -- where the segment opens with other levels
+  torn_first : (zs : List Block) → IsExtent (extent_of s) zs → (s.opening ≡ j.left → ⊥) → k ≡ s.first → IsTornIn bs zs k
+  torn_first [] q other at = let none : None ≡ Some s.first = q.first in absurd (cc)
+  torn_first (z ∷ zs) q other at =
+      let opens : Some z.opening ≡ Some s.opening = q.opening in
+      let number : Some z.number ≡ Some s.first = q.first in
+      let same : z.opening ≡ s.opening = cc in
+      let first : z.number ≡ s.first = cc in
+      let sound : malformed_step (trace_of z) ≡ None = q.sound 0 z (omega arith) in
+      record {
+        front = [];
+        torn = z;
+        back = zs;
+        parts = refl;
+        numbered = first ∙ sym at;
+        before = subst BlocksJoin (sym (append-nil bs)) was.extent.join;
+        there = λ joined.
+            let meets = join_meets e (extent_alone z) bs (z ∷ []) was.extent (alone z sound)
+            (subst (λ (xs : List Block). BlocksJoin (xs ++ z ∷ [])) (append-nil bs) joined) in
+            other (sym same ∙ (meets.opened ∙ sym was.left));
+      }
+
+  -- where a step isn't later than those before it: behind the last of the files before come others without a step
+  module _ (a : Block) (rest front back : List Block) (one : Block) (first : bs ≡ a ∷ rest)
+      (parts : ys ≡ front ++ one ∷ back) (still : joined_steps front ≡ []) where
+    -- those before it join: there is no step among them that could be early
+    still_joins : GoOn (number_after a.number rest) (left_after (left_by a) rest) None ys → BlocksJoin (bs ++ front)
+    still_joins g =
+        let own = apart front (one ∷ back) (number_after a.number rest) (left_after (left_by a) rest) None
+        (subst (GoOn (number_after a.number rest) (left_after (left_by a) rest) None) parts g) in
+        let t = option_or (last_time (joined_steps rest)) (last_time a.steps) in
+        let later : is_later t (first_time (joined_steps front)) ≡ true = rw still (later_none t) in
+        let j = subst BlocksJoin first was.extent.join in
+        rw first
+        (chain_joins a (rest ++ front)
+        (united rest front a.number (left_by a) (last_time a.steps) (chain_of a rest j)
+        (timed front (number_after a.number rest) (left_after (left_by a) rest) t own.0 later)))
+
+    steps_before : joined_steps (rest ++ front) ≡ joined_steps rest
+    steps_before = steps-append rest front ∙ (ap (λ (x : List Step). joined_steps rest ++ x) still
+        ∙ append-nil (joined_steps rest))
+
+    time_before : option_or (last_time (joined_steps (rest ++ front))) (last_time a.steps) ≡ e.ends
+    time_before =
+        ap (λ (x : List Step). option_or (last_time x) (last_time a.steps)) steps_before
+        ∙ (sym (last_time-append a.steps (joined_steps rest))
+        ∙ (ap (λ (x : List Block). last_time (joined_steps x)) (sym first) ∙ sym was.extent.ends))
+
+    early_torn : (last : ℕ) (start : ℕ) → e.ends ≡ Some last → first_time one.steps ≡ Some start → start ≤ last
+        → BlocksJoin ((bs ++ front) ++ one ∷ []) → ⊥
+    early_torn last start ends starts early joined =
+        let j : BlocksJoin (((a ∷ rest) ++ front) ++ one ∷ [])
+        = subst (λ (x : List Block). BlocksJoin ((x ++ front) ++ one ∷ [])) first joined in
+        let g = apart (rest ++ front) (one ∷ []) a.number (left_by a) (last_time a.steps)
+        (chain_of a ((rest ++ front) ++ one ∷ []) j) in
+        let t = option_or (last_time (joined_steps (rest ++ front))) (last_time a.steps) in
+        let later : is_later (Some last) (Some start) ≡ true =
+        subst (λ (u : Option ℕ). is_later u (Some start) ≡ true) (time_before ∙ ends)
+        (subst (λ (u : Option ℕ). is_later t u ≡ true) starts g.1.2) in
+        absurd (omega (arith, ltb-true last start later, early))
+
+  goes_from : (a : Block) (rest : List Block) → bs ≡ a ∷ rest → s.opening ≡ j.left → (zs : List Block)
+      → IsExtent (extent_of s) zs → GoOn (number_after a.number rest) (left_after (left_by a) rest) None zs
+  goes_from a rest first same [] q = tt
+  goes_from a rest first same (z ∷ zs) q =
+      let was' : IsExtent e (a ∷ rest) = subst (IsExtent e) first was.extent in
+      let number : Some (number_after a.number rest) ≡ Some e.last = sym (last_number a rest) ∙ was'.last in
+      let left : Some (left_after (left_by a) rest) ≡ Some e.left = sym (last_left a rest) ∙ was'.left in
+      let own : Some z.number ≡ Some s.first = q.first in
+      let opens : Some z.opening ≡ Some s.opening = q.opening in
+      let last : number_after a.number rest ≡ e.last = cc in
+      let lines : left_after (left_by a) rest ≡ e.left = cc in
+      let begins : z.number ≡ s.first = cc in
+      let opening : z.opening ≡ s.opening = cc in (
+        begins ∙ (n ∙ ap (λ i. i + 1) (sym last)),
+        opening ∙ (same ∙ (was.left ∙ sym lines)),
+        refl,
+        subst (λ t. GoOn z.number (left_by z) t zs) (sym (or_none (last_time z.steps))) (chain_of z zs q.join),
+      )
+
+  torn_early : (a : Block) (rest : List Block) → bs ≡ a ∷ rest → s.opening ≡ j.left → IsEarlyFile j.times s.times k
+      → IsTornIn bs ys k
+  torn_early a rest first same early =
+      let number : Some early.first.number ≡ first_with_step ys
+      = sym (ap (option_map (λ (t : SegmentTimes). t.number)) early.behind) ∙ p.numbered in
+      let r = split ys early.first.number number in
+      let ends : e.ends ≡ Some early.last.last = sym was.ends ∙ ap ends_at early.there in
+      let starts : first_time r.one.steps ≡ Some early.first.first
+      = r.starts ∙ (sym p.extent.starts ∙ ap starts_at early.behind) in
+      record {
+        front = r.front;
+        torn = r.one;
+        back = r.back;
+        parts = r.parts;
+        numbered = r.numbered ∙ sym early.numbered;
+        before = still_joins a rest r.front r.back r.one first r.parts r.still
+            (goes_from a rest first same ys p.extent);
+        there = early_torn a rest r.front r.back r.one first r.parts r.still early.last.last early.first.first ends
+            starts
+            early.early;
+      }
+
+  pub torn_in : IsTornAt j.left j.times s.first s.opening s.times k → IsTornIn bs ys k
+  torn_in (inl t) = torn_first ys p.extent t.0 t.1
+  torn_in (inr t) = by_files bs refl
+    where
+      by_files : (zs : List Block) → bs ≡ zs → IsTornIn bs ys k
+      by_files [] f =
+          let none : None ≡ Some e.first = rw f at was.extent.first in
+          absurd (cc)
+      by_files (a ∷ rest) f = torn_early a rest f t.0 t.1

@@ -1,0 +1,28 @@
+-- Tables without marks tell of the monitors' runs, whose marks are left out.
+use Rattle.std.proofs.Common.{ℕ, false, List, ap, ◌∙◌, Option}
+use Rattle.vme_trace.specs.Levels.{Levels}
+use Rattle.vme_trace.specs.declared.step.Change.{Change}
+use Rattle.vme_trace.specs.declared.step.Step.{Step}
+use Rattle.vme_monitor.specs.Outcome.{Outcome}
+use Rattle.vme_monitor.specs.Run.{machine_step, run_of}
+use Rattle.vme_monitor.specs.WithoutMarks.{unmarked_step, unmarked_run}
+use Rattle.vme_monitor.specs.declared.mark.Next.{Next}
+use Rattle.vme_part_format.specs.Tables.{TableValue}
+use Rattle.vme_part_tables.specs.Runs.{TellsRuns}
+
+pub unmarked_tells : {P S : Type 0} (observation : Levels → Levels → List Change → Option S)
+    (next : P → Levels → Levels → S → Next P) (count : ℕ) (place : P → ℕ) (t : TableValue) (o : Levels) (x : List Step)
+    → TellsRuns false count place t (λ p. run_of (machine_step observation (unmarked_step next)) p o x)
+    → TellsRuns false count place t (λ p. run_of (machine_step observation next) p o x)
+unmarked_tells {P} observation next count place t o x s =
+    record {
+      counted = s.counted;
+      ways = s.ways;
+      tells = λ k.
+          let e = unmarked_run observation next x k o in
+          record {
+            leaving = (s.tells k).leaving ∙ ap (λ (r : Outcome P). place r.leaving) e;
+            event = (s.tells k).event ∙ ap (λ (r : Outcome P). r.event) e;
+            marks = (s.tells k).marks;
+          };
+    }

@@ -1,0 +1,153 @@
+-- The files of a recording, judged from the first on.
+use Rattle.std.proofs.Common.{◌≡◌, ℕ, suc, ◌+◌, ◌<◌, ◌≤◌, ◌^◌, Bool, List, [], ◌∷◌, ◌++◌, length}
+use Rattle.std.proofs.Common.{take, drop}
+use Rattle.std.proofs.Common.{refl, ap, sym, subst, ◌∙◌, arith, append_assoc, length-append, Some}
+use Rattle.std.specs.Prelude.{slice_get}
+use Rattle.std.proofs.Math.Seq.{take-add}
+use Rattle.std.proofs.lemmas.List.{length-take, take-append-drop}
+use Rattle.std.proofs.lemmas.Nat.{pow_pos}
+use Rattle.vme_trace.specs.Blocks.{joined_steps}
+use Rattle.vme_trace.specs.Levels.{Levels}
+use Rattle.vme_trace.specs.Trace.{Trace}
+use Rattle.vme_trace.specs.declared.block.Block.{Block}
+use Rattle.vme_summary.specs.Extents.{joined_extent}
+use Rattle.vme_summary.specs.Joins.{BlocksJoin, joined_trace}
+use Rattle.vme_summary.specs.declared.extent.Extent.{Extent}
+use Rattle.vme_summary.proofs.Whole.{joined_sound}
+use Rattle.vme_part_format.specs.Tables.{SegmentValue, last_of}
+use Rattle.vme_parts.specs.Files.{AreFiles, files_of}
+use Rattle.vme_parts.specs.Progress.{FoundAll, HasJudgedFiles, HasStates, IsTornIn}
+use Rattle.vme_parts.specs.Stands.{SegmentStandsFor, extent_of}
+use Rattle.vme_parts.specs.Telling.{IsTornFile}
+use Rattle.vme_parts.specs.declared.judging.Judging.{Judging}
+
+-- what is found is of the recording that the files make
+pub found_all : (j : Judging) (e : Extent) (bs : List Block) (t : Trace) → HasJudgedFiles j e bs → e.opening.slots ≤ 21
+    → joined_trace bs ≡ Some t → FoundAll j.states t
+found_all j e [] t was few is = absurd (cc)
+found_all j e (b ∷ bs) t was few is =
+    let opens : Some b.opening ≡ Some e.opening = was.extent.opening in
+    let same : e.opening ≡ b.opening = cc in
+    let whole : record { opening = b.opening; steps = joined_steps (b ∷ bs) } ≡ t = cc in
+    let here : FoundAll j.states (record { opening = b.opening; steps = joined_steps (b ∷ bs) }) =
+    record {
+      sound = joined_sound (b ∷ bs) (record { opening = b.opening; steps = joined_steps (b ∷ bs) })
+          was.extent.join was.extent.sound refl;
+      few = subst (λ (v : Levels). v.slots ≤ 21) same few;
+      found = subst (λ (v : Levels). HasStates j.states v (joined_steps (b ∷ bs))) same was.found;
+    } in
+    subst (λ k. FoundAll j.states k) whole here
+
+-- the files of the next segment are those behind the ones before
+pub files_more : (files : List Block) (n : ℕ) (s : SegmentValue) → s.first ≡ n
+    → take n files ++ files_of files s ≡ take (last_of s.first s.order + 1) files
+files_more files n s e =
+    let size : last_of s.first s.order + 1 ≡ n + 2 ^ s.order = omega (arith, e, pow_pos s.order) in
+    ap (λ k. take n files ++ take (2 ^ s.order) (drop k files)) e
+    ∙ (sym (take-add n (2 ^ s.order) files) ∙ ap (λ k. take k files) (sym size))
+
+got_at : (xs ys : List Block) (x : Block) → slice_get (xs ++ x ∷ ys) (length xs) ≡ Some x
+got_at [] ys x = refl
+got_at (z ∷ zs) ys x = got_at zs ys x
+
+-- the number of a file is how many are before it
+number_is : (xs ys : List Block) (x : Block) → AreFiles (xs ++ x ∷ ys) → x.number ≡ length xs
+number_is xs ys x are = are (length xs) x (got_at xs ys x)
+
+taken : (xs ys : List Block) → take (length xs) (xs ++ ys) ≡ xs
+taken [] ys = refl
+taken (x ∷ xs) ys = ap (λ k. x ∷ k) (taken xs ys)
+
+taken_one : (xs ys : List Block) (x : Block) → take (length xs + 1) (xs ++ x ∷ ys) ≡ xs ++ x ∷ []
+taken_one [] ys x = refl
+taken_one (z ∷ zs) ys x =
+    let e : length (z ∷ zs) + 1 ≡ suc (length zs + 1) = omega arith in
+    ap (λ n. take n (z ∷ (zs ++ x ∷ ys))) e ∙ ap (λ k. z ∷ k) (taken_one zs ys x)
+
+torn_files : (files xs ys : List Block) (x : Block) (k : ℕ) → AreFiles files → files ≡ xs ++ x ∷ ys → x.number ≡ k
+    → BlocksJoin xs → (BlocksJoin (xs ++ x ∷ []) → ⊥) → IsTornFile files k
+torn_files files xs ys x k are e number before there =
+    let at : length xs ≡ k = sym (number_is xs ys x (subst AreFiles e are)) ∙ number in
+    record {
+      before = subst BlocksJoin (sym (taken xs (x ∷ ys)) ∙ (ap (take (length xs)) (sym e) ∙ ap (λ n. take n files) at))
+          before;
+      there = λ joined.
+          there
+          (subst BlocksJoin
+          (ap (λ n. take (n + 1) files) (sym at) ∙ (ap (take (length xs + 1)) e ∙ taken_one xs ys x)) joined);
+    }
+
+-- a file that is torn from those before it in a segment is torn from those of the recording
+pub torn_whole : (files : List Block) (n size k : ℕ) → AreFiles files
+    → IsTornIn (take n files) (take size (drop n files)) k → IsTornFile files k
+torn_whole files n size k are t =
+    let rest = drop size (drop n files) in
+    let behind : take size (drop n files) ++ rest ≡ drop n files = take-append-drop size (drop n files) in
+    let whole : take n files ++ drop n files ≡ files = take-append-drop n files in
+    let parts : files ≡ (take n files ++ t.front) ++ t.torn ∷ (t.back ++ rest) =
+    sym whole
+    ∙ (ap (λ k. take n files ++ k) (sym behind)
+    ∙ (ap (λ k. take n files ++ (k ++ rest)) t.parts
+    ∙ (ap (λ k. take n files ++ k) (append_assoc t.front (t.torn ∷ t.back) rest)
+    ∙ sym (append_assoc (take n files) t.front (t.torn ∷ (t.back ++ rest)))))) in
+    torn_files files (take n files ++ t.front) (t.back ++ rest) t.torn k are parts t.numbered t.before t.there
+
+-- and it is one of the segment's
+pub torn_below : (files : List Block) (n size k : ℕ) → AreFiles files
+    → IsTornIn (take n files) (take size (drop n files)) k → k < n + size
+torn_below files n size k are t =
+    let rest = drop size (drop n files) in
+    let behind : take size (drop n files) ++ rest ≡ drop n files = take-append-drop size (drop n files) in
+    let whole : take n files ++ drop n files ≡ files = take-append-drop n files in
+    let parts : files ≡ (take n files ++ t.front) ++ t.torn ∷ (t.back ++ rest) =
+    sym whole
+    ∙ (ap (λ k. take n files ++ k) (sym behind)
+    ∙ (ap (λ k. take n files ++ (k ++ rest)) t.parts
+    ∙ (ap (λ k. take n files ++ k) (append_assoc t.front (t.torn ∷ t.back) rest)
+    ∙ sym (append_assoc (take n files) t.front (t.torn ∷ (t.back ++ rest)))))) in
+    let at : t.torn.number ≡ length (take n files ++ t.front)
+    = number_is (take n files ++ t.front) (t.back ++ rest) t.torn (subst AreFiles parts are) in
+    omega (
+      arith,
+      at,
+      t.numbered,
+      length-append (take n files) t.front,
+      length-take n files,
+      length-take size (drop n files),
+      ap (λ (x : List Block). length x) t.parts,
+      length-append t.front (t.torn ∷ t.back),
+    )
+
+-- what judging has come to up to a number, of segments that stand for their files
+pub record HasComeTo (j : Judging) (opening : Levels) (files : List Block) (n : ℕ) : Type 0 where
+  pub extent : Extent
+  pub judged : HasJudgedFiles j extent (take n files)
+  pub last : extent.last + 1 ≡ n
+  pub opened : opening ≡ extent.opening
+
+pub come_first : (j : Judging) (s : SegmentValue) (listing : Bool) (files : List Block) → s.first ≡ 0
+    → SegmentStandsFor listing s (files_of files s)
+    → ((listing : Bool) (bs : List Block) → SegmentStandsFor listing s bs → HasJudgedFiles j (extent_of s) bs)
+    → HasComeTo j s.opening files (last_of s.first s.order + 1)
+come_first j s listing files e p judged =
+    record {
+      extent = extent_of s;
+      judged = subst (HasJudgedFiles j (extent_of s)) (files_more files 0 s e) (judged listing (files_of files s) p);
+      last = refl;
+      opened = refl;
+    }
+
+pub come_on : (j r : Judging) (o : Levels) (s : SegmentValue) (listing : Bool) (files : List Block) (n : ℕ) → s.first
+    ≡ n
+    → SegmentStandsFor listing s (files_of files s)
+    → ((listing : Bool) (e : Extent) (bs ys : List Block) → HasJudgedFiles j e bs → SegmentStandsFor listing s ys
+    → s.first ≡ e.last + 1 → HasJudgedFiles r (joined_extent e (extent_of s)) (bs ++ ys))
+    → HasComeTo j o files n → HasComeTo r o files (last_of s.first s.order + 1)
+come_on j r o s listing files n e p judged was =
+    record {
+      extent = joined_extent was.extent (extent_of s);
+      judged = subst (HasJudgedFiles r (joined_extent was.extent (extent_of s))) (files_more files n s e)
+          (judged listing was.extent (take n files) (files_of files s) was.judged p (e ∙ sym was.last));
+      last = refl;
+      opened = was.opened;
+    }

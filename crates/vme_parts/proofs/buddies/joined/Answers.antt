@@ -1,0 +1,4 @@
+use Rattle.vme_parts.proofs.buddies.joined.Goals as goal
+
+pub joined_in-requires-clause-few : goal.joined_in-requires-clause-few
+joined_in-requires-clause-few c = c.have_few_nodes.ensures c.if-not-have_few_nodes.false

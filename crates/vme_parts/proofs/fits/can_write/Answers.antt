@@ -1,0 +1,9 @@
+use Rattle.std.proofs.Common.{ap, length, arith}
+use Rattle.vme_parts.proofs.Measures.{one_fits}
+use Rattle.vme_parts.proofs.fits.can_write.Goals as goal
+
+pub returns-in-len1 : goal.returns-in-len1
+returns-in-len1 c =
+    λ t. one_fits c.args.part.now c.segment-item.result (omega (arith, c.backplane_of-backplane.ensures))
+    (omega (arith, ap length c.as_slice.ensures.value, c.in-len1.len_at_least, c.in-len1.len_below))
+    (rw c.as_slice.ensures.value at c.segment-item.is) (c.segment_fits.ensures t)

@@ -1,0 +1,6 @@
+use Rattle.std.proofs.Common.{drop}
+use Rattle.vme_part_format.specs.Bounds.{FitMarks}
+use Rattle.vme_parts.proofs.fits.marks_fit.Given as goal
+
+abbrev pub invariant-loop-mark : goal.invariant-loop-mark
+invariant-loop-mark l = FitMarks l.steps l.before (drop l.mark-index l.marks) → FitMarks l.steps 0 l.marks

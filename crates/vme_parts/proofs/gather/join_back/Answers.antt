@@ -1,0 +1,82 @@
+use Rattle.std.proofs.Common.{◌≡◌, ◌-◌, List, [], ◌∷◌, ◌++◌, map, sym, ◌∙◌, subst, append-nil, vec_len}
+use Rattle.std.specs.Prelude.{All}
+use Rattle.vme_part_format.specs.Tables.{segment_value}
+use Rattle.vme_part_format.specs.declared.segment.Segment.{Segment}
+use Rattle.vme_parts.specs.Gathering.{Gathered, IsSegment}
+use Rattle.vme_parts.proofs.Backward.{popped_all, popped_front, popped_last, step_gathered}
+use Rattle.vme_parts.proofs.Halves.{first_of_both, segment_of_both}
+use Rattle.vme_parts.proofs.Ordering.{precedes_itself}
+use Rattle.vme_parts.proofs.gather.join_back.Goals as goal
+
+pub loop-last-init : goal.loop-last-init
+loop-last-init c =
+    record {
+      segments = c.requires.segments;
+      next = c.requires.next;
+      first = precedes_itself (segment_value c.args.next);
+      gathered = λ done g. g;
+    }
+
+pub are_joinable-requires : goal.are_joinable-requires
+are_joinable-requires c =
+    (popped_last c.loop-last.segments.items c.pop.new.self.items c.in-Some.last c.in-Some.ensures.items
+    c.loop-last.invariant.segments).numbers
+
+pub returns-then-not-are_joinable-clause-segments : goal.returns-then-not-are_joinable-clause-segments
+returns-then-not-are_joinable-clause-segments c =
+    let same = c.in_ok-push.ensures.items ∙ sym c.in-Some.ensures.items in
+    subst (λ (xs : List Segment). All IsSegment (map segment_value xs)) (sym same) c.loop-last.invariant.segments
+
+pub returns-then-not-are_joinable-clause-gathered : goal.returns-then-not-are_joinable-clause-gathered
+returns-then-not-are_joinable-clause-gathered c =
+    λ done g.
+    let same = c.in_ok-push.ensures.items ∙ sym c.in-Some.ensures.items in
+    subst (λ (xs : List Segment). Gathered done (map segment_value xs ++ segment_value c.loop-last.next ∷ []))
+    (sym same)
+    (c.loop-last.invariant.gathered done g)
+
+pub joined-requires-clause-first : goal.joined-requires-clause-first
+joined-requires-clause-first c =
+    (popped_last c.loop-last.segments.items c.pop.new.self.items c.in-Some.last c.in-Some.ensures.items
+    c.loop-last.invariant.segments).tables
+
+pub loop-last-preserved : goal.loop-last-preserved
+loop-last-preserved c =
+    let s = segment_value c.in-Some.last in
+    let t = segment_value c.loop-last.next in
+    let r = segment_value c.in_ok-next.next in
+    let buddies = c.are_joinable.ensures.buddies c.if-not-are_joinable.false in
+    let was = c.in-Some.ensures.items in
+    record {
+      segments = popped_front c.loop-last.segments.items c.pop.new.self.items c.in-Some.last was
+          c.loop-last.invariant.segments;
+      next = segment_of_both s t r c.in_ok-next.ensures buddies
+          (popped_last c.loop-last.segments.items c.pop.new.self.items c.in-Some.last was
+          c.loop-last.invariant.segments);
+      first = first_of_both s t r (segment_value c.args.next) c.in_ok-next.ensures buddies c.loop-last.invariant.first;
+      gathered = λ done g.
+          step_gathered done c.loop-last.segments.items c.pop.new.self.items c.in-Some.last t r was c.in_ok-next.ensures
+          buddies (c.loop-last.invariant.gathered done g);
+    }
+
+pub returns-clause-segments : goal.returns-clause-segments
+returns-clause-segments c =
+    popped_all (vec_len c.loop-last.segments - 1) c.loop-last.segments.items c.pop.new.self.items c.pop.ensures.rest
+    c.loop-last.invariant.segments
+
+pub returns-clause-gathered : goal.returns-clause-gathered
+returns-clause-gathered c =
+    λ done g.
+    let same : c.loop-last.segments.items ≡ c.pop.new.self.items
+    = c.in_default.ensures.items ∙ append-nil c.pop.new.self.items in
+    subst (λ (xs : List Segment). Gathered done (map segment_value xs ++ segment_value c.loop-last.next ∷ [])) same
+    (c.loop-last.invariant.gathered done g)
+
+pub joined-requires-clause-second : goal.joined-requires-clause-second
+joined-requires-clause-second c = c.loop-last.invariant.next.tables
+
+pub joined-requires-clause-buddies : goal.joined-requires-clause-buddies
+joined-requires-clause-buddies c = c.are_joinable.ensures.buddies c.if-not-are_joinable.false
+
+pub joined-requires-clause-goes_on : goal.joined-requires-clause-goes_on
+joined-requires-clause-goes_on c = c.are_joinable.ensures.goes_on c.if-not-are_joinable.false

@@ -1,0 +1,41 @@
+use Rattle.std.proofs.Common.{◌≡◌, ◌+◌, ◌-◌, ◌≤◌, List, None, true, length, take, drop, ap, sym, ◌∙◌, subst, arith}
+use Rattle.std.proofs.lemmas.List.{length-take-le}
+use Rattle.vme_trace.specs.Levels.{Levels}
+use Rattle.vme_trace.specs.Trace.{levels_after}
+use Rattle.vme_trace.specs.WellFormed.{malformed_step}
+use Rattle.vme_trace.specs.declared.step.Step.{Step}
+use Rattle.vme_part_format.specs.Tables.{table_value}
+use Rattle.vme_part_tables.specs.Runs.{TellsRuns}
+use Rattle.vme_parts.proofs.PieceLemmas.{none_sound, piece_lines, piece_more, piece_sound}
+use Rattle.vme_parts.proofs.pieces.table_with_marks.Goals as goal
+
+pub piece_table-requires-clause-accepted : goal.piece_table-requires-clause-accepted
+piece_table-requires-clause-accepted g c = none_sound c.args.opening.now c.args.steps.now c.requires.accepted
+
+pub with_piece-requires-clause-accepted : goal.with_piece-requires-clause-accepted
+with_piece-requires-clause-accepted g c =
+    let n = c.loop-done.done in
+    let k = c.min-end.result - n in
+    subst (λ (v : Levels). malformed_step
+    (record { opening = v; steps = take k (drop n c.args.steps.now) }) ≡ None) (sym c.loop-done.invariant.lines)
+    (piece_sound c.args.opening.now c.args.steps.now n k c.requires.accepted)
+
+pub loop-done-preserved : goal.loop-done-preserved
+loop-done-preserved g c =
+    let o = c.args.opening.now in
+    let xs = c.args.steps.now in
+    let n = c.loop-done.done in
+    let k = c.min-end.result - n in
+    let within : c.min-end.result ≤ length xs = omega (arith, c.min-end.ensures) in
+    let up : n + k ≡ c.min-end.result = omega (arith, c.min-end.ensures, c.loop-done-test.true) in
+    let many : length (take n xs) ≡ n = length-take-le n xs c.loop-done.invariant.within in
+    record {
+      within = within;
+      lines = c.lines_behind-lines.ensures
+          ∙ (ap (λ (v : Levels). levels_after v (take k (drop n xs))) c.loop-done.invariant.lines
+          ∙ piece_lines o xs n k c.min-end.result up);
+      tells = subst
+          (λ (ys : List Step). TellsRuns true g.M.Finite.COUNT g.M.Finite.place_of (table_value c.in_ok-table-2.table)
+          (λ p. g.M.Monitor.run p o ys)) (piece_more xs n k c.min-end.result up)
+          (c.in_ok-table-2.ensures o (take n xs) c.loop-done.invariant.lines (sym many) c.loop-done.invariant.tells);
+    }

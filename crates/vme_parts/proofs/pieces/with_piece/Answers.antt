@@ -1,0 +1,22 @@
+use Rattle.std.proofs.Common.{true, subst, arith}
+use Rattle.vme_part_format.specs.Tables.{table_value}
+use Rattle.vme_part_tables.specs.Runs.{SaysBoth}
+use Rattle.vme_parts.proofs.Halves.{can_compose}
+use Rattle.vme_parts.proofs.Runs.{tables_of_both}
+use Rattle.vme_parts.proofs.pieces.with_piece.Goals as goal
+
+pub composed-requires : goal.composed-requires
+composed-requires g c =
+    can_compose g.M.Finite.COUNT (table_value c.args.table) (table_value c.in_ok-next.next) c.requires.table
+    (record { ways = c.in_ok-next.ensures.ways; counted = c.in_ok-next.ensures.counted })
+    (c.nodes_are_few.ensures c.if-not-nodes_are_few.false)
+
+pub returns : goal.returns
+returns g c = λ o x opens count tells.
+    tables_of_both g.M.Monitor.run
+    (record { joined = g.met.M.Monitor.joined; within = g.met.M.Monitor.within }) g.M.Finite.place_of true
+    g.M.Finite.COUNT o c.args.opening.now x c.args.piece.now (table_value c.args.table)
+    (table_value c.in_ok-next.next) (table_value c.in_ok-table.table) opens
+    (omega (arith, c.requires.fits))
+    (subst (λ n. SaysBoth n (table_value c.args.table) (table_value c.in_ok-next.next)
+    (table_value c.in_ok-table.table)) count c.in_ok-table.ensures) tells c.in_ok-next.ensures

@@ -1,0 +1,24 @@
+-- Each monitor finds its least break.
+use Rattle.std.proofs.Common.{◌∙◌, ap}
+use Rattle.std.specs.Option.{option_map}
+use Rattle.vme_monitor.specs.BothSpec.{least}
+use Rattle.vme_part_tables.specs.Runs.{break_of}
+use Rattle.vme_summary.specs.Runs.{known_run, handshake_run, stability_run, grant_run, acknowledge_run}
+use Rattle.vme_summary.proofs.Together.{least_of_all}
+use Rattle.vme_parts.proofs.state.States.first_break.Goals as goal
+
+pub returns : goal.returns
+unfolding known_run handshake_run stability_run grant_run acknowledge_run
+returns c =
+    λ t all.
+    let s = c.args.self.now in
+    let found = all.found in
+    c.least.ensures
+    ∙ (ap (least (option_map break_of s.known.event)) (c.least-started.ensures
+    ∙ ap (least (option_map break_of s.handshake.event)) (c.least-held.ensures
+    ∙ ap (least (option_map break_of s.stability.event)) c.least-chains.ensures))
+    ∙ least_of_all t _ _ _ _ _ (found.known.event ∙ c.known_over_captures.ensures.event t all.sound all.few)
+    (found.handshake.event ∙ c.handshake_over_captures.ensures.event t all.sound all.few)
+    (found.stability.event ∙ c.stability_over_captures.ensures.event t all.sound all.few)
+    (found.grant.event ∙ c.grants_over_captures.ensures.event t all.sound all.few)
+    (found.acknowledge.event ∙ c.acknowledge_over_captures.ensures.event t all.sound all.few))

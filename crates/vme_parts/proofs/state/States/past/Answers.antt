@@ -1,0 +1,77 @@
+-- Each monitor goes past its table.
+use Rattle.std.proofs.Common.{arith}
+use Rattle.vme_monitor.specs.KnownSpec.{known_begin, nil_place}
+use Rattle.vme_monitor.specs.OverStretches.{phase_place, start_in}
+use Rattle.vme_dtb.specs.Machine.{dtb_begin}
+use Rattle.vme_dtb.specs.MemoryPlaces.{memory_place}
+use Rattle.vme_stability.specs.HoldingPlaces.{holding_place}
+use Rattle.vme_stability.specs.StabilitySpec.{stability_begin}
+use Rattle.vme_chains.specs.GrantMemory.{arbitration_place}
+use Rattle.vme_chains.specs.GrantSpec.{grant_begin}
+use Rattle.vme_chains.specs.AcknowledgeSpec.{acknowledge_begin, acknowledgement_place}
+use Rattle.vme_summary.specs.Runs.{known_run, handshake_run, stability_run, grant_run, acknowledge_run}
+use Rattle.vme_part_format.specs.Tables.{table_value}
+use Rattle.vme_parts.proofs.Runs.{acknowledge_is_run, grant_is_run, handshake_is_run, known_is_run, stability_is_run}
+use Rattle.vme_parts.proofs.StateLemmas.{leaves_memory, past_state}
+use Rattle.vme_parts.proofs.state.States.past.Goals as goal
+
+pub past-requires-clause-memory : goal.past-requires-clause-memory
+past-requires-clause-memory c = omega (arith, c.requires.fit.known, c.requires.tables.known.counted)
+
+pub past-requires-2-clause-memory : goal.past-requires-2-clause-memory
+past-requires-2-clause-memory c = omega (arith, c.requires.fit.handshake, c.requires.tables.handshake.counted)
+
+pub past-requires-3-clause-memory : goal.past-requires-3-clause-memory
+past-requires-3-clause-memory c = omega (arith, c.requires.fit.stability, c.requires.tables.stability.counted)
+
+pub past-requires-4-clause-memory : goal.past-requires-4-clause-memory
+past-requires-4-clause-memory c = omega (arith, c.requires.fit.grant, c.requires.tables.grant.counted)
+
+pub past-requires-5-clause-memory : goal.past-requires-5-clause-memory
+past-requires-5-clause-memory c = omega (arith, c.requires.fit.acknowledge, c.requires.tables.acknowledge.counted)
+
+pub returns-clause-fit : goal.returns-clause-fit
+returns-clause-fit c =
+    record {
+      known = rw c.past.ensures.memory
+          (leaves_memory 4 (table_value c.args.segment.now.known) c.args.self.now.known.memory c.requires.tables.known
+          c.requires.fit.known);
+      handshake = rw c.past-2.ensures.memory
+          (leaves_memory 147 (table_value c.args.segment.now.handshake) c.args.self.now.handshake.memory
+          c.requires.tables.handshake
+          c.requires.fit.handshake);
+      stability = rw c.past-3.ensures.memory
+          (leaves_memory 13 (table_value c.args.segment.now.stability) c.args.self.now.stability.memory
+          c.requires.tables.stability
+          c.requires.fit.stability);
+      grant = rw c.past-4.ensures.memory
+          (leaves_memory 35 (table_value c.args.segment.now.grant) c.args.self.now.grant.memory c.requires.tables.grant
+          c.requires.fit.grant);
+      acknowledge = rw c.past-5.ensures.memory
+          (leaves_memory 11 (table_value c.args.segment.now.acknowledge) c.args.self.now.acknowledge.memory
+          c.requires.tables.acknowledge
+          c.requires.fit.acknowledge);
+    }
+
+pub returns-clause-found : goal.returns-clause-found
+returns-clause-found c =
+    λ listing o v x y opens counted fits was tells.
+    record {
+      known = past_state known_run known_is_run (start_in known_begin) (phase_place nil_place) listing 4
+          (table_value c.args.segment.now.known) c.args.self.now.known c.past.result o v x y c.args.steps
+          c.past.ensures.memory c.past.ensures.event opens counted fits was.known tells.known;
+      handshake = past_state handshake_run handshake_is_run (start_in dtb_begin) (phase_place memory_place) listing 147
+          (table_value c.args.segment.now.handshake) c.args.self.now.handshake c.past-2.result o v x y c.args.steps
+          c.past-2.ensures.memory c.past-2.ensures.event opens counted fits was.handshake tells.handshake;
+      stability = past_state stability_run stability_is_run (start_in stability_begin)
+          (phase_place holding_place) listing 13
+          (table_value c.args.segment.now.stability) c.args.self.now.stability c.past-3.result o v x y c.args.steps
+          c.past-3.ensures.memory c.past-3.ensures.event opens counted fits was.stability tells.stability;
+      grant = past_state grant_run grant_is_run (start_in grant_begin) (phase_place arbitration_place) listing 35
+          (table_value c.args.segment.now.grant) c.args.self.now.grant c.past-4.result o v x y c.args.steps
+          c.past-4.ensures.memory c.past-4.ensures.event opens counted fits was.grant tells.grant;
+      acknowledge = past_state acknowledge_run acknowledge_is_run (start_in acknowledge_begin)
+          (phase_place acknowledgement_place) listing 11
+          (table_value c.args.segment.now.acknowledge) c.args.self.now.acknowledge c.past-5.result o v x y c.args.steps
+          c.past-5.ensures.memory c.past-5.ensures.event opens counted fits was.acknowledge tells.acknowledge;
+    }

@@ -1,0 +1,42 @@
+use Rattle.std.proofs.Common.{◌<◌, length, map, arith}
+use Rattle.vme_part_format.specs.Tables.{segment_value}
+use Rattle.vme_parts.proofs.Ordering.{segment_at}
+use Rattle.vme_parts.proofs.ToldFiles.{comes_first, comes_on, judges_whole, stops_here}
+use Rattle.vme_parts.proofs.tell.judge_from.Goals as goal
+
+pub of-judging-requires : goal.of-judging-requires
+of-judging-requires c = c.requires.first.tables
+
+pub go_past-requires-clause-tables : goal.go_past-requires-clause-tables
+go_past-requires-clause-tables c =
+    (segment_at c.args.rest.now c.loop-segment.segment-index c.segment-item.result (omega arith) c.segment-item.is
+    c.requires.rest).tables
+
+pub loop-segment-init : goal.loop-segment-init
+loop-segment-init c =
+    record {
+      fit = c.of-judging.ensures.fit;
+      come = comes_first c.of-judging.result (segment_value c.args.first.now) (map segment_value c.args.rest.now)
+          c.of-judging.ensures.judged;
+    }
+
+pub loop-segment-preserved : goal.loop-segment-preserved
+loop-segment-preserved c =
+    let lt : c.loop-segment.segment-index < length c.args.rest.now = omega arith in
+    record {
+      fit = c.go_past.ensures.fit;
+      come = comes_on c.loop-segment.judging (segment_value c.args.first.now) c.args.rest.now
+          c.loop-segment.segment-index c.segment-item.result lt c.segment-item.is c.loop-segment.invariant.come
+          c.go_past.new.self c.in-Ok.ensures.judged;
+    }
+
+pub returns-in-Err-clause-judges : goal.returns-in-Err-clause-judges
+returns-in-Err-clause-judges c =
+    let lt : c.loop-segment.segment-index < length c.args.rest.now = omega arith in
+    stops_here c.loop-segment.judging (segment_value c.args.first.now) c.args.rest.now c.loop-segment.segment-index
+    c.segment-item.result lt c.segment-item.is c.loop-segment.invariant.come c.in-Err.stop c.in-Err.ensures.stops
+
+pub returns-clause-judges : goal.returns-clause-judges
+returns-clause-judges c =
+    judges_whole c.loop-segment.judging (segment_value c.args.first.now) c.args.rest.now c.loop-segment.segment-index
+    (omega (arith, c.loop-segment-test.false)) c.loop-segment.invariant.come

@@ -1,0 +1,45 @@
+-- Segments that are the halves of one.
+use Rattle.std.specs.Prelude.{◌≡◌, ℕ, ◌+◌, ◌%◌, ◌^◌, ◌<◌, ◌==◌, ◌&&◌, Bool, length, nat_lt}
+use Rattle.vme_part_format.specs.Tables.{SegmentValue, TableValue, last_of}
+use Rattle.vme_part_tables.specs.Ways.{HasWays}
+use Rattle.vme_parts.specs.Meeting.{FilesGoOn}
+
+-- the second begins behind the first, and both together are of the next order
+pub record AreBuddies (s t : SegmentValue) : Type 0 where
+  pub same_order : t.order ≡ s.order
+  pub low : s.order < 62
+  pub behind : t.first ≡ last_of s.first s.order + 1
+  pub aligned : s.first % 2 ^ (s.order + 1) ≡ 0
+
+-- whether it is so
+abbrev pub are_buddies : SegmentValue → SegmentValue → Bool
+are_buddies s t =
+    s.order == t.order && nat_lt s.order 62 && t.first == s.first + 2 ^ s.order && s.first % 2 ^ (s.order + 1) == 0
+
+-- and goes on where the first ends
+abbrev pub SegmentGoesOn : SegmentValue → SegmentValue → Type 0
+SegmentGoesOn s t = FilesGoOn s.left s.times t.opening t.times
+
+-- a table of so many memories
+pub record IsTableOf (memories : ℕ) (t : TableValue) : Type 0 where
+  pub ways : HasWays t
+  pub counted : length t.entries ≡ memories
+
+-- a segment's tables have as many memories as the monitors
+pub record HasTables (s : SegmentValue) : Type 0 where
+  pub known : IsTableOf 4 s.known
+  pub handshake : IsTableOf 147 s.handshake
+  pub stability : IsTableOf 13 s.stability
+  pub grant : IsTableOf 35 s.grant
+  pub acknowledge : IsTableOf 11 s.acknowledge
+
+-- the nodes of two segments have numbers of 32 bits in one
+abbrev pub FewNodes : TableValue → TableValue → Type 0
+FewNodes a b = length a.entries + (length a.nodes + length b.nodes) < 2 ^ 32
+
+pub record HaveFewNodes (s t : SegmentValue) : Type 0 where
+  pub known : FewNodes s.known t.known
+  pub handshake : FewNodes s.handshake t.handshake
+  pub stability : FewNodes s.stability t.stability
+  pub grant : FewNodes s.grant t.grant
+  pub acknowledge : FewNodes s.acknowledge t.acknowledge

@@ -1,0 +1,10 @@
+pub mod Stands
+pub mod Joined
+pub mod Meeting
+pub mod Buddies
+pub mod Gathering
+pub mod Files
+pub mod Opened
+pub mod Progress
+pub mod Covering
+pub mod Telling

@@ -1,0 +1,96 @@
+-- What the monitors come to on their way through segments.
+use Rattle.std.specs.Prelude.{◌≡◌, ℕ, ◌<◌, ◌≤◌, Bool, false, List, [], ◌∷◌, ◌++◌, length, None}
+use Rattle.vme_trace.specs.Blocks.{joined_steps}
+use Rattle.vme_trace.specs.Levels.{Levels}
+use Rattle.vme_trace.specs.Trace.{Trace}
+use Rattle.vme_trace.specs.WellFormed.{malformed_step}
+use Rattle.vme_trace.specs.declared.block.Block.{Block}
+use Rattle.vme_trace.specs.declared.step.Step.{Step}
+use Rattle.vme_monitor.specs.Outcome.{Outcome}
+use Rattle.vme_monitor.specs.OverStretches.{phase_place, start_in}
+use Rattle.vme_monitor.specs.KnownSpec.{known_begin, nil_place}
+use Rattle.vme_dtb.specs.Machine.{dtb_begin}
+use Rattle.vme_dtb.specs.MemoryPlaces.{memory_place}
+use Rattle.vme_stability.specs.HoldingPlaces.{holding_place}
+use Rattle.vme_stability.specs.StabilitySpec.{stability_begin}
+use Rattle.vme_chains.specs.GrantMemory.{arbitration_place}
+use Rattle.vme_chains.specs.GrantSpec.{grant_begin}
+use Rattle.vme_chains.specs.AcknowledgeSpec.{acknowledge_begin, acknowledgement_place}
+use Rattle.vme_summary.specs.Extents.{IsExtent}
+use Rattle.vme_summary.specs.Joins.{BlocksJoin}
+use Rattle.vme_summary.specs.Runs.{known_run, handshake_run, stability_run, grant_run, acknowledge_run}
+use Rattle.vme_summary.specs.declared.extent.Extent.{Extent}
+use Rattle.vme_part_format.specs.Tables.{SegmentValue}
+use Rattle.vme_part_tables.specs.Runs.{TellsRun, TellsRuns}
+use Rattle.vme_part_tables.specs.Ways.{WayOutcome}
+use Rattle.vme_parts.specs.Meeting.{ends_at, starts_at}
+use Rattle.vme_parts.specs.declared.judging.Judging.{Judging}
+use Rattle.vme_parts.specs.declared.judging.Stop.{Stop}
+use Rattle.vme_parts.specs.declared.judging.Stop.TheVariants as stop
+use Rattle.vme_parts.specs.declared.state.State.{State}
+use Rattle.vme_parts.specs.declared.state.States.{States}
+
+-- what is known of a way
+abbrev pub way_of : State → WayOutcome
+way_of s = record { leaving = s.memory; event = s.event; marks = [] }
+
+-- a monitor that began at an opening is, after some steps, in this memory, and has found this break first
+abbrev pub HasState : {P : Type 0} → (P → Levels → List Step → Outcome P) → (Levels → P) → (P → ℕ) → State → Levels
+    → List Step → Type 0
+HasState run begin place s o x = TellsRun false place (way_of s) (run (begin o) o x)
+
+-- and so for each monitor
+pub record HasStates (s : States) (o : Levels) (x : List Step) : Type 0 where
+  pub known : HasState known_run (start_in known_begin) (phase_place nil_place) s.known o x
+  pub handshake : HasState handshake_run (start_in dtb_begin) (phase_place memory_place) s.handshake o x
+  pub stability : HasState stability_run (start_in stability_begin) (phase_place holding_place) s.stability o x
+  pub grant : HasState grant_run (start_in grant_begin) (phase_place arbitration_place) s.grant o x
+  pub acknowledge : HasState acknowledge_run (start_in acknowledge_begin)
+      (phase_place acknowledgement_place) s.acknowledge
+      o x
+
+-- and of all steps of a well-formed recording
+pub record FoundAll (s : States) (t : Trace) : Type 0 where
+  pub sound : malformed_step t ≡ None
+  pub few : t.opening.slots ≤ 21
+  pub found : HasStates s t.opening t.steps
+
+-- the memories are memories
+pub record FitStates (s : States) : Type 0 where
+  pub known : s.known.memory < 4
+  pub handshake : s.handshake.memory < 147
+  pub stability : s.stability.memory < 13
+  pub grant : s.grant.memory < 35
+  pub acknowledge : s.acknowledge.memory < 11
+
+-- a segment's tables tell of the monitors' runs over some steps behind these levels
+pub record TellsAll (listing : Bool) (s : SegmentValue) (v : Levels) (y : List Step) : Type 0 where
+  pub known : TellsRuns listing 4 (phase_place nil_place) s.known (λ p. known_run p v y)
+  pub handshake : TellsRuns listing 147 (phase_place memory_place) s.handshake (λ p. handshake_run p v y)
+  pub stability : TellsRuns listing 13 (phase_place holding_place) s.stability (λ p. stability_run p v y)
+  pub grant : TellsRuns listing 35 (phase_place arbitration_place) s.grant (λ p. grant_run p v y)
+  pub acknowledge : TellsRuns listing 11 (phase_place acknowledgement_place) s.acknowledge (λ p. acknowledge_run p v y)
+
+-- judging has come past files that follow one another and have this extent
+pub record HasJudgedFiles (j : Judging) (e : Extent) (bs : List Block) : Type 0 where
+  pub extent : IsExtent e bs
+  pub left : j.left ≡ e.left
+  pub starts : starts_at j.times ≡ e.starts
+  pub ends : ends_at j.times ≡ e.ends
+  pub counted : j.steps ≡ length (joined_steps bs)
+  pub found : HasStates j.states e.opening (joined_steps bs)
+
+-- of files behind others the one of this number is the first that doesn't follow those before it
+pub record IsTornIn (bs ys : List Block) (k : ℕ) : Type 0 where
+  pub front : List Block
+  pub torn : Block
+  pub back : List Block
+  pub parts : ys ≡ front ++ torn ∷ back
+  pub numbered : torn.number ≡ k
+  pub before : BlocksJoin (bs ++ front)
+  pub there : BlocksJoin ((bs ++ front) ++ torn ∷ []) → ⊥
+
+-- why judging stops behind some files at others
+abbrev pub StopsAt : List Block → List Block → Stop → Type 0
+StopsAt bs ys (stop.Torn k) = IsTornIn bs ys k
+StopsAt bs ys stop.TooManySteps = Unit {0}

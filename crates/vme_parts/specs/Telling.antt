@@ -1,0 +1,95 @@
+-- What is told of a recording by a part of it.
+use Rattle.std.specs.Prelude.{◌≡◌, ℕ, ◌+◌, ◌-◌, ◌<◌, ◌≤◌, ◌⊎◌, Bool, List, take, Option, None, Some}
+use Rattle.std.specs.Prelude.{Err, Ok, Result, option_map, slice_get}
+use Rattle.vme_trace.specs.Verdict.{rules_in_force, verdict_by}
+use Rattle.vme_trace.specs.Trace.{Trace}
+use Rattle.vme_trace.specs.declared.block.Block.{Block}
+use Rattle.vme_trace.specs.declared.verdict.Verdict.{Verdict}
+use Rattle.vme_trace.specs.declared.verdict.Verdict.TheVariants as verdict
+use Rattle.vme_summary.specs.Joins.{BlocksJoin, joined_trace}
+use Rattle.vme_summary.specs.declared.extent.Extent.{Extent}
+use Rattle.vme_part_format.specs.Tables.{PartValue, SegmentValue}
+use Rattle.vme_parts.specs.declared.answers.Told.{Told}
+use Rattle.vme_parts.specs.declared.answers.Told.TheVariants as told
+use Rattle.vme_parts.specs.declared.answers.WideVerdict.{WideVerdict}
+use Rattle.vme_parts.specs.declared.answers.WideVerdict.TheVariants as wide
+use Rattle.vme_parts.specs.declared.judging.Judging.{Judging}
+use Rattle.vme_parts.specs.declared.judging.Stop.{Stop}
+use Rattle.vme_parts.specs.declared.judging.Stop.TheVariants as stop
+use Rattle.vme_parts.specs.Covering.{AreNext}
+use Rattle.vme_parts.specs.Files.{AllStand, AreFiles, PartCovers, IsPartOf}
+use Rattle.vme_parts.specs.Progress.{HasJudgedFiles}
+use Rattle.vme_part_tables.specs.Runs.{break_of}
+
+abbrev pub verdict_of : WideVerdict → Verdict
+verdict_of wide.Conforming = verdict.Conforming
+verdict_of (wide.Broken b) = verdict.Broken (break_of b)
+verdict_of (wide.Unreadable b) = verdict.Unreadable (break_of b)
+verdict_of wide.NeverIdle = verdict.NeverIdle
+
+-- all numbers below one are covered
+abbrev pub AllCovered : PartValue → ℕ → Type 0
+AllCovered p n = (k : ℕ) → k < n → PartCovers p k
+
+-- a part covers something from a number on
+abbrev pub CoversFrom : PartValue → ℕ → Type 0
+CoversFrom p n = (k : ℕ) × (n ≤ k) × PartCovers p k
+
+-- a recording has so many files, at least one: that number, or those up to the last that is covered
+abbrev pub HasFiles : PartValue → Option ℕ → ℕ → Type 0
+HasFiles p None n = (0 < n) × (CoversFrom p n → ⊥) × ((n ≡ 1) ⊎ PartCovers p (n - 1))
+HasFiles p (Some count) n = (0 < n) × (n ≡ count)
+
+-- the least number that isn't covered
+pub record IsMissing (p : PartValue) (n : ℕ) : Type 0 where
+  pub before : AllCovered p n
+  pub there : PartCovers p n → ⊥
+
+-- the least file that doesn't follow those before it
+pub record IsTornFile (files : List Block) (n : ℕ) : Type 0 where
+  pub before : BlocksJoin (take n files)
+  pub there : BlocksJoin (take (n + 1) files) → ⊥
+
+-- the verdict of the recording that files make
+abbrev pub IsVerdictOfFiles : List Block → Verdict → Type 0
+IsVerdictOfFiles files v =
+    BlocksJoin files × ((t : Trace) → joined_trace files ≡ Some t → verdict_by rules_in_force t ≡ v)
+
+-- this is told of a recording of so many files
+abbrev pub TellsOf : List Block → PartValue → ℕ → Told → Type 0
+TellsOf files p n (told.Beyond k) = PartCovers p k × (n ≤ k)
+TellsOf files p n (told.Missing k) = IsMissing p k × (k < n)
+TellsOf files p n (told.Torn k) = AllCovered p n × IsTornFile files k × (k < n)
+TellsOf files p n told.TooManySteps = AllCovered p n
+TellsOf files p n (told.Verdict v) = AllCovered p n × IsVerdictOfFiles (take n files) (verdict_of v)
+
+-- whatever files it is a part of, this is told of them
+abbrev pub TellsOfWhole : PartValue → Option ℕ → Told → Type 0
+TellsOfWhole p count what =
+    (files : List Block) (n : ℕ) → AreFiles files → IsPartOf files p → HasFiles p count n → TellsOf files p n what
+
+-- what is told where judging stops
+abbrev pub told_of : Stop → Told
+told_of (stop.Torn k) = told.Torn k
+told_of stop.TooManySteps = told.TooManySteps
+
+-- past all of some segments, or why not, whatever files they stand for
+abbrev pub JudgesAll : List SegmentValue → Result Judging Stop → Type 0
+JudgesAll ss (Ok j) =
+    (listing : Bool) (files : List Block) (end : ℕ) → AreFiles files → AllStand listing files ss → AreNext 0 ss end
+    → (e : Extent) × HasJudgedFiles j e (take end files) ×
+    (option_map (λ (s : SegmentValue). s.opening) (slice_get ss 0)
+    ≡ Some e.opening)
+JudgesAll ss (Err (stop.Torn k)) =
+    (listing : Bool) (files : List Block) (end : ℕ) → AreFiles files → AllStand listing files ss → AreNext 0 ss end
+    → IsTornFile files k × (k < end)
+JudgesAll ss (Err stop.TooManySteps) = Unit {0}
+
+-- past all files of a recording, or what is told in place of a verdict
+abbrev pub JudgesFiles : PartValue → Option ℕ → Result Judging Told → Type 0
+JudgesFiles p count (Ok j) =
+    (files : List Block) (n : ℕ) → AreFiles files → IsPartOf files p → HasFiles p count n
+    → AllCovered p n × AreNext 0 p.segments n × ((e : Extent) × HasJudgedFiles j e (take n files)
+    × (e.opening.slots ≤ 21))
+JudgesFiles p count (Err what) =
+    (files : List Block) (n : ℕ) → AreFiles files → IsPartOf files p → HasFiles p count n → TellsOf files p n what

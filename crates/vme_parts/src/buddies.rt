@@ -1,0 +1,160 @@
+//! Segments that are the halves of one.
+
+ghost use Rattle.std.specs.Prelude.{◌≡◌, ◌+◌, ◌<◌, ◌^◌, IfOk, IsTrue};
+ghost use Rattle.vme_part_format.specs.Bounds.{FitsNumbers};
+ghost use Rattle.vme_part_format.specs.Tables.{last_of, segment_value, table_value};
+ghost use Rattle.vme_part_tables.specs.Ways.{HasWays};
+ghost use Rattle.vme_parts.specs.Buddies.{AreBuddies, FewNodes, HasTables, HaveFewNodes, SegmentGoesOn};
+ghost use Rattle.vme_parts.specs.Buddies.{are_buddies as are_buddies_of};
+ghost use Rattle.vme_parts.specs.Joined.{IsOfBoth};
+
+use crate::join_refusal::JoinRefusal;
+use crate::meets::{joined_times, torn_file};
+use std::alloc::{AllocError, Global};
+use vme_part_format::{OutcomeTable, Segment};
+use vme_part_tables::{are_few_together, composed};
+
+/// The last order of a segment.
+pub(crate) const LAST_ORDER: u8 = 62;
+
+fn file_count(order: u8) -> u64
+    requires { order < 63 }
+    ensures { result ≡ 2 ^ order }
+{
+    1u64 << order
+}
+
+/// The number of a segment's last file.
+pub(crate) fn last_file(segment: &Segment) -> u64
+    requires { FitsNumbers segment.now.first segment.now.order }
+    ensures { result ≡ last_of segment.now.first segment.now.order }
+{
+    segment.first + (file_count(segment.order) - 1)
+}
+
+/// How many steps a segment has.
+pub(crate) fn step_count(segment: &Segment) -> u64
+    ensures { result ≡ segment.now.steps }
+{
+    segment.steps
+}
+
+/// Whether two segments are the halves of one.
+fn are_buddies(first: &Segment, second: &Segment) -> bool
+    requires { FitsNumbers first.now.first first.now.order }
+    ensures { result ≡ are_buddies_of (segment_value first.now) (segment_value second.now) }
+{
+    first.order == second.order
+        && first.order < LAST_ORDER
+        && second.first == first.first + file_count(first.order)
+        && first.first % file_count(first.order + 1) == 0
+}
+
+/// Whether the second follows the first.
+fn follows(first: &Segment, second: &Segment) -> bool
+    ensures { IsTrue result → SegmentGoesOn (segment_value first.now) (segment_value second.now) }
+{
+    let torn = torn_file(
+        &first.left,
+        first.times,
+        second.first,
+        &second.opening,
+        second.times,
+    );
+    torn.is_none()
+}
+
+/// Whether two segments are the halves of one, and the second follows the first.
+pub(crate) fn are_joinable(first: &Segment, second: &Segment) -> bool
+    requires { FitsNumbers first.now.first first.now.order }
+    ensures buddies { IsTrue result → AreBuddies (segment_value first.now) (segment_value second.now) }
+    ensures goes_on { IsTrue result → SegmentGoesOn (segment_value first.now) (segment_value second.now) }
+{
+    if !are_buddies(first, second) {
+        return false;
+    }
+    follows(first, second)
+}
+
+/// Whether the nodes of two tables have numbers of 32 bits in one.
+pub(crate) fn nodes_are_few(first: &OutcomeTable, second: &OutcomeTable) -> bool
+    requires { HasWays (table_value first.now) }
+    ensures { IsTrue result → FewNodes (table_value first.now) (table_value second.now) }
+{
+    are_few_together(first, second)
+}
+
+/// Whether the nodes of two segments have numbers of 32 bits in one.
+fn have_few_nodes(first: &Segment, second: &Segment) -> bool
+    requires { HasTables (segment_value first.now) }
+    ensures { IsTrue result → HaveFewNodes (segment_value first.now) (segment_value second.now) }
+{
+    if !nodes_are_few(&first.known, &second.known) {
+        return false;
+    }
+    if !nodes_are_few(&first.handshake, &second.handshake) {
+        return false;
+    }
+    if !nodes_are_few(&first.stability, &second.stability) {
+        return false;
+    }
+    if !nodes_are_few(&first.grant, &second.grant) {
+        return false;
+    }
+    nodes_are_few(&first.acknowledge, &second.acknowledge)
+}
+
+/// One segment of two buddies that follow one another.
+pub(crate) fn joined(alloc: Global, first: Segment, second: Segment) -> Result<Segment, JoinRefusal>
+    requires first { HasTables (segment_value first) }
+    requires second { HasTables (segment_value second) }
+    requires buddies { AreBuddies (segment_value first) (segment_value second) }
+    requires goes_on { SegmentGoesOn (segment_value first) (segment_value second) }
+    ensures { IfOk result (λ r. IsOfBoth (segment_value first) (segment_value second) (segment_value r)) }
+{
+    let Some(steps) = first.steps.checked_add(second.steps) else {
+        return Err(JoinRefusal::TooManySteps);
+    };
+    if !have_few_nodes(&first, &second) {
+        return Err(JoinRefusal::TooManyNodes);
+    }
+    match joined_in(alloc, first, second, steps) {
+        Ok(segment) => Ok(segment),
+        Err(_) => Err(JoinRefusal::Memory),
+    }
+}
+
+fn joined_in(
+    alloc: Global,
+    first: Segment,
+    second: Segment,
+    steps: u64,
+) -> Result<Segment, AllocError>
+    requires first { HasTables (segment_value first) }
+    requires second { HasTables (segment_value second) }
+    requires few { HaveFewNodes (segment_value first) (segment_value second) }
+    requires buddies { AreBuddies (segment_value first) (segment_value second) }
+    requires goes_on { SegmentGoesOn (segment_value first) (segment_value second) }
+    requires steps { steps ≡ first.steps + second.steps }
+    ensures { IfOk result (λ r. IsOfBoth (segment_value first) (segment_value second) (segment_value r)) }
+{
+    let by = first.steps;
+    let known = composed(alloc, first.known, second.known, by)?;
+    let handshake = composed(alloc, first.handshake, second.handshake, by)?;
+    let stability = composed(alloc, first.stability, second.stability, by)?;
+    let grant = composed(alloc, first.grant, second.grant, by)?;
+    let acknowledge = composed(alloc, first.acknowledge, second.acknowledge, by)?;
+    Ok(Segment {
+        first: first.first,
+        order: first.order + 1,
+        steps,
+        opening: first.opening,
+        left: second.left,
+        times: joined_times(first.times, second.times),
+        known,
+        handshake,
+        stability,
+        grant,
+        acknowledge,
+    })
+}

@@ -1,0 +1,66 @@
+//! Which files segments cover.
+
+ghost use Rattle.std.specs.Prelude.{◌≡◌, ◌+◌, All, IfErr, IfOk, IfSome, IsTrue, None, false, map};
+ghost use Rattle.vme_part_format.specs.Bounds.{FitsNumbers};
+ghost use Rattle.vme_part_format.specs.Tables.{last_of, segment_value};
+ghost use Rattle.vme_parts.specs.Covering.{AreNext, HasGap, IsBeyond, AreWithinFiles, LacksFrom};
+ghost use Rattle.vme_parts.specs.Gathering.{IsSegment};
+
+use crate::buddies::last_file;
+use vme_part_format::Segment;
+
+/// The number behind the last file of a segment.
+fn end_of(segment: &Segment) -> u64
+    requires { FitsNumbers segment.now.first segment.now.order }
+    ensures { result ≡ last_of segment.now.first segment.now.order + 1 }
+{
+    last_file(segment) + 1
+}
+
+/// The number behind the files that segments cover from 0 on, if they cover all up to their last, or else the least
+/// that they don't.
+pub(crate) fn covered(segments: &[Segment]) -> Result<u64, u64>
+    requires { All IsSegment (map segment_value segments.now) }
+    ensures next { IfOk result (λ end. AreNext 0 (map segment_value segments.now) end) }
+    ensures gap { IfErr result (λ k. HasGap 0 (map segment_value segments.now) k) }
+{
+    let mut next = 0;
+    for segment in segments {
+        if segment.first != next {
+            return Err(next);
+        }
+        next = end_of(segment);
+    }
+    Ok(next)
+}
+
+/// The last file that is covered, where that is none of so many.
+pub(crate) fn beyond(segments: &[Segment], files: Option<u64>) -> Option<u64>
+    requires { All IsSegment (map segment_value segments.now) }
+    ensures beyond { IfSome result (λ k. IsBeyond (map segment_value segments.now) files k) }
+    ensures within { result ≡ None → AreWithinFiles (map segment_value segments.now) files }
+{
+    let Some(count) = files else {
+        return None;
+    };
+    let Some(last) = segments.last() else {
+        return None;
+    };
+    let file = last_file(last);
+    if count <= file {
+        return Some(file);
+    }
+    None
+}
+
+/// Whether a recording of so many files, or of those that are covered, and of one at least, has more than those before
+/// a number.
+pub(crate) fn lacks(end: u64, files: Option<u64>) -> bool
+    ensures lacks { IsTrue result → LacksFrom files end }
+    ensures whole { result ≡ false → LacksFrom files end → ⊥ }
+{
+    match files {
+        Some(count) => end == 0 || end < count,
+        None => end == 0,
+    }
+}

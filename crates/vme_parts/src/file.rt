@@ -1,0 +1,46 @@
+//! A dump's recording as a file of a number.
+
+ghost use Rattle.std.specs.Prelude.{◌≡◌, ◌≤◌, None, length};
+ghost use Rattle.vme_trace.specs.WellFormed.{malformed_step};
+ghost use Rattle.vme_parts.specs.Opened.{opening_of, steps_of};
+
+use vme_trace::{Lines, Step};
+
+fn behind_opening<'a>(
+    number: u32,
+    first_time: Option<u64>,
+    opening: &mut Lines,
+    steps: &'a [Step],
+) -> &'a [Step]
+    ensures opening { opening.new ≡ opening_of number first_time opening.old steps.now }
+    ensures steps { result.now ≡ steps_of number first_time steps.now }
+{
+    if number == 0 {
+        return steps;
+    }
+    match (first_time, steps) {
+        (Some(time), [first, rest @ ..]) if first.time == time => {
+            opening.apply(first.changes.as_slice());
+            rest
+        }
+        _ => steps,
+    }
+}
+
+/// The steps of a dump that is the file of a number, whose first time is this one, if it has one. For number 0 the
+/// file is the dump's recording. For a greater number the levels behind the first time are its opening, to which the
+/// opening goes on, and its steps are those behind that time. What is well-formed stays so.
+pub fn steps_of_file<'a>(
+    number: u32,
+    first_time: Option<u64>,
+    opening: &mut Lines,
+    steps: &'a [Step],
+) -> &'a [Step]
+    ensures opening { opening.new ≡ opening_of number first_time opening.old steps.now }
+    ensures steps { result.now ≡ steps_of number first_time steps.now }
+    ensures formed { malformed_step (record { opening = opening.old; steps = steps.now }) ≡ None
+        → malformed_step (record { opening = opening.new; steps = result.now }) ≡ None }
+    ensures few { length result.now ≤ length steps.now }
+{
+    behind_opening(number, first_time, opening, steps)
+}

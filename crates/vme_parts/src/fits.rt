@@ -1,0 +1,272 @@
+//! Whether a part can be written.
+
+ghost use Rattle.std.specs.Prelude.{◌≡◌, ◌+◌, ◌<◌, ◌^◌, All, IfSome, IsTrue, Some, false, length, map};
+ghost use Rattle.std.specs.Prelude.{slice_get};
+ghost use Rattle.vme_trace.specs.Levels.{set_level};
+ghost use Rattle.vme_trace.specs.LineNumbers.{line_count};
+ghost use Rattle.vme_part_format.specs.Bounds.{FitMarks, FitNodes, FitsBreak, FitsEntry, FitsKind, FitsLevels};
+ghost use Rattle.vme_part_format.specs.Bounds.{FitsMark};
+ghost use Rattle.vme_part_format.specs.Bounds.{FitsNode, FitsNumbers, FitsPart, FitsSegment, FitsTable, FitsTimes};
+ghost use Rattle.vme_part_format.specs.Bounds.{stays};
+ghost use Rattle.vme_part_format.specs.PartText.{seen_level};
+ghost use Rattle.vme_part_format.specs.Tables.{node_value, part_value, segment_value, table_value};
+
+use crate::buddies::{last_file, step_count};
+use vme_monitor::mark::MarkKind;
+use vme_part_format::{
+    MEMORY_COUNTS, OutcomeTable, Part, STAYS, Segment, TableEntry, TableNode, WideBreak, WideMark,
+};
+use vme_trace::{Change, LINE_COUNT, Level, Line, Lines};
+
+/// Whether a first number and an order are those of a segment.
+fn numbers_fit(segment: &Segment) -> bool
+    ensures { IsTrue result → FitsNumbers segment.now.first segment.now.order }
+{
+    segment.first < 1 << 63 && segment.order < 63 && segment.first % (1u64 << segment.order) == 0
+}
+
+/// The level of a line, unknown where the backplane doesn't have it.
+fn level_at(lines: &Lines, number: u8) -> Level
+    requires { number < line_count }
+    ensures { result ≡ seen_level lines.now number }
+{
+    match Line::from_number(number) {
+        Some(line) if lines.has(line) => lines.level(line),
+        _ => Level::Unknown,
+    }
+}
+
+/// Gives a line a level, even one that the backplane doesn't have.
+#[tactic(auto, unfolding(vme_trace::specs::Trace::changed))]
+fn put_level(lines: &mut Lines, number: u8, level: Level)
+    requires { number < line_count }
+    ensures { lines.new ≡ set_level lines.old number level }
+{
+    let Some(line) = Line::from_number(number) else {
+        unreachable!()
+    };
+    lines.apply(&[Change { line, level }]);
+}
+
+/// Whether lines that a backplane doesn't have are unknown.
+fn levels_fit(lines: &Lines) -> bool
+    ensures { IsTrue result → FitsLevels lines.now }
+{
+    let Some(mut seen) = Lines::new(lines.slots()) else {
+        return false;
+    };
+    for number in 0..LINE_COUNT {
+        put_level(&mut seen, number, level_at(lines, number));
+    }
+    seen == *lines
+}
+
+/// Whether a break is one of so many steps.
+fn break_fits(found: WideBreak, steps: u64) -> bool
+    ensures { IsTrue result → FitsBreak steps found }
+{
+    0 < found.instant && found.instant <= steps
+}
+
+/// Whether a break is one of so many steps, if there is one.
+fn event_fits(event: Option<WideBreak>, steps: u64) -> bool
+    ensures { IsTrue result → IfSome event (FitsBreak steps) }
+{
+    match event {
+        Some(found) => break_fits(found, steps),
+        None => true,
+    }
+}
+
+fn kind_fits(kind: MarkKind) -> bool
+    ensures { IsTrue result → FitsKind kind }
+{
+    match kind {
+        MarkKind::Tenure { level, slot } => level < 4 && 0 < slot && slot <= 22,
+        MarkKind::Cycle { am, .. } => am < 64,
+        MarkKind::Answer { line } | MarkKind::WriteAnswer { line, .. } => {
+            line == Line::DTACK || line == Line::BERR
+        }
+        _ => true,
+    }
+}
+
+/// Whether a mark is not before an instant, and of so many steps.
+fn mark_fits(mark: &WideMark, steps: u64, before: u64) -> bool
+    ensures { IsTrue result → FitsMark steps before mark.now }
+{
+    0 < mark.instant && before <= mark.instant && mark.instant <= steps && kind_fits(mark.kind)
+}
+
+/// Whether marks ascend, and are of so many steps.
+fn marks_fit(marks: &[WideMark], steps: u64) -> bool
+    ensures { IsTrue result → FitMarks steps 0 marks.now }
+{
+    let mut before = 0;
+    for mark in marks {
+        if !mark_fits(mark, steps, before) {
+            return false;
+        }
+        before = mark.instant;
+    }
+    true
+}
+
+/// Whether a node fits, with so many others behind it.
+fn node_fits(node: &TableNode, memories: u32, steps: u64, behind: u32) -> bool
+    requires { memories + behind < 2 ^ 32 }
+    ensures { IsTrue result → FitsNode memories steps behind (node_value node.now) }
+{
+    node.next < memories + behind
+        && event_fits(node.event, steps)
+        && !node.marks.is_empty()
+        && node.marks.len() <= u32::MAX as usize
+        && marks_fit(node.marks.as_slice(), steps)
+}
+
+fn nodes_fit(nodes: &[TableNode], memories: u32, steps: u64) -> bool
+    requires { memories + length nodes.now < 2 ^ 32 }
+    ensures { IsTrue result → FitNodes memories steps (map node_value nodes.now) }
+{
+    let mut behind = nodes.len() as u32;
+    for node in nodes {
+        behind -= 1;
+        if !node_fits(node, memories, steps, behind) {
+            return false;
+        }
+    }
+    true
+}
+
+fn entry_fits(entry: &TableEntry, ways: u32, steps: u64) -> bool
+    ensures { IsTrue result → FitsEntry steps ways entry.now }
+{
+    entry.next < ways && event_fits(entry.event, steps)
+}
+
+fn entries_fit(entries: &[TableEntry], ways: u32, steps: u64) -> bool
+    ensures { IsTrue result → All (FitsEntry steps ways) entries.now }
+{
+    for entry in entries {
+        if !entry_fits(entry, ways, steps) {
+            return false;
+        }
+    }
+    true
+}
+
+/// Whether memory 2 stays as it is, and shows nothing.
+fn memory_stays(entries: &[TableEntry]) -> bool
+    ensures { IsTrue result → slice_get entries.now 2 ≡ Some stays }
+{
+    match entries.get(2) {
+        Some(entry) => *entry == STAYS,
+        None => false,
+    }
+}
+
+/// Whether a part, with marks or without, may have so many nodes.
+fn may_have(listing: bool, nodes: usize) -> bool
+    ensures { IsTrue result → listing ≡ false → nodes ≡ 0 }
+{
+    listing || nodes == 0
+}
+
+/// Whether a table of so many memories can be written.
+fn table_fits(table: &OutcomeTable, listing: bool, memories: u32, steps: u64) -> bool
+    requires { memories < 2 ^ 31 }
+    ensures { IsTrue result → FitsTable listing memories steps (table_value table.now) }
+{
+    let nodes = table.nodes.len();
+    let room = (u32::MAX - memories) as usize;
+    if table.entries.len() != memories as usize {
+        return false;
+    }
+    if room < nodes {
+        return false;
+    }
+    if !may_have(listing, nodes) {
+        return false;
+    }
+    if !memory_stays(table.entries.as_slice()) {
+        return false;
+    }
+    if !entries_fit(table.entries.as_slice(), memories + nodes as u32, steps) {
+        return false;
+    }
+    nodes_fit(table.nodes.as_slice(), memories, steps)
+}
+
+/// Whether times are those of a segment.
+fn times_fit(segment: &Segment) -> bool
+    requires { FitsNumbers segment.now.first segment.now.order }
+    ensures { IsTrue result
+        → FitsTimes segment.now.first segment.now.order segment.now.steps segment.now.times }
+{
+    match segment.times {
+        None => segment.steps == 0,
+        Some(times) => {
+            0 < segment.steps
+                && segment.first <= times.number
+                && times.number <= last_file(segment)
+                && times.first <= times.last
+        }
+    }
+}
+
+/// Whether the tables of a segment can be written.
+fn tables_fit(segment: &Segment, listing: bool, steps: u64) -> bool
+    ensures known { IsTrue result → FitsTable listing 4 steps (table_value segment.now.known) }
+    ensures handshake { IsTrue result → FitsTable listing 147 steps (table_value segment.now.handshake) }
+    ensures stability { IsTrue result → FitsTable listing 13 steps (table_value segment.now.stability) }
+    ensures grant { IsTrue result → FitsTable listing 35 steps (table_value segment.now.grant) }
+    ensures acknowledge { IsTrue result → FitsTable listing 11 steps (table_value segment.now.acknowledge) }
+{
+    let [known, handshake, stability, grant, acknowledge] = MEMORY_COUNTS;
+    table_fits(&segment.known, listing, known, steps)
+        && table_fits(&segment.handshake, listing, handshake, steps)
+        && table_fits(&segment.stability, listing, stability, steps)
+        && table_fits(&segment.grant, listing, grant, steps)
+        && table_fits(&segment.acknowledge, listing, acknowledge, steps)
+}
+
+/// Whether a segment can be written.
+fn segment_fits(segment: &Segment, listing: bool) -> bool
+    ensures { IsTrue result → FitsSegment listing (segment_value segment.now) }
+{
+    if !numbers_fit(segment) {
+        return false;
+    }
+    if !levels_fit(&segment.opening) {
+        return false;
+    }
+    if !levels_fit(&segment.left) {
+        return false;
+    }
+    if segment.left.slots() != segment.opening.slots() {
+        return false;
+    }
+    if !times_fit(segment) {
+        return false;
+    }
+    tables_fit(segment, listing, step_count(segment))
+}
+
+/// The sum of a part's backplane.
+fn backplane_of(part: &Part) -> u64
+    ensures { result ≡ part.now.backplane }
+{
+    part.backplane
+}
+
+/// Whether a part of one segment can be written: what can't is out of the range of a part.
+pub fn can_write(part: &Part) -> bool
+    ensures { IsTrue result → FitsPart (part_value part.now) }
+{
+    // any number of 64 bits can
+    let _backplane = backplane_of(part);
+    match part.segments.as_slice() {
+        [segment] => segment_fits(segment, part.listing),
+        _ => false,
+    }
+}

@@ -1,0 +1,120 @@
+//! Segments that are gathered one by one: buddies are joined, and what lies in another is dropped.
+
+ghost use Rattle.std.specs.Prelude.{◌≡◌, ◌<◌, ◌++◌, ◌∷◌, [], All, IfOk, IfSome, IsPermutation, IsTrue, List, None};
+ghost use Rattle.std.specs.Prelude.{OnOk};
+ghost use Rattle.std.specs.Prelude.{false, map};
+ghost use Rattle.std.specs.List.{last_or};
+ghost use Rattle.std.specs.List.Sorted.{IsNonDecreasingBy};
+ghost use Rattle.vme_part_format.specs.Tables.{SegmentValue, last_of, segment_value};
+ghost use Rattle.vme_part_format.specs.declared.segment.Segment.{Segment};
+ghost use Rattle.vme_parts.specs.Gathering.{BeginsInLast, Gathered, IsSegment, Precedes, order_key as order_key_of};
+
+use crate::buddies::{LAST_ORDER, are_joinable, joined, last_file};
+use crate::join_refusal::JoinRefusal;
+use crate::same::are_same;
+use std::alloc::{AllocError, Global};
+use vme_part_format::Segment;
+
+/// The segment of one and of its buddies at the end of others, as long as there is one that it follows.
+fn join_back(
+    alloc: Global,
+    segments: &mut Vec<Segment>,
+    next: Segment,
+) -> Result<Segment, JoinRefusal>
+    requires segments { All IsSegment (map segment_value segments.old.items) }
+    requires next { IsSegment (segment_value next) }
+    ensures segments { OnOk result (All IsSegment (map segment_value segments.new.items)) }
+    ensures next { IfOk result (λ s. IsSegment (segment_value s)) }
+    ensures first { IfOk result (λ s. Precedes (segment_value s) (segment_value next)) }
+    ensures gathered { IfOk result (λ s. (done : List SegmentValue)
+        → Gathered done (map segment_value segments.old.items ++ segment_value next ∷ [])
+        → Gathered done (map segment_value segments.new.items ++ segment_value s ∷ [])) }
+{
+    let mut next = next;
+    while let Some(last) = segments.pop() {
+        if !are_joinable(&last, &next) {
+            segments.push(last)?;
+            return Ok(next);
+        }
+        next = joined(alloc, last, next)?;
+    }
+    Ok(next)
+}
+
+/// Whether a segment begins in the last of others.
+fn begins_in_last(segments: &[Segment], next: &Segment) -> bool
+    requires { All IsSegment (map segment_value segments.now) }
+    ensures within { IsTrue result → BeginsInLast (map segment_value segments.now) (segment_value next.now) }
+    ensures behind { result ≡ false → IfSome (last_or None (map segment_value segments.now))
+        (λ last. last_of last.first last.order < next.now.first) }
+{
+    match segments.last() {
+        Some(last) => next.first <= last_file(last),
+        None => false,
+    }
+}
+
+/// Refuses a segment that says something else of the same files than the last of others.
+fn compare_with_last(segments: &[Segment], next: &Segment) -> Result<(), JoinRefusal>
+    requires segments { All IsSegment (map segment_value segments.now) }
+    requires next { IsSegment (segment_value next.now) }
+{
+    let Some(last) = segments.last() else {
+        return Ok(());
+    };
+    let has_same_files = next.first == last.first && next.order == last.order;
+    if has_same_files && !are_same(last, next) {
+        return Err(JoinRefusal::Differs(next.first));
+    }
+    Ok(())
+}
+
+/// Adds a segment behind others, none of which begins behind it, and joins buddies.
+fn add(alloc: Global, segments: &mut Vec<Segment>, next: Segment) -> Result<(), JoinRefusal>
+    requires segments { All IsSegment (map segment_value segments.old.items) }
+    requires next { IsSegment (segment_value next) }
+    requires order { IfSome (last_or None (map segment_value segments.old.items))
+        (λ last. Precedes last (segment_value next)) }
+    ensures segments { OnOk result (All IsSegment (map segment_value segments.new.items)) }
+    ensures last { OnOk result (IfSome (last_or None (map segment_value segments.new.items))
+        (λ last. Precedes last (segment_value next))) }
+    ensures gathered { OnOk result ((done : List SegmentValue) → Gathered done (map segment_value segments.old.items)
+        → Gathered (done ++ segment_value next ∷ []) (map segment_value segments.new.items)) }
+{
+    if begins_in_last(segments.as_slice(), &next) {
+        compare_with_last(segments.as_slice(), &next)?;
+        return Ok(());
+    }
+    let whole = join_back(alloc, segments, next)?;
+    segments.push(whole)?;
+    Ok(())
+}
+
+/// Where a segment stands among others: by its first file, a greater one before those that lie in it.
+fn order_key(segment: &Segment) -> u128
+    ensures { result ≡ order_key_of (segment_value segment.now) }
+{
+    u128::from(segment.first) * 64 + u128::from(LAST_ORDER.saturating_sub(segment.order))
+}
+
+/// Puts segments in the order in which they are added.
+pub(crate) fn sort_segments(segments: &mut Vec<Segment>) -> Result<(), AllocError>
+    ensures same { IsPermutation segments.old.items segments.new.items }
+    ensures order { OnOk result
+        (IsNonDecreasingBy (λ (s : Segment). order_key_of (segment_value s)) segments.new.items) }
+{
+    segments.sort_by_key(|segment| order_key(segment))
+}
+
+/// Segments in order as few as buddies make of them.
+pub(crate) fn gather(alloc: Global, all: Vec<Segment>) -> Result<Vec<Segment>, JoinRefusal>
+    requires segments { All IsSegment (map segment_value all.items) }
+    requires order { IsNonDecreasingBy (λ (s : Segment). order_key_of (segment_value s)) all.items }
+    ensures { IfOk result (λ v. Gathered (map segment_value all.items) (map segment_value v.items)) }
+{
+    let mut segments = Vec::new(alloc);
+    for segment in all {
+        add(alloc, &mut segments, segment)?;
+    }
+    Ok(segments)
+}

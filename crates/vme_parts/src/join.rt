@@ -1,0 +1,79 @@
+//! Parts joined, in any order.
+
+ghost use Rattle.std.specs.Prelude.{◌≡◌, ◌<◌, ◌^◌, All, IfOk, OnOk, map};
+ghost use Rattle.vme_part_format.specs.Bounds.{FitsPart};
+ghost use Rattle.vme_part_format.specs.Tables.{part_value, segment_value};
+ghost use Rattle.vme_part_format.specs.declared.part.Part.{Part};
+ghost use Rattle.vme_parts.specs.Files.{JoinsParts};
+ghost use Rattle.vme_parts.specs.Gathering.{segments_of};
+
+use crate::gather::{gather, sort_segments};
+use crate::join_refusal::JoinRefusal;
+use std::alloc::{AllocError, Global};
+use vme_part_format::{Part, Segment};
+
+/// Refuses parts of which one is of another backplane, or has marks where others have none.
+fn check_alike(parts: &[Part], backplane: u64, listing: bool) -> Result<(), JoinRefusal>
+    ensures { OnOk result (All (λ (p : Part). p.listing ≡ listing) parts.now) }
+{
+    for place in 0..parts.len() {
+        let part = &parts[place];
+        if part.backplane != backplane {
+            return Err(JoinRefusal::Backplane(place));
+        }
+        if part.listing != listing {
+            return Err(JoinRefusal::Marks(place));
+        }
+    }
+    Ok(())
+}
+
+/// The segments of all parts.
+fn all_segments(alloc: Global, parts: Vec<Part>) -> Result<Vec<Segment>, AllocError>
+    ensures { IfOk result (λ v. map segment_value v.items ≡ segments_of (map part_value parts.items)) }
+{
+    let mut all = Vec::new(alloc);
+    for part in parts {
+        let mut segments = part.segments;
+        all.append(&mut segments)?;
+    }
+    Ok(all)
+}
+
+/// The backplane's sum of the first part, if there is one.
+fn backplane_of(parts: &[Part]) -> u64 {
+    match parts.first() {
+        Some(part) => part.backplane,
+        None => 0,
+    }
+}
+
+/// Whether the first part has marks.
+fn has_marks(parts: &[Part]) -> bool {
+    match parts.first() {
+        Some(part) => part.listing,
+        None => false,
+    }
+}
+
+/// One part of all of these, in any order.
+pub fn join_parts(alloc: Global, parts: Vec<Part>) -> Result<Part, JoinRefusal>
+    requires { All (λ (p : Part). FitsPart (part_value p)) parts.items }
+    ensures joins { IfOk result (λ r. JoinsParts (map part_value parts.items) (part_value r)) }
+    ensures fits { IfOk result (λ r. FitsPart (part_value r)) }
+{
+    let backplane = backplane_of(parts.as_slice());
+    let listing = has_marks(parts.as_slice());
+    check_alike(parts.as_slice(), backplane, listing)?;
+    let mut all = all_segments(alloc, parts)?;
+    sort_segments(&mut all)?;
+    let segments = gather(alloc, all)?;
+    if (u32::MAX as usize) < segments.len() {
+        return Err(JoinRefusal::TooManySegments);
+    }
+    Ok(Part {
+        backplane,
+        listing,
+        segments,
+    })
+}

@@ -1,0 +1,34 @@
+//! Why there is no part.
+
+ghost use Rattle.std.specs.Prelude.{◌≡◌};
+
+use std::alloc::{AllocError, AllocFailed};
+
+/// Why there is no part.
+#[derive(Clone, Copy, Debug, PartialEq, Eq)]
+pub enum PartRefusal {
+    /// There is no memory.
+    Memory,
+    /// The nodes of a table have no numbers of 32 bits.
+    TooManyNodes,
+}
+
+impl From<AllocError> for PartRefusal {
+    ghost use Rattle.vme_parts.specs.declared.part_refusal.PartRefusal.TheVariants.{Memory};
+
+    ghost from_gives = { λ _ e. e ≡ Memory };
+
+    fn from(_e: AllocError) -> PartRefusal {
+        PartRefusal::Memory
+    }
+}
+
+impl<T: Drop> From<AllocFailed<T>> for PartRefusal {
+    ghost use Rattle.vme_parts.specs.declared.part_refusal.PartRefusal.TheVariants.{Memory};
+
+    ghost from_gives = { λ _ e. e ≡ Memory };
+
+    fn from(_e: AllocFailed<T>) -> PartRefusal {
+        PartRefusal::Memory
+    }
+}

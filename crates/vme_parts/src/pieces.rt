@@ -1,0 +1,100 @@
+//! A table with marks, made of pieces of the steps: of a piece each memory has its own marks, and those that run on as
+//! one share what follows it.
+
+ghost use Rattle.std.specs.Prelude.{◌≡◌, ◌+◌, ◌≤◌, ◌<◌, ◌^◌, ◌++◌, IfOk, List, None, length, true};
+ghost use Rattle.vme_trace.specs.Levels.{Levels};
+ghost use Rattle.vme_trace.specs.Trace.{levels_after};
+ghost use Rattle.vme_trace.specs.WellFormed.{malformed_step};
+ghost use Rattle.vme_trace.specs.declared.step.Step.{Step};
+ghost use Rattle.vme_part_format.specs.Tables.{table_value};
+ghost use Rattle.vme_part_tables.specs.Runs.{TellsRuns};
+ghost use Rattle.vme_parts.specs.Buddies.{IsTableOf};
+
+use crate::buddies::nodes_are_few;
+use crate::part_refusal::PartRefusal;
+use std::alloc::{AllocError, Global};
+use vme_monitor::finite::Finite;
+use vme_monitor::monitor::Monitor;
+use vme_part_format::OutcomeTable;
+use vme_part_tables::{composed, marked_table};
+use vme_trace::{Lines, Step};
+
+/// So many steps are summarised at once.
+const PIECE: usize = 1024;
+
+/// The lines that steps leave.
+pub(crate) fn lines_behind(opening: &Lines, steps: &[Step]) -> Lines
+    ensures { result ≡ levels_after opening.now steps.now }
+{
+    let mut lines = *opening;
+    for step in steps {
+        lines.apply(step.changes.as_slice());
+    }
+    lines
+}
+
+/// The table with marks of a piece.
+fn piece_table<M: Finite>(
+    alloc: Global,
+    opening: &Lines,
+    steps: &[Step],
+) -> Result<OutcomeTable, AllocError>
+    requires accepted { malformed_step (record { opening = opening.now; steps = steps.now }) ≡ None }
+    requires few { length steps.now ≤ 268435456 }
+    requires some { 0 < M.COUNT }
+    ensures { IfOk result (λ t. TellsRuns true M.COUNT M.place_of (table_value t)
+        (λ p. M.run p opening.now steps.now)) }
+{
+    let summary = M::summarise(alloc, opening, steps)?;
+    marked_table::<M>(alloc, &summary)
+}
+
+/// The table of so many steps and of a piece behind them.
+fn with_piece<M: Finite>(
+    alloc: Global,
+    table: OutcomeTable,
+    done: usize,
+    opening: &Lines,
+    piece: &[Step],
+) -> Result<OutcomeTable, PartRefusal>
+    requires accepted { malformed_step (record { opening = opening.now; steps = piece.now }) ≡ None }
+    requires few { length piece.now ≤ 268435456 }
+    requires some { 0 < M.COUNT }
+    requires table { IsTableOf M.COUNT (table_value table) }
+    requires fits { done + length piece.now < 2 ^ 64 }
+    ensures { IfOk result (λ t. (o : Levels) (x : List Step) → opening.now ≡ levels_after o x → done ≡ length x
+        → TellsRuns true M.COUNT M.place_of (table_value table) (λ p. M.run p o x)
+        → TellsRuns true M.COUNT M.place_of (table_value t) (λ p. M.run p o (x ++ piece.now))) }
+{
+    let next = piece_table::<M>(alloc, opening, piece)?;
+    if !nodes_are_few(&table, &next) {
+        return Err(PartRefusal::TooManyNodes);
+    }
+    let table = composed(alloc, table, next, done as u64)?;
+    Ok(table)
+}
+
+/// The table with marks of some steps.
+pub(crate) fn table_with_marks<M: Finite>(
+    alloc: Global,
+    opening: &Lines,
+    steps: &[Step],
+) -> Result<OutcomeTable, PartRefusal>
+    requires accepted { malformed_step (record { opening = opening.now; steps = steps.now }) ≡ None }
+    requires few { length steps.now ≤ 268435456 }
+    requires some { 0 < M.COUNT }
+    ensures { IfOk result (λ t. TellsRuns true M.COUNT M.place_of (table_value t)
+        (λ p. M.run p opening.now steps.now)) }
+{
+    let mut table = piece_table::<M>(alloc, opening, &steps[..0])?;
+    let mut lines = *opening;
+    let mut done = 0;
+    while done < steps.len() {
+        let end = steps.len().min(done + PIECE);
+        let piece = &steps[done..end];
+        table = with_piece::<M>(alloc, table, done, &lines, piece)?;
+        lines = lines_behind(&lines, piece);
+        done = end;
+    }
+    Ok(table)
+}

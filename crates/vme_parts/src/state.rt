@@ -1,0 +1,189 @@
+//! What monitors come to on their way through segments.
+
+ghost use Rattle.std.specs.Prelude.{◌≡◌, ◌+◌, ◌<◌, ◌^◌, ◌++◌, [], Bool, List, None, length};
+ghost use Rattle.std.specs.Option.{option_map, option_or};
+ghost use Rattle.vme_trace.specs.Levels.{Levels};
+ghost use Rattle.vme_trace.specs.Trace.{Trace, levels_after};
+ghost use Rattle.vme_trace.specs.Judged.{judged_spans};
+ghost use Rattle.vme_trace.specs.Verdict.{rules_in_force, verdict_by, verdict_on};
+ghost use Rattle.vme_trace.specs.declared.step.Step.{Step};
+ghost use Rattle.vme_monitor.specs.BothSpec.{breaks_before as fault_before, least as least_of, sooner as sooner_than};
+ghost use Rattle.vme_monitor.specs.Whole.{has_span};
+ghost use Rattle.vme_summary.specs.Summaries.{first_break as first_break_of};
+ghost use Rattle.vme_part_format.specs.Tables.{segment_value, table_value};
+ghost use Rattle.vme_part_tables.specs.Runs.{break_of};
+ghost use Rattle.vme_part_tables.specs.Ways.{later_break as later_break_of, outcome_in};
+ghost use Rattle.vme_parts.specs.Buddies.{HasTables};
+ghost use Rattle.vme_parts.specs.Progress.{FitStates, FoundAll, HasStates, TellsAll};
+ghost use Rattle.vme_parts.specs.Telling.{verdict_of as verdict_is};
+
+use crate::answers::WideVerdict;
+use vme_chains::acknowledge::{Iack, acknowledge_over_captures};
+use vme_chains::grant::{Grant, grants_over_captures};
+use vme_dtb::handshake::{Dtb, handshake_over_captures};
+use vme_monitor::finite::Finite;
+use vme_monitor::known::{Known, known_over_captures};
+use vme_part_format::{OutcomeTable, Segment, WideBreak};
+use vme_part_tables::{follow, later_break};
+use vme_stability::stability::{Stability, stability_over_captures};
+use vme_trace::Lines;
+
+/// What a monitor has come to: the memory that it is in, and the first break.
+#[derive(Clone, Copy)]
+pub struct State {
+    pub memory: u32,
+    pub event: Option<WideBreak>,
+}
+
+/// A monitor at the opening of a recording.
+fn begin<M: Finite>(opening: &Lines) -> State
+    ensures memory { result.memory ≡ M.place_of (M.begin opening.now) }
+    ensures low { result.memory < M.COUNT }
+    ensures event { result.event ≡ None }
+{
+    let memory = M::place(M::start(opening)) as u32;
+    State {
+        memory,
+        event: None,
+    }
+}
+
+/// Past the table of a segment, before which so many steps were.
+fn past(state: State, table: &OutcomeTable, steps: u64) -> State
+    requires few { length table.now.entries.items < 2 ^ 32 }
+    requires memory { state.memory < length table.now.entries.items }
+    ensures memory { result.memory ≡ (outcome_in (table_value table.now) state.memory).leaving }
+    ensures event { result.event ≡ option_or state.event
+        (option_map (later_break_of steps) (outcome_in (table_value table.now) state.memory).event) }
+{
+    let (memory, event) = follow(table, state.memory);
+    State {
+        memory,
+        event: state.event.or(later_break(event, steps)),
+    }
+}
+
+fn breaks_before(f: &WideBreak, g: &WideBreak) -> bool
+    ensures { result ≡ fault_before (break_of f.now) (break_of g.now) }
+{
+    let a = f.rule.number();
+    let b = g.rule.number();
+    a < b || (a == b && f.line.number() < g.line.number())
+}
+
+fn comes_before(a: &WideBreak, b: &WideBreak) -> bool
+    ensures { result ≡ sooner_than (break_of a.now) (break_of b.now) }
+{
+    let less = breaks_before(a, b);
+    a.instant < b.instant || (a.instant == b.instant && less)
+}
+
+/// The sooner of two breaks.
+fn least(first: Option<WideBreak>, second: Option<WideBreak>) -> Option<WideBreak>
+    ensures { option_map break_of result ≡ least_of (option_map break_of first) (option_map break_of second) }
+{
+    match first {
+        None => second,
+        Some(a) => match second {
+            None => Some(a),
+            Some(b) => {
+                if comes_before(&b, &a) {
+                    Some(b)
+                } else {
+                    Some(a)
+                }
+            }
+        },
+    }
+}
+
+/// The verdict that the first break gives, where anything is judged.
+fn verdict_of(found: Option<WideBreak>) -> WideVerdict
+    ensures { verdict_is result ≡ verdict_on (option_map break_of found) }
+{
+    match found {
+        None => WideVerdict::Conforming,
+        Some(found) if found.rule.is_unreadable() => WideVerdict::Unreadable(found),
+        Some(found) => WideVerdict::Broken(found),
+    }
+}
+
+/// What the monitors have come to.
+#[derive(Clone, Copy)]
+pub struct States {
+    pub known: State,
+    pub handshake: State,
+    pub stability: State,
+    pub grant: State,
+    pub acknowledge: State,
+}
+
+impl States {
+    /// Before any step.
+    pub fn at(opening: &Lines) -> States
+        ensures fit { FitStates result }
+        ensures found { HasStates result opening.now [] }
+    {
+        States {
+            known: begin::<Known>(opening),
+            handshake: begin::<Dtb>(opening),
+            stability: begin::<Stability>(opening),
+            grant: begin::<Grant>(opening),
+            acknowledge: begin::<Iack>(opening),
+        }
+    }
+
+    /// Past a segment, before which so many steps were.
+    pub fn past(&self, segment: &Segment, steps: u64) -> States
+        requires fit { FitStates self.now }
+        requires tables { HasTables (segment_value segment.now) }
+        ensures fit { FitStates result }
+        ensures found { (listing : Bool) (o v : Levels) (x y : List Step) → v ≡ levels_after o x → steps ≡ length x
+            → length x + length y < 2 ^ 64 → HasStates self.now o x
+            → TellsAll listing (segment_value segment.now) v y → HasStates result o (x ++ y) }
+    {
+        States {
+            known: past(self.known, &segment.known, steps),
+            handshake: past(self.handshake, &segment.handshake, steps),
+            stability: past(self.stability, &segment.stability, steps),
+            grant: past(self.grant, &segment.grant, steps),
+            acknowledge: past(self.acknowledge, &segment.acknowledge, steps),
+        }
+    }
+
+    /// Whether anything is judged of a recording past whose steps the monitors have come.
+    pub fn has_judged(&self) -> bool
+        requires { FitStates self.now }
+        ensures { (t : Trace) → FoundAll self.now t → result ≡ has_span (judged_spans t) }
+    {
+        known_over_captures();
+        Known::started(Known::nth(self.known.memory as usize))
+    }
+
+    /// Its first break.
+    pub fn first_break(&self) -> Option<WideBreak>
+        ensures { (t : Trace) → FoundAll self.now t → option_map break_of result ≡ first_break_of t }
+    {
+        known_over_captures();
+        handshake_over_captures();
+        stability_over_captures();
+        grants_over_captures();
+        acknowledge_over_captures();
+        let chains = least(self.grant.event, self.acknowledge.event);
+        let held = least(self.stability.event, chains);
+        let started = least(self.handshake.event, held);
+        least(self.known.event, started)
+    }
+
+    /// The verdict on it.
+    pub fn verdict(&self) -> WideVerdict
+        requires { FitStates self.now }
+        ensures { (t : Trace) → FoundAll self.now t → verdict_by rules_in_force t ≡ verdict_is result }
+    {
+        if self.has_judged() {
+            verdict_of(self.first_break())
+        } else {
+            WideVerdict::NeverIdle
+        }
+    }
+}

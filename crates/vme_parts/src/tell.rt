@@ -1,0 +1,87 @@
+//! What a part says of the whole recording.
+
+ghost use Rattle.std.specs.Prelude.{◌≡◌, ◌∷◌, [], All, IfOk, map};
+ghost use Rattle.vme_part_format.specs.Bounds.{FitsPart};
+ghost use Rattle.vme_part_format.specs.Tables.{part_value, segment_value};
+ghost use Rattle.vme_parts.specs.Gathering.{IsSegment};
+ghost use Rattle.vme_parts.specs.Progress.{FitStates};
+ghost use Rattle.vme_parts.specs.Telling.{JudgesAll, JudgesFiles, TellsOfWhole, told_of as told_of_stop};
+
+use crate::answers::Told;
+use crate::cover::{beyond, covered, lacks};
+use crate::judging::{Judging, Stop};
+use vme_part_format::{Part, Segment};
+
+/// Past a segment and those that follow it.
+fn judge_from(first: &Segment, rest: &[Segment]) -> Result<Judging, Stop>
+    requires first { IsSegment (segment_value first.now) }
+    requires rest { All IsSegment (map segment_value rest.now) }
+    ensures fit { IfOk result (λ j. FitStates j.states) }
+    ensures judges { JudgesAll (segment_value first.now ∷ map segment_value rest.now) result }
+{
+    let mut judging = Judging::of(first);
+    for segment in rest {
+        match judging.go_past(segment) {
+            Ok(()) => (),
+            Err(stop) => return Err(stop),
+        }
+    }
+    Ok(judging)
+}
+
+/// Past all segments, which follow one another.
+fn judge_all(segments: &[Segment]) -> Result<Judging, Stop>
+    requires segments { All IsSegment (map segment_value segments.now) }
+    requires some { segments.now ≡ [] → ⊥ }
+    ensures fit { IfOk result (λ j. FitStates j.states) }
+    ensures judges { JudgesAll (map segment_value segments.now) result }
+{
+    match segments {
+        [first, rest @ ..] => judge_from(first, rest),
+        [] => unreachable!(),
+    }
+}
+
+/// What is told where judging stops.
+fn told_of(stop: Stop) -> Told
+    ensures { result ≡ told_of_stop stop }
+{
+    match stop {
+        Stop::Torn(file) => Told::Torn(file),
+        Stop::TooManySteps => Told::TooManySteps,
+    }
+}
+
+/// Past all segments, of which none is missing.
+pub fn judged(part: &Part, files: Option<u64>) -> Result<Judging, Told>
+    requires { FitsPart (part_value part.now) }
+    ensures fit { IfOk result (λ j. FitStates j.states) }
+    ensures judges { JudgesFiles (part_value part.now) files result }
+{
+    let segments = part.segments.as_slice();
+    if let Some(file) = beyond(segments, files) {
+        return Err(Told::Beyond(file));
+    }
+    let end = match covered(segments) {
+        Ok(end) => end,
+        Err(file) => return Err(Told::Missing(file)),
+    };
+    if lacks(end, files) {
+        return Err(Told::Missing(end));
+    }
+    match judge_all(segments) {
+        Ok(judging) => Ok(judging),
+        Err(stop) => Err(told_of(stop)),
+    }
+}
+
+/// What a part says of a recording of so many files, or of those up to the last that is covered.
+pub fn tell_verdict(part: &Part, files: Option<u64>) -> Told
+    requires { FitsPart (part_value part.now) }
+    ensures { TellsOfWhole (part_value part.now) files result }
+{
+    match judged(part, files) {
+        Ok(judging) => Told::Verdict(judging.states.verdict()),
+        Err(told) => told,
+    }
+}
