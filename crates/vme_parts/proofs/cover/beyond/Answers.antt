@@ -12,7 +12,8 @@ last_file-file-requires c =
 pub returns-then-count-file-clause-beyond : goal.returns-then-count-file-clause-beyond
 returns-then-count-file-clause-beyond c =
     is_beyond (map segment_value c.args.segments.now) (segment_value c.in-Some-last.last.now) c.args.files
-    c.in-Some.count c.last_file-file.result (last_there c.args.segments.now c.in-Some-last.last.now (sym c.in-Some-last.ensures.value))
+    c.in-Some.count c.last_file-file.result
+    (last_there c.args.segments.now c.in-Some-last.last.now (sym c.in-Some-last.ensures.value))
     c.last_file-file.ensures c.in-Some.is c.if-count-file.true
 
 pub returns-in_default-last-clause-within : goal.returns-in_default-last-clause-within
