@@ -42,6 +42,7 @@ Exit status:
   6  not covered
 """
 LONGEST = 268_435_456
+LONGEST_LISTING = 137_438_953_472
 LIMIT = (1 << 32) - 1
 LATEST = (1 << 64) - 1
 
@@ -1399,7 +1400,7 @@ def whole(file, what):
         if not part:
             return b"".join(parts)
         length += len(part)
-        if length > LONGEST:
+        if length > (LONGEST_LISTING if what == "listing" else LONGEST):
             raise Fault(f"{what} too long")
         parts.append(part)
 
