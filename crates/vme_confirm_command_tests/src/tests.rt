@@ -1,5 +1,7 @@
 //! The answer to whole texts.
 
+ghost use Rattle.std.specs.Prelude.{None};
+
 use std::alloc::{AllocError, Global};
 use std::io::{self, Error, Read};
 use vme_confirm_command::confirm::confirm_with;
