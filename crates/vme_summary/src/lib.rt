@@ -77,6 +77,7 @@ pub use ghost_steps::GhostSteps;
 pub use joining::{JoinFault, append, join, joined_blocks_are_sound, spans_stand_for_blocks};
 pub use judged::{Judged, judge_block};
 pub use judged_chunk::JudgedChunk;
+pub use rows::listing_by;
 pub use running_verdict::RunningVerdict;
 pub use span::Span;
 pub use stream_judge::{Judge, Lister, NoVerdict};
