@@ -1,6 +1,9 @@
 //! The scopes and the variables of a dump, without whole paths: their memory is in proportion to the text.
 
-ghost use Rattle.std.specs.Prelude.{◌≡◌, [], IfOk};
+ghost use Rattle.std.specs.Prelude.{◌≡◌, [], ◌++◌, IfOk, OnOk, length};
+ghost use Rattle.vcd_read.specs.Scopes.{with_dot};
+ghost use Rattle.vme_declarations.specs.Names.{name_at, name_of, number_of_bit, parent_of, part_of, path_of};
+ghost use Rattle.vme_declarations.specs.Names.{places_around, scope_name, scopes, variables};
 
 use crate::hash::{EMPTY_HASH, hash_of, hash_of_number};
 use std::alloc::{AllocError, Global};
@@ -75,7 +78,9 @@ fn hash_in(parent: usize, name: &[u8]) -> u64 {
 impl DeclaredVariable {
     /// The number that the variable gives its bit at this place from the left: by its indices, or where it has none, as
     /// if the rightmost bit were 0.
-    pub fn number_of_bit(&self, place: u32) -> u32 {
+    pub fn number_of_bit(&self, place: u32) -> u32
+        ensures { result ≡ number_of_bit self.now place }
+    {
         match self.index {
             Some((left, right)) if left >= right => left.saturating_sub(place),
             Some((left, _)) => left.saturating_add(place),
@@ -111,46 +116,80 @@ impl DeclaredNames {
 
 impl DeclaredNames {
     /// The variables, in the order of their sections.
-    pub fn variables(&self) -> &[DeclaredVariable] {
+    pub fn variables(&self) -> &[DeclaredVariable]
+        ensures { result.now ≡ variables self.now }
+    {
         &self.variables
     }
 
     /// The scopes; one stands behind the one that it stands in.
-    pub fn scopes(&self) -> &[Scope] {
+    pub fn scopes(&self) -> &[Scope]
+        ensures { result.now ≡ scopes self.now }
+    {
         &self.scopes
     }
 
     /// The name of a variable, without its index.
-    pub fn name_of(&self, variable: &DeclaredVariable) -> &[u8] {
+    pub fn name_of(&self, variable: &DeclaredVariable) -> &[u8]
+        ensures { result.now ≡ name_of self.now variable.now }
+    {
         part_of(&self.names, variable.start, variable.end)
     }
 
     /// The name of a scope.
-    pub fn scope_name(&self, scope: &Scope) -> &[u8] {
+    pub fn scope_name(&self, scope: &Scope) -> &[u8]
+        ensures { result.now ≡ scope_name self.now scope.now }
+    {
         part_of(&self.names, scope.start, scope.end)
     }
 
-    /// The names of a scope and of those around it, joined by dots.
-    pub fn path_of(&self, alloc: Global, place: usize) -> Result<Vec<u8>, AllocError> {
+    /// The scope that the scope at a place stands in, or `NOWHERE`.
+    fn parent_of(&self, place: usize) -> usize
+        ensures { result ≡ parent_of self.now place }
+    {
+        match self.scopes.get(place) {
+            Some(scope) => scope.parent,
+            None => NOWHERE,
+        }
+    }
+
+    /// The name of the scope at a place, if there is one.
+    fn name_at(&self, place: usize) -> &[u8]
+        ensures { result.now ≡ name_at self.now place }
+    {
+        match self.scopes.get(place) {
+            Some(scope) => self.scope_name(scope),
+            None => b"",
+        }
+    }
+
+    /// The places of a scope and of those around it but the outermost, from this one outward.
+    fn places_around(&self, alloc: Global, place: usize) -> Result<Vec<usize>, AllocError>
+        ensures { IfOk result (λ around. around.items ≡ places_around self.now (length (scopes self.now)) place) }
+    {
         let mut around: Vec<usize> = Vec::new(alloc);
         let mut at = place;
-        for _ in 0..self.scopes.len() {
-            match self.scopes.get(at) {
-                Some(scope) if scope.parent != NOWHERE => {
-                    around.push(at)?;
-                    at = scope.parent;
-                }
-                _ => break,
+        for passed in 0..self.scopes().len() {
+            let _ = passed;
+            let parent = self.parent_of(at);
+            if parent == NOWHERE {
+                return Ok(around);
             }
+            around.push(at)?;
+            at = parent;
         }
+        Ok(around)
+    }
+
+    /// The names of a scope and of those around it, joined by dots.
+    pub fn path_of(&self, alloc: Global, place: usize) -> Result<Vec<u8>, AllocError>
+        ensures { IfOk result (λ path. path.items ≡ path_of self.now place) }
+    {
+        let mut around = self.places_around(alloc, place)?;
+        around.reverse();
         let mut path = Vec::new(alloc);
-        for at in around.iter().rev() {
-            if let Some(scope) = self.scopes.get(*at) {
-                if !path.is_empty() {
-                    path.push(b'.')?;
-                }
-                path.extend_from_slice(self.scope_name(scope))?;
-            }
+        for at in &around {
+            push_name(&mut path, self.name_at(*at))?;
         }
         Ok(path)
     }
@@ -281,8 +320,24 @@ impl DeclaredNames {
 }
 
 /// A part of a text, or nothing where it has none there.
-fn part_of(text: &[u8], start: usize, end: usize) -> &[u8] {
-    text.get(start..end).unwrap_or(b"")
+fn part_of(text: &[u8], start: usize, end: usize) -> &[u8]
+    ensures { result.now ≡ part_of text.now start end }
+{
+    if start <= end && end <= text.len() {
+        &text[start..end]
+    } else {
+        b""
+    }
+}
+
+/// Puts a name behind a path: a dot too, where the path has a name.
+fn push_name(path: &mut Vec<u8>, name: &[u8]) -> Result<(), AllocError>
+    ensures { OnOk result (path.new.items ≡ with_dot path.old.items ++ name.now) }
+{
+    if !path.is_empty() {
+        path.push(b'.')?;
+    }
+    path.extend_from_slice(name)
 }
 
 impl NamesReader {

@@ -1,5 +1,9 @@
 //! Which bits of variables the lines of a backplane were found to be.
 
+ghost use Rattle.std.specs.Prelude.{◌≡◌, ◌≤◌, ℕ, [], None, false};
+ghost use Rattle.vme_declarations.specs.Found.{bit_of_line, groups, has_net, moves, slots, with_bit};
+ghost use Rattle.vme_declarations.specs.Found.{with_group, with_moving};
+
 use crate::groups::{Groups, group_of};
 use std::alloc::Global;
 use vme_trace::{LINE_COUNT, Line, MOST_SLOTS};
@@ -32,7 +36,14 @@ pub struct FoundLines {
 
 impl FoundLines {
     /// Nothing is found.
-    pub fn none(alloc: Global) -> FoundLines {
+    pub fn none(alloc: Global) -> FoundLines
+        ensures bits { (line : ℕ) → bit_of_line result line ≡ None }
+        ensures moving { (line : ℕ) → moves result line ≡ false }
+        ensures scope { result.scope.items ≡ [] }
+        ensures is_asked { result.is_asked ≡ false }
+        ensures others { result.others.items ≡ [] }
+        ensures doubled { result.doubled ≡ 0 }
+    {
         FoundLines {
             bits_of_lines: [None; LINE_COUNT as usize],
             moving: [false; LINE_COUNT as usize],
@@ -44,7 +55,9 @@ impl FoundLines {
     }
 
     /// The bit that was found for a line.
-    pub fn bit_of_line(&self, line: Line) -> Option<VariableBit> {
+    pub fn bit_of_line(&self, line: Line) -> Option<VariableBit>
+        ensures { result ≡ bit_of_line self.now line }
+    {
         self.bits_of_lines
             .get(usize::from(line.number()))
             .copied()
@@ -52,52 +65,83 @@ impl FoundLines {
     }
 
     /// Whether the bit of a line was found and moves.
-    pub fn moves(&self, line: Line) -> bool {
+    pub fn moves(&self, line: Line) -> bool
+        ensures { result ≡ moves self.now line }
+    {
         self.moving
             .get(usize::from(line.number()))
             .copied()
             .unwrap_or(false)
     }
 
+    /// A set, and the group of a line if that was found.
+    fn with_group(&self, line: Line, groups: Groups) -> Groups
+        ensures { result ≡ with_group self.now line groups }
+    {
+        if self.bit_of_line(line).is_some() {
+            groups | group_of(line)
+        } else {
+            groups
+        }
+    }
+
     /// The groups of which a line was found.
-    pub fn groups(&self) -> Groups {
+    #[tactic(auto, using(crate::proofs::FoundLemmas::groups_more), unfolding(crate::specs::Found::groups_below))]
+    pub fn groups(&self) -> Groups
+        ensures { result ≡ groups self.now }
+    {
         let mut groups: Groups = 0;
         for number in 0..LINE_COUNT {
-            if let Some(line) = Line::from_number(number) {
-                if self.bit_of_line(line).is_some() {
-                    groups |= group_of(line);
-                }
-            }
+            let Some(line) = Line::from_number(number) else {
+                return groups;
+            };
+            groups = self.with_group(line, groups);
         }
         groups
     }
 
     /// Lets go of what was found for a line.
-    pub fn forget(&mut self, line: Line) {
+    pub fn forget(&mut self, line: Line)
+        ensures { self.new ≡ with_bit self.old line None }
+    {
         self.set(line, None);
     }
 
     /// Binds a line to a bit.
-    pub fn set(&mut self, line: Line, bit: Option<VariableBit>) {
-        if let Some(bit_of_line) = self.bits_of_lines.get_mut(usize::from(line.number())) {
-            *bit_of_line = bit;
-        }
+    pub fn set(&mut self, line: Line, bit: Option<VariableBit>)
+        ensures { self.new ≡ with_bit self.old line bit }
+    {
+        self.bits_of_lines[usize::from(line.number())] = bit;
     }
 
     /// Notes whether the bit of a line moves.
-    pub fn note_moving(&mut self, line: Line, moves: bool) {
-        if let Some(moving) = self.moving.get_mut(usize::from(line.number())) {
-            *moving = moves;
-        }
+    pub fn note_moving(&mut self, line: Line, moves: bool)
+        ensures { self.new ≡ with_moving self.old line moves }
+    {
+        self.moving[usize::from(line.number())] = moves;
+    }
+
+    /// Whether the net at a place of a daisy chain was found.
+    fn has_net(&self, place: u8) -> bool
+        requires first { 1 ≤ place }
+        requires last { place ≤ 21 }
+        ensures { result ≡ has_net self.now place }
+    {
+        self.bit_of_line(Line::grant(0, place)).is_some()
+            || self.bit_of_line(Line::grant(1, place)).is_some()
+            || self.bit_of_line(Line::grant(2, place)).is_some()
+            || self.bit_of_line(Line::grant(3, place)).is_some()
+            || self.bit_of_line(Line::iack(place)).is_some()
     }
 
     /// How many slots the daisy chains show: the greatest place of a net of one, 1 to 21.
-    pub fn slots(&self) -> u8 {
+    pub fn slots(&self) -> u8
+        ensures { result ≡ slots self.now }
+    {
         let mut slots = 1;
-        for place in 1..MOST_SLOTS + 1 {
-            let grants = (0..4).any(|level| self.bit_of_line(Line::grant(level, place)).is_some());
-            if grants || self.bit_of_line(Line::iack(place)).is_some() {
-                slots = place;
+        for before in 0..MOST_SLOTS {
+            if self.has_net(before + 1) {
+                slots = before + 1;
             }
         }
         slots

@@ -1,6 +1,7 @@
 //! The groups of lines that a binding names, as bits of a set.
 
-ghost use Rattle.std.specs.Prelude.{◌<◌};
+ghost use Rattle.std.specs.Prelude.{◌≡◌, ◌<◌, count_ones};
+ghost use Rattle.vme_declarations.specs.Groups.{group_of, group_place, has_cycle, has_group, has_handshake};
 
 use vme_trace::Line;
 
@@ -10,15 +11,10 @@ pub type Groups = u32;
 /// The groups that tell a bus from a memory: all but the data lines.
 pub const TELLING: Groups = 0x7_FFFF ^ (1 << 17);
 
-const AS: Groups = 1;
-
-const STROBES: Groups = 1 << 1 | 1 << 2;
-
-const ANSWERS: Groups = 1 << 3 | 1 << 4;
-
 /// The place of the group of a line.
 fn group_place(line: Line) -> u32
-    ensures { result < 32 }
+    ensures place { result ≡ group_place line }
+    ensures within { result < 32 }
 {
     let number = u32::from(line.number());
     match number {
@@ -40,21 +36,36 @@ fn group_place(line: Line) -> u32
 }
 
 /// The group of a line.
-pub fn group_of(line: Line) -> Groups {
+pub fn group_of(line: Line) -> Groups
+    ensures { result ≡ group_of line }
+{
     1 << group_place(line)
 }
 
 /// How many groups a set has.
-pub fn count(groups: Groups) -> u32 {
+pub fn count(groups: Groups) -> u32
+    ensures { result ≡ count_ones groups }
+{
     groups.count_ones()
 }
 
-/// Whether AS, a strobe and an answer are there.
-pub fn has_handshake(groups: Groups) -> bool {
-    groups & AS != 0 && groups & STROBES != 0 && groups & ANSWERS != 0
+/// Whether a set has the group of a line.
+fn has_group(groups: Groups, line: Line) -> bool
+    ensures { result ≡ has_group groups line }
+{
+    groups >> group_place(line) & 1 == 1
 }
 
 /// Whether AS and a strobe are there.
-pub fn has_cycle(groups: Groups) -> bool {
-    groups & AS != 0 && groups & STROBES != 0
+pub fn has_cycle(groups: Groups) -> bool
+    ensures { result ≡ has_cycle groups }
+{
+    has_group(groups, Line::AS) && (has_group(groups, Line::DS0) || has_group(groups, Line::DS1))
+}
+
+/// Whether AS, a strobe and an answer are there.
+pub fn has_handshake(groups: Groups) -> bool
+    ensures { result ≡ has_handshake groups }
+{
+    has_cycle(groups) && (has_group(groups, Line::DTACK) || has_group(groups, Line::BERR))
 }

@@ -3,6 +3,7 @@
 ghost use Rattle.std.specs.Prelude.{◌≡◌, List, IfErr, Ok, OnOk};
 ghost use Rattle.vcd_read.specs.Meaning.{ReadFails, instants_from};
 ghost use Rattle.vcd_read.specs.declared.dump.Instant.{Instant};
+ghost use Rattle.vme_declarations.specs.Levels.{moves};
 
 use std::alloc::{AllocError, Global};
 use vcd_read::{ChangeVisitor, FaultKind, Head, VcdFault};
@@ -32,9 +33,13 @@ impl LevelsSeen {
     }
 
     /// Whether a bit of a net, by its place from the right, was seen Low and High.
-    pub fn moves(&self, net: u32, place: u32) -> bool {
+    pub fn moves(&self, net: u32, place: u32) -> bool
+        ensures { result ≡ moves self.now net place }
+    {
         match self.nets.get(net as usize) {
-            Some(levels) if place < MOST_BITS => (levels.low & levels.high) >> place & 1 == 1,
+            Some(levels) if place < MOST_BITS => {
+                levels.low >> place & 1 == 1 && levels.high >> place & 1 == 1
+            }
             _ => false,
         }
     }

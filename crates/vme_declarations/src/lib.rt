@@ -18,6 +18,12 @@
 //! - [`has_scope`] says yes only where the definitions have the scope (`has`), and no only of a dump
 //!   without a fault that lacks it (`lacks`).
 //! - [`front_of`] is the path and a dot.
+//! - What is asked of [`DeclaredNames`], [`DeclaredVariable`], [`LevelsSeen`] and [`FoundLines`] is
+//!   said by definitions over what these keep, in `specs/Names`, `specs/Levels` and `specs/Found`: a
+//!   name, a path, the number of a bit, whether one moves, the bit of a line, the groups and the
+//!   slots that were found. [`scopes_begun`] and [`scopes_of`] are those of `specs/Paths`.
+//! - [`group_of`], [`count`], [`has_cycle`] and [`has_handshake`] by `specs/Groups`; [`hash_of`] by
+//!   `specs/Hashes`.
 //!
 //! # What isn't proved
 //!

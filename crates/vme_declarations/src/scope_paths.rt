@@ -2,8 +2,9 @@
 
 ghost use Rattle.std.specs.Prelude.{◌≡◌, IfOk};
 ghost use Rattle.vcd_read.specs.Scopes.{with_dot};
+ghost use Rattle.vme_declarations.specs.Paths.{begun_by, begun_of, scopes_begun, scopes_of};
 
-use crate::declared::{DeclaredNames, NOWHERE};
+use crate::declared::{DeclaredNames, NOWHERE, Scope};
 use std::alloc::{AllocError, Global};
 
 /// What stands before the names of the variables of a scope in their paths: its path, and a dot behind it.
@@ -18,14 +19,29 @@ pub fn front_of(alloc: Global, path: &[u8]) -> Result<Vec<u8>, AllocError>
     Ok(front)
 }
 
-/// How many bytes of a path belong to the scopes up to one of this name, where those before have so many.
-fn begun_by(path: &[u8], before: usize, name: &[u8]) -> usize {
+/// How many bytes of a path lead through a name that stands behind so many of them, with a dot behind it, or `NOWHERE`.
+fn begun_by(path: &[u8], before: usize, name: &[u8]) -> usize
+    ensures { result ≡ begun_by path.now before name.now }
+{
     let Some(rest) = path.get(before..) else {
         return NOWHERE;
     };
     match rest.get(name.len()) {
-        Some(b'.') if rest.starts_with(name) => before.saturating_add(name.len()).saturating_add(1),
+        Some(b'.') if rest.starts_with(name) => before + name.len() + 1,
         _ => NOWHERE,
+    }
+}
+
+/// The same for a scope, by what the scopes before it lead through.
+fn begun_of(declared: &DeclaredNames, path: &[u8], begun: &[usize], scope: &Scope) -> usize
+    ensures { result ≡ begun_of declared.now path.now begun.now scope.now }
+{
+    if scope.parent == NOWHERE {
+        return 0;
+    }
+    match begun.get(scope.parent) {
+        Some(before) => begun_by(path, *before, declared.scope_name(scope)),
+        None => NOWHERE,
     }
 }
 
@@ -34,18 +50,13 @@ pub fn scopes_begun(
     alloc: Global,
     declared: &DeclaredNames,
     path: &[u8],
-) -> Result<Vec<usize>, AllocError> {
+) -> Result<Vec<usize>, AllocError>
+    ensures { IfOk result (λ begun. begun.items ≡ scopes_begun declared.now path.now) }
+{
     let mut begun: Vec<usize> = Vec::new(alloc);
-    for scope in declared.scopes() {
-        let count = if scope.parent == NOWHERE {
-            0
-        } else {
-            match begun.get(scope.parent).copied() {
-                Some(before) => begun_by(path, before, declared.scope_name(scope)),
-                None => NOWHERE,
-            }
-        };
-        begun.push(count)?;
+    let scopes = declared.scopes();
+    for scope in scopes {
+        begun.push(begun_of(declared, path, &begun, scope))?;
     }
     Ok(begun)
 }
@@ -55,11 +66,11 @@ pub fn scopes_of(
     alloc: Global,
     declared: &DeclaredNames,
     path: &[u8],
-) -> Result<Vec<bool>, AllocError> {
+) -> Result<Vec<bool>, AllocError>
+    ensures { IfOk result (λ named. named.items ≡ scopes_of declared.now path.now) }
+{
     let dotted = front_of(alloc, path)?;
-    let mut named = Vec::new(alloc);
-    for begun in scopes_begun(alloc, declared, &dotted)?.iter() {
-        named.push(*begun == dotted.len())?;
-    }
-    Ok(named)
+    let begun = scopes_begun(alloc, declared, &dotted)?;
+    let length = dotted.len();
+    begun.iter().map(|count| *count == length).collect(alloc)
 }

@@ -1,0 +1,31 @@
+-- What was found, line by line and net by net.
+use Rattle.std.proofs.Common.{◌≡◌, ℕ, zero, suc, ◌+◌, Bool, get_or, refl, ap, sym, ◌∙◌, add-one}
+use Rattle.std.specs.Prelude.{if◌then◌else◌, replicate}
+use Rattle.vme_declarations.specs.Found.{groups_below, has_net, slots_to, with_group}
+use Rattle.vme_declarations.specs.declared.found_lines.FoundLines.{FoundLines}
+
+-- one line more
+pub groups_more : (found : FoundLines) (line : ℕ) → groups_below found (line + 1)
+    ≡ with_group found line (groups_below found line)
+unfolding groups_below
+groups_more found line = ap (groups_below found) (add-one line)
+
+-- one place more
+slots_more : (found : FoundLines) (before : ℕ) → slots_to found (before + 1)
+    ≡ (if has_net found (before + 1) then before + 1 else slots_to found before)
+unfolding slots_to
+slots_more found before = ap (slots_to found) (add-one before)
+
+pub slots-step : (found : FoundLines) (before slots more : ℕ) (has : Bool) → slots ≡ slots_to found before → has
+    ≡ has_net found (before + 1) → more ≡ (if has then before + 1 else slots) → more ≡ slots_to found (before + 1)
+slots-step found before slots more has so_far is_net is_more =
+    is_more
+    ∙ ap (λ (b : Bool). if b then before + 1 else slots) is_net
+    ∙ ap (λ (n : ℕ). if has_net found (before + 1) then before + 1 else n) so_far
+    ∙ sym (slots_more found before)
+
+-- where each is the same, so is what stands for one that isn't there
+pub same-at : {X : Type 0} (n : ℕ) (x : X) (i : ℕ) → get_or (replicate n x) i x ≡ x
+same-at zero x i = refl
+same-at (suc n) x zero = refl
+same-at (suc n) x (suc i) = same-at n x i
