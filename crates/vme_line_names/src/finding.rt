@@ -1,5 +1,7 @@
 //! Which variables the lines of a backplane are, by their names.
 
+ghost use Rattle.std.specs.Prelude.{◌≡◌, ◌≤◌, IfOk, is_some, length};
+
 use crate::affix::Direction;
 use crate::names::{NameReading, Named, push_readings};
 use crate::vote::{ScopeVote, VoteCounter};
@@ -43,7 +45,10 @@ fn take(
     declared: &DeclaredVariable,
     candidate: &Candidate,
     levels: &LevelsSeen,
-) {
+)
+    ensures is_asked { found.new.is_asked ≡ found.old.is_asked }
+    ensures others { found.new.others ≡ found.old.others }
+{
     let size = declared.size.min(MOST_BITS);
     let mut groups: Groups = 0;
     let mut is_taken = false;
@@ -208,12 +213,15 @@ pub fn find_lines(
     declared: &DeclaredNames,
     levels: &LevelsSeen,
     path: Option<&[u8]>,
-) -> Result<FoundLines, AllocError> {
+) -> Result<FoundLines, AllocError>
+    ensures is_asked { IfOk result (λ found. found.is_asked ≡ is_some path.entry) }
+    ensures others { IfOk result (λ found. length found.others.items ≤ 10) }
+{
     let mut found = FoundLines::none(alloc);
     if let Some(path) = path {
         found.scope.extend_from_slice(path)?;
-        found.is_asked = true;
     }
+    found.is_asked = path.is_some();
     let (votes, place) = all_votes(alloc, declared, levels, path)?;
     let Some(best) = votes.get(place).copied() else {
         return Ok(found);

@@ -9,7 +9,8 @@
 //!
 //! # What is proved
 //!
-//! That each call returns, on any names and levels, unless memory runs out.
+//! That each call returns, on any names and levels, unless memory runs out. What is found says whether
+//! a scope was asked (`is_asked`), and names at most 10 other scopes (`others`).
 //!
 //! # What isn't proved
 //!
