@@ -11,7 +11,8 @@
 //! - [`variables_text`] comes only of a dump without a fault (`ok`), and else names the first
 //!   (`err`). It has visible characters, spaces and line feeds alone (`visible`), whatever the names
 //!   are.
-//! - [`time_unit`] is at least 1.
+//! - [`time_scale`] is the tokens of the first `$timescale` section, joined; [`time_unit`] is at least
+//!   1.
 //!
 //! # What isn't proved
 //!

@@ -1,40 +1,86 @@
 //! The time scale of a dump.
 
-ghost use Rattle.std.specs.Prelude.{◌≤◌, IfOk};
+ghost use Rattle.std.specs.Prelude.{◌≡◌, ◌≤◌, ◌++◌, IfOk, OnOk};
+ghost use Rattle.vcd_read.specs.Tokens.{is_space};
+ghost use Rattle.vme_variables.specs.Timescale.{section_behind, shown_token, time_scale};
 
 use std::alloc::{AllocError, Global};
 use vme_text::Text;
 
 /// In which section of the definitions a token stands.
-#[derive(Clone, Copy, PartialEq, Eq)]
+#[derive(Clone, Copy)]
 enum TimescaleSection {
-    None,
+    /// In none.
+    Outside,
     Timescale,
     Other,
+    /// The first time scale has ended, or the definitions have.
+    Behind,
 }
 
 /// Whether a byte separates tokens.
-fn is_blank(byte: u8) -> bool {
-    matches!(byte, b' ' | b'\t' | b'\n' | b'\r')
+fn is_blank(byte: u8) -> bool
+    ensures { result ≡ is_space byte }
+{
+    byte == b' ' || byte == b'\t' || byte == b'\n' || byte == b'\r'
+}
+
+/// Appends a token if it is one of the time scale, and answers the section behind it.
+fn push_token(
+    text: &mut Text,
+    section: TimescaleSection,
+    token: &[u8],
+) -> Result<TimescaleSection, AllocError>
+    ensures text { OnOk result (text.new ≡ text.old ++ shown_token section token.now) }
+    ensures section { IfOk result (λ behind. behind ≡ section_behind section token.now) }
+{
+    if token.is_empty() {
+        return Ok(section);
+    }
+    match section {
+        TimescaleSection::Outside => {
+            if token == b"$enddefinitions".as_slice() {
+                return Ok(TimescaleSection::Behind);
+            }
+            if token == b"$timescale".as_slice() {
+                return Ok(TimescaleSection::Timescale);
+            }
+            Ok(TimescaleSection::Other)
+        }
+        TimescaleSection::Timescale => {
+            if token == b"$end".as_slice() {
+                return Ok(TimescaleSection::Behind);
+            }
+            text.push(token)?;
+            Ok(TimescaleSection::Timescale)
+        }
+        TimescaleSection::Other => {
+            if token == b"$end".as_slice() {
+                return Ok(TimescaleSection::Outside);
+            }
+            Ok(TimescaleSection::Other)
+        }
+        TimescaleSection::Behind => Ok(TimescaleSection::Behind),
+    }
 }
 
 /// Appends the tokens of the first `$timescale` section of a dump, joined without space; nothing where it has none.
-pub(crate) fn push_timescale(text: &mut Text, dump: &[u8]) -> Result<(), AllocError> {
-    let mut section = TimescaleSection::None;
-    for token in dump.split(|byte| is_blank(*byte)) {
-        match section {
-            _ if token.is_empty() => {}
-            TimescaleSection::None if token == b"$enddefinitions".as_slice() => return Ok(()),
-            TimescaleSection::None if token == b"$timescale".as_slice() => section =
-                TimescaleSection::Timescale,
-            TimescaleSection::None => section = TimescaleSection::Other,
-            TimescaleSection::Timescale if token == b"$end".as_slice() => return Ok(()),
-            TimescaleSection::Timescale => text.push(token)?,
-            TimescaleSection::Other if token == b"$end".as_slice() => section =
-                TimescaleSection::None,
-            TimescaleSection::Other => {}
+pub(crate) fn push_timescale(text: &mut Text, dump: &[u8]) -> Result<(), AllocError>
+    ensures { OnOk result (text.new ≡ text.old ++ time_scale dump.now) }
+{
+    let mut section = TimescaleSection::Outside;
+    let mut start = 0;
+    for (at, byte) in dump.iter().enumerate() {
+        if !is_blank(*byte) {
+            continue;
         }
+        section = push_token(text, section, &dump[start..at])?;
+        if let TimescaleSection::Behind = section {
+            return Ok(());
+        }
+        start = at + 1;
     }
+    let _ = push_token(text, section, &dump[start..dump.len()])?;
     Ok(())
 }
 
@@ -55,7 +101,9 @@ fn leading_number(text: &[u8]) -> u64 {
 }
 
 /// The time scale of a dump, as `10ns`; nothing where it has none.
-pub fn time_scale(alloc: Global, dump: &[u8]) -> Result<Text, AllocError> {
+pub fn time_scale(alloc: Global, dump: &[u8]) -> Result<Text, AllocError>
+    ensures { IfOk result (λ scale. scale ≡ time_scale dump.now) }
+{
     let mut scale = Text::new(alloc);
     push_timescale(&mut scale, dump)?;
     Ok(scale)
