@@ -3,47 +3,24 @@
 //!
 //! `vme_pods [--block N] [--workers N] [--seed S] BINDING DUMP` writes the line that
 //! `vmecheck check` writes, with its status. It is there for those who embed the library, and shows
-//! that `run` of vme_floor judges real recordings.
-//!
-//! # Parts
-//!
-//! - `check`, `judge`: `check_by_pods`, which is what the program does; the verdict on a recording
-//!   by workers.
-//! - `deliveries`: the blocks of the recording, by a seed in another order and some of them twice.
-//! - `unjudged`: why a recording isn't judged by workers.
-//! - `words`: the arguments of the command line.
-//! - `tests`: plans that change nothing, seeds, two pods on threads of their own, refusals,
-//!   arguments.
+//! that `run` of vme_floor judges real recordings. It reads its arguments and opens two files, and
+//! no more: vme_pod_check does the rest.
 //!
 //! # What is proved
 //!
-//! `check_by_pods`: what it writes and its status are exactly those of a check, whatever the order,
-//! the repetition and the number of workers (`exact`), but for lack of memory and a thread that
-//! can't be started (never with one worker), which have status 4. The deliveries are of the
-//! recording's blocks, and all of them (`delivered`).
+//! What is written and the status, of vme_pod_check (`check_by_pods`). Here: a file that can't be
+//! opened is told as the input that it is (`open`), with the status of that refusal (`refuse`).
 //!
 //! # What isn't proved
 //!
-//! `main` with its files, and the arguments; that a seed gives another order, which is tested.
-//!
-//! # Limits
-//!
-//! Blocks of 1 to 65,536 steps, and 1 to 64 workers. Start reading at `check`.
+//! That `main` passes on the arguments, the files by their names and the standard streams: `./test`
+//! runs the program.
 #![tactic(auto)]
 
 ghost use Rattle.std.specs.Prelude.{◌≡◌, ◌≤◌, IfErr, IfOk, IfSome};
 ghost use Rattle.vme_answer.specs.Texts.{refusal_status};
 ghost use Rattle.vme_answer.specs.declared.refusal.Refusal.TheVariants.{CannotOpen};
 
-mod check;
-mod deliveries;
-mod judge;
-#[cfg(test)]
-mod tests;
-mod unjudged;
-mod words;
-
-use check::check_by_pods;
 use clap::error::ErrorKind;
 use std::fs::{self, File};
 use std::process::ExitCode;
@@ -51,8 +28,8 @@ use std::sync::Wait;
 use std::thread::Threads;
 use std::{env, io};
 use vme_answer::{Input, Refusal, refusal_line};
+use vme_pod_check::{PodsOrder, check_by_pods, no_text, order_of};
 use vme_stream::{Io, complain};
-use words::{PodsOrder, no_text, order_of};
 
 fn main(rt: HostRuntime) -> ExitCode {
     ExitCode::from(work(&rt, &rt))

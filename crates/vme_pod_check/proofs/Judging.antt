@@ -1,0 +1,103 @@
+-- What workers find, where something else is told.
+use Rattle.std.proofs.Common.{◌≡◌, ◌≤◌, ◌<◌, ◌↔◌, ℕ, suc, List, Bool, true, false, Result, Ok, Err, refl, sym, subst}
+use Rattle.std.proofs.Common.{arith}
+use Rattle.std.specs.Prelude.{nat_lt, if◌then◌else◌, Option, Some}
+use Rattle.std.proofs.lemmas.Bool.Decides.{nat_tests}
+use Rattle.vme_answer.specs.Answers.{answer_by, answer_of, judgement_of, verdict_in_blocks}
+use Rattle.vme_answer.specs.Ends.{Tells}
+use Rattle.vme_answer.specs.declared.refusal.Refusal.{Refusal}
+use Rattle.vme_answer.specs.declared.refusal.Refusal.TheVariants as refused
+use Rattle.vme_answer.proofs.EndLemmas.{Does-exact, Does-unwritten, given_is, refusal_status-small}
+use Rattle.vme_answer.proofs.EndLemmas.{verdict_status-small}
+use Rattle.vme_floor.specs.declared.report.Report.{Report}
+use Rattle.vme_floor.specs.declared.report.RunFault.{RunFault}
+use Rattle.vme_pod_check.specs.Judgements.{ChecksByPods, Finds, IsPassing, NeedsThreads, pods_answer_by}
+use Rattle.vme_pod_check.specs.declared.unjudged.Unjudged.{Unjudged}
+use Rattle.vme_pod_check.specs.declared.unjudged.Unjudged.TheVariants.{Refused, NoWorker, Stray}
+use Rattle.vme_stream.specs.Inputs.{TellsWhole}
+use Rattle.vme_trace.specs.Streams.{Reading, Writing}
+use Rattle.vme_trace.specs.Blocks.{block_count}
+use Rattle.vme_trace.specs.Trace.{Trace}
+use Rattle.vme_trace.specs.Verdict.{verdict_by, rules_in_force}
+use Rattle.vme_trace.specs.declared.verdict.Verdict.{Verdict}
+
+-- the verdict of a report is told
+pub same_verdict : (v w : Verdict) → w ≡ v → Finds (Ok w) (Ok v)
+same_verdict v w is = λ i. Ok (sym is i)
+
+pub same_fault : (outcome : Result Report RunFault) (f g : RunFault) → outcome ≡ Err f → f ≡ g → outcome ≡ Err g
+same_fault outcome f g is same = subst (λ (x : RunFault). outcome ≡ Err x) same is
+
+-- what another run may give is no answer
+pub passed : (unjudged : Unjudged) (there : Result Verdict Refusal) → IsPassing unjudged → Finds (Err unjudged) there
+passed (Refused refused.Memory) there is = tt
+passed (Refused refusal) there is = absurd is
+passed NoWorker there is = tt
+passed Stray there is = absurd is
+
+judged_by : (test : Bool) (v : Verdict) → test ≡ false → (if test then Err refused.TooManyBlocks else Ok v) ≡ Ok v
+judged_by true v e = cc
+judged_by false v e = refl
+
+refused_by : (test : Bool) (v : Verdict) → test ≡ true → (if test then Err refused.TooManyBlocks else Ok v)
+    ≡ Err refused.TooManyBlocks
+refused_by true v e = refl
+refused_by false v e = cc
+
+lt_false : (m n : ℕ) → n ≤ m → nat_lt m n ≡ false
+lt_false m n h = grind (arith, nat_tests)
+
+lt_true : (m n : ℕ) → m < n → nat_lt m n ≡ true
+lt_true m n h = grind (arith, nat_tests)
+
+-- a recording of few blocks has its verdict told, and one of many the refusal
+few_judged : (block : ℕ) (t : Trace) → block_count block t ≤ 4096 → verdict_in_blocks block t
+    ≡ Ok (verdict_by rules_in_force t)
+few_judged block t few = judged_by (nat_lt 4096 (block_count block t)) (verdict_by rules_in_force t)
+    (lt_false 4096 (block_count block t) few)
+
+pub told_few : (block : ℕ) (t : Trace) (given : Result Verdict Unjudged) → block_count block t ≤ 4096
+    → Finds given (Ok (verdict_by rules_in_force t)) → Finds given (verdict_in_blocks block t)
+told_few block t given few is = subst (λ (there : Result Verdict Refusal). Finds given there)
+    (sym (few_judged block t few)) is
+
+pub many_refused : (block : ℕ) (t : Trace) → 4096 < block_count block t → verdict_in_blocks block t
+    ≡ Err refused.TooManyBlocks
+many_refused block t many = refused_by (nat_lt 4096 (block_count block t)) (verdict_by rules_in_force t)
+    (lt_true 4096 (block_count block t) many)
+
+-- ---- how it ends
+
+pods_answer_by-small : (found : Result Verdict Unjudged) → (pods_answer_by found).status ≤ 4
+pods_answer_by-small (Ok v) = verdict_status-small v
+pods_answer_by-small (Err (Refused r)) = refusal_status-small r
+pods_answer_by-small (Err NoWorker) = omega arith
+pods_answer_by-small (Err Stray) = omega arith
+
+-- what workers find is told as a check tells it, but for a status of 4
+told_as_checked : (there : Result Verdict Refusal) (found : Result Verdict Unjudged) → Finds found there
+    → ((pods_answer_by found).status ≡ 4 → ⊥)
+    → pods_answer_by found ≡ answer_by there
+told_as_checked there (Ok v) finds other = given_is answer_by refl (Ok v) there finds other
+told_as_checked there (Err (Refused r)) finds other = given_is answer_by refl (Err r) there finds other
+told_as_checked there (Err NoWorker) finds other = absurd (other refl)
+told_as_checked there (Err Stray) finds other = absurd finds
+
+abbrev MayFind : ℕ → ℕ → Option (List ℕ) → Option (List ℕ) → Result Verdict Unjudged → Type 0
+MayFind block workers b d found = Finds found (judgement_of b d block) × NeedsThreads workers found
+
+pub Checks-unwritten : (binding dump : Reading × Reading) (block workers : ℕ) (out err : Writing × Writing) (status : ℕ)
+    → ChecksByPods binding dump block workers out err status
+    → (status ≡ 5) ↔ (out.1.failures ≡ suc out.0.failures)
+Checks-unwritten binding dump block workers out err status = Does-unwritten pods_answer_by pods_answer_by-small
+    (MayFind block workers) binding dump out err status
+
+pub Checks-exact : (binding dump : Reading × Reading) (block workers : ℕ) (out err : Writing × Writing) (status : ℕ)
+    → ChecksByPods binding dump block workers out err status
+    → (b d : List ℕ) → TellsWhole binding.0 binding.1 b → TellsWhole dump.0 dump.1 d
+    → out.1.failures ≡ out.0.failures → (status ≡ 4 → ⊥)
+    → Tells (answer_of (Some b) (Some d) block) out err status
+Checks-exact binding dump block workers out err status checks b d =
+    Does-exact pods_answer_by pods_answer_by-small (MayFind block workers) binding dump out err status checks b d
+    (answer_of (Some b) (Some d) block)
+    (λ found may. told_as_checked (judgement_of (Some b) (Some d) block) found may.0)

@@ -1,0 +1,550 @@
+//! Two pods on threads of their own, and verdicts by workers.
+
+ghost use Rattle.std.specs.Prelude.{◌≤◌, IfSome, None};
+ghost use Rattle.vme_board.specs.Benches.{IsOf};
+
+use std::alloc::Global;
+use std::sync::Wait;
+use std::thread::{Threads, join};
+use vme_answer::{Refusal, binding_in, captured_in};
+use vme_board::{Bench, Board};
+use vme_book::{Book, Whole};
+use vme_pod_check::{
+    Plan, PodsOrder, Unjudged, check_by_pods, deliveries_of, order_of, verdict_by_pods,
+};
+use vme_stream::Bytes;
+use vme_summary::Judged;
+use vme_trace::{Block, Capture, Failed, Sink, Verdict};
+
+const BINDING: &[u8] = b"slots 1
+AS = bus.AS
+DS0 = bus.DS0
+DS1 = bus.DS1
+DTACK = bus.DTACK
+BERR = bus.BERR
+IACK = bus.IACK
+AM0 = 1
+AM1 = 0
+AM2 = 1
+AM3 = 1
+AM4 = 1
+AM5 = 1
+LWORD = 1
+WRITE = 1
+A = 1
+BBSY = 0
+BR = 1
+BG0 = 1
+BG1 = 1
+BG2 = 1
+BG3 = 1
+IA = 1
+";
+
+/// A read, of six steps.
+const READ: &[u8] = b"$timescale 1 ns $end
+$scope module bus $end
+$var wire 1 p AS $end
+$var wire 1 q DS0 $end
+$var wire 1 r DS1 $end
+$var wire 1 s DTACK $end
+$var wire 1 t BERR $end
+$var wire 1 u IACK $end
+$upscope $end
+$enddefinitions $end
+#0 1p 1q 1r 1s 1t 1u
+#10 0p
+#20 0q
+#30 0s
+#40 1p 1q
+#50 1s
+";
+
+/// The same without a strobe.
+const UNSTROBED: &[u8] = b"$timescale 1 ns $end
+$scope module bus $end
+$var wire 1 p AS $end
+$var wire 1 q DS0 $end
+$var wire 1 r DS1 $end
+$var wire 1 s DTACK $end
+$var wire 1 t BERR $end
+$var wire 1 u IACK $end
+$upscope $end
+$enddefinitions $end
+#0 1p 1q 1r 1s 1t 1u
+#10 0p
+#20 0s
+#40 1p
+#50 1s
+";
+
+const HEAD: &str = "$timescale 1 ns $end
+$scope module bus $end
+$var wire 1 p AS $end
+$var wire 1 q DS0 $end
+$var wire 1 r DS1 $end
+$var wire 1 s DTACK $end
+$var wire 1 t BERR $end
+$var wire 1 u IACK $end
+$upscope $end
+$enddefinitions $end
+";
+
+/// The recording of the read.
+fn recorded_read(alloc: Global) -> Option<Capture> {
+    let binding = binding_in(alloc, BINDING).ok()?;
+    captured_in(alloc, &binding, READ).ok()
+}
+
+/// A sink that holds what it took, as long as that is shorter than its room.
+#[derive(Drop)]
+struct Page {
+    bytes: Vec<u8>,
+    room: usize,
+    failures: u64,
+}
+
+impl Page {
+    fn new(alloc: Global, room: usize) -> Page {
+        Page {
+            bytes: Vec::new(alloc),
+            room,
+            failures: 0,
+        }
+    }
+}
+
+impl Sink for Page {
+    ghost writing = { λ page. record { taken = None; failures = page.failures } };
+
+    fn write(&mut self, bytes: &[u8]) -> Result<usize, Failed> {
+        if self.bytes.len() < self.room && self.bytes.extend_from_slice(bytes).is_ok() {
+            return Ok(bytes.len());
+        }
+        match self.failures.checked_add(1) {
+            Some(failures) => {
+                self.failures = failures;
+                Err(Failed)
+            }
+            None => Ok(bytes.len()),
+        }
+    }
+}
+
+/// The line that a check writes, on standard output or on standard error, and its status.
+#[derive(Clone, Copy)]
+struct ToldLine {
+    out: &'static str,
+    err: &'static str,
+    status: u8,
+}
+
+/// Whether this is told of a dump, with so much room for the verdict; none where memory is short.
+fn tells_once<R: Threads + Wait + Sync>(
+    rt: &R,
+    alloc: Global,
+    inputs: (&[u8], &[u8]),
+    plan: Plan,
+    room: usize,
+    told: ToldLine,
+) -> Option<bool>
+    requires block { (1 ≤ plan.block) × (plan.block ≤ 65536) }
+    requires workers { (1 ≤ plan.workers) × (plan.workers ≤ 64) }
+{
+    let mut out = Page::new(alloc, room);
+    let mut err = Page::new(alloc, 1000);
+    let status = check_by_pods(
+        rt,
+        alloc,
+        &mut Bytes::new(inputs.0),
+        &mut Bytes::new(inputs.1),
+        plan,
+        &mut out,
+        &mut err,
+    );
+    let is_out = out.bytes.as_slice() == told.out.as_bytes();
+    let is_err = err.bytes.as_slice() == told.err.as_bytes();
+    if status == 4 {
+        None
+    } else {
+        Some(is_out && is_err && status == told.status)
+    }
+}
+
+/// The same. Where memory is short once, it is asked for again.
+fn tells<R: Threads + Wait + Sync>(
+    rt: &R,
+    alloc: Global,
+    inputs: (&[u8], &[u8]),
+    plan: Plan,
+    room: usize,
+    told: ToldLine,
+) -> bool
+    requires block { (1 ≤ plan.block) × (plan.block ≤ 65536) }
+    requires workers { (1 ≤ plan.workers) × (plan.workers ≤ 64) }
+{
+    match tells_once(rt, alloc, inputs, plan, room, told) {
+        Some(is_told) => is_told,
+        None => tells_once(rt, alloc, inputs, plan, room, told) == Some(true),
+    }
+}
+
+/// The steps of a block, and the workers.
+static SHARES: [(u32, u32); 6] = [(1, 1), (1, 3), (2, 1), (2, 3), (65536, 1), (65536, 3)];
+
+static SEEDS: [u64; 3] = [0, 1, 7919];
+
+/// Whether this is told of a dump by a plan whose numbers are in their ranges.
+fn tells_by<R: Threads + Wait + Sync>(
+    rt: &R,
+    alloc: Global,
+    dump: &[u8],
+    share: (u32, u32),
+    seed: Option<u64>,
+    told: ToldLine,
+) -> bool {
+    let (block, workers) = share;
+    if block < 1 || 65536 < block || workers < 1 || 64 < workers {
+        return false;
+    }
+    let plan = Plan {
+        block,
+        workers,
+        seed,
+    };
+    tells(rt, alloc, (BINDING, dump), plan, 1000, told)
+}
+
+/// Whether this is told of a dump, for every plan of some.
+fn plans_tell<R: Threads + Wait + Sync>(
+    rt: &R,
+    alloc: Global,
+    dump: &[u8],
+    told: ToldLine,
+) -> bool {
+    for share in SHARES.iter() {
+        if !tells_by(rt, alloc, dump, *share, None, told) {
+            return false;
+        }
+        for seed in SEEDS.iter() {
+            if !tells_by(rt, alloc, dump, *share, Some(*seed), told) {
+                return false;
+            }
+        }
+    }
+    true
+}
+
+#[test]
+fn plans_change_nothing(rt: HostRuntime) {
+    let conforming = ToldLine {
+        out: "conforming\n",
+        err: "",
+        status: 0,
+    };
+    assert!(rt; plans_tell(&rt, rt.alloc(), READ, conforming));
+}
+
+#[test]
+fn plans_change_no_break(rt: HostRuntime) {
+    let broken = ToldLine {
+        out: "broken H4 at instant 3 time 20 line DTACK\n",
+        err: "",
+        status: 1,
+    };
+    assert!(rt; plans_tell(&rt, rt.alloc(), UNSTROBED, broken));
+}
+
+const TWO_WORKERS: Plan = Plan {
+    block: 1,
+    workers: 2,
+    seed: Some(1),
+};
+
+/// The verdict on the read by two workers.
+fn verdict_of_read<R: Threads + Wait + Sync>(rt: &R, alloc: Global) -> Option<Verdict> {
+    let capture = recorded_read(alloc)?;
+    verdict_by_pods(rt, alloc, &capture, TWO_WORKERS).ok()
+}
+
+#[test]
+fn a_recording_is_judged(rt: HostRuntime) {
+    assert!(rt; verdict_of_read(&rt, rt.alloc()) == Some(Verdict::Conforming));
+}
+
+/// The deliveries of the blocks of one step.
+fn delivered(alloc: Global, capture: &Capture, seed: u64) -> Option<Vec<Block>> {
+    let blocks = capture.cut(alloc, 1).ok()?;
+    deliveries_of(alloc, blocks, Some(seed)).ok()
+}
+
+/// Whether no number is less than the one before it.
+fn ascend(deliveries: &[Block]) -> bool {
+    let mut least = 0;
+    for block in deliveries {
+        if block.number < least {
+            return false;
+        }
+        least = block.number;
+    }
+    true
+}
+
+/// Whether a seed gives another order, and whether it delivers a block twice.
+fn shuffles_and_repeats(alloc: Global, capture: &Capture, seed: u64) -> Option<(bool, bool)> {
+    let deliveries = delivered(alloc, capture, seed)?;
+    Some((!ascend(deliveries.as_slice()), deliveries.len() != 6))
+}
+
+/// Whether some of eight seeds shuffle, and some repeat.
+fn some_shuffle_and_repeat(alloc: Global) -> Option<bool> {
+    let capture = recorded_read(alloc)?;
+    let (mut some_shuffles, mut some_repeats) = (false, false);
+    for seed in 0..8 {
+        let (shuffles, repeats) = shuffles_and_repeats(alloc, &capture, seed)?;
+        some_shuffles = some_shuffles || shuffles;
+        some_repeats = some_repeats || repeats;
+    }
+    Some(some_shuffles && some_repeats)
+}
+
+/// No contract says that an order is another one, nor that anything is delivered twice.
+#[test]
+fn seeds_shuffle_and_repeat(rt: HostRuntime) {
+    assert!(rt; some_shuffle_and_repeat(rt.alloc()) == Some(true));
+}
+
+/// Files copies of the blocks whose numbers are odd, or of the others. None is a delivery that was refused.
+fn filed_by(
+    alloc: Global,
+    board: &Board,
+    bench: Bench,
+    blocks: &[Block],
+    odd: bool,
+) -> Option<Bench>
+    requires { IsOf bench board.now }
+    ensures { IfSome result (λ bench. IsOf bench board.now) }
+{
+    let mut bench = bench;
+    for block in blocks {
+        if (block.number % 2 == 1) == odd {
+            let copy = block.copy(alloc).ok()?;
+            bench.deliver(alloc, board, copy).ok()?;
+        }
+    }
+    Some(bench)
+}
+
+/// The bench of both pods, once each has filed its blocks on a thread of its own.
+fn filed_by_both(
+    rt: &impl Threads,
+    alloc: Global,
+    board: &Board,
+    pods: (Bench, Bench),
+    blocks: &[Block],
+) -> Option<Bench>
+    requires { IsOf pods.0 board.now × IsOf pods.1 board.now }
+    ensures { IfSome result (λ bench. IsOf bench board.now) }
+{
+    let (first, second) = pods;
+    let (odd, even) = join(
+        rt,
+        move || -> Option<Bench>
+            requires { IsOf first board.now }
+            ensures { IfSome result (λ bench. IsOf bench board.entry.now) }
+        { filed_by(alloc, board, first, blocks, true) },
+        move || -> Option<Bench>
+            requires { IsOf second board.now }
+            ensures { IfSome result (λ bench. IsOf bench board.entry.now) }
+        { filed_by(alloc, board, second, blocks, false) },
+    );
+    Some(odd?.fold(even?, board))
+}
+
+/// What a board leaves that has no block of another bench, and of which nothing was taken.
+fn contents_of(alloc: Global, board: Board, bench: Bench) -> Option<Vec<Option<Judged>>>
+    requires { IsOf bench board }
+{
+    let closed = board.close(alloc, bench).ok()?;
+    if closed.others == 0 && closed.taken == 0 {
+        Some(closed.contents)
+    } else {
+        None
+    }
+}
+
+/// The judged blocks that two pods file, the odd ones and the even ones, each on a thread of its own.
+fn judged_by_two_pods(
+    rt: &impl Threads,
+    alloc: Global,
+    total: u32,
+    blocks: &[Block],
+) -> Option<Vec<Option<Judged>>> {
+    let (board, mut first) = Board::new(alloc, total, 0).ok()?;
+    let second = first.split(&board);
+    let bench = filed_by_both(rt, alloc, &board, (first, second), blocks)?;
+    contents_of(alloc, board, bench)
+}
+
+/// The book of all judged blocks.
+fn all_inserted(alloc: Global, total: u32, contents: Vec<Option<Judged>>) -> Option<Book> {
+    let mut book = Book::new(alloc, total).ok()?;
+    for content in contents {
+        book.insert(alloc, content?).ok()?;
+    }
+    Some(book)
+}
+
+/// The read, of which two pods deliver the blocks; its verdict is known before the book is closed.
+fn whole_by_two_pods(rt: &impl Threads, alloc: Global) -> Option<Whole> {
+    let blocks = recorded_read(alloc)?.cut(alloc, 1).ok()?;
+    let total = u32::try_from(blocks.len()).ok()?;
+    let contents = judged_by_two_pods(rt, alloc, total, blocks.as_slice())?;
+    let book = all_inserted(alloc, total, contents)?;
+    if book.so_far() == Some(Verdict::Conforming) {
+        book.close(alloc).ok()
+    } else {
+        None
+    }
+}
+
+/// Whether the span and the recording have the six steps of the read.
+fn is_whole(rt: &impl Threads, alloc: Global) -> bool {
+    match whole_by_two_pods(rt, alloc) {
+        Some(whole) => whole.span.steps() == 6 && whole.capture.steps().len() == 6,
+        None => false,
+    }
+}
+
+#[test]
+fn two_pods(rt: HostRuntime) {
+    assert!(rt; is_whole(&rt, rt.alloc()));
+}
+
+/// A binding and a dump that are refused, and the line that tells it.
+static REFUSED: [(&[u8], &[u8], &str); 2] = [
+    (b"AS = 0\n", READ, "vmecheck: binding line 1: SlotsFirst\n"),
+    (BINDING, b"", "vmecheck: dump line 1: NoEndDefinitions\n"),
+];
+
+/// By two workers in an order of their own, whether a binding and a dump are refused by this line with status 3.
+fn is_refused<R: Threads + Wait + Sync>(
+    rt: &R,
+    alloc: Global,
+    inputs: (&[u8], &[u8]),
+    text: &'static str,
+) -> bool {
+    let refusal = ToldLine {
+        out: "",
+        err: text,
+        status: 3,
+    };
+    tells(rt, alloc, inputs, TWO_WORKERS, 1000, refusal)
+}
+
+/// Whether each of these inputs is refused.
+fn inputs_are_refused<R: Threads + Wait + Sync>(rt: &R, alloc: Global) -> bool {
+    for (binding, dump, text) in REFUSED.iter() {
+        if !is_refused(rt, alloc, (binding, dump), text) {
+            return false;
+        }
+    }
+    true
+}
+
+#[test]
+fn refusals_are_told(rt: HostRuntime) {
+    assert!(rt; inputs_are_refused(&rt, rt.alloc()));
+}
+
+/// A dump of so many steps, in which AS goes low and high in turn.
+fn long_dump(alloc: Global, steps: u32) -> Option<String> {
+    let mut dump = String::from_str(alloc, HEAD).ok()?;
+    for step in 0..steps {
+        let change = format!(in alloc; "#{step} {}p\n", step % 2).ok()?;
+        dump.push_str(change.as_str()).ok()?;
+    }
+    Some(dump)
+}
+
+/// Whether a recording of one block too many is refused.
+fn many_are_refused<R: Threads + Wait + Sync>(rt: &R, alloc: Global) -> bool {
+    match long_dump(alloc, 4097) {
+        Some(dump) => is_refused(
+            rt,
+            alloc,
+            (BINDING, dump.as_str().as_bytes()),
+            "vmecheck: too many blocks\n",
+        ),
+        None => false,
+    }
+}
+
+#[test]
+fn too_many_blocks_are_told(rt: HostRuntime) {
+    assert!(rt; many_are_refused(&rt, rt.alloc()));
+}
+
+#[test]
+fn a_verdict_that_is_not_written_is_told(rt: HostRuntime) {
+    let unwritten = ToldLine {
+        out: "",
+        err: "vmecheck: cannot write\n",
+        status: 5,
+    };
+    assert!(rt; tells(&rt, rt.alloc(), (BINDING, READ), TWO_WORKERS, 0, unwritten));
+}
+
+/// Whether this line tells it, and this is its status.
+fn is_told(unjudged: Unjudged, text: &str, status: u8) -> bool {
+    unjudged.line().as_bytes() == text.as_bytes() && unjudged.status() == status
+}
+
+/// Whether each reason that a dump can't give has its line.
+fn unjudged_is_told() -> bool {
+    let memory = Unjudged::Refused(Refusal::Memory);
+    is_told(memory, "vmecheck: out of memory\n", 4)
+        && is_told(Unjudged::NoWorker, "vmecheck: cannot start a worker\n", 4)
+        && is_told(Unjudged::Stray, "vmecheck: stray block\n", 4)
+}
+
+#[test]
+fn what_is_not_judged_is_told(rt: HostRuntime) {
+    assert!(rt; unjudged_is_told());
+}
+
+/// The words of a line, the program's name first.
+fn words_of(alloc: Global, line: &str) -> Option<Vec<String>> {
+    let mut words = Vec::new(alloc);
+    for word in line.split(' ') {
+        words.push(String::from_str(alloc, word).ok()?).ok()?;
+    }
+    Some(words)
+}
+
+/// What the words of a line ask for.
+fn ordered(alloc: Global, line: &str) -> Option<PodsOrder> {
+    let words = words_of(alloc, line)?;
+    order_of(alloc, words.as_slice()).ok()?
+}
+
+/// Whether a line asks for this plan, and for these files.
+fn orders(alloc: Global, line: &str, plan: Plan, binding: &str, dump: &str) -> bool {
+    match ordered(alloc, line) {
+        Some(order) => {
+            order.plan == plan && order.binding.as_str() == binding && order.dump.as_str() == dump
+        }
+        None => false,
+    }
+}
+
+#[test]
+fn words_make_an_order(rt: HostRuntime) {
+    let line = "vme_pods --block 7 --seed 9 lines.bind read.vcd";
+    let plan = Plan {
+        block: 7,
+        workers: 4,
+        seed: Some(9),
+    };
+    assert!(rt; orders(rt.alloc(), line, plan, "lines.bind", "read.vcd"));
+}

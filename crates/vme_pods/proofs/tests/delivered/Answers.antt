@@ -1,5 +1,0 @@
-use Rattle.vme_pods.proofs.Contents.{cut_numbered}
-use Rattle.vme_pods.proofs.tests.delivered.Goals as goal
-
-pub deliveries_of-requires : goal.deliveries_of-requires
-deliveries_of-requires c = rw c.in_ok-blocks.ensures.blocks (cut_numbered c.args.capture.now 1)
