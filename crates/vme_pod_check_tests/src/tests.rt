@@ -274,8 +274,10 @@ fn a_recording_is_judged(rt: HostRuntime) {
 
 /// The deliveries of the blocks of one step.
 fn delivered(alloc: Global, capture: &Capture, seed: u64) -> Option<Vec<Block>> {
-    let blocks = capture.cut(alloc, 1).ok()?;
-    deliveries_of(alloc, blocks, Some(seed)).ok()
+    match capture.cut(alloc, 1) {
+        Ok(blocks) => deliveries_of(alloc, blocks, Some(seed)).ok(),
+        Err(_) => None,
+    }
 }
 
 /// Whether no number is less than the one before it.
