@@ -3,7 +3,8 @@
 
     reference/vmecheck.py < DUMP                                 the verdict, by the built-in binding
     reference/vmecheck.py check [--block N] [--workers N] [--skew T] BINDING DUMP
-    reference/vmecheck.py list [--block N] [--workers N] [--skew T] BINDING DUMP
+    reference/vmecheck.py list [--times] [--block N] [--workers N] [--skew T] BINDING DUMP
+    reference/vmecheck.py annotate [--skew T] BINDING DUMP
     reference/vmecheck.py confirm [--skew T] BINDING DUMP LISTING
     reference/vmecheck.py audit [--transfers N] [--allow RULE[=LINE]].. [--stop N] [--skew T] [--workers N] [--quiet]
                                 [--junit FILE] BINDING DUMP..
@@ -22,8 +23,9 @@ HELP = """The second judge of vmecheck, in Python: nothing of it is proved, and 
 Usage: vmecheck < DUMP                                      the verdict, by a binding of its own
        vmecheck check [--block N] [--workers N] [--skew T] BINDING DUMP
                                                             the verdict
-       vmecheck list [--block N] [--workers N] [--skew T] BINDING DUMP
+       vmecheck list [--times] [--block N] [--workers N] [--skew T] BINDING DUMP
                                                             the listing
+       vmecheck annotate [--skew T] BINDING DUMP            the dump, with its cycles and transfers
        vmecheck confirm [--skew T] BINDING DUMP LISTING     whether a listing is true
        vmecheck audit [--transfers N] [--allow RULE[=LINE]].. [--stop N] [--skew T] [--workers N] [--quiet]
                       [--junit FILE] BINDING DUMP..         each break of each dump, and what was covered
@@ -959,6 +961,99 @@ def text_of(version, rows):
     return "".join(f"{row}\n" for row in (f"vmecheck listing {version}", *in_version(version, rows))).encode()
 
 
+def timed_text_of(rows, times):
+    """The rows with the times of their instants."""
+    def timed(row):
+        words = row.split(" ")
+        instants = {"verdict": [3], "transfer": [1, 3, 6, 8], "tenure": [1, -1], "cycle": [1, -1]}.get(words[0], [1])
+        if words[-1] == "pending":
+            instants = [1]
+        for k in instants if words[0] != "verdict" or len(words) == 5 else []:
+            if words[k] != "-":
+                words[k] += f"@{times[int(words[k])] if words[k] != '0' else '-'}"
+        return " ".join(words)
+    return "".join(f"{row}\n" for row in ("vmecheck listing 3 times", *map(timed, rows))).encode()
+
+
+# ---- the annotated dump (docs/FORMATS.md)
+
+SHOWN = ["tenure", "cycle", "transfer", "verdict"]
+
+
+def shown_by(row):
+    """The changes of a row: an instant, a variable, and the text that it shows from then on."""
+    words = row.split(" ")
+    if words[0] == "reset":
+        return [(int(words[1]), name, "-") for name in SHOWN[:3]]
+    if words[0] == "verdict":
+        if len(words) < 5:
+            return []
+        return [(int(words[3]), name, "-") for name in SHOWN[:3]] + [(int(words[3]), "verdict", f"{words[2]}_{words[4]}")]
+    if words[0] == "start":
+        return []
+    end = words[8] if words[0] == "transfer" and words[-1] != "pending" else "-" if words[0] == "transfer" else words[-1]
+    if words[0] == "tenure":
+        text = "open" if words[2] == "open" else f"slot{words[5]}_BR{words[3]}"
+    elif words[0] == "cycle" and words[2] in "FI":
+        text = ("AM" if words[2] == "F" else "IACK") + words[3]
+    elif words[0] == "cycle":
+        text = f"A{4 * len(words[4])}{'_BLT' if words[2] == 'K' else ''}_{words[4]}"
+    elif words[-1] == "pending":
+        text = f"{words[2].upper()}_pending"
+    else:
+        text = words[4].upper() + (f"_{words[10]}" if len(words) > 9 else "") + ("_BERR" if words[5] == "BERR" else "")
+    return [(int(words[1]), words[0], text)] + ([(int(end), words[0], "-")] if end != "-" else [])
+
+
+def places_of(text):
+    """Where the section that ends the definitions begins and ends, and behind which byte each time stands first."""
+    tokens = re.finditer(rb"[^ \t\r\n]+", text)
+    for token in tokens:
+        section = next(end for end in tokens if end[0] == b"$end")
+        if token[0] == b"$enddefinitions":
+            break
+    times = {}
+    for found in tokens:
+        if found[0].startswith(b"#"):
+            times.setdefault(int(found[0][1:]), found.end())
+        elif found[0][:1] in b"bBrRs":
+            next(tokens)
+        elif found[0] == b"$comment":
+            next(end for end in tokens if end[0] == b"$end")
+    return token.start(), section.end(), times
+
+
+def free_codes(taken):
+    """The codes that aren't among these, the first byte of each changing fastest."""
+    number = 0
+    while True:
+        number, code, rest = number + 1, b"", number + 1
+        while rest:
+            rest, digit = divmod(rest - 1, 94)
+            code += bytes([0x21 + digit])
+        if code not in taken and code != b"$end":
+            yield code
+
+
+def annotated(text, variables, rows, times):
+    """The dump with the variables and their changes put in."""
+    start, end, places = places_of(text)
+    free = free_codes(set(re.split(rb"[ \t\r\n]+", text[:start])))
+    codes = {name: next(free) for name in SHOWN}
+    parts = {part for variable in variables for part in b".".join((*variable.scopes, variable.name)).split(b".")}
+    named = [len(part) - 7 for part in parts if re.fullmatch(rb"vmecheck_*", part)]
+    scope = b"vmecheck" + b"_" * max(named, default=0)
+    declared = b"".join(b"$var string 1 %b %b $end " % (codes[name], name.encode()) for name in SHOWN)
+    parts_of_text, last = [text[:start], b"$scope module %b $end %b$upscope $end " % (scope, declared)], start
+    changes = [(0, name, "-") for name in SHOWN] + [change for row in rows for change in shown_by(row)]
+    for instant, name, shown in sorted(changes, key=lambda change: change[0]):
+        time = times[max(instant, 1)] if len(times) > 1 else 0
+        place = places.get(time, end)
+        parts_of_text += [text[last:place], b" s%b %b" % (shown.encode(), codes[name])]
+        last = place
+    return b"".join([*parts_of_text, text[last:]])
+
+
 # ---- the audit (docs/PROTOCOL.md, docs/FORMATS.md)
 
 # the event of each rule but U1, which is the stretch itself
@@ -1254,9 +1349,10 @@ class Inputs:
     """A binding and a dump, and what the commands answer on them by a skew: the status, and the two streams."""
 
     def __init__(self, binding, dump, skew=0):
-        self.fault, self.unusable, self.judged = None, None, None
+        self.fault, self.unusable, self.judged, self.dump = None, None, None, dump
         try:
             parts = read_binding(binding), read_dump(dump)
+            self.variables = parts[1][0]
         except Fault as fault:
             self.fault = fault
             return
@@ -1280,6 +1376,13 @@ class Inputs:
 
     def list(self, block=16384):
         return self.answer(block, lambda: text_of(3, self.judged.rows()))
+
+    def list_times(self, block=16384):
+        return self.answer(block, lambda: timed_text_of(self.judged.rows(), self.judged.recording.times))
+
+    def annotate(self):
+        return self.answer(16384, lambda: annotated(self.dump, self.variables, self.judged.rows(),
+                                                    self.judged.recording.times))
 
     def confirm(self, listing):
         if self.fault:
@@ -1328,7 +1431,8 @@ def allowance(option, value):
 SKEW, WORKERS = {"--skew": number_between(0, LATEST)}, {"--workers": number_between(1, 64)}
 BLOCK = {"--block": number_between(1, 65536)}
 COMMANDS = {"check": (("BINDING", "DUMP"), {**SKEW, **WORKERS, **BLOCK}),
-            "list": (("BINDING", "DUMP"), {**SKEW, **WORKERS, **BLOCK}),
+            "list": (("BINDING", "DUMP"), {**SKEW, **WORKERS, **BLOCK, "--times": None}),
+            "annotate": (("BINDING", "DUMP"), SKEW),
             "confirm": (("BINDING", "DUMP", "LISTING"), SKEW)}
 AUDIT_OPTIONS = {**SKEW, **WORKERS, "--transfers": number_between(0, LATEST), "--stop": number_between(1, LATEST),
                  "--junit": lambda option, value: value, "--allow": allowance, "--quiet": None}
@@ -1367,7 +1471,7 @@ def audit_order(words):
 
 
 def order_of(words):
-    """The command, the files, the steps of a block and the skew that the words ask for."""
+    """The command, the files, the steps of a block and the skew that the words ask for, and whether times are told."""
     command = words[0]
     if command not in COMMANDS:
         raise Usage(f"there is no command '{command}' here")
@@ -1375,7 +1479,7 @@ def order_of(words):
     names, given = words_apart(words[1:], options)
     if len(names) != len(wanted):
         raise Usage(f"{command} takes {' '.join(wanted)}")
-    return command, names, given.get("--block", 16384), given.get("--skew", 0)
+    return command, names, given.get("--block", 16384), given.get("--skew", 0), "--times" in given
 
 
 def opened(names, inputs):
@@ -1405,7 +1509,7 @@ def whole(file, what):
         parts.append(part)
 
 
-def answer(command, names, block, skew):
+def answer(command, names, block, skew, has_times):
     """What a command answers. An input is read only where those before it have no fault."""
     files = opened(names, ("binding", "dump", "listing"))
     binding = whole(files[0], "binding")
@@ -1415,7 +1519,9 @@ def answer(command, names, block, skew):
     if command == "check":
         return inputs.check(block)
     if command == "list":
-        return inputs.list(block)
+        return inputs.list_times(block) if has_times else inputs.list(block)
+    if command == "annotate":
+        return inputs.annotate()
     return refused(inputs.fault) if inputs.fault else inputs.confirm(whole(files[2], "listing"))
 
 

@@ -33,3 +33,9 @@ module _ {X Y : Type 0} (f : X → Y) (xs : List X) (i : ℕ) (x : X) (lt : i < 
       (ap (λ z. take i (map f xs) ++ z ∷ []) (sym mapped_is)
       ∙ sym (take_more (map f xs) i (f x) mapped_within))
       (zip-then R (take i (map f xs)) ys (f x) y so_far one)
+
+  pub more-on : (ys : List Y) → ys ≡ take i (map f xs) → ys ++ f x ∷ [] ≡ take (i + 1) (map f xs)
+  more-on ys so_far =
+      ap (λ l. l ++ f x ∷ []) so_far
+      ∙ ap (λ z. take i (map f xs) ++ z ∷ []) (sym mapped_is)
+      ∙ sym (take_more (map f xs) i (f x) mapped_within)

@@ -1,3 +1,4 @@
 pub mod AuditLemmas
 pub mod Cases
+pub mod PartLemmas
 pub mod Refusals

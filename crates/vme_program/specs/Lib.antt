@@ -3,6 +3,7 @@ pub mod Bindings
 pub mod Explanations
 pub mod Inputs
 pub mod Openings
+pub mod Parts
 pub mod Programs
 pub mod Recordings
 pub mod Saves

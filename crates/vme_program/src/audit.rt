@@ -460,7 +460,13 @@ fn end_cases<E: Sink>(alloc: Global, path: &str, written: Written, status: u8, e
 }
 
 /// Says what is wrong with a file. The answer is this exit status, or that of want of memory.
-fn refuse_file<E: Sink>(alloc: Global, name: &str, why: &[u8], status: u8, err: &mut E) -> u8
+pub(crate) fn refuse_file<E: Sink>(
+    alloc: Global,
+    name: &str,
+    why: &[u8],
+    status: u8,
+    err: &mut E,
+) -> u8
     ensures { RefusesFile name.now why.now status (E.writing err.old, E.writing err.new) result }
 {
     match file_text(alloc, name, why) {

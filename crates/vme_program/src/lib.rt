@@ -7,8 +7,9 @@
 //! - `environment`: [`Environment`], the program's environment: files by their names, and
 //!   standard input. Standard output and standard error are sinks that the caller brings.
 //! - `opening`: the file that an order names for an input, or a message that it can't be opened.
-//! - `check`, `list`, `confirm`, `explain`, `bind`, `variables`, `rules`, `faults`, `audit`: one
-//!   command each, over the files that its order names. `input`: a dump on standard input.
+//! - `check`, `list`, `confirm`, `annotate`, `explain`, `bind`, `variables`, `rules`, `faults`,
+//!   `audit`: one command each, over the files that its order names. `parts`: the commands `part`,
+//!   `join` and `tell`. `input`: a dump on standard input.
 //! - `save`: the waveform viewer's file and the picture, which are written over no input and over
 //!   nothing that the program didn't write.
 //!
@@ -16,8 +17,8 @@
 //!
 //! - [`run_words`]: arguments select the command that `clap`'s meaning of them names (`some`); no
 //!   arguments select a check of standard input by the built-in binding, in blocks of the usual
-//!   size (`none`). What the command writes, and its status, are what vme_commands says of the
-//!   files and numbers that the arguments name (`specs/Programs`).
+//!   size (`none`). What the command writes, and its status, are what vme_commands and the other
+//!   crates of commands say of the files and numbers that the arguments name (`specs/Programs`).
 //! - The binding is opened, then the dump, then the listing (`WithInput`). A message names the
 //!   first that can't be opened, with status 3, and nothing else is written.
 //! - With `--gtkw` or `--svg` nothing is written where one of these files may not be written, by
@@ -29,6 +30,10 @@
 //!   and the other arguments, is what vme_audit_command says of these files. Test cases go into the
 //!   file that an argument names, which is none of the inputs, and only after an audit
 //!   (`AuditsFiles`).
+//! - With `join` and `tell` each part is opened, in order, before one is read; a message names the
+//!   first that can't be, with status 3. What is written of them is what vme_part_command says of
+//!   these files by their names, of the number of files and of whether a listing is wanted
+//!   (`JoinsFiles`, `TellsOfFiles`).
 //! - `faults` writes exactly the page of the kind of refusal that the argument names, or the pages
 //!   of all (`TellsFaults`).
 //! - With invalid arguments nothing is written on standard output and standard error (`out_stays`,
@@ -46,6 +51,7 @@
 //! Start reading at `specs/Openings`, then `specs/Programs`.
 #![tactic(auto)]
 
+mod annotate;
 mod audit;
 mod bind;
 mod check;
@@ -56,6 +62,7 @@ mod faults;
 mod input;
 mod list;
 mod opening;
+mod parts;
 mod program;
 mod rules;
 mod save;

@@ -9,6 +9,7 @@ ghost use Rattle.vme_words.specs.OrderFaults.{IsOfWords};
 ghost use Rattle.vme_words.specs.Orders.{IsOrder};
 ghost use Rattle.vme_words.specs.declared.order.Order.{Order as OrderIs};
 
+use crate::annotate::annotate_files;
 use crate::audit::audit_files;
 use crate::bind::bind_file;
 use crate::check::check_files;
@@ -18,6 +19,7 @@ use crate::explain::explain_files;
 use crate::faults::faults_named;
 use crate::input::check_input;
 use crate::list::list_files;
+use crate::parts::{join_files, part_file, tell_files};
 use crate::rules::rules_named;
 use crate::variables::variables_file;
 use std::alloc::Global;
@@ -81,5 +83,9 @@ fn run_order<R: Threads + Sync, S: Environment, O: Sink, E: Sink>(
         Task::Variables => Ok(variables_file(alloc, environment, order, out, err)),
         Task::Rules => rules_named(alloc, order, out, err),
         Task::Faults => faults_named(alloc, order, out, err),
+        Task::Annotate => Ok(annotate_files(alloc, environment, order, out, err)),
+        Task::Part => part_file(alloc, environment, order, out, err),
+        Task::Join => Ok(join_files(alloc, environment, order, out, err)),
+        Task::Tell => Ok(tell_files(alloc, environment, order, out, err)),
     }
 }

@@ -23,16 +23,23 @@ const LISTING: &str =
     "vmecheck listing 3\nstart 1\ntenure 1 open end -\ncycle 2 S 3D FFFFFE end 5\n\
 transfer 3 of 2 read DTACK 4 close 5\nverdict conforming\n";
 
-/// A binding, a dump and a listing by their names, a dump on standard input, and how often a file was written.
+/// What the annotated dump begins with.
+const ANNOTATED: &str = "$timescale 1 ns $end\n$scope module bus $end\n\
+$var wire 1 p AS $end\n$var wire 1 q DS0 $end\n$var wire 1 r DS1 $end\n\
+$var wire 1 s DTACK $end\n$var wire 1 t BERR $end\n$var wire 1 u IACK $end\n\
+$upscope $end\n$scope module vmecheck $end $var string 1 ! tenure $end ";
+
+/// A binding, a dump, a listing and a part by their names, a dump on standard input, and how often a file was written.
 #[derive(Drop)]
-struct Shelf {
+struct Shelf<'a> {
     is_terminal: bool,
+    part: &'a [u8],
     puts: Cell<u32>,
     writes: Cell<u32>,
 }
 
-impl Environment for Shelf {
-    type Reader = Bytes<'static>;
+impl<'a> Environment for Shelf<'a> {
+    type Reader = Bytes<'a>;
 
     ghost opens = { λ _ _ _. Unit {0} };
 
@@ -50,19 +57,21 @@ impl Environment for Shelf {
 
     ghost writes = { λ _ _ _ _. Unit {0} };
 
-    fn open_file(&self, name: &str) -> Option<Bytes<'static>> {
+    fn open_file(&self, name: &str) -> Option<Bytes<'a>> {
         if name == "binding" {
             Some(Bytes::new(BINDING.as_bytes()))
         } else if name == "dump" {
             Some(Bytes::new(DUMP.as_bytes()))
         } else if name == "listing" {
             Some(Bytes::new(LISTING.as_bytes()))
+        } else if name == "part" {
+            Some(Bytes::new(self.part))
         } else {
             None
         }
     }
 
-    fn input(&self) -> Bytes<'static> {
+    fn input(&self) -> Bytes<'a> {
         Bytes::new(DUMP.as_bytes())
     }
 
@@ -70,7 +79,7 @@ impl Environment for Shelf {
         self.is_terminal
     }
 
-    fn id_of(&self, _reader: &Bytes<'static>) -> Option<FileId> {
+    fn id_of(&self, _reader: &Bytes<'a>) -> Option<FileId> {
         Some(FileId {
             device: 1,
             number: 1,
@@ -167,6 +176,7 @@ fn expect<R: Abort + AllocGlobal + Threads + Sync>(
     let words = words_of(rt.alloc(), line)?;
     let shelf = Shelf {
         is_terminal,
+        part: b"vmepart2",
         puts: Cell::new(0),
         writes: Cell::new(0),
     };
@@ -204,6 +214,12 @@ fn happy_paths(rt: HostRuntime) -> Result<(), Fail> {
         ("vmecheck", "conforming\n", (0, 0, 0)),
         ("vmecheck check binding dump", "conforming\n", (0, 0, 0)),
         ("vmecheck list binding dump", LISTING, (0, 0, 0)),
+        (
+            "vmecheck list --times binding dump",
+            "vmecheck listing 3 times\nstart 1@0\ntenure 1@0 open end -\ncycle 2@10 S 3D FFFFFE end 5@40\n",
+            (0, 0, 0),
+        ),
+        ("vmecheck annotate binding dump", ANNOTATED, (0, 0, 0)),
         (
             "vmecheck confirm binding dump listing",
             "confirmed\n",
@@ -274,6 +290,21 @@ fn what_is_refused(rt: HostRuntime) -> Result<(), Fail> {
         (
             "vmecheck check none none",
             "vmecheck: cannot open binding\n",
+            (3, 0, 0),
+        ),
+        (
+            "vmecheck annotate none none",
+            "vmecheck: cannot open binding\n",
+            (3, 0, 0),
+        ),
+        (
+            "vmecheck annotate binding none",
+            "vmecheck: cannot open dump\n",
+            (3, 0, 0),
+        ),
+        (
+            "vmecheck list --times binding none",
+            "vmecheck: cannot open dump\n",
             (3, 0, 0),
         ),
         (
@@ -351,10 +382,119 @@ fn what_is_refused(rt: HostRuntime) -> Result<(), Fail> {
             "vmecheck: dump: is an input\n",
             (3, 0, 0),
         ),
+        (
+            "vmecheck part none none",
+            "vmecheck: cannot open binding\n",
+            (3, 0, 0),
+        ),
+        (
+            "vmecheck part binding none",
+            "vmecheck: cannot open dump\n",
+            (3, 0, 0),
+        ),
+        (
+            "vmecheck join dump none",
+            "vmecheck: none: cannot open\n",
+            (3, 0, 0),
+        ),
+        (
+            "vmecheck tell none dump",
+            "vmecheck: none: cannot open\n",
+            (3, 0, 0),
+        ),
+        (
+            "vmecheck join part dump",
+            "vmecheck: part: a part of another version\n",
+            (3, 0, 0),
+        ),
+        ("vmecheck tell dump", "vmecheck: dump: no part\n", (3, 0, 0)),
     ] {
         expect(&rt, line, false, ("", err), ended)?;
     }
     Ok(())
+}
+
+/// What the words of a line write on standard output, where there is this part, and the status.
+fn written<R: Abort + AllocGlobal + Threads + Sync>(
+    rt: &R,
+    line: &str,
+    part: &[u8],
+) -> Result<(Vec<u8>, Option<u8>), AllocError> {
+    let words = words_of(rt.alloc(), line)?;
+    let shelf = Shelf {
+        is_terminal: false,
+        part,
+        puts: Cell::new(0),
+        writes: Cell::new(0),
+    };
+    let mut out = Page {
+        bytes: Vec::new(rt.alloc()),
+    };
+    let mut err = Page {
+        bytes: Vec::new(rt.alloc()),
+    };
+    let status = run_words(rt, rt.alloc(), &shelf, words.as_slice(), &mut out, &mut err);
+    match status {
+        Ok(status) => Ok((out.bytes, Some(status))),
+        Err(_) => Ok((out.bytes, None)),
+    }
+}
+
+/// Whether the words of a line write this, where there is this part, and with this status; `None` where they are wrong.
+fn writes<R: Abort + AllocGlobal + Threads + Sync>(
+    rt: &R,
+    line: &str,
+    part: &[u8],
+    wanted: &[u8],
+    ended: Option<u8>,
+) -> bool {
+    match written(rt, line, part) {
+        Ok((bytes, status)) => bytes.as_slice() == wanted && status == ended,
+        Err(_) => false,
+    }
+}
+
+#[test]
+fn parts_are_made_joined_and_told(rt: HostRuntime) -> Result<(), Fail> {
+    let (part, status) = written(&rt, "vmecheck part --listing binding dump", b"")?;
+    let part = part.as_slice();
+    assert!(rt; part.starts_with(b"vmepart1") && status == Some(0));
+    assert!(rt; writes(&rt, "vmecheck join part part", part, part, Some(0)));
+    assert!(rt; writes(&rt, "vmecheck tell part", part, b"conforming\n", Some(0)));
+    assert!(rt;
+        writes(
+            &rt,
+            "vmecheck tell --list --files 1 part part",
+            part,
+            LISTING.as_bytes(),
+            Some(0)
+        )
+    );
+    assert!(rt; writes(&rt, "vmecheck tell --files 2 part", part, b"", Some(3)));
+    Ok(())
+}
+
+#[test]
+fn a_part_without_marks_lists_nothing(rt: HostRuntime) -> Result<(), Fail> {
+    let (part, status) = written(&rt, "vmecheck part --number 1 binding dump", b"")?;
+    let part = part.as_slice();
+    assert!(rt; status == Some(0));
+    assert!(rt; writes(&rt, "vmecheck tell part", part, b"", Some(3)));
+    assert!(rt; writes(&rt, "vmecheck tell --list part", part, b"", Some(3)));
+    Ok(())
+}
+
+#[test]
+fn a_number_over_32_bits_is_wrong(rt: HostRuntime) {
+    assert!(rt;
+        writes(
+            &rt,
+            "vmecheck part --number 4294967296 binding dump",
+            b"",
+            b"",
+            None
+        )
+    );
 }
 
 #[test]

@@ -1,6 +1,6 @@
 -- What the typed getters of a parse read.
 use Rattle.std.proofs.Common.{◌≡◌, ℕ, ◌<◌, ◌≤◌, ◌^◌, List, [], ◌∷◌, ◌++◌, refl, ap, sym, subst, ◌∙◌, IfErr, IsErrAnd}
-use Rattle.std.proofs.Common.{false, inl, inr, is_some, true, true≢false}
+use Rattle.std.proofs.Common.{IsSomeAnd, false, inl, inr, is_some, map, true, true≢false}
 use Rattle.std.specs.Prelude.{IfSome, Option, Some, None, Result, Ok, Err, codes, find, option_map, slice_get}
 use Rattle.std.specs.Prelude.{string_bytes, unwrap_or}
 use Rattle.std.specs.Str.{bytes_eq}
@@ -18,16 +18,17 @@ use Rattle.clap.specs.Words.{subcommand_name_of, subcommand_rows_of}
 use Rattle.clap.specs.declared.parser.matches.ArgMatches.TheViews.{out-ArgMatches}
 use Rattle.vme_words.specs.Orders.{HasAll, HasOrder}
 use Rattle.vme_words.specs.Orders.{HasNumber, HasUnsigned, IsOrder, Says, SaysAudit, SaysConfirmation, SaysOrder}
-use Rattle.vme_words.specs.Orders.{SaysExplanation, SaysWords}
-use Rattle.vme_words.specs.Orders.{if_given, names_in, number_in, number_of, scope_in, skew_in, task_name}
+use Rattle.vme_words.specs.Orders.{SaysExplanation, SaysPartWords, SaysParts, SaysTellWords, SaysWords, has_flag}
+use Rattle.vme_words.specs.Orders.{if_given, names_in, number_in, number_of, parts_in, scope_in, skew_in, task_name}
 use Rattle.vme_words.specs.Commands.{greatest_number, vmecheck_app}
 use Rattle.vme_words.specs.OrderFaults.{ComesOf, IsFaultOf}
 use Rattle.vme_words.specs.declared.order_fault.OrderFault.{OrderFault}
 use Rattle.vme_words.specs.declared.order_fault.OrderFault.TheVariants.{Usage, Memory as no_memory}
 use Rattle.vme_words.specs.declared.order.Order.{Order}
+use Rattle.vme_words.specs.declared.order.PartWords.{PartWords}
 use Rattle.vme_words.specs.declared.order.Task.{Task}
 use Rattle.vme_words.specs.declared.order.Task.TheVariants.{Check, List as Listing, Confirm, Rules, Variables, Bind}
-use Rattle.vme_words.specs.declared.order.Task.TheVariants.{Explain, Audit, Faults}
+use Rattle.vme_words.specs.declared.order.Task.TheVariants.{Annotate, Audit, Explain, Faults, Join, Part, Tell}
 
 -- the number that a getter reads of an option is the number of its text
 pub number_read : (E : Type 0) (G : List ℕ → Result ℕ E → Type 0) (m : ArgMatches) (id : Text) (n : ℕ) (r : Option ℕ)
@@ -171,11 +172,11 @@ is_check order rows task says = record {
 }
 
 pub is_list : (order : Order) (rows : List Row) → order.command ≡ Listing → SaysOrder order rows
-    → IsOrder order (Some (codes "list", rows))
-is_list order rows task says = record {
+    → order.has_times ≡ has_flag (codes "times") rows → IsOrder order (Some (codes "list", rows))
+is_list order rows task says times = record {
   rows = rows;
   command = ap (λ (t : Task). Some (task_name t, rows)) (sym task);
-  says = subst (λ (t : Task). Says t order rows) (sym task) says;
+  says = subst (λ (t : Task). Says t order rows) (sym task) (record { recording = says; times = times });
 }
 
 pub is_confirmation : (order : Order) (rows : List Row) → order.command ≡ Confirm → SaysConfirmation order rows
@@ -233,6 +234,66 @@ is_explain order rows task says picture =
 pub is_audit : (order : Order) (rows : List Row) → order.command ≡ Audit → SaysAudit order rows
     → IsOrder order (Some (codes "audit", rows))
 is_audit order rows task says = record {
+  rows = rows;
+  command = ap (λ (t : Task). Some (task_name t, rows)) (sym task);
+  says = subst (λ (t : Task). Says t order rows) (sym task) says;
+}
+
+pub is_annotate : (order : Order) (rows : List Row) → order.command ≡ Annotate → SaysWords order (skew_in rows) None
+    (names_in rows) → IsOrder order (Some (codes "annotate", rows))
+is_annotate order rows task says = record {
+  rows = rows;
+  command = ap (λ (t : Task). Some (task_name t, rows)) (sym task);
+  says = subst (λ (t : Task). Says t order rows) (sym task) says;
+}
+
+-- ---- orders on parts
+
+-- what is told of parts in an order is what these words are
+pub told_parts : (order : Order) (words : PartWords) (told : PartWords → Type 0) (names : List (Option Text))
+    → SaysParts order (λ w. w ≡ words) names → told words → SaysParts order told names
+told_parts order words told names says is = record {
+  block = says.block;
+  workers = says.workers;
+  skew = says.skew;
+  scope = says.scope;
+  audit = says.audit;
+  part = by_words order.part says.part;
+  names = says.names;
+}
+  where
+    by_words : (o : Option PartWords) → IsSomeAnd o (λ w. w ≡ words) → IsSomeAnd o told
+    by_words (Some w) e = subst told (sym e) is
+    by_words None e = absurd e
+
+both_maps : {A : Type 0} (f : A → Text) (xs : List A) → map (λ x. Some (f x)) xs ≡ map (λ t. Some t) (map f xs)
+both_maps f [] = refl
+both_maps f (x ∷ xs) = ap (λ (k : List (Option Text)). Some (f x) ∷ k) (both_maps f xs)
+
+-- texts are some words
+pub some_texts : {A : Type 0} (f : A → Text) (xs : List A) (texts : List Text) → map f xs ≡ texts
+    → map (λ x. Some (f x)) xs ≡ map (λ t. Some t) texts
+some_texts f xs texts e = both_maps f xs ∙ ap (map (λ (t : Text). Some t)) e
+
+pub is_part : (order : Order) (rows : List Row) → order.command ≡ Part
+    → SaysParts order (λ words. SaysPartWords words rows) (names_in rows) → IsOrder order (Some (codes "part", rows))
+is_part order rows task says = record {
+  rows = rows;
+  command = ap (λ (t : Task). Some (task_name t, rows)) (sym task);
+  says = subst (λ (t : Task). Says t order rows) (sym task) says;
+}
+
+pub is_join : (order : Order) (rows : List Row) → order.command ≡ Join → SaysWords order (Some 0) None (parts_in rows)
+    → IsOrder order (Some (codes "join", rows))
+is_join order rows task says = record {
+  rows = rows;
+  command = ap (λ (t : Task). Some (task_name t, rows)) (sym task);
+  says = subst (λ (t : Task). Says t order rows) (sym task) says;
+}
+
+pub is_tell : (order : Order) (rows : List Row) → order.command ≡ Tell
+    → SaysParts order (λ words. SaysTellWords words rows) (parts_in rows) → IsOrder order (Some (codes "tell", rows))
+is_tell order rows task says = record {
   rows = rows;
   command = ap (λ (t : Task). Some (task_name t, rows)) (sym task);
   says = subst (λ (t : Task). Says t order rows) (sym task) says;

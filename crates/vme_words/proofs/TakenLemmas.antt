@@ -15,14 +15,15 @@ use Rattle.clap.specs.Walk.{Rule, Text, answers_to, finished, nothing_held, rows
 use Rattle.clap.specs.Walk.{walk_from, with_default}
 use Rattle.clap.specs.declared.builder.value_parser.ValueParser.TheVariants.{Signed, Unsigned}
 use Rattle.clap.proofs.OnLiterals.{clap_on_literals}
-use Rattle.vme_words.specs.Commands.{allow_rule, audit_app, bind_app, confirm_app, explain_app, faults_app, file_rule}
-use Rattle.vme_words.specs.Commands.{files_rule, flag_rule, greatest_number, number_rule, recording_app, rules_app}
-use Rattle.vme_words.specs.Commands.{skew_rule, slots_rule, stop_rule, transfers_rule, variables_app, vmecheck_app}
-use Rattle.vme_words.specs.Commands.{word_rule}
-use Rattle.vme_words.specs.Orders.{HasAudit, HasConfirmation, HasExplanation, HasName, HasOrder, HasRecording}
+use Rattle.vme_words.specs.Commands.{allow_rule, annotate_app, audit_app, bind_app, confirm_app, explain_app}
+use Rattle.vme_words.specs.Commands.{faults_app, file_count_rule, file_number_rule, file_rule, files_rule, flag_rule}
+use Rattle.vme_words.specs.Commands.{greatest_number, join_app, list_app, number_rule, part_app, recording_app}
+use Rattle.vme_words.specs.Commands.{rules_app, skew_rule, slots_rule, stop_rule, tell_app, transfers_rule}
+use Rattle.vme_words.specs.Commands.{variables_app, vmecheck_app, word_rule}
+use Rattle.vme_words.specs.Orders.{HasAudit, HasConfirmation, HasSkewAndNames, HasName, HasOrder, HasPart, HasRecording}
 use Rattle.vme_words.specs.Orders.{MayHaveUnsigned}
-use Rattle.vme_words.specs.declared.order.Task.TheVariants.{Check, List as Listing, Confirm, Rules, Variables, Bind}
-use Rattle.vme_words.specs.declared.order.Task.TheVariants.{Explain, Audit, Faults}
+use Rattle.vme_words.specs.declared.order.Task.TheVariants.{Annotate, Audit, Bind, Check, Confirm, Explain, Faults}
+use Rattle.vme_words.specs.declared.order.Task.TheVariants.{Join, List as Listing, Part, Rules, Tell, Variables}
 use Rattle.vme_words.proofs.RowLemmas.{EachKnown, NamesNoHelp, both_free, default_adds, defaults_keep, given_text}
 use Rattle.vme_words.proofs.RowLemmas.{level_good, row_may_say, row_says, walk_stops}
 
@@ -33,6 +34,12 @@ above = with_leaf_noted (marked_built vmecheck_app.top)
 
 abbrev recording : Text → Shape
 recording name = built_leaf (inherited above (recording_app name).top)
+
+abbrev of_list : Shape
+of_list = built_leaf (inherited above list_app.top)
+
+abbrev of_annotate : Shape
+of_annotate = built_leaf (inherited above annotate_app.top)
 
 abbrev confirmation : Shape
 confirmation = built_leaf (inherited above confirm_app.top)
@@ -54,6 +61,15 @@ of_bind = built_leaf (inherited above bind_app.top)
 
 abbrev of_explain : Shape
 of_explain = built_leaf (inherited above explain_app.top)
+
+abbrev of_part : Shape
+of_part = built_leaf (inherited above part_app.top)
+
+abbrev of_join : Shape
+of_join = built_leaf (inherited above join_app.top)
+
+abbrev of_tell : Shape
+of_tell = built_leaf (inherited above tell_app.top)
 
 abbrev block : Rule
 block = with_index 1 (filled (number_rule (codes "block") 65536 (codes "16384")))
@@ -109,14 +125,38 @@ stop = with_index 1 (filled stop_rule)
 abbrev quiet : Rule
 quiet = with_index 1 (filled (flag_rule (codes "quiet")))
 
+abbrev times : Rule
+times = with_index 1 (filled (flag_rule (codes "times")))
+
 abbrev junit : Rule
 junit = with_index 1 (filled (word_rule (codes "junit")))
 
 abbrev dumps : Rule
 dumps = with_index 2 (filled (files_rule (codes "DUMP")))
 
+abbrev file_number : Rule
+file_number = with_index 1 (filled file_number_rule)
+
+abbrev marks : Rule
+marks = with_index 1 (filled (flag_rule (codes "listing")))
+
+abbrev list : Rule
+list = with_index 1 (filled (flag_rule (codes "list")))
+
+abbrev file_count : Rule
+file_count = with_index 1 (filled file_count_rule)
+
+abbrev parts : Rule
+parts = with_index 1 (filled (files_rule (codes "PART")))
+
 abbrev recording_rules : List Rule
 recording_rules = block ∷ workers ∷ skew ∷ binding ∷ dump ∷ help ∷ []
+
+abbrev listing_rules : List Rule
+listing_rules = block ∷ workers ∷ skew ∷ binding ∷ dump ∷ times ∷ help ∷ []
+
+abbrev annotate_rules : List Rule
+annotate_rules = skew ∷ binding ∷ dump ∷ help ∷ []
 
 abbrev confirmation_rules : List Rule
 confirmation_rules = skew ∷ binding ∷ dump ∷ listing ∷ help ∷ []
@@ -139,6 +179,15 @@ bind_rules = slots ∷ scope ∷ only_dump ∷ help ∷ []
 abbrev explain_rules : List Rule
 explain_rules = save_file ∷ picture ∷ skew ∷ binding ∷ dump ∷ help ∷ []
 
+abbrev part_rules : List Rule
+part_rules = file_number ∷ marks ∷ binding ∷ dump ∷ help ∷ []
+
+abbrev join_rules : List Rule
+join_rules = parts ∷ help ∷ []
+
+abbrev tell_rules : List Rule
+tell_rules = list ∷ file_count ∷ parts ∷ help ∷ []
+
 recording_known : EachKnown recording_rules recording_rules
 unfolding clap_on_literals
 recording_known = (
@@ -154,6 +203,41 @@ recording_known = (
           (record { own = refl; acts = tt; defaults = refl }, tt),
         ),
       ),
+    ),
+  ),
+)
+
+listing_known : EachKnown listing_rules listing_rules
+unfolding clap_on_literals
+listing_known = (
+  record { own = refl; acts = refl; defaults = refl },
+  (
+    record { own = refl; acts = refl; defaults = refl },
+    (
+      record { own = refl; acts = refl; defaults = refl },
+      (
+        record { own = refl; acts = refl; defaults = refl },
+        (
+          record { own = refl; acts = refl; defaults = refl },
+          (
+            record { own = refl; acts = refl; defaults = refl },
+            (record { own = refl; acts = tt; defaults = refl }, tt),
+          ),
+        ),
+      ),
+    ),
+  ),
+)
+
+annotate_known : EachKnown annotate_rules annotate_rules
+unfolding clap_on_literals
+annotate_known = (
+  record { own = refl; acts = refl; defaults = refl },
+  (
+    record { own = refl; acts = refl; defaults = refl },
+    (
+      record { own = refl; acts = refl; defaults = refl },
+      (record { own = refl; acts = tt; defaults = refl }, tt),
     ),
   ),
 )
@@ -261,6 +345,42 @@ explain_known = (
   ),
 )
 
+part_known : EachKnown part_rules part_rules
+unfolding clap_on_literals
+part_known = (
+  record { own = refl; acts = refl; defaults = refl },
+  (
+    record { own = refl; acts = refl; defaults = refl },
+    (
+      record { own = refl; acts = refl; defaults = refl },
+      (
+        record { own = refl; acts = refl; defaults = refl },
+        (record { own = refl; acts = tt; defaults = refl }, tt),
+      ),
+    ),
+  ),
+)
+
+join_known : EachKnown join_rules join_rules
+unfolding clap_on_literals
+join_known = (
+  record { own = refl; acts = refl; defaults = refl },
+  (record { own = refl; acts = tt; defaults = refl }, tt),
+)
+
+tell_known : EachKnown tell_rules tell_rules
+unfolding clap_on_literals
+tell_known = (
+  record { own = refl; acts = refl; defaults = refl },
+  (
+    record { own = refl; acts = refl; defaults = refl },
+    (
+      record { own = refl; acts = refl; defaults = refl },
+      (record { own = refl; acts = tt; defaults = refl }, tt),
+    ),
+  ),
+)
+
 -- ---- the matches of a subcommand
 
 one_given : (d : Bool) → check_kinds false false (not d || false) ≡ [] → d ≡ true
@@ -304,6 +424,34 @@ recording_has name words e =
       names = record {
         binding = given_text recording_rules rows binding level.0 recording_known.1.1.1.0.own given.0;
         dump = given_text recording_rules rows dump level.0 recording_known.1.1.1.1.0.own given.1;
+      };
+    }
+
+listing_has : (words : List Text) → level_fault of_list [] nothing_held words false [] ≡ []
+    → HasRecording (rows_after listing_rules [] words)
+listing_has words e =
+    let level = level_good of_list words listing_known e in
+    let rows = rows_after listing_rules [] words in
+    let before = (settled listing_rules (walk listing_rules [] nothing_held words).held).rows in
+    let given = two_given (is_given (codes "BINDING") rows) (is_given (codes "DUMP") rows) level.1 in
+    let behind_block = with_default before block in
+    let behind_workers = with_default behind_block workers in
+    let in_block = row_says listing_rules rows block (Signed (pos 1) (pos 65536)) level.0 listing_known.0.own refl
+    (defaults_keep (codes "block") (workers ∷ skew ∷ binding ∷ dump ∷ times ∷ help ∷ []) behind_block
+    (default_adds before block (codes "16384") [] refl)) in
+    let in_workers = row_says listing_rules rows workers (Signed (pos 1) (pos 64)) level.0 listing_known.1.0.own
+    refl (defaults_keep (codes "workers") (skew ∷ binding ∷ dump ∷ times ∷ help ∷ []) behind_workers
+    (default_adds behind_block workers (codes "4") [] refl)) in
+    let in_skew = row_says listing_rules rows skew (Unsigned 0 greatest_number) level.0 listing_known.1.1.0.own refl
+    (defaults_keep (codes "skew") (binding ∷ dump ∷ times ∷ help ∷ []) (with_default behind_workers skew)
+    (default_adds behind_workers skew (codes "0") [] refl)) in
+    record {
+      block = record { text = in_block.0; read = in_block.1; says = in_block.2 };
+      workers = record { text = in_workers.0; read = in_workers.1; says = in_workers.2 };
+      skew = record { text = in_skew.0; read = in_skew.1; says = in_skew.2 };
+      names = record {
+        binding = given_text listing_rules rows binding level.0 listing_known.1.1.1.0.own given.0;
+        dump = given_text listing_rules rows dump level.0 listing_known.1.1.1.1.0.own given.1;
       };
     }
 
@@ -379,7 +527,7 @@ bind_has words e =
     given_text bind_rules rows only_dump level.0 bind_known.1.1.0.own (one_given (is_given (codes "DUMP") rows) level.1)
 
 explain_has : (words : List Text) → level_fault of_explain [] nothing_held words false [] ≡ []
-    → HasExplanation (rows_after explain_rules [] words)
+    → HasSkewAndNames (rows_after explain_rules [] words)
 explain_has words e =
     let level = level_good of_explain words explain_known e in
     let rows = rows_after explain_rules [] words in
@@ -396,6 +544,52 @@ explain_has words e =
         dump = given_text explain_rules rows dump level.0 explain_known.1.1.1.1.0.own given.1;
       };
     }
+
+annotate_has : (words : List Text) → level_fault of_annotate [] nothing_held words false [] ≡ []
+    → HasSkewAndNames (rows_after annotate_rules [] words)
+annotate_has words e =
+    let level = level_good of_annotate words annotate_known e in
+    let rows = rows_after annotate_rules [] words in
+    let before = (settled annotate_rules (walk annotate_rules [] nothing_held words).held).rows in
+    let given = two_given (is_given (codes "BINDING") rows) (is_given (codes "DUMP") rows) level.1 in
+    let in_skew = row_says annotate_rules rows skew (Unsigned 0 greatest_number) level.0 annotate_known.0.own refl
+    (defaults_keep (codes "skew") (binding ∷ dump ∷ help ∷ []) (with_default before skew)
+    (default_adds before skew (codes "0") [] refl)) in
+    record {
+      skew = record { text = in_skew.0; read = in_skew.1; says = in_skew.2 };
+      names = record {
+        binding = given_text annotate_rules rows binding level.0 annotate_known.1.0.own given.0;
+        dump = given_text annotate_rules rows dump level.0 annotate_known.1.1.0.own given.1;
+      };
+    }
+
+part_has : (words : List Text) → level_fault of_part [] nothing_held words false [] ≡ []
+    → HasPart (rows_after part_rules [] words)
+part_has words e =
+    let level = level_good of_part words part_known e in
+    let rows = rows_after part_rules [] words in
+    let before = (settled part_rules (walk part_rules [] nothing_held words).held).rows in
+    let given = two_given (is_given (codes "BINDING") rows) (is_given (codes "DUMP") rows) level.1 in
+    let in_number = row_says part_rules rows file_number (Unsigned 0 greatest_number) level.0 part_known.0.own refl
+    (defaults_keep (codes "number") (marks ∷ binding ∷ dump ∷ help ∷ []) (with_default before file_number)
+    (default_adds before file_number (codes "0") [] refl)) in
+    record {
+      number = record { text = in_number.0; read = in_number.1; says = in_number.2 };
+      names = record {
+        binding = given_text part_rules rows binding level.0 part_known.1.1.0.own given.0;
+        dump = given_text part_rules rows dump level.0 part_known.1.1.1.0.own given.1;
+      };
+    }
+
+tell_has : (words : List Text) → level_fault of_tell [] nothing_held words false [] ≡ []
+    → MayHaveUnsigned (codes "files") 1 (rows_after tell_rules [] words)
+tell_has words e =
+    let level = level_good of_tell words tell_known e in
+    let rows = rows_after tell_rules [] words in
+    elim (row_may_say tell_rules rows file_count (Unsigned 1 greatest_number) level.0 tell_known.1.0.own refl) [
+      | inl none ↦ inl none
+      | inr n ↦ inr (record { text = n.0; read = n.1; says = n.2 })
+    ]
 
 -- ---- the words
 
@@ -474,13 +668,12 @@ check_makes words e = inl (record {
       = recording_has (codes "check") words e;
 })
 
-list_makes : Makes (recording (codes "list"))
+list_makes : Makes of_list
 list_makes words e = inl (record {
   task = Listing;
-  rows = rows_after recording_rules [] words;
+  rows = rows_after listing_rules [] words;
   command = refl;
-  has
-      = recording_has (codes "list") words e;
+  has = listing_has words e;
 })
 
 confirm_makes : Makes confirmation
@@ -533,6 +726,35 @@ explain_makes words e = inl (record {
       = explain_has words e;
 })
 
+annotate_makes : Makes of_annotate
+annotate_makes words e = inl (record {
+  task = Annotate;
+  rows = rows_after annotate_rules [] words;
+  command = refl;
+  has = annotate_has words e;
+})
+
+part_makes : Makes of_part
+part_makes words e = inl (record {
+  task = Part;
+  rows = rows_after part_rules [] words;
+  command = refl;
+  has
+      = part_has words e;
+})
+
+join_makes : Makes of_join
+join_makes words e = inl (record { task = Join; rows = rows_after join_rules [] words; command = refl; has = tt })
+
+tell_makes : Makes of_tell
+tell_makes words e = inl (record {
+  task = Tell;
+  rows = rows_after tell_rules [] words;
+  command = refl;
+  has
+      = tell_has words e;
+})
+
 help_makes : Makes (built_leaf help_shape)
 help_makes words e = inr refl
 
@@ -547,7 +769,19 @@ words_have_order words e = order_of_app (built vmecheck_app) (drop 1 words) (
       confirm_makes,
       (
         audit_makes,
-        (rules_makes, (faults_makes, (variables_makes, (bind_makes, (explain_makes, (help_makes, tt)))))),
+        (
+          rules_makes,
+          (
+            faults_makes,
+            (
+              variables_makes,
+              (
+                bind_makes,
+                (explain_makes, (annotate_makes, (part_makes, (join_makes, (tell_makes, (help_makes, tt)))))),
+              ),
+            ),
+          ),
+        ),
       ),
     ),
   ),

@@ -63,6 +63,10 @@ recording_app name =
     (file_rule (codes "BINDING")))
     (file_rule (codes "DUMP"))
 
+-- `list [--times]` with the same
+abbrev pub list_app : App
+list_app = with_rule (recording_app (codes "list")) (flag_rule (codes "times"))
+
 -- `confirm [--skew T] BINDING DUMP LISTING`
 abbrev pub confirm_app : App
 confirm_app =
@@ -129,12 +133,41 @@ explain_app =
     (file_rule (codes "BINDING")))
     (file_rule (codes "DUMP"))
 
+-- `annotate [--skew T] BINDING DUMP`
+abbrev pub annotate_app : App
+annotate_app =
+    with_rule (with_rule (with_rule (new_app (codes "annotate")) skew_rule) (file_rule (codes "BINDING")))
+    (file_rule (codes "DUMP"))
+
+-- `--number N`, N any number of 64 bits, 0 by default
+abbrev pub file_number_rule : Rule
+file_number_rule = unsigned_rule (codes "number") 0 (codes "0" ∷ [])
+
+-- `--files N`, N a number of 64 bits from 1 on, which need not be there
+abbrev pub file_count_rule : Rule
+file_count_rule = unsigned_rule (codes "files") 1 []
+
+-- `part [--number N] [--listing] BINDING DUMP`
+abbrev pub part_app : App
+part_app =
+    with_rule (with_rule (with_rule (with_rule (new_app (codes "part")) file_number_rule) (flag_rule (codes "listing")))
+    (file_rule (codes "BINDING"))) (file_rule (codes "DUMP"))
+
+-- `join PART..`
+abbrev pub join_app : App
+join_app = with_rule (new_app (codes "join")) (files_rule (codes "PART"))
+
+-- `tell [--list] [--files N] PART..`
+abbrev pub tell_app : App
+tell_app =
+    with_rule (with_rule (with_rule (new_app (codes "tell")) (flag_rule (codes "list"))) file_count_rule)
+    (files_rule (codes "PART"))
+
 -- the program, with the subcommands that judge recordings by a binding and nothing more
 abbrev pub recordings_app : App
 recordings_app =
     let check = recording_app (codes "check") in
-    let list = recording_app (codes "list") in
-    let two = with_subcommand (with_subcommand (new_app (codes "vmecheck")) check.top) list.top in
+    let two = with_subcommand (with_subcommand (new_app (codes "vmecheck")) check.top) list_app.top in
     with_subcommand (with_subcommand two confirm_app.top) audit_app.top
 
 -- the program, with these, and with those that tell of rules, of faults and of variables
@@ -146,6 +179,8 @@ telling_app =
 abbrev pub vmecheck_app : App
 vmecheck_app =
     let a = with_subcommand (with_subcommand telling_app bind_app.top) explain_app.top in
+    let a = with_subcommand (with_subcommand a annotate_app.top) part_app.top in
+    let a = with_subcommand (with_subcommand a join_app.top) tell_app.top in
     record a { top = record a.top { subcommand_required = true; has_version = true } }
 
 -- what is made, unless there was no memory, is read so, and has no option that holds for its subcommands too

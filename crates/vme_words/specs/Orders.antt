@@ -9,9 +9,10 @@ use Rattle.clap.specs.Words.{IsSignedIn, Row, Text, all_of, first_of, one_of, wi
 use Rattle.vme_words.specs.Commands.{greatest_number}
 use Rattle.vme_words.specs.declared.order.AuditWords.{AuditWords}
 use Rattle.vme_words.specs.declared.order.Order.{Order}
+use Rattle.vme_words.specs.declared.order.PartWords.{PartWords}
 use Rattle.vme_words.specs.declared.order.Task.{Task}
 use Rattle.vme_words.specs.declared.order.Task.TheVariants.{Check, List as Listing, Confirm, Rules, Variables, Bind}
-use Rattle.vme_words.specs.declared.order.Task.TheVariants.{Explain, Audit, Faults}
+use Rattle.vme_words.specs.declared.order.Task.TheVariants.{Annotate, Audit, Explain, Faults, Join, Part, Tell}
 
 -- the number that a text says, which may begin with a plus sign
 abbrev pub number_of : Text → ℕ
@@ -57,6 +58,10 @@ task_name Variables = codes "variables"
 task_name Bind = codes "bind"
 task_name Explain = codes "explain"
 task_name Audit = codes "audit"
+task_name Annotate = codes "annotate"
+task_name Part = codes "part"
+task_name Join = codes "join"
+task_name Tell = codes "tell"
 
 -- the matches of a subcommand on a recording are this order
 pub record SaysOrder (order : Order) (rows : List Row) : Type 0 where
@@ -65,7 +70,13 @@ pub record SaysOrder (order : Order) (rows : List Row) : Type 0 where
   pub skew : skew_in rows ≡ Some order.skew
   pub scope : order.scope ≡ None
   pub audit : order.audit ≡ None
+  pub part : order.part ≡ None
   pub names : map (λ name. Some (string_bytes name)) order.names.items ≡ names_in rows
+
+-- the same, of that on which rows may have times
+pub record SaysListing (order : Order) (rows : List Row) : Type 0 where
+  pub recording : SaysOrder order rows
+  pub times : order.has_times ≡ has_flag (codes "times") rows
 
 -- the matches of the subcommand on a listing are this order, whose other numbers are those of others by default
 pub record SaysConfirmation (order : Order) (rows : List Row) : Type 0 where
@@ -74,6 +85,7 @@ pub record SaysConfirmation (order : Order) (rows : List Row) : Type 0 where
   pub skew : skew_in rows ≡ Some order.skew
   pub scope : order.scope ≡ None
   pub audit : order.audit ≡ None
+  pub part : order.part ≡ None
   pub names : map (λ name. Some (string_bytes name)) order.names.items ≡ names_in rows
       ++ first_of (codes "LISTING") rows ∷ []
 
@@ -84,6 +96,7 @@ pub record SaysWords (order : Order) (skew : Option ℕ) (scope : Option Text) (
   pub skew_is : skew ≡ Some order.skew
   pub scope_is : option_map string_bytes order.scope ≡ scope
   pub audit : order.audit ≡ None
+  pub part : order.part ≡ None
   pub names : map (λ name. Some (string_bytes name)) order.names.items ≡ words
 
 -- the matches of the subcommand that explains are this order, with the words of the files that are wanted
@@ -106,13 +119,40 @@ pub record SaysAudit (order : Order) (rows : List Row) : Type 0 where
   pub skew : skew_in rows ≡ Some order.skew
   pub scope : order.scope ≡ None
   pub audit : IsSomeAnd order.audit (λ words. SaysAuditWords words rows)
+  pub part : order.part ≡ None
   pub binding : Text
   pub binding_is : first_of (codes "BINDING") rows ≡ Some binding
   pub names : map string_bytes order.names.items ≡ binding ∷ texts_in (codes "DUMP") rows
 
+-- the matches are what is told of the part of a file
+pub record SaysPartWords (words : PartWords) (rows : List Row) : Type 0 where
+  pub number : number_in (codes "number") rows ≡ Some words.number
+  pub listing : words.listing ≡ has_flag (codes "listing") rows
+  pub files : words.files ≡ None
+
+-- the matches are what is told of the whole by parts
+pub record SaysTellWords (words : PartWords) (rows : List Row) : Type 0 where
+  pub number : words.number ≡ 0
+  pub listing : words.listing ≡ has_flag (codes "list") rows
+  pub files : words.files ≡ number_in (codes "files") rows
+
+-- an order of these words and what is told of parts, whose other numbers are those that the others have by default
+pub record SaysParts (order : Order) (told : PartWords → Type 0) (words : List (Option Text)) : Type 0 where
+  pub block : order.block ≡ 16384
+  pub workers : order.workers ≡ 4
+  pub skew : order.skew ≡ 0
+  pub scope : order.scope ≡ None
+  pub audit : order.audit ≡ None
+  pub part : IsSomeAnd order.part told
+  pub names : map (λ name. Some (string_bytes name)) order.names.items ≡ words
+
+-- the words that name parts
+abbrev pub parts_in : List Row → List (Option Text)
+parts_in rows = map (λ text. Some text) (texts_in (codes "PART") rows)
+
 abbrev pub Says : Task → Order → List Row → Type 0
 Says Check order rows = SaysOrder order rows
-Says Listing order rows = SaysOrder order rows
+Says Listing order rows = SaysListing order rows
 Says Confirm order rows = SaysConfirmation order rows
 Says Rules order rows = SaysWords order (Some 0) None (if_given (first_of (codes "RULE") rows))
 Says Faults order rows = SaysWords order (Some 0) None (if_given (first_of (codes "KIND") rows))
@@ -121,6 +161,10 @@ Says Bind order rows = SaysWords order (Some 0) (scope_in rows)
     (first_of (codes "DUMP") rows ∷ if_given (first_of (codes "slots") rows))
 Says Explain order rows = SaysExplanation order rows
 Says Audit order rows = SaysAudit order rows
+Says Annotate order rows = SaysWords order (skew_in rows) None (names_in rows)
+Says Part order rows = SaysParts order (λ words. SaysPartWords words rows) (names_in rows)
+Says Join order rows = SaysWords order (Some 0) None (parts_in rows)
+Says Tell order rows = SaysParts order (λ words. SaysTellWords words rows) (parts_in rows)
 
 -- the subcommand that was met, with its matches, is this order
 pub record IsOrder (order : Order) (met : Option (Text × List Row)) : Type 0 where
@@ -169,7 +213,8 @@ pub record HasConfirmation (rows : List Row) : Type 0 where
   pub names : HasNames rows
   pub listing : HasName (codes "LISTING") rows
 
-pub record HasExplanation (rows : List Row) : Type 0 where
+-- a skew, the binding and the dump
+pub record HasSkewAndNames (rows : List Row) : Type 0 where
   pub skew : HasSkew rows
   pub names : HasNames rows
 
@@ -183,6 +228,10 @@ pub record HasAudit (rows : List Row) : Type 0 where
   pub binding : HasName (codes "BINDING") rows
   pub words : HasAuditWords rows
 
+pub record HasPart (rows : List Row) : Type 0 where
+  pub number : HasUnsigned (codes "number") 0 rows
+  pub names : HasNames rows
+
 abbrev pub HasAll : Task → List Row → Type 0
 HasAll Check rows = HasRecording rows
 HasAll Listing rows = HasRecording rows
@@ -191,8 +240,12 @@ HasAll Rules rows = Unit {0}
 HasAll Faults rows = Unit {0}
 HasAll Variables rows = HasName (codes "DUMP") rows
 HasAll Bind rows = HasName (codes "DUMP") rows
-HasAll Explain rows = HasExplanation rows
+HasAll Explain rows = HasSkewAndNames rows
 HasAll Audit rows = HasAudit rows
+HasAll Annotate rows = HasSkewAndNames rows
+HasAll Part rows = HasPart rows
+HasAll Join rows = Unit {0}
+HasAll Tell rows = MayHaveUnsigned (codes "files") 1 rows
 
 -- a task was met, and its matches have all that its order needs
 pub record HasOrder (met : Option (Text × List Row)) : Type 0 where

@@ -2,9 +2,11 @@
 
 ghost use Rattle.std.specs.Prelude.{◌≡◌, IfOk, Some, codes, false};
 ghost use Rattle.clap.specs.Words.{App, Rule, app_of, new_app, rule_of, with_rule, with_subcommand};
-ghost use Rattle.vme_words.specs.Commands.{Makes, allow_rule, audit_app, bind_app, confirm_app, explain_app};
-ghost use Rattle.vme_words.specs.Commands.{faults_app, file_rule, files_rule, flag_rule, number_rule, recording_app};
-ghost use Rattle.vme_words.specs.Commands.{recordings_app, rules_app, skew_rule, slots_rule, stop_rule, telling_app};
+ghost use Rattle.vme_words.specs.Commands.{Makes, allow_rule, annotate_app, audit_app, bind_app, confirm_app};
+ghost use Rattle.vme_words.specs.Commands.{explain_app, faults_app, file_count_rule, file_number_rule, file_rule};
+ghost use Rattle.vme_words.specs.Commands.{files_rule, flag_rule, join_app, list_app, number_rule, part_app};
+ghost use Rattle.vme_words.specs.Commands.{recording_app, recordings_app, rules_app, skew_rule, slots_rule};
+ghost use Rattle.vme_words.specs.Commands.{stop_rule, tell_app, telling_app};
 ghost use Rattle.vme_words.specs.Commands.{transfers_rule, variables_app, vmecheck_app, word_rule};
 
 use clap::{Arg, ArgAction, Command, value_parser};
@@ -26,9 +28,13 @@ Examples:
   vmecheck bind bus.vcd > bus.bind      a binding for a dump: look it over
   vmecheck check bus.bind bus.vcd       the verdict
   vmecheck explain bus.bind bus.vcd     why and where
+  vmecheck annotate bus.bind bus.vcd    the dump with its cycles and transfers, for a viewer
   vmecheck audit bus.bind 1.vcd 2.vcd   each break, and what was covered
   vmecheck rules H4                     what a rule asks
   vmecheck faults NoSuchPath            what a refusal means
+  vmecheck part --number 1 bus.bind tuesday.vcd > 1.part
+                                        the part of one of several files
+  vmecheck tell 0.part 1.part           the verdict of all of them
   zcat bus.vcd.gz | vmecheck check bus.bind /dev/stdin
                                         the verdict on a dump that comes by a pipe
 
@@ -47,7 +53,11 @@ pub fn vmecheck_command<'a>(alloc: Global) -> Result<Command<'a>, AllocError>
     ensures { IfOk result (λ command. app_of command ≡ vmecheck_app) }
 {
     let command = with_task(telling_commands(alloc), bind_command(alloc));
-    let command = with_task(command, explain_command(alloc))?;
+    let command = with_task(command, explain_command(alloc));
+    let command = with_task(command, annotate_command(alloc));
+    let command = with_task(command, part_command(alloc));
+    let command = with_task(command, join_command(alloc));
+    let command = with_task(command, tell_command(alloc))?;
     let command = command.about(ABOUT).after_help(EXAMPLES);
     Ok(command.subcommand_required(true).version(VERSION))
 }
@@ -110,13 +120,14 @@ pub(crate) fn check_command<'a>(alloc: Global) -> Result<Command<'a>, AllocError
 
 /// The command that lists what a recording has.
 pub(crate) fn list_command<'a>(alloc: Global) -> Result<Command<'a>, AllocError>
-    ensures { Makes (recording_app (codes "list")) result }
+    ensures { Makes list_app result }
 {
-    recording_command(
+    let command = recording_command(
         alloc,
         "list",
         "Lists the tenures, cycles and transfers of a recording, and its verdict",
-    )
+    );
+    with_arg(command, times_flag(alloc))
 }
 
 /// A command on the recording that a binding makes of a dump.
@@ -231,6 +242,105 @@ pub(crate) fn explain_command<'a>(alloc: Global) -> Result<Command<'a>, AllocErr
     let command = with_arg(command, skew_option(alloc));
     let command = with_arg(command, binding_file(alloc));
     with_arg(command, dump_file(alloc))
+}
+
+/// The command that writes a dump again, annotated with the listing of its recording.
+pub(crate) fn annotate_command<'a>(alloc: Global) -> Result<Command<'a>, AllocError>
+    ensures { Makes annotate_app result }
+{
+    let command = new_command(
+        alloc,
+        "annotate",
+        "Writes a dump again, with variables that show its tenures, cycles and transfers",
+    );
+    let command = with_arg(command, skew_option(alloc));
+    let command = with_arg(command, binding_file(alloc));
+    with_arg(command, dump_file(alloc))
+}
+
+/// The command that writes the part of a file of a recording.
+pub(crate) fn part_command<'a>(alloc: Global) -> Result<Command<'a>, AllocError>
+    ensures { Makes part_app result }
+{
+    let command = new_command(
+        alloc,
+        "part",
+        "Judges a file of a recording, whatever stood before it, and writes its part",
+    );
+    let command = with_arg(command, number_option(alloc));
+    let command = with_arg(command, marks_flag(alloc));
+    let command = with_arg(command, binding_file(alloc));
+    with_arg(command, dump_file(alloc))
+}
+
+/// The command that writes one part of several.
+pub(crate) fn join_command<'a>(alloc: Global) -> Result<Command<'a>, AllocError>
+    ensures { Makes join_app result }
+{
+    let command = new_command(alloc, "join", "Writes one part of several, in any order");
+    with_arg(command, part_files(alloc))
+}
+
+/// The command that tells the verdict of a whole recording by its parts.
+pub(crate) fn tell_command<'a>(alloc: Global) -> Result<Command<'a>, AllocError>
+    ensures { Makes tell_app result }
+{
+    let command = new_command(
+        alloc,
+        "tell",
+        "Tells the verdict of a whole recording by its parts, or writes its listing",
+    );
+    let command = with_arg(command, list_flag(alloc));
+    let command = with_arg(command, files_option(alloc));
+    with_arg(command, part_files(alloc))
+}
+
+fn number_option<'a>(alloc: Global) -> Arg<'a>
+    ensures rule { rule_of result ≡ file_number_rule }
+    ensures local { result.global ≡ false }
+{
+    Arg::new(alloc, "number")
+        .long("number")
+        .value_parser(value_parser!(u64))
+        .default_value("0")
+        .help("Which file of the recording the dump is, 0 to 4294967295")
+}
+
+fn files_option<'a>(alloc: Global) -> Arg<'a>
+    ensures rule { rule_of result ≡ file_count_rule }
+    ensures local { result.global ≡ false }
+{
+    Arg::new(alloc, "files")
+        .long("files")
+        .value_parser(value_parser!(u64).range(1..))
+        .help("How many files the recording has; else it ends with the last that has a part")
+}
+
+fn marks_flag<'a>(alloc: Global) -> Arg<'a>
+    ensures rule { rule_of result ≡ flag_rule (codes "listing") }
+    ensures local { result.global ≡ false }
+{
+    Arg::new(alloc, "listing")
+        .long("listing")
+        .action(ArgAction::SetTrue)
+        .help("Keeps the marks that a listing is made of")
+}
+
+fn list_flag<'a>(alloc: Global) -> Arg<'a>
+    ensures rule { rule_of result ≡ flag_rule (codes "list") }
+    ensures local { result.global ≡ false }
+{
+    Arg::new(alloc, "list")
+        .long("list")
+        .action(ArgAction::SetTrue)
+        .help("Writes the listing in place of the verdict")
+}
+
+fn part_files<'a>(alloc: Global) -> Arg<'a>
+    ensures rule { rule_of result ≡ files_rule (codes "PART") }
+    ensures local { result.global ≡ false }
+{
+    file(alloc, "PART", "The files of the parts").num_args(1..)
 }
 
 fn slots_option<'a>(alloc: Global) -> Arg<'a>
@@ -370,6 +480,16 @@ fn quiet_flag<'a>(alloc: Global) -> Arg<'a>
         .long("quiet")
         .action(ArgAction::SetTrue)
         .help("Tells the breaks and the outcome, and no counts")
+}
+
+fn times_flag<'a>(alloc: Global) -> Arg<'a>
+    ensures rule { rule_of result ≡ flag_rule (codes "times") }
+    ensures local { result.global ≡ false }
+{
+    Arg::new(alloc, "times")
+        .long("times")
+        .action(ArgAction::SetTrue)
+        .help("Tells the time of each instant, too; such a listing isn't confirmed")
 }
 
 fn junit_option<'a>(alloc: Global) -> Arg<'a>

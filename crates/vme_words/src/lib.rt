@@ -5,7 +5,7 @@
 //! - `command`: the command of the program, with a subcommand for each task, in `clap`'s terms.
 //! - `words`: [`words::order`] reads the arguments by `clap`'s rules of that command.
 //! - `order`: a task, and an [`Order`]: its numbers, the scope that is named, the options of an
-//!   audit, and the names of files.
+//!   audit and of parts, and the names of files.
 //! - `order_fault`: why arguments are no order.
 //!
 //! # What is proved
@@ -32,6 +32,6 @@ mod order_fault;
 pub mod words;
 
 pub use command::{VERSION, vmecheck_command};
-pub use order::{AuditWords, Order, Task};
+pub use order::{AuditWords, Order, PartWords, Task};
 pub use order_fault::OrderFault;
 pub use words::{task_fault, usage_fault};

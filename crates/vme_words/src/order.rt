@@ -24,6 +24,14 @@ pub enum Task {
     Bind,
     /// Judge a recording, and say why and where.
     Explain,
+    /// Write a dump again, annotated with the listing of its recording.
+    Annotate,
+    /// Judge a file of a recording, and write its part.
+    Part,
+    /// Write one part of several.
+    Join,
+    /// Tell the verdict of a whole recording by its parts, or write its listing.
+    Tell,
 }
 
 /// What the words of the command line ask for.
@@ -37,18 +45,33 @@ pub struct Order {
     pub workers: u32,
     /// How far apart probes may tell one moment of the bus, in time units of the dump.
     pub skew: u64,
+    /// Whether the rows of a listing have the times of their instants.
+    pub has_times: bool,
     /// The scope whose lines are bound, as its names joined by dots, if a binding is to be written and one is named.
     pub scope: Option<String>,
     /// The file of the picture to draw, if an explanation is asked for and one is wanted.
     pub picture: Option<String>,
     /// The words behind the task, by it: the binding and the dump, and for a confirmation the listing, or for an
     /// explanation the waveform viewer's file, if one is wanted; the binding and each dump of an audit; the dump, and
-    /// for a binding the number of slots, if it is told; or a rule, or a fault, if one is named.
+    /// for a binding the number of slots, if it is told; the parts; or a rule, or a fault, if one is named.
     pub names: Vec<String>,
     /// What an audit is told beside these, if that is the task.
     pub audit: Option<AuditWords>,
+    /// What is told of parts, if that is the task.
+    pub part: Option<PartWords>,
     ghost block_in_range: { (1 ≤ block) × (block ≤ 65536) },
     ghost workers_in_range: { (1 ≤ workers) × (workers ≤ 64) },
+}
+
+/// What is told of a part, or of the whole by parts.
+#[derive(Clone, Copy, Debug)]
+pub struct PartWords {
+    /// The number of the file.
+    pub number: u64,
+    /// Whether marks are kept for a listing, or the listing is wanted.
+    pub listing: bool,
+    /// How many files the recording has, if that is told.
+    pub files: Option<u64>,
 }
 
 /// What an audit is told.

@@ -6,16 +6,18 @@ ghost use Rattle.clap.specs.Words.{fault_of, first_of, found_of, kind_of, rows_o
 ghost use Rattle.vme_words.specs.Commands.{vmecheck_app};
 ghost use Rattle.vme_words.specs.OrderFaults.{HasUsageKind, IsFaultOf, IsOfWords};
 ghost use Rattle.vme_words.specs.declared.order.Task.{Task};
-ghost use Rattle.vme_words.specs.Orders.{HasAll, HasAudit, HasAuditWords, HasConfirmation, HasExplanation, HasName};
-ghost use Rattle.vme_words.specs.Orders.{HasNames, HasNumber, HasOrder, HasRecording, HasUnsigned, IsOrder};
-ghost use Rattle.vme_words.specs.Orders.{SaysAuditWords, SaysOrder, SaysWords, has_flag, if_given, names_in};
+ghost use Rattle.vme_words.specs.Orders.{HasAll, HasAudit, HasAuditWords, HasConfirmation, HasSkewAndNames, HasName};
+ghost use Rattle.vme_words.specs.Orders.{HasNames, HasNumber, HasOrder, HasPart, HasRecording, HasUnsigned, IsOrder};
+ghost use Rattle.vme_words.specs.Orders.{MayHaveUnsigned};
+ghost use Rattle.vme_words.specs.Orders.{SaysAuditWords, SaysOrder, SaysParts, SaysWords, has_flag, if_given, names_in};
 ghost use Rattle.vme_words.specs.Orders.{number_in, task_name, texts_in};
 
 use crate::command::{
-    audit_command, bind_command, check_command, confirm_command, explain_command, faults_command,
-    list_command, rules_command, variables_command, vmecheck_command,
+    annotate_command, audit_command, bind_command, check_command, confirm_command, explain_command,
+    faults_command, join_command, list_command, part_command, rules_command, tell_command,
+    variables_command, vmecheck_command,
 };
-use crate::order::{AuditWords, Order, Task};
+use crate::order::{AuditWords, Order, PartWords, Task};
 use crate::order_fault::OrderFault;
 use clap::error::ErrorKind;
 use clap::{ArgMatches, Command};
@@ -76,6 +78,14 @@ fn task_named(name: &str) -> Option<Task>
         Some(Task::Explain)
     } else if name == "audit" {
         Some(Task::Audit)
+    } else if name == "annotate" {
+        Some(Task::Annotate)
+    } else if name == "part" {
+        Some(Task::Part)
+    } else if name == "join" {
+        Some(Task::Join)
+    } else if name == "tell" {
+        Some(Task::Tell)
     } else {
         None
     }
@@ -97,6 +107,10 @@ fn order_to(alloc: Global, task: Task, found: &ArgMatches<'_>) -> Result<Option<
         Task::Bind => bind_order(alloc, found),
         Task::Explain => explain_order(alloc, found),
         Task::Audit => audit_order(alloc, found),
+        Task::Annotate => annotate_order(alloc, found),
+        Task::Part => part_order(alloc, found),
+        Task::Join => join_order(alloc, found),
+        Task::Tell => tell_order(alloc, found),
     }
 }
 
@@ -107,7 +121,7 @@ fn check_order(alloc: Global, found: &ArgMatches<'_>) -> Result<Option<Order>, A
         (Some (codes "check", rows_of (found_of found.now))))) }
     ensures found { HasRecording (rows_of (found_of found.now)) → IfOk result (λ o. is_some o ≡ true) }
 {
-    recording_order(alloc, Task::Check, found)
+    recording_order(alloc, Task::Check, false, found)
 }
 
 /// The order that the matches of `list` are, if they are one.
@@ -117,16 +131,18 @@ fn list_order(alloc: Global, found: &ArgMatches<'_>) -> Result<Option<Order>, Al
         (Some (codes "list", rows_of (found_of found.now))))) }
     ensures found { HasRecording (rows_of (found_of found.now)) → IfOk result (λ o. is_some o ≡ true) }
 {
-    recording_order(alloc, Task::List, found)
+    recording_order(alloc, Task::List, has_flag(found, "times"), found)
 }
 
 /// The order on a recording that the matches of its subcommand are, if they are one.
 fn recording_order(
     alloc: Global,
     command: Task,
+    has_times: bool,
     found: &ArgMatches<'_>,
 ) -> Result<Option<Order>, AllocError>
     ensures task { IfOk result (λ o. IfSome o (λ order. order.command ≡ command)) }
+    ensures times { IfOk result (λ o. IfSome o (λ order. order.has_times ≡ has_times)) }
     ensures says { IfOk result (λ o. IfSome o (λ order. SaysOrder order (rows_of (found_of found.now)))) }
     ensures found { HasRecording (rows_of (found_of found.now)) → IfOk result (λ o. is_some o ≡ true) }
 {
@@ -143,10 +159,12 @@ fn recording_order(
             block,
             workers,
             skew,
+            has_times,
             scope: None,
             picture: None,
             names,
             audit: None,
+            part: None,
         })),
         None => Ok(None),
     }
@@ -168,10 +186,12 @@ fn confirm_order(alloc: Global, found: &ArgMatches<'_>) -> Result<Option<Order>,
             block: 16_384,
             workers: 4,
             skew,
+            has_times: false,
             scope: None,
             picture: None,
             names,
             audit: None,
+            part: None,
         })),
         None => Ok(None),
     }
@@ -234,7 +254,7 @@ fn bind_order(alloc: Global, found: &ArgMatches<'_>) -> Result<Option<Order>, Al
 fn explain_order(alloc: Global, found: &ArgMatches<'_>) -> Result<Option<Order>, AllocError>
     ensures said { IfOk result (λ o. IfSome o (λ order. IsOrder order
         (Some (codes "explain", rows_of (found_of found.now))))) }
-    ensures found { HasExplanation (rows_of (found_of found.now)) → IfOk result (λ o. is_some o ≡ true) }
+    ensures found { HasSkewAndNames (rows_of (found_of found.now)) → IfOk result (λ o. is_some o ≡ true) }
 {
     let Some(skew) = unsigned(found, "skew", 0) else {
         return Ok(None);
@@ -245,6 +265,22 @@ fn explain_order(alloc: Global, found: &ArgMatches<'_>) -> Result<Option<Order>,
             let picture = word_of(alloc, found, "svg")?;
             Ok(Some(order_to_explain(skew, names, picture)))
         }
+        None => Ok(None),
+    }
+}
+
+/// The order that the matches of `annotate` are, if they are one.
+#[tactic(auto, using(crate::proofs::OrderLemmas::is_annotate))]
+fn annotate_order(alloc: Global, found: &ArgMatches<'_>) -> Result<Option<Order>, AllocError>
+    ensures said { IfOk result (λ o. IfSome o (λ order. IsOrder order
+        (Some (codes "annotate", rows_of (found_of found.now))))) }
+    ensures found { HasSkewAndNames (rows_of (found_of found.now)) → IfOk result (λ o. is_some o ≡ true) }
+{
+    let Some(skew) = unsigned(found, "skew", 0) else {
+        return Ok(None);
+    };
+    match names_in(alloc, found)? {
+        Some(names) => Ok(Some(order_of_words(Task::Annotate, skew, None, names))),
         None => Ok(None),
     }
 }
@@ -274,11 +310,82 @@ fn audit_order(alloc: Global, found: &ArgMatches<'_>) -> Result<Option<Order>, A
         block: 16_384,
         workers,
         skew,
+        has_times: false,
         scope: None,
         picture: None,
         names,
         audit: Some(audit),
+        part: None,
     }))
+}
+
+/// The order that the matches of `part` are, if they are one.
+fn part_order(alloc: Global, found: &ArgMatches<'_>) -> Result<Option<Order>, AllocError>
+    ensures said { IfOk result (λ o. IfSome o (λ order. IsOrder order
+        (Some (codes "part", rows_of (found_of found.now))))) }
+    ensures found { HasPart (rows_of (found_of found.now)) → IfOk result (λ o. is_some o ≡ true) }
+{
+    let Some(number) = unsigned(found, "number", 0) else {
+        return Ok(None);
+    };
+    let words = PartWords {
+        number,
+        listing: has_flag(found, "listing"),
+        files: None,
+    };
+    match names_in(alloc, found)? {
+        Some(names) => Ok(Some(order_of_parts(Task::Part, words, names))),
+        None => Ok(None),
+    }
+}
+
+/// The order that the matches of `join` are.
+fn join_order(alloc: Global, found: &ArgMatches<'_>) -> Result<Option<Order>, AllocError>
+    ensures said { IfOk result (λ o. IfSome o (λ order. IsOrder order
+        (Some (codes "join", rows_of (found_of found.now))))) }
+    ensures found { IfOk result (λ o. is_some o ≡ true) }
+{
+    let names = with_each(alloc, Vec::new(alloc), found, "PART")?;
+    Ok(Some(order_of_words(Task::Join, 0, None, names)))
+}
+
+/// The order that the matches of `tell` are, if they are one.
+fn tell_order(alloc: Global, found: &ArgMatches<'_>) -> Result<Option<Order>, AllocError>
+    ensures said { IfOk result (λ o. IfSome o (λ order. IsOrder order
+        (Some (codes "tell", rows_of (found_of found.now))))) }
+    ensures found { MayHaveUnsigned (codes "files") 1 (rows_of (found_of found.now))
+        → IfOk result (λ o. is_some o ≡ true) }
+{
+    let files = unsigned(found, "files", 1);
+    if files.is_none() && found.get_str("files").is_some() {
+        return Ok(None);
+    }
+    let words = PartWords {
+        number: 0,
+        listing: has_flag(found, "list"),
+        files,
+    };
+    let names = with_each(alloc, Vec::new(alloc), found, "PART")?;
+    Ok(Some(order_of_parts(Task::Tell, words, names)))
+}
+
+/// An order of what is told of parts and these words, with the other numbers that the others have by default.
+fn order_of_parts(command: Task, words: PartWords, names: Vec<String>) -> Order
+    ensures command { result.command ≡ command }
+    ensures rest { SaysParts result (λ w. w ≡ words) (map (λ name. Some (string_bytes name)) names.items) }
+{
+    Order {
+        command,
+        block: 16_384,
+        workers: 4,
+        skew: 0,
+        has_times: false,
+        scope: None,
+        picture: None,
+        names,
+        audit: None,
+        part: Some(words),
+    }
 }
 
 /// What an audit is told, if its numbers are some.
@@ -315,10 +422,12 @@ fn order_of_words(command: Task, skew: u64, scope: Option<String>, names: Vec<St
         block: 16_384,
         workers: 4,
         skew,
+        has_times: false,
         scope,
         picture: None,
         names,
         audit: None,
+        part: None,
     }
 }
 
@@ -334,10 +443,12 @@ fn order_to_explain(skew: u64, names: Vec<String>, picture: Option<String>) -> O
         block: 16_384,
         workers: 4,
         skew,
+        has_times: false,
         scope: None,
         picture,
         names,
         audit: None,
+        part: None,
     }
 }
 
@@ -533,6 +644,10 @@ fn command_of<'a>(alloc: Global, task: Task) -> Result<Command<'a>, AllocError> 
         Task::Bind => bind_command(alloc),
         Task::Explain => explain_command(alloc),
         Task::Audit => audit_command(alloc),
+        Task::Annotate => annotate_command(alloc),
+        Task::Part => part_command(alloc),
+        Task::Join => join_command(alloc),
+        Task::Tell => tell_command(alloc),
     }
 }
 
@@ -548,5 +663,9 @@ fn words_of(task: Task) -> &'static str {
         Task::Bind => "vmecheck bind",
         Task::Explain => "vmecheck explain",
         Task::Audit => "vmecheck audit",
+        Task::Annotate => "vmecheck annotate",
+        Task::Part => "vmecheck part",
+        Task::Join => "vmecheck join",
+        Task::Tell => "vmecheck tell",
     }
 }

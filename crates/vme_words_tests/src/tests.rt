@@ -39,7 +39,7 @@ fn are_joined(alloc: Global, texts: &[String], wanted: &str) -> bool {
 }
 
 /// Lines, the task that each orders, its block and its workers, and its names, each with a space behind it.
-static ORDERS: [(&str, Task, (u32, u32), &str); 13] = [
+static ORDERS: [(&str, Task, (u32, u32), &str); 17] = [
     (
         "vmecheck check --block 5 --workers 3 B V",
         Task::Check,
@@ -77,12 +77,16 @@ static ORDERS: [(&str, Task, (u32, u32), &str); 13] = [
         "V 21 ",
     ),
     ("vmecheck explain B V", Task::Explain, (16384, 4), "B V "),
+    ("vmecheck annotate B V", Task::Annotate, (16384, 4), "B V "),
+    ("vmecheck list --times B V", Task::List, (16384, 4), "B V "),
     (
         "vmecheck explain --gtkw=F B V",
         Task::Explain,
         (16384, 4),
         "B V F ",
     ),
+    ("vmecheck join P", Task::Join, (16384, 4), "P "),
+    ("vmecheck join P Q P", Task::Join, (16384, 4), "P Q P "),
 ];
 
 /// Whether a line orders this, and no skew.
@@ -103,6 +107,90 @@ fn orders(rt: HostRuntime) {
     for (line, command, numbers, names) in ORDERS.iter() {
         assert!(rt;
             is_ordered(rt.alloc(), line, *command, *numbers, names),
+            "{line}"
+        );
+    }
+}
+
+/// Lines, and whether each asks for times.
+static TIMES: [(&str, bool); 4] = [
+    ("vmecheck list --times B V", true),
+    ("vmecheck list B V --block 5 --times", true),
+    ("vmecheck list B V", false),
+    ("vmecheck check B V", false),
+];
+
+/// Whether a line is an order that asks for times, or one that doesn't.
+fn asks_for_times(alloc: Global, line: &str, has_times: bool) -> bool {
+    match order_of(alloc, line) {
+        Ok(order) => order.has_times == has_times,
+        Err(_) => false,
+    }
+}
+
+#[test]
+fn times_are_ordered(rt: HostRuntime) {
+    for (line, has_times) in TIMES.iter() {
+        assert!(rt; asks_for_times(rt.alloc(), line, *has_times), "{line}");
+    }
+}
+
+/// Lines on parts, the task that each orders, the number of the file, whether a listing is wanted, how many files there
+/// are, and its names.
+static PARTS: [(&str, Task, (u64, bool, Option<u64>), &str); 6] = [
+    ("vmecheck part B V", Task::Part, (0, false, None), "B V "),
+    (
+        "vmecheck part --number 3 --listing B V",
+        Task::Part,
+        (3, true, None),
+        "B V ",
+    ),
+    (
+        "vmecheck part B --number=18446744073709551615 V",
+        Task::Part,
+        (u64::MAX, false, None),
+        "B V ",
+    ),
+    ("vmecheck tell P", Task::Tell, (0, false, None), "P "),
+    (
+        "vmecheck tell --list P Q",
+        Task::Tell,
+        (0, true, None),
+        "P Q ",
+    ),
+    (
+        "vmecheck tell P --files 2 Q",
+        Task::Tell,
+        (0, false, Some(2)),
+        "P Q ",
+    ),
+];
+
+/// Whether a line orders this of parts.
+fn is_of_parts(
+    alloc: Global,
+    line: &str,
+    command: Task,
+    told: (u64, bool, Option<u64>),
+    names: &str,
+) -> bool {
+    match order_of(alloc, line) {
+        Ok(order) => {
+            order.command == command
+                && order
+                    .part
+                    .is_some_and(|words| (words.number, words.listing, words.files) == told)
+                && are_joined(alloc, &order.names, names)
+        }
+        Err(_) => false,
+    }
+}
+
+#[test]
+fn parts_are_ordered(rt: HostRuntime) {
+    for (line, command, told, names) in PARTS.iter() {
+        assert!(rt;
+            is_of_parts(rt.alloc(), line, *command, *told, names),
             "{line}"
         );
     }
@@ -280,7 +368,7 @@ fn skews_are_ordered(rt: HostRuntime) {
 }
 
 /// Lines that are no orders, and whether each asks for help.
-static REFUSED: [(&str, bool); 41] = [
+static REFUSED: [(&str, bool); 52] = [
     ("vmecheck check --block 0 B V", false),
     ("vmecheck check --block 65537 B V", false),
     ("vmecheck check --workers 0 B V", false),
@@ -302,6 +390,8 @@ static REFUSED: [(&str, bool); 41] = [
     ("vmecheck variables", false),
     ("vmecheck bind --slots 0 V", false),
     ("vmecheck bind --slots 22 V", false),
+    ("vmecheck check --times B V", false),
+    ("vmecheck annotate B", false),
     ("vmecheck explain B", false),
     ("vmecheck explain --gtkw B V", false),
     ("vmecheck explain --svg B V", false),
@@ -315,6 +405,14 @@ static REFUSED: [(&str, bool); 41] = [
     ("vmecheck audit --block 5 B V", false),
     ("vmecheck audit --allow B V", false),
     ("vmecheck audit --transfers -1 B V", false),
+    ("vmecheck part B", false),
+    ("vmecheck part --number -1 B V", false),
+    ("vmecheck part --files 2 B V", false),
+    ("vmecheck join", false),
+    ("vmecheck join --list P", false),
+    ("vmecheck tell", false),
+    ("vmecheck tell --files 0 P", false),
+    ("vmecheck tell --number 1 P", false),
     ("vmecheck help", true),
     ("vmecheck --version", true),
     ("vmecheck --help", true),
@@ -322,6 +420,7 @@ static REFUSED: [(&str, bool); 41] = [
     ("vmecheck list --help", true),
     ("vmecheck confirm -h", true),
     ("vmecheck audit --help", true),
+    ("vmecheck tell --help", true),
 ];
 
 /// Whether a line is no order, and what is said of it goes to standard error but for help that it asks for.

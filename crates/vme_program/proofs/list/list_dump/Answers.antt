@@ -4,7 +4,8 @@ use Rattle.vme_program.proofs.Refusals.{tells_refused}
 use Rattle.vme_program.proofs.list.list_dump.Goals as goal
 
 pub returns-in-Some : goal.returns-in-Some
-returns-in-Some g c = inr ((_, g.S.Reader.Source.reading c.list.new.dump), c.in-Some.ensures, c.list.ensures.answer)
+returns-in-Some g c =
+    inr ((_, g.S.Reader.Source.reading c.write_rows.new.dump), c.in-Some.ensures, c.write_rows.ensures)
 
 pub returns-in-None : goal.returns-in-None
 returns-in-None g c = inl (

@@ -42,6 +42,7 @@ returns-clause-said c =
       skew = c.in-Some-Some-Some.ensures'.value;
       scope = refl;
       audit = told;
+      part = refl;
       binding = c.in-Some-Some-Some.binding.now;
       binding_is = given;
       names = names;

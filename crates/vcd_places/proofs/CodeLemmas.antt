@@ -1,0 +1,62 @@
+-- One more of the codes that are found.
+use Rattle.std.proofs.Common.{◌≡◌, ℕ, ◌+◌, ◌<◌, List, [], ◌∷◌, ◌++◌, length, get_or, sym, subst, arith, inl, inr}
+use Rattle.std.proofs.Common.{map}
+use Rattle.std.specs.Prelude.{All}
+use Rattle.std.specs.Global.{Vec}
+use Rattle.std.specs.List.Sorted.{IsStrictlyIncreasing}
+use Rattle.std.proofs.lemmas.Bool.{cases_lt}
+use Rattle.std.proofs.lemmas.List.{get_or_append_left, get_or_push, length_push, map-append}
+use Rattle.std.proofs.lemmas.List.Elements.{All-push}
+use Rattle.vcd_read.specs.CodeNumbers.{code_number}
+use Rattle.vcd_places.specs.Codes.{IsUnused, number_of}
+
+increasing_push : (xs : List ℕ) (y : ℕ) → IsStrictlyIncreasing xs → All (λ (n : ℕ). n < y) xs
+    → IsStrictlyIncreasing (xs ++ y ∷ [])
+increasing_push xs y increasing below k lt =
+    elim (cases_lt (k + 1) (length xs)) [
+      | inl inside ↦
+          let first : get_or (xs ++ y ∷ []) k 0 ≡ get_or xs k 0 =
+          get_or_append_left xs (y ∷ []) 0 k (omega (arith, inside)) in
+          let second : get_or (xs ++ y ∷ []) (k + 1) 0 ≡ get_or xs (k + 1) 0 =
+          get_or_append_left xs (y ∷ []) 0 (k + 1) inside in
+          omega (arith, first, second, increasing k inside)
+      | inr past ↦
+          let last : length xs ≡ k + 1 = omega (arith, lt, length_push xs y, past) in
+          let first : get_or (xs ++ y ∷ []) k 0 ≡ get_or xs k 0 =
+          get_or_append_left xs (y ∷ []) 0 k (omega (arith, last)) in
+          let second : get_or (xs ++ y ∷ []) (k + 1) 0 ≡ y = get_or_push xs y 0 (k + 1) last in
+          omega (arith, first, second, below k 0 (omega (arith, last)))
+    ]
+
+weaker : (xs : List ℕ) (n : ℕ) → All (λ (k : ℕ). k < n) xs → All (λ (k : ℕ). k < n + 1) xs
+weaker xs n below k d lt = omega (arith, below k d lt)
+
+-- codes of a text, in the order of their numbers, all below this
+pub record AreFound (text : List ℕ) (found : List (Vec ℕ)) (number : ℕ) : Type 0 where
+  pub each : All (λ (code : Vec ℕ). IsUnused text (code_number code.items) code.items) found
+  pub ascend : IsStrictlyIncreasing (map number_of found)
+  pub below : All (λ (n : ℕ). n < number) (map number_of found)
+
+pub found_none : (text : List ℕ) (found : List (Vec ℕ)) (number : ℕ) → AreFound text found number
+    → AreFound text found (number + 1)
+found_none text found number are = record {
+  each = are.each;
+  ascend = are.ascend;
+  below = weaker (map number_of found) number are.below;
+}
+
+pub found_more : (text : List ℕ) (found : List (Vec ℕ)) (number : ℕ) (code : Vec ℕ) → AreFound text found number
+    → IsUnused text number code.items → AreFound text (found ++ code ∷ []) (number + 1)
+found_more text found number code are one =
+    let numbers = map-append number_of found (code ∷ []) in
+    let last : code_number code.items ≡ number = one.number_is in
+    record {
+      each = All-push (λ (v : Vec ℕ). IsUnused text (code_number v.items) v.items) found code are.each
+          (subst (λ (n : ℕ). IsUnused text n code.items) (sym last) one);
+      ascend = subst (λ (ns : List ℕ). IsStrictlyIncreasing ns) (sym numbers)
+          (increasing_push (map number_of found) (number_of code) are.ascend
+          (subst (λ (n : ℕ). All (λ (k : ℕ). k < n) (map number_of found)) (sym last) are.below));
+      below = subst (λ (ns : List ℕ). All (λ (n : ℕ). n < number + 1) ns) (sym numbers)
+          (All-push (λ (n : ℕ). n < number + 1) (map number_of found) (number_of code)
+          (weaker (map number_of found) number are.below) (omega (arith, last)));
+    }

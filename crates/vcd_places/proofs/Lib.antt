@@ -1,0 +1,9 @@
+pub mod PutInLemmas
+pub mod SkippedLemmas
+pub mod MoreNetsLemmas
+pub mod StringStepLemmas
+pub mod TakenLemmas
+pub mod ItemLemmas
+pub mod SectionLemmas
+pub mod CodeLemmas
+pub mod TimeLemmas

@@ -1,0 +1,236 @@
+-- The sections of the definitions, as they are taken.
+use Rattle.std.proofs.Common.{◌≡◌, ℕ, Bool, true, false, List, [], ◌∷◌, ◌++◌, Option, Some, None, length}
+use Rattle.std.proofs.Common.{take, drop, refl, sym, ap, ◌∙◌, true≢false}
+use Rattle.std.specs.Prelude.{not, ◌&&◌, ◌||◌, bytes_eq, codes, is_some, unwrap_or}
+use Rattle.std.specs.List.{list_any}
+use Rattle.std.proofs.lemmas.List.{append-nil}
+use Rattle.std.proofs.lemmas.List.Folds.{list_any-append}
+use Rattle.std.proofs.lemmas.Slice.Eq.{bytes_eq-Decides}
+use Rattle.vcd_read.specs.Tokens.{Token, cut_from, tokens}
+use Rattle.vcd_read.specs.Reading.{left_from}
+use Rattle.vcd_read.specs.Header.{Header, HeaderItem, Section, between, ends_definitions, header_from, inside, is_end}
+use Rattle.vcd_read.specs.Header.{opened, opens_section, stray, whole, with_item, with_word}
+use Rattle.vcd_read.specs.Body.{body_from, ready}
+use Rattle.vcd_read.specs.Meaning.{last_time}
+use Rattle.vcd_places.specs.Places.{IsAtTime, begins_apart, begins_with_token, body_in, ends_apart, ends_definitions_at}
+use Rattle.vcd_places.specs.Places.{is_between_sections, is_unfinished, times_of_body, times_told}
+use Rattle.vcd_places.specs.Taken.{IsNextToken, IsTakenToEnd, StandsAt, ends_section, is_seam}
+use Rattle.vcd_places.specs.Times.{IsBetweenItems, times_left}
+use Rattle.vcd_places.proofs.PutInLemmas.{GoOn, behind_items, header_ended, header_split}
+use Rattle.vcd_places.proofs.ItemLemmas.{section_taken, token}
+use Rattle.vcd_places.proofs.TakenLemmas.{tokens_at_seam, tokens_detached}
+
+both_true : (a b : Bool) → (a && b) ≡ true → (a ≡ true) × (b ≡ true)
+both_true true b e = (refl, e)
+both_true false b e = absurd (true≢false (sym e))
+
+and_true : (a b : Bool) → a ≡ true → b ≡ true → (a && b) ≡ true
+and_true true b first second = second
+and_true false b first second = absurd (true≢false (sym first))
+
+negated : (b : Bool) → not b ≡ true → b ≡ false
+negated true e = absurd (true≢false (sym e))
+negated false e = refl
+
+not_either : (a b : Bool) → (a || b) ≡ false → (a ≡ false) × (b ≡ false)
+not_either true b e = absurd (true≢false e)
+not_either false b e = (refl, e)
+
+-- ---- a section
+
+words_of : Section → List Token → Section
+words_of section [] = section
+words_of section (w ∷ words) = words_of (with_word section w.bytes) words
+
+-- behind a token of a section
+abbrev continued : Section → Token → List Token → Bool → Bool → Header
+continued section t ts test kind = elim test as (λ _. Header) [
+  | true ↦ elim kind as (λ _. Header) [
+    | true ↦ record { items = []; body = Some ts }
+    | false ↦ with_item (whole section) (header_from between ts)
+  ]
+  | false ↦ header_from (inside (with_word section t.bytes)) ts
+]
+
+section_ends : (section : Section) (words : List Token) (last : Token) (more : List Token)
+    → list_any ends_section words ≡ false → is_end last.bytes ≡ true → ends_definitions section ≡ true
+    → header_from (inside section) (words ++ last ∷ more) ≡ record { items = []; body = Some more }
+unfolding header_from
+section_ends section [] last more none ends is =
+    ap (λ (test : Bool). continued section last more test (ends_definitions section)) ends
+    ∙ ap (continued section last more true) is
+section_ends section (w ∷ words) last more none ends is =
+    let parts = not_either (is_end w.bytes) (list_any ends_section words) none in
+    ap (λ (test : Bool). continued section w (words ++ last ∷ more) test (ends_definitions section)) parts.0
+    ∙ section_ends (with_word section w.bytes) words last more parts.1 ends is
+
+section_whole : (section : Section) (words : List Token) (last : Token) (more : List Token)
+    → list_any ends_section words ≡ false → is_end last.bytes ≡ true → ends_definitions section ≡ false
+    → header_from (inside section) (words ++ last ∷ more)
+    ≡ with_item (whole (words_of section words)) (header_from between more)
+unfolding header_from words_of
+section_whole section [] last more none ends is =
+    ap (λ (test : Bool). continued section last more test (ends_definitions section)) ends
+    ∙ ap (continued section last more true) is
+section_whole section (w ∷ words) last more none ends is =
+    let parts = not_either (is_end w.bytes) (list_any ends_section words) none in
+    ap (λ (test : Bool). continued section w (words ++ last ∷ more) test (ends_definitions section)) parts.0
+    ∙ section_whole (with_word section w.bytes) words last more parts.1 ends is
+
+section_endless : (section : Section) (words : List Token) → list_any ends_section words ≡ false
+    → (header_from (inside section) words).body ≡ None
+unfolding header_from
+section_endless section [] none = refl
+section_endless section (w ∷ words) none =
+    let parts = not_either (is_end w.bytes) (list_any ends_section words) none in
+    ap (λ (test : Bool). (continued section w words test (ends_definitions section)).body) parts.0
+    ∙ section_endless (with_word section w.bytes) words parts.1
+
+-- behind a token between two sections
+abbrev opened_by : Token → List Token → Bool → Header
+opened_by t ts test = elim test as (λ _. Header) [
+  | true ↦ header_from (inside (opened t)) ts
+  | false ↦ with_item (stray t.line) (header_from between ts)
+]
+
+-- ---- the definitions go on
+
+go_on : (front : List ℕ) → is_between_sections front ≡ true → GoOn (header_from between (tokens front))
+go_on front goes =
+    let header : Header = header_from between (tokens front) in
+    let parts = both_true (not (is_some header.body)) (not (list_any is_unfinished header.items)) goes in
+    (negated (is_some header.body) parts.0, negated (list_any is_unfinished header.items) parts.1)
+
+pub goes_at_start : (text : List ℕ) → is_between_sections (take 0 text) ≡ true
+unfolding header_from cut_from
+goes_at_start text = refl
+
+split_at : (text : List ℕ) (at : ℕ) → is_between_sections (take at text) ≡ true → (ts : List Token)
+    → header_from between (tokens (take at text) ++ ts)
+    ≡ behind_items (header_from between (tokens (take at text))).items (header_from between ts)
+split_at text at goes ts = header_split ts (tokens (take at text)) between (go_on (take at text) goes)
+
+-- a header whose last item is whole
+still_between : (front : List ℕ) (items : List HeaderItem) (last : HeaderItem) → list_any is_unfinished items ≡ false
+    → is_unfinished last ≡ false
+    → header_from between (tokens front) ≡ record { items = items ++ last ∷ []; body = None }
+    → is_between_sections front ≡ true
+still_between front items last none is e =
+    ap (λ (h : Header). not (is_some h.body) && not (list_any is_unfinished h.items)) e
+    ∙ ap not (list_any-append is_unfinished items (last ∷ [])
+    ∙ ap (λ (test : Bool). test || (is_unfinished last || false)) none ∙ ap (λ (test : Bool). test || false) is)
+
+module _ (text : List ℕ) (at next : ℕ) (bytes : List ℕ) (goes : is_between_sections (take at text) ≡ true)
+    (one : IsNextToken text at next bytes) where
+  abbrev first : Token
+  first = token text at next bytes one
+
+  abbrev items : List HeaderItem
+  items = (header_from between (tokens (take at text))).items
+
+  none_unfinished : list_any is_unfinished items ≡ false
+  none_unfinished = (go_on (take at text) goes).1
+
+  pub stray_goes : opens_section bytes ≡ false → is_between_sections (take next text) ≡ true
+  unfolding header_from
+  stray_goes opens =
+      still_between (take next text) items (stray one.line) none_unfinished refl
+      (ap (header_from between) one.taken ∙ split_at text at goes (first ∷ [])
+      ∙ ap (behind_items items) (ap (opened_by first []) opens))
+
+  header_opened : (ts : List Token) → opens_section bytes ≡ true
+      → header_from between (first ∷ ts) ≡ header_from (inside (opened first)) ts
+  unfolding header_from
+  header_opened ts opens = ap (opened_by first ts) opens
+
+  module _ (end : ℕ) (opens : opens_section bytes ≡ true) (e : IsTakenToEnd text next end) where
+    tokens_behind : tokens (take end text) ≡ tokens (take at text) ++ first ∷ (e.words ++ e.last ∷ [])
+    tokens_behind = (section_taken text at next bytes one end e).taken
+
+    header_at : header_from between (tokens (take end text))
+        ≡ behind_items items (header_from (inside (opened first)) (e.words ++ e.last ∷ []))
+    header_at =
+        ap (header_from between) tokens_behind ∙ split_at text at goes (first ∷ (e.words ++ e.last ∷ []))
+        ∙ ap (behind_items items) (header_opened (e.words ++ e.last ∷ []) opens)
+
+    pub whole_goes : bytes_eq bytes (codes "$enddefinitions") ≡ false → is_between_sections (take end text) ≡ true
+    unfolding header_from
+    whole_goes is =
+        still_between (take end text) items (whole (words_of (opened first) e.words)) none_unfinished refl
+        (header_at ∙ ap (behind_items items) (section_whole (opened first) e.words e.last [] e.none e.ends is))
+
+    body_at : bytes_eq bytes (codes "$enddefinitions") ≡ true → body_in (take end text) ≡ Some []
+    body_at is =
+        ap (λ (h : Header). h.body) header_at
+        ∙ ap (λ (h : Header). h.body) (section_ends (opened first) e.words e.last [] e.none e.ends is)
+
+    -- the definitions end here
+    pub ended_at : bytes_eq bytes (codes "$enddefinitions") ≡ true → IsAtTime text 0 end
+    unfolding body_from last_time
+    ended_at is = record {
+      within = e.within;
+      detached = e.detached;
+      body = [];
+      ended = body_at is;
+      whole = λ more. refl;
+      time_is = refl;
+    }
+
+    pub between_at : bytes_eq bytes (codes "$enddefinitions") ≡ true → IsBetweenItems text end
+    unfolding body_from
+    between_at is = record {
+      within = e.within;
+      detached = e.detached;
+      body = [];
+      ended = body_at is;
+      whole = λ more. refl;
+    }
+
+    pub times_at : bytes_eq bytes (codes "$enddefinitions") ≡ true
+        → times_left (record { text = text; at = end }) ≡ times_of_body text
+    times_at is =
+        sym (ap (λ (o : Option (List Token)). times_told (body_from ready (unwrap_or o [])))
+        (ap (λ (ts : List Token). (header_from between ts).body) (tokens_detached text end e.detached)
+        ∙ ap (λ (h : Header). h.body)
+        (header_ended (left_from 1 text end) (tokens (take end text)) between [] (body_at is))))
+
+  -- its start
+  pub starts_at : (start : ℕ) → StandsAt text at next start bytes → bytes_eq bytes (codes "$enddefinitions") ≡ true
+      → ends_definitions_at text start ≡ true
+  starts_at start stands is =
+      let word : bytes ≡ codes "$enddefinitions" = (bytes_eq-Decides bytes (codes "$enddefinitions")).0 is in
+      let len : length bytes ≡ 15 = ap (λ (bs : List ℕ). length bs) word in
+      let begins : take 15 (drop start text) ≡ codes "$enddefinitions" =
+      sym (stands.bytes_are ∙ ap (λ (n : ℕ). take n (drop start text)) len) ∙ word in
+      and_true (ends_apart (take start text) && is_between_sections (take start text))
+      (begins_with_token (codes "$enddefinitions") (drop start text))
+      (and_true (ends_apart (take start text)) (is_between_sections (take start text)) stands.spaced
+      (ap (λ (ts : List Token). not (is_some (header_from between ts).body)
+      && not (list_any is_unfinished (header_from between ts).items)) stands.same ∙ goes))
+      (and_true (bytes_eq (take 15 (drop start text)) (codes "$enddefinitions"))
+      (begins_apart (drop 15 (drop start text)))
+      ((bytes_eq-Decides (take 15 (drop start text)) (codes "$enddefinitions")).1 begins)
+      (ap (λ (n : ℕ). begins_apart (drop n (drop start text))) (sym len) ∙ stands.behind))
+
+  -- a section without an end
+  pub none_behind : is_seam text at ≡ true → opens_section bytes ≡ true
+      → list_any ends_section (left_from 1 text next) ≡ false → body_in text ≡ None
+  none_behind seam opens endless =
+      ap (λ (ts : List Token). (header_from between ts).body)
+      (tokens_at_seam text at seam ∙ ap (λ (ts : List Token). tokens (take at text) ++ ts) one.left)
+      ∙ ap (λ (h : Header). h.body) (split_at text at goes (first ∷ left_from 1 text next)
+      ∙ ap (behind_items items) (header_opened (left_from 1 text next) opens))
+      ∙ section_endless (opened first) (left_from 1 text next) endless
+
+no_body : (o : Option (List Token)) → is_some o ≡ false → o ≡ None
+no_body None e = refl
+no_body (Some body) e = absurd (true≢false e)
+
+-- nothing is left behind the last section
+pub none_left : (text : List ℕ) (at : ℕ) → is_between_sections (take at text) ≡ true → is_seam text at ≡ true
+    → left_from 1 text at ≡ [] → body_in text ≡ None
+none_left text at goes seam left =
+    ap (λ (ts : List Token). (header_from between ts).body)
+    (tokens_at_seam text at seam ∙ ap (λ (ts : List Token). tokens (take at text) ++ ts) left
+    ∙ append-nil (tokens (take at text)))
+    ∙ no_body (header_from between (tokens (take at text))).body (go_on (take at text) goes).0

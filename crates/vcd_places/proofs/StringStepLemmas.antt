@@ -1,0 +1,99 @@
+-- A string that is put into the body of a text, behind an item: the definitions stay, and what comes of the body.
+use Rattle.std.proofs.Common.{◌≡◌, ℕ, List, ◌∷◌, ◌++◌, Option, Some, Result, true}
+use Rattle.std.proofs.Common.{refl, sym, ap, ◌∙◌}
+use Rattle.std.specs.Prelude.{option_map}
+use Rattle.vcd_read.specs.declared.dump.Instant.{Instant}
+use Rattle.vcd_read.specs.declared.fault.VcdFault.{VcdFault}
+use Rattle.vcd_read.specs.Tokens.{Token, tokens, tokens_from}
+use Rattle.vcd_read.specs.Reading.{line_behind}
+use Rattle.vcd_read.specs.Header.{Header, HeaderItem, Net, between, header_from, net_of}
+use Rattle.vcd_read.specs.Body.{BodyItem, body_from, ready, skipped}
+use Rattle.vcd_places.specs.Places.{AreWholeItems, begins_apart, body_in}
+use Rattle.vcd_places.proofs.PutInLemmas.{IsWord, header_ended, string_cut, string_read, string_text, tokens_apart}
+use Rattle.vcd_places.proofs.SkippedLemmas.{instants_in, skipped_in}
+
+-- ---- what a text comes to, by some nets
+
+abbrev pub items_of_text : List ℕ → List HeaderItem
+items_of_text text = (header_from between (tokens text)).items
+
+abbrev pub instants_of_text : List Net → List ℕ → Option (Result (List Instant) VcdFault)
+instants_of_text nets text = option_map (λ (body : List Token). instants_in nets (body_from ready body)) (body_in text)
+
+-- ---- strings
+
+-- a text that is shown by a code: each is a word, and the code has a net
+pub record IsShown (nets : List Net) (text code : List ℕ) : Type 0 where
+  pub word : IsWord text
+  pub first : ℕ
+  pub others : List ℕ
+  pub code_is : code ≡ first ∷ others
+  pub named : IsWord (first ∷ others)
+  pub net : ℕ
+  pub net_is : net_of nets code ≡ Some net
+
+-- ---- behind an item
+
+-- the definitions end in a text, and so does an item of its body, or nothing stands behind the definitions
+pub record EndsBehindItem (front : List ℕ) : Type 0 where
+  pub body : List Token
+  pub ended : body_in front ≡ Some body
+  pub whole : AreWholeItems body
+
+module _ (front : List ℕ) (behind : EndsBehindItem front) where
+  abbrev line : ℕ
+  line = line_behind 1 front
+
+  abbrev body_with : List ℕ → List Token
+  body_with rest = behind.body ++ tokens_from line rest
+
+  header_behind : (rest : List ℕ) → begins_apart rest ≡ true → header_from between (tokens (front ++ rest))
+      ≡ record { items = items_of_text front; body = Some (body_with rest) }
+  header_behind rest detached =
+      ap (header_from between) (tokens_apart front rest 1 detached)
+      ∙ header_ended (tokens_from line rest) (tokens front) between behind.body behind.ended
+
+  -- the definitions are those of the front
+  pub items_behind : (rest : List ℕ) → begins_apart rest ≡ true → items_of_text (front ++ rest) ≡ items_of_text front
+  items_behind rest detached = ap (λ (h : Header). h.items) (header_behind rest detached)
+
+  instants_behind : (nets : List Net) (rest : List ℕ) → begins_apart rest ≡ true
+      → instants_of_text nets (front ++ rest) ≡ Some (instants_in nets (body_from ready (body_with rest)))
+  instants_behind nets rest detached =
+      ap (λ (h : Header). option_map (λ (body : List Token). instants_in nets (body_from ready body)) h.body)
+      (header_behind rest detached)
+
+  string_step : (nets : List Net) (text code rest : List ℕ) → IsShown nets text code → begins_apart rest ≡ true
+      → instants_in nets (body_from ready (body_with (string_text text code ++ rest)))
+      ≡ instants_in nets (body_from ready (body_with rest))
+  string_step nets text code rest is detached =
+      let left : List Token = tokens_from line rest in
+      let cut : tokens_from line (string_text text code ++ rest)
+      ≡ record { line = line; bytes = 115 ∷ text } ∷ record { line = line; bytes = is.first ∷ is.others } ∷ left =
+      ap (λ (named : List ℕ). tokens_from line (string_text text named ++ rest)) is.code_is
+      ∙ string_cut line text is.first is.others rest is.word is.named detached in
+      let items : body_from ready (behind.body ++ record { line = line; bytes = 115 ∷ text }
+      ∷ record { line = line; bytes = is.first ∷ is.others } ∷ left)
+      ≡ body_from ready behind.body ++ skipped line (is.first ∷ is.others) ∷ body_from ready left =
+      behind.whole (record { line = line; bytes = 115 ∷ text }
+      ∷ record { line = line; bytes = is.first ∷ is.others } ∷ left)
+      ∙ ap (λ (items : List BodyItem). body_from ready behind.body ++ items)
+      (string_read line text (is.first ∷ is.others) left) in
+      ap (λ (ts : List Token). instants_in nets (body_from ready (behind.body ++ ts))) cut
+      ∙ ap (instants_in nets) items
+      ∙ skipped_in nets line is.net (is.first ∷ is.others) (ap (net_of nets) (sym is.code_is) ∙ is.net_is)
+      (body_from ready behind.body) (body_from ready left)
+      ∙ sym (ap (instants_in nets) (behind.whole left))
+
+  -- what a text comes to into which a string is put
+  pub instants_with : (nets : List Net) (text code rest : List ℕ) → IsShown nets text code → begins_apart rest ≡ true
+      → instants_of_text nets (front ++ (string_text text code ++ rest)) ≡ instants_of_text nets (front ++ rest)
+  instants_with nets text code rest is detached =
+      instants_behind nets (string_text text code ++ rest) refl
+      ∙ ap (λ (r : Result (List Instant) VcdFault). Some r) (string_step nets text code rest is detached)
+      ∙ sym (instants_behind nets rest detached)
+
+  pub items_with : (text code rest : List ℕ) → begins_apart rest ≡ true
+      → items_of_text (front ++ (string_text text code ++ rest)) ≡ items_of_text (front ++ rest)
+  items_with text code rest detached =
+      items_behind (string_text text code ++ rest) refl ∙ sym (items_behind rest detached)

@@ -1,0 +1,296 @@
+-- Tokens that are taken from a text, one after the other.
+use Rattle.std.proofs.Common.{◌≡◌, ℕ, zero, suc, ◌+◌, ◌-◌, ◌<◌, ◌≤◌, Bool, true, false, eqb, List, [], ◌∷◌, ◌++◌}
+use Rattle.std.proofs.Common.{length, get_or, take, drop, refl, sym, ap, subst, ◌∙◌, arith, append_assoc, true≢false}
+use Rattle.std.proofs.Common.{◌⊎◌, inl, inr, length-append, add-one}
+use Rattle.std.specs.Prelude.{nat_le, ◌&&◌, ◌||◌, Option, Some, None}
+use Rattle.std.specs.List.{last_or, list_any}
+use Rattle.std.specs.Option.{option_map_or}
+use Rattle.std.proofs.Math.Seq.{drop-cons, take-append_seam}
+use Rattle.std.proofs.lemmas.Bool.{cases_lt, eqb-true, le-leb}
+use Rattle.std.proofs.lemmas.List.{append-nil, length-drop, length-take, take-append-drop, take_more}
+use Rattle.std.proofs.lemmas.List.Folds.{list_any-append}
+use Rattle.vcd_read.specs.Tokens.{Token, cut_from, is_space, tokens, tokens_from}
+use Rattle.vcd_read.specs.Reading.{left_from}
+use Rattle.vcd_read.specs.Header.{is_end}
+use Rattle.vcd_read.proofs.TokenLemmas.{between, left_end, left_step, line_in, token_in, token_step}
+use Rattle.vcd_places.specs.Places.{begins_apart, ends_apart}
+use Rattle.vcd_places.specs.Taken.{IsNextToken, IsTakenToEnd, StandsAt, ends_section, is_seam}
+use Rattle.vcd_places.proofs.PutInLemmas.{tokens_apart, tokens_spaced}
+
+-- ---- seams
+
+both_true : (a b : Bool) → (a && b) ≡ true → (a ≡ true) × (b ≡ true)
+both_true true b e = (refl, e)
+both_true false b e = absurd (true≢false (sym e))
+
+either_true : (a b : Bool) → (a || b) ≡ true → (a ≡ true) ⊎ (b ≡ true)
+either_true true b e = inl refl
+either_true false b e = inr e
+
+pub seam_at_start : (text : List ℕ) → is_seam text 0 ≡ true
+seam_at_start text = rw (le-leb 0 (length text) (omega arith)) refl
+
+second_true : (a : Bool) → (a || true) ≡ true
+second_true true = refl
+second_true false = refl
+
+pub seam_from : (text : List ℕ) (at : ℕ) → at ≤ length text → begins_apart (drop at text) ≡ true
+    → is_seam text at ≡ true
+seam_from text at within detached =
+    ap (λ (test : Bool). test && (eqb at 0 || begins_apart (drop at text))) (le-leb at (length text) within)
+    ∙ ap (λ (test : Bool). eqb at 0 || test) detached ∙ second_true (eqb at 0)
+
+-- at a place behind which no token goes on
+pub tokens_detached : (text : List ℕ) (at : ℕ) → begins_apart (drop at text) ≡ true
+    → tokens text ≡ tokens (take at text) ++ left_from 1 text at
+tokens_detached text at detached =
+    ap (tokens_from 1) (sym (take-append-drop at text)) ∙ tokens_apart (take at text) (drop at text) 1 detached
+
+tokens_at_start : (text : List ℕ) → tokens text ≡ tokens (take 0 text) ++ left_from 1 text 0
+unfolding cut_from
+tokens_at_start text = refl
+
+pub tokens_at_seam : (text : List ℕ) (at : ℕ) → is_seam text at ≡ true
+    → tokens text ≡ tokens (take at text) ++ left_from 1 text at
+tokens_at_seam text at seam =
+    elim (either_true (eqb at 0) (begins_apart (drop at text)) (both_true (nat_le at (length text))
+    (eqb at 0 || begins_apart (drop at text)) seam).1) [
+      | inl is ↦ subst (λ (k : ℕ). tokens text ≡ tokens (take k text) ++ left_from 1 text k)
+          (sym (eqb-true at 0 is)) (tokens_at_start text)
+      | inr detached ↦ tokens_detached text at detached
+    ]
+
+-- ---- one token
+
+pub cancel_right : {A : Type 0} (xs ys zs : List A) → xs ++ zs ≡ ys ++ zs → xs ≡ ys
+cancel_right {A = A} xs ys zs e =
+    let same : length xs ≡ length ys =
+    omega (arith, length-append xs zs, length-append ys zs, ap (λ (l : List A). length l) e) in
+    sym (take-append_seam xs zs)
+    ∙ ap (take (length xs)) e
+    ∙ ap (λ (n : ℕ). take n (ys ++ zs)) same
+    ∙ take-append_seam ys zs
+
+skip_spaces : (text : List ℕ) (n at : ℕ) → at + n ≤ length text
+    → ((k : ℕ) → at ≤ k → k < at + n → is_space (get_or text k 0) ≡ true)
+    → left_from 1 text (at + n) ≡ left_from 1 text at
+skip_spaces text zero at within spaces = ap (left_from 1 text) (omega arith)
+skip_spaces text (suc n) at within spaces =
+    ap (left_from 1 text) (omega arith)
+    ∙ left_step 1 text (at + n) (omega (arith, within)) (spaces (at + n) (omega arith) (omega arith))
+    ∙ skip_spaces text n at (omega (arith, within)) (λ k low high. spaces k low (omega (arith, high)))
+
+pub spaces_skipped : (text : List ℕ) (at start : ℕ) → at ≤ start → start ≤ length text
+    → ((k : ℕ) → at ≤ k → k < start → is_space (get_or text k 0) ≡ true)
+    → left_from 1 text start ≡ left_from 1 text at
+spaces_skipped text at start le within spaces =
+    ap (left_from 1 text) (omega (arith, le))
+    ∙ skip_spaces text (start - at) at (omega (arith, le, within))
+    (λ k low high. spaces k low (omega (arith, high, le)))
+
+begins_at : (text : List ℕ) (end : ℕ) → (end < length text → is_space (get_or text end 0) ≡ true)
+    → begins_apart (drop end text) ≡ true
+begins_at [] zero space = refl
+begins_at [] (suc end) space = refl
+begins_at (b ∷ text) zero space = space (omega arith)
+begins_at (b ∷ text) (suc end) space = begins_at text end (λ lt. space (omega (arith, lt)))
+
+abbrev empty : List ℕ
+empty = []
+
+drop_nil : (n : ℕ) → drop n empty ≡ empty
+drop_nil zero = refl
+drop_nil (suc n) = refl
+
+drop_both : (xs : List ℕ) (m n : ℕ) → drop m (drop n xs) ≡ drop (n + m) xs
+drop_both xs m zero = ap (λ (k : ℕ). drop k xs) (omega arith)
+drop_both [] m (suc n) = drop_nil m ∙ sym (drop_nil (suc n + m))
+drop_both (x ∷ xs) m (suc n) =
+    let e : suc (n + m) ≡ suc n + m = omega arith in
+    drop_both xs m n ∙ ap (λ (k : ℕ). drop k (x ∷ xs)) e
+
+module _ (text : List ℕ) (at start end : ℕ) (seam : is_seam text at ≡ true) (low : at ≤ start) (some : start < end)
+    (high : end ≤ length text) (spaces : (k : ℕ) → at ≤ k → k < start → is_space (get_or text k 0) ≡ true)
+    (word : (k : ℕ) → start ≤ k → k < end → is_space (get_or text k 0) ≡ false)
+    (space : end < length text → is_space (get_or text end 0) ≡ true) where
+  abbrev bytes : List ℕ
+  bytes = between text start end
+
+  abbrev token : Token
+  token = token_in 1 text start bytes
+
+  pub detached : begins_apart (drop end text) ≡ true
+  detached = begins_at text end space
+
+  same_left : left_from 1 text start ≡ left_from 1 text at
+  same_left = spaces_skipped text at start low (omega (arith, some, high)) spaces
+
+  token_left : left_from 1 text at ≡ token ∷ left_from 1 text end
+  token_left = sym same_left ∙ token_step 1 text start end some high word space
+
+  pub is_taken : IsNextToken text at end bytes
+  is_taken = record {
+    line = line_in 1 text start;
+    moves = omega (arith, low, some);
+    within = high;
+    detached = detached;
+    left = token_left;
+    taken = cancel_right (tokens (take end text)) (tokens (take at text) ++ token ∷ []) (left_from 1 text end)
+        (sym (tokens_detached text end detached) ∙ tokens_at_seam text at seam
+        ∙ ap (λ (ts : List Token). tokens (take at text) ++ ts) token_left
+        ∙ sym (append_assoc (tokens (take at text)) (token ∷ []) (left_from 1 text end)));
+  }
+
+  -- ---- where it stands
+
+  count : length bytes ≡ end - start
+  count = omega (arith, length-take (end - start) (drop start text), length-drop start text, some, high)
+
+  last_is : (o : Option ℕ) (xs : List ℕ) (x : ℕ) → last_or o (xs ++ x ∷ []) ≡ Some x
+  last_is o [] x = refl
+  last_is o (y ∷ xs) x = last_is (Some y) xs x
+
+  ends_behind : (k : ℕ) → k < length text → is_space (get_or text k 0) ≡ true → ends_apart (take (k + 1) text) ≡ true
+  ends_behind k lt is =
+      ap ends_apart (take_more text k 0 lt)
+      ∙ ap (λ (o : Option ℕ). option_map_or is_space o true) (last_is None (take k text) (get_or text k 0))
+      ∙ is
+
+  spaced : ends_apart (take start text) ≡ true
+  spaced =
+      elim (cases_lt at start) [
+        | inl lt ↦ ap (λ (n : ℕ). ends_apart (take n text)) (omega (arith, lt))
+            ∙ ends_behind (start - 1) (omega (arith, lt, some, high))
+            (spaces (start - 1) (omega (arith, lt)) (omega (arith, lt)))
+        | inr past ↦ at_seam (omega (arith, low, past))
+      ]
+    where
+      first_is : begins_apart (drop start text) ≡ true → is_space (get_or text start 0) ≡ true
+      first_is begins =
+          let front : drop start text ≡ get_or text start 0 ∷ drop (start + 1) text =
+          rw add-one (drop-cons text start 0 (omega (arith, some, high))) in
+          sym (ap begins_apart front) ∙ begins
+
+      at_seam : start ≡ at → ends_apart (take start text) ≡ true
+      at_seam e =
+          elim (either_true (eqb at 0) (begins_apart (drop at text)) (both_true (nat_le at (length text))
+          (eqb at 0 || begins_apart (drop at text)) seam).1) [
+            | inl is ↦ ap (λ (n : ℕ). ends_apart (take n text)) (e ∙ eqb-true at 0 is)
+            | inr begins ↦ absurd (true≢false (sym (first_is (ap (λ (n : ℕ). begins_apart (drop n text)) e ∙ begins))
+                ∙ word start (omega arith) some))
+          ]
+
+  pub stands_at : StandsAt text at end start bytes
+  stands_at = record {
+    bytes_are = ap (λ (n : ℕ). take n (drop start text)) (sym count);
+    behind = ap begins_apart (drop_both text (length bytes) start
+        ∙ ap (λ (n : ℕ). drop n text) (omega (arith, count, some))) ∙ detached;
+    spaced = spaced;
+    same = cancel_right (tokens (take start text)) (tokens (take at text)) (left_from 1 text start)
+        (sym (tokens_spaced (take start text) (drop start text) 1 spaced)
+        ∙ ap (tokens_from 1) (take-append-drop start text) ∙ tokens_at_seam text at seam
+        ∙ ap (λ (ts : List Token). tokens (take at text) ++ ts) (sym same_left));
+    ends = omega (arith, count, some);
+    some = omega (arith, count, some);
+  }
+
+-- nothing is left where only spaces stand
+pub nothing_left : (text : List ℕ) (at start : ℕ) → at ≤ start → start ≡ length text
+    → ((k : ℕ) → at ≤ k → k < start → is_space (get_or text k 0) ≡ true) → left_from 1 text at ≡ []
+nothing_left text at start le is spaces =
+    sym (spaces_skipped text at start le (omega (arith, is)) spaces) ∙ left_end 1 text start (omega (arith, is))
+
+-- a place before a space, or at the end, is behind the word before it
+pub word_some : (text : List ℕ) (start end : ℕ) → start < length text → start ≤ end
+    → is_space (get_or text start 0) ≡ false → (end < length text → is_space (get_or text end 0) ≡ true) → start < end
+word_some text start end lt le first space =
+    elim (cases_lt start end) [
+      | inl below ↦ below
+      | inr past ↦
+          let e : end ≡ start = omega (arith, le, past) in
+          absurd (true≢false (sym (space (omega (arith, e, lt)))
+          ∙ ap (λ (k : ℕ). is_space (get_or text k 0)) e ∙ first))
+    ]
+
+-- ---- tokens up to an end
+
+-- these tokens are taken, and none is an end
+pub record IsTakenSoFar (text : List ℕ) (at next : ℕ) : Type 0 where
+  pub words : List Token
+  pub none : list_any ends_section words ≡ false
+  pub moves : at ≤ next
+  pub left : left_from 1 text at ≡ words ++ left_from 1 text next
+  pub taken : tokens (take next text) ≡ tokens (take at text) ++ words
+
+pub so_far_none : (text : List ℕ) (at : ℕ) → IsTakenSoFar text at at
+so_far_none text at = record {
+  words = [];
+  none = refl;
+  moves = omega arith;
+  left = refl;
+  taken = sym (append-nil (tokens (take at text)));
+}
+
+neither : (a b : Bool) → a ≡ false → b ≡ false → (a || b) ≡ false
+neither true b first second = absurd (true≢false first)
+neither false b first second = second
+
+pub so_far_more : (text : List ℕ) (at mid next : ℕ) (bytes : List ℕ) → IsTakenSoFar text at mid
+    → IsNextToken text mid next bytes → is_end bytes ≡ false → IsTakenSoFar text at next
+so_far_more text at mid next bytes so one no_end =
+    let token : Token = record { line = one.line; bytes = bytes } in
+    record {
+      words = so.words ++ token ∷ [];
+      none = list_any-append ends_section so.words (token ∷ [])
+          ∙ neither (list_any ends_section so.words) (is_end bytes || false) so.none
+          (neither (is_end bytes) false no_end refl);
+      moves = omega (arith, so.moves, one.moves);
+      left = so.left ∙ ap (λ (ts : List Token). so.words ++ ts) one.left
+          ∙ sym (append_assoc so.words (token ∷ []) (left_from 1 text next));
+      taken = one.taken ∙ ap (λ (ts : List Token). ts ++ token ∷ []) so.taken
+          ∙ append_assoc (tokens (take at text)) so.words (token ∷ []);
+    }
+
+pub to_end : (text : List ℕ) (at mid next : ℕ) (bytes : List ℕ) → IsTakenSoFar text at mid
+    → IsNextToken text mid next bytes → is_end bytes ≡ true → IsTakenToEnd text at next
+to_end text at mid next bytes so one is =
+    let token : Token = record { line = one.line; bytes = bytes } in
+    record {
+      words = so.words;
+      last = token;
+      none = so.none;
+      ends = is;
+      moves = omega (arith, so.moves, one.moves);
+      within = one.within;
+      detached = one.detached;
+      left = so.left ∙ ap (λ (ts : List Token). so.words ++ ts) one.left;
+      taken = one.taken ∙ ap (λ (ts : List Token). ts ++ token ∷ []) so.taken
+          ∙ append_assoc (tokens (take at text)) so.words (token ∷ []);
+    }
+
+pub no_end_left : (text : List ℕ) (at mid : ℕ) → IsTakenSoFar text at mid → left_from 1 text mid ≡ []
+    → list_any ends_section (left_from 1 text at) ≡ false
+no_end_left text at mid so none =
+    ap (list_any ends_section) (so.left ∙ ap (λ (ts : List Token). so.words ++ ts) none ∙ append-nil so.words) ∙ so.none
+
+-- ---- what holds of no token
+
+pub none_at_start : (p : Token → Bool) (text : List ℕ) → list_any p (tokens (take 0 text)) ≡ false
+unfolding cut_from
+none_at_start p text = refl
+
+pub none_of_all : (p : Token → Bool) (text : List ℕ) (at : ℕ) → is_seam text at ≡ true
+    → list_any p (tokens (take at text)) ≡ false → left_from 1 text at ≡ [] → list_any p (tokens text) ≡ false
+none_of_all p text at seam none left =
+    ap (list_any p) (tokens_at_seam text at seam ∙ ap (λ (ts : List Token). tokens (take at text) ++ ts) left
+    ∙ append-nil (tokens (take at text))) ∙ none
+
+pub none_of_next : (p : Token → Bool) (text : List ℕ) (at next : ℕ) (bytes : List ℕ)
+    (one : IsNextToken text at next bytes)
+    → list_any p (tokens (take at text)) ≡ false → p (record { line = one.line; bytes = bytes }) ≡ false
+    → list_any p (tokens (take next text)) ≡ false
+none_of_next p text at next bytes one none differs =
+    ap (list_any p) one.taken
+    ∙ list_any-append p (tokens (take at text)) (record { line = one.line; bytes = bytes } ∷ [])
+    ∙ neither (list_any p (tokens (take at text))) (p (record { line = one.line; bytes = bytes }) || false) none
+    (neither (p (record { line = one.line; bytes = bytes })) false differs refl)

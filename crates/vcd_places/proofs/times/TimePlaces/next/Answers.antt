@@ -1,0 +1,160 @@
+use Rattle.std.proofs.Common.{◌≡◌, ℕ, ◌∷◌, [], ◌++◌, List, refl, sym, ap, subst, ◌∙◌, arith}
+use Rattle.vcd_places.specs.Times.{IsBetweenItems, times_left}
+use Rattle.vcd_places.proofs.ItemLemmas.{at_time, between_next, comment_is_item, comment_last, if_none, named_is_item}
+use Rattle.vcd_places.proofs.ItemLemmas.{named_last, nothing_told, one_taken, passed, section_taken, single_is_item}
+use Rattle.vcd_places.proofs.ItemLemmas.{timed}
+use Rattle.vcd_places.proofs.ItemLemmas.{times_next, token, two_taken, untimed}
+use Rattle.vcd_places.proofs.times.TimePlaces.next.Goals as goal
+
+pub invariant_of-self : goal.invariant_of-self
+invariant_of-self c =
+    let text = c.args.self.now.text in
+    let at = c.loop-token.reader.at in
+    let next = c.next.new.self.at in
+    let bytes = c.in-Some.token.bytes.now in
+    let one = rw c.loop-token.invariant.same at c.in-Some.ensures.token in
+    let t = token text at next bytes one in
+    let item = timed t c.in-Time.digits.now c.in-Some-time_of.time (sym c.in-Time.ensures)
+    (sym c.in-Some-time_of.ensures) in
+    let taken = one_taken text at next bytes one in
+    subst (λ (text : List ℕ). IsBetweenItems text next) (sym c.loop-token.invariant.text)
+    (between_next text at next (t ∷ []) (c.in-Some-time_of.time ∷ []) c.loop-token.invariant.between taken item)
+
+pub returns-in-Some-time_of-clause-time : goal.returns-in-Some-time_of-clause-time
+returns-in-Some-time_of-clause-time c =
+    let text = c.args.self.now.text in
+    let at = c.loop-token.reader.at in
+    let next = c.next.new.self.at in
+    let bytes = c.in-Some.token.bytes.now in
+    let one = rw c.loop-token.invariant.same at c.in-Some.ensures.token in
+    let t = token text at next bytes one in
+    let item = timed t c.in-Time.digits.now c.in-Some-time_of.time (sym c.in-Time.ensures)
+    (sym c.in-Some-time_of.ensures) in
+    let taken = one_taken text at next bytes one in
+    sym c.loop-token.invariant.left
+    ∙ times_next text at next (t ∷ []) (c.in-Some-time_of.time ∷ []) c.loop-token.invariant.between taken item
+    ∙ ap (λ (text : List ℕ). c.in-Some-time_of.time ∷ times_left (record { text = text; at = next }))
+    (sym c.loop-token.invariant.text)
+
+pub returns-in-Some-time_of-clause-place : goal.returns-in-Some-time_of-clause-place
+returns-in-Some-time_of-clause-place c =
+    let text = c.args.self.now.text in
+    let at = c.loop-token.reader.at in
+    let next = c.next.new.self.at in
+    let bytes = c.in-Some.token.bytes.now in
+    let one = rw c.loop-token.invariant.same at c.in-Some.ensures.token in
+    at_time text at next bytes c.in-Time.digits.now c.in-Some-time_of.time c.loop-token.invariant.between one
+    (sym c.in-Time.ensures) (sym c.in-Some-time_of.ensures)
+
+pub loop-token-preserved-in_default-time_of : goal.loop-token-preserved-in_default-time_of
+loop-token-preserved-in_default-time_of c =
+    let text = c.args.self.now.text in
+    let at = c.loop-token.reader.at in
+    let next = c.next.new.self.at in
+    let bytes = c.in-Some.token.bytes.now in
+    let one = rw c.loop-token.invariant.same at c.in-Some.ensures.token in
+    let t = token text at next bytes one in
+    let step = passed text at next (t ∷ []) c.loop-token.invariant.between (one_taken text at next bytes one)
+    (untimed t c.in-Time.digits.now (sym c.in-Time.ensures) (sym c.time_of.ensures ∙ c.in_default-time_of.is)) in
+    record {
+      same = c.in-Some.ensures.text ∙ c.loop-token.invariant.same;
+      text = c.loop-token.invariant.text;
+      at = c.loop-token.invariant.at;
+      between = step.0;
+      left = step.1 ∙ c.loop-token.invariant.left;
+      moves = omega (arith, c.loop-token.invariant.moves, one.moves);
+    }
+
+pub loop-token-preserved-in_ok-next-in-Code : goal.loop-token-preserved-in_ok-next-in-Code
+loop-token-preserved-in_ok-next-in-Code c =
+    let text = c.args.self.now.text in
+    let at = c.loop-token.reader.at in
+    let next = c.next.new.self.at in
+    let bytes = c.in-Some.token.bytes.now in
+    let one = rw c.loop-token.invariant.same at c.in-Some.ensures.token in
+    let t = token text at next bytes one in
+    let same = c.in-Some.ensures.text ∙ c.loop-token.invariant.same in
+    let two = rw same at c.in_ok-next-in-Code.ensures.token in
+    let end = c.next-in-Code.new.self.at in
+    let code = c.in_ok-next-in-Code.field-0.bytes.now in
+    let u = token text next end code two in
+    let step = passed text at end (t ∷ u ∷ []) c.loop-token.invariant.between
+    (two_taken text at next bytes one end code two) (named_is_item t u (sym c.in-Code.ensures)) in
+    record {
+      same = c.in_ok-next-in-Code.ensures.text ∙ same;
+      text = c.loop-token.invariant.text;
+      at = c.loop-token.invariant.at;
+      between = step.0;
+      left = step.1 ∙ c.loop-token.invariant.left;
+      moves = omega (arith, c.loop-token.invariant.moves, one.moves, two.moves);
+    }
+
+pub returns-in_err-next-in-Code-clause-none : goal.returns-in_err-next-in-Code-clause-none
+returns-in_err-next-in-Code-clause-none c =
+    let text = c.args.self.now.text in
+    let at = c.loop-token.reader.at in
+    let next = c.next.new.self.at in
+    let bytes = c.in-Some.token.bytes.now in
+    let one = rw c.loop-token.invariant.same at c.in-Some.ensures.token in
+    let same = c.in-Some.ensures.text ∙ c.loop-token.invariant.same in
+    if_none c.from_residual.result (times_left c.args.self.now ≡ [])
+    (sym c.loop-token.invariant.left ∙ named_last text at next bytes one (sym c.in-Code.ensures)
+    (rw same at c.in_err-next-in-Code.ensures.none))
+
+pub returns-then-not-behind_end-clause-none : goal.returns-then-not-behind_end-clause-none
+returns-then-not-behind_end-clause-none c =
+    let text = c.args.self.now.text in
+    let at = c.loop-token.reader.at in
+    let next = c.next.new.self.at in
+    let bytes = c.in-Some.token.bytes.now in
+    let one = rw c.loop-token.invariant.same at c.in-Some.ensures.token in
+    let same = c.in-Some.ensures.text ∙ c.loop-token.invariant.same in
+    sym c.loop-token.invariant.left ∙ comment_last text at next bytes one (sym c.in-Comment.ensures)
+    (rw same at (c.if-not-behind_end.ensures.none refl))
+
+pub loop-token-preserved-else-not-behind_end : goal.loop-token-preserved-else-not-behind_end
+loop-token-preserved-else-not-behind_end c =
+    let text = c.args.self.now.text in
+    let at = c.loop-token.reader.at in
+    let next = c.next.new.self.at in
+    let bytes = c.in-Some.token.bytes.now in
+    let one = rw c.loop-token.invariant.same at c.in-Some.ensures.token in
+    let t = token text at next bytes one in
+    let same = c.in-Some.ensures.text ∙ c.loop-token.invariant.same in
+    let e = rw same at (c.if-not-behind_end.ensures.end refl) in
+    let end = c.behind_end.new.reader.at in
+    let step = passed text at end (t ∷ (e.words ++ e.last ∷ [])) c.loop-token.invariant.between
+    (section_taken text at next bytes one end e)
+    (comment_is_item t e.words e.last (sym c.in-Comment.ensures) e.none e.ends) in
+    record {
+      same = c.if-not-behind_end.ensures.text ∙ same;
+      text = c.loop-token.invariant.text;
+      at = c.loop-token.invariant.at;
+      between = step.0;
+      left = step.1 ∙ c.loop-token.invariant.left;
+      moves = omega (arith, c.loop-token.invariant.moves, one.moves, e.moves);
+    }
+
+pub loop-token-preserved : goal.loop-token-preserved
+loop-token-preserved c =
+    let text = c.args.self.now.text in
+    let at = c.loop-token.reader.at in
+    let next = c.next.new.self.at in
+    let bytes = c.in-Some.token.bytes.now in
+    let one = rw c.loop-token.invariant.same at c.in-Some.ensures.token in
+    let t = token text at next bytes one in
+    let step = passed text at next (t ∷ []) c.loop-token.invariant.between (one_taken text at next bytes one)
+    (single_is_item t (sym c.in-Whole.ensures)) in
+    record {
+      same = c.in-Some.ensures.text ∙ c.loop-token.invariant.same;
+      text = c.loop-token.invariant.text;
+      at = c.loop-token.invariant.at;
+      between = step.0;
+      left = step.1 ∙ c.loop-token.invariant.left;
+      moves = omega (arith, c.loop-token.invariant.moves, one.moves);
+    }
+
+pub returns-clause-none : goal.returns-clause-none
+returns-clause-none c =
+    sym c.loop-token.invariant.left ∙ nothing_told c.args.self.now.text c.loop-token.reader.at
+    (rw c.loop-token.invariant.same at c.in_default.ensures.none)

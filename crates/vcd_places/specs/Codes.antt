@@ -1,0 +1,21 @@
+-- Codes that are no tokens of a text.
+use Rattle.std.specs.Prelude.{◌≡◌, ℕ, ◌<◌, Bool, true, false, List, length, bytes_eq}
+use Rattle.std.specs.List.{list_any}
+use Rattle.std.specs.Global.{Vec}
+use Rattle.vcd_read.specs.CodeNumbers.{code_number}
+use Rattle.vcd_read.specs.Header.{is_code, is_end}
+use Rattle.vcd_read.specs.Tokens.{Token, tokens}
+
+abbrev pub is_token : List ℕ → Token → Bool
+is_token word t = bytes_eq t.bytes word
+
+abbrev pub number_of : Vec ℕ → ℕ
+number_of code = code_number code.items
+
+-- the code of a number, which a variable may have, and no token of a text is it
+pub record IsUnused (text : List ℕ) (number : ℕ) (code : List ℕ) : Type 0 where
+  pub number_is : code_number code ≡ number
+  pub some : 0 < length code
+  pub is_one : is_code code ≡ true
+  pub no_end : is_end code ≡ false
+  pub unused : list_any (is_token code) (tokens text) ≡ false

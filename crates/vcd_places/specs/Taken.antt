@@ -1,0 +1,45 @@
+-- Tokens that are taken from a text, one after the other.
+use Rattle.std.specs.Prelude.{◌≡◌, ℕ, ◌+◌, ◌<◌, ◌≤◌, ◌==◌, Bool, true, false, ◌&&◌, ◌||◌, List, [], ◌∷◌, ◌++◌, length}
+use Rattle.std.specs.Prelude.{take, drop, nat_le}
+use Rattle.std.specs.List.{list_any}
+use Rattle.vcd_read.specs.Tokens.{Token, tokens}
+use Rattle.vcd_read.specs.Reading.{left_from}
+use Rattle.vcd_read.specs.Header.{is_end}
+use Rattle.vcd_places.specs.Places.{begins_apart, ends_apart}
+
+-- no token goes on behind a place of a text
+abbrev pub is_seam : List ℕ → ℕ → Bool
+is_seam text at = nat_le at (length text) && (at == 0 || begins_apart (drop at text))
+
+-- the first token behind a place is these bytes, and ends at another place
+pub record IsNextToken (text : List ℕ) (at next : ℕ) (bytes : List ℕ) : Type 0 where
+  pub line : ℕ
+  pub moves : at < next
+  pub within : next ≤ length text
+  pub detached : begins_apart (drop next text) ≡ true
+  pub left : left_from 1 text at ≡ record { line = line; bytes = bytes } ∷ left_from 1 text next
+  pub taken : tokens (take next text) ≡ tokens (take at text) ++ record { line = line; bytes = bytes } ∷ []
+
+-- it begins at a place, and spaces alone stand before it
+pub record StandsAt (text : List ℕ) (at next start : ℕ) (bytes : List ℕ) : Type 0 where
+  pub ends : start + length bytes ≡ next
+  pub bytes_are : bytes ≡ take (length bytes) (drop start text)
+  pub behind : begins_apart (drop (length bytes) (drop start text)) ≡ true
+  pub spaced : ends_apart (take start text) ≡ true
+  pub same : tokens (take start text) ≡ tokens (take at text)
+  pub some : 0 < length bytes
+
+abbrev pub ends_section : Token → Bool
+ends_section token = is_end token.bytes
+
+-- tokens up to the first `$end`, and that, are taken, up to another place
+pub record IsTakenToEnd (text : List ℕ) (at next : ℕ) : Type 0 where
+  pub words : List Token
+  pub last : Token
+  pub none : list_any ends_section words ≡ false
+  pub ends : is_end last.bytes ≡ true
+  pub moves : at < next
+  pub within : next ≤ length text
+  pub detached : begins_apart (drop next text) ≡ true
+  pub left : left_from 1 text at ≡ words ++ last ∷ left_from 1 text next
+  pub taken : tokens (take next text) ≡ tokens (take at text) ++ (words ++ last ∷ [])

@@ -1,0 +1,36 @@
+-- How far the times of a body are taken.
+use Rattle.std.specs.Prelude.{◌≡◌, ◌⊎◌, ◌==◌, ℕ, ◌≤◌, Bool, true, List, [], ◌∷◌, length, take, drop, Some}
+use Rattle.std.specs.List.{list_any}
+use Rattle.vcd_read.specs.Tokens.{Token}
+use Rattle.vcd_read.specs.Reading.{left_from}
+use Rattle.vcd_read.specs.Body.{body_from, ready}
+use Rattle.vcd_places.specs.Places.{AreWholeItems, begins_apart, body_in, times_of_body, times_told}
+
+-- a text, and a place of it
+pub record TimesLeft : Type 0 where
+  pub text : List ℕ
+  pub at : ℕ
+
+-- the times that are told from there on
+abbrev pub times_left : TimesLeft → List ℕ
+times_left s = times_told (body_from ready (left_from 1 s.text s.at))
+
+-- the place is between two items of the text's body
+pub record IsBetweenItems (text : List ℕ) (at : ℕ) : Type 0 where
+  pub within : at ≤ length text
+  pub detached : begins_apart (drop at text) ≡ true
+  pub body : List Token
+  pub ended : body_in (take at text) ≡ Some body
+  pub whole : AreWholeItems body
+
+-- none of these numbers is below the one before it, nor the first below this one
+abbrev pub IsFromOn : ℕ → List ℕ → Type 0
+IsFromOn least [] = Unit {0}
+IsFromOn least (x ∷ xs) = (least ≤ x) × IsFromOn x xs
+
+abbrev pub is_among : ℕ → List ℕ → Bool
+is_among n xs = list_any (λ (x : ℕ). x == n) xs
+
+-- a time that the body of a text comes to: at 0 it begins
+abbrev pub IsReached : List ℕ → ℕ → Type 0
+IsReached text time = (time ≡ 0) ⊎ (is_among time (times_of_body text) ≡ true)

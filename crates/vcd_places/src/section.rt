@@ -1,0 +1,77 @@
+//! The end of a section, and of the definitions.
+
+ghost use Rattle.std.specs.Prelude.{◌≡◌, ◌<◌, ◌≤◌, false, true, None, IfNone, IfSome, length};
+ghost use Rattle.std.specs.List.{list_any};
+ghost use Rattle.vcd_read.specs.Body.{body_from, ready};
+ghost use Rattle.vcd_read.specs.Header.{is_end, opens_section};
+ghost use Rattle.vcd_read.specs.Reading.{left_from};
+ghost use Rattle.vcd_places.specs.Places.{ends_definitions_at, IsAtTime, times_of_body, body_in};
+ghost use Rattle.vcd_places.specs.Taken.{IsTakenToEnd, ends_section};
+ghost use Rattle.vcd_places.specs.Times.{times_left};
+
+use crate::times::TimePlaces;
+use crate::token_reader::TokenReader;
+
+/// Where the section that ends the definitions of a text stands.
+#[derive(Clone, Copy, Debug, PartialEq, Eq)]
+pub struct EndSection {
+    /// Where its `$enddefinitions` begins.
+    pub start: usize,
+    /// The place behind its `$end`.
+    pub end: usize,
+}
+
+pub(crate) fn is_end(word: &[u8]) -> bool
+    ensures { result ≡ is_end word.now }
+{
+    word == b"$end".as_slice()
+}
+
+/// Whether a token opens a section.
+fn opens_section(word: &[u8]) -> bool
+    ensures { result ≡ opens_section word.now }
+{
+    matches!(word, [b'$', ..]) && !is_end(word)
+}
+
+/// Goes on behind the next `$end`, and answers whether there is one.
+pub(crate) fn behind_end(reader: &mut TokenReader<'_>) -> bool
+    ensures text { reader.new.text.now ≡ reader.old.text.now }
+    ensures end { result ≡ true → IsTakenToEnd reader.old.text.now reader.old.at reader.new.at }
+    ensures none { result ≡ false → list_any ends_section (left_from 1 reader.old.text.now reader.old.at) ≡ false }
+{
+    while let Some(token) = reader.next() {
+        if is_end(token.bytes) {
+            return true;
+        }
+    }
+    false
+}
+
+/// The section that ends the definitions of a text, and the times of the body behind it, if the definitions end in it.
+pub fn definitions_end(text: &[u8]) -> Option<(EndSection, TimePlaces<'_>)>
+    ensures none { IfNone result (body_in text.now ≡ None) }
+    ensures start { IfSome result (λ found. ends_definitions_at text.now found.0.start ≡ true) }
+    ensures end { IfSome result (λ found. IsAtTime text.now 0 found.0.end) }
+    ensures order { IfSome result (λ found. (found.0.start < found.0.end) × (found.0.end ≤ length text.now)) }
+    ensures text { IfSome result (λ found. found.1 ≡ record { text = text.now; at = found.0.end }) }
+    ensures times { IfSome result (λ found. times_left found.1 ≡ times_of_body text.now) }
+{
+    let mut reader = TokenReader::new(text, 0);
+    while let Some(first) = reader.next() {
+        if !opens_section(first.bytes) {
+            continue;
+        }
+        if !behind_end(&mut reader) {
+            return None;
+        }
+        if first.bytes == b"$enddefinitions".as_slice() {
+            let section = EndSection {
+                start: first.start,
+                end: reader.at,
+            };
+            return Some((section, TimePlaces::new(text, reader.at)));
+        }
+    }
+    None
+}

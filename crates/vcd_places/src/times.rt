@@ -1,0 +1,145 @@
+//! Where the times of a body stand.
+
+ghost use Rattle.std.specs.Prelude.{◌≡◌, ◌∷◌, ◌<◌, ◌≤◌, [], true, IfNone, IfSome};
+ghost use Rattle.std.specs.List.{list_all};
+ghost use Rattle.vcd_read.specs.Body.{are_bits, shape_of};
+ghost use Rattle.vcd_read.specs.Numbers.{is_bit};
+ghost use Rattle.vcd_places.specs.Items.{begun_kind, kind_of};
+ghost use Rattle.vcd_places.specs.Places.{IsAtTime};
+ghost use Rattle.vcd_places.specs.Times.{IsBetweenItems, times_left};
+
+use crate::number::time_of;
+use crate::section::behind_end;
+use crate::token_reader::TokenReader;
+use std::marker::Model;
+
+/// A time that a body tells.
+#[derive(Clone, Copy, Debug, PartialEq, Eq)]
+pub struct TimePlace {
+    /// The time.
+    pub time: u64,
+    /// The place behind its token.
+    pub end: usize,
+}
+
+/// The body of a text, whose times are taken in their order.
+#[derive(Drop)]
+pub struct TimePlaces<'a> {
+    text: &'a [u8],
+    at: usize,
+}
+
+impl<'a> Model for TimePlaces<'a> {
+    ghost use Rattle.vcd_places.specs.Times.{IsBetweenItems, TimesLeft};
+
+    ghost Value = { TimesLeft };
+
+    ghost view = { λ p. record { text = p.text.now; at = p.at } };
+
+    ghost invariant = { λ p. IsBetweenItems p.text.now p.at };
+}
+
+/// What a token of a body begins, as far as its end is concerned.
+#[derive(Clone, Copy)]
+pub(crate) enum BegunItem<'a> {
+    /// A time, by the digits behind its `#`.
+    Time(&'a [u8]),
+    /// An item whose code is the next token.
+    Code,
+    /// A comment, up to its `$end`.
+    Comment,
+    /// An item of one token.
+    Whole,
+}
+
+fn is_bit(digit: u8) -> bool
+    ensures { result ≡ is_bit digit }
+{
+    matches!(digit, b'0' | b'1' | b'x' | b'X' | b'z' | b'Z')
+}
+
+/// Whether these are digits of a vector, at least one.
+fn are_bits(digits: &[u8]) -> bool
+    ensures { result ≡ are_bits digits.now }
+{
+    !digits.is_empty() && all_bits(digits)
+}
+
+fn all_bits(digits: &[u8]) -> bool
+    ensures { result ≡ list_all is_bit digits.now }
+{
+    digits.iter().all(|digit| is_bit(*digit))
+}
+
+/// What a token of a body begins.
+fn what_begins(token: &[u8]) -> BegunItem<'_>
+    ensures { begun_kind result ≡ kind_of (shape_of token.now) }
+{
+    if token.is_empty() {
+        return BegunItem::Whole;
+    }
+    let rest = &token[1..];
+    match token[0] {
+        b'#' => BegunItem::Time(rest),
+        b'b' | b'B' => {
+            if are_bits(rest) {
+                BegunItem::Code
+            } else {
+                BegunItem::Whole
+            }
+        }
+        b'r' | b'R' | b's' => BegunItem::Code,
+        b'$' => {
+            if token == b"$comment".as_slice() {
+                BegunItem::Comment
+            } else {
+                BegunItem::Whole
+            }
+        }
+        _ => BegunItem::Whole,
+    }
+}
+
+impl<'a> TimePlaces<'a> {
+    /// From a place on.
+    pub(crate) fn new(text: &'a [u8], at: usize) -> TimePlaces<'a>
+        requires { IsBetweenItems text.now at }
+        ensures { result ≡ record { text = text.now; at = at } }
+    {
+        TimePlaces { text, at }
+    }
+
+    /// The next time that the body tells, behind those that were taken. What is no time below 2^64 is passed over.
+    pub fn next(&mut self) -> Option<TimePlace>
+        ensures text { self.new.text ≡ self.old.text }
+        ensures time { IfSome result (λ found. times_left self.old ≡ found.time ∷ times_left self.new) }
+        ensures none { IfNone result (times_left self.old ≡ []) }
+        ensures place { IfSome result (λ found. IsAtTime self.old.text found.time found.end) }
+        ensures order { IfSome result (λ found. (self.old.at < found.end) × (found.end ≡ self.new.at)) }
+    {
+        let mut reader = TokenReader::new(self.text, self.at);
+        while let Some(token) = reader.next() {
+            match what_begins(token.bytes) {
+                BegunItem::Time(digits) => {
+                    if let Some(time) = time_of(digits) {
+                        self.at = reader.at;
+                        return Some(TimePlace {
+                            time,
+                            end: reader.at,
+                        });
+                    }
+                }
+                BegunItem::Code => {
+                    reader.next()?;
+                }
+                BegunItem::Comment => {
+                    if !behind_end(&mut reader) {
+                        return None;
+                    }
+                }
+                BegunItem::Whole => {}
+            }
+        }
+        None
+    }
+}

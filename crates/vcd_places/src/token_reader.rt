@@ -1,0 +1,87 @@
+//! The tokens of a text, and where they stand.
+
+ghost use Rattle.std.specs.Prelude.{◌≡◌, ℕ, [], ◌<◌, ◌≤◌, true, false, IfNone, IfSome, length, slice_index};
+ghost use Rattle.vcd_read.specs.Tokens.{is_space};
+ghost use Rattle.vcd_read.specs.Reading.{left_from};
+ghost use Rattle.vcd_places.specs.Taken.{IsNextToken, StandsAt, is_seam};
+
+/// A token, and the place of its first byte.
+#[derive(Clone, Copy)]
+pub(crate) struct PlacedToken<'a> {
+    pub start: usize,
+    pub bytes: &'a [u8],
+}
+
+/// A text, and the place up to which its tokens are taken.
+#[derive(Drop)]
+pub(crate) struct TokenReader<'a> {
+    pub text: &'a [u8],
+    pub at: usize,
+    ghost seam: { is_seam text.now at ≡ true },
+}
+
+fn is_space(b: u8) -> bool
+    ensures { result ≡ is_space b }
+{
+    matches!(b, b'\t' | b'\n' | b'\r' | b' ')
+}
+
+/// The first place from here on that is no space, or the end.
+fn word_start(text: &[u8], at: usize) -> usize
+    requires { at ≤ length text.now }
+    ensures low { at ≤ result }
+    ensures high { result ≤ length text.now }
+    ensures spaces { (k : ℕ) → at ≤ k → k < result → is_space (slice_index text.now k) ≡ true }
+    ensures word { result < length text.now → is_space (slice_index text.now result) ≡ false }
+{
+    let mut i = at;
+    while i < text.len() && is_space(text[i]) {
+        i += 1;
+    }
+    i
+}
+
+/// The first place from here on that is a space, or the end.
+fn word_end(text: &[u8], at: usize) -> usize
+    requires { at ≤ length text.now }
+    ensures low { at ≤ result }
+    ensures high { result ≤ length text.now }
+    ensures word { (k : ℕ) → at ≤ k → k < result → is_space (slice_index text.now k) ≡ false }
+    ensures end { result < length text.now → is_space (slice_index text.now result) ≡ true }
+{
+    let mut i = at;
+    while i < text.len() && !is_space(text[i]) {
+        i += 1;
+    }
+    i
+}
+
+impl<'a> TokenReader<'a> {
+    /// At a place at which no token goes on.
+    pub fn new(text: &'a [u8], at: usize) -> TokenReader<'a>
+        requires { is_seam text.now at ≡ true }
+        ensures text { result.text.now ≡ text.now }
+        ensures at { result.at ≡ at }
+    {
+        TokenReader { text, at }
+    }
+
+    /// Takes the next token, if there is one.
+    pub fn next(&mut self) -> Option<PlacedToken<'a>>
+        ensures text { self.new.text.now ≡ self.old.text.now }
+        ensures none { IfNone result (left_from 1 self.old.text.now self.old.at ≡ []) }
+        ensures token { IfSome result (λ t. IsNextToken self.old.text.now self.old.at self.new.at t.bytes.now) }
+        ensures place { IfSome result (λ t. StandsAt self.old.text.now self.old.at self.new.at t.start t.bytes.now) }
+    {
+        let start = word_start(self.text, self.at);
+        if start == self.text.len() {
+            return None;
+        }
+        let end = word_end(self.text, start);
+        self.at = end;
+        Some(PlacedToken {
+            start,
+            bytes: &self.text[start..end],
+        })
+    }
+}

@@ -1,0 +1,161 @@
+-- How the commands end, by what they read and find.
+use Rattle.std.proofs.Common.{◌≡◌, ◌≤◌, ◌↔◌, ℕ, suc, List, refl, sym, ap, subst, ◌∙◌, inl, inr, map, true}
+use Rattle.std.specs.Prelude.{◌==◌, filter, Option, None, Some, Result, Ok, Err}
+use Rattle.vme_trace.specs.Streams.{Reading, Writing}
+use Rattle.vme_trace.specs.Trace.{Trace}
+use Rattle.vme_trace.specs.Verdict.{rules_in_force, verdict_by}
+use Rattle.vme_stream.specs.Inputs.{TellsWhole}
+use Rattle.vme_listing.specs.Listed.{Listed}
+use Rattle.vme_listing.specs.Recorded.{recorded_rows}
+use Rattle.vme_answer.specs.Answers.{AnswerGives}
+use Rattle.vme_answer.specs.Ends.{Ends, Tells}
+use Rattle.vme_answer.specs.declared.refusal.Refusal.{Refusal}
+use Rattle.vme_answer.specs.declared.refusal.Refusal.TheVariants.{Memory}
+use Rattle.vme_answer.proofs.EndLemmas.{Does-exact, Does-unwritten, given_is, not_both, read_is, refusal_status-small}
+use Rattle.vme_answer.proofs.EndLemmas.{unwritten_by, verdict_status-small}
+use Rattle.vme_commands.specs.Settled.{settled_recording}
+use Rattle.vme_annotation.specs.Annotated.{ArePutAt, IsAnnotated, annotated}
+use Rattle.vme_annotation.specs.Inserted.{PutChange, change_of}
+use Rattle.vme_annotation.specs.Shown.{ShownChange, changes_at}
+use Rattle.vcd_places.specs.Places.{ends_definitions_at}
+use Rattle.vme_annotate.specs.Answers.{Annotates, IsAnnotationOf, TellsAnnotation, WritesTimes, annotation_answer_by}
+use Rattle.vme_annotate.specs.Answers.{block_of, timed_answer_by, timed_answer_of}
+use Rattle.vme_annotate.specs.Planned.{ArePlanned, planned}
+use Rattle.vme_annotate.specs.Prepared.{GivesPrepared, IsPrepared}
+use Rattle.vme_annotate.specs.TimedListings.{GivesTimed, IsTimed, Timed, timed_rows_text, timed_text, times_of}
+use Rattle.vme_annotate.specs.declared.annotating.AnnotatedDump.{AnnotatedDump}
+use Rattle.vme_annotate.specs.declared.changes.PlannedChange.{PlannedChange}
+
+-- ---- what was refused
+
+pub timed_refusal : (r : Refusal) (read : Result Trace Refusal) → GivesTimed (Err r) read
+    → AnswerGives (λ (t : Trace). t) (Err r) read
+timed_refusal Memory read is = tt
+timed_refusal r read is = is
+
+pub prepared_refusal : (bytes : Option (List ℕ)) (r : Refusal) (read : Result Trace Refusal)
+    → GivesPrepared bytes (Err r) read → AnswerGives (λ (t : Trace). t) (Err r) read
+prepared_refusal bytes Memory read is = tt
+prepared_refusal bytes r read is = is
+
+pub refused_prepared : (bytes : Option (List ℕ)) (r : Refusal) (read : Result Trace Refusal)
+    → AnswerGives (λ (t : Trace). t) (Err r) read → GivesPrepared bytes (Err r) read
+refused_prepared bytes Memory read is = tt
+refused_prepared bytes r read is = is
+
+-- ---- listings with times
+
+pub timed_text_is : (t : Trace) (found : Timed) → IsTimed t found
+    → timed_rows_text found.times found.listing.rows ≡ timed_text t
+timed_text_is t found is =
+    ap (λ (times : List ℕ). timed_rows_text times found.listing.rows) is.times_are
+    ∙ ap (λ (listing : Listed). timed_rows_text (times_of t.steps) listing.rows) is.listing_is
+
+timed_answer-small : (read : Result Trace Refusal) → (timed_answer_by read).status ≤ 4
+timed_answer-small (Ok t) = verdict_status-small (verdict_by rules_in_force t)
+timed_answer-small (Err r) = refusal_status-small r
+
+abbrev MayList : ℕ → ℕ → Option (List ℕ) → Option (List ℕ) → Result Trace Refusal → Type 0
+MayList skew block b d read = AnswerGives (λ (t : Trace). t) read (settled_recording skew b d block)
+
+module _ (skew : ℕ) (binding dump : Reading × Reading) (block : ℕ) (out err : Writing × Writing) (status : ℕ) where
+  pub WritesTimes-unwritten : WritesTimes skew binding dump block out err status
+      → (status ≡ 5) ↔ (out.1.failures ≡ suc out.0.failures)
+  WritesTimes-unwritten =
+      Does-unwritten timed_answer_by timed_answer-small (MayList skew block) binding dump out err status
+
+  pub WritesTimes-exact : WritesTimes skew binding dump block out err status → (b d : List ℕ)
+      → TellsWhole binding.0 binding.1 b → TellsWhole dump.0 dump.1 d → out.1.failures ≡ out.0.failures
+      → (status ≡ 4 → ⊥) → Tells (timed_answer_of skew (Some b) (Some d) block) out err status
+  WritesTimes-exact writes b d =
+      Does-exact timed_answer_by timed_answer-small (MayList skew block) binding dump out err status writes b d
+      (timed_answer_of skew (Some b) (Some d) block)
+      (λ found. given_is timed_answer_by refl found (settled_recording skew (Some b) (Some d) block))
+
+-- ---- annotated dumps
+
+annotation_answer-small : (text : List ℕ) (read : Result Trace Refusal) → (annotation_answer_by text read).status ≤ 4
+annotation_answer-small text (Ok t) = verdict_status-small (verdict_by rules_in_force t)
+annotation_answer-small text (Err r) = refusal_status-small r
+
+-- what is read is what is to be read, unless there was no memory
+same_read : (text : List ℕ) (read said : Result Trace Refusal) → AnswerGives (λ (t : Trace). t) read said
+    → ((annotation_answer_by text read).status ≡ 4 → ⊥) → read ≡ said
+same_read text (Ok t) said given memory = sym given
+same_read text (Err Memory) said given memory = absurd (memory refl)
+same_read text (Err r) said given memory = sym given
+
+told_exactly : (text dump : List ℕ) (read said : Result Trace Refusal) (out err : Writing × Writing) (status : ℕ)
+    → Ends (annotation_answer_by text read) out err status → AnswerGives (λ (t : Trace). t) read said
+    → IsAnnotationOf (Some dump) read text → out.1.failures ≡ out.0.failures → (status ≡ 4 → ⊥)
+    → IsAnnotationOf (Some dump) said text × Tells (annotation_answer_by text said) out err status
+told_exactly text dump read said out err status (inl told) given annotation same memory =
+    let is : read ≡ said = same_read text read said given (λ four. memory (told.status_is ∙ four)) in (
+      subst (λ (r : Result Trace Refusal). IsAnnotationOf (Some dump) r text) is annotation,
+      subst (λ (r : Result Trace Refusal). Tells (annotation_answer_by text r) out err status) is told,
+    )
+told_exactly text dump read said out err status (inr failed) given annotation same memory =
+    absurd (not_both out.1.failures out.0.failures same failed.out_is.1)
+
+module _ (skew : ℕ) (binding dump : Reading × Reading) (out err : Writing × Writing) (status : ℕ) where
+  pub Annotates-unwritten : Annotates skew binding dump out err status
+      → (status ≡ 5) ↔ (out.1.failures ≡ suc out.0.failures)
+  Annotates-unwritten does =
+      let (binding_bytes, dump_bytes, read, text, binding_read, dump_read, given, annotation, end) = does in
+      unwritten_by (annotation_answer_by text) (annotation_answer-small text) read out err status end
+
+  pub Annotates-exact : Annotates skew binding dump out err status → (b d : List ℕ)
+      → TellsWhole binding.0 binding.1 b → TellsWhole dump.0 dump.1 d → out.1.failures ≡ out.0.failures
+      → (status ≡ 4 → ⊥) → TellsAnnotation skew b d out err status
+  Annotates-exact does b d told_b told_d same memory =
+      let (binding_bytes, dump_bytes, read, text, binding_read, dump_read, given, annotation, end) = does in
+      let b_is : binding_bytes ≡ Some b = read_is binding.0 binding.1 binding_bytes b binding_read told_b in
+      let d_is : dump_bytes ≡ Some d = read_is dump.0 dump.1 dump_bytes d dump_read told_d in
+      let with_b = subst (λ (x : Option (List ℕ)).
+      AnswerGives (λ (t : Trace). t) read (settled_recording skew x dump_bytes block_of)) b_is given in
+      let with_d = subst (λ (x : Option (List ℕ)).
+      AnswerGives (λ (t : Trace). t) read (settled_recording skew (Some b) x block_of)) d_is with_b in
+      let whole = subst (λ (x : Option (List ℕ)). IsAnnotationOf x read text) d_is annotation in
+      let (told, tells) = told_exactly text d read (settled_recording skew (Some b) (Some d) block_of) out err status
+      end
+      with_d whole same memory in
+      (text, told, tells)
+
+-- what is prepared is an annotated dump, where each change is put
+pub annotated_so : (t : Trace) (d : AnnotatedDump) → IsPrepared t d → (start : ℕ) (put : List PutChange)
+    → ends_definitions_at d.text.items start ≡ true → ArePutAt d.text.items t start put
+    → map change_of put ≡ map (planned d.listing.listing.rows) d.changes.items
+    → IsAnnotated d.text.items t (annotated d.text.items start d.added.scope d.added.own put)
+annotated_so t d is start put starts placed are =
+    let (defines, defines_are, beside) = is.added in
+    record {
+      defines = defines;
+      defines_are = defines_are;
+      underscores = beside.underscores;
+      scope = beside.scope;
+      own = d.added.own;
+      four = beside.four;
+      codes_are = beside.codes_are;
+      start = start;
+      starts = starts;
+      put = put;
+      placed = placed;
+      are = λ instant.
+          ap (filter (λ (c : ShownChange). c.instant == instant)) are ∙ is.planned.are instant
+          ∙ ap (λ (listing : Listed). changes_at listing.rows instant) is.timed.listing_is;
+      text_is = ap (λ (scope : List ℕ). annotated d.text.items start scope d.added.own put) beside.scope_is;
+    }
+
+-- the changes of its rows are those of the recording's
+pub planned_of : (t : Trace) (found : Timed) → IsTimed t found → (changes : List PlannedChange)
+    → ArePlanned found.listing.rows changes → ArePlanned (recorded_rows t) changes
+planned_of t found is changes are = subst (λ (listing : Listed). ArePlanned listing.rows changes) is.listing_is are
+
+pub is_annotation : (bytes : Option (List ℕ)) (dump : List ℕ) (t : Trace) (text : List ℕ) → bytes ≡ Some dump
+    → IsAnnotated dump t text → IsAnnotationOf bytes (Ok t) text
+is_annotation bytes dump t text is annotated =
+    subst (λ (x : Option (List ℕ)). IsAnnotationOf x (Ok t) text) (sym is) annotated
+
+pub no_annotation : (bytes : Option (List ℕ)) (r : Refusal) (text : List ℕ) → IsAnnotationOf bytes (Err r) text
+no_annotation (Some dump) r text = tt
+no_annotation None r text = tt

@@ -1,0 +1,14 @@
+pub mod WritingLemmas
+pub mod HasTimesLemmas
+pub mod PutLemmas
+pub mod ChangeLemmas
+pub mod TimedLemmas
+pub mod PutTexts
+pub mod PlannedLemmas
+pub mod ListedLemmas
+pub mod InsertLemmas
+pub mod PlaceLemmas
+pub mod AddedLemmas
+pub mod ListedInstants
+pub mod RecordedLemmas
+pub mod EndsLemmas

@@ -1,0 +1,134 @@
+-- The recording of a text, settled and cut into blocks.
+use Rattle.std.proofs.Common.{◌≡◌, ℕ, false, List, length, refl, ap, sym, subst, ◌∙◌}
+use Rattle.std.specs.Prelude.{nat_lt, Option, Result, Ok, Err}
+use Rattle.vcd_read.specs.Contents.{Contents}
+use Rattle.vcd_read.specs.Header.{◌>>=◌}
+use Rattle.vcd_read.specs.Meaning.{dump_of}
+use Rattle.vme_bind.specs.Binding.{BoundLines}
+use Rattle.vme_bind.specs.BoundGroups.{bound_groups_in}
+use Rattle.vme_bind.specs.Capture.{capture_of, limited, recording, recording_of}
+use Rattle.vme_bind.specs.TextCapture.{CaptureFailsBy, recording_of_text}
+use Rattle.vme_bind.specs.declared.fault.BindFault.{BindFault}
+use Rattle.vme_bind.specs.declared.fault.CaptureFault.{CaptureFault}
+use Rattle.vme_skew.specs.Settled.{settled, settled_or}
+use Rattle.vme_trace.specs.Trace.{Trace}
+use Rattle.vme_trace.specs.WellFormed.{capture_limit}
+use Rattle.vme_listing.specs.Recorded.{listing_of}
+use Rattle.vme_answer.specs.Answers.{AnswerGives, binding_read, capture_by, dump_read, or_bad_binding}
+use Rattle.vme_answer.specs.Answers.{or_bad_dump, recording_by}
+use Rattle.vme_answer.specs.Refusals.{capture_refusal}
+use Rattle.vme_answer.specs.declared.refusal.Refusal.{Refusal}
+use Rattle.vme_answer.specs.declared.refusal.Refusal.TheVariants.{Memory}
+use Rattle.vme_answer.proofs.AnswerLemmas.{capture_read-bound, capture_read-refused, passes_through, recording_by-fails}
+use Rattle.vme_answer.proofs.AnswerLemmas.{recording_by-text}
+use Rattle.vme_commands.specs.Judged.{in_blocks, limited_in_blocks}
+use Rattle.vme_commands.specs.Settled.{settled_read, settled_recording}
+use Rattle.vme_commands.proofs.JudgedLemmas.{limited-short}
+use Rattle.vme_commands.proofs.SettledLemmas.{read-refused, recording-refused, settled-fits, settled-refused}
+use Rattle.vme_commands.proofs.SettledLemmas.{settled-short}
+use Rattle.vme_annotate.specs.TimedListings.{GivesTimed, Timed, listed_in, settled_in_blocks, times_of}
+
+abbrev GivesTrace : Result Trace Refusal → Result Trace Refusal → Type 0
+GivesTrace found read = AnswerGives (λ (t : Trace). t) found read
+
+-- ---- a recording that isn't too long
+
+abbrev pub or_too_long : Trace → Result Trace Refusal
+or_too_long t = or_bad_binding (limited t)
+
+short_in : {W : Type 0} (r : Result W BindFault) (made : W → Trace) → or_bad_binding (r >>= λ w. limited (made w))
+    ≡ (or_bad_binding (r >>= λ w. Ok (made w)) >>= or_too_long)
+short_in (Ok w) made = refl
+short_in (Err fault) made = refl
+
+short_of : (bound : BoundLines) (contents : Contents) → or_bad_binding (capture_of bound contents)
+    ≡ (or_bad_binding (recording_of bound contents) >>= or_too_long)
+unfolding capture_of recording_of
+short_of bound contents = short_in (bound_groups_in contents.variables bound.assignments)
+    (λ wires. recording bound.slots wires contents.instants (length contents.instants))
+
+pub capture_by-short : (bound : BoundLines) (dump : Result Contents Refusal) → capture_by bound dump
+    ≡ (recording_by bound dump >>= or_too_long)
+capture_by-short bound (Ok contents) = short_of bound contents
+capture_by-short bound (Err r) = refl
+
+pub text_captured : (bound : BoundLines) (bytes : List ℕ) (t : Trace) → recording_of_text bound bytes ≡ Ok t
+    → capture_by bound (or_bad_dump (dump_of bytes)) ≡ or_bad_binding (limited t)
+text_captured bound bytes t is =
+    capture_by-short bound (or_bad_dump (dump_of bytes))
+    ∙ ap (λ (r : Result Trace Refusal). r >>= or_too_long) (recording_by-text bound bytes t is)
+
+-- ---- refusals
+
+pub gives_refusal : (r : Refusal) (read : Result Trace Refusal) → GivesTrace (Err r) read → GivesTimed (Err r) read
+gives_refusal Memory read is = tt
+gives_refusal r read is = is
+
+pub refused_in_blocks : (skew block : ℕ) (r : Refusal) (read : Result Trace Refusal) → GivesTrace (Err r) read
+    → GivesTimed (Err r) (settled_in_blocks skew block read)
+refused_in_blocks skew block r read is =
+    gives_refusal r (settled_in_blocks skew block read)
+    (passes_through r (settled_or skew read) (in_blocks block) (settled-refused skew read r is))
+
+pub text_refused : (skew block : ℕ) (bound : BoundLines) (bytes : List ℕ) (fault : CaptureFault)
+    → CaptureFailsBy fault (recording_of_text bound bytes)
+    → GivesTimed (Err (capture_refusal fault)) (listed_in skew bound (or_bad_dump (dump_of bytes)) block)
+text_refused skew block bound bytes fault is =
+    refused_in_blocks skew block (capture_refusal fault) (capture_by bound (or_bad_dump (dump_of bytes)))
+    (subst (GivesTrace (Err (capture_refusal fault))) (sym (capture_by-short bound (or_bad_dump (dump_of bytes))))
+    (passes_through (capture_refusal fault) (recording_by bound (or_bad_dump (dump_of bytes))) or_too_long
+    (recording_by-fails bound bytes fault is)))
+
+-- ---- what settled
+
+module _ (skew block : ℕ) (t made : Trace) (within : nat_lt capture_limit (length t.steps) ≡ false)
+    (is : made ≡ settled skew t) where
+  in_blocks_is : settled_in_blocks skew block (or_bad_binding (limited t)) ≡ limited_in_blocks block made
+  in_blocks_is =
+      ap (λ (r : Result Trace Refusal). r >>= in_blocks block) (settled-fits skew t made within is)
+      ∙ sym (limited-short made block (settled-short skew t made within is))
+
+  pub settled_refused : (r : Refusal) → GivesTrace (Err r) (limited_in_blocks block made)
+      → GivesTimed (Err r) (settled_in_blocks skew block (or_bad_binding (limited t)))
+  settled_refused r given =
+      gives_refusal r (settled_in_blocks skew block (or_bad_binding (limited t)))
+      (subst (GivesTrace (Err r)) (sym in_blocks_is) given)
+
+  pub settled_listed : (found : Timed) → limited_in_blocks block made ≡ Ok made → found.listing ≡ listing_of made
+      → found.times ≡ times_of made.steps
+      → GivesTimed (Ok found) (settled_in_blocks skew block (or_bad_binding (limited t)))
+  settled_listed found fits listing times =
+      (made, in_blocks_is ∙ fits, record { listing_is = listing; times_are = times })
+
+-- ---- what is read
+
+abbrev settled_blocks : ℕ → ℕ → Result Trace Refusal → Result Trace Refusal
+settled_blocks skew block read = settled_or skew read >>= in_blocks block
+
+pub recording_is : (skew block : ℕ) (binding dump : Option (List ℕ)) (bound : BoundLines) → binding_read binding
+    ≡ Ok bound → settled_recording skew binding dump block ≡ listed_in skew bound (dump_read dump) block
+unfolding settled_recording settled_read
+recording_is skew block binding dump bound is =
+    ap (settled_blocks skew block) (capture_read-bound binding dump bound is)
+
+pub unbound : (skew block : ℕ) (binding dump : Option (List ℕ)) (r : Refusal)
+    → AnswerGives (λ (bound : BoundLines). bound) (Err r) (binding_read binding)
+    → GivesTimed (Err r) (settled_recording skew binding dump block)
+unbound skew block binding dump r is =
+    gives_refusal r (settled_recording skew binding dump block)
+    (recording-refused skew binding dump block r
+    (read-refused skew binding dump r (capture_read-refused binding dump r is)))
+
+pub unread_by : (skew block : ℕ) (dump : Option (List ℕ)) (bound : BoundLines) (r : Refusal)
+    → AnswerGives (λ (contents : Contents). contents) (Err r) (dump_read dump)
+    → GivesTimed (Err r) (listed_in skew bound (dump_read dump) block)
+unread_by skew block dump bound r refused =
+    refused_in_blocks skew block r (capture_by bound (dump_read dump))
+    (passes_through r (dump_read dump) (λ (contents : Contents). or_bad_binding (capture_of bound contents)) refused)
+
+pub unread_dump : (skew block : ℕ) (binding dump : Option (List ℕ)) (bound : BoundLines) (r : Refusal)
+    → binding_read binding ≡ Ok bound → AnswerGives (λ (contents : Contents). contents) (Err r) (dump_read dump)
+    → GivesTimed (Err r) (settled_recording skew binding dump block)
+unread_dump skew block binding dump bound r is refused =
+    subst (GivesTimed (Err r)) (sym (recording_is skew block binding dump bound is))
+    (unread_by skew block dump bound r refused)

@@ -1,0 +1,186 @@
+-- Where the changes of a recording are put into its dump.
+use Rattle.std.proofs.Common.{◌≡◌, ℕ, zero, suc, ◌+◌, ◌-◌, ◌<◌, ◌≤◌, List, [], ◌∷◌, ◌++◌, drop, get_or, length, map}
+use Rattle.std.proofs.Common.{take}
+use Rattle.std.proofs.Common.{refl, sym, ap, subst, ◌∙◌, arith}
+use Rattle.std.specs.Prelude.{max, slice_get}
+use Rattle.std.proofs.lemmas.List.{get_or-map, get_or_default, length-map, map-append, take_more}
+use Rattle.std.proofs.lemmas.List.Sorted.{All-permutation}
+use Rattle.vcd_places.specs.Places.{IsAtTime, times_of_body}
+use Rattle.vcd_places.specs.Times.{IsFromOn, IsReached}
+use Rattle.vme_trace.specs.Streams.{Writing}
+use Rattle.vme_trace.specs.Trace.{Trace, last_instant, time_at, time_of}
+use Rattle.vme_trace.specs.declared.step.Step.{Step}
+use Rattle.vme_listing.specs.Recorded.{recorded_rows}
+use Rattle.vme_annotation.specs.Annotated.{ArePutAt, change_text, shown_time}
+use Rattle.vme_annotation.specs.Inserted.{PutChange, change_of}
+use Rattle.vme_annotation.specs.Shown.{ShownChange, all_changes}
+use Rattle.vme_annotate.specs.HasTimes.{HasTimes}
+use Rattle.vme_annotate.specs.Outputs.{HasPut, Held}
+use Rattle.vme_annotate.specs.Planned.{ArePlanned, planned}
+use Rattle.vme_annotate.specs.TimedListings.{IsTimed, Timed, times_of}
+use Rattle.vme_annotate.specs.Writing.{IsWrittenTo}
+use Rattle.vme_annotate.specs.declared.changes.PlannedChange.{PlannedChange}
+use Rattle.vme_annotate.specs.declared.inserting.WritingPlace.{WritingPlace}
+use Rattle.vme_annotate.proofs.InsertLemmas.{ArePlacedTo, bytes_written, change_written, placed_more, placed_on}
+use Rattle.vme_annotate.proofs.InsertLemmas.{put_at_more, written_front}
+
+-- ---- the times of instants
+
+time_in : (steps : List Step) (i : ℕ) → get_or (times_of steps) i 0 ≡ time_of (slice_get steps i)
+time_in [] zero = refl
+time_in [] (suc i) = refl
+time_in (step ∷ steps) zero = refl
+time_in (step ∷ steps) (suc i) = time_in steps i
+
+pub time_shown : (t : Trace) (instant : ℕ) → get_or (times_of t.steps) (max instant 1 - 1) 0 ≡ shown_time t instant
+time_shown t instant =
+    let next : suc (max instant 1 - 1) ≡ max instant 1 = omega arith in
+    time_in t.steps (max instant 1 - 1) ∙ ap (time_at t) next
+
+-- ---- they don't go back
+
+rising : (f : ℕ → ℕ) (last : ℕ) → ((i j : ℕ) → i ≤ j → j ≤ last → f i ≤ f j) → (a b : ℕ) → a ≤ b → b ≤ last
+    → f (max a 1) ≤ f (max b 1)
+rising f last ordered a zero le in_it =
+    let none : a ≡ zero = omega (arith, le) in
+    let same : f (max a 1) ≡ f (max zero 1) = ap (λ (n : ℕ). f (max n 1)) none in omega (arith, same)
+rising f last ordered a (suc b) le in_it =
+    ordered (max a 1) (max (suc b) 1) (omega (arith, le)) (omega (arith, in_it))
+
+module _ (dump : List ℕ) (t : Trace) (changes : List PlannedChange) (has : HasTimes dump t)
+    (are : ArePlanned (recorded_rows t) changes) where
+  in_recording : (i : ℕ) (d : PlannedChange) → i < length changes → (get_or changes i d).instant ≤ last_instant t
+  in_recording i d lt =
+      let rows = recorded_rows t in
+      let each = All-permutation (λ (c : ShownChange). c.instant ≤ last_instant t) (all_changes rows)
+      (map (planned rows) changes) are.moved has.within in
+      let many : i < length (map (planned rows) changes) =
+      subst (λ (n : ℕ). i < n) (sym (length-map changes (planned rows))) lt in
+      subst (λ (c : ShownChange). c.instant ≤ last_instant t)
+      (get_or-map (planned rows) changes i d (planned rows d) lt) (each i (planned rows d) many)
+
+  pub still_ahead : (i j : ℕ) (d : PlannedChange) → i ≤ j → j < length changes
+      → shown_time t (get_or changes i d).instant ≤ shown_time t (get_or changes j d).instant
+  still_ahead i j d le lt =
+      rising (time_at t) (last_instant t) has.ordered (get_or changes i d).instant (get_or changes j d).instant
+      (are.sorted i j d le lt) (in_recording j d lt)
+
+-- ---- what is written so far
+
+-- no change that is still to come is shown before a time
+abbrev pub IsAhead : Trace → List PlannedChange → ℕ → ℕ → Type 0
+IsAhead t changes done asked = (i : ℕ) (d : PlannedChange) → done ≤ i → i < length changes
+    → asked ≤ shown_time t (get_or changes i d).instant
+
+pub record ArePutSoFar (dump : List ℕ) (t : Trace) (changes : List PlannedChange) (start done : ℕ)
+    (put : List PutChange) (w : WritingPlace) : Type 0 where
+  pub placed : ArePutAt dump t start put
+  pub asked : ℕ
+  pub written : IsWrittenTo dump asked asked w
+  pub ahead : IsAhead t changes done asked
+
+-- the changes before one are put, at the times of their instants
+pub record IsPutSoFar (dump : List ℕ) (found : Timed) (changes : List PlannedChange) (start done : ℕ)
+    (put : List PutChange) (w : WritingPlace) : Type 0 where
+  pub are : map change_of put ≡ map (planned found.listing.rows) (take done changes)
+  pub to : ArePlacedTo start put w.count
+  pub right : (t : Trace) → IsTimed t found → HasTimes dump t → ArePlanned (recorded_rows t) changes
+      → ArePutSoFar dump t changes start done put w
+
+pub none_put : (dump : List ℕ) (found : Timed) (changes : List PlannedChange) (start : ℕ) (w : WritingPlace)
+    → start ≤ w.count → IsWrittenTo dump 0 0 w → IsPutSoFar dump found changes start 0 [] w
+none_put dump found changes start w le written = record {
+  are = refl;
+  to = le;
+  right = λ t timed has planned. record {
+    placed = tt;
+    asked = 0;
+    written = written;
+    ahead = λ i d le lt. omega arith;
+  };
+}
+
+-- one more is put
+module _ (dump : List ℕ) (found : Timed) (changes : List PlannedChange) (start done : ℕ) (put : List PutChange)
+    (old new : WritingPlace) (so_far : IsPutSoFar dump found changes start done put old) (c : PlannedChange)
+    (some : done < length changes) (is : (d : PlannedChange) → get_or changes done d ≡ c) (time : ℕ)
+    (time_is : time ≡ get_or found.times (max c.instant 1 - 1) 0) (forward : old.count ≤ new.count)
+    (goes : (asked : ℕ) → IsWrittenTo dump asked asked old → asked ≤ time → IsReached dump time
+    → IsFromOn 0 (times_of_body dump) → IsWrittenTo dump time time new) where
+  abbrev pub one_more : PutChange
+  one_more = record { place = new.count; change = planned found.listing.rows c }
+
+  module _ (t : Trace) (timed : IsTimed t found) (has : HasTimes dump t) (all : ArePlanned (recorded_rows t) changes)
+    where
+      shown_is : time ≡ shown_time t c.instant
+      shown_is =
+          time_is ∙ ap (λ (times : List ℕ). get_or times (max c.instant 1 - 1) 0) timed.times_are
+          ∙ time_shown t c.instant
+
+      more_right : ArePutSoFar dump t changes start (done + 1) (put ++ one_more ∷ []) new
+      more_right =
+          let before = so_far.right t timed has all in
+          let here : (get_or changes done c).instant ≡ c.instant = ap (λ (d : PlannedChange). d.instant) (is c) in
+          let le : before.asked ≤ time =
+          omega (arith, before.ahead done c (omega arith) some, ap (shown_time t) here, shown_is) in
+          let reached : IsReached dump time = subst (IsReached dump) (sym shown_is) (has.told (max c.instant 1)) in
+          let written = goes before.asked before.written le reached has.sorted in
+          record {
+            placed = put_at_more dump t start put one_more before.placed
+                (placed_on start put old.count new.count so_far.to forward)
+                (subst (λ (at : ℕ). IsAtTime dump at new.count) shown_is written.at);
+            asked = time;
+            written = written;
+            ahead = λ i d later lt.
+                let next = still_ahead dump t changes has all done i d (omega (arith, later)) lt in
+                let same : (get_or changes done d).instant ≡ c.instant = ap (λ (e : PlannedChange). e.instant) (is d) in
+                omega (arith, next, ap (shown_time t) same, shown_is);
+          }
+
+  pub more_put : IsPutSoFar dump found changes start (done + 1) (put ++ one_more ∷ []) new
+  more_put = record {
+    are = map-append change_of put (one_more ∷ [])
+        ∙ ap (λ (l : List ShownChange). l ++ planned found.listing.rows c ∷ []) so_far.are
+        ∙ sym (ap (map (planned found.listing.rows)) (take_more changes done c some
+        ∙ ap (λ (d : PlannedChange). take done changes ++ d ∷ []) (is c))
+        ∙ map-append (planned found.listing.rows) (take done changes) (c ∷ []));
+    to = placed_more start put one_more (placed_on start put old.count new.count so_far.to forward);
+    right = more_right;
+  }
+
+-- the same, of the change at a place
+pub next_put : (dump : List ℕ) (found : Timed) (changes : List PlannedChange) (start done : ℕ) (put : List PutChange)
+    (old new : WritingPlace) → IsPutSoFar dump found changes start done put old → (d : PlannedChange)
+    → done < length changes → (time : ℕ) → time ≡ get_or found.times (max (get_or changes done d).instant 1 - 1) 0
+    → old.count ≤ new.count
+    → ((asked : ℕ) → IsWrittenTo dump asked asked old → asked ≤ time → IsReached dump time
+    → IsFromOn 0 (times_of_body dump) → IsWrittenTo dump time time new)
+    → IsPutSoFar dump found changes start (done + 1)
+    (put ++ record { place = new.count; change = planned found.listing.rows (get_or changes done d) } ∷ []) new
+next_put dump found changes start done put old new so_far d some time time_is forward goes =
+    more_put dump found changes start done put old new so_far (get_or changes done d) some
+    (λ (e : PlannedChange). get_or_default changes done e d some) time time_is forward goes
+
+pub next_written : (dump scope : List ℕ) (own : List (List ℕ)) (found : Timed) (changes : List PlannedChange)
+    (start done : ℕ) (put : List PutChange) (old new : WritingPlace)
+    → IsPutSoFar dump found changes start done put old → (d : PlannedChange) → done < length changes → (time : ℕ)
+    → time ≡ get_or found.times (max (get_or changes done d).instant 1 - 1) 0 → old.count ≤ new.count
+    → ((asked : ℕ) → IsWrittenTo dump asked asked old → asked ≤ time → IsReached dump time
+    → IsFromOn 0 (times_of_body dump) → IsWrittenTo dump time time new)
+    → (sink now : Writing) (b : Held)
+    → HasPut sink now b (written_front dump scope own start put old.count
+    ++ take (new.count - old.count) (drop old.count dump)
+    ++ change_text own (planned found.listing.rows (get_or changes done d)))
+    → (more : List PutChange) × IsPutSoFar dump found changes start (done + 1) more new
+    × HasPut sink now b (written_front dump scope own start more new.count)
+next_written dump scope own found changes start done put old new so_far d some time time_is forward goes sink now b
+    text =
+    let one : PutChange =
+    record { place = new.count; change = planned found.listing.rows (get_or changes done d) } in (
+      put ++ one ∷ [],
+      next_put dump found changes start done put old new so_far d some time time_is forward goes,
+      subst (λ (l : List ℕ). HasPut sink now b l)
+          (ap (λ (l : List ℕ). l ++ change_text own one.change)
+          (bytes_written dump scope own start put old.count new.count so_far.to forward)
+          ∙ change_written dump scope own start put one) text,
+    )

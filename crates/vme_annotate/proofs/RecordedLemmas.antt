@@ -1,0 +1,132 @@
+-- The recording that is listed, and the dump that it is of.
+use Rattle.std.proofs.Common.{◌≡◌, ◌+◌, ◌-◌, ◌≤◌, ℕ, Bool, true, false, cond, List, [], length, refl, sym, ap}
+use Rattle.std.proofs.Common.{subst, ◌∙◌, arith}
+use Rattle.std.specs.Prelude.{IsSome, None, Option, Result, Ok, Err}
+use Rattle.vcd_read.specs.Contents.{Contents}
+use Rattle.vcd_read.specs.Header.{appended, nothing_declared}
+use Rattle.vcd_read.specs.Meaning.{dump_of}
+use Rattle.vcd_read.specs.Sections.{Defined, header_of}
+use Rattle.vcd_read.specs.Tokens.{Token, tokens}
+use Rattle.vcd_read.specs.declared.dump.Variable.{Variable}
+use Rattle.vcd_read.specs.declared.fault.VcdFault.{VcdFault}
+use Rattle.vcd_read.proofs.DumpLemmas.{contents_behind, dump_of-header, whole_header}
+use Rattle.vme_bind.specs.Binding.{BoundLines}
+use Rattle.vme_bind.specs.BoundGroups.{bound_groups_in}
+use Rattle.vme_bind.specs.Capture.{levels_after, recording, recording_of}
+use Rattle.vme_bind.specs.TextCapture.{or_binding, recording_of_text, recording_read}
+use Rattle.vme_bind.specs.declared.fault.BindFault.{BindFault}
+use Rattle.vme_bind.proofs.CaptureLemmas.{levels-all}
+use Rattle.vme_bind.proofs.TextCaptureLemmas.{recorded-formed}
+use Rattle.vme_skew.specs.Settled.{IsRecording, settled, settled_or}
+use Rattle.vme_skew.proofs.Laws.{is_recording}
+use Rattle.vme_trace.specs.LineNumbers.{line_count}
+use Rattle.vme_trace.specs.Trace.{Trace, last_instant, time_at}
+use Rattle.vme_trace.specs.WellFormed.{malformed_step}
+use Rattle.vme_answer.specs.Answers.{capture_by, or_bad_binding, or_bad_dump, recording_by}
+use Rattle.vme_answer.specs.declared.refusal.Refusal.{Refusal}
+use Rattle.vme_commands.specs.Judged.{in_blocks}
+use Rattle.vme_annotation.proofs.SameDumpLemmas.{IsDump, both_read, dump_is}
+use Rattle.vme_annotate.specs.HasTimes.{HasTimes}
+use Rattle.vme_annotate.specs.TimedListings.{listed_in}
+use Rattle.vme_annotate.proofs.HasTimesLemmas.{EachReached, at_reached, body_rises, each_instant, recorded_reached}
+use Rattle.vme_annotate.proofs.HasTimesLemmas.{settled_reached, times_order}
+use Rattle.vme_annotate.proofs.ListedInstants.{changes_within}
+use Rattle.vme_annotate.proofs.ListedLemmas.{capture_by-short, or_too_long}
+
+-- ---- one step back
+
+or_refused_is : (b : Bool) (r : Refusal) (u t : Trace) → cond b (Err r) (Ok u) ≡ Ok t → u ≡ t
+or_refused_is true r u t e = absurd cc
+or_refused_is false r u t e = cc
+
+settled_is : {E : Type 0} (skew : ℕ) (read : Result Trace E) (t : Trace) → settled_or skew read ≡ Ok t
+    → (raw : Trace) × (read ≡ Ok raw) × (settled skew raw ≡ t)
+settled_is skew (Ok raw) t e = (raw, refl, cc)
+settled_is skew (Err fault) t e = absurd cc
+
+limited_is : (b : Bool) (fault : BindFault) (u t : Trace) → or_bad_binding (cond b (Err fault) (Ok u)) ≡ Ok t → u ≡ t
+limited_is true fault u t e = absurd cc
+limited_is false fault u t e = cc
+
+abbrev trace_in : Trace → Result Trace BindFault → Trace
+trace_in other (Ok made) = made
+trace_in other (Err fault) = other
+
+dump_read_is : (r : Result Contents VcdFault) (contents : Contents) → or_bad_dump r ≡ Ok contents → r ≡ Ok contents
+dump_read_is (Ok other) contents e = ap (λ (c : Contents). Ok c) cc
+dump_read_is (Err fault) contents e = absurd cc
+
+bound_is : (r : Result Trace BindFault) (t : Trace) → or_bad_binding r ≡ Ok t → r ≡ Ok t
+bound_is (Ok other) t e = ap (λ (u : Trace). Ok u) cc
+bound_is (Err fault) t e = absurd cc
+
+-- ---- what is listed is the settled recording of a dump
+
+pub record IsRecorded (skew : ℕ) (bound : BoundLines) (dump : List ℕ) (t : Trace) : Type 0 where
+  pub contents : Contents
+  pub read_is : dump_of dump ≡ Ok contents
+  pub raw : Trace
+  pub raw_is : recording_of bound contents ≡ Ok raw
+  pub settles : settled skew raw ≡ t
+
+pub recorded : (skew : ℕ) (bound : BoundLines) (dump : List ℕ) (block : ℕ) (t : Trace)
+    → listed_in skew bound (or_bad_dump (dump_of dump)) block ≡ Ok t → IsRecorded skew bound dump t
+recorded skew bound dump block t e =
+    let read : Result Contents Refusal = or_bad_dump (dump_of dump) in
+    let (u, settled_as, cut) = both_read (settled_or skew (capture_by bound read)) (in_blocks block) t e in
+    let same : u ≡ t = or_refused_is _ _ u t cut in
+    let (raw, captured, settles) = settled_is skew (capture_by bound read) u settled_as in
+    let (whole, taken, short) = both_read (recording_by bound read) or_too_long raw
+    (sym (capture_by-short bound read) ∙ captured) in
+    let all : whole ≡ raw = limited_is _ _ whole raw short in
+    let (contents, dumped, made) = both_read read _ whole taken in
+    record {
+      contents = contents;
+      read_is = dump_read_is (dump_of dump) contents dumped;
+      raw = raw;
+      raw_is = bound_is (recording_of bound contents) raw (made ∙ ap (λ (r : Trace). Ok r) all);
+      settles = settles ∙ same;
+    }
+
+module _ (skew : ℕ) (bound : BoundLines) (dump : List ℕ) (t : Trace) (is : IsRecorded skew bound dump t) where
+  text_is : recording_of_text bound dump ≡ Ok is.raw
+  unfolding recording_of_text
+  text_is =
+      ap (recording_read bound) is.read_is ∙ ap (λ (r : Result Trace BindFault). or_binding r) is.raw_is
+
+  raw_recording : IsRecording is.raw
+  unfolding recording_of recording levels_after
+  raw_recording =
+      let read = both_read (bound_groups_in is.contents.variables bound.assignments) _ is.raw is.raw_is in
+      record {
+        whole = subst (λ (r : Trace). length r.opening.levels ≡ line_count) (ap (trace_in is.raw) read.2)
+            (levels-all bound.slots read.0 is.contents.instants 0);
+        formed = recorded-formed bound dump is.raw text_is;
+      }
+
+  formed : malformed_step t ≡ None
+  formed = subst (λ (u : Trace). malformed_step u ≡ None) is.settles (is_recording skew is.raw raw_recording).formed
+
+  ordered : (i j : ℕ) → i ≤ j → j ≤ last_instant t → time_at t i ≤ time_at t j
+  ordered i j le most =
+      let all : i + (j - i) ≡ j = omega (arith, le) in
+      subst (λ (k : ℕ). time_at t i ≤ time_at t k) all (times_order t formed i (j - i) (omega (arith, le, most)))
+
+  pub has_times : HasTimes dump t
+  has_times =
+      let read : IsDump dump is.contents = dump_is dump is.contents is.read_is in
+      let each = recorded_reached dump bound is.contents is.raw is.raw_is
+      (each_instant dump is.contents is.read_is) in
+      record {
+        defined = subst (λ (o : Option (List Token)). IsSome o) (sym read.ends) refl;
+        sorted = body_rises dump is.contents is.read_is;
+        ordered = ordered;
+        told = λ i. at_reached dump t i (subst (λ (u : Trace). EachReached dump u.steps) is.settles
+            (settled_reached dump skew is.raw each));
+        within = changes_within t;
+      }
+
+  pub defines : (d : Defined (List Variable)) × (header_of appended dump (nothing_declared []) (tokens dump) ≡ Ok d)
+  defines =
+      let read = both_read (whole_header dump) contents_behind is.contents (sym (dump_of-header dump) ∙ is.read_is) in
+      (read.0, read.1)

@@ -1,0 +1,10 @@
+-- The time of an instant.
+use Rattle.std.proofs.Common.{◌≡◌, ℕ, zero, suc, ◌-◌, List, get_or, refl, ap, arith}
+use Rattle.std.specs.Prelude.{decimal, max}
+use Rattle.vme_annotate.specs.TimedRows.{time_text}
+
+-- behind the opening
+pub time_shown : (times : List ℕ) (instant : ℕ) → (instant ≡ 0 → ⊥)
+    → decimal (get_or times (max instant 1 - 1) 0) ≡ time_text times instant
+time_shown times zero some = absurd (some refl)
+time_shown times (suc i) some = ap (λ (k : ℕ). decimal (get_or times k 0)) (omega arith)

@@ -1,0 +1,242 @@
+-- The times of a dump, as they are passed while it is written.
+use Rattle.std.proofs.Common.{◌≡◌, ℕ, zero, suc, get_or, ◌<◌, ◌≤◌, Bool, true, false, eqb, List, [], ◌∷◌, ◌++◌, length}
+use Rattle.std.proofs.Common.{refl, sym, ap, subst, ◌∙◌}
+use Rattle.std.proofs.Common.{arith, true≢false, ◌⊎◌, inl, inr, append_assoc}
+use Rattle.std.specs.Prelude.{nat_lt, max, slice_get, ◌&&◌, ◌||◌, IfNone, IfSome, Option, None, Some}
+use Rattle.std.specs.List.{list_all}
+use Rattle.std.proofs.lemmas.Bool.{eqb-true, ltb-true}
+use Rattle.std.proofs.lemmas.Bool.Decides.{nat_tests}
+use Rattle.std.proofs.lemmas.List.Folds.{list_all-append, list_any-append}
+use Rattle.vcd_places.specs.Places.{IsAtTime, times_of_body}
+use Rattle.vcd_places.specs.Times.{TimesLeft, times_left}
+use Rattle.vcd_places.specs.declared.times.TimePlace.{TimePlace}
+use Rattle.vcd_places.specs.Times.{IsFromOn, IsReached, is_among}
+use Rattle.vme_annotate.specs.declared.inserting.WritingPlace.{WritingPlace}
+use Rattle.vme_annotate.specs.Writing.{IsNextTime, IsWrittenTo, StaysWithin, times_ahead}
+
+both_true : (a b : Bool) → (a && b) ≡ true → (a ≡ true) × (b ≡ true)
+both_true true b e = (refl, e)
+both_true false b e = absurd (true≢false (sym e))
+
+and_true : (a b : Bool) → a ≡ true → b ≡ true → (a && b) ≡ true
+and_true true b first second = second
+and_true false b first second = absurd (true≢false (sym first))
+
+below_test : (a b : ℕ) → a < b → nat_lt a b ≡ true
+below_test a b lt = grind (arith, nat_tests, lt)
+
+-- numbers that are below one are below a higher one, and don't have it among them
+pub still_below : (xs : List ℕ) (low high : ℕ) → low ≤ high → list_all (λ (x : ℕ). nat_lt x low) xs ≡ true
+    → list_all (λ (x : ℕ). nat_lt x high) xs ≡ true
+still_below [] low high le all = refl
+still_below (x ∷ xs) low high le all =
+    let parts = both_true (nat_lt x low) (list_all (λ (y : ℕ). nat_lt y low) xs) all in
+    and_true (nat_lt x high) (list_all (λ (y : ℕ). nat_lt y high) xs)
+    (below_test x high (omega (arith, ltb-true x low parts.0, le))) (still_below xs low high le parts.1)
+
+neither : (a b : Bool) → a ≡ false → b ≡ false → (a || b) ≡ false
+neither true b first second = absurd (true≢false first)
+neither false b first second = second
+
+not_equal : (x n : ℕ) → x < n → eqb x n ≡ false
+not_equal x n lt = grind (arith, nat_tests, lt)
+
+not_among : (xs : List ℕ) (n : ℕ) → list_all (λ (x : ℕ). nat_lt x n) xs ≡ true → is_among n xs ≡ false
+not_among [] n all = refl
+not_among (x ∷ xs) n all =
+    let parts = both_true (nat_lt x n) (list_all (λ (y : ℕ). nat_lt y n) xs) all in
+    neither (eqb x n) (is_among n xs) (not_equal x n (ltb-true x n parts.0)) (not_among xs n parts.1)
+
+either_true : (a b : Bool) → (a || b) ≡ true → (a ≡ true) ⊎ (b ≡ true)
+either_true true b e = inl refl
+either_true false b e = inr e
+
+-- of numbers that don't go back none is below the first
+least_of : (least n : ℕ) (xs : List ℕ) → IsFromOn least xs → is_among n xs ≡ true → least ≤ n
+least_of least n [] from among = absurd (true≢false (sym among))
+least_of least n (x ∷ xs) from among =
+    elim (either_true (eqb x n) (is_among n xs) among) [
+      | inl is ↦ omega (arith, eqb-true x n is, from.0)
+      | inr later ↦ omega (arith, from.0, least_of x n xs from.1 later)
+    ]
+
+from_part : (least : ℕ) (xs ys : List ℕ) → IsFromOn least (xs ++ ys) → (lower : ℕ) × IsFromOn lower ys
+from_part least [] ys from = (least, from)
+from_part least (x ∷ xs) ys from = from_part x xs ys from.1
+
+among_rest : (n : ℕ) (xs ys : List ℕ) → is_among n (xs ++ ys) ≡ true → is_among n xs ≡ false → is_among n ys ≡ true
+among_rest n xs ys among none =
+    elim (either_true (is_among n xs) (is_among n ys)
+    (sym (list_any-append (λ (x : ℕ). eqb x n) xs ys) ∙ among)) [
+      | inl first ↦ absurd (true≢false (sym first ∙ none))
+      | inr rest ↦ rest
+    ]
+
+-- the next time isn't behind one that is reached and wasn't passed
+pub next_reached : (time next : ℕ) (passed rest all : List ℕ) → all ≡ passed ++ next ∷ rest → IsFromOn 0 all
+    → list_all (λ (t : ℕ). nat_lt t time) passed ≡ true → is_among time all ≡ true → next ≤ time
+next_reached time next passed rest all split from fewer among =
+    let part = from_part 0 passed (next ∷ rest) (subst (λ (ts : List ℕ). IsFromOn 0 ts) split from) in
+    let here = among_rest time passed (next ∷ rest) (sym (ap (is_among time) split) ∙ among)
+    (not_among passed time fewer) in
+    elim (either_true (eqb next time) (is_among time rest) here) [
+      | inl is ↦ omega (arith, eqb-true next time is)
+      | inr later ↦ least_of next time rest part.1.1 later
+    ]
+
+-- and there is a next one
+pub none_ahead : (time : ℕ) (passed all : List ℕ) → all ≡ passed ++ []
+    → list_all (λ (t : ℕ). nat_lt t time) passed ≡ true → is_among time all ≡ true → ⊥
+none_ahead time passed all split fewer among =
+    true≢false (sym (among_rest time passed [] (sym (ap (is_among time) split) ∙ among) (not_among passed time fewer)))
+
+-- one more that is passed
+pub passed_more : (time next : ℕ) (passed rest all : List ℕ) → all ≡ passed ++ next ∷ rest → next < time
+    → list_all (λ (t : ℕ). nat_lt t time) passed ≡ true
+    → (all ≡ (passed ++ next ∷ []) ++ rest) × (list_all (λ (t : ℕ). nat_lt t time) (passed ++ next ∷ []) ≡ true)
+passed_more time next passed rest all split lt fewer = (
+  split ∙ sym (append_assoc passed (next ∷ []) rest),
+  list_all-append (λ (t : ℕ). nat_lt t time) passed (next ∷ [])
+      ∙ and_true (list_all (λ (t : ℕ). nat_lt t time) passed) (nat_lt next time && true) fewer
+      (and_true (nat_lt next time) true (below_test next time lt) refl),
+)
+
+-- ---- one step
+
+module _ (dump : List ℕ) (asked time : ℕ) (w : WritingPlace) (is : IsWrittenTo dump asked time w) where
+  -- a time that is reached and told by none of those ahead is that at which writing stands
+  stands_there : asked ≤ time → IsReached dump time → (is_among time (times_of_body dump) ≡ true → ⊥)
+      → IsAtTime dump time w.count
+  stands_there le reached untold =
+      elim reached [
+        | inl first ↦ subst (λ (t : ℕ). IsAtTime dump t w.count) (omega (arith, le, first)) is.at
+        | inr among ↦ absurd (untold among)
+      ]
+
+  pub written_none : asked ≤ time → IsReached dump time → w.next ≡ None → IsWrittenTo dump time time w
+  written_none le reached none = record {
+    same = is.same;
+    at = stands_there le reached (λ among. none_ahead time is.passed (times_of_body dump)
+        (is.all ∙ ap (λ (o : Option TimePlace). is.passed ++ times_ahead o w.places) none) is.fewer among);
+    passed = is.passed;
+    all = is.all;
+    fewer = is.fewer;
+    next = is.next;
+  }
+
+  module _ (found : TimePlace) (next : w.next ≡ Some found) where
+    split : times_of_body dump ≡ is.passed ++ found.time ∷ times_left w.places
+    split = is.all ∙ ap (λ (o : Option TimePlace). is.passed ++ times_ahead o w.places) next
+
+    behind : IsNextTime dump w.count w.places found
+    behind = subst (λ (o : Option TimePlace). IfSome o (IsNextTime dump w.count w.places)) next is.next
+
+    pub written_before : asked ≤ time → IsReached dump time → IsFromOn 0 (times_of_body dump) → time < found.time
+        → IsWrittenTo dump time time w
+    written_before le reached sorted lt = record {
+      same = is.same;
+      at = stands_there le reached (λ among. absurd (omega (
+        arith,
+        lt,
+        next_reached time found.time is.passed
+            (times_left w.places) (times_of_body dump) split sorted is.fewer among,
+      )));
+      passed = is.passed;
+      all = is.all;
+      fewer = is.fewer;
+      next = is.next;
+    }
+
+    pub written_at : found.time ≡ time → (count : ℕ) → count ≡ max found.end w.count
+        → IsWrittenTo dump time time (record w { count = count })
+    written_at e count here =
+        let end : found.end ≡ count = omega (arith, here, behind.behind) in
+        record {
+          same = is.same;
+          at = subst (λ (place : ℕ). IsAtTime dump time place) end
+              (subst (λ (t : ℕ). IsAtTime dump t found.end) e behind.at);
+          passed = is.passed;
+          all = is.all;
+          fewer = is.fewer;
+          next = subst (λ (o : Option TimePlace). IfSome o (IsNextTime dump count w.places)) (sym next) (record {
+            at = behind.at;
+            behind = omega (arith, end);
+            last = behind.last;
+          });
+        }
+
+    module _ (later : Option TimePlace) (places : TimesLeft) (text : places.text ≡ w.places.text)
+        (left : times_left w.places ≡ times_ahead later places)
+        (at : IfSome later (λ f. IsAtTime w.places.text f.time f.end))
+        (order : IfSome later (λ f. (w.places.at < f.end) × (f.end ≡ places.at))) where
+      later_behind : (o : Option TimePlace) → later ≡ o → IfSome o (IsNextTime dump w.count places)
+      later_behind None e = tt
+      later_behind (Some f) e =
+          let here = subst (λ (o : Option TimePlace). IfSome o (λ f. IsAtTime w.places.text f.time f.end)) e at in
+          let ordered = subst (λ (o : Option TimePlace). IfSome o (λ f. (w.places.at < f.end) × (f.end ≡ places.at))) e
+          order in
+          record {
+            at = subst (λ (text : List ℕ). IsAtTime text f.time f.end) is.same here;
+            behind = omega (arith, behind.behind, behind.last, ordered.0);
+            last = ordered.1;
+          }
+
+      pub written_on : found.time < time → IsWrittenTo dump asked time (record w { places = places; next = later })
+      written_on lt =
+          let more = passed_more time found.time is.passed (times_left w.places)
+          (times_of_body dump) split lt is.fewer in
+          record {
+            same = text ∙ is.same;
+            at = is.at;
+            passed = is.passed ++ found.time ∷ [];
+            all = more.0 ∙ ap (λ (ts : List ℕ). (is.passed ++ found.time ∷ []) ++ ts) left;
+            fewer = more.1;
+            next = later_behind later refl;
+          }
+
+pub written_for : (dump : List ℕ) (asked time : ℕ) (w : WritingPlace) → IsWrittenTo dump asked asked w → asked ≤ time
+    → IsWrittenTo dump asked time w
+written_for dump asked time w is le = record {
+  same = is.same;
+  at = is.at;
+  passed = is.passed;
+  all = is.all;
+  fewer = still_below is.passed asked time le is.fewer;
+  next = is.next;
+}
+
+-- what is left behind the next time
+pub left_is : (later : Option TimePlace) (old new : TimesLeft)
+    → IfSome later (λ f. times_left old ≡ f.time ∷ times_left new) → IfNone later (times_left old ≡ [])
+    → times_left old ≡ times_ahead later new
+left_is None old new some none = none
+left_is (Some f) old new some none = some
+
+pub none_get : (xs : List ℕ) (i : ℕ) → slice_get xs i ≡ None → get_or xs i 0 ≡ 0
+none_get [] zero e = refl
+none_get [] (suc i) e = refl
+none_get (x ∷ xs) zero e = absurd cc
+none_get (x ∷ xs) (suc i) e = none_get xs i e
+
+-- ---- within the dump
+
+module _ (w : WritingPlace) (is : StaysWithin w) where
+  pub within_at : (found : TimePlace) → w.next ≡ Some found → (count : ℕ) → count ≡ max found.end w.count
+      → StaysWithin (record w { count = count })
+  within_at found next count here =
+      let end = subst (λ (o : Option TimePlace). IfSome o (λ f. f.end ≤ length w.places.text)) next is.next in
+      record { count = omega (arith, here, end, is.count); next = is.next }
+
+  later_within : (text : List ℕ) (later : Option TimePlace) → IfSome later (λ f. IsAtTime text f.time f.end)
+      → IfSome later (λ f. f.end ≤ length text)
+  later_within text None at = tt
+  later_within text (Some f) at = at.within
+
+  pub within_on : (later : Option TimePlace) (places : TimesLeft) → places.text ≡ w.places.text
+      → IfSome later (λ f. IsAtTime w.places.text f.time f.end)
+      → StaysWithin (record w { places = places; next = later })
+  within_on later places text at = record {
+    count = subst (λ (all : List ℕ). w.count ≤ length all) (sym text) is.count;
+    next = subst (λ (all : List ℕ). IfSome later (λ f. f.end ≤ length all)) (sym text)
+        (later_within w.places.text later at);
+  }

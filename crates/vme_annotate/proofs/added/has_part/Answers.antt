@@ -1,0 +1,10 @@
+use Rattle.std.proofs.Common.{rules, tests}
+use Rattle.std.specs.Prelude.{◌==◌, bytes_eq}
+use Rattle.std.proofs.lemmas.Iterator.Search.{any_from_yields_List}
+use Rattle.std.proofs.lemmas.Iterator.Splits.{YieldsList-from_slice_split}
+use Rattle.vme_annotate.proofs.added.has_part.Goals as goal
+
+pub returns : goal.returns
+returns c = any_from_yields_List (λ part. bytes_eq part c.args.name.now) _ _ _ c.any.ensures.ran
+    (YieldsList-from_slice_split _ (λ b. b == 46) c.args.path.now c.split.ensures.rest c.split.ensures.done
+    c.split.ensures.closure (λ x b q k. search (rules, tests))) (λ x b q k. search (rules, tests))

@@ -1,0 +1,22 @@
+use Rattle.std.proofs.lemmas.List.{append_assoc}
+use Rattle.vme_annotate.specs.TimedRows.{timed_row}
+use Rattle.vme_annotate.proofs.short_text.ShortText.push_timed_cycle.Goals as goal
+
+pub returns-clause-text : goal.returns-clause-text
+unfolding timed_row
+returns-clause-text c =
+    rw (
+      c.push_edge.ensures.text,
+      c.push_hexadecimal-2.ensures.text,
+      c.address_digits.ensures.digits,
+      c.push-4.ensures.text,
+      c.push_hexadecimal.ensures.text,
+      c.from.ensures,
+      c.push-3.ensures.text,
+      c.push-2.ensures.text,
+      c.class_text.ensures.text,
+      c.push.ensures.text,
+      c.push_instant.ensures.text,
+      c.requires,
+    )
+    (simp append_assoc)

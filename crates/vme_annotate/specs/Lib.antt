@@ -1,0 +1,9 @@
+pub mod Planned
+pub mod Added
+pub mod TimedRows
+pub mod TimedListings
+pub mod Outputs
+pub mod Answers
+pub mod Prepared
+pub mod HasTimes
+pub mod Writing

@@ -1,0 +1,62 @@
+-- The listing of a recording with the times of its steps, and its text with times.
+use Rattle.std.specs.Prelude.{◌≡◌, ℕ, List, [], ◌∷◌, ◌++◌, flat_map, map, codes, Result, Ok, Err}
+use Rattle.vme_trace.specs.Trace.{Trace}
+use Rattle.vme_trace.specs.declared.step.Step.{Step}
+use Rattle.vme_listing.specs.Listed.{Listed}
+use Rattle.vme_listing.specs.Recorded.{listing_of, recorded_rows}
+use Rattle.vme_listing.specs.declared.row.Row.{Row}
+use Rattle.vcd_read.specs.Contents.{Contents}
+use Rattle.vcd_read.specs.Header.{◌>>=◌}
+use Rattle.vme_bind.specs.Binding.{BoundLines}
+use Rattle.vme_skew.specs.Settled.{settled_or}
+use Rattle.vme_answer.specs.Answers.{capture_by}
+use Rattle.vme_answer.specs.declared.refusal.Refusal.{Refusal}
+use Rattle.vme_answer.specs.declared.refusal.Refusal.TheVariants.{Memory}
+use Rattle.vme_commands.specs.Judged.{in_blocks}
+use Rattle.vme_annotate.specs.TimedRows.{timed_line}
+
+-- ---- what is found of a recording
+
+abbrev pub times_of : List Step → List ℕ
+times_of steps = map (λ (step : Step). step.time) steps
+
+-- a listing, and the times of the steps
+pub record Timed : Type 0 where
+  pub listing : Listed
+  pub times : List ℕ
+
+-- they are those of a recording
+pub record IsTimed (t : Trace) (found : Timed) : Type 0 where
+  pub listing_is : found.listing ≡ listing_of t
+  pub times_are : found.times ≡ times_of t.steps
+
+-- they are those of the recording that is to be read there, or what is found is why there is none, unless there was no
+-- memory
+abbrev pub GivesTimed : Result Timed Refusal → Result Trace Refusal → Type 0
+GivesTimed (Ok found) recording = (t : Trace) × (recording ≡ Ok t) × IsTimed t found
+GivesTimed (Err Memory) recording = Unit {0}
+GivesTimed (Err refusal) recording = recording ≡ Err refusal
+
+-- ---- the text
+
+abbrev pub timed_header : List ℕ
+timed_header = codes "vmecheck listing 3 times" ++ 10 ∷ []
+
+-- the text of some rows
+abbrev pub timed_rows_text : List ℕ → List Row → List ℕ
+timed_rows_text times rows = timed_header ++ flat_map (timed_line times) rows
+
+-- that of a recording's listing
+abbrev pub timed_text : Trace → List ℕ
+timed_text t = timed_rows_text (times_of t.steps) (recorded_rows t)
+
+-- ---- what is read
+
+-- a recording settled by a skew, if it is cut into at most 4,096 blocks of so many steps
+abbrev pub settled_in_blocks : ℕ → ℕ → Result Trace Refusal → Result Trace Refusal
+settled_in_blocks skew block recording = settled_or skew recording >>= in_blocks block
+
+-- the recording that a binding makes of what reading the dump gave, settled by a skew, if it is cut into at most 4,096
+-- blocks of so many steps
+abbrev pub listed_in : ℕ → BoundLines → Result Contents Refusal → ℕ → Result Trace Refusal
+listed_in skew bound dump block = settled_in_blocks skew block (capture_by bound dump)

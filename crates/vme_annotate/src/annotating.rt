@@ -1,0 +1,171 @@
+//! A dump that is written again, annotated with the listing of its recording.
+
+ghost use Rattle.std.specs.Prelude.{◌≡◌, ◌≢◌, ◌↔◌, ℕ, suc, List, Ok, Option, Some};
+ghost use Rattle.vme_answer.specs.Answers.{dump_read};
+ghost use Rattle.vme_answer.specs.Ends.{Ends};
+ghost use Rattle.vme_commands.specs.Settled.{settled_recording};
+ghost use Rattle.vme_stream.specs.Inputs.{IsReading, TellsWhole};
+ghost use Rattle.vme_trace.specs.Trace.{Trace};
+ghost use Rattle.vme_annotation.specs.Annotated.{IsAnnotated};
+ghost use Rattle.vme_annotate.specs.Answers.{Annotates, TellsAnnotation, annotation_answer_by, block_of};
+ghost use Rattle.vme_annotate.specs.Prepared.{GivesPrepared, IsPrepared, recording_in};
+ghost use Rattle.vme_annotate.specs.TimedListings.{listed_in};
+
+use crate::added::{AddedVariables, added_to};
+use crate::changes::{PlannedChange, changes_of};
+use crate::inserting::{Annotation, write_annotated};
+use crate::listed::{TimedListing, listed_in};
+use std::alloc::Global;
+use vme_answer::{Input, Refusal, binding_from, cannot_write_line, refusal_line};
+use vme_bind::Binding;
+use vme_stream::{complain, read_all};
+use vme_trace::{Sink, Source};
+
+/// How many steps a block has.
+const BLOCK: u32 = 16_384;
+
+/// A dump, and all that is put into it.
+#[derive(Drop)]
+struct AnnotatedDump {
+    text: Vec<u8>,
+    listing: TimedListing,
+    changes: Vec<PlannedChange>,
+    added: AddedVariables,
+}
+
+/// Writes to `out` a dump, byte for byte, with variables of its own that show the tenures, cycles and transfers of the
+/// recording that a binding makes of it, settled by a skew, and from a break on its verdict; or to `err` why there is
+/// no recording. The answer is the exit status: that of `list`.
+///
+/// The binding is read, and then the dump, which is kept as it is, with the times of its steps and the rows of its
+/// listing: that is all that takes memory, and no more is taken once something is written. A failure of `err` is
+/// ignored.
+pub fn annotate<B: Source, D: Source, O: Sink, E: Sink>(
+    alloc: Global,
+    binding: &mut B,
+    dump: &mut D,
+    skew: u64,
+    out: &mut O,
+    err: &mut E,
+) -> u8
+    ensures answer { Annotates skew
+        (B.reading binding.old, B.reading binding.new) (D.reading dump.old, D.reading dump.new)
+        (O.writing out.old, O.writing out.new) (E.writing err.old, E.writing err.new) result }
+    ensures unwritten { (result ≡ 5) ↔ ((O.writing out.new).failures ≡ suc (O.writing out.old).failures) }
+
+    // Inputs that are told whole, no failure, and memory give exactly the annotated dump, or the first fault.
+    ensures exact { (b d : List ℕ) → TellsWhole (B.reading binding.old) (B.reading binding.new) b
+        → TellsWhole (D.reading dump.old) (D.reading dump.new) d
+        → (O.writing out.new).failures ≡ (O.writing out.old).failures → result ≢ 4
+        → TellsAnnotation skew b d
+        (O.writing out.old, O.writing out.new) (E.writing err.old, E.writing err.new) result }
+{
+    read_and_tell(alloc, binding, dump, skew, out, err)
+}
+
+/// The same, in the words of the definitions alone.
+fn read_and_tell<B: Source, D: Source, O: Sink, E: Sink>(
+    alloc: Global,
+    binding: &mut B,
+    dump: &mut D,
+    skew: u64,
+    out: &mut O,
+    err: &mut E,
+) -> u8
+    ensures { Annotates skew
+        (B.reading binding.old, B.reading binding.new) (D.reading dump.old, D.reading dump.new)
+        (O.writing out.old, O.writing out.new) (E.writing err.old, E.writing err.new) result }
+{
+    match annotated_from(alloc, binding, dump, skew) {
+        Ok(annotated) => tell(&annotated, out, err),
+        Err(refusal) => {
+            complain(err, refusal_line(&refusal));
+            refusal.status()
+        }
+    }
+}
+
+/// Writes an annotated dump.
+fn tell<O: Sink, E: Sink>(annotated: &AnnotatedDump, out: &mut O, err: &mut E) -> u8
+    ensures { (t : Trace) → IsPrepared t annotated.now → (text : List ℕ)
+        × IsAnnotated annotated.now.text.items t text
+        × Ends (annotation_answer_by text (Ok t))
+        (O.writing out.old, O.writing out.new) (E.writing err.old, E.writing err.new) result }
+{
+    let annotation = Annotation {
+        dump: annotated.text.as_slice(),
+        listing: &annotated.listing,
+        changes: annotated.changes.as_slice(),
+        added: &annotated.added,
+    };
+    match write_annotated(out, &annotation) {
+        Ok(()) => annotated.listing.status(),
+        Err(_) => {
+            complain(err, cannot_write_line());
+            5
+        }
+    }
+}
+
+/// The dump, with what is put into it, or the first reason that there is no recording of it: the binding is read first.
+fn annotated_from<B: Source, D: Source>(
+    alloc: Global,
+    binding: &mut B,
+    dump: &mut D,
+    skew: u64,
+) -> Result<AnnotatedDump, Refusal>
+    ensures { (binding_bytes dump_bytes : Option (List ℕ))
+        × IsReading (B.reading binding.old) (B.reading binding.new) binding_bytes
+        × IsReading (D.reading dump.old) (D.reading dump.new) dump_bytes
+        × GivesPrepared dump_bytes result (settled_recording skew binding_bytes dump_bytes block_of) }
+{
+    match binding_from(alloc, binding) {
+        Ok(bound) => annotated_by(alloc, &bound, dump, skew),
+        Err(refusal) => Err(refusal),
+    }
+}
+
+/// The same, by a binding.
+fn annotated_by<D: Source>(
+    alloc: Global,
+    bound: &Binding,
+    dump: &mut D,
+    skew: u64,
+) -> Result<AnnotatedDump, Refusal>
+    ensures { (bytes : Option (List ℕ))
+        × IsReading (D.reading dump.old) (D.reading dump.new) bytes
+        × GivesPrepared bytes result (listed_in skew bound.now (dump_read bytes) block_of) }
+{
+    match read_all(alloc, dump) {
+        Ok(text) => annotated_in(alloc, bound, text, skew),
+        Err(fault) => Err(Refusal::of_input(Input::Dump, fault)),
+    }
+}
+
+/// The same, of the text of a dump.
+fn annotated_in(
+    alloc: Global,
+    bound: &Binding,
+    text: Vec<u8>,
+    skew: u64,
+) -> Result<AnnotatedDump, Refusal>
+    ensures { GivesPrepared (Some text.items) result (recording_in skew bound.now text.items) }
+{
+    let listing = match listed_in(alloc, bound, &text, skew, BLOCK) {
+        Ok(listing) => listing,
+        Err(refusal) => return Err(refusal),
+    };
+    let added = match added_to(alloc, &text) {
+        Ok(added) => added,
+        Err(refusal) => return Err(refusal),
+    };
+    match changes_of(alloc, listing.rows()) {
+        Ok(changes) => Ok(AnnotatedDump {
+            text,
+            listing,
+            changes,
+            added,
+        }),
+        Err(_) => Err(Refusal::Memory),
+    }
+}

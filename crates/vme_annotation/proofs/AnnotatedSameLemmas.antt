@@ -1,0 +1,367 @@
+-- A binding that makes a recording of a dump makes the same of the annotated dump.
+use Rattle.std.proofs.Common.{◌≡◌, ℕ, ◌<◌, true, false, List, [], ◌∷◌, ◌++◌, Option, Some, None, Result}
+use Rattle.std.proofs.Common.{Ok, Err, refl, sym, ap, subst, ◌∙◌, arith, length, take, drop}
+use Rattle.std.specs.Prelude.{codes, map, option_map, ◌&&◌}
+use Rattle.std.specs.List.{list_all}
+use Rattle.std.proofs.lemmas.List.{append-nil, take-append-drop}
+use Rattle.vcd_read.specs.Contents.{Contents}
+use Rattle.vcd_read.specs.declared.dump.Instant.{Instant}
+use Rattle.vcd_read.specs.declared.dump.Variable.{Variable}
+use Rattle.vcd_read.specs.declared.fault.VcdFault.{VcdFault}
+use Rattle.vcd_read.specs.Tokens.{Token, tokens, tokens_from}
+use Rattle.vcd_read.specs.Reading.{line_behind}
+use Rattle.vcd_read.specs.CodeNumbers.{code_number}
+use Rattle.vcd_read.specs.Header.{◌>>=◌, Declared, Header, HeaderItem, Net, appended, between, header_from}
+use Rattle.vcd_read.specs.Header.{net_of, nothing_declared}
+use Rattle.vcd_read.specs.Sections.{Defined, headed, header_of}
+use Rattle.vcd_read.specs.Body.{BodyItem, body_from, ready}
+use Rattle.vcd_read.specs.Meaning.{body_of, dump_of}
+use Rattle.vcd_places.specs.Places.{begins_with_token, body_in, ends_apart, ends_definitions_at, is_between_sections}
+use Rattle.vcd_places.proofs.PutInLemmas.{IsWord, behind_items, words_read}
+use Rattle.vcd_places.proofs.SkippedLemmas.{instants_in}
+use Rattle.vcd_places.proofs.MoreNetsLemmas.{instants_stay, net_of_added, net_stays, still_free}
+use Rattle.vcd_places.proofs.StringStepLemmas.{IsShown, instants_of_text, items_of_text}
+use Rattle.vme_bind.specs.Binding.{BoundLines}
+use Rattle.vme_bind.specs.BoundGroups.{bound_groups_in}
+use Rattle.vme_bind.specs.Capture.{recording_of}
+use Rattle.vme_bind.specs.TextCapture.{or_binding, recording_of_text, recording_read}
+use Rattle.vme_bind.specs.declared.fault.BindFault.{BindFault}
+use Rattle.vme_trace.specs.Trace.{Trace}
+use Rattle.vme_listing.specs.Recorded.{recorded_rows}
+use Rattle.vme_annotation.specs.Annotated.{ArePutAt, annotated, change_text, code_of, declarations}
+use Rattle.vme_annotation.specs.Annotated.{declared_words}
+use Rattle.vme_annotation.specs.Fresh.{AreFree, IsFree, has_name, scope_name}
+use Rattle.vme_annotation.specs.Inserted.{PutChange, change_of, with_changes}
+use Rattle.vme_annotation.specs.Same.{SaysTheSame}
+use Rattle.vme_annotation.specs.Shown.{ShownChange}
+use Rattle.vme_annotation.specs.declared.shown_variable.ShownVariable.{ShownVariable}
+use Rattle.vme_annotation.specs.declared.shown_variable.ShownVariable.TheVariants as shown
+use Rattle.vme_annotation.proofs.BoundLemmas.{fine_first, groups_stay, is_fine}
+use Rattle.vme_annotation.proofs.ChangesInLemmas.{ArePutIn, instants_same}
+use Rattle.vme_annotation.proofs.DeclaredLemmas.{behind_six, declares_six, four_in, header_declared, nets_1, nets_2}
+use Rattle.vme_annotation.proofs.DeclaredLemmas.{nets_3}
+use Rattle.vme_annotation.proofs.DeclaredLemmas.{nets_4, six}
+use Rattle.vme_annotation.proofs.SameDumpLemmas.{IsDump, dump_is, same_dump}
+use Rattle.vme_annotation.proofs.ShownWordLemmas.{shown_words, shows_word}
+use Rattle.vme_annotation.proofs.WholeLemmas.{both_true, cancel, code_word, differ, end_items, four_apart, header_with}
+use Rattle.vme_annotation.proofs.WholeLemmas.{some_of, words_at}
+
+-- ---- the codes
+
+module _ (nets : List Net) (c0 c1 c2 c3 : List ℕ) (are : AreFree nets (c0 ∷ c1 ∷ c2 ∷ c3 ∷ [])) where
+  abbrev own : List (List ℕ)
+  own = c0 ∷ c1 ∷ c2 ∷ c3 ∷ []
+
+  free_0 : IsFree nets c0
+  free_0 = are.each 0 c0 (omega arith)
+
+  free_1 : IsFree nets c1
+  free_1 = are.each 1 c0 (omega arith)
+
+  free_2 : IsFree nets c2
+  free_2 = are.each 2 c0 (omega arith)
+
+  free_3 : IsFree nets c3
+  free_3 = are.each 3 c0 (omega arith)
+
+  below_01 : code_number c0 < code_number c1
+  below_01 = are.ascend 0 (omega arith)
+
+  below_12 : code_number c1 < code_number c2
+  below_12 = are.ascend 1 (omega arith)
+
+  below_23 : code_number c2 < code_number c3
+  below_23 = are.ascend 2 (omega arith)
+
+  new_1 : net_of (nets_1 c0 nets) c1 ≡ None
+  new_1 = still_free nets c0 1 c1 free_0.free (differ c0 c1 below_01) free_1.free
+
+  after_0-2 : net_of (nets_1 c0 nets) c2 ≡ None
+  after_0-2 = still_free nets c0 1 c2 free_0.free (differ c0 c2 (omega (arith, below_01, below_12))) free_2.free
+
+  after_0-3 : net_of (nets_1 c0 nets) c3 ≡ None
+  after_0-3 = still_free nets c0 1 c3 free_0.free (differ c0 c3 (omega (arith, below_01, below_12, below_23)))
+      free_3.free
+
+  new_2 : net_of (nets_2 c0 c1 nets) c2 ≡ None
+  new_2 = still_free (nets_1 c0 nets) c1 1 c2 new_1 (differ c1 c2 below_12) after_0-2
+
+  after_1-3 : net_of (nets_2 c0 c1 nets) c3 ≡ None
+  after_1-3 = still_free (nets_1 c0 nets) c1 1 c3 new_1 (differ c1 c3 (omega (arith, below_12, below_23))) after_0-3
+
+  new_3 : net_of (nets_3 c0 c1 c2 nets) c3 ≡ None
+  new_3 = still_free (nets_2 c0 c1 nets) c2 1 c3 new_2 (differ c2 c3 below_23) after_1-3
+
+  abbrev all : List Net
+  all = nets_4 c0 c1 c2 c3 nets
+
+  has_3 : net_of all c3 ≡ Some (length (nets_3 c0 c1 c2 nets))
+  has_3 = net_of_added (nets_3 c0 c1 c2 nets) c3 1 new_3
+
+  has_2 : net_of all c2 ≡ Some (length (nets_2 c0 c1 nets))
+  has_2 = net_stays (nets_3 c0 c1 c2 nets) c3 1 new_3 c2 (length (nets_2 c0 c1 nets))
+      (net_of_added (nets_2 c0 c1 nets) c2 1 new_2)
+
+  has_1 : net_of all c1 ≡ Some (length (nets_1 c0 nets))
+  has_1 = net_stays (nets_3 c0 c1 c2 nets) c3 1 new_3 c1 (length (nets_1 c0 nets))
+      (net_stays (nets_2 c0 c1 nets) c2 1 new_2 c1 (length (nets_1 c0 nets))
+      (net_of_added (nets_1 c0 nets) c1 1 new_1))
+
+  has_0 : net_of all c0 ≡ Some (length nets)
+  has_0 = net_stays (nets_3 c0 c1 c2 nets) c3 1 new_3 c0 (length nets)
+      (net_stays (nets_2 c0 c1 nets) c2 1 new_2 c0 (length nets)
+      (net_stays (nets_1 c0 nets) c1 1 new_1 c0 (length nets) (net_of_added nets c0 1 free_0.free)))
+
+  -- what comes of a body without a fault stays
+  pub instants_four : (items : List BodyItem) (instants : List Instant) → instants_in nets items ≡ Ok instants
+      → instants_in all items ≡ Ok instants
+  instants_four items instants e =
+      instants_stay (nets_3 c0 c1 c2 nets) c3 1 new_3 items instants
+      (instants_stay (nets_2 c0 c1 nets) c2 1 new_2 items instants
+      (instants_stay (nets_1 c0 nets) c1 1 new_1 items instants
+      (instants_stay nets c0 1 free_0.free items instants e)))
+
+  -- each of the codes shows a word
+  shown_by : (text code : List ℕ) (net : ℕ) → IsWord text → IsFree nets code → net_of all code ≡ Some net
+      → IsShown all text code
+  shown_by text code net word free has =
+      let first = some_of code free.some in
+      record {
+        word = word;
+        first = first.0;
+        others = first.1;
+        code_is = first.2;
+        named = subst (λ (c : List ℕ). IsWord c) first.2 (code_word code free.is_one);
+        net = net;
+        net_is = has;
+      }
+
+  each_shows : (text : List ℕ) (v : ShownVariable) → IsWord text → IsShown all text (code_of own v)
+  each_shows text shown.Tenure word = shown_by text c0 (length nets) word free_0 has_0
+  each_shows text shown.Cycle word = shown_by text c1 (length (nets_1 c0 nets)) word free_1 has_1
+  each_shows text shown.Transfer word = shown_by text c2 (length (nets_2 c0 c1 nets)) word free_2 has_2
+  each_shows text shown.Verdict word = shown_by text c3 (length (nets_3 c0 c1 c2 nets)) word free_3 has_3
+
+  abbrev pub code_by : ShownChange → List ℕ
+  code_by c = code_of own c.variable
+
+  placed_in : (dump : List ℕ) (t : Trace) (put : List PutChange) (from : ℕ) → ArePutAt dump t from put
+      → list_all shows_word (map change_of put) ≡ true → ArePutIn all code_by dump from put
+  placed_in dump t [] from placed words = tt
+  placed_in dump t (p ∷ put) from placed words =
+      let parts = both_true (shows_word p.change) (list_all shows_word (map change_of put)) words in (
+        placed.0,
+        record {
+          shown = each_shows p.change.text p.change.variable parts.0;
+          behind = record { body = placed.1.body; ended = placed.1.ended; whole = placed.1.whole };
+          detached = placed.1.detached;
+        },
+        placed_in dump t put p.place placed.2 parts.1,
+      )
+
+-- ---- the text
+
+some_body : {A B : Type 0} (f : A → B) (o : Option A) (b : B) → option_map f o ≡ Some b
+    → (a : A) × (o ≡ Some a) × (f a ≡ b)
+some_body f None b e = absurd cc
+some_body f (Some a) b e = (a, refl, cc)
+
+module _ (dump : List ℕ) (contents : Contents) (is : IsDump dump contents) (t : Trace) (underscores start : ℕ)
+    (put : List PutChange) (c0 c1 c2 c3 : List ℕ) (starts : ends_definitions_at dump start ≡ true)
+    (placed : ArePutAt dump t start put) (words : list_all shows_word (map change_of put) ≡ true)
+    (are : AreFree is.declared.nets (c0 ∷ c1 ∷ c2 ∷ c3 ∷ [])) where
+  abbrev nets : List Net
+  nets = is.declared.nets
+
+  abbrev scope : List ℕ
+  scope = scope_name underscores
+
+  abbrev four : List (List ℕ)
+  four = c0 ∷ c1 ∷ c2 ∷ c3 ∷ []
+
+  abbrev now : List Net
+  now = nets_4 c0 c1 c2 c3 nets
+
+  abbrev front : List ℕ
+  front = take start dump
+
+  abbrev line : ℕ
+  line = line_behind 1 front
+
+  abbrev rest : List ℕ
+  rest = with_changes (change_text four) start put dump
+
+  abbrev after : List ℕ → Header
+  after text = header_from between (tokens_from line text)
+
+  parts : (ends_apart front ≡ true) × (is_between_sections front ≡ true)
+      × (begins_with_token (codes "$enddefinitions") (drop start dump) ≡ true)
+  parts =
+      let outer = both_true (ends_apart front && is_between_sections front)
+      (begins_with_token (codes "$enddefinitions") (drop start dump)) starts in
+      let inner = both_true (ends_apart front) (is_between_sections front) outer.0 in
+      (inner.0, inner.1, outer.1)
+
+  header_behind : (text : List ℕ) → header_from between (tokens (front ++ text))
+      ≡ behind_items (items_of_text front) (after text)
+  header_behind text = header_with front parts.0 parts.1 text
+
+  same : (instants_of_text now (front ++ rest) ≡ instants_of_text now dump)
+      × (items_of_text (front ++ rest) ≡ items_of_text dump)
+  same =
+      instants_same now (code_by nets c0 c1 c2 c3 are) dump put start
+      (placed_in nets c0 c1 c2 c3 are dump t put start placed words)
+
+  items_dump : items_of_text dump ≡ items_of_text front ++ []
+  items_dump =
+      ap items_of_text (sym (take-append-drop start dump))
+      ∙ ap (λ (h : Header). h.items) (header_behind (drop start dump))
+      ∙ ap (λ (items : List HeaderItem). items_of_text front ++ items)
+      (end_items line (drop start dump) parts.2 is.body (sym (ap (λ (h : Header). h.body)
+      (header_behind (drop start dump))) ∙ ap body_in (take-append-drop start dump) ∙ is.ends))
+
+  items_rest : (after rest).items ≡ []
+  items_rest =
+      cancel (items_of_text front) (after rest).items
+      (sym (ap (λ (h : Header). h.items) (header_behind rest)) ∙ same.1 ∙ items_dump)
+
+  abbrev read : List Token → Result (List Instant) VcdFault
+  read body = instants_in now (body_from ready body)
+
+  body_rest : (body : List Token) × ((after rest).body ≡ Some body) × (read body ≡ Ok contents.instants)
+  body_rest =
+      some_body read (after rest).body (Ok contents.instants)
+      (sym (ap (λ (h : Header). option_map read h.body) (header_behind rest)) ∙ same.0
+      ∙ ap (option_map read) is.ends
+      ∙ ap (λ (r : Result (List Instant) VcdFault). Some r)
+      (instants_four nets c0 c1 c2 c3 are (body_from ready is.body) contents.instants is.comes))
+
+  abbrev whole : List ℕ
+  whole = front ++ (declarations scope four ++ rest)
+
+  header_whole : header_from between (tokens whole)
+      ≡ behind_items (items_of_text front) (behind_items (six scope c0 c1 c2 c3 line) (after rest))
+  header_whole =
+      let f0 = free_0 nets c0 c1 c2 c3 are in
+      let f1 = free_1 nets c0 c1 c2 c3 are in
+      let f2 = free_2 nets c0 c1 c2 c3 are in
+      let f3 = free_3 nets c0 c1 c2 c3 are in
+      header_behind (declarations scope four ++ rest)
+      ∙ ap (behind_items (items_of_text front))
+      (ap (header_from between) (words_read line (declared_words scope four) rest
+      (words_at underscores c0 c1 c2 c3 f0.some f1.some f2.some f3.some (code_word c0 f0.is_one)
+      (code_word c1 f1.is_one) (code_word c2 f2.is_one) (code_word c3 f3.is_one)))
+      ∙ header_declared scope c0 c1 c2 c3 line (tokens_from line rest) refl f0.no_end f1.no_end f2.no_end f3.no_end)
+
+  items_whole : items_of_text whole ≡ items_of_text dump ++ six scope c0 c1 c2 c3 line
+  items_whole =
+      let sections : List HeaderItem = six scope c0 c1 c2 c3 line in
+      ap (λ (h : Header). h.items) header_whole
+      ∙ ap (λ (items : List HeaderItem). items_of_text front ++ (sections ++ items)) items_rest
+      ∙ ap (λ (items : List HeaderItem). items_of_text front ++ items) (append-nil sections)
+      ∙ sym (ap (λ (items : List HeaderItem). items ++ sections) (items_dump ∙ append-nil (items_of_text front)))
+
+  pub dump_whole : dump_of whole ≡ Ok (record {
+    variables = is.declared.variables ++ four_in scope c0 c1 c2 c3 is.declared;
+    instants = contents.instants;
+  })
+  dump_whole =
+      let f0 = free_0 nets c0 c1 c2 c3 are in
+      let f1 = free_1 nets c0 c1 c2 c3 are in
+      let f2 = free_2 nets c0 c1 c2 c3 are in
+      let f3 = free_3 nets c0 c1 c2 c3 are in
+      same_dump dump whole contents is (six scope c0 c1 c2 c3 line) (behind_six scope c0 c1 c2 c3 is.declared)
+      body_rest.0 items_whole (ap (λ (h : Header). h.body) header_whole ∙ body_rest.1)
+      (declares_six scope c0 c1 c2 c3 line is.declared f0.is_one f1.is_one f2.is_one f3.is_one f0.free
+      (new_1 nets c0 c1 c2 c3 are) (new_2 nets c0 c1 c2 c3 are) (new_3 nets c0 c1 c2 c3 are))
+      body_rest.2
+
+-- ---- the recording
+
+binding_is : {A : Type 0} (r : Result A BindFault) (a : A) → or_binding r ≡ Ok a → r ≡ Ok a
+binding_is (Ok b) a e = cc
+binding_is (Err fault) a e = absurd cc
+
+contents_of : (bound : BoundLines) (r : Result Contents VcdFault) (t : Trace) → recording_read bound r ≡ Ok t
+    → (contents : Contents) × (r ≡ Ok contents) × (recording_of bound contents ≡ Ok t)
+contents_of bound (Ok contents) t e = (contents, refl, binding_is (recording_of bound contents) t e)
+contents_of bound (Err fault) t e = absurd cc
+
+recorded_more : (bound : BoundLines) (contents : Contents) (more : List Variable) (t : Trace)
+    → recording_of bound contents ≡ Ok t
+    → bound_groups_in (contents.variables ++ more) bound.assignments
+    ≡ bound_groups_in contents.variables bound.assignments
+    → recording_of bound (record { variables = contents.variables ++ more; instants = contents.instants }) ≡ Ok t
+unfolding recording_of
+recorded_more bound contents more t e stay = rw stay e
+
+groups_fine : (bound : BoundLines) (contents : Contents) (t : Trace) → recording_of bound contents ≡ Ok t
+    → is_fine (bound_groups_in contents.variables bound.assignments) ≡ true
+unfolding recording_of
+groups_fine bound contents t e =
+    fine_first (bound_groups_in contents.variables bound.assignments) _ (ap is_fine e)
+
+four_of : (own : List (List ℕ)) → length own ≡ 4
+    → (c0 : List ℕ) × (c1 : List ℕ) × (c2 : List ℕ) × (c3 : List ℕ) × (own ≡ c0 ∷ c1 ∷ c2 ∷ c3 ∷ [])
+four_of [] e = absurd (omega (arith, e))
+four_of (a ∷ []) e = absurd (omega (arith, e))
+four_of (a ∷ b ∷ []) e = absurd (omega (arith, e))
+four_of (a ∷ b ∷ c ∷ []) e = absurd (omega (arith, e))
+four_of (a ∷ b ∷ c ∷ d ∷ []) e = (a, b, c, d, refl)
+four_of (a ∷ b ∷ c ∷ d ∷ x ∷ xs) e = absurd (omega (arith, e))
+
+abbrev defined_as : Defined (List Variable) → Result (Defined (List Variable)) VcdFault
+defined_as d = Ok d
+
+abbrev defined_by : Defined (List Variable) → Result (Defined (List Variable)) VcdFault → Defined (List Variable)
+defined_by other (Ok d) = d
+defined_by other (Err fault) = other
+
+same_defined : (a b : Defined (List Variable)) → defined_as a ≡ defined_as b → a ≡ b
+same_defined a b e = ap (defined_by a) e
+
+defined_in : (dump : List ℕ) (contents : Contents) (is : IsDump dump contents) (defines : Defined (List Variable))
+    → header_of appended dump (nothing_declared []) (tokens dump) ≡ Ok defines
+    → defines ≡ headed is.declared is.body
+defined_in dump contents is defines e =
+    same_defined defines (headed is.declared is.body) (sym e
+    ∙ ap (λ (r : Result (Declared (List Variable)) VcdFault). r >>= λ declared.
+    body_of dump (header_from between (tokens dump)).body >>= λ body. Ok (headed declared body)) is.declares
+    ∙ ap (λ (o : Option (List Token)). body_of dump o >>= λ body. Ok (headed is.declared body)) is.ends)
+
+pub says_the_same : SaysTheSame
+unfolding annotated recording_of_text
+says_the_same bound dump text shown t a e =
+    let read = contents_of bound (dump_of dump) t e in
+    let contents : Contents = read.0 in
+    let is : IsDump dump contents = dump_is dump contents read.1 in
+    let defines : a.defines ≡ headed is.declared is.body = defined_in dump contents is a.defines a.defines_are in
+    let four = four_of a.own a.four in
+    let own : List (List ℕ) = four.0 ∷ four.1 ∷ four.2 ∷ four.3 ∷ [] in
+    let are : AreFree is.declared.nets own =
+    subst (λ (d : Defined (List Variable)). AreFree d.head.nets own) defines
+    (subst (λ (codes : List (List ℕ)). AreFree a.defines.head.nets codes) four.4 a.codes_are) in
+    let lacks : has_name is.declared.variables a.underscores ≡ false =
+    ap (λ (d : Defined (List Variable)). has_name d.variables a.underscores) (sym defines)
+    ∙ a.scope in
+    let words : list_all shows_word (map change_of a.put) ≡ true =
+    shown_words (recorded_rows shown) (map change_of a.put) a.are in
+    let text_is : text ≡ take a.start dump ++ (declarations (scope_name a.underscores) own
+    ++ with_changes (change_text own) a.start a.put dump) =
+    a.text_is ∙ ap (λ (codes : List (List ℕ)). annotated dump a.start (scope_name a.underscores) codes a.put) four.4 in
+    let dumped = dump_whole dump contents is shown a.underscores a.start a.put four.0 four.1 four.2 four.3 a.starts
+    a.placed words are in
+    let more : List Variable = four_in (scope_name a.underscores) four.0 four.1 four.2 four.3 is.declared in
+    let variables : contents.variables ≡ is.declared.variables = is.variables in
+    ap (λ (bytes : List ℕ). recording_read bound (dump_of bytes)) text_is
+    ∙ ap (recording_read bound) dumped
+    ∙ ap (λ (vs : List Variable). or_binding (recording_of bound (record {
+      variables = vs ++ more;
+      instants = contents.instants;
+    }))) (sym variables)
+    ∙ ap or_binding (recorded_more bound contents more t read.2
+    (ap (λ (vs : List Variable). bound_groups_in (vs ++ more) bound.assignments) variables
+    ∙ groups_stay is.declared.variables more (four_apart a.underscores four.0 four.1 four.2 four.3 is.declared lacks)
+    bound.assignments (sym (ap (λ (vs : List Variable). is_fine (bound_groups_in vs bound.assignments)) variables)
+    ∙ groups_fine bound contents t read.2)
+    ∙ sym (ap (λ (vs : List Variable). bound_groups_in vs bound.assignments) variables)))

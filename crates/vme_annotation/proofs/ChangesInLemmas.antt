@@ -1,0 +1,98 @@
+-- A dump into which changes are put: its definitions stay, and what comes of its body.
+use Rattle.std.proofs.Common.{◌≡◌, ℕ, zero, suc, ◌-◌, ◌≤◌, true, List, [], ◌∷◌, ◌++◌, take, drop, refl}
+use Rattle.std.proofs.Common.{sym}
+use Rattle.std.proofs.Common.{ap, ◌∙◌, arith, append_assoc}
+use Rattle.std.proofs.lemmas.List.{take-append-drop}
+use Rattle.vcd_read.specs.Header.{Net}
+use Rattle.vcd_places.specs.Places.{begins_apart}
+use Rattle.vcd_places.proofs.StringStepLemmas.{EndsBehindItem, IsShown, instants_of_text, instants_with, items_of_text}
+use Rattle.vcd_places.proofs.StringStepLemmas.{items_with}
+use Rattle.vcd_places.proofs.PutInLemmas.{string_text}
+use Rattle.vme_annotation.specs.Inserted.{PutChange, with_changes}
+use Rattle.vme_annotation.specs.Shown.{ShownChange}
+
+-- ---- pieces of a text
+
+abbrev empty : List ℕ
+empty = []
+
+nothing : (n : ℕ) → empty ≡ take n empty
+nothing zero = refl
+nothing (suc n) = refl
+
+-- what stands before a place, and from there up to another
+take_both : (text : List ℕ) (from to : ℕ) → from ≤ to → take to text ≡ take from text
+    ++ take (to - from) (drop from text)
+take_both text zero to le = ap (λ (n : ℕ). take n text) (omega arith)
+take_both [] (suc from) zero le = nothing (zero - suc from)
+take_both [] (suc from) (suc to) le = nothing (suc to - suc from)
+take_both (b ∷ text) (suc from) zero le = absurd (omega (arith, le))
+take_both (b ∷ text) (suc from) (suc to) le =
+    ap (λ (rest : List ℕ). b ∷ rest) (take_both text from to (omega (arith, le))
+    ∙ ap (λ (n : ℕ). take from text ++ take n (drop from text)) (omega arith))
+
+-- a part of what begins apart, and what begins apart behind it
+part_apart : (count : ℕ) (bytes rest : List ℕ) → begins_apart bytes ≡ true → begins_apart rest ≡ true
+    → begins_apart (take count bytes ++ rest) ≡ true
+part_apart zero [] rest first second = second
+part_apart (suc count) [] rest first second = second
+part_apart zero (b ∷ bytes) rest first second = second
+part_apart (suc count) (b ∷ bytes) rest first second = first
+
+-- ---- the changes
+
+-- a change that is put in behind an item, and shown by a code that has a net
+pub record IsPutIn (nets : List Net) (code_of : ShownChange → List ℕ) (dump : List ℕ) (p : PutChange) : Type 0 where
+  pub shown : IsShown nets p.change.text (code_of p.change)
+  pub behind : EndsBehindItem (take p.place dump)
+  pub detached : begins_apart (drop p.place dump) ≡ true
+
+-- each of them, at places that don't go back
+abbrev pub ArePutIn : List Net → (ShownChange → List ℕ) → List ℕ → ℕ → List PutChange → Type 0
+ArePutIn nets code_of dump from [] = Unit {0}
+ArePutIn nets code_of dump from (p ∷ put) =
+    (from ≤ p.place) × IsPutIn nets code_of dump p × ArePutIn nets code_of dump p.place put
+
+module _ (nets : List Net) (code_of : ShownChange → List ℕ) (dump : List ℕ) where
+  abbrev pub text_of : ShownChange → List ℕ
+  text_of c = string_text c.text (code_of c)
+
+  abbrev with : ℕ → List PutChange → List ℕ
+  with from put = with_changes text_of from put dump
+
+  -- what stands behind a place at which no token goes on begins apart
+  with_apart : (put : List PutChange) (from : ℕ) → ArePutIn nets code_of dump from put
+      → begins_apart (drop from dump) ≡ true → begins_apart (with from put) ≡ true
+  unfolding with_changes
+  with_apart [] from are detached = detached
+  with_apart (p ∷ put) from are detached =
+      part_apart (p.place - from) (drop from dump) (text_of p.change ++ with p.place put) detached refl
+
+  -- what stands before a place, a change, and what follows
+  with_first : (p : PutChange) (put : List PutChange) (from : ℕ) → from ≤ p.place
+      → take from dump ++ with from (p ∷ put) ≡ take p.place dump ++ (text_of p.change ++ with p.place put)
+  unfolding with_changes
+  with_first p put from le =
+      sym (append_assoc (take from dump) (take (p.place - from) (drop from dump))
+      (text_of p.change ++ with p.place put))
+      ∙ ap (λ (front : List ℕ). front ++ (text_of p.change ++ with p.place put)) (sym (take_both dump from p.place le))
+
+  pub instants_same : (put : List PutChange) (from : ℕ) → ArePutIn nets code_of dump from put
+      → (instants_of_text nets (take from dump ++ with from put) ≡ instants_of_text nets dump)
+      × (items_of_text (take from dump ++ with from put) ≡ items_of_text dump)
+  unfolding with_changes
+  instants_same [] from are =
+      (ap (instants_of_text nets) (take-append-drop from dump), ap items_of_text (take-append-drop from dump))
+  instants_same (p ∷ put) from are =
+      let first = with_first p put from are.0 in
+      let rest = with p.place put in
+      let detached = with_apart put p.place are.2 are.1.detached in
+      let same = instants_same put p.place are.2 in (
+        ap (instants_of_text nets) first
+            ∙ instants_with (take p.place dump) are.1.behind nets p.change.text (code_of p.change) rest are.1.shown
+            detached
+            ∙ same.0,
+        ap items_of_text first
+            ∙ items_with (take p.place dump) are.1.behind p.change.text (code_of p.change) rest detached
+            ∙ same.1,
+      )

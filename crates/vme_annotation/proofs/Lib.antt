@@ -1,0 +1,9 @@
+pub mod ShownWordLemmas
+pub mod ChangesInLemmas
+pub mod BoundLemmas
+pub mod DeclaredLemmas
+pub mod FreshPathLemmas
+pub mod SameDumpLemmas
+pub mod WholeLemmas
+pub mod AnnotatedSameLemmas
+pub mod UnusedLemmas

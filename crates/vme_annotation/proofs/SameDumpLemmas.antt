@@ -1,0 +1,128 @@
+-- A dump with declarations before the end of its definitions, and strings in its body: the dump, with the variables.
+use Rattle.std.proofs.Common.{◌≡◌, ℕ, List, [], ◌∷◌, ◌++◌, Option, Some, None, Result, Ok, Err, true, false, refl, sym}
+use Rattle.std.proofs.Common.{ap}
+use Rattle.std.proofs.Common.{◌∙◌, Bool}
+use Rattle.vcd_read.specs.Contents.{Contents}
+use Rattle.vcd_read.specs.declared.dump.Instant.{Instant}
+use Rattle.vcd_read.specs.declared.dump.Variable.{Variable}
+use Rattle.vcd_read.specs.declared.fault.VcdFault.{VcdFault}
+use Rattle.vcd_read.specs.Tokens.{Token, tokens}
+use Rattle.vcd_read.specs.Header.{◌>>=◌, Declared, Header, HeaderItem, Section, appended, between}
+use Rattle.vcd_read.specs.Header.{declare_all, ends_definitions, header_from, inside, is_end, nothing_declared}
+use Rattle.vcd_read.specs.Header.{whole, with_item, with_word}
+use Rattle.vcd_read.specs.Body.{body_from, ready}
+use Rattle.vcd_read.specs.Meaning.{body_of, dump_of, instants_from}
+use Rattle.vcd_places.proofs.PutInLemmas.{declare_both}
+use Rattle.vcd_places.proofs.SkippedLemmas.{instants_in}
+
+by_end : (section : Section) (t : Token) (ts : List Token) → ends_definitions section ≡ true → (body : List Token)
+    → (test : Bool)
+    → ((header_from (inside (with_word section t.bytes)) ts).body ≡ Some body
+    → (header_from (inside (with_word section t.bytes)) ts).items ≡ [])
+    → (elim test as (λ _. Header) [
+      | true ↦ elim (ends_definitions section) as (λ _. Header) [
+        | true ↦ record { items = []; body = Some ts }
+        | false ↦ with_item (whole section) (header_from between ts)
+      ]
+      | false ↦ header_from (inside (with_word section t.bytes)) ts
+    ]).body ≡ Some body
+    → (elim test as (λ _. Header) [
+      | true ↦ elim (ends_definitions section) as (λ _. Header) [
+        | true ↦ record { items = []; body = Some ts }
+        | false ↦ with_item (whole section) (header_from between ts)
+      ]
+      | false ↦ header_from (inside (with_word section t.bytes)) ts
+    ]).items ≡ []
+by_end section t ts is body true rest ends = rw is refl
+by_end section t ts is body false rest ends = rest ends
+
+-- in the section that ends the definitions nothing is declared
+pub end_declares : (ts : List Token) (section : Section) → ends_definitions section ≡ true
+    → (body : List Token) → (header_from (inside section) ts).body ≡ Some body
+    → (header_from (inside section) ts).items ≡ []
+unfolding header_from
+end_declares [] section is body ends = absurd cc
+end_declares (t ∷ ts) section is body ends =
+    by_end section t ts is body (is_end t.bytes) (end_declares ts (with_word section t.bytes) is body) ends
+
+-- what a dump is, by its definitions and its body
+dump_by : (text : List ℕ) (declared : Declared (List Variable)) (body : List Token) (instants : List Instant)
+    → declare_all appended (nothing_declared []) (header_from between (tokens text)).items ≡ Ok declared
+    → (header_from between (tokens text)).body ≡ Some body
+    → instants_in declared.nets (body_from ready body) ≡ Ok instants
+    → dump_of text ≡ Ok (record { variables = declared.variables; instants = instants })
+unfolding dump_of
+dump_by text declared body instants declares ends comes =
+    ap (λ (r : Result (Declared (List Variable)) VcdFault). r >>= λ declared.
+    body_of text (header_from between (tokens text)).body >>= λ body. instants_from declared.nets body >>= λ instants.
+    Ok (record { variables = declared.variables; instants = instants })) declares
+    ∙ ap (λ (o : Option (List Token)). body_of text o >>= λ body. instants_from declared.nets body >>= λ instants.
+    Ok (record { variables = declared.variables; instants = instants })) ends
+    ∙ ap (λ (r : Result (List Instant) VcdFault). r >>= λ instants.
+    Ok (record { variables = declared.variables; instants = instants })) comes
+
+-- and the other way round
+pub record IsDump (text : List ℕ) (contents : Contents) : Type 0 where
+  pub declared : Declared (List Variable)
+  pub body : List Token
+  pub declares : declare_all appended (nothing_declared []) (header_from between (tokens text)).items ≡ Ok declared
+  pub ends : (header_from between (tokens text)).body ≡ Some body
+  pub comes : instants_in declared.nets (body_from ready body) ≡ Ok contents.instants
+  pub variables : contents.variables ≡ declared.variables
+
+-- of what is read without a fault each part is
+pub both_read : {A B E : Type 0} (r : Result A E) (f : A → Result B E) (b : B) → (r >>= f) ≡ Ok b
+    → (a : A) × (r ≡ Ok a) × (f a ≡ Ok b)
+both_read (Ok a) f b e = (a, refl, e)
+both_read (Err fault) f b e = absurd cc
+
+body_is : (text : List ℕ) (o : Option (List Token)) (body : List Token) → body_of text o ≡ Ok body → o ≡ Some body
+body_is text None body e = absurd cc
+body_is text (Some other) body e = cc
+
+abbrev read_as : Contents → Result Contents VcdFault
+read_as contents = Ok contents
+
+abbrev contents_in : Contents → Result Contents VcdFault → Contents
+contents_in other (Ok contents) = contents
+contents_in other (Err fault) = other
+
+same_contents : (a b : Contents) → read_as a ≡ read_as b → a ≡ b
+same_contents a b e = ap (contents_in a) e
+
+pub dump_is : (text : List ℕ) (contents : Contents) → dump_of text ≡ Ok contents → IsDump text contents
+unfolding dump_of
+dump_is text contents e =
+    let header : Header = header_from between (tokens text) in
+    let first = both_read (declare_all appended (nothing_declared []) header.items) (λ declared.
+    body_of text header.body >>= λ body. instants_from declared.nets body >>= λ instants.
+    Ok (record { variables = declared.variables; instants = instants })) contents e in
+    let second = both_read (body_of text header.body) (λ body. instants_from first.0.nets body >>= λ instants.
+    Ok (record { variables = first.0.variables; instants = instants })) contents first.2 in
+    let third = both_read (instants_from first.0.nets second.0) (λ instants.
+    Ok (record { variables = first.0.variables; instants = instants })) contents second.2 in
+    let made : Contents = record { variables = first.0.variables; instants = third.0 } in
+    record {
+      declared = first.0;
+      body = second.0;
+      declares = first.1;
+      ends = body_is text header.body second.0 second.1;
+      comes = third.1 ∙ ap (λ (found : Contents). Ok found.instants) (same_contents made contents third.2);
+      variables = sym (ap (λ (found : Contents). found.variables) (same_contents made contents third.2));
+    }
+
+-- with more items behind those of the dump, the same end of the definitions, and a body that comes to the same
+pub same_dump : (dump text : List ℕ) (contents : Contents) (is : IsDump dump contents) (more : List HeaderItem)
+    (declared : Declared (List Variable)) (body : List Token)
+    → (header_from between (tokens text)).items ≡ (header_from between (tokens dump)).items ++ more
+    → (header_from between (tokens text)).body ≡ Some body
+    → declare_all appended is.declared more ≡ Ok declared
+    → instants_in declared.nets (body_from ready body) ≡ Ok contents.instants
+    → dump_of text ≡ Ok (record { variables = declared.variables; instants = contents.instants })
+same_dump dump text contents is more declared body items ends declares comes =
+    dump_by text declared body contents.instants
+    (ap (declare_all appended (nothing_declared [])) items
+    ∙ declare_both appended (header_from between (tokens dump)).items more (nothing_declared [])
+    ∙ ap (λ (r : Result (Declared (List Variable)) VcdFault). r >>= λ next. declare_all appended next more) is.declares
+    ∙ declares)
+    ends comes

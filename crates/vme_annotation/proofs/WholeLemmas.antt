@@ -1,0 +1,251 @@
+-- An annotated dump: the dump, with four variables more.
+use Rattle.std.proofs.Common.{◌≡◌, ℕ, ◌<◌, Bool, true, false, eqb, List, [], ◌∷◌, ◌++◌}
+use Rattle.std.proofs.Common.{Some, refl, sym, ap, subst, ◌∙◌, arith, length}
+use Rattle.std.proofs.Common.{append_assoc}
+use Rattle.std.proofs.Common.{take, drop, reverse, true≢false}
+use Rattle.std.specs.Prelude.{All, bytes_eq, nat_le, codes, is_some, not, replicate, ◌&&◌}
+use Rattle.std.specs.Prelude.{get_or}
+use Rattle.std.specs.List.{list_all, list_any}
+use Rattle.std.proofs.lemmas.List.{append-nil, reverse-append, take-append-drop}
+use Rattle.std.proofs.lemmas.List.Elements.{All-replicate}
+use Rattle.std.proofs.lemmas.List.Sums.{AllPass-from_list_all, list_all-from_AllPass}
+use Rattle.std.proofs.lemmas.Bool.{leb-true}
+use Rattle.std.proofs.lemmas.Slice.Eq.{bytes_eq-Decides}
+use Rattle.vcd_read.proofs.TokenLemmas.{above_space}
+use Rattle.vcd_read.specs.declared.dump.Variable.{Variable}
+use Rattle.vcd_read.specs.Tokens.{Token, is_space, tokens, tokens_from}
+use Rattle.vcd_read.specs.Reading.{line_behind}
+use Rattle.vcd_read.specs.CodeNumbers.{code_number}
+use Rattle.vcd_read.specs.Header.{Declared, Header, HeaderItem, between, header_from}
+use Rattle.vcd_read.specs.Header.{is_code, is_code_byte, joined_by_dots, opened, path_of}
+use Rattle.vcd_places.specs.Places.{begins_apart, begins_with_token, body_in, ends_apart, ends_definitions_at}
+use Rattle.vcd_places.specs.Places.{is_between_sections, is_unfinished}
+use Rattle.vcd_places.proofs.PutInLemmas.{AreWords, GoOn, IsWord, behind_items, header_split}
+use Rattle.vcd_places.proofs.PutInLemmas.{tokens_spaced, word_read}
+use Rattle.vcd_places.proofs.StringStepLemmas.{items_of_text}
+use Rattle.vme_annotation.specs.Annotated.{declared_words}
+use Rattle.vme_annotation.specs.Fresh.{has_name, has_part, scope_name}
+use Rattle.vme_annotation.proofs.BoundLemmas.{AreApart, has_path}
+use Rattle.vme_annotation.proofs.DeclaredLemmas.{four_in, nets_1}
+use Rattle.vme_annotation.proofs.DeclaredLemmas.{nets_2}
+use Rattle.vme_annotation.proofs.DeclaredLemmas.{nets_3, shown_in}
+use Rattle.vme_annotation.proofs.FreshPathLemmas.{lacks_path, scope_in_path}
+use Rattle.vme_annotation.proofs.SameDumpLemmas.{end_declares}
+use Rattle.vme_annotation.proofs.ShownWordLemmas.{and_true, both, is_word}
+
+pub both_true : (a b : Bool) → (a && b) ≡ true → (a ≡ true) × (b ≡ true)
+both_true true b e = (refl, e)
+both_true false b e = absurd (true≢false (sym e))
+
+pub negated : (b : Bool) → not b ≡ true → b ≡ false
+negated true e = absurd (true≢false (sym e))
+negated false e = refl
+
+-- ---- the end of the definitions
+
+-- a text that begins with the section that ends the definitions: nothing is declared in it
+pub end_items : (line : ℕ) (rest : List ℕ) → begins_with_token (codes "$enddefinitions") rest ≡ true
+    → (body : List Token)
+    → (header_from between (tokens_from line rest)).body ≡ Some body
+    → (header_from between (tokens_from line rest)).items ≡ []
+unfolding header_from
+end_items line rest begins body ends =
+    let parts = both_true (bytes_eq (take 15 rest) (codes "$enddefinitions")) (begins_apart (drop 15 rest)) begins in
+    let word : take 15 rest ≡ codes "$enddefinitions" =
+    (bytes_eq-Decides (take 15 rest) (codes "$enddefinitions")).0 parts.0 in
+    let whole : rest ≡ codes "$enddefinitions" ++ drop 15 rest =
+    sym (take-append-drop 15 rest) ∙ ap (λ (front : List ℕ). front ++ drop 15 rest) word in
+    let read : tokens_from line rest
+    ≡ record { line = line; bytes = codes "$enddefinitions" } ∷ tokens_from line (drop 15 rest) =
+    ap (tokens_from line) whole
+    ∙ word_read line 36 (codes "enddefinitions") (drop 15 rest) refl parts.1 in
+    let first : Token = record { line = line; bytes = codes "$enddefinitions" } in
+    ap (λ (ts : List Token). (header_from between ts).items) read
+    ∙ end_declares (tokens_from line (drop 15 rest)) (opened first) refl body
+    (sym (ap (λ (ts : List Token). (header_from between ts).body) read) ∙ ends)
+
+pub cancel : {A : Type 0} (xs ys : List A) → xs ++ ys ≡ xs ++ [] → ys ≡ []
+cancel [] ys e = e
+cancel {A = A} (x ∷ xs) ys e = cancel xs ys (ap rest e)
+  where
+    rest : List A → List A
+    rest [] = []
+    rest (a ∷ others) = others
+
+-- ---- a text before the end of whose definitions something stands
+
+module _ (front : List ℕ) (ends : ends_apart front ≡ true) (goes : is_between_sections front ≡ true) where
+  abbrev line : ℕ
+  line = line_behind 1 front
+
+  abbrev behind : List ℕ → Header
+  behind rest = header_from between (tokens_from line rest)
+
+  go_on : GoOn (header_from between (tokens front))
+  go_on =
+      let header : Header = header_from between (tokens front) in
+      let parts = both_true (not (is_some header.body)) (not (list_any is_unfinished header.items)) goes in
+      (negated (is_some header.body) parts.0, negated (list_any is_unfinished header.items) parts.1)
+
+  pub header_with : (rest : List ℕ) → header_from between (tokens (front ++ rest))
+      ≡ behind_items (items_of_text front) (behind rest)
+  header_with rest =
+      ap (header_from between) (tokens_spaced front rest 1 ends)
+      ∙ header_split (tokens_from line rest) (tokens front) between go_on
+
+-- a dump has no items behind the start of the section that ends its definitions
+pub items_before : (dump : List ℕ) (start : ℕ) → ends_definitions_at dump start ≡ true → (body : List Token)
+    → body_in dump ≡ Some body → items_of_text dump ≡ items_of_text (take start dump)
+items_before dump start starts body ends =
+    let front : List ℕ = take start dump in
+    let outer = both_true (ends_apart front && is_between_sections front)
+    (begins_with_token (codes "$enddefinitions") (drop start dump)) starts in
+    let inner = both_true (ends_apart front) (is_between_sections front) outer.0 in
+    let read = header_with front inner.0 inner.1 (drop start dump) in
+    ap items_of_text (sym (take-append-drop start dump))
+    ∙ ap (λ (h : Header). h.items) read
+    ∙ ap (λ (items : List HeaderItem). items_of_text front ++ items)
+    (end_items (line_behind 1 front) (drop start dump) outer.1 body (sym (ap (λ (h : Header). h.body) read)
+    ∙ ap body_in (take-append-drop start dump) ∙ ends))
+    ∙ append-nil (items_of_text front)
+
+-- ---- the codes and the names
+
+module _ (underscores : ℕ) where
+  abbrev pub scope : List ℕ
+  scope = scope_name underscores
+
+  filled : (p : ℕ → Bool) → p 95 ≡ true → list_all p (replicate underscores 95) ≡ true
+  filled p is = list_all-from_AllPass p (replicate underscores 95)
+      (All-replicate (λ (b : ℕ). p b ≡ true) underscores 95 is)
+
+  pub scope_word : IsWord scope
+  scope_word = both (codes "vmecheck") (replicate underscores 95) refl (filled (λ b. not (is_space b)) refl)
+
+  abbrev undotted : ℕ → Bool
+  undotted b = not (eqb b 46)
+
+  each_undotted : list_all undotted scope ≡ true
+  each_undotted = filled undotted refl
+
+  pub scope_undotted : All (λ (b : ℕ). eqb b 46 ≡ false) scope
+  scope_undotted = λ k d lt. negated (eqb (get_or scope k d) 46)
+      (AllPass-from_list_all undotted scope each_undotted k d lt)
+
+  -- a name in the scope has the scope in its path
+  path_has : (n : ℕ) (name : List ℕ) (scopes : List (List ℕ)) (net : ℕ) (v : Variable)
+      → v.path ≡ path_of ((scope ++ []) ∷ scopes) (n ∷ name) → has_part scope v ≡ true
+  path_has n name scopes net v is =
+      let turned : reverse (scope ∷ scopes) ≡ reverse scopes ++ scope ∷ [] = reverse-append (scope ∷ []) scopes in
+      let path : v.path ≡ joined_by_dots (reverse scopes ++ scope ∷ (n ∷ name) ∷ []) =
+      is ∙ ap (λ (s : List ℕ). joined_by_dots (reverse (s ∷ scopes) ++ (n ∷ name) ∷ [])) (append-nil scope)
+      ∙ ap (λ (names : List (List ℕ)). joined_by_dots (names ++ (n ∷ name) ∷ [])) turned
+      ∙ ap joined_by_dots (append_assoc (reverse scopes) (scope ∷ []) ((n ∷ name) ∷ [])) in
+      ap (λ (p : List ℕ). has_part scope (record v { path = p })) path
+      ∙ scope_in_path 118 (codes "mecheck" ++ replicate underscores 95) scope_undotted n name (reverse scopes)
+
+  -- so no variable that lacks the scope has that path
+  apart_from : (n : ℕ) (name : List ℕ) (scopes : List (List ℕ)) (v : Variable) (variables : List Variable)
+      → v.path ≡ path_of ((scope ++ []) ∷ scopes) (n ∷ name) → has_name variables underscores ≡ false
+      → list_any (has_path v.path) variables ≡ false
+  apart_from n name scopes v variables is lacks =
+      lacks_path scope v.path variables (path_has n name scopes 0 v is) lacks
+
+  pub four_apart : (c0 c1 c2 c3 : List ℕ) (d : Declared (List Variable)) → has_name d.variables underscores ≡ false
+      → AreApart d.variables (four_in scope c0 c1 c2 c3 d)
+  four_apart c0 c1 c2 c3 d lacks = (
+    apart_from 116 (codes "enure") d.scopes (shown_in scope c0 c1 c2 c3 d (length d.nets) (codes "tenure")) d.variables
+        refl lacks,
+    (
+      apart_from 99 (codes "ycle") d.scopes (shown_in scope c0 c1 c2 c3 d (length (nets_1 c0 d.nets))
+          (codes "cycle")) d.variables refl lacks,
+      (
+        apart_from 116 (codes "ransfer") d.scopes
+            (shown_in scope c0 c1 c2 c3 d (length (nets_2 c0 c1 d.nets)) (codes "transfer")) d.variables
+            refl lacks,
+        (
+          apart_from 118 (codes "erdict") d.scopes
+              (shown_in scope c0 c1 c2 c3 d (length (nets_3 c0 c1 c2 d.nets)) (codes "verdict")) d.variables
+              refl lacks,
+          tt,
+        ),
+      ),
+    ),
+  )
+
+-- a code is a word
+code_byte : (b : ℕ) → is_code_byte b ≡ true → not (is_space b) ≡ true
+code_byte b is =
+    let parts = both_true (nat_le 33 b) (nat_le b 126) is in
+    ap not (above_space b (omega (arith, leb-true 33 b parts.0)))
+
+pub code_word : (code : List ℕ) → is_code code ≡ true → IsWord code
+code_word [] is = refl
+code_word (b ∷ code) is =
+    let parts = both_true (is_code_byte b) (is_code code) is in
+    and_true (not (is_space b)) (is_word code) (code_byte b parts.0) (code_word code parts.1)
+
+-- what has a byte has a first one
+pub some_of : (code : List ℕ) → 0 < length code → (b : ℕ) × (k : List ℕ) × (code ≡ b ∷ k)
+some_of [] some = absurd (omega (arith, some))
+some_of (b ∷ k) some = (b, k, refl)
+
+-- codes with different numbers differ
+pub differ : (a b : List ℕ) → code_number a < code_number b → bytes_eq a b ≡ false
+differ a b below = go (bytes_eq a b) refl
+  where
+    go : (test : Bool) → bytes_eq a b ≡ test → test ≡ false
+    go false is = refl
+    go true is = absurd (omega (arith, below, ap code_number ((bytes_eq-Decides a b).0 is)))
+
+-- the words that declare a variable, and further ones behind them
+abbrev with_net : List ℕ → List ℕ → List (List ℕ) → List (List ℕ)
+with_net code name rest =
+    codes "$var" ∷ codes "string" ∷ codes "1" ∷ code ∷ name ∷ codes "$end" ∷ rest
+
+net_words : (b n : ℕ) (k name : List ℕ) → IsWord (b ∷ k) → IsWord (n ∷ name) → (rest : List (List ℕ)) → AreWords rest
+    → AreWords (with_net (b ∷ k) (n ∷ name) rest)
+net_words b n k name code named rest are = (refl, (refl, (refl, (code, (named, (refl, are))))))
+
+-- the words of the declarations
+module _ (underscores b0 b1 b2 b3 : ℕ) (k0 k1 k2 k3 : List ℕ) (w0 : IsWord (b0 ∷ k0)) (w1 : IsWord (b1 ∷ k1))
+    (w2 : IsWord (b2 ∷ k2)) (w3 : IsWord (b3 ∷ k3)) where
+  abbrev behind_verdict : List (List ℕ)
+  behind_verdict = codes "$upscope" ∷ codes "$end" ∷ []
+
+  abbrev behind_transfer : List (List ℕ)
+  behind_transfer = with_net (b3 ∷ k3) (codes "verdict") behind_verdict
+
+  abbrev behind_cycle : List (List ℕ)
+  behind_cycle = with_net (b2 ∷ k2) (codes "transfer") behind_transfer
+
+  abbrev behind_tenure : List (List ℕ)
+  behind_tenure = with_net (b1 ∷ k1) (codes "cycle") behind_cycle
+
+  pub words_are : AreWords (declared_words (scope_name underscores)
+      ((b0 ∷ k0) ∷ (b1 ∷ k1) ∷ (b2 ∷ k2) ∷ (b3 ∷ k3) ∷ []))
+  words_are =
+      let verdict = net_words b3 118 k3 (codes "erdict") w3 refl behind_verdict (refl, (refl, tt)) in
+      let transfer = net_words b2 116 k2 (codes "ransfer") w2 refl behind_transfer verdict in
+      let cycle = net_words b1 99 k1 (codes "ycle") w1 refl behind_cycle transfer in
+      let tenure = net_words b0 116 k0 (codes "enure") w0 refl behind_tenure cycle in
+      (refl, (refl, (scope_word underscores, (refl, tenure))))
+
+pub words_at : (underscores : ℕ) (c0 c1 c2 c3 : List ℕ) → 0 < length c0 → 0 < length c1 → 0 < length c2 → 0 < length c3
+    → IsWord c0 → IsWord c1 → IsWord c2 → IsWord c3
+    → AreWords (declared_words (scope_name underscores) (c0 ∷ c1 ∷ c2 ∷ c3 ∷ []))
+words_at underscores c0 c1 c2 c3 s0 s1 s2 s3 w0 w1 w2 w3 =
+    let p0 = some_of c0 s0 in
+    let p1 = some_of c1 s1 in
+    let p2 = some_of c2 s2 in
+    let p3 = some_of c3 s3 in
+    subst (λ (c : List ℕ). AreWords (declared_words (scope_name underscores) (c ∷ c1 ∷ c2 ∷ c3 ∷ []))) (sym p0.2)
+    (subst (λ (c : List ℕ). AreWords (declared_words (scope_name underscores) ((p0.0 ∷ p0.1) ∷ c ∷ c2 ∷ c3 ∷ [])))
+    (sym p1.2)
+    (subst (λ (c : List ℕ). AreWords (declared_words (scope_name underscores)
+    ((p0.0 ∷ p0.1) ∷ (p1.0 ∷ p1.1) ∷ c ∷ c3 ∷ []))) (sym p2.2)
+    (subst (λ (c : List ℕ). AreWords (declared_words (scope_name underscores)
+    ((p0.0 ∷ p0.1) ∷ (p1.0 ∷ p1.1) ∷ (p2.0 ∷ p2.1) ∷ c ∷ []))) (sym p3.2)
+    (words_are underscores p0.0 p1.0 p2.0 p3.0 p0.1 p1.1 p2.1 p3.1 (subst (λ (c : List ℕ). IsWord c) p0.2 w0)
+    (subst (λ (c : List ℕ). IsWord c) p1.2 w1) (subst (λ (c : List ℕ). IsWord c) p2.2 w2)
+    (subst (λ (c : List ℕ). IsWord c) p3.2 w3)))))

@@ -1,0 +1,39 @@
+-- Codes and a scope that no variable of a dump has.
+use Rattle.std.specs.Prelude.{◌≡◌, ℕ, ◌<◌, Bool, true, false, ◌==◌, List, ◌++◌, length, map, codes, replicate, bytes_eq}
+use Rattle.std.specs.Prelude.{None, All}
+use Rattle.std.specs.List.{list_any, slice_split}
+use Rattle.std.specs.List.Sorted.{IsStrictlyIncreasing}
+use Rattle.vcd_read.specs.CodeNumbers.{code_number}
+use Rattle.vcd_read.specs.Header.{Net, is_code, is_end, net_of}
+use Rattle.vcd_read.specs.declared.dump.Variable.{Variable}
+
+-- ---- the codes
+
+-- a code that a variable may have, and none has: `$end` would end its section
+pub record IsFree (nets : List Net) (code : List ℕ) : Type 0 where
+  pub some : 0 < length code
+  pub is_one : is_code code ≡ true
+  pub no_end : is_end code ≡ false
+  pub free : net_of nets code ≡ None
+
+-- these are free codes, each with a higher number than those before it
+pub record AreFree (nets : List Net) (own : List (List ℕ)) : Type 0 where
+  pub each : All (IsFree nets) own
+  pub ascend : IsStrictlyIncreasing (map code_number own)
+
+-- ---- the scope
+
+-- what it is named, with so many underscores
+abbrev pub scope_name : ℕ → List ℕ
+scope_name underscores = codes "vmecheck" ++ replicate underscores 95
+
+-- a variable has this name, or a scope that it stands in
+abbrev pub has_part : List ℕ → Variable → Bool
+has_part name v = list_any (λ part. bytes_eq part name) (slice_split (λ b. b == 46) v.path)
+
+abbrev pub has_name : List Variable → ℕ → Bool
+has_name variables underscores = list_any (has_part (scope_name underscores)) variables
+
+-- no name of the dump is that of the scope
+abbrev pub IsFreeScope : List Variable → ℕ → Type 0
+IsFreeScope variables underscores = has_name variables underscores ≡ false

@@ -1,0 +1,14 @@
+-- What an annotated dump says.
+use Rattle.std.specs.Prelude.{◌≡◌, ℕ, List, Ok}
+use Rattle.vme_bind.specs.Binding.{BoundLines}
+use Rattle.vme_bind.specs.TextCapture.{recording_of_text}
+use Rattle.vme_trace.specs.Trace.{Trace}
+use Rattle.vme_annotation.specs.Annotated.{IsAnnotated}
+
+-- A dump is annotated with the listing of some recording. Then any binding that makes a recording of the dump makes the
+-- same of the annotated one.
+abbrev pub SaysTheSame : Type 0
+SaysTheSame = (bound : BoundLines) (dump text : List ℕ) (shown t : Trace)
+    → IsAnnotated dump shown text
+    → recording_of_text bound dump ≡ Ok t
+    → recording_of_text bound text ≡ Ok t

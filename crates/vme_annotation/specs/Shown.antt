@@ -1,0 +1,153 @@
+-- What the variables of an annotated dump show: of each row of the listing its text, from the row's first instant on,
+-- and a hyphen from its end on.
+use Rattle.std.specs.Prelude.{ℕ, ◌==◌, if◌then◌else◌, List, [], ◌∷◌, ◌++◌, filter, flat_map, map, codes, decimal}
+use Rattle.std.specs.Prelude.{Option, None, Some}
+use Rattle.vme_trace.specs.Cycle.{highest_address}
+use Rattle.vme_trace.specs.Names.{line_name}
+use Rattle.vme_trace.specs.Rules.{rule_name}
+use Rattle.vme_trace.specs.declared.class.Class.{Class}
+use Rattle.vme_trace.specs.declared.class.Class.TheVariants as class
+use Rattle.vme_trace.specs.declared.data.Lanes.{Lanes}
+use Rattle.vme_trace.specs.declared.rule.Rule.{Rule}
+use Rattle.vme_listing.specs.RowText.{address_digits, hexadecimal, lanes_text}
+use Rattle.vme_listing.specs.declared.row.AnswerLine.{AnswerLine}
+use Rattle.vme_listing.specs.declared.row.AnswerLine.TheVariants.{Dtack, Berr}
+use Rattle.vme_listing.specs.declared.row.Direction.{Direction}
+use Rattle.vme_listing.specs.declared.row.Direction.TheVariants.{Read, Write}
+use Rattle.vme_listing.specs.declared.row.ListedVerdict.{ListedVerdict}
+use Rattle.vme_listing.specs.declared.row.ListedVerdict.TheVariants.{Conforming, NeverIdle, Broken, Unreadable}
+use Rattle.vme_listing.specs.declared.row.Row.{Row}
+use Rattle.vme_listing.specs.declared.row.Row.TheVariants.{Start, Reset, OpenTenure, Tenure, AddressedCycle}
+use Rattle.vme_listing.specs.declared.row.Row.TheVariants.{FreeCycle, InterruptCycle, Transfer, PendingTransfer}
+use Rattle.vme_listing.specs.declared.row.Row.TheVariants.{Verdict}
+use Rattle.vme_annotation.specs.declared.shown_variable.ShownVariable.{ShownVariable}
+use Rattle.vme_annotation.specs.declared.shown_variable.ShownVariable.TheVariants as shown
+
+-- a variable comes to show a text
+pub record ShownChange : Type 0 where
+  pub instant : ℕ
+  pub variable : ShownVariable
+  pub text : List ℕ
+
+-- the variables, in the order of their declarations
+abbrev pub all_shown : List ShownVariable
+all_shown = shown.Tenure ∷ shown.Cycle ∷ shown.Transfer ∷ shown.Verdict ∷ []
+
+-- nothing goes on
+abbrev pub nothing : List ℕ
+nothing = codes "-"
+
+abbrev pub change_to : ℕ → List ℕ → ShownVariable → ShownChange
+change_to instant text variable = record { instant = instant; variable = variable; text = text }
+
+-- what goes on ends, if it has an end
+abbrev pub ends : ShownVariable → Option ℕ → List ShownChange
+ends variable None = []
+ends variable (Some end) = change_to end nothing variable ∷ []
+
+-- it begins, and ends
+abbrev pub goes_on : ShownVariable → ℕ → List ℕ → Option ℕ → List ShownChange
+goes_on variable start text end = change_to start text variable ∷ ends variable end
+
+-- all that goes on ends
+abbrev pub all_end : ℕ → List ShownChange
+all_end instant = map (change_to instant nothing) (shown.Tenure ∷ shown.Cycle ∷ shown.Transfer ∷ [])
+
+-- ---- the texts
+
+-- the address space of a code, by its highest address line
+abbrev pub space_text : ℕ → List ℕ
+space_text modifier =
+    if highest_address modifier == 31 then codes "A32"
+    else if highest_address modifier == 23 then codes "A24" else codes "A16"
+
+abbrev pub block_text : Class → List ℕ
+block_text class.K = codes "_BLT"
+block_text class.S = []
+block_text class.I = []
+block_text class.F = []
+
+-- by which request a bus is granted, and to which slot
+abbrev pub tenure_text : ℕ → ℕ → List ℕ
+tenure_text level slot = codes "slot" ++ decimal slot ++ codes "_BR" ++ decimal level
+
+abbrev pub address_text : Class → ℕ → ℕ → List ℕ
+address_text class modifier address =
+    space_text modifier ++ block_text class ++ codes "_" ++ hexadecimal (address_digits modifier) address
+
+abbrev pub direction_text : Direction → List ℕ
+direction_text Read = codes "READ"
+direction_text Write = codes "WRITE"
+
+abbrev pub answer_text : AnswerLine → List ℕ
+answer_text Dtack = []
+answer_text Berr = codes "_BERR"
+
+abbrev pub data_text : Option Lanes → List ℕ
+data_text None = []
+data_text (Some lanes) = codes "_" ++ lanes_text lanes
+
+abbrev pub transfer_text : Direction → AnswerLine → Option Lanes → List ℕ
+transfer_text direction line lanes = direction_text direction ++ data_text lanes ++ answer_text line
+
+abbrev pub break_text : Rule → ℕ → List ℕ
+break_text rule line = rule_name rule ++ codes "_" ++ line_name line
+
+abbrev pub verdict_text : ListedVerdict → List ℕ
+verdict_text Conforming = []
+verdict_text NeverIdle = []
+verdict_text (Broken rule instant line) = break_text rule line
+verdict_text (Unreadable rule instant line) = break_text rule line
+
+-- what is shown from the first instant of a row on
+unfoldable pub shown_text : Row → List ℕ
+shown_text (Start instant) = []
+shown_text (Reset instant) = []
+shown_text (OpenTenure start end) = codes "open"
+shown_text (Tenure start level slot end) = tenure_text level slot
+shown_text (AddressedCycle start class modifier address end) = address_text class modifier address
+shown_text (FreeCycle start modifier end) = codes "AM" ++ hexadecimal 2 modifier
+shown_text (InterruptCycle start level end) = codes "IACK" ++ decimal level
+shown_text (Transfer direction line start cycle answer close lanes) = transfer_text direction line lanes
+shown_text (PendingTransfer start direction) = direction_text direction ++ codes "_pending"
+shown_text (Verdict outcome) = verdict_text outcome
+
+-- ---- the rows
+
+-- nothing goes on behind a break
+abbrev pub break_changes : List ℕ → ℕ → List ShownChange
+break_changes text instant = all_end instant ++ change_to instant text shown.Verdict ∷ []
+
+abbrev pub verdict_changes : List ℕ → ListedVerdict → List ShownChange
+verdict_changes text Conforming = []
+verdict_changes text NeverIdle = []
+verdict_changes text (Broken rule instant line) = break_changes text instant
+verdict_changes text (Unreadable rule instant line) = break_changes text instant
+
+-- what comes of a row that shows this text
+abbrev pub changes_with : List ℕ → Row → List ShownChange
+changes_with text (Start instant) = []
+changes_with text (Reset instant) = all_end instant
+changes_with text (OpenTenure start end) = goes_on shown.Tenure start text end
+changes_with text (Tenure start level slot end) = goes_on shown.Tenure start text end
+changes_with text (AddressedCycle start class modifier address end) = goes_on shown.Cycle start text end
+changes_with text (FreeCycle start modifier end) = goes_on shown.Cycle start text end
+changes_with text (InterruptCycle start level end) = goes_on shown.Cycle start text end
+changes_with text (Transfer direction line start cycle answer close lanes) = goes_on shown.Transfer start text close
+changes_with text (PendingTransfer start direction) = goes_on shown.Transfer start text None
+changes_with text (Verdict outcome) = verdict_changes text outcome
+
+unfoldable pub row_changes : Row → List ShownChange
+row_changes row = changes_with (shown_text row) row
+
+-- at the opening nothing goes on
+abbrev pub opening_changes : List ShownChange
+opening_changes = map (change_to 0 nothing) all_shown
+
+-- all changes of rows, those of a row behind those of the rows before it
+abbrev pub all_changes : List Row → List ShownChange
+all_changes rows = opening_changes ++ flat_map row_changes rows
+
+-- those at an instant
+abbrev pub changes_at : List Row → ℕ → List ShownChange
+changes_at rows instant = filter (λ c. c.instant == instant) (all_changes rows)

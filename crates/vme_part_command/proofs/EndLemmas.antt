@@ -1,0 +1,90 @@
+-- How the commands end, by what is found.
+use Rattle.std.proofs.Common.{◌≡◌, ℕ, List, [], Option, Ok, Err, refl, inl, inr, take, length, subst}
+use Rattle.std.specs.Io.KnownBytes.{Appends}
+use Rattle.std.proofs.KnownBytes.{Appends-nil}
+use Rattle.vme_trace.specs.Streams.{Reading, Writing}
+use Rattle.vme_stream.proofs.OutputLemmas.{front_is}
+use Rattle.vme_stream.specs.Inputs.{IsReading}
+use Rattle.vme_stream.specs.Outputs.{TriesToWrite}
+use Rattle.vme_listing.specs.Written.{AppendsFront}
+use Rattle.vme_answer.specs.Answers.{CommandAnswer, capture_read}
+use Rattle.vme_answer.specs.Ends.{Ends}
+use Rattle.vme_answer.specs.Texts.{line_of}
+use Rattle.vme_answer.specs.declared.refusal.Refusal.TheVariants.{Memory}
+use Rattle.vme_part_format.specs.Tables.{PartValue}
+use Rattle.vme_part_command.specs.Answered.{Complains, ComplainsUnlessMemory, DoesOfParts, EndsUnlessMemory}
+use Rattle.vme_part_command.specs.Answered.{ListsPart, ListsRecording, no_join_answer, refusing}
+use Rattle.vme_part_command.specs.Inputs.{IsJoinOf, IsNoJoin}
+use Rattle.vme_part_command.specs.Written.{FindsPart, WritesPart, no_part_answer, written_part}
+use Rattle.vme_part_command.specs.declared.inputs.NoJoin.{NoJoin}
+use Rattle.vme_part_command.specs.declared.inputs.NoJoin.TheVariants as none
+use Rattle.vme_part_command.specs.declared.part.NoPart.{NoPart}
+use Rattle.vme_part_command.specs.declared.part.NoPart.TheVariants as no_part
+use Rattle.vme_part_command.specs.declared.part.PartOptions.{PartOptions}
+
+-- of a text of which a front was taken, the first bytes were
+pub front_taken : (old new : Option (List ℕ)) (text : List ℕ) → AppendsFront old new text → (n : ℕ) × Appends old new
+    (take n text)
+front_taken old new text took =
+    let (front, rest, split, appended) = took in
+    (length front, subst (λ (bytes : List ℕ). Appends old new bytes) (front_is text front rest split) appended)
+
+-- a refusal ends a command: nothing is written to standard output
+pub complaint_ends : (error : List ℕ) (s : ℕ) (out : Writing) (err : Writing × Writing) (status : ℕ)
+    → Complains (record { out = []; error = error; status = s }) err status
+    → Ends (record { out = []; error = error; status = s }) (out, out) err status
+complaint_ends error s out err status told =
+    inl (record { out_is = (Appends-nil _, refl); err_is = told.err_is; status_is = told.status_is })
+
+-- a line that refuses something was told
+pub refused : (text : List ℕ) (err : Writing × Writing) (status : ℕ) → TriesToWrite err.0 err.1 (line_of text)
+    → status ≡ 3 → Complains (refusing text) err status
+refused text err status told is = record { err_is = told; status_is = is }
+
+pub refused_ends : (text : List ℕ) (out : Writing) (err : Writing × Writing) (status : ℕ)
+    → TriesToWrite err.0 err.1 (line_of text) → status ≡ 3 → Ends (refusing text) (out, out) err status
+refused_ends text out err status told is = complaint_ends _ _ out err status (refused text err status told is)
+
+-- ---- what is found of parts
+
+module _ {X : Type 0} (IsFound : X → Type 0) (answer : X → CommandAnswer) (names : List (List ℕ))
+    (inputs : List Reading × List Reading) (err : Writing × Writing) (status : ℕ) where
+  pub ends_found : (x : X) (out : Writing × Writing) → IsFound x → Ends (answer x) out err status
+      → DoesOfParts IsFound answer names inputs out err status
+  ends_found x out is ends = (Ok x, is, ends)
+
+  pub ends_written : (x : X) (out : Writing × Writing) → IsFound x → EndsUnlessMemory (answer x) out err status
+      → DoesOfParts IsFound answer names inputs out err status
+  ends_written x out is (inl ends) = (Ok x, is, ends)
+  ends_written x out is (inr ends) = (Err none.Memory, tt, ends)
+
+  pub ends_unjoined : (why : NoJoin) (out : Writing) → IsNoJoin inputs.0 inputs.1 why
+      → ComplainsUnlessMemory (no_join_answer names why) err status
+      → DoesOfParts IsFound answer names inputs (out, out) err status
+  ends_unjoined why out is (inl told) = (Err why, is, complaint_ends _ _ out err status told)
+  ends_unjoined why out is (inr told) = (Err none.Memory, tt, complaint_ends _ _ out err status told)
+
+-- a listing is told of one part of all inputs
+pub ends_listed : (names : List (List ℕ)) (inputs : List Reading × List Reading) (files : Option ℕ) (p : PartValue)
+    (out err : Writing × Writing) (status : ℕ) → IsJoinOf inputs.0 inputs.1 p → ListsPart p files out err status
+    → ListsRecording names inputs files out err status
+ends_listed names inputs files p out err status join (inl told) =
+    (Ok told.0, record { part = p; join = join; lists = told.1 }, told.2)
+ends_listed names inputs files p out err status join (inr told) = (Err none.Memory, tt, told)
+
+-- ---- what is found of a dump
+
+module _ (o : PartOptions) (binding dump : Reading × Reading) (err : Writing × Writing) (status : ℕ)
+    (b d : Option (List ℕ)) (binding_reading : IsReading binding.0 binding.1 b)
+    (dump_reading : IsReading dump.0 dump.1 d) where
+  pub ends_part : (p : PartValue) (out : Writing × Writing)
+      → FindsPart (λ (q : PartValue). q) o (capture_read b d) (Ok p) → EndsUnlessMemory (written_part p) out err status
+      → WritesPart o binding dump out err status
+  ends_part p out is (inl ends) = (b, d, Ok p, binding_reading, dump_reading, is, ends)
+  ends_part p out is (inr ends) = (b, d, Err (no_part.Refused Memory), binding_reading, dump_reading, tt, ends)
+
+  pub ends_no_part : (why : NoPart) (out : Writing)
+      → FindsPart (λ (q : PartValue). q) o (capture_read b d) (Err why) → Complains (no_part_answer why) err status
+      → WritesPart o binding dump (out, out) err status
+  ends_no_part why out is told =
+      (b, d, Err why, binding_reading, dump_reading, is, complaint_ends _ _ out err status told)

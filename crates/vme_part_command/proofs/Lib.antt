@@ -1,0 +1,4 @@
+pub mod BackplaneLemmas
+pub mod EndLemmas
+pub mod ReadLemmas
+pub mod StatusLemmas

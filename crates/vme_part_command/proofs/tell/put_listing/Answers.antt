@@ -1,0 +1,18 @@
+use Rattle.std.proofs.Common.{refl, inl, inr}
+use Rattle.std.proofs.KnownBytes.{Appends-nil}
+use Rattle.vme_part_command.proofs.EndLemmas.{front_taken}
+use Rattle.vme_part_command.proofs.tell.put_listing.Goals as goal
+
+pub returns-in-Ok : goal.returns-in-Ok
+returns-in-Ok g c = inl (record {
+  out_is = (c.in-Ok.ensures.whole, c.in-Ok.ensures.failures);
+  err_is = inl (Appends-nil _, refl);
+  status_is = c.status_of.ensures;
+})
+
+pub returns-in-Err : goal.returns-in-Err
+returns-in-Err g c = inr (record {
+  out_is = (front_taken _ _ _ c.in-Err.ensures.front, c.in-Err.ensures.failures);
+  err_is = rw c.cannot_write_line.ensures at c.complain.ensures;
+  status_is = refl;
+})

@@ -1,0 +1,190 @@
+-- How the commands `join` and `tell` end.
+use Rattle.std.specs.Prelude.{◌≡◌, ◌⊎◌, ℕ, Bool, List, [], Option, None, Result, Ok, Err, codes, get_or}
+use Rattle.std.specs.List.{last_or}
+use Rattle.std.specs.Option.{option_map_or}
+use Rattle.vme_trace.specs.Streams.{Reading, Writing}
+use Rattle.vme_stream.specs.Outputs.{TriesToWrite}
+use Rattle.vme_answer.specs.Answers.{CommandAnswer, refusal_answer}
+use Rattle.vme_answer.specs.Ends.{Ends}
+use Rattle.vme_answer.specs.Texts.{line_of, refusal_text, verdict_status, verdict_text}
+use Rattle.vme_answer.specs.declared.refusal.Refusal.TheVariants.{Memory}
+use Rattle.vme_listing.specs.Listed.{Listed as Recorded}
+use Rattle.vme_listing.specs.RowText.{text_of}
+use Rattle.vme_listing.specs.declared.row.ListedVerdict.{ListedVerdict}
+use Rattle.vme_listing.specs.declared.row.ListedVerdict.TheVariants.{Conforming, NeverIdle, Broken, Unreadable}
+use Rattle.vme_listing.specs.declared.row.Row.{Row}
+use Rattle.vme_listing.specs.declared.row.Row.TheVariants.{Start, Reset, OpenTenure, Tenure, AddressedCycle}
+use Rattle.vme_listing.specs.declared.row.Row.TheVariants.{FreeCycle, InterruptCycle, Transfer, PendingTransfer}
+use Rattle.vme_listing.specs.declared.row.Row.TheVariants.{Verdict}
+use Rattle.vme_part_format.specs.Tables.{PartValue}
+use Rattle.vme_part_listing.specs.Listings.{ListsOfWhole}
+use Rattle.vme_part_listing.specs.declared.answers.ToldListing.{ToldListing}
+use Rattle.vme_part_listing.specs.declared.answers.ToldListing.TheVariants as listed
+use Rattle.vme_parts.specs.Telling.{TellsOfWhole, verdict_of}
+use Rattle.vme_parts.specs.declared.answers.Told.{Told}
+use Rattle.vme_parts.specs.declared.answers.Told.TheVariants as told
+use Rattle.vme_parts.specs.declared.join_refusal.JoinRefusal.{JoinRefusal}
+use Rattle.vme_parts.specs.declared.join_refusal.JoinRefusal.TheVariants as apart
+use Rattle.vme_part_command.specs.Inputs.{IsJoinOf, IsNoJoin}
+use Rattle.vme_part_command.specs.Lines.{fault_text, input_text, marks_text, part_text, refusing_text, told_text}
+use Rattle.vme_part_command.specs.Written.{written_part}
+use Rattle.vme_part_command.specs.declared.inputs.NoPartInput.{NoPartInput}
+use Rattle.vme_part_command.specs.declared.inputs.NoPartInput.TheVariants as input
+use Rattle.vme_part_command.specs.declared.inputs.NoJoin.{NoJoin}
+use Rattle.vme_part_command.specs.declared.inputs.NoJoin.TheVariants as none
+
+-- something is refused for this, with status 3
+abbrev pub refusing : List ℕ → CommandAnswer
+refusing text = record { out = []; error = line_of text; status = 3 }
+
+-- ---- why inputs make no part
+
+abbrev pub what_is_wrong : NoPartInput → List ℕ
+what_is_wrong input.Unread = codes "cannot read"
+what_is_wrong input.TooLong = codes "too long"
+what_is_wrong (input.Faulty fault) = fault_text fault
+
+abbrev pub name_at : List (List ℕ) → ℕ → List ℕ
+name_at names place = get_or names place []
+
+abbrev pub apart_text : List (List ℕ) → JoinRefusal → Bool → List ℕ
+apart_text names apart.Memory has_marks = refusal_text Memory
+apart_text names (apart.Backplane place) has_marks = input_text (name_at names place) (codes "of another backplane")
+apart_text names (apart.Marks place) has_marks = input_text (name_at names place) (marks_text has_marks)
+apart_text names (apart.Differs number) has_marks = part_text number (codes " differs")
+apart_text names apart.TooManySteps has_marks = refusing_text (codes "too many steps")
+apart_text names apart.TooManyNodes has_marks = refusing_text (codes "too many marks")
+apart_text names apart.TooManySegments has_marks = refusing_text (codes "too many parts")
+
+abbrev pub apart_status : JoinRefusal → ℕ
+apart_status apart.Memory = 4
+apart_status (apart.Backplane place) = 3
+apart_status (apart.Marks place) = 3
+apart_status (apart.Differs number) = 3
+apart_status apart.TooManySteps = 3
+apart_status apart.TooManyNodes = 3
+apart_status apart.TooManySegments = 3
+
+abbrev pub no_join_text : List (List ℕ) → NoJoin → List ℕ
+no_join_text names none.Memory = refusal_text Memory
+no_join_text names (none.Input place fault) = input_text (name_at names place) (what_is_wrong fault)
+no_join_text names (none.Apart why has_marks) = apart_text names why has_marks
+
+abbrev pub no_join_status : NoJoin → ℕ
+no_join_status none.Memory = 4
+no_join_status (none.Input place fault) = 3
+no_join_status (none.Apart why has_marks) = apart_status why
+
+abbrev pub no_join_answer : List (List ℕ) → NoJoin → CommandAnswer
+no_join_answer names why =
+    record { out = []; error = line_of (no_join_text names why); status = no_join_status why }
+
+-- ---- what is answered
+
+-- the verdict, or what is told in its place
+abbrev pub told_answer : Told → CommandAnswer
+told_answer (told.Beyond number) = refusing (told_text (told.Beyond number))
+told_answer (told.Missing number) = refusing (told_text (told.Missing number))
+told_answer (told.Torn number) = refusing (told_text (told.Torn number))
+told_answer told.TooManySteps = refusing (told_text told.TooManySteps)
+told_answer (told.Verdict v) =
+    record { out = line_of (verdict_text (verdict_of v)); error = []; status = verdict_status (verdict_of v) }
+
+-- the exit status of a listing: that of its last row, the verdict
+abbrev pub outcome_status : ListedVerdict → ℕ
+outcome_status Conforming = 0
+outcome_status NeverIdle = 2
+outcome_status (Broken rule instant line) = 1
+outcome_status (Unreadable rule instant line) = 2
+
+abbrev pub row_status : Row → ℕ
+row_status (Start instant) = 2
+row_status (Reset instant) = 2
+row_status (OpenTenure start end) = 2
+row_status (Tenure start level slot end) = 2
+row_status (AddressedCycle start class modifier address end) = 2
+row_status (FreeCycle start modifier end) = 2
+row_status (InterruptCycle start level end) = 2
+row_status (Transfer direction line start cycle answer close lanes) = 2
+row_status (PendingTransfer start direction) = 2
+row_status (Verdict outcome) = outcome_status outcome
+
+abbrev pub rows_status : List Row → ℕ
+rows_status rows = option_map_or row_status (last_or None rows) 2
+
+abbrev pub listed_status : Recorded → ℕ
+listed_status listing = rows_status listing.rows
+
+-- the listing, or what is told in its place
+abbrev pub listed_answer : ToldListing → CommandAnswer
+listed_answer (listed.Listing listing) =
+    record { out = text_of listing; error = []; status = listed_status listing }
+listed_answer (listed.Refused what) = refusing (told_text what)
+listed_answer listed.Unmarked = refusing (refusing_text (codes "parts without marks"))
+listed_answer listed.TooLong = refusing (refusing_text (codes "too many steps"))
+
+-- ---- how it ends
+
+-- an answer is told, or that there was no memory
+abbrev pub EndsUnlessMemory : CommandAnswer → Writing × Writing → Writing × Writing → ℕ → Type 0
+EndsUnlessMemory answer out err status = Ends answer out err status ⊎ Ends (refusal_answer Memory) out err status
+
+-- a refusal is told
+pub record Complains (answer : CommandAnswer) (err : Writing × Writing) (status : ℕ) : Type 0 where
+  pub err_is : TriesToWrite err.0 err.1 answer.error
+  pub status_is : status ≡ answer.status
+
+abbrev pub ComplainsUnlessMemory : CommandAnswer → Writing × Writing → ℕ → Type 0
+ComplainsUnlessMemory answer err status = Complains answer err status ⊎ Complains (refusal_answer Memory) err status
+
+-- something is found, or why the inputs make no part
+abbrev pub IsFoundOrNoJoin : {X : Type 0} → (X → Type 0) → List Reading × List Reading → Result X NoJoin → Type 0
+IsFoundOrNoJoin IsFound inputs (Ok x) = IsFound x
+IsFoundOrNoJoin IsFound inputs (Err why) = IsNoJoin inputs.0 inputs.1 why
+
+abbrev pub answer_or : {X : Type 0} → (X → CommandAnswer) → List (List ℕ) → Result X NoJoin → CommandAnswer
+answer_or answer names (Ok x) = answer x
+answer_or answer names (Err why) = no_join_answer names why
+
+-- The inputs, which have these names, are read; what may be found of them is found, or why they make no part, unless
+-- there was no memory; and its answer is told, unless a write of it fails.
+abbrev pub DoesOfParts : {X : Type 0} → (X → Type 0) → (X → CommandAnswer) → List (List ℕ) → List Reading × List Reading
+    → Writing × Writing → Writing × Writing → ℕ → Type 0
+DoesOfParts {X} IsFound answer names inputs out err status =
+    (found : Result X NoJoin) × IsFoundOrNoJoin IsFound inputs found
+    × Ends (answer_or answer names found) out err status
+
+-- one part of all inputs is written
+abbrev pub WritesJoin : List (List ℕ) → List Reading × List Reading → Writing × Writing → Writing × Writing → ℕ → Type 0
+WritesJoin names inputs out err status =
+    DoesOfParts (IsJoinOf inputs.0 inputs.1) written_part names inputs out err status
+
+-- this is told of the recording of so many files by one part of all inputs
+pub record IsToldOf (inputs : List Reading × List Reading) (files : Option ℕ) (what : Told) : Type 0 where
+  pub part : PartValue
+  pub join : IsJoinOf inputs.0 inputs.1 part
+  pub tells : TellsOfWhole part files what
+
+abbrev pub TellsRecording : List (List ℕ) → List Reading × List Reading → Option ℕ → Writing × Writing
+    → Writing × Writing
+    → ℕ → Type 0
+TellsRecording names inputs files out err status =
+    DoesOfParts (IsToldOf inputs files) told_answer names inputs out err status
+
+-- something is listed of a recording by a part, and its answer is told, or that there was no memory
+abbrev pub ListsPart : PartValue → Option ℕ → Writing × Writing → Writing × Writing → ℕ → Type 0
+ListsPart p files out err status =
+    ((what : ToldListing) × ListsOfWhole p files what × Ends (listed_answer what) out err status)
+    ⊎ Ends (refusal_answer Memory) out err status
+
+-- this is listed of it
+pub record IsListedOf (inputs : List Reading × List Reading) (files : Option ℕ) (what : ToldListing) : Type 0 where
+  pub part : PartValue
+  pub join : IsJoinOf inputs.0 inputs.1 part
+  pub lists : ListsOfWhole part files what
+
+abbrev pub ListsRecording : List (List ℕ) → List Reading × List Reading → Option ℕ → Writing × Writing
+    → Writing × Writing
+    → ℕ → Type 0
+ListsRecording names inputs files out err status =
+    DoesOfParts (IsListedOf inputs files) listed_answer names inputs out err status

@@ -1,0 +1,71 @@
+-- The parts that inputs are, and one part of them.
+use Rattle.std.specs.Prelude.{◌≡◌, ℕ, ◌<◌, ◌≤◌, Bool, false, List, [], ◌∷◌, All, length, None, Some, Err, slice_get}
+use Rattle.vme_trace.specs.Streams.{Reading}
+use Rattle.vme_stream.specs.Inputs.{IsReading, longest_input}
+use Rattle.vme_part_format.specs.Bounds.{FitsPart}
+use Rattle.vme_part_format.specs.PartText.{part_bytes}
+use Rattle.vme_part_format.specs.Reading.{part_at}
+use Rattle.vme_part_format.specs.Tables.{PartValue}
+use Rattle.vme_parts.specs.Files.{JoinsParts}
+use Rattle.vme_part_command.specs.declared.inputs.PartInputError.{PartInputError}
+use Rattle.vme_part_command.specs.declared.inputs.PartInputError.TheVariants as error
+use Rattle.vme_part_command.specs.declared.inputs.NoPartInput.{NoPartInput}
+use Rattle.vme_part_command.specs.declared.inputs.NoPartInput.TheVariants as input
+use Rattle.vme_part_command.specs.declared.inputs.NoJoin.{NoJoin}
+use Rattle.vme_part_command.specs.declared.inputs.NoJoin.TheVariants as none
+
+-- the inputs before a place are these parts
+pub record HaveRead (old new : List Reading) (n : ℕ) (ps : List PartValue) : Type 0 where
+  pub within : n ≤ length old
+  pub many : length ps ≡ n
+  pub fit : All FitsPart ps
+  pub read : (k : ℕ) (a b : Reading) (p : PartValue) → slice_get old k ≡ Some a → slice_get new k ≡ Some b
+      → slice_get ps k ≡ Some p → IsReading a b (Some (part_bytes p))
+
+-- all inputs are these parts
+pub record ReadParts (old new : List Reading) (ps : List PartValue) : Type 0 where
+  pub many : length ps ≡ length old
+  pub fit : All FitsPart ps
+  pub read : (k : ℕ) (a b : Reading) (p : PartValue) → slice_get old k ≡ Some a → slice_get new k ≡ Some b
+      → slice_get ps k ≡ Some p → IsReading a b (Some (part_bytes p))
+
+-- why an input is no part: it can't be read, it is too long, or its bytes have this first fault
+abbrev pub IsFaulty : Reading → Reading → NoPartInput → Type 0
+IsFaulty a b input.Unread = IsReading a b None
+IsFaulty a b input.TooLong = (bytes : List ℕ) × (longest_input < length bytes) × IsReading a b (Some bytes)
+IsFaulty a b (input.Faulty fault) = (bytes : List ℕ) × IsReading a b (Some bytes) × (part_at bytes ≡ Err fault)
+
+-- why an input isn't read as a part, unless there was no memory
+abbrev pub IsPartInputError : Reading → Reading → PartInputError → Type 0
+IsPartInputError a b error.Memory = Unit {0}
+IsPartInputError a b (error.Fault fault) = IsFaulty a b fault
+
+-- those before a place are parts, and the one there is none for this
+pub record HasFaultAt (old new : List Reading) (place : ℕ) (fault : NoPartInput) : Type 0 where
+  pub parts : List PartValue
+  pub before : HaveRead old new place parts
+  pub was : Reading
+  pub becomes : Reading
+  pub there : slice_get old place ≡ Some was
+  pub left : slice_get new place ≡ Some becomes
+  pub is : IsFaulty was becomes fault
+
+-- the first part has marks
+abbrev pub first_has_marks : List PartValue → Bool
+first_has_marks [] = false
+first_has_marks (p ∷ ps) = p.listing
+
+-- why there is no part of all, unless there was no memory: the first input that is no part, or why they make none
+-- together
+abbrev pub IsNoJoin : List Reading → List Reading → NoJoin → Type 0
+IsNoJoin old new none.Memory = Unit {0}
+IsNoJoin old new (none.Input place fault) = HasFaultAt old new place fault
+IsNoJoin old new (none.Apart why has_marks) =
+    (ps : List PartValue) × ReadParts old new ps × (has_marks ≡ first_has_marks ps)
+
+-- one part of all inputs, which can be written
+pub record IsJoinOf (old new : List Reading) (p : PartValue) : Type 0 where
+  pub parts : List PartValue
+  pub read : ReadParts old new parts
+  pub joins : JoinsParts parts p
+  pub fits : FitsPart p

@@ -1,0 +1,68 @@
+//! What is told where there is no answer.
+
+ghost use Rattle.std.specs.Prelude.{◌≡◌, ◌++◌, IfOk};
+ghost use Rattle.vme_stream.specs.Outputs.{TriesToWrite};
+ghost use Rattle.vme_answer.specs.Answers.{refusal_answer};
+ghost use Rattle.vme_answer.specs.Texts.{line_of};
+ghost use Rattle.vme_answer.specs.declared.refusal.Refusal.TheVariants.{Memory};
+ghost use Rattle.vme_part_command.specs.Answered.{Complains, ComplainsUnlessMemory, refusing};
+ghost use Rattle.vme_part_command.specs.Lines.{input_text};
+
+use std::alloc::{AllocError, Global};
+use vme_answer::{Refusal, refusal_line};
+use vme_stream::{Message, complain, write_all};
+use vme_text::Text;
+use vme_trace::Sink;
+
+/// Tells that there is no memory. The answer is the exit status.
+pub(crate) fn no_memory<E: Sink>(err: &mut E) -> u8
+    ensures { Complains (refusal_answer Memory) (E.writing err.old, E.writing err.new) result }
+{
+    complain(err, refusal_line(&Refusal::Memory));
+    Refusal::Memory.status()
+}
+
+/// Tells a line that refuses something. The answer is the exit status.
+pub(crate) fn refuse<E: Sink>(line: Message, err: &mut E) -> u8
+    ensures told { TriesToWrite (E.writing err.old) (E.writing err.new) line }
+    ensures status { result ≡ 3 }
+{
+    complain(err, line);
+    3
+}
+
+/// Writes some bytes. Where that fails, nothing else is done.
+fn tell_bytes<E: Sink>(err: &mut E, bytes: &[u8])
+    ensures { TriesToWrite (E.writing err.old) (E.writing err.new) bytes.now }
+{
+    match write_all(err, bytes) {
+        Ok(()) => {}
+        Err(_) => {}
+    }
+}
+
+fn input_line(alloc: Global, name: &[u8], what: &[u8]) -> Result<Text, AllocError>
+    ensures { IfOk result (λ text. text ≡ line_of (input_text name.now what.now)) }
+{
+    let mut text = Text::new(alloc);
+    text.push(b"vmecheck: ")?;
+    text.push(name)?;
+    text.push(b": ")?;
+    text.push(what)?;
+    text.push(b"\n")?;
+    Ok(text)
+}
+
+/// Tells something of an input by its name. The answer is the exit status.
+pub(crate) fn tell_input<E: Sink>(alloc: Global, name: &[u8], what: &[u8], err: &mut E) -> u8
+    ensures { ComplainsUnlessMemory (refusing (input_text name.now what.now))
+        (E.writing err.old, E.writing err.new) result }
+{
+    match input_line(alloc, name, what) {
+        Ok(line) => {
+            tell_bytes(err, line.as_bytes());
+            3
+        }
+        Err(_) => no_memory(err),
+    }
+}

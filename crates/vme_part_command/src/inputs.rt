@@ -1,0 +1,229 @@
+//! The parts that inputs are.
+
+ghost use Rattle.std.specs.Prelude.{◌≡◌, IfErr, IfOk, Some, map};
+ghost use Rattle.vme_stream.specs.Inputs.{IsReading};
+ghost use Rattle.vme_part_format.specs.Bounds.{FitsPart};
+ghost use Rattle.vme_part_format.specs.PartText.{part_bytes};
+ghost use Rattle.vme_part_format.specs.Tables.{part_value};
+ghost use Rattle.vme_part_command.specs.Answered.{ComplainsUnlessMemory, name_at, no_join_answer, refusing};
+ghost use Rattle.vme_part_command.specs.Answered.{what_is_wrong};
+ghost use Rattle.vme_part_command.specs.Inputs.{IsPartInputError, IsJoinOf, IsNoJoin, ReadParts, first_has_marks};
+ghost use Rattle.vme_part_command.specs.Lines.{input_text, marks_text};
+ghost use Rattle.vme_part_command.specs.declared.inputs.NoJoin.TheVariants as none;
+
+use crate::complaints::{no_memory, refuse, tell_input};
+use crate::lines::{fault_message, part_line, refusing_line};
+use std::alloc::{AllocError, AllocFailed, Global};
+use vme_part_format::{Part, PartFault, ReadError, read_part};
+use vme_parts::{JoinRefusal, join_parts};
+use vme_stream::{InFault, read_all};
+use vme_trace::{Sink, Source};
+
+/// A part, and its name as it is told.
+#[derive(Drop)]
+pub struct NamedPart<'a, P> {
+    pub name: &'a [u8],
+    pub part: P,
+}
+
+/// Why an input is no part.
+#[derive(Clone, Copy, Debug)]
+pub(crate) enum NoPartInput {
+    /// It can't be read.
+    Unread,
+    /// It has over 268,435,456 bytes.
+    TooLong,
+    /// It has this fault.
+    Faulty(PartFault),
+}
+
+/// Why an input isn't read as a part.
+#[derive(Clone, Copy, Debug)]
+enum PartInputError {
+    Memory,
+    Fault(NoPartInput),
+}
+
+/// Why inputs make no part.
+#[derive(Clone, Copy, Debug)]
+pub(crate) enum NoJoin {
+    Memory,
+    /// The input at this place is no part.
+    Input(usize, NoPartInput),
+    /// They make none together, of which the first has marks or none.
+    Apart(JoinRefusal, bool),
+}
+
+impl From<AllocError> for NoJoin {
+    ghost use Rattle.vme_part_command.specs.declared.inputs.NoJoin.TheVariants.{Memory};
+
+    ghost from_gives = { λ _ e. e ≡ Memory };
+
+    fn from(_e: AllocError) -> NoJoin {
+        NoJoin::Memory
+    }
+}
+
+impl<T: Drop> From<AllocFailed<T>> for NoJoin {
+    ghost use Rattle.vme_part_command.specs.declared.inputs.NoJoin.TheVariants.{Memory};
+
+    ghost from_gives = { λ _ e. e ≡ Memory };
+
+    fn from(_e: AllocFailed<T>) -> NoJoin {
+        NoJoin::Memory
+    }
+}
+
+/// The part that an input is.
+fn part_in<P: Source>(alloc: Global, input: &mut NamedPart<'_, P>) -> Result<Part, PartInputError>
+    ensures fits { IfOk result (λ part. FitsPart (part_value part)) }
+    ensures read { IfOk result (λ part. IsReading (P.reading input.old.part) (P.reading input.new.part)
+        (Some (part_bytes (part_value part)))) }
+    ensures fault { IfErr result (λ why. IsPartInputError (P.reading input.old.part) (P.reading input.new.part) why) }
+    ensures name { input.new.name.now ≡ input.old.name.now }
+{
+    let bytes = match read_all(alloc, &mut input.part) {
+        Ok(bytes) => bytes,
+        Err(InFault::Read) => return Err(PartInputError::Fault(NoPartInput::Unread)),
+        Err(InFault::TooLong) => return Err(PartInputError::Fault(NoPartInput::TooLong)),
+        Err(InFault::Memory) => return Err(PartInputError::Memory),
+    };
+    match read_part(alloc, bytes.as_slice()) {
+        Ok(part) => Ok(part),
+        Err(ReadError::Memory) => Err(PartInputError::Memory),
+        Err(ReadError::Fault(fault)) => Err(PartInputError::Fault(NoPartInput::Faulty(fault))),
+    }
+}
+
+/// The parts that inputs are, in order.
+fn read_parts<P: Source>(
+    alloc: Global,
+    inputs: &mut [NamedPart<'_, P>],
+) -> Result<Vec<Part>, NoJoin>
+    ensures read { IfOk result (λ parts. ReadParts (map (λ i. P.reading i.part) inputs.old)
+        (map (λ i. P.reading i.part) inputs.new) (map part_value parts.items)) }
+    ensures unread { IfErr result (λ why. IsNoJoin (map (λ i. P.reading i.part) inputs.old)
+        (map (λ i. P.reading i.part) inputs.new) why) }
+    ensures names { map (λ i. i.name.now) inputs.new ≡ map (λ i. i.name.now) inputs.old }
+{
+    let mut parts = Vec::new(alloc);
+    for input in inputs.iter_mut() {
+        let place = parts.len();
+        match part_in(alloc, input) {
+            Ok(part) => parts.push(part)?,
+            Err(PartInputError::Memory) => return Err(NoJoin::Memory),
+            Err(PartInputError::Fault(fault)) => return Err(NoJoin::Input(place, fault)),
+        }
+    }
+    Ok(parts)
+}
+
+/// Whether the first of some parts has marks.
+fn has_marks(parts: &[Part]) -> bool
+    ensures { result ≡ first_has_marks (map part_value parts.now) }
+{
+    match parts.first() {
+        Some(part) => part.listing,
+        None => false,
+    }
+}
+
+/// One part of the parts that inputs are.
+pub(crate) fn joined<P: Source>(
+    alloc: Global,
+    inputs: &mut [NamedPart<'_, P>],
+) -> Result<Part, NoJoin>
+    ensures joined { IfOk result (λ part. IsJoinOf (map (λ i. P.reading i.part) inputs.old)
+        (map (λ i. P.reading i.part) inputs.new) (part_value part)) }
+    ensures unjoined { IfErr result (λ why. IsNoJoin (map (λ i. P.reading i.part) inputs.old)
+        (map (λ i. P.reading i.part) inputs.new) why) }
+    ensures names { map (λ i. i.name.now) inputs.new ≡ map (λ i. i.name.now) inputs.old }
+{
+    let parts = match read_parts(alloc, inputs) {
+        Ok(parts) => parts,
+        Err(why) => return Err(why),
+    };
+    let has_marks = has_marks(parts.as_slice());
+    match join_parts(alloc, parts) {
+        Ok(part) => Ok(part),
+        Err(why) => Err(NoJoin::Apart(why, has_marks)),
+    }
+}
+
+/// The name of the input at a place.
+fn name_of<'a, P>(inputs: &[NamedPart<'a, P>], place: usize) -> &'a [u8]
+    ensures { result.now ≡ name_at (map (λ i. i.name.now) inputs.now) place }
+{
+    match inputs.get(place) {
+        Some(named) => named.name,
+        None => b"",
+    }
+}
+
+/// Tells why an input is no part. The answer is the exit status.
+fn refuse_input<E: Sink>(alloc: Global, name: &[u8], fault: &NoPartInput, err: &mut E) -> u8
+    ensures { ComplainsUnlessMemory (refusing (input_text name.now (what_is_wrong fault.now)))
+        (E.writing err.old, E.writing err.new) result }
+{
+    match fault {
+        NoPartInput::Unread => tell_input(alloc, name, b"cannot read", err),
+        NoPartInput::TooLong => tell_input(alloc, name, b"too long", err),
+        NoPartInput::Faulty(fault) => {
+            let what = fault_message(fault);
+            tell_input(alloc, name, what.as_bytes(), err)
+        }
+    }
+}
+
+/// Tells that a part has marks where the first has none, or the other way round. The answer is the exit status.
+fn refuse_marks<E: Sink>(alloc: Global, name: &[u8], has_marks: bool, err: &mut E) -> u8
+    ensures { ComplainsUnlessMemory (refusing (input_text name.now (marks_text has_marks)))
+        (E.writing err.old, E.writing err.new) result }
+{
+    if has_marks {
+        tell_input(alloc, name, b"without marks", err)
+    } else {
+        tell_input(alloc, name, b"with marks", err)
+    }
+}
+
+/// Tells why inputs make no part together. The answer is the exit status.
+fn refuse_apart<P, E: Sink>(
+    alloc: Global,
+    inputs: &[NamedPart<'_, P>],
+    has_marks: bool,
+    why: JoinRefusal,
+    err: &mut E,
+) -> u8
+    ensures { ComplainsUnlessMemory (no_join_answer (map (λ i. i.name.now) inputs.now) (none.Apart why has_marks))
+        (E.writing err.old, E.writing err.new) result }
+{
+    match why {
+        JoinRefusal::Memory => no_memory(err),
+        JoinRefusal::Backplane(place) => {
+            tell_input(alloc, name_of(inputs, place), b"of another backplane", err)
+        }
+        JoinRefusal::Marks(place) => { refuse_marks(alloc, name_of(inputs, place), has_marks, err) }
+        JoinRefusal::Differs(number) => refuse(part_line(number, b" differs"), err),
+        JoinRefusal::TooManySteps => refuse(refusing_line(b"too many steps"), err),
+        JoinRefusal::TooManyNodes => refuse(refusing_line(b"too many marks"), err),
+        JoinRefusal::TooManySegments => refuse(refusing_line(b"too many parts"), err),
+    }
+}
+
+/// Tells why inputs make no part. The answer is the exit status.
+pub(crate) fn refuse_joined<P, E: Sink>(
+    alloc: Global,
+    inputs: &[NamedPart<'_, P>],
+    why: NoJoin,
+    err: &mut E,
+) -> u8
+    ensures { ComplainsUnlessMemory (no_join_answer (map (λ i. i.name.now) inputs.now) why)
+        (E.writing err.old, E.writing err.new) result }
+{
+    match why {
+        NoJoin::Memory => no_memory(err),
+        NoJoin::Input(place, fault) => refuse_input(alloc, name_of(inputs, place), &fault, err),
+        NoJoin::Apart(why, has_marks) => refuse_apart(alloc, inputs, has_marks, why, err),
+    }
+}

@@ -1,0 +1,165 @@
+//! What is told of the whole recording.
+
+ghost use Rattle.std.specs.Prelude.{◌≡◌, map};
+ghost use Rattle.vme_answer.specs.Ends.{Ends};
+ghost use Rattle.vme_part_format.specs.Bounds.{FitsPart};
+ghost use Rattle.vme_part_format.specs.Tables.{part_value};
+ghost use Rattle.vme_part_command.specs.Answered.{ListsPart};
+ghost use Rattle.vme_part_command.specs.Answered.{ListsRecording, TellsRecording};
+ghost use Rattle.vme_part_command.specs.Answered.{listed_answer, listed_status, outcome_status};
+ghost use Rattle.vme_part_command.specs.Answered.{row_status, told_answer};
+ghost use Rattle.vme_part_listing.specs.declared.answers.ToldListing.TheVariants as listed;
+ghost use Rattle.vme_parts.specs.declared.answers.Told.TheVariants as told;
+
+use crate::complaints::{no_memory, refuse};
+use crate::inputs::{NamedPart, joined, refuse_joined};
+use crate::lines::{part_line, refusing_line, told_line, verdict_line, verdict_status};
+use std::alloc::Global;
+use vme_answer::cannot_write_line;
+use vme_listing::{ListedVerdict, Listing, Row, write_listing};
+use vme_part_format::Part;
+use vme_part_listing::{ToldListing, tell_listing};
+use vme_parts::{Told, WideVerdict, tell_verdict};
+use vme_stream::{complain, write_message};
+use vme_trace::{Sink, Source};
+
+/// Writes a verdict. The answer is the exit status.
+fn put_verdict<O: Sink, E: Sink>(verdict: &WideVerdict, out: &mut O, err: &mut E) -> u8
+    ensures { Ends (told_answer (told.Verdict verdict.now))
+        (O.writing out.old, O.writing out.new) (E.writing err.old, E.writing err.new) result }
+{
+    match write_message(out, verdict_line(verdict)) {
+        Ok(()) => verdict_status(verdict),
+        Err(_) => {
+            complain(err, cannot_write_line());
+            5
+        }
+    }
+}
+
+/// Tells the verdict, or what is told in its place. The answer is the exit status.
+fn tell<O: Sink, E: Sink>(told: Told, out: &mut O, err: &mut E) -> u8
+    ensures { Ends (told_answer told)
+        (O.writing out.old, O.writing out.new) (E.writing err.old, E.writing err.new) result }
+{
+    match told {
+        Told::Verdict(verdict) => put_verdict(&verdict, out, err),
+        Told::Beyond(number) => refuse(part_line(number, b" beyond the files"), err),
+        Told::Missing(number) => refuse(part_line(number, b" missing"), err),
+        Told::Torn(number) => refuse(part_line(number, b" torn"), err),
+        Told::TooManySteps => refuse(refusing_line(b"too many steps"), err),
+    }
+}
+
+/// Writes to `out` the verdict of the whole recording, of so many files, by the parts that inputs are, or to `err` why
+/// there is none. The answer is the exit status: that of `check` by the verdict; 3 where an input is refused, or a file
+/// is missing or torn; 4 for want of memory; 5 where the verdict can't be written.
+pub fn tell_whole<P: Source, O: Sink, E: Sink>(
+    alloc: Global,
+    inputs: &mut [NamedPart<'_, P>],
+    files: Option<u64>,
+    out: &mut O,
+    err: &mut E,
+) -> u8
+    ensures answer { TellsRecording (map (λ i. i.name.now) inputs.old)
+        (map (λ i. P.reading i.part) inputs.old, map (λ i. P.reading i.part) inputs.new) files
+        (O.writing out.old, O.writing out.new) (E.writing err.old, E.writing err.new) result }
+{
+    match joined(alloc, inputs) {
+        Ok(part) => tell(tell_verdict(&part, files), out, err),
+        Err(why) => refuse_joined(alloc, inputs, why, err),
+    }
+}
+
+/// The exit status of a listing: that of the verdict, its last row.
+fn status_of(listing: &Listing) -> u8
+    ensures { result ≡ listed_status listing.now }
+{
+    match listing.rows().last() {
+        Some(row) => status_of_row(row),
+        None => 2,
+    }
+}
+
+fn status_of_row(row: &Row) -> u8
+    ensures { result ≡ row_status row.now }
+{
+    match row {
+        Row::Verdict(outcome) => status_of_outcome(*outcome),
+        _ => 2,
+    }
+}
+
+fn status_of_outcome(outcome: ListedVerdict) -> u8
+    ensures { result ≡ outcome_status outcome }
+{
+    match outcome {
+        ListedVerdict::Conforming => 0,
+        ListedVerdict::Broken(..) => 1,
+        ListedVerdict::Unreadable(..) | ListedVerdict::NeverIdle => 2,
+    }
+}
+
+/// Writes a listing. The answer is the exit status.
+fn put_listing<O: Sink, E: Sink>(listing: &Listing, out: &mut O, err: &mut E) -> u8
+    ensures { Ends (listed_answer (listed.Listing listing.now))
+        (O.writing out.old, O.writing out.new) (E.writing err.old, E.writing err.new) result }
+{
+    match write_listing(listing, out) {
+        Ok(()) => status_of(listing),
+        Err(_) => {
+            complain(err, cannot_write_line());
+            5
+        }
+    }
+}
+
+/// Writes the listing, or what is told in its place. The answer is the exit status.
+fn put_listed<O: Sink, E: Sink>(what: ToldListing, out: &mut O, err: &mut E) -> u8
+    ensures { Ends (listed_answer what)
+        (O.writing out.old, O.writing out.new) (E.writing err.old, E.writing err.new) result }
+{
+    match what {
+        ToldListing::Listing(listing) => put_listing(&listing, out, err),
+        ToldListing::Refused(told) => refuse(told_line(&told), err),
+        ToldListing::Unmarked => refuse(refusing_line(b"parts without marks"), err),
+        ToldListing::TooLong => refuse(refusing_line(b"too many steps"), err),
+    }
+}
+
+/// Writes the listing that a part says, or what is told in its place. The answer is the exit status.
+fn list_part<O: Sink, E: Sink>(
+    alloc: Global,
+    part: &Part,
+    files: Option<u64>,
+    out: &mut O,
+    err: &mut E,
+) -> u8
+    requires { FitsPart (part_value part.now) }
+    ensures { ListsPart (part_value part.now) files
+        (O.writing out.old, O.writing out.new) (E.writing err.old, E.writing err.new) result }
+{
+    match tell_listing(alloc, part, files) {
+        Ok(what) => put_listed(what, out, err),
+        Err(_) => no_memory(err),
+    }
+}
+
+/// Writes to `out` the listing of the whole recording, of so many files, by the parts that inputs are, or to `err` why
+/// there is none. The answer is the exit status: that of `list` by the listing's verdict; else as `tell_whole` answers.
+pub fn list_whole<P: Source, O: Sink, E: Sink>(
+    alloc: Global,
+    inputs: &mut [NamedPart<'_, P>],
+    files: Option<u64>,
+    out: &mut O,
+    err: &mut E,
+) -> u8
+    ensures answer { ListsRecording (map (λ i. i.name.now) inputs.old)
+        (map (λ i. P.reading i.part) inputs.old, map (λ i. P.reading i.part) inputs.new) files
+        (O.writing out.old, O.writing out.new) (E.writing err.old, E.writing err.new) result }
+{
+    match joined(alloc, inputs) {
+        Ok(part) => list_part(alloc, &part, files, out, err),
+        Err(why) => refuse_joined(alloc, inputs, why, err),
+    }
+}

@@ -1,0 +1,12 @@
+//! Tests of vme_part_command and of vme_part_listing: a recording of three files, whose parts are
+//! made, joined, and told.
+//!
+//! - `tests`: the verdict and the listing of the whole, and what is told where a file is missing,
+//!   torn, differs, is damaged or can't be read. `want_of_memory_is_told` is made for
+//!   `tests/memory/run`, which refuses each of its allocations in turn.
+//!
+//! Not tried here: files and processes, on which `tests/parts/run` runs the program.
+#![tactic(auto)]
+
+#[cfg(test)]
+mod tests;

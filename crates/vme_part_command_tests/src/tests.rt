@@ -1,0 +1,542 @@
+//! A read cycle in three files.
+
+ghost use Rattle.std.specs.Prelude.{None};
+
+use std::alloc::{AllocError, Global};
+use std::io::{self, Error, ErrorKind, Read};
+use vme_part_command::{
+    NamedPart, PartOptions, list_whole, tell_whole, write_joined, write_part_of,
+};
+use vme_stream::{Bytes, Io};
+use vme_trace::{Failed, Sink, Source};
+
+const BINDING: &[u8] = b"slots 1
+AS = bus.AS
+DS0 = bus.DS0
+DS1 = bus.DS1
+DTACK = bus.DTACK
+BERR = bus.BERR
+IACK = bus.IACK
+AM0 = 1
+AM1 = 0
+AM2 = 1
+AM3 = 1
+AM4 = 1
+AM5 = 1
+LWORD = 1
+WRITE = 1
+A = 1
+BBSY = 0
+BR = 1
+BG0 = 1
+BG1 = 1
+BG2 = 1
+BG3 = 1
+IA = 1
+";
+
+/// The same, of a backplane of two slots.
+const OTHER_BINDING: &[u8] = b"slots 2
+AS = bus.AS
+DS0 = bus.DS0
+DS1 = bus.DS1
+DTACK = bus.DTACK
+BERR = bus.BERR
+IACK = bus.IACK
+AM0 = 1
+AM1 = 0
+AM2 = 1
+AM3 = 1
+AM4 = 1
+AM5 = 1
+LWORD = 1
+WRITE = 1
+A = 1
+BBSY = 0
+BR = 1
+BG0 = 1
+BG1 = 1
+BG2 = 1
+BG3 = 1
+IA = 1
+";
+
+/// One read cycle: until the address strobe falls.
+const FIRST: &str = "$timescale 1 ns $end
+$scope module bus $end
+$var wire 1 p AS $end
+$var wire 1 q DS0 $end
+$var wire 1 r DS1 $end
+$var wire 1 s DTACK $end
+$var wire 1 t BERR $end
+$var wire 1 u IACK $end
+$upscope $end
+$enddefinitions $end
+#0 1p 1q 1r 1s 1t 1u
+#10 0p
+";
+
+/// Until the answer, from the middle of the cycle on.
+const SECOND: &str = "$timescale 1 ns $end
+$scope module bus $end
+$var wire 1 p AS $end
+$var wire 1 q DS0 $end
+$var wire 1 r DS1 $end
+$var wire 1 s DTACK $end
+$var wire 1 t BERR $end
+$var wire 1 u IACK $end
+$upscope $end
+$enddefinitions $end
+#10 0p 1q 1r 1s 1t 1u
+#20 0q
+#30 0s
+";
+
+/// Its end.
+const THIRD: &str = "$timescale 1 ns $end
+$scope module bus $end
+$var wire 1 p AS $end
+$var wire 1 q DS0 $end
+$var wire 1 r DS1 $end
+$var wire 1 s DTACK $end
+$var wire 1 t BERR $end
+$var wire 1 u IACK $end
+$upscope $end
+$enddefinitions $end
+#30 0p 0q 1r 0s 1t 1u
+#40 1p 1q
+#50 1s
+";
+
+/// Another end, with no answer before it.
+const OTHER_THIRD: &str = "$timescale 1 ns $end
+$scope module bus $end
+$var wire 1 p AS $end
+$var wire 1 q DS0 $end
+$var wire 1 r DS1 $end
+$var wire 1 s DTACK $end
+$var wire 1 t BERR $end
+$var wire 1 u IACK $end
+$upscope $end
+$enddefinitions $end
+#30 0p 0q 1r 1s 1t 1u
+#40 1p 1q
+";
+
+/// The listing of the whole.
+const LISTING: &str = "vmecheck listing 3
+start 1
+tenure 1 open end -
+cycle 2 S 3D FFFFFE end 5
+transfer 3 of 2 read DTACK 4 close 5
+verdict conforming
+";
+
+/// A sink that holds what it took, up to a count of bytes at which writes fail.
+#[derive(Drop)]
+struct Page {
+    bytes: Vec<u8>,
+    room: usize,
+    failures: u64,
+}
+
+impl Page {
+    fn new(alloc: Global, room: usize) -> Page {
+        Page {
+            bytes: Vec::new(alloc),
+            room,
+            failures: 0,
+        }
+    }
+
+    /// A sink whose memory is taken before the first write.
+    fn with_room(alloc: Global, room: usize) -> Result<Page, AllocError> {
+        Ok(Page {
+            bytes: Vec::with_capacity(alloc, room)?,
+            room,
+            failures: 0,
+        })
+    }
+}
+
+impl Sink for Page {
+    ghost writing = { λ page. record { taken = None; failures = page.failures } };
+
+    fn write(&mut self, bytes: &[u8]) -> Result<usize, Failed> {
+        if self.bytes.len() < self.room && self.bytes.extend_from_slice(bytes).is_ok() {
+            return Ok(bytes.len());
+        }
+        match self.failures.checked_add(1) {
+            Some(failures) => {
+                self.failures = failures;
+                Err(Failed)
+            }
+            None => Ok(bytes.len()),
+        }
+    }
+}
+
+/// A reader of some bytes, of which the read behind them fails.
+#[derive(Drop)]
+struct TornReader<'a> {
+    left: &'a [u8],
+}
+
+impl Read for TornReader<'_> {
+    fn read(&mut self, buffer: &mut [u8]) -> io::Result<usize> {
+        if self.left.is_empty() {
+            return Err(Error::from(ErrorKind::Other));
+        }
+        let count = self.left.len().min(buffer.len()).min(7);
+        buffer[..count].copy_from_slice(&self.left[..count]);
+        self.left = &self.left[count..];
+        Ok(count)
+    }
+}
+
+/// What is written and told, and the status.
+type WantedAnswer<'a> = (&'a str, &'a str, u8);
+
+/// Whether this was written and told, with this status.
+fn has_told(out: &Page, err: &Page, status: u8, wanted: WantedAnswer<'_>) -> bool {
+    let (text, told, ended) = wanted;
+    out.bytes.as_slice() == text.as_bytes()
+        && err.bytes.as_slice() == told.as_bytes()
+        && status == ended
+}
+
+/// The part of a dump as the file of a number, by a binding, if one is written.
+fn part_by(
+    alloc: Global,
+    binding: &[u8],
+    number: u32,
+    listing: bool,
+    dump: &str,
+) -> Option<Vec<u8>> {
+    let mut out = Page::new(alloc, 1_000_000);
+    let mut err = Page::new(alloc, 1000);
+    let status = write_part_of(
+        alloc,
+        PartOptions { number, listing },
+        &mut Bytes::new(binding),
+        &mut Bytes::new(dump.as_bytes()),
+        &mut out,
+        &mut err,
+    );
+    if status == 0 && err.bytes.is_empty() {
+        Some(out.bytes)
+    } else {
+        None
+    }
+}
+
+/// The part with marks of a dump as the file of a number.
+fn part_of(alloc: Global, number: u32, dump: &str) -> Option<Vec<u8>> {
+    part_by(alloc, BINDING, number, true, dump)
+}
+
+/// The name of an input by its place.
+fn name_by(place: usize) -> &'static [u8] {
+    match place {
+        0 => b"a.part",
+        1 => b"b.part",
+        _ => b"c.part",
+    }
+}
+
+/// The inputs that some bytes are.
+fn inputs_of<'a>(alloc: Global, parts: &'a [&'a [u8]]) -> Option<Vec<NamedPart<'a, Bytes<'a>>>> {
+    let mut inputs = Vec::new(alloc);
+    for bytes in parts {
+        let name = name_by(inputs.len());
+        let part = Bytes::new(*bytes);
+        inputs.push(NamedPart { name, part }).ok()?;
+    }
+    Some(inputs)
+}
+
+/// One part of some parts, if one is written.
+fn joined(alloc: Global, parts: &[&[u8]]) -> Option<Vec<u8>> {
+    let mut inputs = inputs_of(alloc, parts)?;
+    let mut out = Page::new(alloc, 1_000_000);
+    let mut err = Page::new(alloc, 1000);
+    let status = write_joined(alloc, inputs.as_mut_slice(), &mut out, &mut err);
+    if status == 0 && err.bytes.is_empty() {
+        Some(out.bytes)
+    } else {
+        None
+    }
+}
+
+/// Whether this is written, to a page with so much room, and told of the whole by some inputs.
+fn answers<P: Source>(
+    alloc: Global,
+    inputs: &mut [NamedPart<'_, P>],
+    files: Option<u64>,
+    listing: bool,
+    room: usize,
+    wanted: WantedAnswer<'_>,
+) -> bool {
+    let mut out = Page::new(alloc, room);
+    let mut err = Page::new(alloc, 1000);
+    let status = if listing {
+        list_whole(alloc, inputs, files, &mut out, &mut err)
+    } else {
+        tell_whole(alloc, inputs, files, &mut out, &mut err)
+    };
+    has_told(&out, &err, status, wanted)
+}
+
+/// Whether this is written and told of the whole by some parts.
+fn tells(
+    alloc: Global,
+    parts: &[&[u8]],
+    files: Option<u64>,
+    listing: bool,
+    wanted: WantedAnswer<'_>,
+) -> Option<bool> {
+    let mut inputs = inputs_of(alloc, parts)?;
+    Some(answers(alloc, inputs.as_mut_slice(), files, listing, 1000, wanted))
+}
+
+/// Whether the part of a dump, without marks, is short, and begins as a part does.
+fn writes_a_short_part(alloc: Global) -> Option<bool> {
+    let part = part_by(alloc, BINDING, 0, false, FIRST)?;
+    Some(part.as_slice().starts_with(b"vmepart1") && part.len() < 4096)
+}
+
+#[test]
+fn a_part_is_short(rt: HostRuntime) {
+    assert!(rt; writes_a_short_part(rt.alloc()) == Some(true));
+}
+
+/// Whether the parts of the files, in whatever order, say the verdict and the listing of the whole.
+fn tells_the_whole(alloc: Global) -> Option<bool> {
+    let first = part_of(alloc, 0, FIRST)?;
+    let second = part_of(alloc, 1, SECOND)?;
+    let third = part_of(alloc, 2, THIRD)?;
+    let parts = [third.as_slice(), first.as_slice(), second.as_slice()];
+    let verdict = ("conforming\n", "", 0);
+    let listing = (LISTING, "", 0);
+    Some(
+        tells(alloc, &parts, None, false, verdict)?
+            && tells(alloc, &parts, Some(3), false, verdict)?
+            && tells(alloc, &parts, None, true, listing)?,
+    )
+}
+
+#[test]
+fn the_verdict_and_the_listing_of_the_whole(rt: HostRuntime) {
+    assert!(rt; tells_the_whole(rt.alloc()) == Some(true));
+}
+
+/// Whether parts that were joined with others, one of them twice, say the listing of the whole.
+fn tells_by_joins(alloc: Global) -> Option<bool> {
+    let first = part_of(alloc, 0, FIRST)?;
+    let second = part_of(alloc, 1, SECOND)?;
+    let third = part_of(alloc, 2, THIRD)?;
+    let some = joined(alloc, &[third.as_slice(), first.as_slice()])?;
+    let all = joined(
+        alloc,
+        &[second.as_slice(), some.as_slice(), third.as_slice()],
+    )?;
+    let parts = [all.as_slice(), second.as_slice()];
+    tells(alloc, &parts, Some(3), true, (LISTING, "", 0))
+}
+
+#[test]
+fn joins_of_joins(rt: HostRuntime) {
+    assert!(rt; tells_by_joins(rt.alloc()) == Some(true));
+}
+
+/// Whether it is told which file is missing, and which is too many.
+fn tells_missing_files(alloc: Global) -> Option<bool> {
+    let first = part_of(alloc, 0, FIRST)?;
+    let third = part_of(alloc, 2, THIRD)?;
+    let parts = [first.as_slice(), third.as_slice()];
+    let missing = ("", "vmecheck: part 1 missing\n", 3);
+    let beyond = ("", "vmecheck: part 2 beyond the files\n", 3);
+    Some(
+        tells(alloc, &parts, None, false, missing)?
+            && tells(alloc, &parts, None, true, missing)?
+            && tells(alloc, &parts, Some(2), false, beyond)?
+            && tells(alloc, &[first.as_slice()], Some(2), false, missing)?,
+    )
+}
+
+#[test]
+fn a_missing_file_is_told(rt: HostRuntime) {
+    assert!(rt; tells_missing_files(rt.alloc()) == Some(true));
+}
+
+/// Whether a file that doesn't follow those before it is told, and two that differ.
+fn tells_torn_files(alloc: Global) -> Option<bool> {
+    let first = part_of(alloc, 0, FIRST)?;
+    let second = part_of(alloc, 1, SECOND)?;
+    let other = part_of(alloc, 2, OTHER_THIRD)?;
+    let early = part_of(alloc, 2, SECOND)?;
+    let torn = ("", "vmecheck: part 2 torn\n", 3);
+    let differs = ("", "vmecheck: part 2 differs\n", 3);
+    Some(
+        tells(
+            alloc,
+            &[first.as_slice(), second.as_slice(), other.as_slice()],
+            None,
+            false,
+            torn,
+        )? && tells(
+            alloc,
+            &[first.as_slice(), second.as_slice(), early.as_slice()],
+            None,
+            true,
+            torn,
+        )? && tells(
+            alloc,
+            &[first.as_slice(), other.as_slice(), early.as_slice()],
+            None,
+            false,
+            differs,
+        )?,
+    )
+}
+
+#[test]
+fn a_torn_file_is_told(rt: HostRuntime) {
+    assert!(rt; tells_torn_files(rt.alloc()) == Some(true));
+}
+
+/// Whether parts of different backplanes, and with marks and without, are refused by their names.
+fn refuses_others(alloc: Global) -> Option<bool> {
+    let first = part_of(alloc, 0, FIRST)?;
+    let other = part_by(alloc, OTHER_BINDING, 1, true, SECOND)?;
+    let bare = part_by(alloc, BINDING, 1, false, SECOND)?;
+    let backplane = ("", "vmecheck: b.part: of another backplane\n", 3);
+    let without = ("", "vmecheck: b.part: without marks\n", 3);
+    let with = ("", "vmecheck: b.part: with marks\n", 3);
+    let unmarked = ("", "vmecheck: parts without marks\n", 3);
+    let alone = part_by(alloc, BINDING, 0, false, FIRST)?;
+    Some(
+        tells(
+            alloc,
+            &[first.as_slice(), other.as_slice()],
+            None,
+            false,
+            backplane,
+        )? && tells(
+            alloc,
+            &[first.as_slice(), bare.as_slice()],
+            None,
+            false,
+            without,
+        )? && tells(
+            alloc,
+            &[bare.as_slice(), first.as_slice()],
+            None,
+            false,
+            with,
+        )? && tells(alloc, &[alone.as_slice()], None, true, unmarked)?,
+    )
+}
+
+#[test]
+fn other_parts_are_refused(rt: HostRuntime) {
+    assert!(rt; refuses_others(rt.alloc()) == Some(true));
+}
+
+/// Whether a part that was cut short or changed is refused by its name.
+fn refuses_damaged(alloc: Global) -> Option<bool> {
+    let first = part_of(alloc, 0, FIRST)?;
+    let mut changed = part_of(alloc, 1, SECOND)?;
+    let cut = changed.as_slice().get(..100)?;
+    let damaged = ("", "vmecheck: b.part: damaged\n", 3);
+    let none = ("", "vmecheck: b.part: no part\n", 3);
+    let is_cut = tells(alloc, &[first.as_slice(), cut], None, false, damaged)?;
+    let is_none = tells(alloc, &[first.as_slice(), b"vmecheck"], None, false, none)?;
+    *changed.as_mut_slice().get_mut(60)? ^= 1;
+    let is_changed = tells(
+        alloc,
+        &[first.as_slice(), changed.as_slice()],
+        None,
+        false,
+        damaged,
+    )?;
+    Some(is_cut && is_none && is_changed)
+}
+
+#[test]
+fn damaged_parts_are_refused(rt: HostRuntime) {
+    assert!(rt; refuses_damaged(rt.alloc()) == Some(true));
+}
+
+/// Whether it is told that a part can't be read behind this place.
+fn tells_torn_read(alloc: Global, part: &[u8], place: usize) -> bool {
+    let left = part.get(..place).unwrap_or_default();
+    let mut inputs = [NamedPart {
+        name: b"a.part",
+        part: Io::new(TornReader { left }),
+    }];
+    let wanted = ("", "vmecheck: a.part: cannot read\n", 3);
+    answers(alloc, &mut inputs, None, false, 1000, wanted)
+}
+
+/// Behind how many bytes a read fails.
+static PLACES: [usize; 5] = [0, 1, 8, 100, 1000];
+
+/// Whether it is told that a part can't be read behind each of these places, and behind its end.
+fn tells_torn_reads(alloc: Global) -> Option<bool> {
+    let part = part_of(alloc, 0, FIRST)?;
+    let bytes = part.as_slice();
+    for place in PLACES.iter() {
+        if !tells_torn_read(alloc, bytes, *place) {
+            return Some(false);
+        }
+    }
+    Some(tells_torn_read(alloc, bytes, bytes.len()))
+}
+
+#[test]
+fn a_read_fails_in_mid_stream(rt: HostRuntime) {
+    assert!(rt; tells_torn_reads(rt.alloc()) == Some(true));
+}
+
+/// Whether it is told that the verdict can't be written.
+fn tells_full_pages(alloc: Global) -> Option<bool> {
+    let first = part_of(alloc, 0, FIRST)?;
+    let parts = [first.as_slice()];
+    let mut inputs = inputs_of(alloc, &parts)?;
+    let wanted = ("", "vmecheck: cannot write\n", 5);
+    Some(answers(alloc, inputs.as_mut_slice(), None, false, 0, wanted))
+}
+
+#[test]
+fn full_pages(rt: HostRuntime) {
+    assert!(rt; tells_full_pages(rt.alloc()) == Some(true));
+}
+
+/// Run with each allocation refused in turn, this shows that the answer is then want of memory.
+#[test]
+fn want_of_memory_is_told(rt: HostRuntime) {
+    let alloc = rt.alloc();
+    let (Ok(mut out), Ok(mut err)) = (Page::with_room(alloc, 100_000), Page::with_room(alloc, 100))
+    else {
+        return;
+    };
+    let options = PartOptions {
+        number: 1,
+        listing: true,
+    };
+    let ended = write_part_of(
+        alloc,
+        options,
+        &mut Bytes::new(BINDING),
+        &mut Bytes::new(SECOND.as_bytes()),
+        &mut out,
+        &mut err,
+    );
+    let is_told = if ended == 4 {
+        has_told(&out, &err, ended, ("", "vmecheck: out of memory\n", 4))
+    } else {
+        ended == 0 && out.bytes.as_slice().starts_with(b"vmepart1") && err.bytes.is_empty()
+    };
+    assert!(rt; is_told);
+}

@@ -1,0 +1,2 @@
+mod MarkedWays
+mod MarkedFiles

@@ -1,0 +1,169 @@
+-- The marks of the files of a recording, shown from the first on.
+use Rattle.std.proofs.Common.{◌≡◌, ℕ, ◌+◌, ◌<◌, ◌≤◌, ◌^◌, Bool, true, List, [], ◌∷◌, ◌++◌, length, length-append, map}
+use Rattle.std.proofs.Common.{take, drop}
+use Rattle.std.proofs.Common.{get_or, refl, ap, sym, subst, ◌∙◌, arith, Option, Some, None}
+use Rattle.std.specs.Prelude.{Err, Ok, false}
+use Rattle.std.proofs.lemmas.List.{drop_all, length-map}
+use Rattle.std.proofs.lemmas.List.Elements.{All-contains, All-head, All-tail}
+use Rattle.vme_trace.specs.Blocks.{joined_steps}
+use Rattle.vme_trace.specs.Levels.{Levels}
+use Rattle.vme_trace.specs.Trace.{Trace, levels_after}
+use Rattle.vme_trace.specs.WellFormed.{malformed_step}
+use Rattle.vme_trace.specs.declared.block.Block.{Block}
+use Rattle.vme_trace.specs.declared.step.Step.{Step}
+use Rattle.vme_summary.specs.AllShown.{all_marks}
+use Rattle.vme_summary.specs.Extents.{joined_extent}
+use Rattle.vme_summary.specs.Joins.{joined_trace}
+use Rattle.vme_summary.specs.declared.extent.Extent.{Extent}
+use Rattle.vme_summary.proofs.Chains.{steps-append}
+use Rattle.vme_summary.proofs.Extents.{join_meets, left_by_steps}
+use Rattle.vme_summary.proofs.Whole.{joined_sound}
+use Rattle.vme_part_format.specs.Tables.{PartValue, SegmentValue, last_of, segment_value}
+use Rattle.vme_part_format.specs.declared.segment.Segment.{Segment}
+use Rattle.vme_parts.specs.Covering.{AreNext}
+use Rattle.vme_parts.specs.Files.{AllStand, AreFiles, files_of}
+use Rattle.vme_part_listing.specs.Marks.{HasMarks, ListsFiles, ShowsFiles, marks_of_ways}
+use Rattle.vme_parts.specs.Progress.{HasJudgedFiles, TellsAll}
+use Rattle.vme_parts.specs.Stands.{SegmentStandsFor, extent_of}
+use Rattle.vme_part_listing.specs.Listings.{ListsOfWhole}
+use Rattle.vme_parts.specs.Telling.{JudgesFiles}
+use Rattle.vme_part_listing.specs.declared.answers.ToldListing.{ToldListing}
+use Rattle.vme_part_listing.specs.declared.answers.ToldListing.TheVariants as listed
+use Rattle.vme_parts.specs.declared.answers.Told.{Told}
+use Rattle.vme_parts.specs.declared.judging.Judging.{Judging}
+use Rattle.vme_part_listing.specs.declared.listing.Ways.{Ways}
+use Rattle.vme_part_listing.proofs.MarkedWays.{opened_so}
+use Rattle.vme_parts.proofs.Passing.{tells_all}
+use Rattle.vme_parts.proofs.ToldFiles.{contained_at, drop_value}
+use Rattle.vme_parts.proofs.WholeFiles.{HasComeTo, come_first, come_on, files_more, found_all}
+
+-- what ways show past a segment, whatever stood before
+abbrev pub PastMarks : Ways → Ways → ℕ → SegmentValue → Type 0
+PastMarks before after steps s =
+    (o v : Levels) (x y : List Step) → v ≡ levels_after o x → steps ≡ length x → length x + length y < 2 ^ 64
+    → HasMarks before o x → TellsAll true s v y → HasMarks after o (x ++ y)
+
+-- judging and the ways have come past the first of some segments, up to those that are left
+pub record MarksTo (j : Judging) (w : Ways) (s : SegmentValue) (ss left : List SegmentValue) : Type 0 where
+  pub come : (files : List Block) (end : ℕ) → AreFiles files → AllStand true files (s ∷ ss) → AreNext 0 (s ∷ ss) end
+      → (n : ℕ) × HasComeTo j s.opening files n × AreNext n left end × HasMarks w s.opening
+      (joined_steps (take n files))
+
+pub marks_first : (j : Judging) (begun w : Ways) (s : SegmentValue) (ss : List SegmentValue) → j.steps < 2 ^ 64
+    → ((listing : Bool) (bs : List Block) → SegmentStandsFor listing s bs → HasJudgedFiles j (extent_of s) bs)
+    → HasMarks begun s.opening [] → PastMarks begun w 0 s → MarksTo j w s ss ss
+marks_first j begun w s ss small judged none past =
+    record {
+      come = λ files end are stand next.
+          let P : SegmentValue → Type 0 = λ s. SegmentStandsFor true s (files_of files s) in
+          let p = All-head P s ss stand in
+          let count = (judged true (files_of files s) p).counted in
+          let own = past s.opening s.opening [] (joined_steps (files_of files s)) refl refl
+          (omega (arith, small, count))
+          none (tells_all true s (files_of files s) p) in (
+            last_of s.first s.order + 1,
+            come_first j s true files next.0 p judged,
+            next.1,
+            subst (λ (bs : List Block). HasMarks w s.opening (joined_steps bs)) (files_more files 0 s next.0) own,
+          );
+    }
+
+module _ (j : Judging) (w : Ways) (s : SegmentValue) (xs : List Segment) (i : ℕ) (x : Segment) (h : i < length xs)
+    (e : x ≡ get_or xs i x) (was : MarksTo j w s (map segment_value xs) (drop i (map segment_value xs))) where
+  pub marks_on : (r : Judging) (v : Ways) → r.steps < 2 ^ 64
+      → ((listing : Bool) (e : Extent) (bs ys : List Block) → HasJudgedFiles j e bs
+      → SegmentStandsFor listing (segment_value x) ys → x.first ≡ e.last + 1
+      → HasJudgedFiles r (joined_extent e (extent_of (segment_value x))) (bs ++ ys))
+      → PastMarks w v j.steps (segment_value x)
+      → MarksTo r v s (map segment_value xs) (drop (i + 1) (map segment_value xs))
+  marks_on r v small judged past =
+      record {
+        come = λ files end are stand next.
+            let P : SegmentValue → Type 0 = λ s. SegmentStandsFor true s (files_of files s) in
+            let c = was.come files end are stand next in
+            let n = c.0 in
+            let to = subst (λ (left : List SegmentValue). AreNext n left end) (drop_value xs i x h e) c.2 in
+            let t = segment_value x in
+            let p = All-contains P (map segment_value xs) t (All-tail P s (map segment_value xs) stand)
+            (contained_at xs i x h e) in
+            let bs = take n files in
+            let ys = files_of files t in
+            let f = c.1.extent in
+            let both = judged true f bs ys c.1.judged p (to.0 ∙ sym c.1.last) in
+            let meets = join_meets f (extent_of t) bs ys c.1.judged.extent p.extent both.extent.join in
+            let opens : t.opening ≡ levels_after s.opening (joined_steps bs) =
+            meets.opened
+            ∙ (sym (left_by_steps f bs c.1.judged.extent)
+            ∙ ap (λ (v : Levels). levels_after v (joined_steps bs)) (sym c.1.opened)) in
+            let fits : length (joined_steps bs) + length (joined_steps ys) < 2 ^ 64 =
+            omega (
+              arith,
+              small,
+              both.counted,
+              ap (λ (z : List Step). length z) (steps-append bs ys),
+              length-append (joined_steps bs) (joined_steps ys),
+            ) in
+            let own = past s.opening t.opening (joined_steps bs) (joined_steps ys) opens c.1.judged.counted fits c.3
+            (tells_all true t ys p) in (
+              last_of x.first x.order + 1,
+              come_on j r s.opening t true files n to.0 p judged c.1,
+              to.1,
+              subst (λ (z : List Block). HasMarks v s.opening (joined_steps z)) (files_more files n t to.0)
+                  (subst (HasMarks v s.opening) (sym (steps-append bs ys)) own),
+            );
+      }
+
+steps_of_recording : (bs : List Block) (t : Trace) → joined_trace bs ≡ Some t → joined_steps bs ≡ t.steps
+steps_of_recording [] t is = absurd (cc)
+steps_of_recording (b ∷ bs) t is =
+    let whole : record { opening = b.opening; steps = joined_steps (b ∷ bs) } ≡ t = cc in
+    ap (λ (k : Trace). k.steps) whole
+
+-- the marks of all of them are those of the recording
+pub marks_whole : (j : Judging) (w : Ways) (s : SegmentValue) (xs : List Segment) (i : ℕ) → length xs ≤ i
+    → ((t : Trace) → malformed_step t ≡ None → t.opening.slots ≤ 21 → HasMarks w t.opening t.steps
+    → marks_of_ways w ≡ all_marks t)
+    → MarksTo j w s (map segment_value xs) (drop i (map segment_value xs))
+    → ShowsFiles s.opening (s ∷ map segment_value xs) (marks_of_ways w)
+marks_whole j w s xs i h law was files end are stand next t is few =
+    let c = was.come files end are stand next in
+    let none : drop i (map segment_value xs) ≡ []
+    = drop_all i (map segment_value xs) (omega (arith, h, length-map xs segment_value)) in
+    let at : c.0 ≡ end = sym (subst (λ (left : List SegmentValue). AreNext c.0 left end) none c.2) in
+    let bs = take end files in
+    let judged : HasJudgedFiles j c.1.extent bs =
+    subst (λ n. HasJudgedFiles j c.1.extent (take n files)) at c.1.judged in
+    let opens : s.opening ≡ t.opening = opened_so j c.1.extent bs t s.opening judged c.1.opened is in
+    let steps : joined_steps bs ≡ t.steps = steps_of_recording bs t is in
+    let marks : HasMarks w s.opening (joined_steps bs)
+    = subst (λ n. HasMarks w s.opening (joined_steps (take n files))) at c.3 in (
+      law t (joined_sound bs t judged.extent.join judged.extent.sound is) few
+          (subst (λ (v : Levels). HasMarks w v t.steps) opens (subst (HasMarks w s.opening) steps marks)),
+      opens,
+    )
+
+-- what is listed of what judging came to
+pub listing_told : (p : PartValue) (count : Option ℕ) (j : Judging) (what : ToldListing) → p.listing ≡ true
+    → JudgesFiles p count (Ok j) → ListsFiles j p.segments what → ListsOfWhole p count what
+listing_told p count j (listed.Listing l) marked judges lists files n are part has =
+    let r = judges files n are part has in (
+      r.0,
+      marked,
+      (
+        r.2.1.extent.join,
+        λ t is.
+            lists files n are (subst (λ (b : Bool). AllStand b files p.segments) marked part.stands) r.1 t is
+            (found_all j r.2.0 (take n files) t r.2.1 r.2.2 is),
+      ),
+    )
+listing_told p count j listed.TooLong marked judges lists files n are part has =
+    let r = judges files n are part has in (r.0, marked)
+listing_told p count j listed.Unmarked marked judges lists files n are part has = absurd lists
+listing_told p count j (listed.Refused what) marked judges lists files n are part has = absurd lists
+
+pub unmarked_told : (p : PartValue) (count : Option ℕ) → p.listing ≡ false → ListsOfWhole p count listed.Unmarked
+unmarked_told p count e files n are part has = e
+
+pub refused_told : (p : PartValue) (count : Option ℕ) (what : Told) → JudgesFiles p count (Err what)
+    → ListsOfWhole p count (listed.Refused what)
+refused_told p count what judges files n are part has = judges files n are part has

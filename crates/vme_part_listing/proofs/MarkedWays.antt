@@ -1,0 +1,73 @@
+-- The marks that ways through segments show.
+use Rattle.std.proofs.Common.{◌≡◌, ℕ, ◌+◌, ◌<◌, ◌^◌, Bool, true, List, [], ◌∷◌, ◌++◌, length, map}
+use Rattle.std.proofs.Common.{ap}
+use Rattle.std.proofs.Common.{sym, ◌∙◌, Option, Some, None}
+use Rattle.vme_trace.specs.Blocks.{joined_steps}
+use Rattle.vme_trace.specs.Levels.{Levels}
+use Rattle.vme_trace.specs.Judged.{judged_spans}
+use Rattle.vme_trace.specs.Trace.{Trace, levels_after}
+use Rattle.vme_trace.specs.declared.block.Block.{Block}
+use Rattle.vme_trace.specs.declared.step.Step.{Step}
+use Rattle.vme_trace.specs.declared.verdict.Break.{Break}
+use Rattle.vme_listing.specs.Listed.{Listed, in_newest_version}
+use Rattle.vme_listing.specs.Recorded.{listing_of, recorded_rows}
+use Rattle.vme_monitor.specs.Outcome.{Outcome, followed}
+use Rattle.vme_monitor.specs.Whole.{has_span}
+use Rattle.vme_monitor.specs.declared.mark.Mark.{Mark}
+use Rattle.vme_summary.specs.AllShown.{all_marks}
+use Rattle.vme_summary.specs.Joins.{joined_trace}
+use Rattle.vme_summary.specs.MarkedRows.{listed}
+use Rattle.vme_summary.specs.Summaries.{first_break}
+use Rattle.vme_summary.proofs.MarkedListing.{marked_is_listed}
+use Rattle.vme_part_format.specs.Tables.{TableValue}
+use Rattle.vme_part_tables.specs.Runs.{TellsRun, TellsRuns, mark_of}
+use Rattle.vme_part_tables.specs.Ways.{WayOutcome, later_mark, outcome_in}
+use Rattle.vme_part_tables.proofs.Joining.{marks_of_both}
+use Rattle.vme_part_listing.specs.Marks.{HasWay}
+use Rattle.vme_parts.specs.Progress.{HasJudgedFiles}
+use Rattle.vme_parts.specs.declared.judging.Judging.{Judging}
+use Rattle.vme_part_listing.specs.declared.listing.Way.{Way}
+use Rattle.vme_summary.specs.declared.extent.Extent.{Extent}
+use Rattle.vme_parts.proofs.Runs.{IsRun}
+
+-- a monitor's marks past some steps, and then past a segment
+pub past_way : {P : Type 0} (run : P → Levels → List Step → Outcome P) → IsRun run → (begin : Levels → P)
+    (place : P → ℕ) (count : ℕ) (t : TableValue) (w r : Way) (o v : Levels) (x y : List Step) (steps : ℕ)
+    → r.memory ≡ (outcome_in t w.memory).leaving
+    → r.marks.items ≡ w.marks.items ++ map (later_mark steps) (outcome_in t w.memory).marks → v ≡ levels_after o x
+    → steps ≡ length x → length x + length y < 2 ^ 64 → HasWay run begin place w o x
+    → TellsRuns true count place t (λ p. run p v y) → HasWay run begin place r o (x ++ y)
+past_way {P} run law begin place count t w r o v x y steps memory marks opens counted fits was tells =
+    let p = (run (begin o) o x).leaving in
+    let a : WayOutcome = record { leaving = w.memory; event = None; marks = w.marks.items } in
+    let b : TellsRun true place (outcome_in t w.memory) (run p v y) = rw was.leaving (tells.tells p) in
+    let both = marks_of_both (length x) (length y) fits place true a (outcome_in t w.memory) (run (begin o) o x)
+    (run p v y) was.marks b.marks (law.within p v y) in
+    let whole : run (begin o) o (x ++ y) ≡ followed (length x) (run (begin o) o x) (run p v y) =
+    rw opens (law.joined (begin o) o x y) in
+    let shown : r.marks.items ≡ w.marks.items ++ map (later_mark (length x)) (outcome_in t w.memory).marks =
+    marks ∙ ap (λ n. w.marks.items ++ map (later_mark n) (outcome_in t w.memory).marks) counted in
+    record {
+      leaving = memory ∙ (b.leaving ∙ ap (λ (q : Outcome P). place q.leaving) (sym whole));
+      marks = ap (map mark_of) shown ∙ (both ∙ ap (λ (q : Outcome P). q.marks) (sym whole));
+    }
+
+-- the opening of the recording that judged files make
+pub opened_so : (j : Judging) (e : Extent) (bs : List Block) (t : Trace) (o : Levels) → HasJudgedFiles j e bs → o
+    ≡ e.opening
+    → joined_trace bs ≡ Some t → o ≡ t.opening
+opened_so j e [] t o was same is = absurd (cc)
+opened_so j e (b ∷ bs) t o was same is =
+    let opens : Some b.opening ≡ Some e.opening = was.extent.opening in
+    let own : b.opening ≡ e.opening = cc in
+    let whole : record { opening = b.opening; steps = joined_steps (b ∷ bs) } ≡ t = cc in
+    same ∙ (sym own ∙ ap (λ (k : Trace). k.opening) whole)
+
+-- the listing by what was found and shown is that of the recording
+pub listed_so : (t : Trace) (judged : Bool) (event : Option Break) (o : Levels) (ms : List Mark) (l : Listed)
+    → judged ≡ has_span (judged_spans t) → event ≡ first_break t → o ≡ t.opening → ms ≡ all_marks t
+    → l ≡ in_newest_version (listed o judged event ms) → listing_of t ≡ l
+listed_so t judged event o ms l started first opens seen is =
+    let whole = marked_is_listed t in
+    let rows : recorded_rows t ≡ listed o judged event ms = cc in
+    ap in_newest_version rows ∙ sym is

@@ -1,0 +1,25 @@
+use Rattle.std.proofs.Common.{◌∷◌, Option, ap, map, subst, ◌∙◌}
+use Rattle.std.specs.Global.{Vec}
+use Rattle.std.specs.Prelude.{IfSome}
+use Rattle.vme_listing.specs.Listed.{in_newest_version}
+use Rattle.vme_monitor.specs.declared.mark.Mark.{Mark}
+use Rattle.vme_part_format.specs.Tables.{segment_value}
+use Rattle.vme_summary.specs.MarkedRows.{listed}
+use Rattle.vme_part_listing.specs.Marks.{ShowsFiles}
+use Rattle.vme_part_listing.proofs.MarkedWays.{listed_so}
+use Rattle.vme_part_listing.proofs.listing.listing_from.Goals as goal
+
+pub returns : goal.returns
+returns c =
+    let o = c.args.first.now.opening in
+    let ss = segment_value c.args.first.now ∷ map segment_value c.args.rest.now in
+    let judged = c.has_judged-has_judged.result in
+    let event = c.in-Some.event in
+    let shows : ShowsFiles o ss c.in-Some-2.marks.items =
+    subst (λ (found : Option (Vec Mark)). IfSome found (λ v. ShowsFiles o ss v.items)) c.in-Some-2.is
+    c.in_ok-marks.ensures in
+    λ files end are stand next t is all.
+    let shown = shows files end are stand next t is all.few in
+    listed_so t judged event o c.in-Some-2.marks.items c.in_ok-listing.listing
+    (c.has_judged-has_judged.ensures t all) (c.in-Some.ensures ∙ c.first_break.ensures t all) shown.1 shown.0
+    (c.in_ok-listing.ensures ∙ ap (λ ms. in_newest_version (listed o judged event ms)) c.as_slice.ensures.value)

@@ -1,0 +1,80 @@
+-- The marks of the monitors on their ways through segments.
+use Rattle.std.specs.Prelude.{◌≡◌, ℕ, ◌<◌, ◌≤◌, List, map, take, Some, true}
+use Rattle.vme_trace.specs.Levels.{Levels}
+use Rattle.vme_trace.specs.Trace.{Trace}
+use Rattle.vme_trace.specs.declared.block.Block.{Block}
+use Rattle.vme_trace.specs.declared.step.Step.{Step}
+use Rattle.vme_monitor.specs.BothSpec.{merged}
+use Rattle.vme_monitor.specs.Outcome.{Outcome}
+use Rattle.vme_monitor.specs.OverStretches.{phase_place, start_in}
+use Rattle.vme_monitor.specs.KnownSpec.{known_begin, nil_place}
+use Rattle.vme_monitor.specs.declared.mark.Mark.{Mark}
+use Rattle.vme_dtb.specs.Machine.{dtb_begin}
+use Rattle.vme_dtb.specs.MemoryPlaces.{memory_place}
+use Rattle.vme_stability.specs.HoldingPlaces.{holding_place}
+use Rattle.vme_stability.specs.StabilitySpec.{stability_begin}
+use Rattle.vme_chains.specs.GrantMemory.{arbitration_place}
+use Rattle.vme_chains.specs.GrantSpec.{grant_begin}
+use Rattle.vme_chains.specs.AcknowledgeSpec.{acknowledge_begin, acknowledgement_place}
+use Rattle.vme_listing.specs.Recorded.{listing_of}
+use Rattle.vme_summary.specs.AllShown.{all_marks}
+use Rattle.vme_summary.specs.Joins.{joined_trace}
+use Rattle.vme_summary.specs.Runs.{known_run, handshake_run, stability_run, grant_run, acknowledge_run}
+use Rattle.vme_part_format.specs.Tables.{SegmentValue}
+use Rattle.vme_part_tables.specs.Runs.{mark_of}
+use Rattle.vme_part_listing.specs.declared.answers.ToldListing.{ToldListing}
+use Rattle.vme_part_listing.specs.declared.answers.ToldListing.TheVariants as listed
+use Rattle.vme_parts.specs.declared.judging.Judging.{Judging}
+use Rattle.vme_part_listing.specs.declared.listing.Way.{Way}
+use Rattle.vme_part_listing.specs.declared.listing.Ways.{Ways}
+use Rattle.vme_parts.specs.Covering.{AreNext}
+use Rattle.vme_parts.specs.Files.{AllStand, AreFiles}
+use Rattle.vme_parts.specs.Progress.{FoundAll}
+
+-- a monitor that began at an opening is, after some steps, in this memory, and has shown these marks
+pub record HasWay {P : Type 0} (run : P → Levels → List Step → Outcome P) (begin : Levels → P) (place : P → ℕ) (w : Way)
+    (o : Levels) (x : List Step) : Type 0 where
+  pub leaving : w.memory ≡ place (run (begin o) o x).leaving
+  pub marks : map mark_of w.marks.items ≡ (run (begin o) o x).marks
+
+-- and so for each monitor
+pub record HasMarks (w : Ways) (o : Levels) (x : List Step) : Type 0 where
+  pub known : HasWay known_run (start_in known_begin) (phase_place nil_place) w.known o x
+  pub handshake : HasWay handshake_run (start_in dtb_begin) (phase_place memory_place) w.handshake o x
+  pub stability : HasWay stability_run (start_in stability_begin) (phase_place holding_place) w.stability o x
+  pub grant : HasWay grant_run (start_in grant_begin) (phase_place arbitration_place) w.grant o x
+  pub acknowledge : HasWay acknowledge_run (start_in acknowledge_begin)
+      (phase_place acknowledgement_place) w.acknowledge o
+      x
+
+-- the memories are memories
+pub record FitWays (w : Ways) : Type 0 where
+  pub known : w.known.memory < 4
+  pub handshake : w.handshake.memory < 147
+  pub stability : w.stability.memory < 13
+  pub grant : w.grant.memory < 35
+  pub acknowledge : w.acknowledge.memory < 11
+
+-- the marks of all, in order
+abbrev pub marks_of_ways : Ways → List Mark
+marks_of_ways w =
+    merged (map mark_of w.known.marks.items)
+    (merged (map mark_of w.handshake.marks.items)
+    (merged (map mark_of w.stability.marks.items)
+    (merged (map mark_of w.grant.marks.items) (map mark_of w.acknowledge.marks.items))))
+
+-- these are the marks of the recording that files make, and this is its opening, whatever files segments stand for
+abbrev pub ShowsFiles : Levels → List SegmentValue → List Mark → Type 0
+ShowsFiles o ss ms =
+    (files : List Block) (end : ℕ) → AreFiles files → AllStand true files ss → AreNext 0 ss end
+    → (t : Trace) → joined_trace (take end files) ≡ Some t → t.opening.slots ≤ 21
+    → (ms ≡ all_marks t) × (o ≡ t.opening)
+
+-- this is listed of it, where judging has come past all of them
+abbrev pub ListsFiles : Judging → List SegmentValue → ToldListing → Type 0
+ListsFiles j ss (listed.Listing l) =
+    (files : List Block) (end : ℕ) → AreFiles files → AllStand true files ss → AreNext 0 ss end
+    → (t : Trace) → joined_trace (take end files) ≡ Some t → FoundAll j.states t → listing_of t ≡ l
+ListsFiles j ss (listed.Refused what) = ⊥
+ListsFiles j ss listed.Unmarked = ⊥
+ListsFiles j ss listed.TooLong = Unit {0}

@@ -1,0 +1,282 @@
+//! The listing that a part with marks says.
+
+ghost use Rattle.std.specs.Prelude.{◌≡◌, ◌+◌, ◌<◌, ◌++◌, ◌∷◌, [], ◌^◌, All, IfOk, IfSome, List, OnOk, length, map};
+ghost use Rattle.std.specs.Prelude.{true};
+ghost use Rattle.std.specs.Option.{option_map};
+ghost use Rattle.vme_trace.specs.Levels.{Levels};
+ghost use Rattle.vme_trace.specs.Trace.{levels_after};
+ghost use Rattle.vme_trace.specs.declared.step.Step.{Step};
+ghost use Rattle.vme_part_format.specs.Bounds.{FitsPart};
+ghost use Rattle.vme_part_format.specs.Tables.{part_value, segment_value, table_value};
+ghost use Rattle.vme_part_tables.specs.Runs.{break_of, mark_of};
+ghost use Rattle.vme_part_tables.specs.Ways.{later_mark, outcome_in};
+ghost use Rattle.vme_parts.specs.Buddies.{HasTables};
+ghost use Rattle.vme_parts.specs.Gathering.{IsSegment};
+ghost use Rattle.vme_part_listing.specs.Marks.{FitWays, HasMarks, ListsFiles, ShowsFiles, marks_of_ways};
+ghost use Rattle.vme_parts.specs.Progress.{FitStates, TellsAll};
+ghost use Rattle.vme_part_listing.specs.Listings.{ListsOfWhole};
+
+use crate::answers::ToldListing;
+use std::alloc::{AllocError, Global};
+use vme_chains::acknowledge::{Iack, acknowledge_over_captures};
+use vme_chains::grant::{Grant, grants_over_captures};
+use vme_dtb::handshake::{Dtb, handshake_over_captures};
+use vme_monitor::both::marks_together;
+use vme_monitor::finite::Finite;
+use vme_monitor::known::{Known, known_over_captures};
+use vme_monitor::mark::Mark;
+use vme_part_format::{OutcomeTable, Part, Segment, WideBreak, WideMark};
+use vme_part_tables::{follow, put_marks_on_way};
+use vme_parts::{Judging, judged};
+use vme_stability::stability::{Stability, stability_over_captures};
+use vme_summary::listing_by;
+use vme_trace::{Break, Lines};
+
+/// A mark with an instant of 32 bits, if it has such.
+fn narrow_mark(mark: &WideMark) -> Option<Mark>
+    ensures { IfSome result (λ m. m ≡ mark_of mark.now) }
+{
+    match u32::try_from(mark.instant) {
+        Ok(instant) => Some(Mark {
+            instant,
+            kind: mark.kind,
+        }),
+        Err(_) => None,
+    }
+}
+
+/// Marks with instants of 32 bits, if all have such.
+fn narrow(alloc: Global, marks: &[WideMark]) -> Result<Option<Vec<Mark>>, AllocError>
+    ensures { IfOk result (λ found. IfSome found (λ v. v.items ≡ map mark_of marks.now)) }
+{
+    let mut all = Vec::with_capacity(alloc, marks.len())?;
+    for mark in marks {
+        let Some(mark) = narrow_mark(mark) else {
+            return Ok(None);
+        };
+        all.push(mark)?;
+    }
+    Ok(Some(all))
+}
+
+/// A break with an instant of 32 bits, if it has such.
+fn narrow_break(found: Option<WideBreak>) -> Option<Option<Break>>
+    ensures { IfSome result (λ b. b ≡ option_map break_of found) }
+{
+    match found {
+        None => Some(None),
+        Some(found) => match u32::try_from(found.instant) {
+            Ok(instant) => Some(Some(Break {
+                instant,
+                time: found.time,
+                rule: found.rule,
+                line: found.line,
+            })),
+            Err(_) => None,
+        },
+    }
+}
+
+/// The marks of one monitor on its way through segments.
+#[derive(Drop)]
+struct Way {
+    memory: u32,
+    marks: Vec<WideMark>,
+}
+
+impl Way {
+    /// Past the table of a segment, before which so many steps were.
+    fn go_past(&mut self, table: &OutcomeTable, steps: u64) -> Result<(), AllocError>
+        requires few { length table.now.entries.items < 2 ^ 32 }
+        requires memory { self.old.memory < length table.now.entries.items }
+        ensures memory { OnOk result (self.new.memory ≡ (outcome_in (table_value table.now) self.old.memory).leaving) }
+        ensures marks { OnOk result (self.new.marks.items ≡ self.old.marks.items
+            ++ map (later_mark steps) (outcome_in (table_value table.now) self.old.memory).marks) }
+    {
+        put_marks_on_way(&mut self.marks, table, self.memory, steps)?;
+        let (memory, _) = follow(table, self.memory);
+        self.memory = memory;
+        Ok(())
+    }
+}
+
+/// A monitor at the opening of a recording.
+fn begin<M: Finite>(alloc: Global, opening: &Lines) -> Way
+    ensures memory { result.memory ≡ M.place_of (M.begin opening.now) }
+    ensures low { result.memory < M.COUNT }
+    ensures marks { result.marks.items ≡ [] }
+{
+    let memory = M::place(M::start(opening)) as u32;
+    Way {
+        memory,
+        marks: Vec::new(alloc),
+    }
+}
+
+/// The marks of all monitors on their ways.
+#[derive(Drop)]
+struct Ways {
+    known: Way,
+    handshake: Way,
+    stability: Way,
+    grant: Way,
+    acknowledge: Way,
+}
+
+impl Ways {
+    /// Before any step.
+    fn at(alloc: Global, opening: &Lines) -> Ways
+        ensures fit { FitWays result }
+        ensures shows { HasMarks result opening.now [] }
+    {
+        Ways {
+            known: begin::<Known>(alloc, opening),
+            handshake: begin::<Dtb>(alloc, opening),
+            stability: begin::<Stability>(alloc, opening),
+            grant: begin::<Grant>(alloc, opening),
+            acknowledge: begin::<Iack>(alloc, opening),
+        }
+    }
+
+    /// Past a segment, before which so many steps were.
+    fn go_past(&mut self, segment: &Segment, steps: u64) -> Result<(), AllocError>
+        requires fit { FitWays self.old }
+        requires tables { HasTables (segment_value segment.now) }
+        ensures fit { OnOk result (FitWays self.new) }
+        ensures shows { OnOk result ((o v : Levels) (x y : List Step) → v ≡ levels_after o x → steps ≡ length x
+            → length x + length y < 2 ^ 64 → HasMarks self.old o x → TellsAll true (segment_value segment.now) v y
+            → HasMarks self.new o (x ++ y)) }
+    {
+        self.known.go_past(&segment.known, steps)?;
+        self.handshake.go_past(&segment.handshake, steps)?;
+        self.stability.go_past(&segment.stability, steps)?;
+        self.grant.go_past(&segment.grant, steps)?;
+        self.acknowledge.go_past(&segment.acknowledge, steps)?;
+        Ok(())
+    }
+
+    /// The marks of all, in order, if their instants have 32 bits.
+    fn together(self, alloc: Global) -> Result<Option<Vec<Mark>>, AllocError>
+        ensures { IfOk result (λ found. IfSome found (λ v. v.items ≡ marks_of_ways self)) }
+    {
+        let Some(known) = narrow(alloc, self.known.marks.as_slice())? else {
+            return Ok(None);
+        };
+        let Some(handshake) = narrow(alloc, self.handshake.marks.as_slice())? else {
+            return Ok(None);
+        };
+        let Some(stability) = narrow(alloc, self.stability.marks.as_slice())? else {
+            return Ok(None);
+        };
+        let Some(grant) = narrow(alloc, self.grant.marks.as_slice())? else {
+            return Ok(None);
+        };
+        let Some(acknowledge) = narrow(alloc, self.acknowledge.marks.as_slice())? else {
+            return Ok(None);
+        };
+        let chains = marks_together(alloc, grant, acknowledge)?;
+        let held = marks_together(alloc, stability, chains)?;
+        let started = marks_together(alloc, handshake, held)?;
+        let all = marks_together(alloc, known, started)?;
+        Ok(Some(all))
+    }
+}
+
+/// How many steps judging has come past.
+fn step_count(judging: &Judging) -> u64
+    ensures { result ≡ judging.now.steps }
+{
+    judging.steps
+}
+
+/// The marks of a segment and of those that follow it, in order, if their instants have 32 bits.
+fn marks_from(
+    alloc: Global,
+    first: &Segment,
+    rest: &[Segment],
+) -> Result<Option<Vec<Mark>>, AllocError>
+    requires first { IsSegment (segment_value first.now) }
+    requires rest { All IsSegment (map segment_value rest.now) }
+    ensures { IfOk result (λ found. IfSome found
+        (λ v. ShowsFiles first.now.opening (segment_value first.now ∷ map segment_value rest.now) v.items)) }
+{
+    known_over_captures();
+    handshake_over_captures();
+    stability_over_captures();
+    grants_over_captures();
+    acknowledge_over_captures();
+    let mut judging = Judging::of(first);
+    let mut ways = Ways::at(alloc, &first.opening);
+    ways.go_past(first, 0)?;
+    for segment in rest {
+        let steps = judging.steps;
+        match judging.go_past(segment) {
+            Ok(()) => {
+                // they have 64 bits
+                let _after = step_count(&judging);
+                ways.go_past(segment, steps)?
+            }
+            Err(_) => return Ok(None),
+        }
+    }
+    ways.together(alloc)
+}
+
+/// The listing of a recording past whose segments judging has come.
+fn listing_from(
+    alloc: Global,
+    judging: &Judging,
+    first: &Segment,
+    rest: &[Segment],
+) -> Result<ToldListing, AllocError>
+    requires fit { FitStates judging.now.states }
+    requires first { IsSegment (segment_value first.now) }
+    requires rest { All IsSegment (map segment_value rest.now) }
+    ensures { IfOk result (λ what.
+        ListsFiles judging.now (segment_value first.now ∷ map segment_value rest.now) what) }
+{
+    let Some(event) = narrow_break(judging.states.first_break()) else {
+        return Ok(ToldListing::TooLong);
+    };
+    let Some(marks) = marks_from(alloc, first, rest)? else {
+        return Ok(ToldListing::TooLong);
+    };
+    let has_judged = judging.states.has_judged();
+    let listing = listing_by(alloc, &first.opening, has_judged, event, marks.as_slice())?;
+    Ok(ToldListing::Listing(listing))
+}
+
+/// The listing of a recording past all of whose segments judging has come.
+fn list_all(
+    alloc: Global,
+    judging: &Judging,
+    segments: &[Segment],
+) -> Result<ToldListing, AllocError>
+    requires fit { FitStates judging.now.states }
+    requires segments { All IsSegment (map segment_value segments.now) }
+    ensures { IfOk result (λ what. ListsFiles judging.now (map segment_value segments.now) what) }
+{
+    match segments {
+        [first, rest @ ..] => listing_from(alloc, judging, first, rest),
+        [] => Ok(ToldListing::TooLong),
+    }
+}
+
+/// The listing that a part with marks says of a recording of so many files, or of those up to the last that is covered.
+pub fn tell_listing(
+    alloc: Global,
+    part: &Part,
+    files: Option<u64>,
+) -> Result<ToldListing, AllocError>
+    requires { FitsPart (part_value part.now) }
+    ensures { IfOk result (λ what. ListsOfWhole (part_value part.now) files what) }
+{
+    let judging = match judged(part, files) {
+        Ok(judging) => judging,
+        Err(told) => return Ok(ToldListing::Refused(told)),
+    };
+    if !part.listing {
+        return Ok(ToldListing::Unmarked);
+    }
+    list_all(alloc, &judging, part.segments.as_slice())
+}

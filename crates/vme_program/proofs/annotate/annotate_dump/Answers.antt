@@ -1,0 +1,16 @@
+use Rattle.std.proofs.Common.{inl, inr}
+use Rattle.vme_answer.specs.declared.refusal.Input.TheVariants.{Dump}
+use Rattle.vme_program.proofs.Refusals.{tells_refused}
+use Rattle.vme_program.proofs.annotate.annotate_dump.Goals as goal
+
+pub returns-in-Some : goal.returns-in-Some
+returns-in-Some g c =
+    inr ((_, g.S.Reader.Source.reading c.annotate.new.dump), c.in-Some.ensures, c.annotate.ensures.answer)
+
+pub returns-in-None : goal.returns-in-None
+returns-in-None g c = inl (
+  c.in-None.ensures,
+  tells_refused Dump (g.O.Sink.writing c.args.out.now)
+      (g.E.Sink.writing c.args.err.now, g.E.Sink.writing c.refuse_input.new.err)
+      c.refuse_input.result c.refuse_input.ensures.told c.refuse_input.ensures.status,
+)

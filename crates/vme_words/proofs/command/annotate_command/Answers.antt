@@ -1,0 +1,12 @@
+use Rattle.std.specs.Prelude.{codes}
+use Rattle.clap.specs.Words.{new_app}
+use Rattle.vme_words.specs.Commands.{file_rule, skew_rule}
+use Rattle.vme_words.proofs.command.annotate_command.Goals as goal
+
+pub returns : goal.returns
+returns c =
+    let skew = c.with_arg-command.ensures (new_app (codes "annotate")) skew_rule
+    c.new_command-command.ensures c.skew_option.ensures.rule c.skew_option.ensures.local in
+    let binding = c.with_arg-command-2.ensures _ (file_rule (codes "BINDING")) skew
+    c.binding_file.ensures.rule c.binding_file.ensures.local in
+    c.with_arg.ensures _ (file_rule (codes "DUMP")) binding c.dump_file.ensures.rule c.dump_file.ensures.local
