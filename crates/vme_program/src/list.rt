@@ -1,5 +1,6 @@
 //! The listing of the files that an order names.
 
+ghost use Rattle.vme_annotate.specs.Answers.{WritesTimes};
 ghost use Rattle.vme_program.specs.Recordings.{ListsDump, ListsFiles, WritesRows};
 
 use crate::environment::Environment;
@@ -52,6 +53,24 @@ fn list_dump<R: Threads + Sync, S: Environment, B: Source, O: Sink, E: Sink>(
     }
 }
 
+/// The same, of a dump that was opened, with the times of the instants. What this takes of the stack isn't taken where
+/// no times are asked for.
+#[inline(never)]
+fn write_timed_rows<B: Source, D: Source, O: Sink, E: Sink>(
+    alloc: Global,
+    order: &Order,
+    binding: &mut B,
+    dump: &mut D,
+    out: &mut O,
+    err: &mut E,
+) -> u8
+    ensures { WritesTimes order.now.skew
+        (B.reading binding.old, B.reading binding.new) (D.reading dump.old, D.reading dump.new) order.now.block
+        (O.writing out.old, O.writing out.new) (E.writing err.old, E.writing err.new) result }
+{
+    list_times(alloc, binding, dump, order.block, order.skew, out, err)
+}
+
 /// The same, of a dump that was opened: with the times of the instants, where the order asks for them.
 #[inline(never)]
 fn write_rows<R: Threads + Sync, B: Source, D: Source, O: Sink, E: Sink>(
@@ -68,7 +87,7 @@ fn write_rows<R: Threads + Sync, B: Source, D: Source, O: Sink, E: Sink>(
         (O.writing out.old, O.writing out.new) (E.writing err.old, E.writing err.new) result }
 {
     if order.has_times {
-        return list_times(alloc, binding, dump, order.block, order.skew, out, err);
+        return write_timed_rows(alloc, order, binding, dump, out, err);
     }
     list(
         rt,
