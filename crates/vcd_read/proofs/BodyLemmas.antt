@@ -238,6 +238,25 @@ module _ {A : Type 0} (with_change : A → ℕ → List Bit → A) (with_instant
       (λ more. rw (n, t, a, p, is more)
       (item_leaves nets s s2 item (body_from ready (left_at text at ++ more)) r h kept))
 
+  -- the same by a reader of its own
+  pub read_on : {X : Type 0} (nets nets2 : List Net) (timed timed2 : Taking A) (bracket bracket2 : Option Start)
+      (text text2 : BodyPiece) (after : ℕ) (item : BodyItem) (before : List Token → List BodyItem)
+      (r : Result X VcdFault)
+      → nets2 ≡ nets → text2 ≡ text
+      → ((more : List Token) → before more ≡ item ∷ body_from ready (left_at text after ++ more))
+      → ReadGives (λ _. state_of text timed2 bracket2) r
+      (step with_change with_instant nets (state_of text timed bracket) item)
+      → KeepsTaken timed timed2 r
+      → BodyContinuesAs (λ more. until_fault with_change with_instant nets (state_of text timed bracket) (before more))
+      (λ more. until_fault with_change with_instant nets2 (state_of text2 timed2 bracket2)
+      (body_from ready (left_at text2 after ++ more))) timed2.taken timed2.time r
+  read_on nets nets2 timed timed2 bracket bracket2 text text2 after item before r n t is h kept =
+      subst (λ (p : BodyPiece). BodyContinuesAs (λ more. until_fault with_change with_instant nets
+      (state_of text timed bracket) (before more)) (λ more. until_fault with_change with_instant nets2
+      (state_of p timed2 bracket2) (body_from ready (left_at p after ++ more))) timed2.taken timed2.time r) (sym t)
+      (read_item nets nets2 (state_of text timed bracket) (state_of text timed2 bracket2) text text after after Ready
+      item before r n refl refl refl is h kept)
+
   -- an item that is none
   pub read_wrong : (nets : List Net) (s : State A) (line : ℕ) (kind : FaultKind) (before after : List BodyItem) → before
       ≡ wrong line kind ∷ after

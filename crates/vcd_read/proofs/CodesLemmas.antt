@@ -1,7 +1,7 @@
 -- The nets by their codes, and one more of them.
 use Rattle.std.proofs.Common.{◌≡◌, ℕ, zero, suc, ◌+◌, ◌^◌, ◌≤◌, ◌<◌, Bool, true, false, not, cond, eqb, ltb, List, []}
 use Rattle.std.proofs.Common.{◌∷◌, ◌++◌, length, get_or, Option, Some, None, IsSome, refl, sym, ap, ◌∙◌, arith}
-use Rattle.std.specs.Prelude.{bytes_eq, unwrap_or}
+use Rattle.std.specs.Prelude.{bytes_eq, option_map, unwrap_or, if◌then◌else◌}
 use Rattle.std.specs.Map.{update}
 use Rattle.std.specs.List.{position, position_or_len}
 use Rattle.std.proofs.lemmas.Bool.{ltb-true}
@@ -14,6 +14,9 @@ use Rattle.std.proofs.lemmas.Slice.Eq.{bytes_eq-Decides}
 use Rattle.vcd_read.specs.declared.code_index.CodeIndex.{CodeIndex}
 use Rattle.vcd_read.specs.Header.{Net, has_code, net_of, size_of}
 use Rattle.vcd_read.specs.CodeIndexes.{net_at}
+use Rattle.vcd_read.specs.declared.lone_codes.LoneCodes.{LoneCodes}
+use Rattle.vcd_read.specs.declared.lone_codes.SizedNet.{SizedNet}
+use Rattle.vcd_read.specs.LoneCodes.{AreLone, lone_at, sized_net, sized_net_of}
 use Rattle.vcd_read.specs.Nets.{AreIndexed}
 
 pub size_of-at : (nets : List Net) (i : ℕ) (n : Net) → i < length nets → n ≡ get_or nets i n → size_of nets i ≡ n.size
@@ -79,3 +82,48 @@ indexed_push nets old new code size net was none last room changed = record {
       ∙ ap (λ (n : ℕ). cond (bytes_eq code other) (Some n) (net_of nets other)) last
       ∙ sym (net_of-push nets code size none other);
 }
+
+-- ---- the codes of one byte
+
+size_of-before : (nets : List Net) (i : ℕ) (n : Net) → i < length nets → size_of (nets ++ n ∷ []) i ≡ size_of nets i
+unfolding size_of
+size_of-before [] i n lt = absurd (omega (arith, lt))
+size_of-before (m ∷ nets) zero n lt = refl
+size_of-before (m ∷ nets) (suc i) n lt = size_of-before nets i n (omega (arith, lt))
+
+size_of-last : (nets : List Net) (n : Net) → size_of (nets ++ n ∷ []) (length nets) ≡ n.size
+unfolding size_of
+size_of-last [] n = refl
+size_of-last (m ∷ nets) n = size_of-last nets n
+
+sized-before : (nets : List Net) (n : Net) (o : Option ℕ) → (IsSome o → unwrap_or o 0 < length nets)
+    → option_map (sized_net (nets ++ n ∷ [])) o ≡ option_map (sized_net nets) o
+sized-before nets n None within = refl
+sized-before nets n (Some i) within = ap (λ (size : ℕ). Some (record { number = i; size = size }))
+    (size_of-before nets i n (within cc))
+
+sized-push : (nets : List Net) (code : List ℕ) (size : ℕ) → net_of nets code ≡ None → (other : List ℕ)
+    → sized_net_of (nets ++ record { code = code; size = size } ∷ []) other
+    ≡ (if bytes_eq code other then Some (record { number = length nets; size = size }) else sized_net_of nets other)
+sized-push nets code size none other =
+    ap (option_map (sized_net (nets ++ n ∷ []))) (net_of-push nets code size none other) ∙ go (bytes_eq code other)
+  where
+    n : Net
+    n = record { code = code; size = size }
+
+    go : (b : Bool) → option_map (sized_net (nets ++ n ∷ [])) (cond b (Some (length nets)) (net_of nets other))
+        ≡ cond b (Some (record { number = length nets; size = size })) (sized_net_of nets other)
+    go true = ap (λ (bits : ℕ). Some (record { number = length nets; size = bits })) (size_of-last nets n)
+    go false = sized-before nets n (net_of nets other) (net_within nets other)
+
+-- one more net
+pub lone_push : (nets : List Net) (old new : LoneCodes) (code : List ℕ) (size : ℕ) (net : SizedNet) → AreLone nets old
+    → net_of nets code ≡ None → net ≡ record { number = length nets; size = size }
+    → ((byte : ℕ) → byte < 256 → lone_at new byte
+    ≡ (if bytes_eq code (byte ∷ []) then Some net else lone_at old byte))
+    → AreLone (nets ++ record { code = code; size = size } ∷ []) new
+lone_push nets old new code size net was none is changed = λ byte lt.
+    changed byte lt
+    ∙ ap (λ (o : Option SizedNet). cond (bytes_eq code (byte ∷ [])) (Some net) o) (was byte lt)
+    ∙ ap (λ (n : SizedNet). cond (bytes_eq code (byte ∷ [])) (Some n) (sized_net_of nets (byte ∷ []))) is
+    ∙ sym (sized-push nets code size none (byte ∷ []))

@@ -10,6 +10,7 @@ pub mod DumpProgress
 pub mod Taking
 pub mod Collected
 pub mod Touched
+pub mod LoneCodes
 pub mod Nets
 pub mod CodeNumbers
 pub mod CodeIndexes

@@ -60,43 +60,114 @@ impl<'a, 'c, T: ChangeVisitor> Body<'a, 'c, T> {
             (taking (T.taken self.new.timed.visitor) self.new.timed.clock) self.new.bracket)
             (T.taken self.new.timed.visitor) self.new.timed.clock.time result }
     {
-        let Some(at) = self.reader.start() else {
+        if !self.reader.finds_token() {
             return Ok(false);
-        };
-        self.item_at(alloc, at)
+        }
+        let at = self.reader.at;
+        let bytes = self.reader.word();
+        self.item(alloc, Token { at, bytes })
     }
 
-    /// Reads the item whose first token is at hand. Nearly all are short times and short changes, of which each byte is
-    /// looked at once.
+    /// Reads short items as long as they come: nearly all are. The place is that of a reader of its own, which stays in
+    /// registers.
     #[inline(always)]
-    fn item_at(&mut self, alloc: Global, at: usize) -> Result<bool, VcdFault>
-        requires between { self.old.place ≡ Ready }
-        requires hand { at ≡ self.old.reader.at }
-        requires within { at < length self.old.reader.text.bytes.now }
-        requires word { is_space (slice_index self.old.reader.text.bytes.now at) ≡ false }
+    fn short_items(&mut self, alloc: Global) -> Result<(), VcdFault>
+        requires { self.old.place ≡ Ready }
         ensures codes { self.new.codes ≡ self.old.codes }
         ensures text { self.new.reader.text ≡ self.old.reader.text }
-        ensures moves { self.old.reader.at < self.new.reader.at }
-        ensures between { result ≡ Ok true → self.new.place ≡ Ready }
-        ensures end { result ≡ Ok false → left_at self.new.reader.text self.new.reader.at ≡ [] }
+        ensures forward { OnOk result (self.old.reader.at ≤ self.new.reader.at) }
+        ensures between { self.new.place ≡ Ready }
         ensures rest { BodyContinuesAs
             (remaining_in T.with_change T.with_instant ready self.old.codes.now self.old.reader
             (taking (T.taken self.old.timed.visitor) self.old.timed.clock) self.old.bracket)
-            (remaining_in T.with_change T.with_instant (place_of self.new.place) self.new.codes.now self.new.reader
+            (remaining_in T.with_change T.with_instant ready self.new.codes.now self.new.reader
             (taking (T.taken self.new.timed.visitor) self.new.timed.clock) self.new.bracket)
             (T.taken self.new.timed.visitor) self.new.timed.clock.time result }
     {
-        if let Some(short) = self.reader.short_time() {
-            return self.go_to(alloc, Start::Here(at), short.time);
+        let mut reader = self.reader.again();
+        while self.short_item(alloc, &mut reader)? {}
+        self.reader.at = reader.at;
+        Ok(())
+    }
+
+    /// Reads the next item, if there is one and it is short.
+    #[inline(always)]
+    fn short_item(&mut self, alloc: Global, reader: &mut Reader<'a>) -> Result<bool, VcdFault>
+        requires { reader.old.text ≡ self.old.reader.text }
+        ensures same { (self.new.reader ≡ self.old.reader) × (self.new.codes ≡ self.old.codes)
+            × (self.new.place ≡ self.old.place) }
+        ensures text { reader.new.text ≡ reader.old.text }
+        ensures forward { IfOk result (λ _. reader.old.at ≤ reader.new.at) }
+        ensures moves { result ≡ Ok true → reader.old.at < reader.new.at }
+        ensures rest { BodyContinuesAs
+            (remaining_in T.with_change T.with_instant ready self.old.codes.now reader.old
+            (taking (T.taken self.old.timed.visitor) self.old.timed.clock) self.old.bracket)
+            (remaining_in T.with_change T.with_instant ready self.new.codes.now reader.new
+            (taking (T.taken self.new.timed.visitor) self.new.timed.clock) self.new.bracket)
+            (T.taken self.new.timed.visitor) self.new.timed.clock.time result }
+    {
+        if !reader.finds_token() {
+            return Ok(false);
         }
-        if let Some(short) = self.reader.short_change() {
+        if reader.text.bytes[reader.at] == b'#' {
+            return self.short_time(alloc, reader);
+        }
+        self.short_change(alloc, reader)
+    }
+
+    /// Reads the item whose first token is at hand where it is a short time.
+    #[inline(always)]
+    fn short_time(&mut self, alloc: Global, reader: &mut Reader<'a>) -> Result<bool, VcdFault>
+        requires text { reader.old.text ≡ self.old.reader.text }
+        requires within { reader.old.at < length reader.old.text.bytes.now }
+        ensures same { (self.new.reader ≡ self.old.reader) × (self.new.codes ≡ self.old.codes)
+            × (self.new.place ≡ self.old.place) }
+        ensures text { reader.new.text ≡ reader.old.text }
+        ensures forward { IfOk result (λ _. reader.old.at ≤ reader.new.at) }
+        ensures moves { result ≡ Ok true → reader.old.at < reader.new.at }
+        ensures rest { BodyContinuesAs
+            (remaining_in T.with_change T.with_instant ready self.old.codes.now reader.old
+            (taking (T.taken self.old.timed.visitor) self.old.timed.clock) self.old.bracket)
+            (remaining_in T.with_change T.with_instant ready self.new.codes.now reader.new
+            (taking (T.taken self.new.timed.visitor) self.new.timed.clock) self.new.bracket)
+            (T.taken self.new.timed.visitor) self.new.timed.clock.time result }
+    {
+        let at = reader.at;
+        match reader.short_time() {
+            Some(short) => self.go_to(alloc, Start::Here(at), short.time),
+            None => Ok(false),
+        }
+    }
+
+    /// Reads the item whose first token is at hand where it is a short change, or that of a vector whose code stands in
+    /// the piece: each of its bytes is looked at once.
+    #[inline(always)]
+    fn short_change(&mut self, alloc: Global, reader: &mut Reader<'a>) -> Result<bool, VcdFault>
+        requires text { reader.old.text ≡ self.old.reader.text }
+        requires within { reader.old.at < length reader.old.text.bytes.now }
+        ensures same { (self.new.reader ≡ self.old.reader) × (self.new.codes ≡ self.old.codes)
+            × (self.new.place ≡ self.old.place) }
+        ensures text { reader.new.text ≡ reader.old.text }
+        ensures forward { IfOk result (λ _. reader.old.at ≤ reader.new.at) }
+        ensures moves { result ≡ Ok true → reader.old.at < reader.new.at }
+        ensures rest { BodyContinuesAs
+            (remaining_in T.with_change T.with_instant ready self.old.codes.now reader.old
+            (taking (T.taken self.old.timed.visitor) self.old.timed.clock) self.old.bracket)
+            (remaining_in T.with_change T.with_instant ready self.new.codes.now reader.new
+            (taking (T.taken self.new.timed.visitor) self.new.timed.clock) self.new.bracket)
+            (T.taken self.new.timed.visitor) self.new.timed.clock.time result }
+    {
+        let at = reader.at;
+        if let Some(short) = reader.short_change() {
             return self.change(alloc, Start::Here(at), short.digit, short.code);
         }
-        if let Some(read) = self.reader.vector_digits() {
-            return self.vector(alloc, Start::Here(at), read.digits);
+        if let Some(read) = reader.vector_digits() {
+            if let Some(code) = reader.next() {
+                return self.change(alloc, Start::Here(at), read.digits, code.bytes);
+            }
+            reader.at = at;
         }
-        let bytes = self.reader.word();
-        self.item(alloc, Token { at, bytes })
+        Ok(false)
     }
 
     /// Reads the item that a token is or begins.
@@ -190,20 +261,18 @@ impl<'a, 'c, T: ChangeVisitor> Body<'a, 'c, T> {
             (taking (T.taken self.old.timed.visitor) self.old.timed.clock) self.old.bracket)
             (change (line_of self.old.reader.text start) digits.now code.now)) }
     {
-        let net = match self.codes.net(code) {
+        let net = match self.codes.find(code) {
             Some(net) => net,
             None => return Err(self.reader.fault(start, FaultKind::UndeclaredCode)),
         };
-        let size = self.codes.size(net);
-        if digits.len() > size as usize {
+        if digits.len() > net.size as usize {
             return Err(self.reader.fault(start, FaultKind::TooWide));
         }
-        self.timed.change(alloc, net, size, digits)?;
+        self.timed.change(alloc, net.number, net.size, digits)?;
         Ok(true)
     }
 
     /// Reads the code of a vector, and changes its net. The code may stand in the next piece.
-    #[inline(always)]
     fn vector(&mut self, alloc: Global, start: Start, digits: &[u8]) -> Result<bool, VcdFault>
         requires between { self.old.place ≡ Ready }
         requires start { IsStart self.old.reader.text start }
@@ -376,7 +445,9 @@ impl<'a, 'c, T: ChangeVisitor> Body<'a, 'c, T> {
         if !self.resume(alloc)? {
             return Ok(());
         }
-        while self.one(alloc)? {}
+        while self.one(alloc)? {
+            self.short_items(alloc)?;
+        }
         Ok(())
     }
 

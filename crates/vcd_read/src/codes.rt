@@ -2,8 +2,10 @@
 
 ghost use Rattle.std.specs.Prelude.{◌≡◌, ◌<◌, ◌++◌, ◌∷◌, [], None, length, IfOk, OnOk, OnErr};
 ghost use Rattle.vcd_read.specs.Header.{net_of, size_of};
+ghost use Rattle.vcd_read.specs.LoneCodes.{sized_net_of};
 
 use crate::code_index::CodeIndex;
+use crate::lone_codes::{LoneCodes, SizedNet};
 use std::alloc::{AllocError, Global};
 use std::marker::Model;
 
@@ -20,18 +22,22 @@ pub(crate) struct Codes {
     nets: Vec<NetCode>,
     /// The net of each code.
     index: CodeIndex,
+    /// The net of each code of one byte.
+    lone: LoneCodes,
 }
 
 impl Model for Codes {
     ghost use Rattle.std.specs.Prelude.{List, map};
     ghost use Rattle.vcd_read.specs.Header.{Net};
+    ghost use Rattle.vcd_read.specs.LoneCodes.{AreLone};
     ghost use Rattle.vcd_read.specs.Nets.{net_code, AreIndexed};
 
     ghost Value = { List Net };
 
     ghost view = { λ c. map net_code c.nets.items };
 
-    ghost invariant = { λ c. AreIndexed (map net_code c.nets.items) c.index };
+    ghost invariant = { λ c. AreIndexed (map net_code c.nets.items) c.index
+        × AreLone (map net_code c.nets.items) c.lone };
 }
 
 impl Codes {
@@ -42,6 +48,7 @@ impl Codes {
         Ok(Codes {
             nets: Vec::new(alloc),
             index: CodeIndex::new(alloc),
+            lone: LoneCodes::new(alloc)?,
         })
     }
 
@@ -58,6 +65,19 @@ impl Codes {
         ensures { result ≡ net_of self.now code.now }
     {
         self.index.get(code)
+    }
+
+    /// The net of a code and its size, where it has one.
+    #[inline(always)]
+    pub fn find(&self, code: &[u8]) -> Option<SizedNet>
+        ensures { result ≡ sized_net_of self.now code.now }
+    {
+        if let [byte] = code {
+            return self.lone.get(*byte);
+        }
+        let number = self.net(code)?;
+        let size = self.size(number);
+        Some(SizedNet { number, size })
     }
 
     /// The size of a net.
@@ -86,6 +106,7 @@ impl Codes {
         self.nets.reserve(1)?;
         self.index.insert(alloc, code, net)?;
         self.nets.push_reserved(NetCode { code: bytes, size });
+        self.lone.insert(code, SizedNet { number: net, size });
         Ok(net)
     }
 }

@@ -7,8 +7,8 @@
 //!   values at its instants; the first fault, with its line.
 //! - `token`, `runs`, `shape`, `number`, `bits`: the tokens of a text; where runs of bytes end;
 //!   what a token of the body is; decimal numbers; digits as the bits of a value.
-//! - `header`, `reference`, `scopes`, `variables`, `codes`, `code_index`, `declaration_visitor`:
-//!   the definitions, and what takes them.
+//! - `header`, `reference`, `scopes`, `variables`, `codes`, `code_index`, `lone_codes`,
+//!   `declaration_visitor`: the definitions, and what takes them.
 //! - `body`, `body_state`, `body_piece`, `open_item`, `change_visitor`, `timed_visitor`,
 //!   `instant_collector`: the changes, and what takes them.
 //! - `stopped`: the first fault of a body, with the visitor that took what precedes it.
@@ -63,6 +63,7 @@ mod head;
 mod header;
 mod instant_collector;
 mod lines;
+mod lone_codes;
 mod number;
 mod open_item;
 mod pieces;

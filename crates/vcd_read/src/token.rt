@@ -88,21 +88,6 @@ pub fn whole_tokens(text: &[u8]) -> usize
     0
 }
 
-/// The first place from here on that is no space, or the end.
-fn word_start(text: &[u8], at: usize) -> usize
-    requires { at ≤ length text.now }
-    ensures low { at ≤ result }
-    ensures high { result ≤ length text.now }
-    ensures left { (line : ℕ) → left_from line text.now result ≡ left_from line text.now at }
-    ensures word { result < length text.now → is_space (slice_index text.now result) ≡ false }
-{
-    let mut i = at;
-    while i < text.len() && is_space(text[i]) {
-        i += 1;
-    }
-    i
-}
-
 /// Whether no word goes on at a place.
 #[inline(always)]
 fn ends_word(text: &[u8], at: usize) -> bool
@@ -176,22 +161,35 @@ impl<'a> Reader<'a> {
         }
     }
 
-    /// Goes on to the next token, and gives its place.
+    /// Another one, at the same place.
     #[inline(always)]
-    pub fn start(&mut self) -> Option<usize>
+    pub fn again(&self) -> Reader<'a>
+        ensures text { result.text ≡ self.now.text }
+        ensures at { result.at ≡ self.now.at }
+    {
+        Reader {
+            text: self.text,
+            at: self.at,
+        }
+    }
+
+    /// Goes on to the next token, and says whether there is one.
+    #[inline(always)]
+    pub fn finds_token(&mut self) -> bool
         ensures text { self.new.text ≡ self.old.text }
         ensures left { left_at self.old.text self.new.at ≡ left_at self.old.text self.old.at }
         ensures forward { self.old.at ≤ self.new.at }
-        ensures at { MatchOption result (left_at self.old.text self.old.at ≡ [])
-            (λ at. (at ≡ self.new.at) × (at < length self.old.text.bytes.now)) }
-        ensures word { IfSome result (λ at. is_space (slice_index self.old.text.bytes.now at) ≡ false) }
+        ensures end { result ≡ false → left_at self.old.text self.old.at ≡ [] }
+        ensures within { result ≡ true → self.new.at < length self.old.text.bytes.now }
+        ensures word { result ≡ true → is_space (slice_index self.old.text.bytes.now self.new.at) ≡ false }
     {
-        self.at = word_start(self.text.bytes, self.at);
-        if self.at < self.text.bytes.len() {
-            Some(self.at)
-        } else {
-            None
+        while self.at < self.text.bytes.len() {
+            if !is_space(self.text.bytes[self.at]) {
+                return true;
+            }
+            self.at += 1;
         }
+        false
     }
 
     /// Reads the token at hand.
@@ -226,7 +224,7 @@ impl<'a> Reader<'a> {
             return None;
         }
         let start = self.at + 1;
-        let Leading { number, count } = leading_number(&self.text.bytes[start..]);
+        let Leading { number, count } = leading_number(self.text.bytes, start);
         let end = start + count;
         if count > SAFE_DIGITS {
             return None;
@@ -307,9 +305,10 @@ impl<'a> Reader<'a> {
         ensures forward { self.old.at ≤ self.new.at }
         ensures within { IfSome result (λ t. (t.at < length self.old.text.bytes.now) × (0 < length t.bytes.now)) }
     {
-        let Some(at) = self.start() else {
+        if !self.finds_token() {
             return None;
-        };
+        }
+        let at = self.at;
         let bytes = self.word();
         Some(Token { at, bytes })
     }

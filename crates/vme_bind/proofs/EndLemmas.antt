@@ -11,7 +11,7 @@ use Rattle.vme_trace.specs.LineNumbers.{line_count}
 use Rattle.vme_trace.specs.declared.step.Change.{Change}
 use Rattle.vme_trace.specs.declared.step.Step.{Step}
 use Rattle.vme_trace.proofs.Ranges.{any-fails}
-use Rattle.vme_bind.specs.Recording.{RecorderLevels, IsLine, differs, ListsTouchedLines, change_to, changes_between}
+use Rattle.vme_bind.specs.Recording.{RecorderLevels, IsLine, differs, DifferWithin, change_to, changes_between}
 use Rattle.vme_bind.specs.Recording.{step_between}
 use Rattle.vme_bind.proofs.RecorderLemmas.{those-yes, those-skip, bool_cases, alike, same_levels, set_same, set_other}
 use Rattle.vme_bind.proofs.RecorderLemmas.{set_all}
@@ -59,9 +59,9 @@ step-none time a b cs e h = by_any (any (differs a b) 0 line_count) refl
     by_any false k = refl
 
 -- where no line differs, all is shown
-pub all-shown : (shown now : Levels) (touched : List ℕ) → ListsTouchedLines shown now touched
+pub all-shown : (shown now : Levels) (first last : ℕ) → DifferWithin shown now first last
     → ((l : ℕ) → differs shown now l ≡ false) → shown ≡ now
-all-shown shown now touched h same = same_levels shown now (sym h.slots) h.shown_all h.now_all
+all-shown shown now first last h same = same_levels shown now (sym h.slots) h.shown_all h.now_all
     (λ l lt. alike shown now l (same l))
 
 -- where no line differs, there is no step
@@ -74,11 +74,11 @@ step-same time shown now same =
     refl)
 
 -- where no line is listed, none differs
-pub none_differs : (shown now : Levels) (touched : List ℕ) → length touched ≡ 0 → ListsTouchedLines shown now touched
+pub none_differs : (shown now : Levels) (first last : ℕ) → last < first → DifferWithin shown now first last
     → (l : ℕ) → differs shown now l ≡ false
-none_differs shown now touched none h l =
+none_differs shown now first last none h l =
     elim (bool_cases (differs shown now l)) [
-      | inl d ↦ let here = h.listed l d in absurd (omega (arith, here.1, none))
+      | inl d ↦ absurd (omega (arith, h.low l d, h.high l d, none))
       | inr same ↦ same
     ]
 
@@ -97,19 +97,34 @@ ended p shown now after e is = ap (λ (v : Levels). progress v now) is
     ∙ ap (λ (q : RecorderLevels). progress q.now q.now) (sym e)
 
 -- where nothing is listed, nothing ends
-pub none-ended : (p : RecorderLevels) (shown now : Levels) (touched : List ℕ) → p ≡ progress shown now
-    → ListsTouchedLines shown now touched → length touched ≡ 0 → p ≡ progress p.now p.now
-none-ended p shown now touched e h none = e ∙ ended p shown now shown e
-    (all-shown shown now touched h (none_differs shown now touched none h))
+pub none-ended : (p : RecorderLevels) (shown now : Levels) (first last : ℕ) → p ≡ progress shown now
+    → DifferWithin shown now first last → last < first → p ≡ progress p.now p.now
+none-ended p shown now first last e h none = e ∙ ended p shown now shown e
+    (all-shown shown now first last h (none_differs shown now first last none h))
 
-pub none-step : (time : ℕ) (p : RecorderLevels) (shown now : Levels) (touched : List ℕ) → p ≡ progress shown now
-    → ListsTouchedLines shown now touched → length touched ≡ 0 → [] ≡ step_between time p.shown p.now
-none-step time p shown now touched e h none = step-same time shown now (none_differs shown now touched none h)
+pub none-step : (time : ℕ) (p : RecorderLevels) (shown now : Levels) (first last : ℕ) → p ≡ progress shown now
+    → DifferWithin shown now first last → last < first → [] ≡ step_between time p.shown p.now
+none-step time p shown now first last e h none = step-same time shown now (none_differs shown now first last none h)
     ∙ step-at time p shown now e
+
+-- where the first of the lines is the last, no other differs
+pub first-alone : (p : RecorderLevels) (shown now : Levels) (first last : ℕ) → p ≡ progress shown now
+    → DifferWithin shown now first last → first ≡ last → (l : ℕ) → l ≢ first → differs p.shown p.now l ≡ false
+first-alone p shown now first last view h e l ne =
+    subst (λ (q : RecorderLevels). differs q.shown q.now l ≡ false) (sym view)
+    (elim (bool_cases (differs shown now l)) [
+      | inl d ↦ absurd (omega (arith, e, ne, h.low l d, h.high l d))
+      | inr none ↦ none
+    ])
+
+pub first-exists : (p : RecorderLevels) (shown now : Levels) (first last : ℕ) → p ≡ progress shown now
+    → DifferWithin shown now first last → IsLine p.now.slots first
+first-exists p shown now first last view h =
+    subst (λ (s : ℕ). IsLine s first) (sym (ap (λ (q : RecorderLevels). q.now.slots) view ∙ h.slots)) h.begins
 
 -- ---- one line that differs
 
-module _ (shown now : Levels) (touched : List ℕ) (line : ℕ) (h : ListsTouchedLines shown now touched)
+module _ (shown now : Levels) (first last line : ℕ) (h : DifferWithin shown now first last)
     (is : IsLine shown.slots line) (alone : (l : ℕ) → l ≢ line → differs shown now l ≡ false) where
   -- it is shown
   pub lone-shown : set_level shown line (level_at now line) ≡ now
@@ -142,8 +157,8 @@ module _ (shown now : Levels) (touched : List ℕ) (line : ℕ) (h : ListsTouche
   ]
 
 -- the end of an instant at which no line but one may differ
-module _ (p : RecorderLevels) (shown now : Levels) (touched : List ℕ) (line : ℕ) (view : p ≡ progress shown now)
-    (h : ListsTouchedLines shown now touched)
+module _ (p : RecorderLevels) (shown now : Levels) (first last line : ℕ) (view : p ≡ progress shown now)
+    (h : DifferWithin shown now first last)
     (exists : IsLine p.now.slots line) (alone : (l : ℕ) → l ≢ line → differs p.shown p.now l ≡ false) where
   line_exists : IsLine shown.slots line
   line_exists = subst (λ (s : ℕ). IsLine s line) (ap (λ (q : RecorderLevels). q.now.slots) view ∙ h.slots) exists
@@ -152,7 +167,7 @@ module _ (p : RecorderLevels) (shown now : Levels) (touched : List ℕ) (line : 
   is_alone l ne = subst (λ (q : RecorderLevels). differs q.shown q.now l ≡ false) view (alone l ne)
 
   pub line-shown : (after : Levels) → after ≡ set_level shown line (level_at now line) → after ≡ now
-  line-shown after set = set ∙ lone-shown shown now touched line h line_exists is_alone
+  line-shown after set = set ∙ lone-shown shown now first last line h line_exists is_alone
 
   pub line-ended : (after : Levels) → after ≡ set_level shown line (level_at now line) → progress after now
       ≡ progress p.now p.now
@@ -163,12 +178,13 @@ module _ (p : RecorderLevels) (shown now : Levels) (touched : List ℕ) (line : 
       → one_step time changes ≡ step_between time p.shown p.now
   line-step time changes is other =
       ap (one_step time) is
-      ∙ step-some time shown now (change_to now line ∷ []) (lone-change shown now touched line h line_exists is_alone
+      ∙ step-some time shown now (change_to now line ∷ []) (lone-change shown now first last line h line_exists is_alone
       other) refl
       ∙ step-at time p shown now view
 
   pub line-none : (time : ℕ) → same_level (level_at shown line) (level_at now line) ≡ true → [] ≡ step_between time
       p.shown p.now
   line-none time same =
-      step-same time shown now (lone-same shown now touched line h line_exists is_alone same) ∙ step-at time p shown now
+      step-same time shown now (lone-same shown now first last line h line_exists is_alone same)
+      ∙ step-at time p shown now
       view

@@ -1,22 +1,19 @@
 -- How levels change from one instant to the next, line by line.
 use Rattle.std.proofs.Common.{◌≡◌, ◌≢◌, ℕ, zero, suc, ◌+◌, ◌-◌, ◌<◌, ◌≤◌, Bool, true, false, not, List, [], ◌∷◌, ◌++◌}
 use Rattle.std.proofs.Common.{length, map, get_or, refl, sym, ap, ◌∙◌, subst, arith, add-one, inl, inr, ◌⊎◌}
-use Rattle.std.specs.Prelude.{nat_le, slice_set, All, Contains}
-use Rattle.std.specs.List.Sorted.{IsNonDecreasing, IsPermutation}
+use Rattle.std.specs.Prelude.{nat_le, slice_set}
 use Rattle.std.proofs.lemmas.Bool.{cases_lt, cases_eq, false≢true}
 use Rattle.std.proofs.lemmas.Bool.Decides.{nat_tests}
 use Rattle.std.proofs.lemmas.List.{get_or-set_same, get_or-set_other, get_or_default, same_lists, append-nil}
 use Rattle.std.proofs.lemmas.List.{length-set}
-use Rattle.std.proofs.lemmas.List.Elements.{All-append, All-cons, All-nil, Contains-append_left, Contains-append_right}
-use Rattle.std.proofs.lemmas.List.Sorted.{All-permutation, Contains-permutation}
 use Rattle.std.proofs.lemmas.Option.{unwrap_or-slice_get}
 use Rattle.vme_trace.specs.Instants.{those}
 use Rattle.vme_trace.specs.Levels.{Levels, level_at, set_level, same_level}
-use Rattle.vme_trace.specs.LineNumbers.{line_count}
+use Rattle.vme_trace.specs.LineNumbers.{SYSRESET, line_count}
 use Rattle.vme_trace.specs.declared.level.Level.{Level}
 use Rattle.vme_trace.specs.declared.level.Level.TheVariants.{Low, High, Unknown}
 use Rattle.vme_trace.specs.declared.step.Change.{Change}
-use Rattle.vme_bind.specs.Recording.{IsLine, differs, ListsTouchedLines, change_to, changes_between}
+use Rattle.vme_bind.specs.Recording.{IsLine, differs, DifferWithin, change_to, changes_between}
 
 -- ---- levels
 
@@ -80,67 +77,82 @@ same_levels a b slots e f h =
     both : a.slots ≡ b.slots → a.levels ≡ b.levels → a ≡ b
     both p q = ap (λ (s : ℕ). with_both s a.levels) p ∙ ap (λ (xs : List Level). with_both b.slots xs) q
 
--- ---- the lines that were touched
+-- ---- the lines that may differ
 
-pub touched_listed : (a b c : Levels) (m l : ℕ) → (l ≡ m → differs a c l ≡ true → ⊥)
+-- a line that differs after the change of another differed before
+differs_before : (a b c : Levels) (m l : ℕ) → (l ≡ m → differs a c l ≡ true → ⊥)
     → (l ≢ m → level_at c l ≡ level_at b l) → differs a c l ≡ true → differs a b l ≡ true
-touched_listed a b c m l same other h =
+differs_before a b c m l same other h =
     elim (cases_eq l m) [
       | inl e ↦ absurd (same e h)
       | inr ne ↦ ap (λ (x : Level). not (same_level (level_at a l) x)) (sym (other ne)) ∙ h
     ]
 
 -- a line gets the level that is shown
-pub touched-same : (shown now : Levels) (touched : List ℕ) (m : ℕ) (x : Level) → ListsTouchedLines shown now touched
-    → IsLine shown.slots m → same_level (level_at shown m) x ≡ true → ListsTouchedLines shown (set_level now m x)
-    touched
-touched-same shown now touched m x h line same = record {
-  slots = h.slots;
-  shown_all = h.shown_all;
-  now_all = set_all now m x h.now_all;
-  lines = h.lines;
-  listed = λ l d. h.listed l (touched_listed shown now (set_level now m x) m l
-      (λ e k. false≢true
-      (sym (alike_differs shown (set_level now m x) l (ap (level_at shown) e ∙ same-is (level_at shown m) x same
-      ∙ sym (ap (level_at (set_level now m x)) e ∙ set_same now m x (omega (arith, line.below, h.now_all))))) ∙ k))
-      (λ ne. set_other now m l x ne) d);
-}
+pub within-same : (shown now : Levels) (first last m : ℕ) (x : Level) → DifferWithin shown now first last
+    → IsLine shown.slots m → same_level (level_at shown m) x ≡ true → DifferWithin shown (set_level now m x) first last
+within-same shown now first last m x h line same =
+    let before : (l : ℕ) → differs shown (set_level now m x) l ≡ true → differs shown now l ≡ true =
+    λ l d. differs_before shown now (set_level now m x) m l
+    (λ e k. false≢true
+    (sym (alike_differs shown (set_level now m x) l (ap (level_at shown) e ∙ same-is (level_at shown m) x same
+    ∙ sym (ap (level_at (set_level now m x)) e ∙ set_same now m x (omega (arith, line.below, h.now_all))))) ∙ k))
+    (λ ne. set_other now m l x ne) d in
+    record {
+      slots = h.slots;
+      shown_all = h.shown_all;
+      now_all = set_all now m x h.now_all;
+      begins = h.begins;
+      lines = λ l d. h.lines l (before l d);
+      low = λ l d. h.low l (before l d);
+      high = λ l d. h.high l (before l d);
+    }
 
--- a line gets any level, and is listed
-pub touched-more : (shown now : Levels) (touched : List ℕ) (m : ℕ) (x : Level) → ListsTouchedLines shown now touched
-    → IsLine shown.slots m → ListsTouchedLines shown (set_level now m x) (touched ++ m ∷ [])
-touched-more shown now touched m x h line = record {
-  slots = h.slots;
-  shown_all = h.shown_all;
-  now_all = set_all now m x h.now_all;
-  lines = All-append (IsLine shown.slots) touched (m ∷ []) h.lines (All-cons (IsLine shown.slots) m [] line
-      (All-nil (IsLine shown.slots)));
-  listed = λ l d. elim (cases_eq l m) [
-    | inl e ↦ Contains-append_right touched (m ∷ []) l (subst (Contains (m ∷ [])) (sym e) (0, omega arith, refl))
-    | inr ne ↦ Contains-append_left touched (m ∷ []) l
-        (h.listed l (ap (λ (y : Level). not (same_level (level_at shown l) y)) (sym (set_other now m l x ne)) ∙ d))
-  ];
-}
+-- a line gets any level, and lies among the lines
+pub within-more : (shown now : Levels) (first last m f n : ℕ) (x : Level) → DifferWithin shown now first last
+    → IsLine shown.slots m → IsLine shown.slots f → f ≤ first → f ≤ m → last ≤ n → m ≤ n
+    → DifferWithin shown (set_level now m x) f n
+within-more shown now first last m f n x h line begins low here high there =
+    let before : (l : ℕ) → l ≢ m → differs shown (set_level now m x) l ≡ true → differs shown now l ≡ true =
+    λ l ne d. ap (λ (y : Level). not (same_level (level_at shown l) y)) (sym (set_other now m l x ne)) ∙ d in
+    record {
+      slots = h.slots;
+      shown_all = h.shown_all;
+      now_all = set_all now m x h.now_all;
+      begins = begins;
+      lines = λ l d. elim (cases_eq l m) [
+        | inl e ↦ subst (IsLine shown.slots) (sym e) line
+        | inr ne ↦ h.lines l (before l ne d)
+      ];
+      low = λ l d. elim (cases_eq l m) [
+        | inl e ↦ omega (arith, e, here)
+        | inr ne ↦ omega (arith, h.low l (before l ne d), low)
+      ];
+      high = λ l d. elim (cases_eq l m) [
+        | inl e ↦ omega (arith, e, there)
+        | inr ne ↦ omega (arith, h.high l (before l ne d), high)
+      ];
+    }
 
-pub touched-permuted : (shown now : Levels) (touched others : List ℕ) → ListsTouchedLines shown now touched
-    → IsPermutation touched others → ListsTouchedLines shown now others
-touched-permuted shown now touched others h p = record {
-  slots = h.slots;
-  shown_all = h.shown_all;
-  now_all = h.now_all;
-  lines = All-permutation (IsLine shown.slots) touched others p h.lines;
-  listed = λ l d. Contains-permutation touched others l p (h.listed l d);
-}
+-- where all is shown, any lines will do
+pub within-none : (shown now : Levels) (first last : ℕ) → shown ≡ now → length now.levels ≡ line_count
+    → IsLine shown.slots first → DifferWithin shown now first last
+within-none shown now first last e all begins =
+    let none : (l : ℕ) → differs shown now l ≡ true → ⊥ =
+    λ l d. false≢true (sym (alike_differs shown now l (ap (λ (v : Levels). level_at v l) e)) ∙ d) in
+    record {
+      slots = ap (λ (v : Levels). v.slots) (sym e);
+      shown_all = ap (λ (v : Levels). length v.levels) e ∙ all;
+      now_all = all;
+      begins = begins;
+      lines = λ l d. absurd (none l d);
+      low = λ l d. absurd (none l d);
+      high = λ l d. absurd (none l d);
+    }
 
--- where all is shown, nothing need be listed
-pub touched-none : (shown now : Levels) → shown ≡ now → length now.levels ≡ line_count → ListsTouchedLines shown now []
-touched-none shown now e all = record {
-  slots = ap (λ (v : Levels). v.slots) (sym e);
-  shown_all = ap (λ (v : Levels). length v.levels) e ∙ all;
-  now_all = all;
-  lines = All-nil (IsLine shown.slots);
-  listed = λ l d. absurd (false≢true (sym (alike_differs shown now l (ap (λ (v : Levels). level_at v l) e)) ∙ d));
-}
+-- the first of no lines: the system reset, which each backplane has
+pub reset_exists : (slots : ℕ) → IsLine slots SYSRESET
+reset_exists slots = record { below = omega arith; exists = cc }
 
 -- ---- those of a range
 
@@ -167,228 +179,145 @@ those-skip p m n le none =
     let e : m + (n - m) ≡ n = omega arith in
     ap (those p 0) (sym e) ∙ those-past p m (n - m) (λ l low high. none l low (omega arith))
 
--- ---- showing the touched lines in their order
+-- ---- showing the lines in their order
 
--- one past the line before place i
-abbrev pub bound : List ℕ → ℕ → ℕ
-bound touched zero = 0
-bound touched (suc i) = get_or touched i 0 + 1
-
--- the lines below the bound are shown, and these are their changes
-pub record AreShown (touched : List ℕ) (i : ℕ) (before now shown : Levels) (changes : List Change) : Type 0 where
+-- the lines below n are shown, and these are their changes
+pub record AreShown (n : ℕ) (before now shown : Levels) (changes : List Change) : Type 0 where
   pub slots : now.slots ≡ shown.slots
   pub shown_all : length shown.levels ≡ line_count
-  pub changes_are : changes ≡ map (change_to now) (those (differs before now) 0 (bound touched i))
-  pub below : (l : ℕ) → l < bound touched i → level_at shown l ≡ level_at now l
-  pub above : (l : ℕ) → bound touched i ≤ l → level_at shown l ≡ level_at before l
+  pub changes_are : changes ≡ map (change_to now) (those (differs before now) 0 n)
+  pub below : (l : ℕ) → l < n → level_at shown l ≡ level_at now l
+  pub above : (l : ℕ) → n ≤ l → level_at shown l ≡ level_at before l
 
--- a touched line is either before place i, and then below the bound, or at least the line at i
-place_cases : (touched : List ℕ) (i k l : ℕ) → IsNonDecreasing touched → k < length touched → get_or touched k l ≡ l
-    → i < length touched → (l < bound touched i) ⊎ (get_or touched i 0 ≤ l)
-place_cases touched zero k l sorted lt e here = inr (omega (
-  arith,
-  sorted 0 k 0 (omega arith) lt,
-  get_or_default touched
-      k 0 l lt,
-  e,
-))
-place_cases touched (suc i) k l sorted lt e here =
-    elim (cases_lt k (suc i)) [
-      | inl less ↦ inl (omega (arith, sorted k i 0 (omega arith) (omega arith), get_or_default touched k 0 l lt, e))
-      | inr more ↦ inr (omega (arith, sorted (suc i) k 0 (omega arith) lt, get_or_default touched k 0 l lt, e))
-    ]
+-- before the first of the lines and behind the last none differs
+quiet_before : (before now : Levels) (first last l : ℕ) → DifferWithin before now first last → l < first
+    → differs before now l ≡ false
+quiet_before before now first last l h lt = elim (bool_cases (differs before now l)) [
+  | inl d ↦ absurd (omega (arith, h.low l d, lt))
+  | inr none ↦ none
+]
 
--- between the bound and the next touched line no line differs
-quiet_before : (before now : Levels) (touched : List ℕ) (i l : ℕ) → IsNonDecreasing touched → ListsTouchedLines before
-    now touched → i < length touched → bound touched i ≤ l → l < get_or touched i 0 → differs before now l ≡ false
-quiet_before before now touched i l sorted h here low high =
-    elim (bool_cases (differs before now l)) [
-      | inl d ↦
-          let in' = h.listed l d in
-          elim (place_cases touched i in'.0 l sorted in'.1 in'.2 here) [
-            | inl less ↦ absurd (omega arith)
-            | inr more ↦ absurd (omega arith)
-          ]
-      | inr none ↦ none
-    ]
+quiet_after : (before now : Levels) (first last l : ℕ) → DifferWithin before now first last → last < l
+    → differs before now l ≡ false
+quiet_after before now first last l h lt = elim (bool_cases (differs before now l)) [
+  | inl d ↦ absurd (omega (arith, h.high l d, lt))
+  | inr none ↦ none
+]
 
-bound_low : (touched : List ℕ) (i : ℕ) → IsNonDecreasing touched → i < length touched → bound touched i ≤ get_or touched
-    i 0 + 1
-bound_low touched zero sorted here = omega arith
-bound_low touched (suc i) sorted here = omega (arith, sorted i (suc i) 0 (omega arith) here)
-
-bound_next : (touched : List ℕ) (i : ℕ) → bound touched (i + 1) ≡ get_or touched i 0 + 1
-bound_next touched i = let more : i + 1 ≡ suc i = omega arith in ap (bound touched) more
-
--- behind the last touched line no line differs
-quiet_after : (before now : Levels) (touched : List ℕ) (i l : ℕ) → IsNonDecreasing touched → ListsTouchedLines before
-    now touched → length touched ≤ i → i ≤ length touched → bound touched i ≤ l → differs before now l ≡ false
-quiet_after before now touched i l sorted h past le low =
-    elim (bool_cases (differs before now l)) [
-      | inl d ↦ let in' = h.listed l d in absurd (at_end i le past low in'.0 in'.1 in'.2)
-      | inr none ↦ none
-    ]
-  where
-    at_end : (i : ℕ) → i ≤ length touched → length touched ≤ i → bound touched i ≤ l → (k : ℕ) → k < length touched
-        → get_or touched k l ≡ l → ⊥
-    at_end zero le past low k lt e = omega arith
-    at_end (suc i) le past low k lt e = omega (
-      arith,
-      sorted k i 0 (omega arith) (omega arith),
-      get_or_default touched k
-          0 l lt,
-      e,
-    )
-
-pub shown-first : (touched : List ℕ) (before now : Levels) → ListsTouchedLines before now touched → AreShown touched 0
-    before now before []
+pub shown-first : (before now : Levels) (first last n : ℕ) (changes : List Change) → DifferWithin before now first last
+    → n ≤ first → changes ≡ [] → AreShown n before now before changes
 unfolding those
-shown-first touched before now h = record {
-  slots = h.slots;
-  shown_all = h.shown_all;
-  changes_are = refl;
-  below = λ l lt. absurd (omega (arith, lt));
-  above = λ l le. refl;
-}
-
--- the line at place i is shown as it is: it needs no change
-pub shown-same : (touched : List ℕ) (i : ℕ) (before now shown : Levels) (changes : List Change) → IsNonDecreasing
-    touched → ListsTouchedLines before now touched → i < length touched
-    → same_level (level_at shown (get_or touched i 0)) (level_at now (get_or touched i 0)) ≡ true
-    → AreShown touched i before now shown changes → AreShown touched (i + 1) before now shown changes
-shown-same touched i before now shown changes sorted t here same h =
-    let x : ℕ = get_or touched i 0 in
-    let low : bound touched i ≤ get_or touched i 0 + 1 = bound_low touched i sorted here in
-    let next : bound touched (i + 1) ≡ get_or touched i 0 + 1 = bound_next touched i in
-    let is : level_at shown (get_or touched i 0) ≡ level_at now (get_or touched i 0) = same-is _ _ same in
-    let quiet : (l : ℕ) → bound touched i ≤ l → l < get_or touched i 0 + 1 → differs before now l ≡ false =
-    λ l le lt. elim (cases_lt l (get_or touched i 0)) [
-      | inl less ↦ quiet_before before now touched i l sorted t here le less
-      | inr more ↦
-          let e : l ≡ get_or touched i 0 = omega (arith, lt, more) in
-          alike_differs before now l (sym (h.above l le) ∙ ap (level_at shown) e ∙ is ∙ ap (level_at now) (sym e))
-    ] in
+shown-first before now first last n changes h is none =
+    let quiet : (l : ℕ) → l < n → differs before now l ≡ false = λ l lt. quiet_before before now first last l h
+    (omega (arith, is, lt)) in
     record {
       slots = h.slots;
       shown_all = h.shown_all;
-      changes_are = h.changes_are ∙ ap (map (change_to now))
-          (sym (those-skip (differs before now) (bound touched i) (get_or touched i 0 + 1) low quiet)
-          ∙ ap (those (differs before now) 0) (sym next));
-      below = λ l lt. elim (cases_lt l (bound touched i)) [
+      changes_are = none ∙ sym (ap (map (change_to now)) (those-skip (differs before now) 0 n (omega arith)
+          (λ l low lt. quiet l lt)));
+      below = λ l lt. alike before now l (quiet l lt);
+      above = λ l le. refl;
+    }
+
+-- a line is shown as it is: it needs no change
+pub shown-same : (n : ℕ) (before now shown : Levels) (changes : List Change)
+    → same_level (level_at now n) (level_at shown n) ≡ true → AreShown n before now shown changes
+    → AreShown (n + 1) before now shown changes
+shown-same n before now shown changes same h =
+    let is : level_at shown n ≡ level_at now n = sym (same-is _ _ same) in
+    let quiet : differs before now n ≡ false = alike_differs before now n (sym (h.above n (omega arith)) ∙ is) in
+    record {
+      slots = h.slots;
+      shown_all = h.shown_all;
+      changes_are = h.changes_are ∙ ap (map (change_to now)) (sym (those-no (differs before now) n quiet));
+      below = λ l lt. elim (cases_lt l n) [
         | inl less ↦ h.below l less
-        | inr more ↦ h.above l more ∙ alike before now l (quiet l more (omega (arith, lt, next)))
+        | inr more ↦
+            let e : l ≡ n = omega (arith, lt, more) in
+            ap (level_at shown) e ∙ is ∙ ap (level_at now) (sym e)
       ];
-      above = λ l le. h.above l (omega (arith, le, next, low));
+      above = λ l le. h.above l (omega (arith, le));
     }
 
 pub map-more : {X : Type 0} (f : ℕ → X) (xs : List ℕ) (x : ℕ) → map f (xs ++ x ∷ []) ≡ map f xs ++ f x ∷ []
 map-more f [] x = refl
 map-more {X = X} f (y ∷ xs) x = ap (λ (ys : List X). f y ∷ ys) (map-more f xs x)
 
--- the line at place i has another level than is shown: it changes
-pub shown-more : (touched : List ℕ) (i : ℕ) (before now shown : Levels) (changes : List Change) → IsNonDecreasing
-    touched → ListsTouchedLines before now touched → i < length touched
-    → same_level (level_at shown (get_or touched i 0)) (level_at now (get_or touched i 0)) ≡ false
-    → AreShown touched i before now shown changes
-    → AreShown touched (i + 1) before now (set_level shown (get_or touched i 0) (level_at now (get_or touched i 0)))
-    (changes ++ change_to now (get_or touched i 0) ∷ [])
-shown-more touched i before now shown changes sorted t here other h =
-    let low : bound touched i ≤ get_or touched i 0 =
-    elim (cases_lt (get_or touched i 0) (bound touched i)) [
-      | inl less ↦ absurd (false≢true (sym other ∙ ap (λ (y : Level). same_level y (level_at now (get_or touched i 0)))
-          (h.below _ less) ∙ same_self (level_at now (get_or touched i 0))))
-      | inr more ↦ more
-    ] in
-    let next : bound touched (i + 1) ≡ get_or touched i 0 + 1 = bound_next touched i in
-    let line = t.lines i 0 here in
-    let d : differs before now (get_or touched i 0) ≡ true = not_true _
-    (ap (λ (y : Level). same_level y (level_at now (get_or touched i 0))) (sym (h.above _ low)) ∙ other) in
-    let quiet = λ (l : ℕ) (le : bound touched i ≤ l) (lt : l < get_or touched i 0). quiet_before before now touched i l
-    sorted t here le lt in
+-- a line that isn't shown as it is differs
+pub differs-here : (n : ℕ) (before now shown : Levels) (changes : List Change)
+    → same_level (level_at now n) (level_at shown n) ≡ false → AreShown n before now shown changes
+    → differs before now n ≡ true
+differs-here n before now shown changes other h = elim (bool_cases (differs before now n)) [
+  | inl d ↦ d
+  | inr same ↦
+      let e : level_at shown n ≡ level_at now n = h.above n (omega arith) ∙ alike before now n same in
+      absurd (false≢true
+      (sym other ∙ ap (same_level (level_at now n)) e ∙ same_self (level_at now n)))
+]
+
+-- it changes
+pub shown-more : (n : ℕ) (before now shown : Levels) (changes : List Change) → n < line_count
+    → same_level (level_at now n) (level_at shown n) ≡ false → AreShown n before now shown changes
+    → AreShown (n + 1) before now (set_level shown n (level_at now n)) (changes ++ change_to now n ∷ [])
+shown-more n before now shown changes lt other h =
+    let d : differs before now n ≡ true = differs-here n before now shown changes other h in
     record {
       slots = h.slots;
-      shown_all = set_all shown (get_or touched i 0) (level_at now (get_or touched i 0)) h.shown_all;
+      shown_all = set_all shown n (level_at now n) h.shown_all;
       changes_are =
-          ap (λ (cs : List Change). cs ++ change_to now (get_or touched i 0) ∷ [])
-          (h.changes_are ∙ ap (map (change_to now))
-          (sym (those-skip (differs before now) (bound touched i) (get_or touched i 0) low quiet)))
-          ∙ sym (map-more (change_to now) (those (differs before now) 0 (get_or touched i 0)) (get_or touched i 0))
-          ∙ ap (map (change_to now)) (sym (those-yes (differs before now) (get_or touched i 0) d)
-          ∙ ap (those (differs before now) 0) (sym next));
-      below = λ l lt. elim (cases_eq l (get_or touched i 0)) [
-        | inl e ↦ ap (level_at (set_level shown (get_or touched i 0) (level_at now (get_or touched i 0)))) e
-            ∙ set_same shown (get_or touched i 0) _ (omega (arith, line.below, h.shown_all)) ∙ ap (level_at now) (sym e)
-        | inr ne ↦ set_other shown (get_or touched i 0) l _ ne ∙ elim (cases_lt l (bound touched i)) [
-          | inl less ↦ h.below l less
-          | inr more ↦ h.above l more ∙ alike before now l (quiet l more (omega (arith, lt, next, ne)))
-        ]
+          ap (λ (cs : List Change). cs ++ change_to now n ∷ []) h.changes_are
+          ∙ sym (map-more (change_to now) (those (differs before now) 0 n) n)
+          ∙ ap (map (change_to now)) (sym (those-yes (differs before now) n d));
+      below = λ l below. elim (cases_eq l n) [
+        | inl e ↦ ap (level_at (set_level shown n (level_at now n))) e
+            ∙ set_same shown n _ (omega (arith, lt, h.shown_all)) ∙ ap (level_at now) (sym e)
+        | inr ne ↦ set_other shown n l _ ne ∙ h.below l (omega (arith, below, ne))
       ];
-      above = λ l le. let ne : l ≢ get_or touched i 0 = omega (arith, le, next) in
-          set_other shown (get_or touched i 0) l _ ne ∙ h.above l (omega (arith, le, next, low));
+      above = λ l le. let ne : l ≢ n = omega (arith, le) in
+          set_other shown n l _ ne ∙ h.above l (omega (arith, le));
     }
 
--- as far as lines are shown, those that differ are still listed
-pub shown-touched : (touched : List ℕ) (i : ℕ) (before now shown : Levels) (changes : List Change) → ListsTouchedLines
-    before now touched → AreShown touched i before now shown changes → ListsTouchedLines shown now touched
-shown-touched touched i before now shown changes t h = record {
-  slots = h.slots;
-  shown_all = h.shown_all;
-  now_all = t.now_all;
-  lines = let e : before.slots ≡ shown.slots = sym t.slots ∙ h.slots in subst (λ (s : ℕ). All (IsLine s) touched) e
-      t.lines;
-  listed = λ l d. elim (cases_lt l (bound touched i)) [
-    | inl less ↦ absurd (false≢true (sym (alike_differs shown now l (h.below l less)) ∙ d))
-    | inr more ↦ t.listed l (ap (λ (y : Level). not (same_level y (level_at now l))) (sym (h.above l more)) ∙ d)
-  ];
-}
+-- and the backplane has it
+pub line-exists : (n : ℕ) (before now shown : Levels) (first last : ℕ) (changes : List Change) → DifferWithin before now
+    first last → same_level (level_at now n) (level_at shown n) ≡ false → AreShown n before now shown changes
+    → IsLine now.slots n × IsLine shown.slots n
+line-exists n before now shown first last changes t other h =
+    let here : IsLine before.slots n = t.lines n (differs-here n before now shown changes other h) in
+    let there : IsLine now.slots n = subst (λ (s : ℕ). IsLine s n) (sym t.slots) here in
+    (there, subst (λ (s : ℕ). IsLine s n) h.slots there)
 
-bound_most : (before now : Levels) (touched : List ℕ) (i : ℕ) → ListsTouchedLines before now touched
-    → i ≤ length touched → bound touched i ≤ line_count
-bound_most before now touched zero t le = omega arith
-bound_most before now touched (suc i) t le = omega (arith, (t.lines i 0 (omega arith)).below)
+-- as far as lines are shown, those that differ still lie among the lines
+pub shown-within : (n : ℕ) (before now shown : Levels) (first last : ℕ) (changes : List Change) → DifferWithin before
+    now first last → AreShown n before now shown changes → DifferWithin shown now first last
+shown-within n before now shown first last changes t h =
+    let slots : before.slots ≡ shown.slots = sym t.slots ∙ h.slots in
+    let old : (l : ℕ) → differs shown now l ≡ true → differs before now l ≡ true =
+    λ l d. elim (cases_lt l n) [
+      | inl less ↦ absurd (false≢true (sym (alike_differs shown now l (h.below l less)) ∙ d))
+      | inr more ↦ ap (λ (y : Level). not (same_level y (level_at now l))) (sym (h.above l more)) ∙ d
+    ] in
+    record {
+      slots = h.slots;
+      shown_all = h.shown_all;
+      now_all = t.now_all;
+      begins = subst (λ (s : ℕ). IsLine s first) slots t.begins;
+      lines = λ l d. subst (λ (s : ℕ). IsLine s l) slots (t.lines l (old l d));
+      low = λ l d. t.low l (old l d);
+      high = λ l d. t.high l (old l d);
+    }
 
-pub shown-changes : (touched : List ℕ) (i : ℕ) (before now shown : Levels) (changes : List Change) → IsNonDecreasing
-    touched → ListsTouchedLines before now touched → length touched ≤ i → i ≤ length touched → AreShown touched i before
-    now shown changes → changes ≡ changes_between before now
-shown-changes touched i before now shown changes sorted t past le h =
-    h.changes_are ∙ ap (map (change_to now))
-    (sym (those-skip (differs before now) (bound touched i) line_count (bound_most before now touched i t le)
-    (λ l low high. quiet_after before now touched i l sorted t past le low)))
+pub shown-changes : (n : ℕ) (before now shown : Levels) (first last : ℕ) (changes : List Change) → DifferWithin before
+    now first last → n ≡ last + 1 → n ≤ line_count → AreShown n before now shown changes
+    → changes ≡ changes_between before now
+shown-changes n before now shown first last changes t end most h =
+    h.changes_are ∙ ap (map (change_to now)) (sym (those-skip (differs before now) n line_count most
+    (λ l low high. quiet_after before now first last l t (omega (arith, end, low)))))
 
-pub shown-all : (touched : List ℕ) (i : ℕ) (before now shown : Levels) (changes : List Change) → IsNonDecreasing touched
-    → ListsTouchedLines before now touched → length touched ≤ i → i ≤ length touched → AreShown touched i before now
-    shown
-    changes → shown ≡ now
-shown-all touched i before now shown changes sorted t past le h =
-    same_levels shown now (sym h.slots) h.shown_all t.now_all (λ l lt. elim (cases_lt l (bound touched i)) [
+pub shown-all : (n : ℕ) (before now shown : Levels) (first last : ℕ) (changes : List Change) → DifferWithin before now
+    first last → n ≡ last + 1 → AreShown n before now shown changes → shown ≡ now
+shown-all n before now shown first last changes t end h =
+    same_levels shown now (sym h.slots) h.shown_all t.now_all (λ l lt. elim (cases_lt l n) [
       | inl less ↦ h.below l less
-      | inr more ↦ h.above l more ∙ alike before now l (quiet_after before now touched i l sorted t past le more)
+      | inr more ↦ h.above l more ∙ alike before now l
+          (quiet_after before now first last l t (omega (arith, end, more)))
     ])
-
--- the line at hand, by its own name
-
-line_at : (touched : List ℕ) (i x : ℕ) → i < length touched → x ≡ get_or touched i x → x ≡ get_or touched i 0
-line_at touched i x lt e = e ∙ get_or_default touched i x 0 lt
-
-pub line-same : (touched : List ℕ) (i : ℕ) (before now shown : Levels) (changes : List Change) (x : ℕ) → IsNonDecreasing
-    touched → ListsTouchedLines before now touched → i < length touched → x ≡ get_or touched i x
-    → same_level (level_at shown x) (level_at now x) ≡ true → AreShown touched i before now shown changes
-    → AreShown touched (i + 1) before now shown changes
-line-same touched i before now shown changes x sorted t here e same h =
-    shown-same touched i before now shown changes sorted t here
-    (subst (λ (y : ℕ). same_level (level_at shown y) (level_at now y) ≡ true) (line_at touched i x here e) same) h
-
-pub line-more : (touched : List ℕ) (i : ℕ) (before now shown : Levels) (changes : List Change) (x : ℕ) → IsNonDecreasing
-    touched → ListsTouchedLines before now touched → i < length touched → x ≡ get_or touched i x
-    → same_level (level_at shown x) (level_at now x) ≡ false → AreShown touched i before now shown changes
-    → AreShown touched (i + 1) before now (set_level shown x (level_at now x)) (changes ++ change_to now x ∷ [])
-line-more touched i before now shown changes x sorted t here e other h =
-    let is = line_at touched i x here e in
-    subst (λ (y : ℕ). AreShown touched (i + 1) before now (set_level shown y (level_at now y))
-    (changes ++ change_to now y ∷ [])) (sym is)
-    (shown-more touched i before now shown changes sorted t here
-    (subst (λ (y : ℕ). same_level (level_at shown y) (level_at now y) ≡ false) is other) h)
-
-pub line-exists : (before now : Levels) (touched : List ℕ) (i x : ℕ) → ListsTouchedLines before now touched
-    → i < length touched → x ≡ get_or touched i x → IsLine before.slots x
-line-exists before now touched i x t here e = subst (IsLine before.slots) (sym e) (t.lines i x here)

@@ -21,7 +21,7 @@ use Rattle.vcd_read.specs.declared.dump.Bit.{Bit}
 use Rattle.vcd_read.specs.declared.fault.VcdFault.{VcdFault}
 use Rattle.vcd_read.proofs.DetachedLemmas.{joined-leads, kept-detached}
 use Rattle.vme_bind.specs.BuilderState.{BuilderState, builder_change, builder_instant}
-use Rattle.vme_bind.specs.Recording.{ListsTouchedLines, RecorderLevels, all_of, changes_between, differs, end_of}
+use Rattle.vme_bind.specs.Recording.{DifferWithin, RecorderLevels, all_of, changes_between, differs, end_of}
 use Rattle.vme_bind.specs.Recording.{ended_steps, step_between}
 use Rattle.vme_bind.specs.TextPieces.{outcome, outcome_ahead}
 use Rattle.vme_bind.specs.SpeculativeReading.{MayFollowLevels, IsJoined, IsReadSpeculatively, ReadSpeculatively}
@@ -34,9 +34,9 @@ use Rattle.vme_bind.proofs.RecorderLemmas.{alike, same_levels}
 
 -- ---- the levels behind the step that ends an instant
 
-changes-lead : (shown now : Levels) (touched : List ℕ) → ListsTouchedLines shown now touched
+changes-lead : (shown now : Levels) (first last : ℕ) → DifferWithin shown now first last
     → changed shown (changes_between shown now) ≡ now
-changes-lead shown now touched h =
+changes-lead shown now first last h =
     same_levels (changed shown (changes_between shown now)) now (slots-kept shown (changes_between shown now)
     ∙ sym h.slots)
     (length-changed shown (changes_between shown now) ∙ h.shown_all) h.now_all
@@ -49,24 +49,24 @@ changes-lead shown now touched h =
     by_test l true e = refl
     by_test l false e = alike shown now l e
 
-step-leads : (time : ℕ) (shown now : Levels) (touched : List ℕ) → ListsTouchedLines shown now touched
+step-leads : (time : ℕ) (shown now : Levels) (first last : ℕ) → DifferWithin shown now first last
     → levels_after shown (step_between time shown now) ≡ now
-step-leads time shown now touched h = by_any (any (differs shown now) 0 line_count) refl
+step-leads time shown now first last h = by_any (any (differs shown now) 0 line_count) refl
   where
     by_any : (b : Bool) → any (differs shown now) 0 line_count ≡ b
         → levels_after shown (cond b (record { time = time; changes = changes_between shown now } ∷ []) []) ≡ now
-    by_any true e = changes-lead shown now touched h
+    by_any true e = changes-lead shown now first last h
     by_any false e = same_levels shown now (sym h.slots) h.shown_all h.now_all
         (λ l lt. alike shown now l (any-fails (differs shown now) 0 line_count l e (omega arith) lt))
 
 -- the step that ends the instant at hand, if one ends, leads to the levels that are shown then
-pub end-leads : (p : RecorderLevels) (shown now : Levels) (touched : List ℕ) (e : Option ℕ) → p
-    ≡ record { shown = shown; now = now } → ListsTouchedLines shown now touched
+pub end-leads : (p : RecorderLevels) (shown now : Levels) (first last : ℕ) (e : Option ℕ) → p
+    ≡ record { shown = shown; now = now } → DifferWithin shown now first last
     → levels_after p.shown (ended_steps p e) ≡ (entered end_of p e).shown
-end-leads p shown now touched None is h = refl
-end-leads p shown now touched (Some time) is h =
+end-leads p shown now first last None is h = refl
+end-leads p shown now first last (Some time) is h =
     subst (λ (q : RecorderLevels). levels_after q.shown (step_between time q.shown q.now) ≡ q.now) (sym is)
-    (step-leads time shown now touched h)
+    (step-leads time shown now first last h)
 
 -- ---- what is made behind another recording
 

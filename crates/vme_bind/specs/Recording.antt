@@ -1,6 +1,6 @@
 -- How the levels of the lines change from one instant to the next.
-use Rattle.std.specs.Prelude.{◌≡◌, ℕ, ◌<◌, Bool, true, not, if◌then◌else◌, List, [], ◌∷◌}
-use Rattle.std.specs.Prelude.{length, map, All, Contains}
+use Rattle.std.specs.Prelude.{◌≡◌, ℕ, ◌<◌, ◌≤◌, Bool, true, not, if◌then◌else◌, List, [], ◌∷◌}
+use Rattle.std.specs.Prelude.{length, map, All}
 use Rattle.std.specs.Prelude.{IsTrue, Option, Some, None}
 use Rattle.vme_trace.specs.Instants.{any, those}
 use Rattle.vme_trace.specs.Levels.{Levels, level_at, same_level}
@@ -42,13 +42,15 @@ pub record IsLine (slots l : ℕ) : Type 0 where
 abbrev pub differs : Levels → Levels → ℕ → Bool
 differs a b l = not (same_level (level_at a l) (level_at b l))
 
--- both are levels of one backplane, and each line on which they differ is listed
-pub record ListsTouchedLines (shown now : Levels) (touched : List ℕ) : Type 0 where
+-- both are levels of one backplane, and each line on which they differ lies from the first of some lines to the last
+pub record DifferWithin (shown now : Levels) (first last : ℕ) : Type 0 where
   pub slots : now.slots ≡ shown.slots
   pub shown_all : length shown.levels ≡ line_count
   pub now_all : length now.levels ≡ line_count
-  pub lines : All (IsLine shown.slots) touched
-  pub listed : (l : ℕ) → differs shown now l ≡ true → Contains touched l
+  pub begins : IsLine shown.slots first
+  pub lines : (l : ℕ) → differs shown now l ≡ true → IsLine shown.slots l
+  pub low : (l : ℕ) → differs shown now l ≡ true → first ≤ l
+  pub high : (l : ℕ) → differs shown now l ≡ true → l ≤ last
 
 -- what the bits of a net do to the line of a line bit
 abbrev pub line_change : List Bit → LineBit → Change

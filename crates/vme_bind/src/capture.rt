@@ -48,7 +48,7 @@ fn record_all(
 {
     let line_bits = NetLines::of_bound_groups(alloc, lines, bound_groups)?;
     let opening = opening_of(lines, bound_groups);
-    let mut recorder = Recorder::new(alloc, opening);
+    let mut recorder = Recorder::new(opening);
     let mut steps = Vec::new(alloc);
     for instant in instants {
         if let Some(step) = recorder.record(

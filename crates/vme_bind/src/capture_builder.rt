@@ -1,6 +1,6 @@
 //! The recording that is made as a dump is read.
 
-ghost use Rattle.std.specs.Prelude.{◌≡◌, ℕ};
+ghost use Rattle.std.specs.Prelude.{◌≡◌, ℕ, OnOk};
 ghost use Rattle.vme_bind.specs.Recording.{AreLines};
 ghost use Rattle.vme_bind.specs.NetLines.{line_bits_of};
 ghost use Rattle.vme_bind.specs.BuilderState.{builder_change, builder_instant};
@@ -68,6 +68,17 @@ impl<F: StepVisitor> CaptureBuilder<F> {
     {
         self.visitor
     }
+
+    /// Ends an instant at which several lines may have another level than before.
+    #[inline(never)]
+    fn end_lines(&mut self, alloc: Global, time: u64) -> Result<(), AllocError>
+        ensures { OnOk result (self.new ≡ builder_instant self.old time) }
+    {
+        match self.recorder.end_with_lines(alloc, time)? {
+            Some(ended) => self.visitor.step(alloc, ended),
+            None => Ok(()),
+        }
+    }
 }
 
 impl<F: StepVisitor> ChangeVisitor for CaptureBuilder<F> {
@@ -99,7 +110,10 @@ impl<F: StepVisitor> ChangeVisitor for CaptureBuilder<F> {
         if self.recorder.is_untouched() {
             return Ok(());
         }
-        match self.recorder.end_instant(alloc, time)? {
+        let Some(line) = self.recorder.lone_line() else {
+            return self.end_lines(alloc, time);
+        };
+        match self.recorder.end_with_line(alloc, time, line) {
             Some(step) => self.visitor.step(alloc, step),
             None => Ok(()),
         }
@@ -161,6 +175,17 @@ impl<'t, F: StepVisitor> SpeculativeBuilder<'t, F> {
         } = self;
         (recorder, visitor, assigned)
     }
+
+    /// Ends an instant at which several lines may have another level than before.
+    #[inline(never)]
+    fn end_lines(&mut self, alloc: Global, time: u64) -> Result<(), AllocError>
+        ensures { OnOk result (self.new ≡ speculative_instant self.old time) }
+    {
+        match self.recorder.end_with_lines(alloc, time)? {
+            Some(ended_ahead) => self.visitor.step(alloc, ended_ahead),
+            None => Ok(()),
+        }
+    }
 }
 
 impl<F: StepVisitor> ChangeVisitor for SpeculativeBuilder<'_, F> {
@@ -193,7 +218,10 @@ impl<F: StepVisitor> ChangeVisitor for SpeculativeBuilder<'_, F> {
         if self.recorder.is_untouched() {
             return Ok(());
         }
-        match self.recorder.end_instant(alloc, time)? {
+        let Some(line) = self.recorder.lone_line() else {
+            return self.end_lines(alloc, time);
+        };
+        match self.recorder.end_with_line(alloc, time, line) {
             Some(made) => self.visitor.step(alloc, made),
             None => Ok(()),
         }

@@ -8,8 +8,8 @@
 //! - `fault`: why a text is no binding, or makes no recording of a dump.
 //! - `path_search`, `search`, `bound_groups`, `net_lines`: which variable a path means, and which
 //!   bits of a net the lines have their levels from.
-//! - `recorder`, `capture_builder`, `step_collector`, `pushing`: the levels as a dump goes on, and
-//!   the steps that they make.
+//! - `recorder`, `capture_builder`, `step_collector`: the levels as a dump goes on, and the steps
+//!   that they make.
 //! - `capture`, `text_capture`: the recording of a dump that was read, and of a text that is read
 //!   once and isn't kept.
 //! - `text_pieces`, `text_state`: the recording of a text that comes piece by piece.
@@ -65,7 +65,6 @@ mod group;
 mod laws;
 mod net_lines;
 mod path_search;
-mod pushing;
 mod recorder;
 mod search;
 mod selection;

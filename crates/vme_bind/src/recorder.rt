@@ -1,26 +1,30 @@
 //! The levels of the lines as a dump goes on, and the step at which they change.
 
 ghost use Rattle.std.specs.Prelude.{◌≡◌, ◌≢◌, ◌≤◌, ◌<◌, ℕ, false, IfOk, OnOk, map, length};
-ghost use Rattle.std.specs.Prelude.{◌↔◌, IsTrue, [], true};
+ghost use Rattle.std.specs.Prelude.{◌↔◌, ◌⊎◌, IfSome, IsTrue, [], true};
 ghost use Rattle.vcd_read.specs.DetachedPieces.{entered};
-ghost use Rattle.std.specs.List.Sorted.{IsNonDecreasing};
 ghost use Rattle.vme_trace.specs.LineNumbers.{line_count};
 ghost use Rattle.vme_trace.specs.Levels.{same_level, set_level};
 ghost use Rattle.vme_trace.specs.Trace.{changed, levels_after};
 ghost use Rattle.vcd_read.specs.Numbers.{extended};
 ghost use Rattle.vme_bind.specs.Capture.{level_of, level_in};
 ghost use Rattle.vme_bind.specs.NetLines.{line_bits_of};
-ghost use Rattle.vme_bind.specs.Recording.{IsLine, all_of, differs, ListsTouchedLines, AreLines, line_change, valued};
+ghost use Rattle.vme_bind.specs.Recording.{IsLine, all_of, differs, DifferWithin, AreLines, line_change, valued};
 ghost use Rattle.vme_bind.specs.Recording.{changes_between};
 ghost use Rattle.vme_bind.specs.Recording.{end_of, ended_steps, step_between, step_in};
 
 use crate::net_lines::{LineBit, NetLines};
-use crate::pushing::push;
 use smallvec::SmallVec;
 use std::alloc::{AllocError, Global};
 use std::marker::Model;
 use vcd_read::{Bit, Value, bit_at};
 use vme_trace::{Change, Changes, Level, Line, Lines, Step};
+
+/// Where no line got another level, the lines that did lie from this one..
+const NONE_FIRST: Line = Line::SYSRESET;
+
+/// .. to this one.
+const NONE_LAST: Line = Line::AS;
 
 /// The levels of the lines.
 #[derive(Drop)]
@@ -29,18 +33,20 @@ pub(crate) struct Recorder {
     shown: Lines,
     /// The levels after the values so far.
     now: Lines,
-    /// The lines that got another level since the last step, some of them perhaps more than once.
-    touched: Vec<Line>,
+    /// The first of some lines: no line before it got another level since the last step.
+    first: Line,
+    /// The last of them. It is before the first where no line got another level.
+    last: Line,
 }
 
 impl Model for Recorder {
-    ghost use Rattle.vme_bind.specs.Recording.{RecorderLevels, ListsTouchedLines};
+    ghost use Rattle.vme_bind.specs.Recording.{RecorderLevels, DifferWithin};
 
     ghost Value = { RecorderLevels };
 
     ghost view = { λ r. record { shown = r.shown; now = r.now } };
 
-    ghost invariant = { λ r. ListsTouchedLines r.shown r.now r.touched.items };
+    ghost invariant = { λ r. DifferWithin r.shown r.now r.first r.last };
 }
 
 /// What a bit says of a line: a bused line floats high, and a net to nowhere.
@@ -90,26 +96,55 @@ fn is_same(first: Level, second: Level) -> bool
     first == second
 }
 
-/// The changes from the levels that were shown to those of now, on the lines that were touched, in the order of their
-/// numbers. All of them are then shown.
+/// The one of two lines whose number is less.
+#[inline(always)]
+fn earlier(first: Line, second: Line) -> Line
+    ensures least { (result ≤ first) × (result ≤ second) }
+    ensures one { (result ≡ first) ⊎ (result ≡ second) }
+{
+    if first.number() < second.number() {
+        first
+    } else {
+        second
+    }
+}
+
+/// The one of two lines whose number is greater.
+#[inline(always)]
+fn later(first: Line, second: Line) -> Line
+    ensures { (first ≤ result) × (second ≤ result) }
+{
+    if first.number() < second.number() {
+        second
+    } else {
+        first
+    }
+}
+
+/// The changes from the levels that were shown to those of now, in the order of their lines. All of them are then
+/// shown.
 fn show(
     alloc: Global,
-    touched: &[Line],
+    first: Line,
+    last: Line,
     now: &Lines,
     shown: &mut Lines,
 ) -> Result<SmallVec<Change, 8>, AllocError>
-    requires sorted { IsNonDecreasing touched.now }
-    requires touched { ListsTouchedLines shown.old now.now touched.now }
+    requires { DifferWithin shown.old now.now first last }
     ensures changes { IfOk result (λ changes. changes.items ≡ changes_between shown.old now.now) }
     ensures shown { OnOk result (shown.new ≡ now.now) }
-    ensures touched { ListsTouchedLines shown.new now.now touched.now }
+    ensures within { DifferWithin shown.new now.now first last }
 {
-    let mut changes = SmallVec::with_capacity(alloc, touched.len())?;
-    for line in touched {
-        let level = now.level(*line);
-        if !is_same(shown.level(*line), level) {
-            changes.push_reserved(Change { line: *line, level });
-            shown.set(*line, level);
+    let begin = earlier(first, last).number();
+    let end = last.number() + 1;
+    let mut changes = SmallVec::with_capacity(alloc, (end - begin) as usize)?;
+    for number in begin..end {
+        if let Some(line) = Line::from_number(number) {
+            if !now.is_same_on(shown, line) {
+                let level = now.level(line);
+                changes.push_reserved(Change { line, level });
+                shown.set(line, level);
+            }
         }
     }
     Ok(changes)
@@ -117,14 +152,15 @@ fn show(
 
 impl Recorder {
     /// No step yet.
-    pub fn new(alloc: Global, opening: Lines) -> Recorder
+    pub fn new(opening: Lines) -> Recorder
         requires { length opening.levels ≡ line_count }
         ensures { result ≡ all_of opening }
     {
         Recorder {
             shown: opening,
             now: opening,
-            touched: Vec::new(alloc),
+            first: NONE_FIRST,
+            last: NONE_LAST,
         }
     }
 
@@ -136,7 +172,8 @@ impl Recorder {
         ensures ok { OnOk result (self.new ≡ record self.old { now = set_level self.old.now line level }) }
     {
         if !is_same(self.shown.level(line), level) {
-            push(&mut self.touched, line)?;
+            self.first = earlier(self.first, line);
+            self.last = later(self.last, line);
         }
         self.now.set(line, level);
         Ok(())
@@ -221,7 +258,7 @@ impl Recorder {
         ensures none { result ≡ true → (time : ℕ)
             → step_between time self.entry.now.shown self.entry.now.now ≡ [] }
     {
-        self.touched.is_empty()
+        self.last.number() < self.first.number()
     }
 
     /// Ends an instant, which is a step if some line has another level than before.
@@ -231,19 +268,32 @@ impl Recorder {
         ensures shown { OnOk result (self.new ≡ record { shown = self.old.now; now = self.old.now }) }
         ensures step { IfOk result (λ step. step_in step ≡ step_between time self.old.shown self.old.now) }
     {
-        match self.touched.len() {
-            0 => Ok(None),
-            1 => {
-                let line = self.touched[0];
-                Ok(self.end_with_line(alloc, time, line))
-            }
-            _ => self.end_with_lines(alloc, time),
+        if self.is_untouched() {
+            return Ok(None);
+        }
+        match self.lone_line() {
+            Some(line) => Ok(self.end_with_line(alloc, time, line)),
+            None => self.end_with_lines(alloc, time),
+        }
+    }
+
+    /// The line that alone may have another level than before, where there is one.
+    #[inline(always)]
+    pub fn lone_line(&self) -> Option<Line>
+        ensures exists { IfSome result (λ line. IsLine self.entry.now.now.slots line) }
+        ensures alone { IfSome result (λ line. (l : ℕ) → l ≢ line
+            → differs self.entry.now.shown self.entry.now.now l ≡ false) }
+    {
+        if self.first.number() == self.last.number() {
+            Some(self.first)
+        } else {
+            None
         }
     }
 
     /// Ends an instant at which no line but this one may have another level than before.
     #[inline(always)]
-    fn end_with_line(&mut self, alloc: Global, time: u64, line: Line) -> Option<Step>
+    pub fn end_with_line(&mut self, alloc: Global, time: u64, line: Line) -> Option<Step>
         requires exists { IsLine self.old.now.slots line }
         requires alone { (l : ℕ) → l ≢ line → differs self.old.shown self.old.now l ≡ false }
         ensures now { self.new.now ≡ self.old.now }
@@ -253,27 +303,29 @@ impl Recorder {
         let level = self.now.level(line);
         let is_shown = is_same(self.shown.level(line), level);
         self.shown.set(line, level);
-        self.touched.clear();
+        self.first = NONE_FIRST;
+        self.last = NONE_LAST;
         if is_shown {
             return None;
         }
-        let change = Change { line, level };
+        let mut changes = SmallVec::new(alloc);
+        changes.push_reserved(Change { line, level });
         Some(Step {
             time,
-            changes: Changes::new(SmallVec::from_buf_and_len(alloc, [change; 8], 1)),
+            changes: Changes::new(changes),
         })
     }
 
     /// Ends an instant at which any lines may have.
     #[inline(never)]
-    fn end_with_lines(&mut self, alloc: Global, time: u64) -> Result<Option<Step>, AllocError>
+    pub fn end_with_lines(&mut self, alloc: Global, time: u64) -> Result<Option<Step>, AllocError>
         ensures now { self.new.now ≡ self.old.now }
         ensures shown { OnOk result (self.new ≡ record { shown = self.old.now; now = self.old.now }) }
         ensures step { IfOk result (λ step. step_in step ≡ step_between time self.old.shown self.old.now) }
     {
-        self.touched.sort_unstable_by_key(|line| line.number());
-        let changes = show(alloc, &self.touched, &self.now, &mut self.shown)?;
-        self.touched.clear();
+        let changes = show(alloc, self.first, self.last, &self.now, &mut self.shown)?;
+        self.first = NONE_FIRST;
+        self.last = NONE_LAST;
         if changes.is_empty() {
             return Ok(None);
         }
@@ -324,7 +376,7 @@ impl Recorder {
         ensures step { IfOk result (λ step. step_in step ≡ ended_steps self.old ended) }
         ensures leads { IfOk result (λ step. levels_after self.old.shown (step_in step) ≡ self.new.shown) }
     {
-        let _ = &self.touched;
+        let _ = &self.first;
         match ended {
             Some(time) => self.end_instant(alloc, time),
             None => Ok(None),

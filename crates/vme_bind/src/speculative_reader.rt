@@ -162,11 +162,7 @@ impl SpeculativeReader {
         if from.slots() != self.recorder.now().slots() {
             return None;
         }
-        let builder = SpeculativeBuilder::new(
-            &self.line_bits,
-            Recorder::new(alloc, *from),
-            visitor,
-        );
+        let builder = SpeculativeBuilder::new(&self.line_bits, Recorder::new(*from), visitor);
         let detached = self.pieces.detached(alloc, piece, line, builder)?;
         let (detached, builder) = detached.with_visitor(DiscardChanges);
         let (recorder, visitor, assigned) = builder.into_parts();

@@ -43,7 +43,7 @@ pub(crate) fn builder_of<F: StepVisitor>(
 {
     let line_bits = NetLines::of_bound_groups(alloc, lines, bound_groups)?;
     let opening = opening_of(lines, bound_groups);
-    let recorder = Recorder::new(alloc, opening);
+    let recorder = Recorder::new(opening);
     let mut visitor = visitor;
     visitor.open(&opening);
     Ok(CaptureBuilder::new(line_bits, recorder, visitor))

@@ -13,9 +13,10 @@ use Rattle.vme_trace.specs.LineNumbers.{line_count}
 use Rattle.vme_trace.specs.Trace.{changed}
 use Rattle.vme_trace.specs.declared.level.Level.{Level}
 use Rattle.vme_trace.specs.declared.step.Change.{Change}
-use Rattle.vme_bind.specs.Recording.{IsLine, ListsTouchedLines, step_between}
-use Rattle.vme_bind.proofs.RecorderLemmas.{set_all, set_other, touched-more, touched-none}
-use Rattle.vme_skew.specs.Group.{GroupLevels, KeepsTouchedLines}
+use Rattle.vme_bind.specs.Recording.{IsLine, step_between}
+use Rattle.vme_bind.proofs.RecorderLemmas.{set_all, set_other}
+use Rattle.vme_skew.specs.Group.{GroupLevels, KeepsTouchedLines, ListsTouchedLines}
+use Rattle.vme_skew.proofs.TouchedLines.{touched-more, touched-none}
 
 -- the time of a step comes more than the skew behind a beginning
 pub over_is : (start skew time : ℕ) → nat_lt skew (time - start) ≡ nat_lt (start + skew) time
@@ -57,7 +58,7 @@ pub keeps-again : (before now : Levels) (touched : List ℕ) (marks : List Bool)
 keeps-again before now touched marks m x h here = record {
   lists = record {
     slots = h.lists.slots;
-    shown_all = h.lists.shown_all;
+    before_all = h.lists.before_all;
     now_all = set_all now m x h.lists.now_all;
     lines = h.lists.lines;
     listed = λ l d. elim (cases_eq l m) [

@@ -7,5 +7,6 @@ pub mod Grown
 pub mod Laws
 pub mod SettlerSteps
 pub mod StepByStep
+pub mod TouchedLines
 pub mod WorkedAgree
 pub mod CapturesStay

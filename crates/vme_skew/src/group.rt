@@ -7,8 +7,8 @@ ghost use Rattle.std.specs.List.Sorted.{IsNonDecreasing};
 ghost use Rattle.vme_trace.specs.LineNumbers.{line_count};
 ghost use Rattle.vme_trace.specs.Levels.{set_level};
 ghost use Rattle.vme_trace.specs.Trace.{changed};
-ghost use Rattle.vme_bind.specs.Recording.{IsLine, ListsTouchedLines, changes_between, step_between, step_in};
-ghost use Rattle.vme_skew.specs.Group.{ChangeLines, begun};
+ghost use Rattle.vme_bind.specs.Recording.{IsLine, changes_between, step_between, step_in};
+ghost use Rattle.vme_skew.specs.Group.{ChangeLines, ListsTouchedLines, begun};
 
 use smallvec::SmallVec;
 use std::alloc::{AllocError, Global};

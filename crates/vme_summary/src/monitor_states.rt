@@ -1,9 +1,9 @@
 //! What monitors have come to that judge a recording from its opening on.
 
-ghost use Rattle.std.specs.Prelude.{◌≡◌, ◌+◌, ◌^◌, ◌<◌, ◌≤◌, ◌++◌, List, None, length, option_map};
+ghost use Rattle.std.specs.Prelude.{◌≡◌, ◌+◌, ◌^◌, ◌<◌, ◌≤◌, ◌++◌, List, None, length, option_map, unwrap_or};
 ghost use Rattle.vme_monitor.specs.Outcome.{earlier, shifted_break};
 ghost use Rattle.vme_monitor.specs.OverStretches.{observed, phase_step};
-ghost use Rattle.vme_monitor.specs.Run.{break_at, machine_step};
+ghost use Rattle.vme_monitor.specs.Run.{break_at, machine_step, quiet as quiet_next};
 ghost use Rattle.vme_monitor.specs.StepRuns.{seen_in};
 ghost use Rattle.vme_monitor.specs.Tables.{outcome};
 ghost use Rattle.vme_monitor.specs.WithoutMarks.{unmarked_next};
@@ -66,62 +66,63 @@ impl<P: Enumerable> MonitorState<P> {
     }
 }
 
-/// What a step that ends no span gives to one who judges, but for what it shows.
+/// What a step that ends no span gives to one who judges, but for what it shows; nothing, where it gives nothing and
+/// the memory stays.
 #[inline(always)]
 fn next_judging<R: Rules>(
     memory: R::Memory,
     view: &StepView,
     changes: &[Change],
-) -> Next<StretchPhase<R::Memory>>
+) -> Option<Next<StretchPhase<R::Memory>>>
     requires view { view.now ≡ seen_in view.now.before changes.now }
     requires goes_on { view.now.end ≡ None }
-    ensures { result ≡ unmarked_next
+    ensures { unwrap_or result (quiet_next (Judging memory)) ≡ unmarked_next
         (machine_step (observed R.observation) (phase_step R.begin R.opens R.resets R.ends R.next)
         (Judging memory) view.now.before view.now.after changes.now) }
 {
     let Some(seen) = R::observe(&view.before, &view.after, changes) else {
-        return quiet(StretchPhase::Judging(memory));
+        return None;
     };
     let next = R::step(memory, &view.before, &view.after, &seen);
-    Next {
+    Some(Next {
         memory: StretchPhase::Judging(next.memory),
         fault: next.fault,
         shown: NOTHING,
-    }
+    })
 }
 
-/// What a step gives to one who is in this memory, but for what it shows. The memory is asked first: to most memories
-/// most steps give nothing.
+/// What a step gives to one who is in this memory, but for what it shows; nothing, where it gives nothing and the
+/// memory stays. The memory is asked first: to most memories most steps give nothing.
 #[inline(always)]
 fn next_in<R: Rules>(
     memory: StretchPhase<R::Memory>,
     view: &StepView,
     changes: &[Change],
-) -> Next<StretchPhase<R::Memory>>
+) -> Option<Next<StretchPhase<R::Memory>>>
     requires { view.now ≡ seen_in view.now.before changes.now }
-    ensures { result ≡ unmarked_next
+    ensures { unwrap_or result (quiet_next memory) ≡ unmarked_next
         (machine_step (observed R.observation) (phase_step R.begin R.opens R.resets R.ends R.next)
         memory view.now.before view.now.after changes.now) }
 {
     match memory {
-        StretchPhase::Ended => quiet(memory),
+        StretchPhase::Ended => None,
         StretchPhase::Waiting | StretchPhase::Reset => {
             let machine_step = view.control
                 || R::observe(&view.before, &view.after, changes).is_some();
             if machine_step && view.after.is_idle() {
-                quiet(StretchPhase::Judging(R::at_start(&view.after)))
+                Some(quiet(StretchPhase::Judging(R::at_start(&view.after))))
             } else {
-                quiet(memory)
+                None
             }
         }
         StretchPhase::Judging(inner) => match view.end {
             None => next_judging::<R>(inner, view, changes),
-            Some(End::Reset) => quiet(StretchPhase::Reset),
-            Some(End::Lost(line)) => Next {
+            Some(End::Reset) => Some(quiet(StretchPhase::Reset)),
+            Some(End::Lost(line)) => Some(Next {
                 memory: StretchPhase::Ended,
                 fault: R::fault_at_end(line),
                 shown: NOTHING,
-            },
+            }),
         },
     }
 }
@@ -131,23 +132,26 @@ fn next_in<R: Rules>(
 pub(crate) fn advance<R: Rules>(
     state: &mut MonitorState<StretchPhase<R::Memory>>,
     view: &StepView,
-    step: &Step,
+    changes: &[Change],
+    time: u64,
     instant: u32,
 )
-    requires { view.now ≡ seen_in view.now.before step.now.changes }
+    requires { view.now ≡ seen_in view.now.before changes.now }
     ensures memory { state.new.memory
         ≡ (machine_step (observed R.observation) (phase_step R.begin R.opens R.resets R.ends R.next)
-        state.old.memory view.now.before view.now.after step.now.changes).memory }
-    ensures event { state.new.event ≡ earlier state.old.event (option_map (break_at instant step.now.time)
+        state.old.memory view.now.before view.now.after changes.now).memory }
+    ensures event { state.new.event ≡ earlier state.old.event (option_map (break_at instant time)
         (machine_step (observed R.observation) (phase_step R.begin R.opens R.resets R.ends R.next)
-        state.old.memory view.now.before view.now.after step.now.changes).fault) }
+        state.old.memory view.now.before view.now.after changes.now).fault) }
 {
-    let next = next_in::<R>(state.memory, view, step.changes.as_slice());
+    let Some(next) = next_in::<R>(state.memory, view, changes) else {
+        return;
+    };
     state.memory = next.memory;
     if let (None, Some(fault)) = (state.event, next.fault) {
         state.event = Some(Break {
             instant,
-            time: step.time,
+            time,
             rule: fault.rule,
             line: fault.line,
         });

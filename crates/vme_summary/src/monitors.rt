@@ -331,11 +331,13 @@ impl MonitorStates {
         ensures { (o : Levels) (x : List Step) → IsAdvancedTo o x view.now.before instant
             → HasFound self.old o x → HasFound self.new o (x ++ step.now ∷ []) }
     {
-        advance::<KnownRules>(&mut self.known, view, step, instant);
-        advance::<HandshakeRules>(&mut self.handshake, view, step, instant);
-        advance::<StabilityRules>(&mut self.stability, view, step, instant);
-        advance::<GrantRules>(&mut self.grant, view, step, instant);
-        advance::<AcknowledgeRules>(&mut self.acknowledge, view, step, instant);
+        let changes = step.changes.as_slice();
+        let time = step.time;
+        advance::<KnownRules>(&mut self.known, view, changes, time, instant);
+        advance::<HandshakeRules>(&mut self.handshake, view, changes, time, instant);
+        advance::<StabilityRules>(&mut self.stability, view, changes, time, instant);
+        advance::<GrantRules>(&mut self.grant, view, changes, time, instant);
+        advance::<AcknowledgeRules>(&mut self.acknowledge, view, changes, time, instant);
     }
 
     /// Whether anything is judged of a recording past whose steps the monitors have come.

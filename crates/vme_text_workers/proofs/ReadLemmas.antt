@@ -1,4 +1,4 @@
--- A piece that is read in two, one after the other.
+-- A piece that is read in two, one after the other; and one of whose parts some were taken.
 use Rattle.std.proofs.Common.{◌≡◌, ℕ, List, [], ◌++◌, Result, Ok, Err, sym, ap, ◌∙◌}
 use Rattle.std.specs.Prelude.{IfOk}
 use Rattle.vcd_read.specs.Reading.{line_behind}
@@ -6,7 +6,9 @@ use Rattle.vcd_read.specs.Tokens.{Token, tokens_from}
 use Rattle.vme_bind.specs.TextPieces.{TextContinuesAs, TextReached, outcome_ahead}
 use Rattle.vme_bind.specs.declared.fault.CaptureFault.{CaptureFault}
 use Rattle.vme_bind.proofs.TextPieceLemmas.{leads-same}
-use Rattle.vme_text_workers.specs.Cuts.{IsCutIn}
+use Rattle.vme_text_workers.specs.Cuts.{ArePiecesOf, IsCutIn, tokens_of}
+use Rattle.vme_text_workers.specs.SpeculativeChunks.{AreTaken}
+use Rattle.vme_text_workers.specs.declared.cut.DumpPiece.{DumpPiece}
 use Rattle.vme_text_workers.proofs.JoinLemmas.{ahead-append}
 
 module _ (whole front behind : List ℕ) (cut : IsCutIn whole front behind) (t u : TextReached) (line : u.body.line
@@ -35,3 +37,17 @@ module _ (whole front behind : List ℕ) (cut : IsCutIn whole front behind) (t u
       ≡ line_behind t.body.line whole)
   both-lines reach (Ok x) h = h ∙ ap (λ (l : ℕ). line_behind l behind) line ∙ sym (cut.lines t.body.line)
   both-lines reach (Err fault) h = h
+
+-- what comes of a text whose pieces are taken in part is what comes of those that are left
+pub rest-lead : {X : Type 0} (reach : X → TextReached) (r : Result X CaptureFault) (text : List ℕ)
+    (pieces left : List DumpPiece) (t before after : TextReached) → before ≡ t → ArePiecesOf text pieces
+    → AreTaken pieces before after left
+    → TextContinuesAs (λ x. outcome_ahead (reach x) []) r (outcome_ahead after (tokens_of after.body.line left))
+    → TextContinuesAs (λ x. outcome_ahead (reach x) []) r (outcome_ahead t (tokens_from t.body.line text))
+rest-lead reach r text pieces left t before after is cut taken leads =
+    leads-same (λ x. outcome_ahead (reach x) []) r (outcome_ahead t (tokens_from t.body.line text))
+    (outcome_ahead after (tokens_of after.body.line left))
+    (λ more. ap (λ (ts : List Token). outcome_ahead t ts more) (cut.tokens t.body.line)
+    ∙ ap (λ (u : TextReached). outcome_ahead u (tokens_of u.body.line pieces) more) (sym is)
+    ∙ taken.leads more)
+    leads

@@ -8,6 +8,7 @@ pub mod JudgedSpans
 pub mod NameLaws
 pub mod OpenTransfers
 pub mod Ranges
+pub mod SameLevel
 pub mod SameLines
 pub mod SpanEnds
 pub mod WellFormedSteps

@@ -36,13 +36,11 @@ impl Level {
         !matches!(self, Level::Unknown)
     }
 
-    /// Whether the two are one level.
+    /// Whether the two are one level: they are compared by their variants, at once.
+    #[tactic(auto, using(crate::proofs::SameLevel::same))]
     pub fn is_same(self, other: Level) -> bool
         ensures { result ≡ same_level self other }
     {
-        matches!(
-            (self, other),
-            (Level::Low, Level::Low) | (Level::High, Level::High) | (Level::Unknown, Level::Unknown)
-        )
+        self == other
     }
 }

@@ -32,7 +32,7 @@ impl Model for Lines {
 impl Lines {
     ghost use Rattle.vme_trace.specs.Instants.{every};
     ghost use Rattle.vme_trace.specs.Levels.{level_at, set_level, is_high_on, is_known_on, is_idle, idle_by_ranges};
-    ghost use Rattle.vme_trace.specs.Levels.{is_reset, is_lost};
+    ghost use Rattle.vme_trace.specs.Levels.{is_reset, is_lost, same_level};
     ghost use Rattle.vme_trace.specs.Changes.{lost_among, touches_control};
     ghost use Rattle.vme_trace.specs.Trace.{changed};
     ghost use Rattle.vme_trace.specs.LineNumbers.{line_count, has_line, is_control, grant};
@@ -90,6 +90,14 @@ impl Lines {
         self.at(line.number())
     }
 
+    /// Whether a line has one level here and there.
+    #[inline(always)]
+    pub fn is_same_on(&self, other: &Lines, line: Line) -> bool
+        ensures { result ≡ same_level (level_at self.now line) (level_at other.now line) }
+    {
+        self.at(line.number()).is_same(other.at(line.number()))
+    }
+
     fn at(&self, number: u8) -> Level
         requires { number < line_count }
         ensures { result ≡ level_at self.now number }
@@ -103,11 +111,15 @@ impl Lines {
         self.levels[line.number() as usize] = level;
     }
 
-    /// Makes the changes of a step, in the time that they take alone.
+    /// Makes the changes of a step, in the time that they take alone. Most steps have one change.
     #[tactic(auto, unfolding(crate::specs::Trace::changed))]
     pub fn apply(&mut self, changes: &[Change])
         ensures { self.new ≡ changed self.old changes.now }
     {
+        if let [only] = changes {
+            self.put(only.line, only.level);
+            return;
+        }
         for change in changes {
             self.put(change.line, change.level);
         }
@@ -119,8 +131,8 @@ impl Lines {
         ensures { result ≡ is_control self.now.slots line }
     {
         let number = line.number();
-        self.has(line)
-            && (number <= Line::IACK.number() || (Line::BBSY.number() <= number && !line.is_data()))
+        (number <= Line::IACK.number() || (Line::BBSY.number() <= number && !line.is_data()))
+            && self.has(line)
     }
 
     /// Whether the bus is reset: SYSRESET* is low.
@@ -134,7 +146,7 @@ impl Lines {
     fn is_lost(&self, line: Line) -> bool
         ensures { result ≡ is_lost self.now line }
     {
-        self.is_control(line) && !self.at(line.number()).is_known() && !self.is_reset()
+        !self.at(line.number()).is_known() && self.is_control(line) && !self.is_reset()
     }
 
     /// Whether a control line is among the changes.

@@ -249,6 +249,14 @@ fn backplanes(rt: HostRuntime) -> Result<(), Fail> {
     Ok(())
 }
 
+#[test]
+fn lines_of_two_buses_are_compared(rt: HostRuntime) -> Result<(), Fail> {
+    let (first, mut second) = (high_lines(2)?, high_lines(2)?);
+    second.set(Line::BBSY, Level::Low);
+    assert!(rt; first.is_same_on(&second, Line::AS) && !first.is_same_on(&second, Line::BBSY));
+    Ok(())
+}
+
 /// Whether a bus of high lines stays idle where one of them gets a level.
 fn is_idle_with(line: Line, level: Level) -> Result<bool, Fail> {
     let mut lines = high_lines(2)?;

@@ -2,14 +2,17 @@ use Rattle.vcd_read.proofs.NumberLemmas.{leading_digits, leading_end, leading_nu
 use Rattle.vcd_read.proofs.number.leading_number.Goals as goal
 
 pub returns-clause-within : goal.returns-clause-within
-returns-clause-within c = leading_within c.args.text.now c.read_digits-count.result.0 c.read_digits-count.ensures.end
+returns-clause-within c = leading_within c.args.text.now c.args.from c.read_digits-end.result.0 c.requires
+    c.read_digits-end.ensures.end
 
 pub returns-clause-digits : goal.returns-clause-digits
-returns-clause-digits c = leading_digits c.args.text.now c.read_digits-count.result.0 c.read_digits-count.ensures.end
+returns-clause-digits c = leading_digits c.args.text.now c.args.from c.read_digits-end.result.0
+    c.read_digits-end.ensures.end
 
 pub returns-clause-number : goal.returns-clause-number
-returns-clause-number c = leading_number c.args.text.now c.read_digits-count.result.0 c.read_digits-count.result.1
-    c.read_digits-count.ensures.end c.read_digits-count.ensures.value
+returns-clause-number c = leading_number c.args.text.now c.args.from c.read_digits-end.result.0
+    c.read_digits-end.result.1 c.requires c.read_digits-end.ensures.end c.read_digits-end.ensures.value
 
 pub returns-clause-end : goal.returns-clause-end
-returns-clause-end c = leading_end c.args.text.now c.read_digits-count.result.0 c.read_digits-count.ensures.end
+returns-clause-end c = leading_end c.args.text.now c.args.from c.read_digits-end.result.0
+    c.read_digits-end.ensures.end

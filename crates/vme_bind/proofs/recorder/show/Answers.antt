@@ -2,70 +2,95 @@ use Rattle.std.proofs.Common.{◌≡◌, List, length, sym, ap, subst, arith, tr
 use Rattle.std.proofs.lemmas.List.{length_push}
 use Rattle.vme_trace.specs.Levels.{same_level, level_at}
 use Rattle.vme_trace.specs.declared.step.Change.{Change}
-use Rattle.vme_bind.proofs.RecorderLemmas.{AreShown, shown-first, shown-touched, shown-changes, shown-all, line-same}
-use Rattle.vme_bind.proofs.RecorderLemmas.{line-more}
+use Rattle.vme_bind.proofs.RecorderLemmas.{AreShown, differs-here, shown-all, shown-changes, shown-first, shown-more}
+use Rattle.vme_bind.proofs.RecorderLemmas.{line-exists, shown-same, shown-within}
 use Rattle.vme_bind.proofs.recorder.show.Goals as goal
-use Rattle.vme_bind.proofs.recorder.show.Goals.{then-not-is_same, else-not-is_same}
+use Rattle.vme_bind.proofs.recorder.show.Goals.{in-Some+then-not-is_same_on, in-Some+else-not-is_same_on, in_default}
 
-pub loop-line-init : goal.loop-line-init
-loop-line-init c = record {
-  shown =
-      subst (λ (cs : List Change). AreShown c.args.touched.now 0 c.args.shown.now c.args.now.now c.args.shown.now cs)
-      (sym c.in_ok-changes.ensures.items)
-      (shown-first c.args.touched.now c.args.shown.now c.args.now.now c.requires.touched);
+pub loop-number-init : goal.loop-number-init
+loop-number-init c = record {
+  shown = shown-first c.args.shown.now c.args.now.now c.args.first c.args.last c.number-begin.result
+      c.in_ok-changes.changes.items c.requires (omega (arith, c.earlier.ensures.least.0, c.number-begin.ensures.number))
+      c.in_ok-changes.ensures.items;
   room = omega (arith, ap length c.in_ok-changes.ensures.items, c.in_ok-changes.ensures.capacity);
 }
 
-pub push_reserved-requires : goal.push_reserved-requires
-push_reserved-requires c = omega (arith, c.loop-line.invariant.room, c.loop-line-test.true)
+pub level-level-requires : goal.level-level-requires
+level-level-requires c =
+    let n = c.loop-number.number in
+    let other : same_level (level_at c.args.now.now n) (level_at c.loop-number.shown n)
+    ≡ false = rw (← c.in-Some.ensures.1) (sym c.if-not-is_same_on.ensures) in
+    let exists = line-exists n c.args.shown.now c.args.now.now c.loop-number.shown c.args.first c.args.last
+    c.loop-number.changes.items c.requires other c.loop-number.invariant.shown in
+    rw c.in-Some.ensures.1 exists.0.exists
 
-pub loop-line-preserved : goal.loop-line-preserved
-loop-line-preserved c =
-    let x = c.line-item.result in
-    let before = c.loop-line.changes in
-    elim c.if-not-is_same.branch [
-      | then-not-is_same w ↦
-          let other : same_level (level_at c.loop-line.shown x) (level_at c.args.now.now x)
-          ≡ false = rw (← c.level.ensures, ← c.level-level.ensures) (sym w.if-not-is_same.ensures) in
+pub push_reserved-requires : goal.push_reserved-requires
+push_reserved-requires c = omega (arith, c.loop-number.invariant.room, c.loop-number-test.true)
+
+pub set-requires : goal.set-requires
+set-requires c =
+    let n = c.loop-number.number in
+    let other : same_level (level_at c.args.now.now n) (level_at c.loop-number.shown n)
+    ≡ false = rw (← c.in-Some.ensures.1) (sym c.if-not-is_same_on.ensures) in
+    let exists = line-exists n c.args.shown.now c.args.now.now c.loop-number.shown c.args.first c.args.last
+    c.loop-number.changes.items c.requires other c.loop-number.invariant.shown in
+    rw c.in-Some.ensures.1 exists.1.exists
+
+pub loop-number-preserved : goal.loop-number-preserved
+loop-number-preserved c =
+    let n = c.loop-number.number in
+    let before = c.args.shown.now in
+    let now = c.args.now.now in
+    let shown = c.loop-number.shown in
+    let changes = c.loop-number.changes in
+    elim c.match-from_number.branch [
+      | in-Some+then-not-is_same_on w ↦
+          let line : w.in-Some.line ≡ n = w.in-Some.ensures.1 in
+          let other : same_level (level_at now n) (level_at shown n)
+          ≡ false = rw (← line) (sym w.if-not-is_same_on.ensures) in
+          let below = w.in-Some.ensures.0 in
           record {
-            shown = rw (w.shown-is, w.changes-is, w.set.ensures, w.push_reserved.ensures.items, c.level-level.ensures)
-                (line-more c.args.touched.now c.loop-line.line-index c.args.shown.now c.args.now.now c.loop-line.shown
-                c.loop-line.changes.items x c.requires.sorted c.requires.touched c.loop-line-test.true c.line-item.is
-                other c.loop-line.invariant.shown);
+            shown = rw (
+              w.shown-is,
+              w.changes-is,
+              w.set.ensures,
+              w.push_reserved.ensures.items,
+              w.level-level.ensures,
+              line,
+            )
+                (shown-more n before now shown changes.items (omega (arith, below))
+                other c.loop-number.invariant.shown);
             room = rw w.changes-is (omega (
               arith,
               ap length w.push_reserved.ensures.items,
-              length_push before.items
-                  (record { line = x; level = c.level-level.result }),
+              length_push changes.items (record { line = w.in-Some.line; level = w.level-level.result }),
               w.push_reserved.ensures.capacity,
-              c.loop-line.invariant.room,
+              c.loop-number.invariant.room,
             ));
           }
-      | else-not-is_same w ↦
-          let same : same_level (level_at c.loop-line.shown x) (level_at c.args.now.now x)
-          ≡ true = rw (← c.level.ensures, ← c.level-level.ensures) (sym w.if-not-is_same.ensures) in
+      | in-Some+else-not-is_same_on w ↦
+          let line : w.in-Some.line ≡ n = w.in-Some.ensures.1 in
+          let same : same_level (level_at now n) (level_at shown n)
+          ≡ true = rw (← line) (sym w.if-not-is_same_on.ensures) in
           record {
             shown = rw (w.shown-is, w.changes-is)
-                (line-same c.args.touched.now c.loop-line.line-index c.args.shown.now c.args.now.now c.loop-line.shown
-                c.loop-line.changes.items x c.requires.sorted c.requires.touched c.loop-line-test.true c.line-item.is
-                same c.loop-line.invariant.shown);
-            room = rw w.changes-is (omega (arith, c.loop-line.invariant.room));
+                (shown-same n before now shown changes.items same c.loop-number.invariant.shown);
+            room = rw w.changes-is (omega (arith, c.loop-number.invariant.room));
           }
+      | in_default w ↦ absurd (w.in_default.ensures (omega arith))
     ]
 
 pub returns-clause-changes : goal.returns-clause-changes
 returns-clause-changes c =
-    shown-changes c.args.touched.now c.loop-line.line-index c.args.shown.now c.args.now.now c.loop-line.shown
-    c.loop-line.changes.items c.requires.sorted c.requires.touched c.loop-line-test.false (omega arith)
-    c.loop-line.invariant.shown
+    shown-changes c.loop-number.number c.args.shown.now c.args.now.now c.loop-number.shown c.args.first c.args.last
+    c.loop-number.changes.items c.requires (omega arith) (omega arith) c.loop-number.invariant.shown
 
 pub returns-clause-shown : goal.returns-clause-shown
 returns-clause-shown c =
-    shown-all c.args.touched.now c.loop-line.line-index c.args.shown.now c.args.now.now c.loop-line.shown
-    c.loop-line.changes.items c.requires.sorted c.requires.touched c.loop-line-test.false (omega arith)
-    c.loop-line.invariant.shown
+    shown-all c.loop-number.number c.args.shown.now c.args.now.now c.loop-number.shown c.args.first c.args.last
+    c.loop-number.changes.items c.requires (omega arith) c.loop-number.invariant.shown
 
-pub returns-clause-touched : goal.returns-clause-touched
-returns-clause-touched c =
-    shown-touched c.args.touched.now c.loop-line.line-index c.args.shown.now c.args.now.now c.loop-line.shown
-    c.loop-line.changes.items c.requires.touched c.loop-line.invariant.shown
+pub returns-clause-within : goal.returns-clause-within
+returns-clause-within c =
+    shown-within c.loop-number.number c.args.shown.now c.args.now.now c.loop-number.shown c.args.first c.args.last
+    c.loop-number.changes.items c.requires c.loop-number.invariant.shown

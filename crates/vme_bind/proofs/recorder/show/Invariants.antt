@@ -2,8 +2,8 @@ use Rattle.std.proofs.Common.{◌+◌, ◌≤◌, length}
 use Rattle.vme_bind.proofs.RecorderLemmas.{AreShown}
 use Rattle.vme_bind.proofs.recorder.show.Given as goal
 
-abbrev pub invariant-loop-line : goal.invariant-loop-line
-invariant-loop-line l = record {
-  shown : AreShown l.touched l.line-index l.fn.shown l.now l.shown l.changes.items;
-  room : length l.changes.items + length l.touched ≤ l.changes.capacity + l.line-index;
+abbrev pub invariant-loop-number : goal.invariant-loop-number
+invariant-loop-number l = record {
+  shown : AreShown l.number l.fn.shown l.now l.shown l.changes.items;
+  room : length l.changes.items + l.end ≤ l.changes.capacity + l.number;
 }

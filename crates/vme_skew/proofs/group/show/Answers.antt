@@ -2,8 +2,8 @@ use Rattle.std.proofs.Common.{◌≡◌, List, length, sym, ap, subst, arith, tr
 use Rattle.std.proofs.lemmas.List.{length_push}
 use Rattle.vme_trace.specs.Levels.{same_level, level_at}
 use Rattle.vme_trace.specs.declared.step.Change.{Change}
-use Rattle.vme_bind.proofs.RecorderLemmas.{AreShown, shown-first, shown-touched, shown-changes, shown-all, line-same}
-use Rattle.vme_bind.proofs.RecorderLemmas.{line-more}
+use Rattle.vme_skew.proofs.TouchedLines.{AreShown, shown-first, shown-touched, shown-changes, shown-all, line-same}
+use Rattle.vme_skew.proofs.TouchedLines.{line-more}
 use Rattle.vme_skew.proofs.group.show.Goals as goal
 use Rattle.vme_skew.proofs.group.show.Goals.{then-not-is_same, else-not-is_same}
 

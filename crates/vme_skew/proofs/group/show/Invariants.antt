@@ -1,5 +1,5 @@
 use Rattle.std.proofs.Common.{◌+◌, ◌≤◌, length}
-use Rattle.vme_bind.proofs.RecorderLemmas.{AreShown}
+use Rattle.vme_skew.proofs.TouchedLines.{AreShown}
 use Rattle.vme_skew.proofs.group.show.Given as goal
 
 abbrev pub invariant-loop-line : goal.invariant-loop-line

@@ -10,15 +10,28 @@ pub returns-in_err-one-clause-rest : goal.returns-in_err-one-clause-rest
 returns-in_err-one-clause-rest g c =
     let fault = c.in_err-one.field-0.0 in
     leaves_err _ _ _ _ c.from_residual-in_err-one.result fault c.from_residual-in_err-one.ensures.1
-    (λ more. stops_same fault _ _ _ _ (c.loop.invariant.rest more) (c.in_err-one.ensures.rest more))
+    (λ more. stops_same fault _ _ _ _ (c.loop-self.invariant.rest more) (c.in_err-one.ensures.rest more))
 
-pub loop-preserved : goal.loop-preserved
-loop-preserved g c = record {
-  codes = c.in_ok-one.ensures.codes ∙ c.loop.invariant.codes;
-  text = c.in_ok-one.ensures.text ∙ c.loop.invariant.text;
-  between = c.in_ok-one.ensures.between (cc c.if-branch.true);
-  rest = λ more. c.loop.invariant.rest more ∙ c.in_ok-one.ensures.rest more;
-}
+pub returns-in_err-short_items-clause-rest : goal.returns-in_err-short_items-clause-rest
+returns-in_err-short_items-clause-rest g c =
+    let fault = c.in_err-short_items.field-0.0 in
+    let between = c.in_ok-one.ensures.between (cc c.if-branch.true) in
+    let one = rw between at c.in_ok-one.ensures.rest in
+    leaves_err _ _ _ _ c.from_residual-in_err-short_items.result fault c.from_residual-in_err-short_items.ensures.1
+    (λ more. stops_same fault _ _ _ _ (c.loop-self.invariant.rest more ∙ one more)
+    (c.in_err-short_items.ensures.rest more))
+
+pub loop-self-preserved : goal.loop-self-preserved
+loop-self-preserved g c =
+    let between = c.in_ok-one.ensures.between (cc c.if-branch.true) in
+    let one = rw between at c.in_ok-one.ensures.rest in
+    let short = c.in_ok-short_items.ensures in
+    record {
+      codes = short.codes ∙ c.in_ok-one.ensures.codes ∙ c.loop-self.invariant.codes;
+      text = short.text ∙ c.in_ok-one.ensures.text ∙ c.loop-self.invariant.text;
+      between = short.between;
+      rest = λ more. rw short.between (c.loop-self.invariant.rest more ∙ one more ∙ short.rest more);
+    }
 
 pub returns-clause-rest : goal.returns-clause-rest
-returns-clause-rest g c = λ more. c.loop.invariant.rest more ∙ c.in_ok-one.ensures.rest more
+returns-clause-rest g c = λ more. c.loop-self.invariant.rest more ∙ c.in_ok-one.ensures.rest more

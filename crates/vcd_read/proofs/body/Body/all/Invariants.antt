@@ -5,8 +5,8 @@ use Rattle.vcd_read.specs.Taking.{taking}
 use Rattle.vcd_read.specs.declared.open_item.OpenItem.TheVariants.{Ready}
 use Rattle.vcd_read.proofs.body.Body.all.Given as goal
 
-abbrev pub invariant-loop : goal.invariant-loop
-invariant-loop g l = record {
+abbrev pub invariant-loop-self : goal.invariant-loop-self
+invariant-loop-self g l = record {
   codes : l.self.codes ≡ l.fn.self.codes;
   text : l.self.reader.text ≡ l.fn.self.reader.text;
   between : l.self.place ≡ Ready;
@@ -19,5 +19,5 @@ invariant-loop g l = record {
       l.self.bracket more;
 }
 
-abbrev pub decreases-loop : goal.decreases-loop
-decreases-loop g l = length l.self.reader.text.bytes.now - l.self.reader.at
+abbrev pub decreases-loop-self : goal.decreases-loop-self
+decreases-loop-self g l = length l.self.reader.text.bytes.now - l.self.reader.at

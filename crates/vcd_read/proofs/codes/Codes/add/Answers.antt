@@ -1,9 +1,10 @@
-use Rattle.std.proofs.Common.{sym, ap, ◌∙◌, ◌≡◌, ◌++◌, ◌∷◌, [], List, ℕ, None, map, subst, arith}
+use Rattle.std.proofs.Common.{sym, ap, ◌∙◌, ◌≡◌, ◌++◌, ◌∷◌, [], List, ℕ, None, map, subst, arith, length}
 use Rattle.std.proofs.lemmas.List.{map_push, length-map}
 use Rattle.vcd_read.specs.declared.codes.NetCode.{NetCode}
 use Rattle.vcd_read.specs.Header.{Net, net_of}
+use Rattle.vcd_read.specs.LoneCodes.{AreLone}
 use Rattle.vcd_read.specs.Nets.{net_code, AreIndexed}
-use Rattle.vcd_read.proofs.CodesLemmas.{indexed_push}
+use Rattle.vcd_read.proofs.CodesLemmas.{indexed_push, lone_push}
 use Rattle.vcd_read.proofs.codes.Codes.add.Goals as goal
 
 pub invariant_of-self-2 : goal.invariant_of-self-2
@@ -18,7 +19,13 @@ invariant_of-self-2 c =
     ++ record { code = c.in_ok-bytes.bytes.items; size = c.args.size } ∷ []) c.reserve.ensures.items
     ∙ ap (λ (bytes : List ℕ). map net_code c.self.inside.nets.items ++ record { code = bytes; size = c.args.size } ∷ [])
     c.in_ok-bytes.ensures.items in
-    let pushed = indexed_push nets c.self.inside.index c.insert.new.self c.args.code.now c.args.size c.len-net.result
-    c.self.invariant none (simp length-map (omega (arith, c.len-net.ensures))) (omega (arith, c.if-net.false))
+    let indexed = indexed_push nets c.self.inside.index c.insert.new.self c.args.code.now c.args.size c.len-net.result
+    c.self.invariant.0 none (simp length-map (omega (arith, c.len-net.ensures))) (omega (arith, c.if-net.false))
     c.in_ok-insert.ensures.ok in
-    subst (λ (nets : List Net). AreIndexed nets c.insert.new.self) (sym more) pushed
+    let number : c.len-net.result ≡ length nets = simp length-map (omega (arith, c.len-net.ensures)) in
+    let lone = lone_push nets c.self.inside.lone c.insert-2.new.self c.args.code.now c.args.size
+    (record { number = c.len-net.result; size = c.args.size }) c.self.invariant.1 none
+    (ap (λ (n : ℕ). record { number = n; size = c.args.size }) number) c.insert-2.ensures in (
+      subst (λ (nets : List Net). AreIndexed nets c.insert.new.self) (sym more) indexed,
+      subst (λ (nets : List Net). AreLone nets c.insert-2.new.self) (sym more) lone,
+    )

@@ -1,5 +1,5 @@
-use Rattle.std.proofs.Common.{◌≡◌, List, ◌∷◌, ◌∙◌, ◌+◌, ◌-◌, length, take, drop, sym, ap, arith}
-use Rattle.std.proofs.lemmas.List.{take_all, length-drop, length-take-le}
+use Rattle.std.proofs.Common.{◌≡◌, List, ◌∷◌, ◌∙◌, ◌+◌, ◌-◌, take, drop, sym, ap, arith}
+use Rattle.std.proofs.lemmas.List.{length-drop, length-take-le}
 use Rattle.vcd_read.specs.Tokens.{Token}
 use Rattle.vcd_read.specs.Reading.{token_at}
 use Rattle.vcd_read.proofs.NumberLemmas.{short_time_of}
@@ -11,11 +11,9 @@ returns-clause-token c =
     let piece = c.args.self.now.text in
     let text = piece.bytes.now in
     let at = c.args.self.now.at in
-    let rest : take (length text - (at + 1)) (drop (at + 1) text) ≡ drop (at + 1) text =
-    take_all (length text - (at + 1)) (drop (at + 1) text) (omega (arith, length-drop (at + 1) text)) in
     time_step piece.line text at c.leading_number-number.result.count c.requires c.if-self-ne35.false
-    (rw rest at c.leading_number-number.ensures.within) (rw rest at c.leading_number-number.ensures.digits)
-    (c.ends_word.ensures.ends (cc))
+    (omega (arith, c.leading_number-number.ensures.within, length-drop (at + 1) text))
+    c.leading_number-number.ensures.digits (c.ends_word.ensures.ends (cc))
     ∙ ap (λ (ts : List Token). token_at piece at
     (35 ∷ between text (at + 1) (at + 1 + c.leading_number-number.result.count)) ∷ ts)
     (sym (c.behind_word-self.ensures.left piece.line))
@@ -25,12 +23,13 @@ returns-clause-time c =
     let text = c.args.self.now.text.bytes.now in
     let at = c.args.self.now.at in
     let count = c.leading_number-number.result.count in
-    let rest : take (length text - (at + 1)) (drop (at + 1) text) ≡ drop (at + 1) text =
-    take_all (length text - (at + 1)) (drop (at + 1) text) (omega (arith, length-drop (at + 1) text)) in
     let n : at + 1 + count - (at + 1) ≡ count = omega arith in
-    let within = rw rest at c.leading_number-number.ensures.within in
     rw n (short_time_of (take count (drop (at + 1) text)) c.leading_number-number.result.number
-    (omega (arith, length-take-le count (drop (at + 1) text) within, c.if-count-eq0.false))
-    (rw rest at c.leading_number-number.ensures.digits)
-    ((rw rest at c.leading_number-number.ensures.number) (omega arith))
+    (omega (
+      arith,
+      length-take-le count (drop (at + 1) text)
+          (omega (arith, c.leading_number-number.ensures.within, length-drop (at + 1) text)),
+      c.if-count-eq0.false,
+    ))
+    c.leading_number-number.ensures.digits (c.leading_number-number.ensures.number (omega arith))
     (omega arith))

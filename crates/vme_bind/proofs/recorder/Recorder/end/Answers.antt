@@ -22,6 +22,6 @@ returns-in-Some-clause-leads c =
     let inside = c.self.inside in
     leads-ok p.shown (step_between c.in-Some.time p.shown p.now) c.end_instant.new.self
     (record { shown = p.now; now = p.now }) c.end_instant.result
-    (end-leads p inside.shown inside.now inside.touched.items (Some c.in-Some.time) (sym c.self.view_is)
+    (end-leads p inside.shown inside.now inside.first inside.last (Some c.in-Some.time) (sym c.self.view_is)
     c.self.invariant)
     c.end_instant.ensures.step c.end_instant.ensures.shown

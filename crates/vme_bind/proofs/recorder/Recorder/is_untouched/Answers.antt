@@ -1,4 +1,4 @@
-use Rattle.std.proofs.Common.{◌≡◌, arith, length, rules, sym}
+use Rattle.std.proofs.Common.{◌<◌, arith, rules, sym}
 use Rattle.std.proofs.lemmas.Bool.Decides.{nat_tests}
 use Rattle.vme_bind.proofs.EndLemmas.{none-ended, none-step}
 use Rattle.vme_bind.proofs.recorder.Recorder.is_untouched.Goals as goal
@@ -6,12 +6,12 @@ use Rattle.vme_bind.proofs.recorder.Recorder.is_untouched.Goals as goal
 pub returns-clause-shown : goal.returns-clause-shown
 returns-clause-shown c = λ is.
     let inside = c.self.inside in
-    let none : length inside.touched.items ≡ 0 = grind (arith, nat_tests) in
-    none-ended c.args.self.now inside.shown inside.now inside.touched.items (search rules) c.self.invariant none
+    let none : inside.last < inside.first = grind (arith, nat_tests) in
+    none-ended c.args.self.now inside.shown inside.now inside.first inside.last (search rules) c.self.invariant none
 
 pub returns-clause-none : goal.returns-clause-none
 returns-clause-none c = λ is time.
     let inside = c.self.inside in
-    let none : length inside.touched.items ≡ 0 = grind (arith, nat_tests) in
-    sym (none-step time c.args.self.now inside.shown inside.now inside.touched.items
+    let none : inside.last < inside.first = grind (arith, nat_tests) in
+    sym (none-step time c.args.self.now inside.shown inside.now inside.first inside.last
     (search rules) c.self.invariant none)

@@ -1,9 +1,30 @@
-use Rattle.std.proofs.Common.{◌≡◌, rules}
+use Rattle.std.proofs.Common.{◌≡◌, ◌∙◌, Option, Some, None, ap, refl, rules, subst, sym, ℕ}
 use Rattle.vcd_read.specs.DetachedPieces.{ReadDetached, read_detached}
 use Rattle.vcd_read.specs.Reached.{Reached, reached}
-use Rattle.vme_bind.specs.Recording.{step_in}
+use Rattle.vcd_read.specs.DetachedPieces.{entered}
+use Rattle.vme_trace.specs.Levels.{Levels}
+use Rattle.vme_bind.specs.NetLines.{line_bits_of}
+use Rattle.vme_bind.specs.Recording.{AreLines, RecorderLevels, end_of, step_in}
+use Rattle.vme_bind.specs.SpeculativeReading.{ReadSpeculatively, SpeculativeReached}
 use Rattle.vme_bind.proofs.SpeculativeReadingLemmas.{ahead_of, speculative-joined, speculative_of}
 use Rattle.vme_bind.proofs.speculative_reader.SpeculativeReader.join.Goals as goal
+
+entered_now : (p : RecorderLevels) (e : Option ℕ) → (entered end_of p e).now ≡ p.now
+entered_now p None = refl
+entered_now p (Some time) = refl
+
+pub invariant_of-speculative : goal.invariant_of-speculative
+invariant_of-speculative c =
+    let inside = c.self.inside in
+    let slots : inside.recorder.now.slots ≡ c.ahead.inside.recorder.now.slots =
+    ap (λ (w : SpeculativeReached). w.body.progress.taken.now.slots) c.self.view_is
+    ∙ sym (ap (λ (v : Levels). v.slots) (entered_now c.args.self.body.progress.taken _))
+    ∙ ap (λ (q : RecorderLevels). q.now.slots) c.requires.levels
+    ∙ sym (ap (λ (a : ReadSpeculatively). a.from.slots) c.ahead.view_is) ∙ sym c.ahead.invariant.0 in (
+      c.self.invariant.0,
+      λ net. subst (λ (s : ℕ). AreLines s (line_bits_of inside.line_bits net)) slots
+          (c.self.invariant.1 net),
+    )
 
 pub returns : goal.returns
 returns c =

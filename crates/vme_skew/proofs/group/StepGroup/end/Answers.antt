@@ -2,10 +2,10 @@ use Rattle.std.proofs.Common.{◌≡◌, ℕ, ◌∙◌, sym, ap, subst, length,
 use Rattle.std.specs.Prelude.{◌==◌}
 use Rattle.std.specs.List.Sorted.{IsNonDecreasing}
 use Rattle.std.proofs.lemmas.List.Sorted.{IsNonDecreasingBy-from_sort_by_key}
-use Rattle.vme_bind.specs.Recording.{ListsTouchedLines}
-use Rattle.vme_bind.proofs.RecorderLemmas.{touched-permuted}
 use Rattle.vme_bind.proofs.EndLemmas.{one_step, step-none, step-some}
+use Rattle.vme_skew.specs.Group.{ListsTouchedLines}
 use Rattle.vme_skew.proofs.Grouping.{keeps-none, marked-permuted, group-step}
+use Rattle.vme_skew.proofs.TouchedLines.{touched-permuted}
 use Rattle.vme_skew.proofs.group.StepGroup.end.Goals as goal
 
 pub show-requires-clause-sorted : goal.show-requires-clause-sorted

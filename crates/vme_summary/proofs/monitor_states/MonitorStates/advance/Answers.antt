@@ -20,31 +20,37 @@ returns c =
     let step = c.args.step.now in
     let before = c.args.view.now.before in
     let after = c.args.view.now.after in
+    let is = c.as_slice-changes.ensures in
     let there = view_after c.args.view.now step.changes c.requires in
     record {
       known = led_on (machine_step (observed known_observation)
           (phase_step known_begin known_opens known_resets known_ends known_next))
           (start_in known_begin) _ _ o x step before after
-          c.args.instant led.levels_are there led.instant_is c.advance.ensures.memory c.advance.ensures.event
+          c.args.instant led.levels_are there led.instant_is
+          (rw is at c.advance.ensures.memory) (rw is at c.advance.ensures.event)
           f.known;
       handshake = led_on (machine_step (observed dtb_observation)
           (phase_step dtb_begin dtb_opens nothing dtb_ends dtb_step))
           (start_in dtb_begin) _ _ o x step before after
-          c.args.instant led.levels_are there led.instant_is c.advance-2.ensures.memory c.advance-2.ensures.event
+          c.args.instant led.levels_are there led.instant_is
+          (rw is at c.advance-2.ensures.memory) (rw is at c.advance-2.ensures.event)
           f.handshake;
       stability = led_on (machine_step (observed stability_observation)
           (phase_step stability_begin stability_opens nothing stability_ends stability_next))
           (start_in stability_begin) _ _ o x step before after
-          c.args.instant led.levels_are there led.instant_is c.advance-3.ensures.memory c.advance-3.ensures.event
+          c.args.instant led.levels_are there led.instant_is
+          (rw is at c.advance-3.ensures.memory) (rw is at c.advance-3.ensures.event)
           f.stability;
       grant = led_on (machine_step (observed grant_observation)
           (phase_step grant_begin grant_opens nothing grant_ends grant_next))
           (start_in grant_begin) _ _ o x step before after
-          c.args.instant led.levels_are there led.instant_is c.advance-4.ensures.memory c.advance-4.ensures.event
+          c.args.instant led.levels_are there led.instant_is
+          (rw is at c.advance-4.ensures.memory) (rw is at c.advance-4.ensures.event)
           f.grant;
       acknowledge = led_on (machine_step (observed acknowledge_observation)
           (phase_step acknowledge_begin acknowledge_opens nothing acknowledge_ends acknowledge_next))
           (start_in acknowledge_begin) _ _ o x step before after
-          c.args.instant led.levels_are there led.instant_is c.advance-5.ensures.memory c.advance-5.ensures.event
+          c.args.instant led.levels_are there led.instant_is
+          (rw is at c.advance-5.ensures.memory) (rw is at c.advance-5.ensures.event)
           f.acknowledge;
     }

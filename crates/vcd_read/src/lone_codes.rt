@@ -1,0 +1,54 @@
+//! The nets of the codes of one byte, found by that byte.
+
+ghost use Rattle.std.specs.Prelude.{◌≡◌, ◌<◌, ◌∷◌, [], if◌then◌else◌, ℕ, None, Some, IfOk, bytes_eq, length};
+
+use std::alloc::{AllocError, Global};
+
+/// How many bytes there are.
+const BYTES: usize = 256;
+
+/// A net, and how many bits it has.
+#[derive(Clone, Copy)]
+pub(crate) struct SizedNet {
+    pub number: u32,
+    pub size: u32,
+}
+
+/// The net of each code of one byte that has one. A small dump has few other codes, and one look-up tells the net.
+#[derive(Drop)]
+pub(crate) struct LoneCodes {
+    /// By that byte.
+    nets: Vec<Option<SizedNet>>,
+    ghost all: { length nets.items ≡ 256 },
+}
+
+impl LoneCodes {
+    ghost use Rattle.vcd_read.specs.LoneCodes.{lone_at};
+
+    /// No code has a net.
+    pub fn new(alloc: Global) -> Result<LoneCodes, AllocError>
+        ensures { IfOk result (λ lone. (byte : ℕ) → lone_at lone byte ≡ None) }
+    {
+        let mut nets = Vec::new(alloc);
+        nets.resize(BYTES, None)?;
+        Ok(LoneCodes { nets })
+    }
+
+    /// The net of the code that is this byte, where it has one.
+    #[inline(always)]
+    pub fn get(&self, byte: u8) -> Option<SizedNet>
+        ensures { result ≡ lone_at self.now byte }
+    {
+        self.nets[byte as usize]
+    }
+
+    /// Gives a code a net, where it has one byte.
+    pub fn insert(&mut self, code: &[u8], net: SizedNet)
+        ensures { (byte : ℕ) → byte < 256 → lone_at self.new byte
+            ≡ (if bytes_eq code.now (byte ∷ []) then Some net else lone_at self.old byte) }
+    {
+        if let [byte] = code {
+            self.nets[*byte as usize] = Some(net);
+        }
+    }
+}

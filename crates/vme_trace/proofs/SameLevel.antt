@@ -1,0 +1,18 @@
+-- The comparison of levels by their variants is that by what they show.
+use Rattle.std.proofs.Common.{◌≡◌, refl}
+use denote.Enum.Bare.{sameb}
+use Rattle.vme_trace.specs.Levels.{same_level}
+use Rattle.vme_trace.specs.contracts.level.Level.{the_type}
+use Rattle.vme_trace.specs.declared.level.Level.{Level}
+use Rattle.vme_trace.specs.declared.level.Level.TheVariants.{Low, High, Unknown}
+
+pub same : (a b : Level) → sameb the_type a b ≡ same_level a b
+same Low Low = refl
+same Low High = refl
+same Low Unknown = refl
+same High Low = refl
+same High High = refl
+same High Unknown = refl
+same Unknown Low = refl
+same Unknown High = refl
+same Unknown Unknown = refl
