@@ -19,7 +19,8 @@ use Rattle.vme_annotation.specs.Inserted.{PutChange, change_of}
 use Rattle.vme_annotation.specs.Shown.{ShownChange, changes_at}
 use Rattle.vcd_places.specs.Places.{ends_definitions_at}
 use Rattle.vme_annotate.specs.Answers.{Annotates, IsAnnotationOf, TellsAnnotation, WritesTimes, annotation_answer_by}
-use Rattle.vme_annotate.specs.Answers.{block_of, timed_answer_by, timed_answer_of}
+use Rattle.vme_commands.specs.declared.built_in.TheConstants.{BLOCK}
+use Rattle.vme_annotate.specs.Answers.{timed_answer_by, timed_answer_of}
 use Rattle.vme_annotate.specs.Planned.{ArePlanned, planned}
 use Rattle.vme_annotate.specs.Prepared.{GivesPrepared, IsPrepared}
 use Rattle.vme_annotate.specs.TimedListings.{GivesTimed, IsTimed, Timed, timed_rows_text, timed_text, times_of}
@@ -112,11 +113,11 @@ module _ (skew : ℕ) (binding dump : Reading × Reading) (out err : Writing × 
       let b_is : binding_bytes ≡ Some b = read_is binding.0 binding.1 binding_bytes b binding_read told_b in
       let d_is : dump_bytes ≡ Some d = read_is dump.0 dump.1 dump_bytes d dump_read told_d in
       let with_b = subst (λ (x : Option (List ℕ)).
-      AnswerGives (λ (t : Trace). t) read (settled_recording skew x dump_bytes block_of)) b_is given in
+      AnswerGives (λ (t : Trace). t) read (settled_recording skew x dump_bytes BLOCK)) b_is given in
       let with_d = subst (λ (x : Option (List ℕ)).
-      AnswerGives (λ (t : Trace). t) read (settled_recording skew (Some b) x block_of)) d_is with_b in
+      AnswerGives (λ (t : Trace). t) read (settled_recording skew (Some b) x BLOCK)) d_is with_b in
       let whole = subst (λ (x : Option (List ℕ)). IsAnnotationOf x read text) d_is annotation in
-      let (told, tells) = told_exactly text d read (settled_recording skew (Some b) (Some d) block_of) out err status
+      let (told, tells) = told_exactly text d read (settled_recording skew (Some b) (Some d) BLOCK) out err status
       end
       with_d whole same memory in
       (text, told, tells)

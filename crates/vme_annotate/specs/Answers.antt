@@ -8,6 +8,7 @@ use Rattle.vme_answer.specs.Ends.{Does, Ends, Tells}
 use Rattle.vme_answer.specs.Texts.{verdict_status}
 use Rattle.vme_answer.specs.declared.refusal.Refusal.{Refusal}
 use Rattle.vme_commands.specs.Settled.{settled_recording}
+use Rattle.vme_commands.specs.declared.built_in.TheConstants.{BLOCK}
 use Rattle.vme_stream.specs.Inputs.{IsReading}
 use Rattle.vme_annotation.specs.Annotated.{IsAnnotated}
 use Rattle.vme_annotate.specs.TimedListings.{timed_text}
@@ -33,10 +34,6 @@ WritesTimes skew binding dump block out err status =
 
 -- ---- annotated dumps
 
--- the blocks of a recording that is annotated
-abbrev pub block_of : ℕ
-block_of = 16384
-
 abbrev pub annotation_answer_by : List ℕ → Result Trace Refusal → CommandAnswer
 annotation_answer_by text (Ok t) =
     record { out = text; error = []; status = verdict_status (verdict_by rules_in_force t) }
@@ -55,7 +52,7 @@ Annotates skew binding dump out err status =
     (binding_bytes dump_bytes : Option (List ℕ)) × (read : Result Trace Refusal) × (text : List ℕ)
     × IsReading binding.0 binding.1 binding_bytes
     × IsReading dump.0 dump.1 dump_bytes
-    × AnswerGives (λ t. t) read (settled_recording skew binding_bytes dump_bytes block_of)
+    × AnswerGives (λ t. t) read (settled_recording skew binding_bytes dump_bytes BLOCK)
     × IsAnnotationOf dump_bytes read text
     × Ends (annotation_answer_by text read) out err status
 
@@ -63,5 +60,5 @@ Annotates skew binding dump out err status =
 abbrev pub TellsAnnotation : ℕ → List ℕ → List ℕ → Writing × Writing → Writing × Writing → ℕ → Type 0
 TellsAnnotation skew binding dump out err status =
     (text : List ℕ)
-    × IsAnnotationOf (Some dump) (settled_recording skew (Some binding) (Some dump) block_of) text
-    × Tells (annotation_answer_by text (settled_recording skew (Some binding) (Some dump) block_of)) out err status
+    × IsAnnotationOf (Some dump) (settled_recording skew (Some binding) (Some dump) BLOCK) text
+    × Tells (annotation_answer_by text (settled_recording skew (Some binding) (Some dump) BLOCK)) out err status

@@ -8,7 +8,7 @@ use Rattle.vme_bind.specs.Binding.{BoundLines}
 use Rattle.vme_trace.specs.Trace.{Trace}
 use Rattle.vme_annotate.specs.Added.{IsFor}
 use Rattle.vme_annotate.specs.HasTimes.{HasTimes}
-use Rattle.vme_annotate.specs.Answers.{block_of}
+use Rattle.vme_commands.specs.declared.built_in.TheConstants.{BLOCK}
 use Rattle.vme_annotate.specs.Planned.{ArePlanned}
 use Rattle.vme_annotate.specs.TimedListings.{IsTimed, listed_in}
 use Rattle.vme_annotate.specs.declared.annotating.AnnotatedDump.{AnnotatedDump}
@@ -29,4 +29,4 @@ GivesPrepared bytes (Err refusal) recording = recording ≡ Err refusal
 
 -- the recording of the text of a dump, by a binding and a skew
 abbrev pub recording_in : ℕ → BoundLines → List ℕ → Result Trace Refusal
-recording_in skew bound text = listed_in skew bound (or_bad_dump (dump_of text)) block_of
+recording_in skew bound text = listed_in skew bound (or_bad_dump (dump_of text)) BLOCK

@@ -4,10 +4,11 @@ ghost use Rattle.std.specs.Prelude.{◌≡◌, ◌≢◌, ◌↔◌, ℕ, suc, L
 ghost use Rattle.vme_answer.specs.Answers.{dump_read};
 ghost use Rattle.vme_answer.specs.Ends.{Ends};
 ghost use Rattle.vme_commands.specs.Settled.{settled_recording};
+ghost use Rattle.vme_commands.specs.declared.built_in.TheConstants.{BLOCK};
 ghost use Rattle.vme_stream.specs.Inputs.{IsReading, TellsWhole};
 ghost use Rattle.vme_trace.specs.Trace.{Trace};
 ghost use Rattle.vme_annotation.specs.Annotated.{IsAnnotated};
-ghost use Rattle.vme_annotate.specs.Answers.{Annotates, TellsAnnotation, annotation_answer_by, block_of};
+ghost use Rattle.vme_annotate.specs.Answers.{Annotates, TellsAnnotation, annotation_answer_by};
 ghost use Rattle.vme_annotate.specs.Prepared.{GivesPrepared, IsPrepared, recording_in};
 ghost use Rattle.vme_annotate.specs.TimedListings.{listed_in};
 
@@ -18,11 +19,9 @@ use crate::listed::{TimedListing, listed_in};
 use std::alloc::Global;
 use vme_answer::{Input, Refusal, binding_from, cannot_write_line, refusal_line};
 use vme_bind::Binding;
+use vme_commands::BLOCK;
 use vme_stream::{complain, read_all};
 use vme_trace::{Sink, Source};
-
-/// How many steps a block has.
-const BLOCK: u32 = 16_384;
 
 /// A dump, and all that is put into it.
 #[derive(Drop)]
@@ -117,7 +116,7 @@ fn annotated_from<B: Source, D: Source>(
     ensures { (binding_bytes dump_bytes : Option (List ℕ))
         × IsReading (B.reading binding.old) (B.reading binding.new) binding_bytes
         × IsReading (D.reading dump.old) (D.reading dump.new) dump_bytes
-        × GivesPrepared dump_bytes result (settled_recording skew binding_bytes dump_bytes block_of) }
+        × GivesPrepared dump_bytes result (settled_recording skew binding_bytes dump_bytes BLOCK) }
 {
     match binding_from(alloc, binding) {
         Ok(bound) => annotated_by(alloc, &bound, dump, skew),
@@ -134,7 +133,7 @@ fn annotated_by<D: Source>(
 ) -> Result<AnnotatedDump, Refusal>
     ensures { (bytes : Option (List ℕ))
         × IsReading (D.reading dump.old) (D.reading dump.new) bytes
-        × GivesPrepared bytes result (listed_in skew bound.now (dump_read bytes) block_of) }
+        × GivesPrepared bytes result (listed_in skew bound.now (dump_read bytes) BLOCK) }
 {
     match read_all(alloc, dump) {
         Ok(text) => annotated_in(alloc, bound, text, skew),

@@ -2,17 +2,23 @@
 use Rattle.std.proofs.Common.{◌≡◌, ℕ, List, sym, ap, true, ◌∙◌}
 use Rattle.std.specs.Prelude.{Option, Some, None, IfSome, Result, Ok, Err}
 use Rattle.vcd_read.specs.Contents.{Contents}
-use Rattle.vcd_read.specs.Meaning.{dump_of}
+use Rattle.vcd_read.specs.Meaning.{ReadFails, ReadFailsAs, dump_of}
+use Rattle.vcd_read.specs.declared.dump.Variable.{Variable}
+use Rattle.vcd_read.specs.declared.fault.FaultKind.{FaultKind}
+use Rattle.vcd_read.specs.declared.fault.FaultKind.TheVariants.{Memory as Want}
+use Rattle.vcd_read.specs.declared.fault.VcdFault.{VcdFault}
 use Rattle.vme_answer.proofs.AnswerLemmas.{capture_by-recorded, text_recorded-ok}
 use Rattle.vme_answer.specs.Answers.{AnswerGives, or_bad_dump}
+use Rattle.vme_answer.specs.Refusals.{dump_refusal}
 use Rattle.vme_answer.specs.declared.refusal.Refusal.{Refusal}
 use Rattle.vme_answer.specs.declared.refusal.Refusal.TheVariants.{Memory}
 use Rattle.vme_bind.specs.Binding.{BoundLines, binding_of}
 use Rattle.vme_bind.specs.declared.fault.BindFault.{BindFault}
 use Rattle.vme_commands.specs.TextAnswers.{BindsDump, IsBindingFor, IsTextOf, ScopeIs}
 use Rattle.vme_commands.specs.declared.bind.NoBinding.TheVariants.{Refused}
-use Rattle.vme_declarations.specs.Scopes.{HasScope}
-use Rattle.vme_find.specs.Recordings.{HasSlots, MakesRecording}
+use Rattle.vme_declarations.specs.Scopes.{HasScope, has_scope}
+use Rattle.vme_declarations.specs.Surveys.{IsSurveyOf, Survey}
+use Rattle.vme_find.specs.Recordings.{HasSlots, MakesRecording, MakesRecordings}
 use denote.Ref.{Bor}
 
 pub text_refused : (read : Result Contents Refusal) (r : Refusal) → AnswerGives (λ (d : Contents). d) (Err r) read
@@ -53,3 +59,33 @@ binds_dump dump text slots scope made slots_are scope_is = record {
   slots_are = slots_told text made.bound slots made.is_binding slots_are;
   scope_is = scope_told dump scope scope_is;
 }
+
+-- ---- of what was surveyed
+
+scope_surveyed : (dump : List ℕ) (scope : Option (Bor (List ℕ))) (survey : Survey) → IsSurveyOf survey dump
+    → IfSome scope (λ path. has_scope path.now survey.variables ≡ true) → IfSome scope (λ path. HasScope path.now dump)
+scope_surveyed dump None survey surveyed has = tt
+scope_surveyed dump (Some path) survey (contents, is, declared, count) has = (
+  contents,
+  is,
+  ap (λ (vs : List Variable). has_scope path.now vs) declared ∙ has,
+)
+
+pub binds_surveyed : (dump text : List ℕ) (slots : Option ℕ) (scope : Option (Bor (List ℕ))) (survey : Survey)
+    → IsSurveyOf survey dump → MakesRecordings text survey → IfSome slots (λ n. HasSlots n text)
+    → IfSome scope (λ path. has_scope path.now survey.variables ≡ true)
+    → BindsDump (or_bad_dump (dump_of dump)) slots scope text
+binds_surveyed dump text slots scope survey surveyed made slots_are scope_is =
+    binds_dump dump text slots scope (made dump surveyed) slots_are
+    (scope_surveyed dump scope survey surveyed scope_is)
+
+pub fault_refused : (dump : List ℕ) (slots : Option ℕ) (scope : Option (Bor (List ℕ))) (fault : VcdFault)
+    → ReadFails fault (dump_of dump)
+    → IsBindingFor (or_bad_dump (dump_of dump)) slots scope (Err (Refused (dump_refusal fault)))
+fault_refused dump slots scope fault fails = by_kind fault.line fault.kind fails
+  where
+    by_kind : (line : ℕ) (kind : FaultKind) → ReadFailsAs line kind (dump_of dump)
+        → IsBindingFor (or_bad_dump (dump_of dump)) slots scope
+        (Err (Refused (dump_refusal (record { line = line; kind = kind }))))
+    by_kind line Want fails = tt
+    by_kind line kind fails = ap or_bad_dump fails

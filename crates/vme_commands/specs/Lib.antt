@@ -7,4 +7,3 @@ pub mod Settled
 pub mod TextAnswers
 pub mod DumpJudge
 pub mod Wants
-pub mod Words

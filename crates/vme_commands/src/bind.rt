@@ -10,17 +10,28 @@ ghost use Rattle.vme_stream.specs.Outputs.{TriesToWrite};
 ghost use Rattle.vme_commands.specs.TextAnswers.{IsBindingFor, IsMoreOfMissing, TellsMore, binding_answer};
 ghost use Rattle.vme_commands.specs.TextAnswers.{found_answer, missing_status, missing_text, no_scope_text};
 ghost use Rattle.vme_commands.specs.declared.bind.NoBinding.{NoBinding as Without};
+ghost use Rattle.vme_answer.specs.Refusals.{dump_refusal};
+ghost use Rattle.vme_declarations.specs.SurveyStages.{survey_ahead};
+ghost use Rattle.vme_declarations.specs.Surveys.{IsSurveyOf, survey_of};
+ghost use Rattle.vme_commands.specs.declared.bind.NoBinding.TheVariants.{Refused};
 ghost use Rattle.vme_find.specs.Recordings.{AreSlots};
 ghost use Rattle.vme_find.specs.declared.writing.FoundBinding.{FoundBinding as Found};
 
-use crate::refused::{NamedInput, complain_with, show_dump};
+use crate::refused::{complain_with, show_seen_dump};
+use crate::seen_dump::SeenDump;
+use crate::surveyed_input::SurveyedInput;
 use crate::telling::say;
 use std::alloc::Global;
+use vcd_read::VcdFault;
 use vme_answer::{Input, Refusal, cannot_write_line};
+use vme_declarations::{SurveyedDump, surveys_are_of_dumps};
 use vme_find::{FindFault, FoundBinding, write_binding};
-use vme_stream::{Message, complain, read_all, write_all};
+use vme_stream::{Message, complain, read_by, write_all};
 use vme_text::Text;
 use vme_trace::{Sink, Source};
+
+/// How many bytes of a dump are surveyed at once.
+const PIECE: usize = 262_144;
 
 /// Why there is no binding for a dump.
 #[derive(Clone, Copy, Debug, PartialEq, Eq)]
@@ -124,6 +135,7 @@ fn tell_found<O: Sink, E: Sink>(found: &FoundBinding, out: &mut O, err: &mut E) 
     }
 }
 
+/// A binding for a dump, which is read piece by piece: no more of it is kept than its definitions.
 fn binding_for<D: Source>(
     alloc: Global,
     dump: &mut D,
@@ -137,30 +149,81 @@ fn binding_for<D: Source>(
         × IsReading (D.reading dump.old) (D.reading dump.new) bytes
         × IsBindingFor (dump_read bytes) slots scope.entry result }
 {
-    match read_all(alloc, dump) {
-        Ok(text) => binding_for_text(alloc, text.as_slice(), name, slots, scope, shown),
+    match read_by(
+        alloc,
+        dump,
+        SurveyedInput::new(alloc),
+        PIECE,
+        &|input: SurveyedInput, bytes: &[u8]| input.take(alloc, bytes),
+    ) {
+        Ok((input, rest)) => binding_of_input(
+            alloc,
+            input,
+            rest.as_slice(),
+            name,
+            slots,
+            scope,
+            shown,
+        ),
         Err(fault) => Err(NoBinding::Refused(Refusal::of_input(Input::Dump, fault))),
     }
 }
 
-fn binding_for_text(
+/// The same of a dump that was read, whose last bytes these are.
+fn binding_of_input(
     alloc: Global,
-    dump: &[u8],
+    input: SurveyedInput,
+    rest: &[u8],
     name: &[u8],
     slots: Option<u8>,
     scope: Option<&[u8]>,
     shown: &mut Text,
 ) -> Result<FoundBinding, NoBinding>
     requires { AreSlots slots }
-    ensures { IsBindingFor (or_bad_dump (dump_of dump.now)) slots scope.entry result }
+    ensures { (bytes : List ℕ) → survey_of bytes ≡ survey_ahead input.survey rest.now
+        → IsBindingFor (or_bad_dump (dump_of bytes)) slots scope.entry result }
 {
-    match write_binding(alloc, dump, slots, scope) {
+    surveys_are_of_dumps();
+    let SurveyedInput { survey, seen } = input;
+    match survey.finish(alloc, rest) {
+        Ok(surveyed) => binding_by(alloc, &surveyed, slots, scope),
+        Err(fault) => Err(refused(alloc, fault, seen, rest, name, shown)),
+    }
+}
+
+/// Why there is no binding for a dump with this fault.
+fn refused(
+    alloc: Global,
+    fault: VcdFault,
+    seen: SeenDump,
+    rest: &[u8],
+    name: &[u8],
+    shown: &mut Text,
+) -> NoBinding
+    ensures { result ≡ Refused (dump_refusal fault) }
+{
+    let refusal = Refusal::of_dump(fault);
+    let mut seen = seen;
+    if let Ok(()) = seen.stop(fault, rest) {
+        show_seen_dump(shown, alloc, &refusal, name, &seen);
+    }
+    NoBinding::Refused(refusal)
+}
+
+/// A binding by what was surveyed of a dump.
+fn binding_by(
+    alloc: Global,
+    surveyed: &SurveyedDump,
+    slots: Option<u8>,
+    scope: Option<&[u8]>,
+) -> Result<FoundBinding, NoBinding>
+    requires { AreSlots slots }
+    ensures { (bytes : List ℕ) → IsSurveyOf surveyed.now bytes
+        → IsBindingFor (or_bad_dump (dump_of bytes)) slots scope.entry result }
+{
+    match write_binding(alloc, surveyed, slots, scope) {
         Ok(found) => Ok(found),
-        Err(FindFault::Dump(fault)) => {
-            let refusal = Refusal::of_dump(fault);
-            show_dump(shown, alloc, &refusal, NamedInput::new(name, dump));
-            Err(NoBinding::Refused(refusal))
-        }
         Err(FindFault::NoSuchScope) => Err(NoBinding::NoSuchScope),
+        Err(FindFault::Memory) => Err(NoBinding::Refused(Refusal::Memory)),
     }
 }

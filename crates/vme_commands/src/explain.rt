@@ -14,6 +14,7 @@ ghost use Rattle.vme_stream.specs.Inputs.{IsReading};
 ghost use Rattle.vme_answer.specs.Texts.{line_of, verdict_text};
 ghost use Rattle.vme_picture.specs.Pictures.{IsPicture};
 
+use crate::built_in::BLOCK;
 use crate::refused::{NamedInput, complain_with, show_binding, show_dump, show_suggestions};
 use crate::settled::settled_in;
 use crate::telling::tell_bytes;
@@ -28,9 +29,6 @@ use vme_summary::listing_by_blocks;
 use vme_text::Text;
 use vme_trace::{Capture, Sink, Source, Verdict};
 use vme_variables::{time_scale, time_unit};
-
-/// How many steps a block has.
-const BLOCK: u32 = 16_384;
 
 /// What the files of the inputs are named.
 #[derive(Clone, Copy)]

@@ -10,13 +10,15 @@
 //!   [`tell_rules`] what the rules ask, and [`tell_faults`] what the refusals of inputs mean.
 //! - `refused`, `suggestions`: what follows the line of a refusal: the input's line, its kind by its
 //!   first bytes, and the paths and widths that the dump has instead.
+//! - `surveyed_input`, `seen_dump`: a dump that `bind` surveys as it is read, and what is kept of a
+//!   dump for its refusal.
 //! - `dump_judge`, `judged_dump`, `workers`: a dump that is judged as it is read, in which pieces
 //!   and by how many.
 //! - `ordered_dump`, `judged_settled`: the same by one worker, in order, with a skew; `settled`: a
 //!   recording that is kept, settled by one ([`unsettled`]: by 0 it is itself).
 //! - `allowance`, `words`, `built_in`, `telling`, `input_fault`: which breaks the arguments of an
-//!   audit allow; what the arguments name and how a call without an order ends; what is used
-//!   without arguments; how texts and faults are written. The audit itself is vme_audit_command's.
+//!   audit allow; how a call without an order ends; what is used without arguments; how texts and
+//!   faults are written. The audit itself is vme_audit_command's.
 //!
 //! # What is proved
 //!
@@ -64,8 +66,10 @@ pub mod list;
 mod ordered_dump;
 mod refused;
 mod rules;
+mod seen_dump;
 mod settled;
 mod suggestions;
+mod surveyed_input;
 mod telling;
 mod variables;
 mod words;
@@ -77,5 +81,5 @@ pub use faults::tell_faults;
 pub use rules::tell_rules;
 pub use settled::unsettled;
 pub use variables::tell_variables;
-pub use words::{place_of, unread_words, words_status};
+pub use words::{unread_words, words_status};
 pub use workers::Workers;

@@ -6,10 +6,11 @@ ghost use Rattle.vme_answer.specs.Texts.{line_of, refusal_text};
 ghost use Rattle.vme_commands.specs.Refused.{IsMore, IsRefusedText};
 ghost use Rattle.vme_stream.specs.Outputs.{TriesToWrite};
 
+use crate::seen_dump::SeenDump;
 use crate::suggestions::{FaultySource, push_nearest, push_widths};
 use crate::telling::say;
 use std::alloc::{AllocError, Global};
-use vcd_read::FaultKind;
+use vcd_read::{FaultKind, VcdFault};
 use vme_answer::{Refusal, refusal_line};
 use vme_bind::BindKind;
 use vme_faults::{FileKind, Kind, push_page};
@@ -70,11 +71,27 @@ fn refused_text(alloc: Global, refusal: &Refusal, shown: &Text) -> Result<Text, 
 pub(crate) fn show_dump(shown: &mut Text, alloc: Global, refusal: &Refusal, dump: NamedInput<'_>) {
     if let Refusal::BadDump(fault) = refusal {
         let line = line_at(dump.bytes, fault.line);
-        let span = match fault.kind {
-            FaultKind::BadToken => bad_token_in(line),
-            _ => word_at(line, 0),
-        };
-        let _ = push_dump(shown, alloc, dump, fault.line, line, span);
+        let _ = push_dump(
+            shown,
+            alloc,
+            dump.name,
+            FileKind::of(dump.bytes),
+            *fault,
+            line,
+        );
+    }
+}
+
+/// The same of a dump that was read piece by piece.
+pub(crate) fn show_seen_dump(
+    shown: &mut Text,
+    alloc: Global,
+    refusal: &Refusal,
+    name: &[u8],
+    seen: &SeenDump,
+) {
+    if let Refusal::BadDump(fault) = refusal {
+        let _ = push_dump(shown, alloc, name, seen.kind(), *fault, seen.line());
     }
 }
 
@@ -126,16 +143,20 @@ pub(crate) fn show_suggestions(
 fn push_dump(
     shown: &mut Text,
     alloc: Global,
-    dump: NamedInput<'_>,
-    number: u64,
+    name: &[u8],
+    kind: Option<FileKind>,
+    fault: VcdFault,
     line: &[u8],
-    span: WordRange,
 ) -> Result<(), AllocError> {
-    push_place(shown, alloc, dump.name, number)?;
+    let span = match fault.kind {
+        FaultKind::BadToken => bad_token_in(line),
+        _ => word_at(line, 0),
+    };
+    push_place(shown, alloc, name, fault.line)?;
     push_marked(shown, alloc, line, span)?;
-    match FileKind::of(dump.bytes) {
+    match kind {
         Some(FileKind::Dump) => push_hint(shown, token_of(line, span)),
-        Some(kind) => push_file(shown, alloc, dump.name, kind),
+        Some(kind) => push_file(shown, alloc, name, kind),
         None => Ok(()),
     }
 }

@@ -1,32 +1,11 @@
-//! What the words of the command line name, and how a call ends whose words are no order.
+//! How a call ends whose words are no order.
 
 ghost use Rattle.std.specs.Prelude.{◌≡◌, ◌≢◌, false, if◌then◌else◌, true};
 ghost use Rattle.vme_words.specs.OrderFaults.{HasUsageKind, IsOfWords};
-ghost use Rattle.vme_commands.specs.Words.{names_dump_alone, place_of};
 
 use clap::error::ErrorKind;
 use std::alloc::Global;
-use vme_answer::Input;
-use vme_words::{OrderFault, Task, usage_fault};
-
-/// Whether a task names a dump and no binding.
-fn names_dump_alone(task: Task) -> bool
-    ensures { result ≡ names_dump_alone task }
-{
-    matches!(task, Task::Variables | Task::Bind)
-}
-
-/// The place of an input among the words behind a task, from 0.
-pub fn place_of(task: Task, input: Input) -> usize
-    ensures { result ≡ place_of task input }
-{
-    match input {
-        Input::Binding => 0,
-        Input::Dump if names_dump_alone(task) => 0,
-        Input::Dump => 1,
-        Input::Listing => 2,
-    }
-}
+use vme_words::{OrderFault, usage_fault};
 
 /// Why the words can't be had: there was no memory, or one of them is no text.
 pub fn unread_words(alloc: Global, is_no_memory: bool) -> OrderFault

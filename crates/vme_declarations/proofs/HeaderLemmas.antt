@@ -2,23 +2,12 @@
 use Rattle.std.proofs.Common.{◌≡◌, ℕ, List, Result, Ok, Err, refl, sym, ap, ◌∙◌}
 use Rattle.std.specs.Prelude.{fold}
 use Rattle.vcd_read.specs.declared.dump.Variable.{Variable}
-use Rattle.vcd_read.specs.declared.fault.FaultKind.{FaultKind}
-use Rattle.vcd_read.specs.declared.fault.FaultKind.TheVariants.{Memory}
 use Rattle.vcd_read.specs.declared.fault.VcdFault.{VcdFault}
 use Rattle.vcd_read.specs.Header.{◌>>=◌, nothing_declared}
-use Rattle.vcd_read.specs.Meaning.{ReadFails, ReadFailsAs, dump_of}
 use Rattle.vcd_read.specs.Sections.{Defined, Headed, defined, header_of}
 use Rattle.vcd_read.specs.Tokens.{tokens}
 use Rattle.vcd_read.proofs.DefinedLemmas.{header_taken, taken_head}
 use Rattle.vcd_read.proofs.DumpLemmas.{whole_header}
-use Rattle.vme_declarations.proofs.BodyLemmas.{head-fails}
-
--- a fault that stays, whatever comes of what is read
-fails_back : {X Y : Type 0} (line : ℕ) (kind : FaultKind) (r : Result X VcdFault) (f : X → Y) → ReadFailsAs line kind
-    (r >>= λ x. Ok (f x)) → ReadFailsAs line kind r
-fails_back line Memory r f h = h
-fails_back line kind (Ok x) f h = absurd (cc h)
-fails_back line kind (Err fault) f h = let same : fault ≡ record { line = line; kind = kind } = cc h in ap Err same
 
 module _ {V : Type 0} (with_variable : V → Variable → V) where
   -- a header whose variables were taken
@@ -47,10 +36,3 @@ module _ {V : Type 0} (with_variable : V → Variable → V) where
       (tokens text) ≡ Ok (defined h last) → IsTaken text h first last
   is-taken text h first last e = taken_from text h first last (whole_header text) refl
       (sym (header_taken with_variable text first) ∙ e)
-
-  -- a fault of the definitions is one of the dump
-  pub taking-fails : (text : List ℕ) (first : V) (fault : VcdFault) → ReadFails fault
-      (header_of with_variable text (nothing_declared first) (tokens text)) → ReadFails fault (dump_of text)
-  taking-fails text first fault h =
-      head-fails text fault (fails_back fault.line fault.kind (whole_header text) (taken_head with_variable first)
-      (rw (header_taken with_variable text first) at h))

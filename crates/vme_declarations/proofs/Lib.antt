@@ -1,5 +1,5 @@
-pub mod BodyLemmas
 mod FoundLemmas
 mod HeaderLemmas
 mod PathLemmas
-pub mod ScopeLemmas
+mod ScopeLemmas
+mod SurveyLemmas

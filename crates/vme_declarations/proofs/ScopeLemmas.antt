@@ -8,19 +8,11 @@ use Rattle.std.specs.List.{list_any, starts_with}
 use Rattle.std.proofs.lemmas.Bool.Decides.{Decides-and, Decides-eqb, same_from_decides}
 use Rattle.std.proofs.lemmas.List.{drop_at, length-take-le, take-append-drop, take_at}
 use Rattle.std.proofs.lemmas.Slice.Eq.{bytes_eq-Decides, starts_is}
-use Rattle.vcd_read.specs.Contents.{Contents}
-use Rattle.vcd_read.specs.declared.dump.Instant.{Instant}
 use Rattle.vcd_read.specs.declared.dump.Variable.{Variable}
-use Rattle.vcd_read.specs.declared.fault.VcdFault.{VcdFault}
-use Rattle.vcd_read.specs.Header.{◌>>=◌, variable_in}
-use Rattle.vcd_read.specs.Meaning.{dump_of, instants_from}
+use Rattle.vcd_read.specs.Header.{variable_in}
 use Rattle.vcd_read.specs.Scopes.{path_in, with_dot}
-use Rattle.vcd_read.specs.Sections.{Headed, defined}
-use Rattle.vcd_read.proofs.DumpLemmas.{dump_behind, whole_header, with_variables}
 use Rattle.vcd_read.proofs.ScopesLemmas.{path_of-is}
-use Rattle.vme_declarations.specs.Dumps.{IsDump}
-use Rattle.vme_declarations.specs.Scopes.{DefinesScope, HasScope, LacksScope, ScopeSought, has_scope, path_begins}
-use Rattle.vme_declarations.specs.Scopes.{sought_in}
+use Rattle.vme_declarations.specs.Scopes.{ScopeSought, has_scope, path_begins, sought_in}
 
 -- ---- the search
 
@@ -57,39 +49,6 @@ pub found-more : (front name : List ℕ) (scopes : List (List ℕ)) (net size : 
 found-more front name scopes net size index found now some is =
     ap (sought front)
     (is ∙ ap (λ (path : List ℕ). found || starts_with nat_eq path front) (sym (path_of-is scopes name some)))
-
--- ---- the dump
-
-abbrev WithScope : Bool → List ℕ → List ℕ → Type 0
-WithScope there path text = (contents : Contents) × (dump_of text ≡ Ok contents)
-    × (has_scope path contents.variables ≡ there)
-
-with_scope : (there : Bool) (path text : List ℕ) (variables : List Variable) (instants : List Instant)
-    (r : Result (List Instant) VcdFault) → r ≡ Ok instants → dump_of text ≡ (r >>= with_variables variables)
-    → has_scope path variables ≡ there → WithScope there path text
-with_scope there path text variables instants r ends is has = (
-  record { variables = variables; instants = instants },
-  is ∙ ap (λ (w : Result (List Instant) VcdFault). w >>=
-      with_variables variables) ends,
-  has,
-)
-
-pub lacks-scope : (path text : List ℕ) (h : Headed) (variables : List Variable) → whole_header text
-    ≡ Ok (defined h variables) → (instants : List Instant) × (instants_from h.nets h.body ≡ Ok instants)
-    → has_scope path variables ≡ false → LacksScope path text
-lacks-scope path text h variables head (instants, ends) lacks =
-    with_scope false path text variables instants (instants_from h.nets h.body) ends
-    (dump_behind text (defined h variables) head) lacks
-
--- a dump whose definitions have the scope
-pub has-scope : (path text : List ℕ) → DefinesScope path text → IsDump text → HasScope path text
-has-scope path text (d, head, has) (contents, is) =
-    by_instants (instants_from d.head.nets d.head.body) (dump_behind text d head)
-  where
-    by_instants : (r : Result (List Instant) VcdFault) → dump_of text ≡ (r >>= with_variables d.variables)
-        → HasScope path text
-    by_instants (Ok instants) e = (record { variables = d.variables; instants = instants }, e, has)
-    by_instants (Err fault) e = let bad : Ok contents ≡ Err fault = sym is ∙ e in cc
 
 -- ---- two texts that begin with a third
 

@@ -6,3 +6,5 @@ pub mod Levels
 pub mod Names
 pub mod Paths
 pub mod Scopes
+pub mod SurveyStages
+pub mod Surveys

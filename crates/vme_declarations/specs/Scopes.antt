@@ -1,12 +1,9 @@
 -- The scopes of a dump.
-use Rattle.std.specs.Prelude.{◌≡◌, ℕ, Bool, true, false, ◌||◌, List, [], Ok, nat_eq}
+use Rattle.std.specs.Prelude.{◌≡◌, ℕ, Bool, true, ◌||◌, List, Ok, nat_eq}
 use Rattle.std.specs.List.{list_any, starts_with}
 use Rattle.vcd_read.specs.Contents.{Contents}
-use Rattle.vcd_read.specs.Header.{appended, nothing_declared}
 use Rattle.vcd_read.specs.Meaning.{dump_of}
 use Rattle.vcd_read.specs.Scopes.{with_dot}
-use Rattle.vcd_read.specs.Sections.{Defined, header_of}
-use Rattle.vcd_read.specs.Tokens.{tokens}
 use Rattle.vcd_read.specs.declared.dump.Variable.{Variable}
 
 -- the path of a variable begins so
@@ -20,16 +17,6 @@ has_scope path variables = list_any (path_begins (with_dot path)) variables
 -- the text is a dump without a fault that has the scope
 abbrev pub HasScope : List ℕ → List ℕ → Type 0
 HasScope path text = (contents : Contents) × (dump_of text ≡ Ok contents) × (has_scope path contents.variables ≡ true)
-
--- the text is a dump without a fault that lacks it
-abbrev pub LacksScope : List ℕ → List ℕ → Type 0
-LacksScope path text = (contents : Contents) × (dump_of text ≡ Ok contents)
-    × (has_scope path contents.variables ≡ false)
-
--- the definitions of the text have no fault, and have the scope
-abbrev pub DefinesScope : List ℕ → List ℕ → Type 0
-DefinesScope path text = (d : Defined (List Variable))
-    × (header_of appended text (nothing_declared []) (tokens text) ≡ Ok d) × (has_scope path d.variables ≡ true)
 
 -- ---- the search for a scope, as the variables are declared
 

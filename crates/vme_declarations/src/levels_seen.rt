@@ -1,58 +1,57 @@
 //! Which bits of a dump's nets move.
 
-ghost use Rattle.std.specs.Prelude.{◌≡◌, List, IfErr, Ok, OnOk};
-ghost use Rattle.vcd_read.specs.Meaning.{ReadFails, instants_from};
-ghost use Rattle.vcd_read.specs.declared.dump.Instant.{Instant};
-ghost use Rattle.vme_declarations.specs.Levels.{moves};
+ghost use Rattle.std.specs.Prelude.{◌≡◌, ◌≤◌};
+ghost use Rattle.vcd_read.specs.Meaning.{ReadGives};
+ghost use Rattle.vcd_read.specs.Taking.{taken_from};
+ghost use Rattle.vme_declarations.specs.Surveys.{counted, uncounted};
 
 use std::alloc::{AllocError, Global};
-use vcd_read::{ChangeVisitor, FaultKind, Head, VcdFault};
+use vcd_read::{ChangeVisitor, Head, VcdFault};
 
 /// Of how many bits of a net, from the right, it is kept whether they move.
 pub const MOST_BITS: u32 = 64;
 
+/// How many instants a dump has at most of which the levels are seen: of more memory is said to run out.
+const MOST_INSTANTS: u32 = 268_435_456;
+
 /// Which bits of a net were seen Low, and which High.
 #[derive(Clone, Copy)]
-struct NetLevels {
-    low: u64,
-    high: u64,
+pub(crate) struct NetLevels {
+    pub low: u64,
+    pub high: u64,
 }
 
-/// The levels that the nets had so far.
+/// The levels that the nets had so far, up to the last net that has any, and how many instants there were.
 #[derive(Drop)]
 pub struct LevelsSeen {
-    nets: Vec<NetLevels>,
+    pub(crate) nets: Vec<NetLevels>,
+    instants: u32,
+    ghost few: { instants ≤ 268435456 },
 }
 
 impl LevelsSeen {
-    /// No level of so many nets.
-    fn none(alloc: Global, nets: usize) -> Result<LevelsSeen, AllocError> {
-        let mut seen = Vec::new(alloc);
-        seen.resize(nets, NetLevels { low: 0, high: 0 })?;
-        Ok(LevelsSeen { nets: seen })
-    }
-
-    /// Whether a bit of a net, by its place from the right, was seen Low and High.
-    pub fn moves(&self, net: u32, place: u32) -> bool
-        ensures { result ≡ moves self.now net place }
+    /// No level of any net.
+    pub(crate) fn none(alloc: Global) -> LevelsSeen
+        ensures { result.instants ≡ 0 }
     {
-        match self.nets.get(net as usize) {
-            Some(levels) if place < MOST_BITS => {
-                levels.low >> place & 1 == 1 && levels.high >> place & 1 == 1
-            }
-            _ => false,
+        LevelsSeen {
+            nets: Vec::new(alloc),
+            instants: 0,
         }
     }
 }
 
 impl ChangeVisitor for LevelsSeen {
-    ghost Taken = { Unit {0} };
+    ghost use Rattle.std.specs.Prelude.{ℕ};
+    ghost use Rattle.vme_declarations.specs.Surveys.{counted, uncounted};
 
-    ghost taken = { λ l. tt };
+    ghost Taken = { ℕ };
 
-    ghost with_change = { λ none net bits. none };
+    ghost taken = { λ l. l.instants };
 
-    ghost with_instant = { λ none time. none };
+    ghost with_change = { uncounted };
+
+    ghost with_instant = { counted };
 
     fn change(
         &mut self,
@@ -62,7 +61,12 @@ impl ChangeVisitor for LevelsSeen {
         digits: &[u8],
     ) -> Result<(), AllocError> {
         let _ = alloc;
-        if let Some(levels) = self.nets.get_mut(net as usize) {
+        let place = net as usize;
+        if place >= self.nets.len() {
+            self.nets
+                .resize(place.saturating_add(1), NetLevels { low: 0, high: 0 })?;
+        }
+        if let Some(levels) = self.nets.get_mut(place) {
             let (low, high) = levels_of(size, digits);
             levels.low |= low;
             levels.high |= high;
@@ -72,22 +76,20 @@ impl ChangeVisitor for LevelsSeen {
 
     fn end_instant(&mut self, alloc: Global, time: u64) -> Result<(), AllocError> {
         let _ = (alloc, time);
+        if self.instants >= MOST_INSTANTS {
+            return Err(AllocError);
+        }
+        self.instants += 1;
         Ok(())
     }
 }
 
 /// The levels that the nets have in the body behind some definitions.
 pub(crate) fn levels_in(alloc: Global, head: &Head<'_>) -> Result<LevelsSeen, VcdFault>
-    ensures ok { OnOk result ((instants : List Instant) × instants_from head.now.nets head.now.body ≡ Ok instants) }
-    ensures err { IfErr result (λ fault. ReadFails fault (instants_from head.now.nets head.now.body)) }
+    ensures { ReadGives (λ levels. levels.instants) result
+        (taken_from uncounted counted head.now.nets 0 head.now.body) }
 {
-    match LevelsSeen::none(alloc, head.net_count()) {
-        Ok(none) => head.read_body(alloc, none),
-        Err(_) => Err(VcdFault {
-            line: 0,
-            kind: FaultKind::Memory,
-        }),
-    }
+    head.read_body(alloc, LevelsSeen::none(alloc))
 }
 
 /// Which bits of a value are Low, and which High or without a driver, from the right.

@@ -4,8 +4,9 @@
 //!
 //! - `declared`, `hash`: the scopes and the variables without whole paths ([`DeclaredNames`]); a
 //!   hash of names.
-//! - `levels_seen`, `reading`: which bits move ([`LevelsSeen`]); [`read_declarations`], both of a
-//!   dump.
+//! - `levels_seen`, `moving`, `reading`: which bits move ([`LevelsSeen`]); both of a whole text.
+//! - `survey`, `told_fault`: a dump that comes piece by piece ([`DumpSurvey`]), of whose text a front
+//!   with its definitions is kept; what is known of it at its end ([`SurveyedDump`]).
 //! - `scope_paths`, `scope_search`: the scopes that a path leads through; [`has_scope`], whether a
 //!   dump has the scope of a path.
 //! - `groups`, `found_lines`: the groups of lines; which bits were found for the lines
@@ -13,10 +14,11 @@
 //!
 //! # What is proved
 //!
-//! - [`read_declarations`] answers only for a dump without a fault (`ok`), and else names the first
-//!   (`err`), unless memory runs out.
-//! - [`has_scope`] says yes only where the definitions have the scope (`has`), and no only of a dump
-//!   without a fault that lacks it (`lacks`).
+//! - A [`DumpSurvey`] that takes a dump in whatever pieces ends with a [`SurveyedDump`] exactly where
+//!   the dump has no fault, and else with the first, unless memory runs out (`survey_ahead`,
+//!   [`surveys_are_of_dumps`]). The front that is kept declares the variables of the dump, and there
+//!   are as many instants as were counted (`IsSurveyOf`).
+//! - [`has_scope`] says whether the variables of the dump have a scope.
 //! - [`front_of`] is the path and a dot.
 //! - What is asked of [`DeclaredNames`], [`DeclaredVariable`], [`LevelsSeen`] and [`FoundLines`] is
 //!   said by definitions over what these keep, in `specs/Names`, `specs/Levels` and `specs/Found`: a
@@ -32,11 +34,11 @@
 //! # Limits
 //!
 //! A variable whose name has over 64 bytes is left out. Of a net the rightmost 64 bits are looked at
-//! for whether they move.
+//! for whether they move. A dump with over 268,435,456 instants is said to want memory.
 //!
 //! # In which order to read
 //!
-//! `declared`, `reading`, `scope_search`; then `groups` and `found_lines`.
+//! `specs/Surveys`, `survey`, `declared`, `scope_search`; then `groups` and `found_lines`.
 #![tactic(auto)]
 
 mod declared;
@@ -44,15 +46,18 @@ mod found_lines;
 mod groups;
 mod hash;
 mod levels_seen;
+mod moving;
 mod reading;
 mod scope_paths;
 mod scope_search;
+mod survey;
+mod told_fault;
 
 pub use declared::{DeclaredNames, DeclaredVariable, NOWHERE, Scope};
 pub use found_lines::{FoundLines, VariableBit};
 pub use groups::{Groups, TELLING, count, group_of, has_cycle, has_handshake};
 pub use hash::{EMPTY_HASH, hash_of};
 pub use levels_seen::{LevelsSeen, MOST_BITS};
-pub use reading::read_declarations;
 pub use scope_paths::{front_of, scopes_begun, scopes_of};
 pub use scope_search::has_scope;
+pub use survey::{DumpSurvey, SurveyedDump, surveys_are_of_dumps};

@@ -1,8 +1,7 @@
-//! What a dump declares, and which of its bits move, as they are read of its text.
+//! What a dump declares, and which of its bits move, as they are read of its whole text.
 
-ghost use Rattle.std.specs.Prelude.{◌≡◌, List, IfErr, Ok, OnOk};
-ghost use Rattle.vcd_read.specs.Meaning.{ReadFails, dump_of};
-ghost use Rattle.vme_declarations.specs.Dumps.{IsDump};
+ghost use Rattle.vcd_read.specs.Meaning.{ReadGives};
+ghost use Rattle.vme_declarations.specs.Surveys.{survey_of, variables_in};
 
 use crate::declared::{DeclaredNames, NamesReader};
 use crate::levels_seen::{LevelsSeen, levels_in};
@@ -11,12 +10,12 @@ use vcd_read::{VcdFault, read_definitions};
 
 /// The scopes and the variables of a dump, and which of its bits move. A fault is the first one of the dump; at line 0
 /// it is want of memory.
-pub fn read_declarations(
+pub(crate) fn read_declarations(
     alloc: Global,
     dump: &[u8],
 ) -> Result<(DeclaredNames, LevelsSeen), VcdFault>
-    ensures ok { OnOk result (IsDump dump.now) }
-    ensures err { IfErr result (λ fault. ReadFails fault (dump_of dump.now)) }
+    ensures { ReadGives (λ made. record { variables = variables_in dump.now; instants = made.1.instants }) result
+        (survey_of dump.now) }
 {
     let reader = NamesReader::new(alloc)?;
     match read_definitions(alloc, dump, reader) {

@@ -1,14 +1,13 @@
 //! Whether a dump has a scope.
 
-ghost use Rattle.std.specs.Prelude.{◌≡◌, ◌++◌, IfErr, IfOk, false, nat_eq, true};
+ghost use Rattle.std.specs.Prelude.{◌≡◌, ◌++◌, IfOk, nat_eq};
 ghost use Rattle.std.specs.List.{starts_with};
-ghost use Rattle.vcd_read.specs.Meaning.{ReadFails, dump_of};
-ghost use Rattle.vme_declarations.specs.Scopes.{DefinesScope, LacksScope};
+ghost use Rattle.vme_declarations.specs.Scopes.{has_scope};
 
-use crate::levels_seen::levels_in;
 use crate::scope_paths::front_of;
+use crate::survey::SurveyedDump;
 use std::alloc::{AllocError, Global};
-use vcd_read::{Declaration, DeclarationVisitor, Scopes, VcdFault, read_definitions};
+use vcd_read::{Declaration, DeclarationVisitor, Scopes, read_definitions};
 
 /// What looks for a variable that stands in a scope, or in one within it.
 #[derive(Drop)]
@@ -57,28 +56,18 @@ impl DeclarationVisitor for ScopeSearch {
     }
 }
 
-/// Whether a dump has the scope of a path: a variable that stands in it, or in one within it. The body is read only
-/// where it hasn't. A fault is the first one of the dump; at line 0 it is want of memory.
-pub fn has_scope(alloc: Global, dump: &[u8], path: &[u8]) -> Result<bool, VcdFault>
-    ensures has { IfOk result (λ has. has ≡ true → DefinesScope path.now dump.now) }
-    ensures lacks { IfOk result (λ has. has ≡ false → LacksScope path.now dump.now) }
-    ensures err { IfErr result (λ fault. ReadFails fault (dump_of dump.now)) }
+/// Whether a dump has the scope of a path: a variable that stands in it, or in one within it. The only error is want of
+/// memory.
+pub fn has_scope(alloc: Global, dump: &SurveyedDump, path: &[u8]) -> Result<bool, AllocError>
+    ensures { IfOk result (λ has. has ≡ has_scope path.now dump.now.variables) }
 {
     let search = ScopeSearch {
         open: Scopes::new(alloc),
         front: front_of(alloc, path)?,
         is_found: false,
     };
-    match read_definitions(alloc, dump, search) {
-        Ok((head, search)) => {
-            if search.is_found {
-                return Ok(true);
-            }
-            match levels_in(alloc, &head) {
-                Ok(_) => Ok(false),
-                Err(fault) => Err(fault),
-            }
-        }
-        Err(fault) => Err(fault),
+    match read_definitions(alloc, dump.front(), search) {
+        Ok((_, search)) => Ok(search.is_found),
+        Err(_) => Err(AllocError),
     }
 }

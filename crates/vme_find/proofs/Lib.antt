@@ -1,4 +1,3 @@
 mod ConstantLemmas
 mod ConstantTextLemmas
-mod FaultLemmas
 mod RecordingLemmas

@@ -1,18 +1,117 @@
--- A text of which a recording is made.
-use Rattle.std.proofs.Common.{◌≡◌, ℕ, List, Ok, Err, Result, refl}
-use Rattle.vcd_read.specs.Contents.{Contents}
-use Rattle.vcd_read.specs.Meaning.{dump_of}
+-- A binding whose sources are all among the variables of a dump makes a recording of it.
+use Rattle.std.proofs.Common.{◌≡◌, ◌≤◌, ℕ, suc, zero, Bool, true, false, List, [], ◌∷◌, length, Option, None, Result}
+use Rattle.std.proofs.Common.{Ok, Err, cond, map, refl, sym, ap, ◌∙◌, arith, length-append}
+use Rattle.std.specs.Prelude.{nat_lt, nat_le, ◌&&◌, if◌then◌else◌, is_ok}
+use Rattle.std.proofs.lemmas.Bool.Decides.{nat_tests}
+use Rattle.std.proofs.lemmas.List.{length-map}
+use Rattle.vcd_read.specs.Header.{◌>>=◌}
+use Rattle.vcd_read.specs.Sections.{Defined}
+use Rattle.vcd_read.specs.declared.dump.Instant.{Instant}
+use Rattle.vcd_read.specs.declared.dump.Variable.{Variable}
 use Rattle.vcd_read.specs.declared.fault.VcdFault.{VcdFault}
-use Rattle.vme_bind.specs.TextCapture.{capture_of_text, capture_read}
-use Rattle.vme_declarations.specs.Dumps.{IsDump}
-use Rattle.vme_find.specs.Recordings.{MakesRecording}
+use Rattle.vme_bind.specs.Binding.{BoundLines, binding_of}
+use Rattle.vme_bind.specs.BoundGroups.{bound_group_in, bound_groups_in}
+use Rattle.vme_bind.specs.Capture.{capture_of, is_step, limited, recording, step_at}
+use Rattle.vme_bind.specs.TextCapture.{capture_of_text, capture_read, or_binding, or_dump}
+use Rattle.vme_bind.specs.TextReading.{TextReading, or_fault, reading_behind, reading_of_text}
+use Rattle.vme_bind.specs.declared.fault.BindFault.{BindFault}
+use Rattle.vme_bind.specs.declared.fault.BindKind.TheVariants.{TooManySteps}
+use Rattle.vme_bind.specs.declared.fault.CaptureFault.{CaptureFault}
+use Rattle.vme_declarations.specs.Surveys.{Survey, definitions_of, most_instants, variables_by, variables_in}
+use Rattle.vme_find.specs.Recordings.{MakesRecordings, finds_all}
+use Rattle.vme_trace.specs.Instants.{those}
+use Rattle.vme_trace.specs.Trace.{Trace}
+use Rattle.vme_trace.specs.WellFormed.{capture_limit}
+use Rattle.vme_trace.specs.declared.step.Step.{Step}
 
--- it is a dump
-pub records-dump : (text dump : List ℕ) → MakesRecording text dump → IsDump dump
-unfolding capture_of_text
-records-dump text dump made = by_dump (dump_of dump) refl made.records
+-- what a function gives
+abbrev OkOf : {X A E : Type 0} → (X → Result A E) → Type 0
+OkOf {X} {A} {E} f = A
+
+-- lines, and where their levels come from
+abbrev Wired : Type 0
+Wired = OkOf (bound_group_in [])
+
+-- ---- what is bound
+
+was_ok : {A X : Type 0} (r : Result A BindFault) (next : A → Result X CaptureFault) (x : X)
+    → (or_binding r >>= next) ≡ Ok x → is_ok r ≡ true
+was_ok (Ok a) next x made = refl
+was_ok (Err fault) next x made = absurd (cc made)
+
+-- a front that is read without a fault of the binding
+pub finds-all : (b : BoundLines) (front : List ℕ) (fault : Option BindFault) (read : TextReading)
+    → reading_of_text b front ≡ or_fault fault read → fault ≡ None → finds_all b (variables_in front) ≡ true
+unfolding reading_of_text
+finds-all b front fault read is none =
+    by_definitions (definitions_of front) refl (is ∙ ap (λ (f : Option BindFault). or_fault f read) none)
   where
-    by_dump : (r : Result Contents VcdFault) → dump_of dump ≡ r → capture_read made.bound r ≡ Ok made.recording
-        → IsDump dump
-    by_dump (Ok contents) is e = (contents, is)
-    by_dump (Err fault) is e = cc
+    by_definitions : (r : Result (Defined (List Variable)) VcdFault) → definitions_of front ≡ r
+        → (or_dump r >>= reading_behind b) ≡ Ok read → finds_all b (variables_in front) ≡ true
+    by_definitions (Ok d) defined made =
+        ap (λ (vs : List Variable). finds_all b vs) (ap variables_by defined)
+        ∙ was_ok (bound_groups_in d.variables b.assignments) _ read made
+    by_definitions (Err fault) defined made = absurd (cc made)
+
+-- ---- how long the recording is
+
+one_at_most : (p : Bool) (n : ℕ) → length (if p then n ∷ [] else []) ≤ 1
+one_at_most true n = omega arith
+one_at_most false n = omega arith
+
+length-those : (p : ℕ → Bool) (n : ℕ) → length (those p 0 n) ≤ n
+unfolding those
+length-those p zero = omega arith
+length-those p (suc n) =
+    omega (
+      arith,
+      length-those p n,
+      one_at_most (nat_le 0 n && p n) n,
+      length-append (those p 0 n) (if nat_le 0 n && p n then n ∷ [] else []),
+    )
+
+few_steps : (slots : ℕ) (bound_groups : List Wired) (instants : List Instant)
+    → length (recording slots bound_groups instants (length instants)).steps ≤ length instants
+unfolding recording
+few_steps slots bound_groups instants =
+    let step : ℕ → Step = step_at slots bound_groups instants in
+    let places : List ℕ = those (is_step slots bound_groups instants) 0 (length instants) in
+    let same : length (map step places) ≡ length places = length-map places step in
+    let few : length places ≤ length instants = length-those (is_step slots bound_groups instants) (length instants) in
+    let e : length (map step places) ≤ length instants = omega (arith, same, few) in e
+
+short_enough : (t : Trace) → length t.steps ≤ capture_limit → limited t ≡ Ok t
+short_enough t few = by_test (nat_lt capture_limit (length t.steps)) (not_over (length t.steps) few)
+  where
+    not_over : (n : ℕ) → n ≤ capture_limit → nat_lt capture_limit n ≡ false
+    not_over n le = grind (arith, nat_tests)
+
+    by_test : (long : Bool) → long ≡ false
+        → cond {A = Result Trace BindFault} long (Err (record { line = 0; kind = TooManySteps })) (Ok t) ≡ Ok t
+    by_test true is = absurd (cc is)
+    by_test false is = refl
+
+-- ---- the recording
+
+there : {A E : Type 0} (r : Result A E) → is_ok r ≡ true → (a : A) × (r ≡ Ok a)
+there (Ok a) e = (a, refl)
+there (Err fault) e = absurd (cc e)
+
+pub records-surveyed : (text : List ℕ) (b : BoundLines) (survey : Survey) (variables : List Variable)
+    → binding_of text ≡ Ok b → variables ≡ survey.variables → survey.instants ≤ most_instants
+    → finds_all b variables ≡ true → MakesRecordings text survey
+unfolding capture_of_text capture_of
+records-surveyed text b survey variables is same few finds dump (contents, read, declared, count) =
+    let (groups, are) = there (bound_groups_in contents.variables b.assignments)
+    (ap (λ (vs : List Variable). finds_all b vs) (declared ∙ sym same) ∙ finds) in
+    let t = recording b.slots groups contents.instants (length contents.instants) in
+    let short : length t.steps ≤ capture_limit =
+    omega (arith, few_steps b.slots groups contents.instants, count, few) in
+    record {
+      bound = b;
+      recording = t;
+      is_binding = is;
+      records = ap (capture_read b) read
+          ∙ ap or_binding (ap (λ (r : Result (List Wired) BindFault). r >>= λ bound_groups. limited
+          (recording b.slots bound_groups contents.instants (length contents.instants))) are ∙ short_enough t short);
+    }

@@ -1,11 +1,13 @@
 -- What a binding that is written for a dump has to be.
-use Rattle.std.specs.Prelude.{◌≡◌, ℕ, ◌≤◌, List, Option, Some, None, IfSome, Ok}
-use Rattle.vcd_read.specs.Meaning.{dump_of, ReadFails}
+use Rattle.std.specs.Prelude.{◌≡◌, ℕ, ◌≤◌, Bool, false, List, Option, Some, None, IfSome, Ok, is_ok}
+use Rattle.vcd_read.specs.declared.dump.Variable.{Variable}
 use Rattle.vme_bind.specs.Binding.{BoundLines, binding_of}
+use Rattle.vme_bind.specs.BoundGroups.{bound_groups_in}
 use Rattle.vme_bind.specs.TextCapture.{capture_of_text}
-use Rattle.vme_declarations.specs.Scopes.{LacksScope}
+use Rattle.vme_declarations.specs.Scopes.{has_scope}
+use Rattle.vme_declarations.specs.Surveys.{IsSurveyOf, Survey}
 use Rattle.vme_find.specs.declared.writing.FindFault.{FindFault}
-use Rattle.vme_find.specs.declared.writing.FindFault.TheVariants.{Dump, NoSuchScope}
+use Rattle.vme_find.specs.declared.writing.FindFault.TheVariants.{Memory, NoSuchScope}
 use Rattle.vme_trace.specs.Trace.{Trace}
 use denote.Ref.{Bor}
 
@@ -17,6 +19,14 @@ pub record MakesRecording (text dump : List ℕ) : Type 0 where
   pub is_binding : binding_of text ≡ Ok bound
   pub records : capture_of_text bound dump ≡ Ok recording
 
+-- it makes one of the dump of which this was surveyed, whichever that is
+abbrev pub MakesRecordings : List ℕ → Survey → Type 0
+MakesRecordings text survey = (dump : List ℕ) → IsSurveyOf survey dump → MakesRecording text dump
+
+-- all that the binding names is among these variables
+abbrev pub finds_all : BoundLines → List Variable → Bool
+finds_all bound variables = is_ok (bound_groups_in variables bound.assignments)
+
 -- the text is a binding of so many slots
 abbrev pub HasSlots : ℕ → List ℕ → Type 0
 HasSlots slots text = (bound : BoundLines) × (binding_of text ≡ Ok bound) × (bound.slots ≡ slots)
@@ -25,9 +35,8 @@ HasSlots slots text = (bound : BoundLines) × (binding_of text ≡ Ok bound) × 
 abbrev pub AreSlots : Option ℕ → Type 0
 AreSlots slots = IfSome slots (λ n. (1 ≤ n) × (n ≤ 21))
 
--- Why there is no binding for a dump: a fault is the dump's first, unless memory ran out; or the dump has no fault, and
--- lacks the scope that is asked.
-abbrev pub IsFindFault : List ℕ → Option (Bor (List ℕ)) → FindFault → Type 0
-IsFindFault dump scope (Dump fault) = ReadFails fault (dump_of dump)
-IsFindFault dump None NoSuchScope = ⊥
-IsFindFault dump (Some path) NoSuchScope = LacksScope path.now dump
+-- why there is no binding for a dump: it lacks the scope that is asked, or there was no memory
+abbrev pub IsFindFault : Survey → Option (Bor (List ℕ)) → FindFault → Type 0
+IsFindFault survey scope Memory = Unit {0}
+IsFindFault survey None NoSuchScope = ⊥
+IsFindFault survey (Some path) NoSuchScope = has_scope path.now survey.variables ≡ false

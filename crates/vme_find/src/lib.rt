@@ -3,15 +3,16 @@
 //! # Parts
 //!
 //! - `writing`: [`write_binding`]. What vme_proposal proposes for the lines that vme_line_names finds
-//!   is read as a binding, and has to make a recording of the dump.
+//!   is read as a binding, and has to make a recording of the dump that was surveyed: all that it names
+//!   is among the variables of the dump, whose body needn't be read again.
 //! - `constants`: a binding of all lines to constants, in the place of one that doesn't.
 //!
 //! # What is proved
 //!
 //! - [`write_binding`] writes a binding by the format, so each line is bound once, and it makes a
 //!   recording of the dump without a fault (`MakesRecording`), of the slots that were given
-//!   (`HasSlots`). A fault of the dump is its first, or lack of memory; a scope is reported missing
-//!   exactly where a dump without a fault lacks it (`err`). So any other dump has a binding.
+//!   (`HasSlots`). A scope is reported missing exactly where the dump lacks it (`scope`, `err`). So
+//!   any other dump without a fault has a binding.
 //! - What is told of a binding has visible characters, spaces and line feeds alone (`visible`).
 //!
 //! # What isn't proved

@@ -1,19 +1,18 @@
 //! A binding for a dump.
 
-ghost use Rattle.std.specs.Prelude.{◌≡◌, ℕ, List, IfErr, IfOk, IfSome, OnOk, Some, false, true};
-ghost use Rattle.vcd_read.specs.Meaning.{ReadFails, dump_of};
-ghost use Rattle.vcd_read.specs.declared.fault.FaultKind.TheVariants.{Memory};
+ghost use Rattle.std.specs.Prelude.{◌≡◌, ℕ, List, IfErr, IfOk, IfSome, OnOk, None, Some, false, true};
 ghost use Rattle.vme_declarations.specs.Dumps.{IsDump};
-ghost use Rattle.vme_declarations.specs.Scopes.{HasScope};
-ghost use Rattle.vme_find.specs.Recordings.{AreSlots, HasSlots, IsFindFault, MakesRecording};
-ghost use Rattle.vme_find.specs.declared.writing.FindFault.TheVariants.{Dump};
+ghost use Rattle.vme_declarations.specs.Scopes.{has_scope};
+ghost use Rattle.vme_declarations.specs.Surveys.{variables_in};
+ghost use Rattle.vme_find.specs.Recordings.{AreSlots, HasSlots, IsFindFault, MakesRecording, MakesRecordings};
+ghost use Rattle.vme_find.specs.Recordings.{finds_all};
+ghost use Rattle.vme_find.specs.declared.writing.FindFault.TheVariants.{Memory};
 ghost use Rattle.vme_text.specs.Visible.{IsVisible};
 
 use crate::constants::constant_text;
 use std::alloc::{AllocError, Global};
-use vcd_read::{FaultKind, VcdFault};
-use vme_bind::{BindKind, Binding, CaptureFault, read_binding};
-use vme_declarations::{DeclaredNames, LevelsSeen, has_scope, read_declarations};
+use vme_bind::{BindFault, BindKind, Binding, CaptureFault, StepCollector, read_binding};
+use vme_declarations::{DeclaredNames, LevelsSeen, SurveyedDump, has_scope};
 use vme_line_names::find_lines;
 use vme_proposal::{propose_binding, told_constants};
 use vme_text::Text;
@@ -36,38 +35,37 @@ pub struct FoundBinding {
 /// Why there is no binding for a dump.
 #[derive(Clone, Copy, Debug, PartialEq, Eq)]
 pub enum FindFault {
-    /// The text is no dump.
-    Dump(VcdFault),
     /// No variable of the dump stands in the scope that is asked, nor in one within it.
     NoSuchScope,
+    /// There is no memory.
+    Memory,
 }
 
-impl From<VcdFault> for FindFault {
-    ghost from_gives = { λ fault e. e ≡ Dump fault };
+impl From<AllocError> for FindFault {
+    ghost from_gives = { λ _ e. e ≡ Memory };
 
-    fn from(fault: VcdFault) -> FindFault {
-        FindFault::Dump(fault)
+    fn from(_e: AllocError) -> FindFault {
+        FindFault::Memory
     }
 }
 
-/// Finds a binding for the text of a dump: the lines that are found by the names of its variables, and the others as
-/// constants that fit these, with a comment. The slots are those that are told, or else those of the daisy chains. The
-/// scope is that of a path, where one is told, or else the best by what is found there; lines that it lacks are taken
-/// from the scopes around it.
+/// Finds a binding for a dump that was surveyed: the lines that are found by the names of its variables, and the others
+/// as constants that fit these, with a comment. The slots are those that are told, or else those of the daisy chains.
+/// The scope is that of a path, where one is told, or else the best by what is found there; lines that it lacks are
+/// taken from the scopes around it.
 ///
-/// What it writes is a binding by the format, of so many slots, and it makes a recording of the dump. A fault of the
-/// dump is its first one; at line 0 it is want of memory. So a dump without a fault that has the scope has a binding,
-/// unless memory runs out.
+/// What it writes is a binding by the format, of so many slots, and it makes a recording of the dump. So a dump that
+/// has the scope has a binding, unless memory runs out.
 pub fn write_binding(
     alloc: Global,
-    dump: &[u8],
+    dump: &SurveyedDump,
     slots: Option<u8>,
     scope: Option<&[u8]>,
 ) -> Result<FoundBinding, FindFault>
     requires { AreSlots slots }
-    ensures ok { IfOk result (λ found. MakesRecording found.text dump.now) }
+    ensures ok { IfOk result (λ found. MakesRecordings found.text dump.now) }
     ensures slots { IfOk result (λ found. IfSome slots (λ n. HasSlots n found.text)) }
-    ensures scope { OnOk result (IfSome scope.entry (λ path. HasScope path.now dump.now)) }
+    ensures scope { OnOk result (IfSome scope.entry (λ path. has_scope path.now dump.now.variables ≡ true)) }
     ensures err { IfErr result (IsFindFault dump.now scope.entry) }
 {
     match scope {
@@ -79,14 +77,14 @@ pub fn write_binding(
 /// The same in the scope of a path.
 fn binding_in(
     alloc: Global,
-    dump: &[u8],
+    dump: &SurveyedDump,
     slots: Option<u8>,
     path: &[u8],
 ) -> Result<FoundBinding, FindFault>
     requires { AreSlots slots }
-    ensures ok { IfOk result (λ found. MakesRecording found.text dump.now) }
+    ensures ok { IfOk result (λ found. MakesRecordings found.text dump.now) }
     ensures slots { IfOk result (λ found. IfSome slots (λ n. HasSlots n found.text)) }
-    ensures scope { OnOk result (HasScope path.now dump.now) }
+    ensures scope { OnOk result (has_scope path.now dump.now.variables ≡ true) }
     ensures err { IfErr result (IsFindFault dump.now (Some path.entry)) }
 {
     if !has_scope(alloc, dump, path)? {
@@ -98,20 +96,19 @@ fn binding_in(
 /// A binding for a dump, of the lines in the scope of a path, where one is told.
 fn found_binding(
     alloc: Global,
-    dump: &[u8],
+    dump: &SurveyedDump,
     slots: Option<u8>,
     scope: Option<&[u8]>,
-) -> Result<FoundBinding, VcdFault>
+) -> Result<FoundBinding, AllocError>
     requires { AreSlots slots }
-    ensures ok { IfOk result (λ found. MakesRecording found.text dump.now) }
+    ensures ok { IfOk result (λ found. MakesRecordings found.text dump.now) }
     ensures slots { IfOk result (λ found. IfSome slots (λ n. HasSlots n found.text)) }
-    ensures err { IfErr result (λ fault. ReadFails fault (dump_of dump.now)) }
 {
-    let found = proposed(alloc, dump, slots, scope)?;
+    let found = proposal_by(alloc, dump.names(), dump.levels(), slots, scope)?;
     if fits(alloc, &found.text, dump, slots)? {
         return Ok(found);
     }
-    Ok(constant_binding(alloc, slots)?)
+    constant_binding(alloc, slots)
 }
 
 /// The binding of all lines to constants, and what is said of it.
@@ -127,28 +124,48 @@ fn constant_binding(alloc: Global, slots: Option<u8>) -> Result<FoundBinding, Al
     })
 }
 
-fn no_memory() -> VcdFault
-    ensures { result ≡ record { line = 0; kind = Memory } }
+/// Whether a text is a binding of so many slots, where they are told, that makes a recording of the dump.
+fn fits(
+    alloc: Global,
+    text: &Text,
+    dump: &SurveyedDump,
+    slots: Option<u8>,
+) -> Result<bool, AllocError>
+    ensures ok { IfOk result (λ fits. fits ≡ true → MakesRecordings text.now dump.now) }
+    ensures slots { IfOk result (λ fits. fits ≡ true → IfSome slots (λ n. HasSlots n text.now)) }
 {
-    VcdFault {
-        line: 0,
-        kind: FaultKind::Memory,
+    match read_binding(alloc, text.as_bytes()) {
+        Ok(binding) => {
+            let is_found = finds_all(alloc, &binding, dump.front())?;
+            Ok(is_found && has_slots(&binding, slots))
+        }
+        Err(fault) => or_memory(fault.kind),
     }
 }
 
-/// Whether a text is a binding of so many slots, where they are told, that makes a recording of the dump.
-fn fits(alloc: Global, text: &Text, dump: &[u8], slots: Option<u8>) -> Result<bool, VcdFault>
-    ensures ok { IfOk result (λ fits. fits ≡ true → MakesRecording text.now dump.now) }
-    ensures slots { IfOk result (λ fits. fits ≡ true → IfSome slots (λ n. HasSlots n text.now)) }
-    ensures err { IfErr result (λ fault. ReadFails fault (dump_of dump.now)) }
+/// Whether all that a binding names is among the variables that are declared in a front of a dump.
+fn finds_all(alloc: Global, binding: &Binding, front: &[u8]) -> Result<bool, AllocError>
+    ensures { IfOk result (λ finds. finds ≡ true → finds_all binding.now (variables_in front.now) ≡ true) }
 {
-    match read_binding(alloc, text.as_bytes()) {
-        Ok(binding) => match binding.capture_text(alloc, dump) {
-            Ok(_) => Ok(has_slots(&binding, slots)),
-            Err(CaptureFault::Dump(fault)) => Err(fault),
-            Err(CaptureFault::Binding(fault)) => or_memory(fault.kind),
-        },
-        Err(fault) => or_memory(fault.kind),
+    let none = StepCollector {
+        opening: *binding.lines(),
+        steps: Vec::new(alloc),
+    };
+    match binding.begin_before_body(alloc, front, none) {
+        Ok(Ok((text, _))) => Ok(has_none(text.binding_fault())),
+        Ok(Err(_)) => Ok(false),
+        Err(CaptureFault::Binding(fault)) => or_memory(fault.kind),
+        Err(CaptureFault::Dump(_)) => Err(AllocError),
+    }
+}
+
+/// Whether a binding has no fault.
+fn has_none(fault: Option<BindFault>) -> bool
+    ensures { result ≡ true → fault ≡ None }
+{
+    match fault {
+        None => true,
+        Some(_) => false,
     }
 }
 
@@ -163,28 +180,13 @@ fn has_slots(binding: &Binding, slots: Option<u8>) -> bool
 }
 
 /// That a binding doesn't fit, unless there was no memory to see it.
-fn or_memory(kind: BindKind) -> Result<bool, VcdFault>
-    ensures ok { IfOk result (λ fits. fits ≡ false) }
-    ensures err { IfErr result (λ fault. fault ≡ record { line = 0; kind = Memory }) }
+fn or_memory(kind: BindKind) -> Result<bool, AllocError>
+    ensures { IfOk result (λ fits. fits ≡ false) }
 {
     match kind {
-        BindKind::Memory => Err(no_memory()),
+        BindKind::Memory => Err(AllocError),
         _ => Ok(false),
     }
-}
-
-/// What is proposed for a dump. A fault is the first one of the dump; at line 0 it is want of memory.
-fn proposed(
-    alloc: Global,
-    dump: &[u8],
-    slots: Option<u8>,
-    scope: Option<&[u8]>,
-) -> Result<FoundBinding, VcdFault>
-    ensures ok { OnOk result (IsDump dump.now) }
-    ensures err { IfErr result (λ fault. ReadFails fault (dump_of dump.now)) }
-{
-    let (declared, levels) = read_declarations(alloc, dump)?;
-    Ok(proposal_by(alloc, &declared, &levels, slots, scope)?)
 }
 
 /// What is proposed by the names of the variables and by which of them move.

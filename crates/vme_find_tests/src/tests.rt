@@ -1,11 +1,13 @@
+ghost use Rattle.vme_find.specs.Recordings.{AreSlots};
+
 use memchr::memmem;
 use std::alloc::{AllocError, Global};
 use std::test::Fail;
 use vcd_read::{FaultKind, VcdFault};
 use vme_declarations::{
-    EMPTY_HASH, VariableBit, front_of, has_scope, hash_of, read_declarations, scopes_of,
+    DumpSurvey, EMPTY_HASH, SurveyedDump, VariableBit, front_of, has_scope, hash_of, scopes_of,
 };
-use vme_find::{FindFault, write_binding};
+use vme_find::{FindFault, FoundBinding, write_binding};
 use vme_line_names::find_lines;
 use vme_proposal::{propose_binding, told_constants};
 use vme_trace::Line;
@@ -14,6 +16,29 @@ use vme_variables::{time_scale, time_unit, variables_text};
 /// A dump of one variable under a standard name, and of one that is none.
 const DUMP: &str = "$timescale 1 ns $end\n$scope module bus $end\n$var wire 1 p as_n $end\n\
 $var wire 4 q other [3:0] $end\n$upscope $end\n$enddefinitions $end\n#0 1p b1 q\n#10 0p\n";
+
+/// What is surveyed of a dump.
+fn surveyed(alloc: Global, dump: &str) -> Result<SurveyedDump, VcdFault> {
+    DumpSurvey::new().finish(alloc, dump.as_bytes())
+}
+
+/// The binding that is found for a dump, if there is one.
+fn binding_of(
+    alloc: Global,
+    dump: &str,
+    slots: Option<u8>,
+    scope: Option<&[u8]>,
+) -> Option<FoundBinding>
+    requires { AreSlots slots }
+{
+    match surveyed(alloc, dump) {
+        Ok(survey) => match write_binding(alloc, &survey, slots, scope) {
+            Ok(found) => Some(found),
+            Err(_) => None,
+        },
+        Err(_) => None,
+    }
+}
 
 const VARIABLES: &str =
     "time scale 1ns\nlast time 10\nchanges bits variable\n      2     1 bus.as_n\n      1     4 bus.other[3:0]\n";
@@ -30,12 +55,14 @@ fn variables_are_listed(rt: HostRuntime) -> Result<(), Fail> {
 #[test]
 fn declarations_are_read(rt: HostRuntime) -> Result<(), Fail> {
     let alloc = rt.alloc();
-    match read_declarations(alloc, DUMP.as_bytes()) {
-        Ok((declared, levels)) => {
+    match surveyed(alloc, DUMP) {
+        Ok(survey) => {
+            let declared = survey.names();
+            let levels = survey.levels();
             assert_eq!(rt; declared.scopes().len(), 2);
             assert_eq!(rt; declared.path_of(alloc, 1)?.as_slice(), b"bus".as_slice());
             assert_eq!(rt;
-                scopes_of(alloc, &declared, b"bus")?.as_slice(),
+                scopes_of(alloc, declared, b"bus")?.as_slice(),
                 [false, true].as_slice()
             );
             match declared.variables() {
@@ -60,9 +87,8 @@ fn a_scope_is_looked_for(rt: HostRuntime) -> Result<(), Fail> {
     assert_eq!(rt; front_of(alloc, b"bus")?.as_slice(), b"bus.".as_slice());
     let paths: [(&[u8], bool); 3] = [(b"bus", true), (b"bu", false), (b"bus.as_n", false)];
     for (path, has) in paths {
-        match has_scope(alloc, DUMP.as_bytes(), path) {
-            Ok(found) => assert_eq!(rt; found, has),
-            Err(fault) => assert_eq!(rt; fault.line, 0),
+        if let Ok(survey) = surveyed(alloc, DUMP) {
+            assert_eq!(rt; has_scope(alloc, &survey, path)?, has);
         }
     }
     Ok(())
@@ -71,9 +97,10 @@ fn a_scope_is_looked_for(rt: HostRuntime) -> Result<(), Fail> {
 #[test]
 fn lines_are_found_and_proposed(rt: HostRuntime) -> Result<(), Fail> {
     let alloc = rt.alloc();
-    match read_declarations(alloc, DUMP.as_bytes()) {
-        Ok((declared, levels)) => {
-            let found = find_lines(alloc, &declared, &levels, None)?;
+    match surveyed(alloc, DUMP) {
+        Ok(survey) => {
+            let declared = survey.names();
+            let found = find_lines(alloc, declared, survey.levels(), None)?;
             let first = VariableBit {
                 variable: 0,
                 place: 0,
@@ -81,7 +108,7 @@ fn lines_are_found_and_proposed(rt: HostRuntime) -> Result<(), Fail> {
             assert_eq!(rt; found.bit_of_line(Line::AS), Some(first));
             assert!(rt; found.moves(Line::AS));
             assert_eq!(rt; found.bit_of_line(Line::DS0), None);
-            let proposed = propose_binding(alloc, &declared, found, Some(2))?;
+            let proposed = propose_binding(alloc, declared, found, Some(2))?;
             assert!(rt; memmem::find(proposed.text.as_bytes(), b"\nAS = bus.as_n\n").is_some());
             assert!(rt;
                 proposed
@@ -110,14 +137,14 @@ fn a_letter_has_its_published_hash(rt: HostRuntime) -> Result<(), Fail> {
 
 #[test]
 fn a_variable_is_found_by_its_name(rt: HostRuntime) -> Result<(), Fail> {
-    match write_binding(rt.alloc(), DUMP.as_bytes(), Some(2), None) {
-        Ok(found) => {
+    match binding_of(rt.alloc(), DUMP, Some(2), None) {
+        Some(found) => {
             let head =
                 b"# Found by the names in the scope bus: look each line over.\nslots 2\nAS = bus.as_n\n";
             assert!(rt; found.text.as_bytes().starts_with(head));
             assert!(rt; !found.is_bus);
         }
-        Err(_) => assert!(rt; false),
+        None => assert!(rt; false),
     }
     Ok(())
 }
@@ -126,44 +153,43 @@ fn a_variable_is_found_by_its_name(rt: HostRuntime) -> Result<(), Fail> {
 /// constants.
 #[test]
 fn each_growth_fails_once(rt: HostRuntime) -> Result<(), Fail> {
-    let no_memory = VcdFault {
-        line: 0,
-        kind: FaultKind::Memory,
-    };
-    match write_binding(rt.alloc(), DUMP.as_bytes(), Some(2), Some(b"bus")) {
-        Ok(found) => assert!(rt;
-            found
-                .text
-                .as_bytes()
-                .starts_with(b"# Found by the names in the scope bus")
-        ),
-        Err(FindFault::Dump(fault)) => assert_eq!(rt; fault, no_memory),
-        Err(FindFault::NoSuchScope) => assert!(rt; false),
+    let alloc = rt.alloc();
+    match surveyed(alloc, DUMP) {
+        Ok(survey) => match write_binding(alloc, &survey, Some(2), Some(b"bus")) {
+            Ok(found) => assert!(rt;
+                found
+                    .text
+                    .as_bytes()
+                    .starts_with(b"# Found by the names in the scope bus")
+            ),
+            Err(fault) => assert_eq!(rt; fault, FindFault::Memory),
+        },
+        Err(fault) => assert_eq!(rt; fault.line, 0),
     }
     Ok(())
 }
 
 /// Whether the binding that is found for a dump has a text.
 fn binding_has(alloc: Global, dump: &str, part: &str) -> bool {
-    match write_binding(alloc, dump.as_bytes(), None, None) {
-        Ok(found) => memmem::find(found.text.as_bytes(), part.as_bytes()).is_some(),
-        Err(_) => false,
+    match binding_of(alloc, dump, None, None) {
+        Some(found) => memmem::find(found.text.as_bytes(), part.as_bytes()).is_some(),
+        None => false,
     }
 }
 
 /// Whether the binding that is found in a scope of a dump has a text.
 fn binding_in_has(alloc: Global, dump: &str, path: &str, part: &str) -> bool {
-    match write_binding(alloc, dump.as_bytes(), Some(1), Some(path.as_bytes())) {
-        Ok(found) => memmem::find(found.text.as_bytes(), part.as_bytes()).is_some(),
-        Err(_) => false,
+    match binding_of(alloc, dump, Some(1), Some(path.as_bytes())) {
+        Some(found) => memmem::find(found.text.as_bytes(), part.as_bytes()).is_some(),
+        None => false,
     }
 }
 
 /// Whether just this is said of the binding that is found for a dump, and whether it is said to be a bus's.
 fn binding_is_told(alloc: Global, dump: &str, told: &str, is_bus: bool) -> bool {
-    match write_binding(alloc, dump.as_bytes(), None, None) {
-        Ok(found) => found.told.as_bytes() == told.as_bytes() && found.is_bus == is_bus,
-        Err(_) => false,
+    match binding_of(alloc, dump, None, None) {
+        Some(found) => found.told.as_bytes() == told.as_bytes() && found.is_bus == is_bus,
+        None => false,
     }
 }
 
@@ -394,23 +420,71 @@ fn the_scope_that_is_named_is_bound(rt: HostRuntime) -> Result<(), Fail> {
 #[test]
 fn a_scope_that_is_not_there_is_told(rt: HostRuntime) -> Result<(), Fail> {
     let alloc = rt.alloc();
-    for path in [b"tw".as_slice(), b"top.tw", b"two", b"top.two.AS", b"top."] {
-        match write_binding(alloc, BOARDS.as_bytes(), None, Some(path)) {
-            Err(fault) => assert_eq!(rt; fault, FindFault::NoSuchScope),
-            Ok(_) => assert!(rt; false),
+    match surveyed(alloc, BOARDS) {
+        Ok(survey) => {
+            for path in [b"tw".as_slice(), b"top.tw", b"two", b"top.two.AS", b"top."] {
+                match write_binding(alloc, &survey, None, Some(path)) {
+                    Err(fault) => assert_eq!(rt; fault, FindFault::NoSuchScope),
+                    Ok(_) => assert!(rt; false),
+                }
+            }
         }
+        Err(_) => assert!(rt; false),
     }
-    let faulty = "$var wire 1 a AS $end\n$enddefinitions $end\n#0 1q\n";
-    let undeclared = FindFault::Dump(VcdFault {
-        line: 3,
-        kind: FaultKind::UndeclaredCode,
-    });
-    for path in [b"".as_slice(), b"bus"] {
-        match write_binding(alloc, faulty.as_bytes(), None, Some(path)) {
-            Err(fault) => assert_eq!(rt; fault, undeclared),
-            Ok(_) => assert!(rt; false),
-        }
+    Ok(())
+}
+
+/// A dump with a change of a code that no variable has.
+const FAULTY: &str = "$var wire 1 a AS $end\n$enddefinitions $end\n#0 1a\n#1 1q\n#2 0a\n";
+
+const UNDECLARED: VcdFault = VcdFault {
+    line: 4,
+    kind: FaultKind::UndeclaredCode,
+};
+
+/// Whether a survey of the first bytes of a dump, and then of the others, finds that AS moves.
+fn moves_in_pieces(alloc: Global, dump: &str, cut: usize) -> Result<bool, AllocError> {
+    let bytes = dump.as_bytes();
+    let (survey, count) = DumpSurvey::new().take(alloc, bytes.get(..cut).unwrap_or(b""))?;
+    match survey.finish(alloc, bytes.get(count..).unwrap_or(b"")) {
+        Ok(survey) => match survey.names().variables() {
+            [strobe, ..] => Ok(survey.levels().moves(strobe.net, 0)),
+            _ => Ok(false),
+        },
+        Err(_) => Ok(false),
     }
+}
+
+/// The fault that is met in the first bytes of a dump, and the one that is met in all of it.
+fn faults_in_pieces(
+    alloc: Global,
+    dump: &str,
+    cut: usize,
+) -> Result<(Option<VcdFault>, Option<VcdFault>), AllocError> {
+    let bytes = dump.as_bytes();
+    let (survey, count) = DumpSurvey::new().take(alloc, bytes.get(..cut).unwrap_or(b""))?;
+    let first = survey.fault();
+    match survey.finish(alloc, bytes.get(count..).unwrap_or(b"")) {
+        Ok(_) => Ok((first, None)),
+        Err(fault) => Ok((first, Some(fault))),
+    }
+}
+
+#[test]
+fn pieces_are_surveyed_as_the_whole(rt: HostRuntime) -> Result<(), Fail> {
+    let alloc = rt.alloc();
+    for cut in 0..DUMP.len() {
+        assert!(rt; moves_in_pieces(alloc, DUMP, cut)?, "{cut}");
+    }
+    for cut in 0..FAULTY.len() {
+        let (first, whole) = faults_in_pieces(alloc, FAULTY, cut)?;
+        assert_eq!(rt; whole, Some(UNDECLARED), "{cut}");
+        assert!(rt; first.is_none() || first == whole, "{cut}");
+    }
+    assert_eq!(rt;
+        faults_in_pieces(alloc, FAULTY, FAULTY.len())?.0,
+        Some(UNDECLARED)
+    );
     Ok(())
 }
 
@@ -433,15 +507,15 @@ fn names_are_shown_by_visible_characters(rt: HostRuntime) -> Result<(), Fail> {
     assert!(rt; binding_has(alloc, STEERING, head));
     // a path is bound by its bytes
     assert!(rt; binding_has(alloc, STEERING, "\nAS = \u{202e}bus.AS\n"));
-    match write_binding(alloc, STEERING.as_bytes(), None, None) {
-        Ok(found) => {
+    match binding_of(alloc, STEERING, None, None) {
+        Some(found) => {
             let told = memmem::find(
                 found.told.as_bytes(),
                 b" in scope \\xE2\\x80\\xAEbus, 1 slot",
             );
             assert!(rt; told.is_some());
         }
-        Err(_) => assert!(rt; false),
+        None => assert!(rt; false),
     }
     Ok(())
 }

@@ -6,9 +6,6 @@ pub match_some : {X : Type 0} (w : Option X) (x : X) (A : Type 0) (B : X → Typ
     → MatchOption w A B
 match_some {X} w x A B is holds = let P : Option X → Type 0 = λ v. MatchOption v A B in subst P (sym is) holds
 
-pub match_none : {X : Type 0} (w : Option X) (A : Type 0) (B : X → Type 0) → w ≡ None → A → MatchOption w A B
-match_none {X} w A B is holds = let P : Option X → Type 0 = λ v. MatchOption v A B in subst P (sym is) holds
-
 -- of two questions the second is asked only where the first has no answer
 pub each_of_two : {X : Type 0} (o : Option X) (A B C D : Type 0) → A → MatchOption o B (λ x. D)
     → MatchOption o (A × B) (λ x. C ⊎ D)

@@ -1,5 +1,5 @@
 -- What an audit does with the files that an order names.
-use Rattle.std.specs.Prelude.{◌≡◌, ◌≢◌, ◌⊎◌, ◌==◌, ℕ, if◌then◌else◌, List, ◌++◌, All, Contains, codes, drop, map}
+use Rattle.std.specs.Prelude.{◌≡◌, ◌≢◌, ◌⊎◌, ◌==◌, ℕ, if◌then◌else◌, List, ◌++◌, All, Contains, codes, map}
 use Rattle.std.specs.Prelude.{take, Option, None, Some, IfSome, MatchOption, option_map, slice_get, string_bytes}
 use Rattle.std.specs.List.{AllZip}
 use Rattle.vme_trace.specs.Streams.{Reading, Writing}
@@ -17,8 +17,7 @@ use Rattle.vme_commands.specs.AllowanceTexts.{allowance_text}
 use Rattle.vme_explain.specs.declared.saving.FileId.{FileId}
 use Rattle.vme_stream.specs.Outputs.{TriesToWrite}
 use Rattle.vme_words.specs.OrderFaults.{IsOfWords}
-use Rattle.vme_words.specs.declared.order.AuditWords.{AuditWords}
-use Rattle.vme_words.specs.declared.order.Order.{Order}
+use Rattle.vme_words.specs.declared.order.AuditOrder.{AuditOrder}
 use Rattle.vme_program.specs.Openings.{WithInput}
 use Rattle.vme_program.specs.Saves.{TellsNoMemory}
 use Rattle.vme_program.specs.declared.audit.NoWords.{NoWords}
@@ -35,22 +34,22 @@ IsOfWordsIfAny (Faulty fault) = IsOfWords fault
 IsOfWordsIfAny other = Unit {0}
 
 -- the breaks that the words allow, each as it is written
-abbrev pub AreAllowed : AuditWords → List Allowance → Type 0
-AreAllowed words allowances = map allowance_text allowances ≡ map string_bytes words.allowed.items
+abbrev pub AreAllowed : AuditOrder → List Allowance → Type 0
+AreAllowed order allowances = map allowance_text allowances ≡ map string_bytes order.allowed.items
 
 -- how the dumps of an order are audited
-abbrev pub rules_of : Order → AuditWords → List Allowance → DumpRules
-rules_of order words allowances = record {
+abbrev pub rules_of : AuditOrder → List Allowance → DumpRules
+rules_of order allowances = record {
   allowances = allowances;
-  transfers = words.transfers;
-  stop = words.stop;
+  transfers = order.transfers;
+  stop = order.stop;
   skew = order.skew;
-  is_quiet = words.is_quiet;
+  is_quiet = order.is_quiet;
 }
 
--- the words that name the dumps: those behind the binding
-abbrev pub dump_words : Order → List (List ℕ)
-dump_words order = map string_bytes (drop 1 order.names.items)
+-- the words that name the dumps
+abbrev pub dump_words : AuditOrder → List (List ℕ)
+dump_words order = map string_bytes order.dumps.items
 
 -- the name by which standard input is a dump
 abbrev pub input_name : List ℕ
@@ -130,12 +129,12 @@ module _ {S R : Type 0} (outside : Environment S R) (s : S) where
 
   -- ---- the audit
 
-  module _ (order : Order) (words : AuditWords) (allowances : List Allowance) where
+  module _ (order : AuditOrder) (allowances : List Allowance) where
     -- the binding is refused, or the dumps are audited by it
     abbrev pub AuditsBy : Reading × Reading → List NamedReading → Writing × Writing → Writing × Writing → ℕ → Type 0
     AuditsBy binding dumps out err status =
         RefusesBinding binding out err status
-        ⊎ AuditsByBinding (rules_of order words allowances) binding dumps out err status
+        ⊎ AuditsByBinding (rules_of order allowances) binding dumps out err status
 
     -- the same, and behind an audit test cases are written
     abbrev pub AuditsThenSaves : List ℕ → Reading × Reading → List NamedReading
@@ -143,7 +142,7 @@ module _ {S R : Type 0} (outside : Environment S R) (s : S) where
     AuditsThenSaves path binding dumps out err status =
         RefusesBinding binding out err status
         ⊎ ((said : Writing) × (first : ℕ)
-        × AuditsByBinding (rules_of order words allowances) binding dumps out (err.0, said) first
+        × AuditsByBinding (rules_of order allowances) binding dumps out (err.0, said) first
         × SavesCases path first (said, err.1) status)
 
     -- unless they would be written over an input, or it can't be told which file the binding is: then nothing is read
@@ -159,7 +158,7 @@ module _ {S R : Type 0} (outside : Environment S R) (s : S) where
     abbrev pub AuditsOpened : Reading × Reading → List NamedReading
         → Writing × Writing → Writing × Writing → ℕ → Type 0
     AuditsOpened binding dumps out err status =
-        MatchOption (option_map string_bytes words.junit)
+        MatchOption (option_map string_bytes order.junit)
         (AuditsBy binding dumps out err status)
         (λ path. AuditsAndSaves path binding dumps out err status)
 
@@ -172,10 +171,9 @@ module _ {S R : Type 0} (outside : Environment S R) (s : S) where
         ⊎ ((dumps : List NamedReading) × AllZip IsDumpOf (dump_words order) dumps
         × AuditsOpened binding dumps out err status))
 
-  -- the binding is opened, and then the dumps, by what the order tells an audit
-  abbrev pub AuditsFiles : Order → Writing × Writing → Writing × Writing → ℕ → Type 0
+  -- the binding is opened, and then the dumps
+  abbrev pub AuditsFiles : AuditOrder → Writing × Writing → Writing × Writing → ℕ → Type 0
   AuditsFiles order out err status =
       EndsForMemory out err status
-      ⊎ ((words : AuditWords) × (allowances : List Allowance)
-      × (order.audit ≡ Some words) × AreAllowed words allowances
-      × WithInput (outside.opens s) order Binding (AuditsNamed order words allowances) out err status)
+      ⊎ ((allowances : List Allowance) × AreAllowed order allowances
+      × WithInput (outside.opens s) (string_bytes order.binding) Binding (AuditsNamed order allowances) out err status)

@@ -1,6 +1,6 @@
 -- What is done with the files that an order names for an explanation, and with the files that it wants written.
 use Rattle.std.specs.Prelude.{◌≡◌, ◌⊎◌, ◌||◌, ℕ, Bool, true, false, List, [], Option, None, Some, MatchOption, is_some}
-use Rattle.std.specs.Prelude.{bytes_eq, option_map, slice_get, string_bytes}
+use Rattle.std.specs.Prelude.{bytes_eq, option_map, string_bytes}
 use Rattle.vme_trace.specs.Streams.{Reading, Writing}
 use Rattle.vme_answer.specs.Answers.{refusal_answer}
 use Rattle.vme_answer.specs.Ends.{Tells}
@@ -14,24 +14,24 @@ use Rattle.vme_explain.specs.declared.saving.Present.{Present}
 use Rattle.vme_explain.specs.declared.saving.SaveRefusal.{SaveRefusal}
 use Rattle.vme_picture.specs.Pictures.{IsPicture}
 use Rattle.vme_stream.specs.Outputs.{Writes}
-use Rattle.vme_words.specs.declared.order.Order.{Order}
-use Rattle.vme_program.specs.Openings.{WithInput}
+use Rattle.vme_words.specs.declared.order.ExplainOrder.{ExplainOrder}
+use Rattle.vme_program.specs.Openings.{WithRecording}
 use Rattle.vme_program.specs.Saves.{MayBeSaved, RefusesPlace, Saves}
 use Rattle.vme_program.specs.declared.save.InputIds.{InputIds}
 use Rattle.vme_program.specs.declared.environment.Environment.{Ghosts as Environment}
 
 -- the words that say where the viewer's file and the picture are wanted, if they are
-abbrev pub viewer_word : Order → Option (List ℕ)
-viewer_word order = option_map string_bytes (slice_get order.names.items 2)
+abbrev pub viewer_word : ExplainOrder → Option (List ℕ)
+viewer_word order = option_map string_bytes order.viewer
 
-abbrev pub picture_word : Order → Option (List ℕ)
+abbrev pub picture_word : ExplainOrder → Option (List ℕ)
 picture_word order = option_map string_bytes order.picture
 
 -- neither is wanted, or one is
-abbrev pub AsksNoFile : Order → Type 0
+abbrev pub AsksNoFile : ExplainOrder → Type 0
 AsksNoFile order = (viewer_word order ≡ None) × (picture_word order ≡ None)
 
-abbrev pub AsksSomeFile : Order → Type 0
+abbrev pub AsksSomeFile : ExplainOrder → Type 0
 AsksSomeFile order = (is_some (viewer_word order) ≡ true) ⊎ (is_some (picture_word order) ≡ true)
 
 module _ {S R : Type 0} (outside : Environment S R) (s : S) where
@@ -68,7 +68,7 @@ module _ {S R : Type 0} (outside : Environment S R) (s : S) where
         ((err.1 ≡ err.0) × (status ≡ first))
         (λ path. Saves (outside.stands_at s) (outside.puts s) path inputs bytes first err status)
 
-  module _ (order : Order) where
+  module _ (order : ExplainOrder) where
     -- each file that is wanted may be written, or one may not
     abbrev pub EachIsAllowed : InputIds → Type 0
     EachIsAllowed inputs = IsAllowed inputs (viewer_word order) × IsAllowed inputs (picture_word order)
@@ -128,10 +128,6 @@ module _ {S R : Type 0} (outside : Environment S R) (s : S) where
         (AsksNoFile order × Explains order.skew binding dump out err status)
         ⊎ (AsksSomeFile order × ExplainsAndSaves binding dump out err status)
 
-    -- after the binding
-    abbrev pub ExplainsDump : Reading × Reading → Writing × Writing → Writing × Writing → ℕ → Type 0
-    ExplainsDump binding = WithInput (outside.opens s) order Dump (ExplainsOpened binding)
-
     -- the binding is opened, and then the dump
     abbrev pub ExplainsFiles : Writing × Writing → Writing × Writing → ℕ → Type 0
-    ExplainsFiles = WithInput (outside.opens s) order Binding ExplainsDump
+    ExplainsFiles = WithRecording (outside.opens s) order.recording ExplainsOpened

@@ -1,6 +1,5 @@
 -- What the commands tell that write a text.
-use Rattle.std.specs.Prelude.{◌≡◌, ℕ, List, Option, None, Result, MatchOption, IsSomeAnd, option_map, slice_get}
-use Rattle.std.specs.Prelude.{string_bytes}
+use Rattle.std.specs.Prelude.{◌≡◌, ℕ, List, Option, None, Result, MatchOption, IsSomeAnd, option_map, string_bytes}
 use Rattle.vme_trace.specs.Names.{rule_named}
 use Rattle.vme_trace.specs.Streams.{Reading, Writing}
 use Rattle.vme_trace.specs.declared.rule.Rule.{Rule}
@@ -13,7 +12,9 @@ use Rattle.vme_commands.specs.TextAnswers.{ArePages, IsText, IsTextOf, text_answ
 use Rattle.vme_faults.specs.Kinds.{kind_named}
 use Rattle.vme_faults.specs.declared.kind.Kind.{Kind}
 use Rattle.vme_stream.specs.Inputs.{IsReading}
-use Rattle.vme_words.specs.declared.order.Order.{Order}
+use Rattle.vme_words.specs.declared.order.FaultsOrder.{FaultsOrder}
+use Rattle.vme_words.specs.declared.order.RulesOrder.{RulesOrder}
+use Rattle.vme_words.specs.declared.order.VariablesOrder.{VariablesOrder}
 use Rattle.vme_program.specs.Openings.{WithInput}
 
 -- the variables of a dump are told
@@ -26,21 +27,22 @@ TellsVariables dump out err status = (bytes : Option (List ℕ)) × (made : Resu
     × Ends (text_answer_with more made) out err status
 
 -- those of the dump that an order names
-abbrev pub TellsFile : (List ℕ → Option Reading → Type 0) → Order → Writing × Writing → Writing × Writing → ℕ → Type 0
-TellsFile opens order = WithInput opens order Dump TellsVariables
+abbrev pub TellsFile : (List ℕ → Option Reading → Type 0) → VariablesOrder → Writing × Writing → Writing × Writing → ℕ
+    → Type 0
+TellsFile opens order = WithInput opens (string_bytes order.dump) Dump TellsVariables
 
 -- ---- rules
 
 -- the word that names a rule
-abbrev pub rule_word : Order → Option (List ℕ)
-rule_word order = option_map string_bytes (slice_get order.names.items 0)
+abbrev pub rule_word : RulesOrder → Option (List ℕ)
+rule_word order = option_map string_bytes order.rule
 
 -- the rule that an order names, if it names one
-abbrev pub IsRuleOf : Order → Option Rule → Type 0
+abbrev pub IsRuleOf : RulesOrder → Option Rule → Type 0
 IsRuleOf order rule = MatchOption (rule_word order) (rule ≡ None) (λ name. rule_named name ≡ rule)
 
 -- it names none that there is
-abbrev pub NamesNoRule : Order → Type 0
+abbrev pub NamesNoRule : RulesOrder → Type 0
 NamesNoRule order = IsSomeAnd (rule_word order) (λ name. rule_named name ≡ None)
 
 -- what rules ask is told
@@ -49,17 +51,19 @@ TellsRules out err status = (made : Result (List ℕ) Refusal) × IsText made ×
 
 -- ---- kinds of refusals
 
--- the kind of refusal that an order names, if it names one
-abbrev pub IsKindOf : Order → Option Kind → Type 0
-IsKindOf order kind = MatchOption (option_map string_bytes (slice_get order.names.items 0)) (kind ≡ None)
-    (λ name. kind_named name ≡ kind)
+-- the word that names a kind of refusal
+abbrev pub kind_word : FaultsOrder → Option (List ℕ)
+kind_word order = option_map string_bytes order.kind
+
+-- the kind that an order names, if it names one
+abbrev pub IsKindOf : FaultsOrder → Option Kind → Type 0
+IsKindOf order kind = MatchOption (kind_word order) (kind ≡ None) (λ name. kind_named name ≡ kind)
 
 -- it names none that there is
-abbrev pub NamesNoKind : Order → Type 0
-NamesNoKind order =
-    IsSomeAnd (option_map string_bytes (slice_get order.names.items 0)) (λ name. kind_named name ≡ None)
+abbrev pub NamesNoKind : FaultsOrder → Type 0
+NamesNoKind order = IsSomeAnd (kind_word order) (λ name. kind_named name ≡ None)
 
 -- the page of the kind that an order names is told, or that of each
-abbrev pub TellsFaults : Order → Writing × Writing → Writing × Writing → ℕ → Type 0
+abbrev pub TellsFaults : FaultsOrder → Writing × Writing → Writing × Writing → ℕ → Type 0
 TellsFaults order out err status = (only : Option Kind) × (made : Result (List ℕ) Refusal)
     × IsKindOf order only × ArePages only made × Ends (text_answer_by 0 made) out err status

@@ -14,7 +14,7 @@ ghost use Rattle.vme_program.specs.declared.audit.NoWords.TheVariants.{Memory};
 ghost use Rattle.vme_words.specs.OrderFaults.{IsOfWords};
 
 use crate::environment::{Environment, Written};
-use crate::opening::{open_input, refuse, refuse_input};
+use crate::opening::{refuse, refuse_input};
 use crate::save::say;
 use std::alloc::{AllocError, AllocFailed, Global};
 use vme_answer::{Input, Refusal};
@@ -25,7 +25,7 @@ use vme_commands::allowances_of;
 use vme_explain::FileId;
 use vme_text::Text;
 use vme_trace::Sink;
-use vme_words::{AuditWords, Order, OrderFault, Task, task_fault};
+use vme_words::{AuditOrder, OrderFault, Task, task_fault};
 
 /// The name by which standard input is a dump.
 const STANDARD_INPUT: &str = "-";
@@ -70,7 +70,7 @@ impl<'a, T: Drop> From<AllocFailed<T>> for NoDumps<'a> {
 pub fn audit_files<S: Environment, O: Sink, E: Sink>(
     alloc: Global,
     environment: &S,
-    order: &Order,
+    order: &AuditOrder,
     out: &mut O,
     err: &mut E,
 ) -> Result<u8, OrderFault>
@@ -80,27 +80,22 @@ pub fn audit_files<S: Environment, O: Sink, E: Sink>(
     ensures out_stays { OnErr result (O.writing out.new ≡ O.writing out.old) }
     ensures err_stays { OnErr result (E.writing err.new ≡ E.writing err.old) }
 {
-    match told(alloc, order) {
-        Ok((words, allowances)) => {
+    match allowances_in(alloc, order) {
+        Ok(allowances) => {
             let allowed = allowances.as_slice();
-            Ok(audit_binding(alloc, environment, order, words, allowed, out, err))
+            Ok(audit_binding(alloc, environment, order, allowed, out, err))
         }
         Err(NoWords::Faulty(fault)) => Err(fault),
         Err(NoWords::Memory) => Ok(refuse(&Refusal::Memory, err)),
     }
 }
 
-/// What an order tells an audit, and the breaks that it allows; or what is wrong with the words. Standard input is one
-/// dump at most.
-fn told(alloc: Global, order: &Order) -> Result<(&AuditWords, Vec<Allowance>), NoWords>
-    ensures words { IfOk result (λ told. order.now.audit ≡ Some told.0.now) }
-    ensures allowed { IfOk result (λ told. AreAllowed told.0.now told.1.items) }
+/// The breaks that an order allows; or what is wrong with the words. Standard input is one dump at most.
+fn allowances_in(alloc: Global, order: &AuditOrder) -> Result<Vec<Allowance>, NoWords>
+    ensures allowed { IfOk result (λ allowances. AreAllowed order.now allowances.items) }
     ensures of_words { IfErr result IsOfWordsIfAny }
 {
-    let Some(words) = &order.audit else {
-        return Err(wrong_words(alloc, "nothing is told"));
-    };
-    let Some(allowances) = allowances_of(alloc, words.allowed.as_slice())? else {
+    let Some(allowances) = allowances_of(alloc, order.allowed.as_slice())? else {
         return Err(wrong_words(alloc, "--allow takes a rule, or a rule and a line"));
     };
     let inputs = dump_names(order)
@@ -109,7 +104,7 @@ fn told(alloc: Global, order: &Order) -> Result<(&AuditWords, Vec<Allowance>), N
     if inputs.count() > 1 {
         return Err(wrong_words(alloc, "standard input is one dump at most"));
     }
-    Ok((words, allowances))
+    Ok(allowances)
 }
 
 fn wrong_words(alloc: Global, message: &str) -> NoWords
@@ -119,36 +114,31 @@ fn wrong_words(alloc: Global, message: &str) -> NoWords
 }
 
 /// The words that name the dumps.
-fn dump_names(order: &Order) -> &[String]
+fn dump_names(order: &AuditOrder) -> &[String]
     ensures { map string_bytes result.now ≡ dump_words order.now }
 {
-    match order.names.as_slice().split_first() {
-        Some((_, names)) => names,
-        None => &[],
-    }
+    order.dumps.as_slice()
 }
 
-/// Audits those files, as the words tell.
+/// Audits those files.
 #[inline(never)]
 fn audit_binding<S: Environment, O: Sink, E: Sink>(
     alloc: Global,
     environment: &S,
-    order: &Order,
-    words: &AuditWords,
+    order: &AuditOrder,
     allowances: &[Allowance],
     out: &mut O,
     err: &mut E,
 ) -> u8
-    ensures { WithInput (S.opens environment.now) order.now Input.Binding
-        (AuditsNamed S.Environment environment.now order.now words.now allowances.now)
+    ensures { WithInput (S.opens environment.now) (string_bytes order.now.binding) Input.Binding
+        (AuditsNamed S.Environment environment.now order.now allowances.now)
         (O.writing out.old, O.writing out.new) (E.writing err.old, E.writing err.new) result }
 {
-    match open_input(environment, order, Input::Binding) {
+    match environment.open_file(order.binding.as_str()) {
         Some(mut binding) => audit_named(
             alloc,
             environment,
             order,
-            words,
             allowances,
             &mut binding,
             out,
@@ -163,14 +153,13 @@ fn audit_binding<S: Environment, O: Sink, E: Sink>(
 fn audit_named<S: Environment, O: Sink, E: Sink>(
     alloc: Global,
     environment: &S,
-    order: &Order,
-    words: &AuditWords,
+    order: &AuditOrder,
     allowances: &[Allowance],
     binding: &mut S::Reader,
     out: &mut O,
     err: &mut E,
 ) -> u8
-    ensures { AuditsNamed S.Environment environment.now order.now words.now allowances.now
+    ensures { AuditsNamed S.Environment environment.now order.now allowances.now
         (S.Reader.reading binding.old, S.Reader.reading binding.new)
         (O.writing out.old, O.writing out.new) (E.writing err.old, E.writing err.new) result }
 {
@@ -179,7 +168,6 @@ fn audit_named<S: Environment, O: Sink, E: Sink>(
             alloc,
             environment,
             order,
-            words,
             allowances,
             binding,
             dumps.as_mut_slice(),
@@ -249,25 +237,23 @@ fn open_reader<S: Environment>(environment: &S, name: &str) -> Option<S::Reader>
 fn audit_opened<S: Environment, O: Sink, E: Sink>(
     alloc: Global,
     environment: &S,
-    order: &Order,
-    words: &AuditWords,
+    order: &AuditOrder,
     allowances: &[Allowance],
     binding: &mut S::Reader,
     dumps: &mut [NamedDump<'_, S::Reader>],
     out: &mut O,
     err: &mut E,
 ) -> u8
-    ensures { AuditsOpened S.Environment environment.now order.now words.now allowances.now
+    ensures { AuditsOpened S.Environment environment.now order.now allowances.now
         (S.Reader.reading binding.old, S.Reader.reading binding.new)
         (map (λ d. record { name = d.name.now; dump = S.Reader.reading d.dump }) dumps.old)
         (O.writing out.old, O.writing out.new) (E.writing err.old, E.writing err.new) result }
 {
-    match &words.junit {
+    match &order.junit {
         Some(path) => audit_and_save(
             alloc,
             environment,
             order,
-            words,
             allowances,
             path.as_str(),
             binding,
@@ -277,7 +263,7 @@ fn audit_opened<S: Environment, O: Sink, E: Sink>(
         ),
         None => {
             let mut suite = TestSuite::new(alloc, false);
-            let options = options_of(order, words, allowances);
+            let options = options_of(order, allowances);
             let (_, status) = audit(alloc, binding, dumps, options, &mut suite, out, err);
             status
         }
@@ -285,23 +271,19 @@ fn audit_opened<S: Environment, O: Sink, E: Sink>(
 }
 
 /// How the dumps of an order are audited.
-fn options_of<'a>(
-    order: &Order,
-    words: &AuditWords,
-    allowances: &'a [Allowance],
-) -> AuditOptions<'a>
+fn options_of<'a>(order: &AuditOrder, allowances: &'a [Allowance]) -> AuditOptions<'a>
     ensures allowances { result.allowances.now ≡ allowances.now }
-    ensures transfers { result.transfers ≡ words.now.transfers }
-    ensures stop { result.stop ≡ words.now.stop }
+    ensures transfers { result.transfers ≡ order.now.transfers }
+    ensures stop { result.stop ≡ order.now.stop }
     ensures skew { result.skew ≡ order.now.skew }
-    ensures is_quiet { result.is_quiet ≡ words.now.is_quiet }
+    ensures is_quiet { result.is_quiet ≡ order.now.is_quiet }
 {
     AuditOptions {
         allowances,
-        transfers: words.transfers,
-        stop: words.stop,
+        transfers: order.transfers,
+        stop: order.stop,
         skew: order.skew,
-        is_quiet: words.is_quiet,
+        is_quiet: order.is_quiet,
     }
 }
 
@@ -310,8 +292,7 @@ fn options_of<'a>(
 fn audit_and_save<S: Environment, O: Sink, E: Sink>(
     alloc: Global,
     environment: &S,
-    order: &Order,
-    words: &AuditWords,
+    order: &AuditOrder,
     allowances: &[Allowance],
     path: &str,
     binding: &mut S::Reader,
@@ -319,7 +300,7 @@ fn audit_and_save<S: Environment, O: Sink, E: Sink>(
     out: &mut O,
     err: &mut E,
 ) -> u8
-    ensures { AuditsAndSaves S.Environment environment.now order.now words.now allowances.now path.now
+    ensures { AuditsAndSaves S.Environment environment.now order.now allowances.now path.now
         (S.Reader.reading binding.old, S.Reader.reading binding.new)
         (map (λ d. record { name = d.name.now; dump = S.Reader.reading d.dump }) dumps.old)
         (O.writing out.old, O.writing out.new) (E.writing err.old, E.writing err.new) result }
@@ -334,7 +315,6 @@ fn audit_and_save<S: Environment, O: Sink, E: Sink>(
             alloc,
             environment,
             order,
-            words,
             allowances,
             path,
             binding,
@@ -400,8 +380,7 @@ fn id_of_dump<S: Environment>(environment: &S, named: &NamedDump<'_, S::Reader>)
 fn audit_then_save<S: Environment, O: Sink, E: Sink>(
     alloc: Global,
     environment: &S,
-    order: &Order,
-    words: &AuditWords,
+    order: &AuditOrder,
     allowances: &[Allowance],
     path: &str,
     binding: &mut S::Reader,
@@ -409,13 +388,13 @@ fn audit_then_save<S: Environment, O: Sink, E: Sink>(
     out: &mut O,
     err: &mut E,
 ) -> u8
-    ensures { AuditsThenSaves S.Environment environment.now order.now words.now allowances.now path.now
+    ensures { AuditsThenSaves S.Environment environment.now order.now allowances.now path.now
         (S.Reader.reading binding.old, S.Reader.reading binding.new)
         (map (λ d. record { name = d.name.now; dump = S.Reader.reading d.dump }) dumps.old)
         (O.writing out.old, O.writing out.new) (E.writing err.old, E.writing err.new) result }
 {
     let mut suite = TestSuite::new(alloc, true);
-    let options = options_of(order, words, allowances);
+    let options = options_of(order, allowances);
     let (is_audited, status) = audit(alloc, binding, dumps, options, &mut suite, out, err);
     if is_audited {
         save_cases(alloc, environment, path, &suite, status, err)

@@ -1,15 +1,14 @@
 //! The check of the files that an order names.
 
-ghost use Rattle.vme_program.specs.Recordings.{ChecksDump, ChecksFiles};
+ghost use Rattle.vme_program.specs.Recordings.{ChecksFiles};
 
 use crate::environment::Environment;
-use crate::opening::{open_input, refuse_input};
+use crate::opening::{open_recording, refuse_input};
 use std::alloc::Global;
 use std::thread::Threads;
-use vme_answer::Input;
 use vme_commands::check::check;
-use vme_trace::{Sink, Source};
-use vme_words::Order;
+use vme_trace::Sink;
+use vme_words::CheckOrder;
 
 /// Judges the recording of the files that an order names: the binding is opened, and then the dump. The
 /// answer is the exit status.
@@ -18,45 +17,25 @@ pub fn check_files<R: Threads + Sync, S: Environment, O: Sink, E: Sink>(
     rt: &R,
     alloc: Global,
     environment: &S,
-    order: &Order,
+    order: &CheckOrder,
     out: &mut O,
     err: &mut E,
 ) -> u8
     ensures { ChecksFiles (S.opens environment.now) order.now
         (O.writing out.old, O.writing out.new) (E.writing err.old, E.writing err.new) result }
 {
-    match open_input(environment, order, Input::Binding) {
-        Some(mut binding) => check_dump(rt, alloc, environment, order, &mut binding, out, err),
-        None => refuse_input(Input::Binding, err),
-    }
-}
-
-/// The same, by a binding that was opened.
-#[inline(never)]
-fn check_dump<R: Threads + Sync, S: Environment, B: Source, O: Sink, E: Sink>(
-    rt: &R,
-    alloc: Global,
-    environment: &S,
-    order: &Order,
-    binding: &mut B,
-    out: &mut O,
-    err: &mut E,
-) -> u8
-    ensures { ChecksDump (S.opens environment.now) order.now (B.reading binding.old, B.reading binding.new)
-        (O.writing out.old, O.writing out.new) (E.writing err.old, E.writing err.new) result }
-{
-    match open_input(environment, order, Input::Dump) {
-        Some(mut dump) => check(
+    match open_recording(environment, &order.recording) {
+        Ok((mut binding, mut dump)) => check(
             rt,
             alloc,
-            binding,
+            &mut binding,
             &mut dump,
-            order.block,
-            order.workers,
-            order.skew,
+            order.options.block,
+            order.options.workers,
+            order.options.skew,
             out,
             err,
         ),
-        None => refuse_input(Input::Dump, err),
+        Err(input) => refuse_input(input, err),
     }
 }

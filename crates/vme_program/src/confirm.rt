@@ -1,14 +1,14 @@
 //! The confirmation of a listing of the files that an order names.
 
-ghost use Rattle.vme_program.specs.Recordings.{ConfirmsDump, ConfirmsFiles, ConfirmsListing};
+ghost use Rattle.vme_program.specs.Recordings.{ConfirmsFiles, ConfirmsListing};
 
 use crate::environment::Environment;
-use crate::opening::{open_input, refuse_input};
+use crate::opening::{open_recording, refuse_input};
 use std::alloc::Global;
 use vme_answer::Input;
 use vme_confirm_command::confirm::confirm_with;
 use vme_trace::{Sink, Source};
-use vme_words::Order;
+use vme_words::ConfirmOrder;
 
 /// Compares a listing with that of a recording, by the files that an order names: the binding is opened, then the dump,
 /// and then the listing. The answer is the exit status.
@@ -16,37 +16,24 @@ use vme_words::Order;
 pub fn confirm_files<S: Environment, O: Sink, E: Sink>(
     alloc: Global,
     environment: &S,
-    order: &Order,
+    order: &ConfirmOrder,
     out: &mut O,
     err: &mut E,
 ) -> u8
     ensures { ConfirmsFiles (S.opens environment.now) order.now
         (O.writing out.old, O.writing out.new) (E.writing err.old, E.writing err.new) result }
 {
-    match open_input(environment, order, Input::Binding) {
-        Some(mut binding) => confirm_dump(alloc, environment, order, &mut binding, out, err),
-        None => refuse_input(Input::Binding, err),
-    }
-}
-
-/// The same, by a binding that was opened.
-#[inline(never)]
-fn confirm_dump<S: Environment, B: Source, O: Sink, E: Sink>(
-    alloc: Global,
-    environment: &S,
-    order: &Order,
-    binding: &mut B,
-    out: &mut O,
-    err: &mut E,
-) -> u8
-    ensures { ConfirmsDump (S.opens environment.now) order.now (B.reading binding.old, B.reading binding.new)
-        (O.writing out.old, O.writing out.new) (E.writing err.old, E.writing err.new) result }
-{
-    match open_input(environment, order, Input::Dump) {
-        Some(mut dump) => {
-            confirm_listing(alloc, environment, order, binding, &mut dump, out, err)
-        }
-        None => refuse_input(Input::Dump, err),
+    match open_recording(environment, &order.recording) {
+        Ok((mut binding, mut dump)) => confirm_listing(
+            alloc,
+            environment,
+            order,
+            &mut binding,
+            &mut dump,
+            out,
+            err,
+        ),
+        Err(input) => refuse_input(input, err),
     }
 }
 
@@ -55,7 +42,7 @@ fn confirm_dump<S: Environment, B: Source, O: Sink, E: Sink>(
 fn confirm_listing<S: Environment, B: Source, D: Source, O: Sink, E: Sink>(
     alloc: Global,
     environment: &S,
-    order: &Order,
+    order: &ConfirmOrder,
     binding: &mut B,
     dump: &mut D,
     out: &mut O,
@@ -65,7 +52,7 @@ fn confirm_listing<S: Environment, B: Source, D: Source, O: Sink, E: Sink>(
         (B.reading binding.old, B.reading binding.new) (D.reading dump.old, D.reading dump.new)
         (O.writing out.old, O.writing out.new) (E.writing err.old, E.writing err.new) result }
 {
-    match open_input(environment, order, Input::Listing) {
+    match environment.open_file(order.listing.as_str()) {
         Some(listing) => {
             let (status, _listing) = confirm_with(
                 alloc, binding, dump, listing, order.skew, out, err,

@@ -3,19 +3,19 @@
 ghost use Rattle.std.specs.Prelude.{◌≡◌, MatchOption, Some, false, option_map, true};
 ghost use Rattle.vme_program.specs.Explanations.{AreAllowed, AreApart, AreShared, AsksNoFile, AsksSomeFile};
 ghost use Rattle.vme_program.specs.Explanations.{EachIsAllowed, ExplainsAndSaves, IsOnePlace, OneIsRefused};
-ghost use Rattle.vme_program.specs.Explanations.{ExplainsDump, ExplainsFiles, ExplainsOpened, ExplainsThenSaves};
+ghost use Rattle.vme_program.specs.Explanations.{ExplainsFiles, ExplainsOpened, ExplainsThenSaves};
 ghost use Rattle.vme_program.specs.Explanations.{ExplainsUnlessRefused, IsAllowed, IsRefused, IsRefusedAt, SavesFiles};
 ghost use Rattle.vme_program.specs.Explanations.{SavesIfAsked, picture_word, viewer_word};
 
 use crate::environment::Environment;
-use crate::opening::{input_name, open_input, refuse_input};
+use crate::opening::{open_recording, refuse_input};
 use crate::save::{InputIds, refusal_at, refuse_place, save};
 use std::alloc::Global;
 use vme_answer::Input;
 use vme_commands::explain::{ExplainedFiles, InputNames, explain};
 use vme_explain::{SaveRefusal, is_one_file};
 use vme_trace::{Sink, Source};
-use vme_words::Order;
+use vme_words::ExplainOrder;
 
 /// Says why and where the recording of the files that an order names is judged as it is, and writes the waveform
 /// viewer's file and the picture, if they are wanted. Where one of these may not be written, nothing is. The answer is
@@ -24,38 +24,24 @@ use vme_words::Order;
 pub fn explain_files<S: Environment, O: Sink, E: Sink>(
     alloc: Global,
     environment: &S,
-    order: &Order,
+    order: &ExplainOrder,
     out: &mut O,
     err: &mut E,
 ) -> u8
     ensures { ExplainsFiles S.Environment environment.now order.now
         (O.writing out.old, O.writing out.new) (E.writing err.old, E.writing err.new) result }
 {
-    match open_input(environment, order, Input::Binding) {
-        Some(mut binding) => explain_dump(alloc, environment, order, &mut binding, out, err),
-        None => refuse_input(Input::Binding, err),
-    }
-}
-
-/// The same, by a binding that was opened.
-#[inline(never)]
-fn explain_dump<S: Environment, O: Sink, E: Sink>(
-    alloc: Global,
-    environment: &S,
-    order: &Order,
-    binding: &mut S::Reader,
-    out: &mut O,
-    err: &mut E,
-) -> u8
-    ensures { ExplainsDump S.Environment environment.now order.now
-        (S.Reader.reading binding.old, S.Reader.reading binding.new)
-        (O.writing out.old, O.writing out.new) (E.writing err.old, E.writing err.new) result }
-{
-    match open_input(environment, order, Input::Dump) {
-        Some(mut dump) => {
-            explain_opened(alloc, environment, order, binding, &mut dump, out, err)
-        }
-        None => refuse_input(Input::Dump, err),
+    match open_recording(environment, &order.recording) {
+        Ok((mut binding, mut dump)) => explain_opened(
+            alloc,
+            environment,
+            order,
+            &mut binding,
+            &mut dump,
+            out,
+            err,
+        ),
+        Err(input) => refuse_input(input, err),
     }
 }
 
@@ -64,7 +50,7 @@ fn explain_dump<S: Environment, O: Sink, E: Sink>(
 fn explain_opened<S: Environment, O: Sink, E: Sink>(
     alloc: Global,
     environment: &S,
-    order: &Order,
+    order: &ExplainOrder,
     binding: &mut S::Reader,
     dump: &mut S::Reader,
     out: &mut O,
@@ -92,7 +78,7 @@ fn explain_opened<S: Environment, O: Sink, E: Sink>(
 }
 
 /// Whether no file is wanted beside the explanation.
-fn asks_no_file(order: &Order) -> bool
+fn asks_no_file(order: &ExplainOrder) -> bool
     ensures none { result ≡ true → AsksNoFile order.now }
     ensures some { result ≡ false → AsksSomeFile order.now }
 {
@@ -104,7 +90,7 @@ fn asks_no_file(order: &Order) -> bool
 fn explain_and_save<S: Environment, O: Sink, E: Sink>(
     alloc: Global,
     environment: &S,
-    order: &Order,
+    order: &ExplainOrder,
     binding: &mut S::Reader,
     dump: &mut S::Reader,
     out: &mut O,
@@ -133,7 +119,7 @@ fn explain_and_save<S: Environment, O: Sink, E: Sink>(
 fn explain_unless_refused<S: Environment, B: Source, D: Source, O: Sink, E: Sink>(
     alloc: Global,
     environment: &S,
-    order: &Order,
+    order: &ExplainOrder,
     inputs: InputIds,
     binding: &mut B,
     dump: &mut D,
@@ -161,7 +147,7 @@ struct RefusedPlace<'a> {
 /// is one.
 fn refused_place<'a, S: Environment>(
     environment: &S,
-    order: &'a Order,
+    order: &'a ExplainOrder,
     inputs: InputIds,
 ) -> Option<RefusedPlace<'a>>
     ensures { MatchOption result (AreAllowed S.Environment environment.now order.now inputs)
@@ -176,7 +162,7 @@ fn refused_place<'a, S: Environment>(
 /// The first of the places where files are wanted at which none may be written, if there is one.
 fn refused_by_itself<'a, S: Environment>(
     environment: &S,
-    order: &'a Order,
+    order: &'a ExplainOrder,
     inputs: InputIds,
 ) -> Option<RefusedPlace<'a>>
     ensures { MatchOption result (EachIsAllowed S.Environment environment.now order.now inputs)
@@ -288,7 +274,7 @@ fn refusal_of<'a, S: Environment>(
 fn explain_then_save<S: Environment, B: Source, D: Source, O: Sink, E: Sink>(
     alloc: Global,
     environment: &S,
-    order: &Order,
+    order: &ExplainOrder,
     inputs: InputIds,
     binding: &mut B,
     dump: &mut D,
@@ -319,7 +305,7 @@ fn explain_then_save<S: Environment, B: Source, D: Source, O: Sink, E: Sink>(
 fn save_files<S: Environment, E: Sink>(
     alloc: Global,
     environment: &S,
-    order: &Order,
+    order: &ExplainOrder,
     files: &ExplainedFiles,
     inputs: InputIds,
     status: u8,
@@ -371,17 +357,17 @@ fn save_wanted<S: Environment, E: Sink>(
 }
 
 /// The path at which the viewer's file is wanted, if it is.
-fn viewer_path(order: &Order) -> Option<&str>
+fn viewer_path(order: &ExplainOrder) -> Option<&str>
     ensures { option_map (λ path. path.now) result ≡ viewer_word order.now }
 {
-    match order.names.get(2) {
+    match &order.viewer {
         Some(path) => Some(path.as_str()),
         None => None,
     }
 }
 
 /// The path at which the picture is wanted, if it is.
-fn picture_path(order: &Order) -> Option<&str>
+fn picture_path(order: &ExplainOrder) -> Option<&str>
     ensures { option_map (λ path. path.now) result ≡ picture_word order.now }
 {
     match &order.picture {
@@ -391,9 +377,9 @@ fn picture_path(order: &Order) -> Option<&str>
 }
 
 /// What the files of the inputs that are explained are named.
-fn input_names(order: &Order) -> InputNames<'_> {
+fn input_names(order: &ExplainOrder) -> InputNames<'_> {
     InputNames {
-        binding: input_name(order, Input::Binding),
-        dump: input_name(order, Input::Dump),
+        binding: order.recording.binding.as_bytes(),
+        dump: order.recording.dump.as_bytes(),
     }
 }

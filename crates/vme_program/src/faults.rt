@@ -8,14 +8,14 @@ use std::alloc::Global;
 use vme_commands::tell_faults;
 use vme_faults::Kind;
 use vme_trace::Sink;
-use vme_words::{Order, OrderFault, Task, task_fault};
+use vme_words::{FaultsOrder, OrderFault, Task, task_fault};
 
 /// Says what the kind of refusal means that an order names, or each of them where it names none. The answer is the
 /// exit status, or that there is no such kind.
 #[inline(never)]
 pub fn faults_named<O: Sink, E: Sink>(
     alloc: Global,
-    order: &Order,
+    order: &FaultsOrder,
     out: &mut O,
     err: &mut E,
 ) -> Result<u8, OrderFault>
@@ -33,12 +33,12 @@ pub fn faults_named<O: Sink, E: Sink>(
 }
 
 /// The kind of refusal that an order names, if it names one.
-fn kind_of(alloc: Global, order: &Order) -> Result<Option<Kind>, OrderFault>
+fn kind_of(alloc: Global, order: &FaultsOrder) -> Result<Option<Kind>, OrderFault>
     ensures kind { IfOk result (IsKindOf order.now) }
     ensures faulty { OnErr result (NamesNoKind order.now) }
     ensures of_words { IfErr result IsOfWords }
 {
-    let Some(name) = order.names.get(0) else {
+    let Some(name) = &order.kind else {
         return Ok(None);
     };
     match Kind::from_name(name.as_bytes()) {

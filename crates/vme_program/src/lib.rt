@@ -6,10 +6,10 @@
 //! - `program`: [`run_words`], from the arguments of the command line to one command.
 //! - `environment`: [`Environment`], the program's environment: files by their names, and
 //!   standard input. Standard output and standard error are sinks that the caller brings.
-//! - `opening`: the file that an order names for an input, or a message that it can't be opened.
+//! - `opening`: the binding and the dump that an order names, or a message that one can't be opened.
 //! - `check`, `list`, `confirm`, `annotate`, `explain`, `bind`, `variables`, `rules`, `faults`,
-//!   `audit`: one command each, over the files that its order names. `parts`: the commands `part`,
-//!   `join` and `tell`. `input`: a dump on standard input.
+//!   `audit`: one command each, which takes its own variant of the order, over the files that this
+//!   names. `parts`: the commands `part`, `join` and `tell`. `input`: a dump on standard input.
 //! - `save`: the waveform viewer's file and the picture, which are written over no input and over
 //!   nothing that the program didn't write.
 //!
@@ -19,8 +19,8 @@
 //!   arguments select a check of standard input by the built-in binding, in blocks of the usual
 //!   size (`none`). What the command writes, and its status, are what vme_commands and the other
 //!   crates of commands say of the files and numbers that the arguments name (`specs/Programs`).
-//! - The binding is opened, then the dump, then the listing (`WithInput`). A message names the
-//!   first that can't be opened, with status 3, and nothing else is written.
+//! - The binding is opened, then the dump, then the listing (`WithRecording`, `WithInput`). A message
+//!   names the first that can't be opened, with status 3, and nothing else is written.
 //! - With `--gtkw` or `--svg` nothing is written where one of these files may not be written, by
 //!   what stands there; else the explanation is that without them, and each file is put at its path
 //!   or the status says that it isn't (`ExplainsAndSaves`). What is put for `--svg` is a picture:

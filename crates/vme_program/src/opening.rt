@@ -1,40 +1,35 @@
-//! The inputs that an order names, opened.
+//! The files that an order names, opened, and what is said of one that can't be.
 
-ghost use Rattle.std.specs.Prelude.{◌≡◌, option_map};
+ghost use Rattle.std.specs.Prelude.{◌≡◌, IfErr, IfOk, Some, string_bytes};
 ghost use Rattle.vme_answer.specs.Texts.{line_of, refusal_status, refusal_text};
 ghost use Rattle.vme_answer.specs.declared.refusal.Refusal.TheVariants.{CannotOpen};
 ghost use Rattle.vme_stream.specs.Outputs.{TriesToWrite};
-ghost use Rattle.vme_program.specs.Openings.{GivesInput, IsInputName};
+ghost use Rattle.vme_program.specs.Openings.{IsFirstUnopenedInput};
 
 use crate::environment::Environment;
 use vme_answer::{Input, Refusal, refusal_line};
-use vme_commands::place_of;
 use vme_stream::complain;
 use vme_trace::Sink;
-use vme_words::Order;
+use vme_words::RecordingFiles;
 
-/// The file that an order names for an input, opened.
-pub(crate) fn open_input<S: Environment>(
+/// The binding and the dump of a recording, opened in this order; or the first that can't be opened.
+pub(crate) fn open_recording<S: Environment>(
     environment: &S,
-    order: &Order,
-    input: Input,
-) -> Option<S::Reader>
-    ensures { GivesInput (S.opens environment.now) order.now input (option_map S.Reader.reading result) }
+    files: &RecordingFiles,
+) -> Result<(S::Reader, S::Reader), Input>
+    ensures binding { IfOk result (λ opened.
+        S.opens environment.now (string_bytes files.now.binding) (Some (S.Reader.reading opened.0))) }
+    ensures dump { IfOk result (λ opened.
+        S.opens environment.now (string_bytes files.now.dump) (Some (S.Reader.reading opened.1))) }
+    ensures unopened { IfErr result (IsFirstUnopenedInput (S.opens environment.now) files.now) }
 {
-    match order.names.get(place_of(order.command, input)) {
-        Some(name) => environment.open_file(name.as_str()),
-        None => None,
-    }
-}
-
-/// The name of the file that an order names for an input.
-pub(crate) fn input_name(order: &Order, input: Input) -> &[u8]
-    ensures { IsInputName order.now input result.now }
-{
-    match order.names.get(place_of(order.command, input)) {
-        Some(name) => name.as_bytes(),
-        None => b"",
-    }
+    let Some(binding) = environment.open_file(files.binding.as_str()) else {
+        return Err(Input::Binding);
+    };
+    let Some(dump) = environment.open_file(files.dump.as_str()) else {
+        return Err(Input::Dump);
+    };
+    Ok((binding, dump))
 }
 
 /// Says that an input can't be opened. The answer is the exit status.

@@ -1,22 +1,20 @@
 //! The commands on parts: `part`, `join` and `tell`.
 
-ghost use Rattle.std.specs.Prelude.{◌≡◌, Err, IfErr, IfOk, IfSome, OnErr, map, option_map, string_bytes};
-ghost use Rattle.vme_program.specs.Parts.{AreOpened, AsksPart, IsFirstUnopenedPart, JoinsFiles, TellsOfFiles};
-ghost use Rattle.vme_program.specs.Parts.{TellsParts, WritesPartOf, WritesPartOfDump, WritesPartOfFiles, asks_listing};
-ghost use Rattle.vme_program.specs.Parts.{files_told};
+ghost use Rattle.std.specs.Prelude.{◌≡◌, Err, IfOk, IfSome, map, option_map, string_bytes};
+ghost use Rattle.vme_program.specs.Parts.{AreOpened, IsFirstUnopenedPart, JoinsFiles, TellsOfFiles, TellsParts};
+ghost use Rattle.vme_program.specs.Parts.{WritesPartOfFiles};
 ghost use Rattle.vme_program.specs.declared.parts.NoParts.TheVariants.{Memory as LackedMemory, Unopened};
-ghost use Rattle.vme_words.specs.OrderFaults.{IsOfWords};
 
 use crate::audit::refuse_file;
 use crate::environment::Environment;
-use crate::opening::{open_input, refuse, refuse_input};
+use crate::opening::{open_recording, refuse, refuse_input};
 use std::alloc::{AllocFailed, Global};
-use vme_answer::{Input, Refusal};
+use vme_answer::Refusal;
 use vme_part_command::{
     NamedPart, PartOptions, list_whole, tell_whole, write_joined, write_part_of,
 };
 use vme_trace::{Sink, Source};
-use vme_words::{Order, OrderFault, PartWords, Task, task_fault};
+use vme_words::{JoinOrder, PartOrder, TellOrder};
 
 /// Why parts aren't opened.
 #[derive(Drop)]
@@ -36,88 +34,27 @@ impl<'a, T: Drop> From<AllocFailed<T>> for NoParts<'a> {
 }
 
 /// Writes the part of the dump that an order names, by the binding that it names: the binding is opened, and then the
-/// dump. The answer is the exit status, or what is wrong with the words.
+/// dump. The answer is the exit status.
 #[inline(never)]
 pub fn part_file<S: Environment, O: Sink, E: Sink>(
     alloc: Global,
     environment: &S,
-    order: &Order,
+    order: &PartOrder,
     out: &mut O,
     err: &mut E,
-) -> Result<u8, OrderFault>
-    ensures done { IfOk result (λ status. WritesPartOfFiles (S.opens environment.now) order.now
-        (O.writing out.old, O.writing out.new) (E.writing err.old, E.writing err.new) status) }
-    ensures of_words { IfErr result IsOfWords }
-    ensures out_stays { OnErr result (O.writing out.new ≡ O.writing out.old) }
-    ensures err_stays { OnErr result (E.writing err.new ≡ E.writing err.old) }
+) -> u8
+    ensures { WritesPartOfFiles (S.opens environment.now) order.now
+        (O.writing out.old, O.writing out.new) (E.writing err.old, E.writing err.new) result }
 {
-    match options_of(order) {
-        Some(options) => Ok(part_by(alloc, environment, order, options, out, err)),
-        None => Err(task_fault(alloc, Task::Part, "--number is at most 4294967295")),
-    }
-}
-
-/// Which file the dump is, if its number is one of 32 bits, and what its part has.
-fn options_of(order: &Order) -> Option<PartOptions>
-    ensures { IfSome result (λ options. AsksPart order.now options) }
-{
-    let Some(words) = order.part else {
-        return None;
+    let options = PartOptions {
+        number: order.number,
+        listing: order.listing,
     };
-    match u32::try_from(words.number) {
-        Ok(number) => Some(PartOptions {
-            number,
-            listing: words.listing,
-        }),
-        Err(_) => None,
-    }
-}
-
-/// Writes that part, with these options.
-#[inline(never)]
-fn part_by<S: Environment, O: Sink, E: Sink>(
-    alloc: Global,
-    environment: &S,
-    order: &Order,
-    options: PartOptions,
-    out: &mut O,
-    err: &mut E,
-) -> u8
-    ensures { WritesPartOf (S.opens environment.now) order.now options
-        (O.writing out.old, O.writing out.new) (E.writing err.old, E.writing err.new) result }
-{
-    match open_input(environment, order, Input::Binding) {
-        Some(mut binding) => part_of_dump(
-            alloc,
-            environment,
-            order,
-            options,
-            &mut binding,
-            out,
-            err,
-        ),
-        None => refuse_input(Input::Binding, err),
-    }
-}
-
-/// The same, by a binding that was opened.
-#[inline(never)]
-fn part_of_dump<S: Environment, B: Source, O: Sink, E: Sink>(
-    alloc: Global,
-    environment: &S,
-    order: &Order,
-    options: PartOptions,
-    binding: &mut B,
-    out: &mut O,
-    err: &mut E,
-) -> u8
-    ensures { WritesPartOfDump (S.opens environment.now) order.now options
-        (B.reading binding.old, B.reading binding.new)
-        (O.writing out.old, O.writing out.new) (E.writing err.old, E.writing err.new) result }
-{
-    match open_input(environment, order, Input::Dump) {
-        Some(mut dump) => write_part_of(alloc, options, binding, &mut dump, out, err),
-        None => refuse_input(Input::Dump, err),
+    match open_recording(environment, &order.recording) {
+        Ok((mut binding, mut dump)) => {
+            write_part_of(alloc, options, &mut binding, &mut dump, out, err)
+        }
+        Err(input) => refuse_input(input, err),
     }
 }
 
@@ -163,14 +100,14 @@ fn open_part<'a, S: Environment>(environment: &S, name: &'a str) -> Option<Named
 pub fn join_files<S: Environment, O: Sink, E: Sink>(
     alloc: Global,
     environment: &S,
-    order: &Order,
+    order: &JoinOrder,
     out: &mut O,
     err: &mut E,
 ) -> u8
     ensures { JoinsFiles (S.opens environment.now) order.now
         (O.writing out.old, O.writing out.new) (E.writing err.old, E.writing err.new) result }
 {
-    match open_parts(alloc, environment, order.names.as_slice()) {
+    match open_parts(alloc, environment, order.parts.as_slice()) {
         Ok(mut parts) => write_joined(alloc, parts.as_mut_slice(), out, err),
         Err(NoParts::Unopened(name)) => refuse_file(alloc, name, b"cannot open", 3, err),
         Err(NoParts::Memory) => refuse(&Refusal::Memory, err),
@@ -183,36 +120,36 @@ pub fn join_files<S: Environment, O: Sink, E: Sink>(
 pub fn tell_files<S: Environment, O: Sink, E: Sink>(
     alloc: Global,
     environment: &S,
-    order: &Order,
+    order: &TellOrder,
     out: &mut O,
     err: &mut E,
 ) -> u8
     ensures { TellsOfFiles (S.opens environment.now) order.now
         (O.writing out.old, O.writing out.new) (E.writing err.old, E.writing err.new) result }
 {
-    match open_parts(alloc, environment, order.names.as_slice()) {
-        Ok(mut parts) => tell_opened(alloc, order.part, parts.as_mut_slice(), out, err),
+    match open_parts(alloc, environment, order.parts.as_slice()) {
+        Ok(mut parts) => tell_opened(alloc, order, parts.as_mut_slice(), out, err),
         Err(NoParts::Unopened(name)) => refuse_file(alloc, name, b"cannot open", 3, err),
         Err(NoParts::Memory) => refuse(&Refusal::Memory, err),
     }
 }
 
-/// The same, of parts that were opened, as the words tell.
+/// The same, of parts that were opened.
 #[inline(never)]
 fn tell_opened<P: Source, O: Sink, E: Sink>(
     alloc: Global,
-    words: Option<PartWords>,
+    order: &TellOrder,
     parts: &mut [NamedPart<'_, P>],
     out: &mut O,
     err: &mut E,
 ) -> u8
-    ensures { TellsParts (asks_listing words) (files_told words) (map (λ p. p.name.now) parts.old)
+    ensures { TellsParts order.now.listing order.now.file_count (map (λ p. p.name.now) parts.old)
         (map (λ p. P.reading p.part) parts.old, map (λ p. P.reading p.part) parts.new)
         (O.writing out.old, O.writing out.new) (E.writing err.old, E.writing err.new) result }
 {
-    match words {
-        Some(words) if words.listing => list_whole(alloc, parts, words.files, out, err),
-        Some(words) => tell_whole(alloc, parts, words.files, out, err),
-        None => tell_whole(alloc, parts, None, out, err),
+    if order.listing {
+        list_whole(alloc, parts, order.file_count, out, err)
+    } else {
+        tell_whole(alloc, parts, order.file_count, out, err)
     }
 }

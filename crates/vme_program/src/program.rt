@@ -26,7 +26,7 @@ use std::alloc::Global;
 use std::thread::Threads;
 use vme_trace::Sink;
 use vme_words::words::order;
-use vme_words::{Order, OrderFault, Task};
+use vme_words::{Order, OrderFault};
 
 /// Does what the words of the command line ask for, the program's name first. Without words it checks the dump on
 /// standard input. The answer is the exit status, or what is wrong with the words: then nothing is opened or written.
@@ -73,19 +73,19 @@ fn run_order<R: Threads + Sync, S: Environment, O: Sink, E: Sink>(
     ensures out_stays { OnErr result (O.writing out.new ≡ O.writing out.old) }
     ensures err_stays { OnErr result (E.writing err.new ≡ E.writing err.old) }
 {
-    match order.command {
-        Task::Check => Ok(check_files(rt, alloc, environment, order, out, err)),
-        Task::List => Ok(list_files(rt, alloc, environment, order, out, err)),
-        Task::Confirm => Ok(confirm_files(alloc, environment, order, out, err)),
-        Task::Audit => audit_files(alloc, environment, order, out, err),
-        Task::Explain => Ok(explain_files(alloc, environment, order, out, err)),
-        Task::Bind => bind_file(alloc, environment, order, out, err),
-        Task::Variables => Ok(variables_file(alloc, environment, order, out, err)),
-        Task::Rules => rules_named(alloc, order, out, err),
-        Task::Faults => faults_named(alloc, order, out, err),
-        Task::Annotate => Ok(annotate_files(alloc, environment, order, out, err)),
-        Task::Part => part_file(alloc, environment, order, out, err),
-        Task::Join => Ok(join_files(alloc, environment, order, out, err)),
-        Task::Tell => Ok(tell_files(alloc, environment, order, out, err)),
+    match order {
+        Order::Check(order) => Ok(check_files(rt, alloc, environment, order, out, err)),
+        Order::List(order) => Ok(list_files(rt, alloc, environment, order, out, err)),
+        Order::Confirm(order) => Ok(confirm_files(alloc, environment, order, out, err)),
+        Order::Audit(order) => audit_files(alloc, environment, order, out, err),
+        Order::Explain(order) => Ok(explain_files(alloc, environment, order, out, err)),
+        Order::Bind(order) => Ok(bind_file(alloc, environment, order, out, err)),
+        Order::Variables(order) => Ok(variables_file(alloc, environment, order, out, err)),
+        Order::Rules(order) => rules_named(alloc, order, out, err),
+        Order::Faults(order) => faults_named(alloc, order, out, err),
+        Order::Annotate(order) => Ok(annotate_files(alloc, environment, order, out, err)),
+        Order::Part(order) => Ok(part_file(alloc, environment, order, out, err)),
+        Order::Join(order) => Ok(join_files(alloc, environment, order, out, err)),
+        Order::Tell(order) => Ok(tell_files(alloc, environment, order, out, err)),
     }
 }

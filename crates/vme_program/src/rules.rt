@@ -7,14 +7,14 @@ ghost use Rattle.vme_words.specs.OrderFaults.{IsOfWords};
 use std::alloc::Global;
 use vme_commands::tell_rules;
 use vme_trace::{Rule, Sink};
-use vme_words::{Order, OrderFault, Task, task_fault};
+use vme_words::{OrderFault, RulesOrder, Task, task_fault};
 
 /// Says what the rule asks that an order names, or each of them where it names none. The answer is the exit status, or
 /// that there is no such rule.
 #[inline(never)]
 pub fn rules_named<O: Sink, E: Sink>(
     alloc: Global,
-    order: &Order,
+    order: &RulesOrder,
     out: &mut O,
     err: &mut E,
 ) -> Result<u8, OrderFault>
@@ -32,12 +32,12 @@ pub fn rules_named<O: Sink, E: Sink>(
 }
 
 /// The rule that an order names, if it names one.
-fn rule_of(alloc: Global, order: &Order) -> Result<Option<Rule>, OrderFault>
+fn rule_of(alloc: Global, order: &RulesOrder) -> Result<Option<Rule>, OrderFault>
     ensures rule { IfOk result (IsRuleOf order.now) }
     ensures faulty { OnErr result (NamesNoRule order.now) }
     ensures of_words { IfErr result IsOfWords }
 {
-    let Some(name) = order.names.get(0) else {
+    let Some(name) = &order.rule else {
         return Ok(None);
     };
     match Rule::from_name(name.as_bytes()) {

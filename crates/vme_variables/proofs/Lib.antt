@@ -1,1 +1,2 @@
+mod BodyLemmas
 mod TimescaleLemmas

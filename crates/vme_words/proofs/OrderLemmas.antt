@@ -1,8 +1,7 @@
 -- What the typed getters of a parse read.
-use Rattle.std.proofs.Common.{◌≡◌, ℕ, ◌<◌, ◌≤◌, ◌^◌, List, [], ◌∷◌, ◌++◌, refl, ap, sym, subst, ◌∙◌, IfErr, IsErrAnd}
-use Rattle.std.proofs.Common.{IsSomeAnd, false, inl, inr, is_some, map, true, true≢false}
-use Rattle.std.specs.Prelude.{IfSome, Option, Some, None, Result, Ok, Err, codes, find, option_map, slice_get}
-use Rattle.std.specs.Prelude.{string_bytes, unwrap_or}
+use Rattle.std.proofs.Common.{◌≡◌, ℕ, ◌<◌, ◌≤◌, ◌^◌, List, [], refl, ap, sym, subst, ◌∙◌, IfErr, IsErrAnd, false, inl}
+use Rattle.std.proofs.Common.{inr, is_some, true≢false}
+use Rattle.std.specs.Prelude.{Option, Some, None, Result, Ok, Err, find, option_map, slice_get, unwrap_or}
 use Rattle.std.specs.Str.{bytes_eq}
 use Rattle.std.specs.Borrow.{Bor}
 use Rattle.std.specs.Str.Parse.{ParsesUnsigned}
@@ -16,19 +15,14 @@ use Rattle.clap.specs.declared.parser.matches.ArgMatches.{ArgMatches}
 use Rattle.clap.proofs.WalkLemmas.{first_value-rows, one_text-rows}
 use Rattle.clap.specs.Words.{subcommand_name_of, subcommand_rows_of}
 use Rattle.clap.specs.declared.parser.matches.ArgMatches.TheViews.{out-ArgMatches}
-use Rattle.vme_words.specs.Orders.{HasAll, HasOrder}
-use Rattle.vme_words.specs.Orders.{HasNumber, HasUnsigned, IsOrder, Says, SaysAudit, SaysConfirmation, SaysOrder}
-use Rattle.vme_words.specs.Orders.{SaysExplanation, SaysPartWords, SaysParts, SaysTellWords, SaysWords, has_flag}
-use Rattle.vme_words.specs.Orders.{if_given, names_in, number_in, number_of, parts_in, scope_in, skew_in, task_name}
+use Rattle.vme_words.specs.Orders.{HasAll, HasNumber, HasOrder, HasUnsigned, IsOrder, Says, number_in, number_of}
+use Rattle.vme_words.specs.Orders.{task_name, task_of}
 use Rattle.vme_words.specs.Commands.{greatest_number, vmecheck_app}
 use Rattle.vme_words.specs.OrderFaults.{ComesOf, IsFaultOf}
 use Rattle.vme_words.specs.declared.order_fault.OrderFault.{OrderFault}
 use Rattle.vme_words.specs.declared.order_fault.OrderFault.TheVariants.{Usage, Memory as no_memory}
 use Rattle.vme_words.specs.declared.order.Order.{Order}
-use Rattle.vme_words.specs.declared.order.PartWords.{PartWords}
 use Rattle.vme_words.specs.declared.order.Task.{Task}
-use Rattle.vme_words.specs.declared.order.Task.TheVariants.{Check, List as Listing, Confirm, Rules, Variables, Bind}
-use Rattle.vme_words.specs.declared.order.Task.TheVariants.{Annotate, Audit, Explain, Faults, Join, Part, Tell}
 
 -- the number that a getter reads of an option is the number of its text
 pub number_read : (E : Type 0) (G : List ℕ → Result ℕ E → Type 0) (m : ArgMatches) (id : Text) (n : ℕ) (r : Option ℕ)
@@ -47,14 +41,14 @@ number_read E G m id n r none value reads is = go (one_text (found_of m) id) ref
         ∙ ap (λ (k : ℕ). Some k) (sym number)
 
 -- and where the option has one, the getter reads it
-pub number_there : (E : Type 0) (G : List ℕ → Result ℕ E → Type 0) (m : ArgMatches) (id : Text) (greatest : ℕ)
+pub number_there : (E : Type 0) (G : List ℕ → Result ℕ E → Type 0) (m : ArgMatches) (id : Text) (least greatest : ℕ)
     (r : Option ℕ)
-    → HasNumber id greatest (rows_of (found_of m)) → greatest < 2 ^ 32
+    → HasNumber id least greatest (rows_of (found_of m)) → greatest < 2 ^ 32
     → ((t : List ℕ) → one_text (found_of m) id ≡ Some t → ReadsOne G t r)
     → ((t : List ℕ) (x : Result ℕ E) → G t x → ParsesUnsigned 32 10 t x)
-    → (n : ℕ) × (r ≡ Some n) × (1 ≤ n) × (n ≤ greatest)
-number_there E G m id greatest r has small value only =
-    signed_reads E G 32 1 greatest has.text r (value (without_minus has.text) (one_text-rows (found_of m) id
+    → (n : ℕ) × (r ≡ Some n) × (least ≤ n) × (n ≤ greatest)
+number_there E G m id least greatest r has small value only =
+    signed_reads E G 32 least greatest has.text r (value (without_minus has.text) (one_text-rows (found_of m) id
     ∙ has.read)) only small has.says
 
 -- a text that is a number of 64 bits from the least on is read as one
@@ -85,15 +79,6 @@ no_number id rows none = go (find (λ r. bytes_eq r.id id) rows) refl
     go None e = rw e refl
     go (Some r) e = rw e (text (slice_get r.values 0) r.reading (rw e at none))
 
--- a file that has a name is read
-pub named_file : (m : ArgMatches) (id : Text) (r : Option (Bor (List ℕ))) → option_map (λ (s : Bor (List ℕ)). s.now) r
-    ≡ first_value (found_of m) id → r ≡ None
-    → is_some (first_of id (rows_of (found_of m))) ≡ true → ⊥
-named_file m id r gives none has =
-    let first : first_of id (rows_of (found_of m)) ≡ None = sym (first_value-rows (found_of m) id) ∙ sym gives
-    ∙ ap (λ (o : Option (Bor (List ℕ))). option_map (λ (s : Bor (List ℕ)). s.now) o) none in
-    true≢false (sym has ∙ ap is_some first)
-
 -- where a word isn't there, the getter reads none, and where it reads none, there is none
 pub not_given : (m : ArgMatches) (id : Text) (r : Option (Bor (List ℕ))) → option_map (λ (s : Bor (List ℕ)). s.now) r
     ≡ first_value (found_of m) id → first_of id (rows_of (found_of m)) ≡ None → is_some r ≡ false
@@ -106,15 +91,6 @@ pub none_given : (m : ArgMatches) (id : Text) (r : Option (Bor (List ℕ))) → 
     ≡ first_value (found_of m) id → is_some r ≡ false → first_of id (rows_of (found_of m)) ≡ None
 none_given m id None gives e = sym (first_value-rows (found_of m) id) ∙ sym gives
 none_given m id (Some s) gives e = absurd (true≢false e)
-
--- a number that an option may have is the one that was read
-pub none_read : (r x : Option ℕ) → is_some r ≡ false → x ≡ None → r ≡ x
-none_read None x e none = sym none
-none_read (Some n) x e none = absurd (true≢false e)
-
-pub some_read : (r x : Option ℕ) → IfSome r (λ n. x ≡ Some n) → is_some r ≡ true → r ≡ x
-some_read None x value e = absurd (true≢false (sym e))
-some_read (Some n) x value e = sym value
 
 -- ---- an error of a parse
 
@@ -163,138 +139,7 @@ order_met m name rows task named its only has =
     (sym its ∙ ap (option_map (λ (p : Text × List Row). p.1)) has.command) in
     rw (only has.task called, same) has.has
 
-pub is_check : (order : Order) (rows : List Row) → order.command ≡ Check → SaysOrder order rows
-    → IsOrder order (Some (codes "check", rows))
-is_check order rows task says = record {
-  rows = rows;
-  command = ap (λ (t : Task). Some (task_name t, rows)) (sym task);
-  says = subst (λ (t : Task). Says t order rows) (sym task) says;
-}
-
-pub is_list : (order : Order) (rows : List Row) → order.command ≡ Listing → SaysOrder order rows
-    → order.has_times ≡ has_flag (codes "times") rows → IsOrder order (Some (codes "list", rows))
-is_list order rows task says times = record {
-  rows = rows;
-  command = ap (λ (t : Task). Some (task_name t, rows)) (sym task);
-  says = subst (λ (t : Task). Says t order rows) (sym task) (record { recording = says; times = times });
-}
-
-pub is_confirmation : (order : Order) (rows : List Row) → order.command ≡ Confirm → SaysConfirmation order rows
-    → IsOrder order (Some (codes "confirm", rows))
-is_confirmation order rows task says = record {
-  rows = rows;
-  command = ap (λ (t : Task). Some (task_name t, rows)) (sym task);
-  says = subst (λ (t : Task). Says t order rows) (sym task) says;
-}
-
-pub is_rules : (order : Order) (rows : List Row) → order.command ≡ Rules → SaysWords order (Some 0) None
-    (if_given (first_of (codes "RULE") rows)) → IsOrder order (Some (codes "rules", rows))
-is_rules order rows task says = record {
-  rows = rows;
-  command = ap (λ (t : Task). Some (task_name t, rows)) (sym task);
-  says = subst (λ (t : Task). Says t order rows) (sym task) says;
-}
-
-pub is_faults : (order : Order) (rows : List Row) → order.command ≡ Faults → SaysWords order (Some 0) None
-    (if_given (first_of (codes "KIND") rows)) → IsOrder order (Some (codes "faults", rows))
-is_faults order rows task says = record {
-  rows = rows;
-  command = ap (λ (t : Task). Some (task_name t, rows)) (sym task);
-  says = subst (λ (t : Task). Says t order rows) (sym task) says;
-}
-
-pub is_variables : (order : Order) (rows : List Row) → order.command ≡ Variables → SaysWords order (Some 0) None
-    (first_of (codes "DUMP") rows ∷ []) → IsOrder order (Some (codes "variables", rows))
-is_variables order rows task says = record {
-  rows = rows;
-  command = ap (λ (t : Task). Some (task_name t, rows)) (sym task);
-  says = subst (λ (t : Task). Says t order rows) (sym task) says;
-}
-
-pub is_bind : (order : Order) (rows : List Row) → order.command ≡ Bind
-    → SaysWords order (Some 0) (scope_in rows) (first_of (codes "DUMP") rows ∷ if_given (first_of (codes "slots") rows))
-    → IsOrder order (Some (codes "bind", rows))
-is_bind order rows task says = record {
-  rows = rows;
-  command = ap (λ (t : Task). Some (task_name t, rows)) (sym task);
-  says = subst (λ (t : Task). Says t order rows) (sym task) says;
-}
-
-pub is_explain : (order : Order) (rows : List Row) → order.command ≡ Explain → SaysWords order (skew_in rows) None
-    (names_in rows ++ if_given (first_of (codes "gtkw") rows))
-    → option_map string_bytes order.picture ≡ first_of (codes "svg") rows → IsOrder order (Some (codes "explain", rows))
-is_explain order rows task says picture =
-    let both : SaysExplanation order rows = record { words = says; picture = picture } in
-    record {
-      rows = rows;
-      command = ap (λ (t : Task). Some (task_name t, rows)) (sym task);
-      says = subst (λ (t : Task). Says t order rows) (sym task) both;
-    }
-
-pub is_audit : (order : Order) (rows : List Row) → order.command ≡ Audit → SaysAudit order rows
-    → IsOrder order (Some (codes "audit", rows))
-is_audit order rows task says = record {
-  rows = rows;
-  command = ap (λ (t : Task). Some (task_name t, rows)) (sym task);
-  says = subst (λ (t : Task). Says t order rows) (sym task) says;
-}
-
-pub is_annotate : (order : Order) (rows : List Row) → order.command ≡ Annotate → SaysWords order (skew_in rows) None
-    (names_in rows) → IsOrder order (Some (codes "annotate", rows))
-is_annotate order rows task says = record {
-  rows = rows;
-  command = ap (λ (t : Task). Some (task_name t, rows)) (sym task);
-  says = subst (λ (t : Task). Says t order rows) (sym task) says;
-}
-
--- ---- orders on parts
-
--- what is told of parts in an order is what these words are
-pub told_parts : (order : Order) (words : PartWords) (told : PartWords → Type 0) (names : List (Option Text))
-    → SaysParts order (λ w. w ≡ words) names → told words → SaysParts order told names
-told_parts order words told names says is = record {
-  block = says.block;
-  workers = says.workers;
-  skew = says.skew;
-  scope = says.scope;
-  audit = says.audit;
-  part = by_words order.part says.part;
-  names = says.names;
-}
-  where
-    by_words : (o : Option PartWords) → IsSomeAnd o (λ w. w ≡ words) → IsSomeAnd o told
-    by_words (Some w) e = subst told (sym e) is
-    by_words None e = absurd e
-
-both_maps : {A : Type 0} (f : A → Text) (xs : List A) → map (λ x. Some (f x)) xs ≡ map (λ t. Some t) (map f xs)
-both_maps f [] = refl
-both_maps f (x ∷ xs) = ap (λ (k : List (Option Text)). Some (f x) ∷ k) (both_maps f xs)
-
--- texts are some words
-pub some_texts : {A : Type 0} (f : A → Text) (xs : List A) (texts : List Text) → map f xs ≡ texts
-    → map (λ x. Some (f x)) xs ≡ map (λ t. Some t) texts
-some_texts f xs texts e = both_maps f xs ∙ ap (map (λ (t : Text). Some t)) e
-
-pub is_part : (order : Order) (rows : List Row) → order.command ≡ Part
-    → SaysParts order (λ words. SaysPartWords words rows) (names_in rows) → IsOrder order (Some (codes "part", rows))
-is_part order rows task says = record {
-  rows = rows;
-  command = ap (λ (t : Task). Some (task_name t, rows)) (sym task);
-  says = subst (λ (t : Task). Says t order rows) (sym task) says;
-}
-
-pub is_join : (order : Order) (rows : List Row) → order.command ≡ Join → SaysWords order (Some 0) None (parts_in rows)
-    → IsOrder order (Some (codes "join", rows))
-is_join order rows task says = record {
-  rows = rows;
-  command = ap (λ (t : Task). Some (task_name t, rows)) (sym task);
-  says = subst (λ (t : Task). Says t order rows) (sym task) says;
-}
-
-pub is_tell : (order : Order) (rows : List Row) → order.command ≡ Tell
-    → SaysParts order (λ words. SaysTellWords words rows) (parts_in rows) → IsOrder order (Some (codes "tell", rows))
-is_tell order rows task says = record {
-  rows = rows;
-  command = ap (λ (t : Task). Some (task_name t, rows)) (sym task);
-  says = subst (λ (t : Task). Says t order rows) (sym task) says;
-}
+-- matches that say an order are that of its task
+pub is_order : (order : Order) (rows : List Row) → Says order rows
+    → IsOrder order (Some (task_name (task_of order), rows))
+is_order order rows says = record { rows = rows; command = refl; says = says }

@@ -15,13 +15,14 @@ use Rattle.clap.specs.Walk.{Rule, Text, answers_to, finished, nothing_held, rows
 use Rattle.clap.specs.Walk.{walk_from, with_default}
 use Rattle.clap.specs.declared.builder.value_parser.ValueParser.TheVariants.{Signed, Unsigned}
 use Rattle.clap.proofs.OnLiterals.{clap_on_literals}
-use Rattle.vme_words.specs.Commands.{allow_rule, annotate_app, audit_app, bind_app, confirm_app, explain_app}
-use Rattle.vme_words.specs.Commands.{faults_app, file_count_rule, file_number_rule, file_rule, files_rule, flag_rule}
-use Rattle.vme_words.specs.Commands.{greatest_number, join_app, list_app, number_rule, part_app, recording_app}
-use Rattle.vme_words.specs.Commands.{rules_app, skew_rule, slots_rule, stop_rule, tell_app, transfers_rule}
-use Rattle.vme_words.specs.Commands.{variables_app, vmecheck_app, word_rule}
-use Rattle.vme_words.specs.Orders.{HasAudit, HasConfirmation, HasSkewAndNames, HasName, HasOrder, HasPart, HasRecording}
-use Rattle.vme_words.specs.Orders.{MayHaveUnsigned}
+use Rattle.vme_words.specs.Commands.{allow_rule, annotate_app, audit_app, bind_app, block_rule, confirm_app}
+use Rattle.vme_words.specs.Commands.{explain_app, faults_app, file_count_rule, file_number_rule, file_rule, files_rule}
+use Rattle.vme_words.specs.Commands.{flag_rule, greatest_file_number, greatest_number, join_app, list_app, part_app}
+use Rattle.vme_words.specs.Commands.{recording_app, rules_app, skew_rule, slots_rule, stop_rule, tell_app}
+use Rattle.vme_words.specs.Commands.{transfers_rule, variables_app, vmecheck_app, word_rule, workers_rule}
+use Rattle.vme_words.specs.Orders.{HasAudit, HasBind, HasConfirmation, HasSkewAndNames, HasName, HasOrder, HasPart}
+use Rattle.vme_words.specs.Orders.{HasRecording, MayHaveNumber, MayHaveUnsigned}
+use Rattle.vme_words.specs.declared.limits.TheConstants.{MOST_SLOTS, MOST_STEPS, MOST_WORKERS}
 use Rattle.vme_words.specs.declared.order.Task.TheVariants.{Annotate, Audit, Bind, Check, Confirm, Explain, Faults}
 use Rattle.vme_words.specs.declared.order.Task.TheVariants.{Join, List as Listing, Part, Rules, Tell, Variables}
 use Rattle.vme_words.proofs.RowLemmas.{EachKnown, NamesNoHelp, both_free, default_adds, defaults_keep, given_text}
@@ -72,10 +73,10 @@ abbrev of_tell : Shape
 of_tell = built_leaf (inherited above tell_app.top)
 
 abbrev block : Rule
-block = with_index 1 (filled (number_rule (codes "block") 65536 (codes "16384")))
+block = with_index 1 (filled block_rule)
 
 abbrev workers : Rule
-workers = with_index 1 (filled (number_rule (codes "workers") 64 (codes "4")))
+workers = with_index 1 (filled workers_rule)
 
 abbrev skew : Rule
 skew = with_index 1 (filled skew_rule)
@@ -408,19 +409,23 @@ recording_has name words e =
     let given = two_given (is_given (codes "BINDING") rows) (is_given (codes "DUMP") rows) level.1 in
     let behind_block = with_default before block in
     let behind_workers = with_default behind_block workers in
-    let in_block = row_says recording_rules rows block (Signed (pos 1) (pos 65536)) level.0 recording_known.0.own refl
+    let in_block = row_says recording_rules rows block (Signed (pos 1) (pos MOST_STEPS)) level.0
+    recording_known.0.own refl
     (defaults_keep (codes "block") (workers ∷ skew ∷ binding ∷ dump ∷ help ∷ []) behind_block
     (default_adds before block (codes "16384") [] refl)) in
-    let in_workers = row_says recording_rules rows workers (Signed (pos 1) (pos 64)) level.0 recording_known.1.0.own
-    refl (defaults_keep (codes "workers") (skew ∷ binding ∷ dump ∷ help ∷ []) behind_workers
+    let in_workers = row_says recording_rules rows workers (Signed (pos 1) (pos MOST_WORKERS)) level.0
+    recording_known.1.0.own refl
+    (defaults_keep (codes "workers") (skew ∷ binding ∷ dump ∷ help ∷ []) behind_workers
     (default_adds behind_block workers (codes "4") [] refl)) in
     let in_skew = row_says recording_rules rows skew (Unsigned 0 greatest_number) level.0 recording_known.1.1.0.own refl
     (defaults_keep (codes "skew") (binding ∷ dump ∷ help ∷ []) (with_default behind_workers skew)
     (default_adds behind_workers skew (codes "0") [] refl)) in
     record {
-      block = record { text = in_block.0; read = in_block.1; says = in_block.2 };
-      workers = record { text = in_workers.0; read = in_workers.1; says = in_workers.2 };
-      skew = record { text = in_skew.0; read = in_skew.1; says = in_skew.2 };
+      options = record {
+        block = record { text = in_block.0; read = in_block.1; says = in_block.2 };
+        workers = record { text = in_workers.0; read = in_workers.1; says = in_workers.2 };
+        skew = record { text = in_skew.0; read = in_skew.1; says = in_skew.2 };
+      };
       names = record {
         binding = given_text recording_rules rows binding level.0 recording_known.1.1.1.0.own given.0;
         dump = given_text recording_rules rows dump level.0 recording_known.1.1.1.1.0.own given.1;
@@ -436,19 +441,23 @@ listing_has words e =
     let given = two_given (is_given (codes "BINDING") rows) (is_given (codes "DUMP") rows) level.1 in
     let behind_block = with_default before block in
     let behind_workers = with_default behind_block workers in
-    let in_block = row_says listing_rules rows block (Signed (pos 1) (pos 65536)) level.0 listing_known.0.own refl
+    let in_block = row_says listing_rules rows block (Signed (pos 1) (pos MOST_STEPS)) level.0
+    listing_known.0.own refl
     (defaults_keep (codes "block") (workers ∷ skew ∷ binding ∷ dump ∷ times ∷ help ∷ []) behind_block
     (default_adds before block (codes "16384") [] refl)) in
-    let in_workers = row_says listing_rules rows workers (Signed (pos 1) (pos 64)) level.0 listing_known.1.0.own
-    refl (defaults_keep (codes "workers") (skew ∷ binding ∷ dump ∷ times ∷ help ∷ []) behind_workers
+    let in_workers = row_says listing_rules rows workers (Signed (pos 1) (pos MOST_WORKERS)) level.0
+    listing_known.1.0.own refl
+    (defaults_keep (codes "workers") (skew ∷ binding ∷ dump ∷ times ∷ help ∷ []) behind_workers
     (default_adds behind_block workers (codes "4") [] refl)) in
     let in_skew = row_says listing_rules rows skew (Unsigned 0 greatest_number) level.0 listing_known.1.1.0.own refl
     (defaults_keep (codes "skew") (binding ∷ dump ∷ times ∷ help ∷ []) (with_default behind_workers skew)
     (default_adds behind_workers skew (codes "0") [] refl)) in
     record {
-      block = record { text = in_block.0; read = in_block.1; says = in_block.2 };
-      workers = record { text = in_workers.0; read = in_workers.1; says = in_workers.2 };
-      skew = record { text = in_skew.0; read = in_skew.1; says = in_skew.2 };
+      options = record {
+        block = record { text = in_block.0; read = in_block.1; says = in_block.2 };
+        workers = record { text = in_workers.0; read = in_workers.1; says = in_workers.2 };
+        skew = record { text = in_skew.0; read = in_skew.1; says = in_skew.2 };
+      };
       names = record {
         binding = given_text listing_rules rows binding level.0 listing_known.1.1.1.0.own given.0;
         dump = given_text listing_rules rows dump level.0 listing_known.1.1.1.1.0.own given.1;
@@ -493,7 +502,8 @@ audit_has words e =
     let in_skew = row_says audit_rules rows skew (Unsigned 0 greatest_number) level.0 audit_known.1.1.1.0.own refl
     (defaults_keep (codes "skew") (workers ∷ quiet ∷ junit ∷ binding ∷ dumps ∷ help ∷ []) behind_skew
     (default_adds before_skew skew (codes "0") [] refl)) in
-    let in_workers = row_says audit_rules rows workers (Signed (pos 1) (pos 64)) level.0 audit_known.1.1.1.1.0.own refl
+    let in_workers = row_says audit_rules rows workers (Signed (pos 1) (pos MOST_WORKERS)) level.0
+    audit_known.1.1.1.1.0.own refl
     (defaults_keep (codes "workers") (quiet ∷ junit ∷ binding ∷ dumps ∷ help ∷ []) (with_default behind_skew workers)
     (default_adds behind_skew workers (codes "4") [] refl)) in
     let may_stop : MayHaveUnsigned (codes "stop") 1 rows = elim
@@ -502,13 +512,11 @@ audit_has words e =
       | inr n ↦ inr (record { text = n.0; read = n.1; says = n.2 })
     ] in
     record {
-      workers = record { text = in_workers.0; read = in_workers.1; says = in_workers.2 };
+      transfers = record { text = in_transfers.0; read = in_transfers.1; says = in_transfers.2 };
+      stop = may_stop;
       skew = record { text = in_skew.0; read = in_skew.1; says = in_skew.2 };
+      workers = record { text = in_workers.0; read = in_workers.1; says = in_workers.2 };
       binding = given_text audit_rules rows binding level.0 audit_known.1.1.1.1.1.1.1.0.own given.0;
-      words = record {
-        transfers = record { text = in_transfers.0; read = in_transfers.1; says = in_transfers.2 };
-        stop = may_stop;
-      };
     }
 
 variables_has : (words : List Text) → level_fault of_variables [] nothing_held words false [] ≡ []
@@ -519,12 +527,22 @@ variables_has words e =
     given_text variables_rules rows only_dump level.0 variables_known.0.own (one_given (is_given (codes "DUMP") rows)
     level.1)
 
-bind_has : (words : List Text) → level_fault of_bind [] nothing_held words false [] ≡ [] → HasName (codes "DUMP")
-    (rows_after bind_rules [] words)
+bind_has : (words : List Text) → level_fault of_bind [] nothing_held words false [] ≡ []
+    → HasBind (rows_after bind_rules [] words)
 bind_has words e =
     let level = level_good of_bind words bind_known e in
     let rows = rows_after bind_rules [] words in
-    given_text bind_rules rows only_dump level.0 bind_known.1.1.0.own (one_given (is_given (codes "DUMP") rows) level.1)
+    let may_have_slots : MayHaveNumber (codes "slots") 1 MOST_SLOTS rows = elim
+    (row_may_say bind_rules rows slots (Signed (pos 1) (pos MOST_SLOTS)) level.0 bind_known.0.own refl) [
+      | inl none ↦ inl none
+      | inr n ↦ inr (record { text = n.0; read = n.1; says = n.2 })
+    ] in
+    record {
+      slots = may_have_slots;
+      dump =
+          given_text bind_rules rows only_dump level.0 bind_known.1.1.0.own
+          (one_given (is_given (codes "DUMP") rows) level.1);
+    }
 
 explain_has : (words : List Text) → level_fault of_explain [] nothing_held words false [] ≡ []
     → HasSkewAndNames (rows_after explain_rules [] words)
@@ -570,7 +588,8 @@ part_has words e =
     let rows = rows_after part_rules [] words in
     let before = (settled part_rules (walk part_rules [] nothing_held words).held).rows in
     let given = two_given (is_given (codes "BINDING") rows) (is_given (codes "DUMP") rows) level.1 in
-    let in_number = row_says part_rules rows file_number (Unsigned 0 greatest_number) level.0 part_known.0.own refl
+    let in_number = row_says part_rules rows file_number (Signed (pos 0) (pos greatest_file_number)) level.0
+    part_known.0.own refl
     (defaults_keep (codes "number") (marks ∷ binding ∷ dump ∷ help ∷ []) (with_default before file_number)
     (default_adds before file_number (codes "0") [] refl)) in
     record {

@@ -6,11 +6,35 @@ use Rattle.clap.specs.declared.builder.action.ArgAction.TheVariants.{Append, Set
 use Rattle.clap.specs.declared.builder.command.Command.{Command}
 use Rattle.clap.specs.declared.builder.command.Command.TheViews.{out-Command}
 use Rattle.clap.specs.declared.builder.value_parser.ValueParser.TheVariants.{Signed, Unsigned}
+use Rattle.vme_words.specs.declared.limits.TheConstants.{MOST_SLOTS, MOST_STEPS, MOST_WORKERS}
 
--- `--NAME N`, N from 1 to the greatest, with the number that it has by default
-abbrev pub number_rule : Text → ℕ → Text → Rule
-number_rule name greatest default =
-    record (new_rule name) { long = Some name; parser = Some (Signed (pos 1) (pos greatest)); defaults = default ∷ [] }
+-- `--NAME N`, N any number of 32 bits from the least to the greatest, with what it has by default
+abbrev pub number_rule : Text → ℕ → ℕ → List Text → Rule
+number_rule name least greatest defaults = record (new_rule name) {
+  long = Some name;
+  parser = Some (Signed (pos least) (pos greatest));
+  defaults = defaults;
+}
+
+-- `--block N`, 16,384 by default
+abbrev pub block_rule : Rule
+block_rule = number_rule (codes "block") 1 MOST_STEPS (codes "16384" ∷ [])
+
+-- `--workers N`, 4 by default
+abbrev pub workers_rule : Rule
+workers_rule = number_rule (codes "workers") 1 MOST_WORKERS (codes "4" ∷ [])
+
+-- `--slots N`, which need not be there
+abbrev pub slots_rule : Rule
+slots_rule = number_rule (codes "slots") 1 MOST_SLOTS []
+
+-- the greatest number of 32 bits
+abbrev pub greatest_file_number : ℕ
+greatest_file_number = 4294967295
+
+-- `--number N`, N any number of 32 bits, 0 by default
+abbrev pub file_number_rule : Rule
+file_number_rule = number_rule (codes "number") 0 greatest_file_number (codes "0" ∷ [])
 
 -- a file that has to be named
 abbrev pub file_rule : Text → Rule
@@ -57,8 +81,8 @@ recording_app name =
     (with_rule
     (with_rule
     (with_rule
-    (with_rule (new_app name) (number_rule (codes "block") 65536 (codes "16384")))
-    (number_rule (codes "workers") 64 (codes "4")))
+    (with_rule (new_app name) block_rule)
+    workers_rule)
     skew_rule)
     (file_rule (codes "BINDING")))
     (file_rule (codes "DUMP"))
@@ -81,10 +105,6 @@ word_rule name = record (new_rule name) { long = Some name }
 abbrev pub allow_rule : Rule
 allow_rule = record (word_rule (codes "allow")) { action = Some Append }
 
--- `--slots N`, N from 1 to 21, which need not be there
-abbrev pub slots_rule : Rule
-slots_rule = record (new_rule (codes "slots")) { long = Some (codes "slots"); parser = Some (Signed (pos 1) (pos 21)) }
-
 -- `audit [--transfers N] [--allow WORD].. [--stop N] [--skew T] [--workers N] [--quiet] [--junit FILE] BINDING DUMP..`
 abbrev pub audit_app : App
 audit_app =
@@ -98,7 +118,7 @@ audit_app =
     (with_rule (with_rule (new_app (codes "audit")) transfers_rule) allow_rule)
     stop_rule)
     skew_rule)
-    (number_rule (codes "workers") 64 (codes "4")))
+    workers_rule)
     (flag_rule (codes "quiet")))
     (word_rule (codes "junit")))
     (file_rule (codes "BINDING")))
@@ -138,10 +158,6 @@ abbrev pub annotate_app : App
 annotate_app =
     with_rule (with_rule (with_rule (new_app (codes "annotate")) skew_rule) (file_rule (codes "BINDING")))
     (file_rule (codes "DUMP"))
-
--- `--number N`, N any number of 64 bits, 0 by default
-abbrev pub file_number_rule : Rule
-file_number_rule = unsigned_rule (codes "number") 0 (codes "0" ∷ [])
 
 -- `--files N`, N a number of 64 bits from 1 on, which need not be there
 abbrev pub file_count_rule : Rule

@@ -2,13 +2,14 @@
 
 ghost use Rattle.std.specs.Prelude.{◌≡◌, IfOk, Some, codes, false};
 ghost use Rattle.clap.specs.Words.{App, Rule, app_of, new_app, rule_of, with_rule, with_subcommand};
-ghost use Rattle.vme_words.specs.Commands.{Makes, allow_rule, annotate_app, audit_app, bind_app, confirm_app};
-ghost use Rattle.vme_words.specs.Commands.{explain_app, faults_app, file_count_rule, file_number_rule, file_rule};
-ghost use Rattle.vme_words.specs.Commands.{files_rule, flag_rule, join_app, list_app, number_rule, part_app};
+ghost use Rattle.vme_words.specs.Commands.{Makes, allow_rule, annotate_app, audit_app, bind_app, block_rule};
+ghost use Rattle.vme_words.specs.Commands.{confirm_app, explain_app, faults_app, file_count_rule, file_number_rule};
+ghost use Rattle.vme_words.specs.Commands.{file_rule, files_rule, flag_rule, join_app, list_app, part_app};
 ghost use Rattle.vme_words.specs.Commands.{recording_app, recordings_app, rules_app, skew_rule, slots_rule};
-ghost use Rattle.vme_words.specs.Commands.{stop_rule, tell_app, telling_app};
-ghost use Rattle.vme_words.specs.Commands.{transfers_rule, variables_app, vmecheck_app, word_rule};
+ghost use Rattle.vme_words.specs.Commands.{stop_rule, tell_app, telling_app, transfers_rule, variables_app};
+ghost use Rattle.vme_words.specs.Commands.{vmecheck_app, word_rule, workers_rule};
 
+use crate::limits::{MOST_SLOTS, MOST_STEPS, MOST_WORKERS};
 use clap::{Arg, ArgAction, Command, value_parser};
 use std::alloc::{AllocError, Global};
 
@@ -301,7 +302,7 @@ fn number_option<'a>(alloc: Global) -> Arg<'a>
 {
     Arg::new(alloc, "number")
         .long("number")
-        .value_parser(value_parser!(u64))
+        .value_parser(value_parser!(u32))
         .default_value("0")
         .help("Which file of the recording the dump is, 0 to 4294967295")
 }
@@ -349,7 +350,7 @@ fn slots_option<'a>(alloc: Global) -> Arg<'a>
 {
     Arg::new(alloc, "slots")
         .long("slots")
-        .value_parser(value_parser!(u32).range(1..=21))
+        .value_parser(value_parser!(u32).range(1..=MOST_SLOTS as i64))
         .help("How many slots the backplane has, 1 to 21; else the daisy chains tell")
 }
 
@@ -403,23 +404,23 @@ fn dump_file<'a>(alloc: Global) -> Arg<'a>
 }
 
 fn block_option<'a>(alloc: Global) -> Arg<'a>
-    ensures rule { rule_of result ≡ number_rule (codes "block") 65536 (codes "16384") }
+    ensures rule { rule_of result ≡ block_rule }
     ensures local { result.global ≡ false }
 {
     Arg::new(alloc, "block")
         .long("block")
-        .value_parser(value_parser!(u32).range(1..=65536))
+        .value_parser(value_parser!(u32).range(1..=MOST_STEPS as i64))
         .default_value("16384")
         .help("How many steps a block has, 1 to 65536")
 }
 
 fn workers_option<'a>(alloc: Global) -> Arg<'a>
-    ensures rule { rule_of result ≡ number_rule (codes "workers") 64 (codes "4") }
+    ensures rule { rule_of result ≡ workers_rule }
     ensures local { result.global ≡ false }
 {
     Arg::new(alloc, "workers")
         .long("workers")
-        .value_parser(value_parser!(u32).range(1..=64))
+        .value_parser(value_parser!(u32).range(1..=MOST_WORKERS as i64))
         .default_value("4")
         .help(
             "How many workers read and judge, 1 to 64; what is answered is the same for each number",

@@ -4,8 +4,9 @@
 //!
 //! - `command`: the command of the program, with a subcommand for each task, in `clap`'s terms.
 //! - `words`: [`words::order`] reads the arguments by `clap`'s rules of that command.
-//! - `order`: a task, and an [`Order`]: its numbers, the scope that is named, the options of an
-//!   audit and of parts, and the names of files.
+//! - `order`: an [`Order`] has a variant for each task, with what that task is told and no more: its
+//!   numbers, flags, and the names of files.
+//! - `limits`: the greatest numbers that it may tell.
 //! - `order_fault`: why arguments are no order.
 //!
 //! # What is proved
@@ -21,17 +22,22 @@
 //!
 //! # Limits
 //!
-//! Blocks of 1 to 65,536 steps, 1 to 64 workers, and a skew, a number of transfers and a number of
-//! breaks below 2^64. Rules, lines and faults aren't names yet, but texts. Start reading at
-//! `words`.
+//! Blocks of 1 to 65,536 steps, 1 to 64 workers, 1 to 21 slots, the number of a file below 2^32, and
+//! a skew, a number of transfers, of breaks and of files below 2^64. Rules, lines and kinds of
+//! refusals aren't names yet, but texts. Start reading at `words`.
 #![tactic(auto)]
 
 mod command;
+mod limits;
 mod order;
 mod order_fault;
 pub mod words;
 
 pub use command::{VERSION, vmecheck_command};
-pub use order::{AuditWords, Order, PartWords, Task};
+pub use order::{
+    AnnotateOrder, AuditOrder, BindOrder, CheckOrder, ConfirmOrder, ExplainOrder, FaultsOrder,
+    JoinOrder, JudgeOptions, ListOrder, Order, PartOrder, RecordingFiles, RulesOrder, Task,
+    TellOrder, VariablesOrder,
+};
 pub use order_fault::OrderFault;
 pub use words::{task_fault, usage_fault};

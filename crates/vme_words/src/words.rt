@@ -1,15 +1,15 @@
 //! How the words of the command line are read.
 
-ghost use Rattle.std.specs.Prelude.{◌≡◌, ◌≤◌, ◌∷◌, ◌++◌, [], codes, IfErr, IfOk, IfSome, None, Some, is_some, map};
-ghost use Rattle.std.specs.Prelude.{option_map, string_bytes, true};
+ghost use Rattle.std.specs.Prelude.{◌≡◌, ◌≤◌, [], codes, IfErr, IfOk, IfSome, Some, is_some, map, option_map};
+ghost use Rattle.std.specs.Prelude.{string_bytes, true};
 ghost use Rattle.clap.specs.Words.{fault_of, first_of, found_of, kind_of, rows_of, subcommand_of, subcommand_rows_of};
 ghost use Rattle.vme_words.specs.Commands.{vmecheck_app};
 ghost use Rattle.vme_words.specs.OrderFaults.{HasUsageKind, IsFaultOf, IsOfWords};
+ghost use Rattle.vme_words.specs.declared.limits.TheConstants.{MOST_SLOTS};
 ghost use Rattle.vme_words.specs.declared.order.Task.{Task};
-ghost use Rattle.vme_words.specs.Orders.{HasAll, HasAudit, HasAuditWords, HasConfirmation, HasSkewAndNames, HasName};
-ghost use Rattle.vme_words.specs.Orders.{HasNames, HasNumber, HasOrder, HasPart, HasRecording, HasUnsigned, IsOrder};
-ghost use Rattle.vme_words.specs.Orders.{MayHaveUnsigned};
-ghost use Rattle.vme_words.specs.Orders.{SaysAuditWords, SaysOrder, SaysParts, SaysWords, has_flag, if_given, names_in};
+ghost use Rattle.vme_words.specs.Orders.{HasAll, HasAudit, HasBind, HasConfirmation, HasName, HasNames, HasNumber};
+ghost use Rattle.vme_words.specs.Orders.{HasOptions, HasOrder, HasPart, HasRecording, HasSkewAndNames, HasUnsigned};
+ghost use Rattle.vme_words.specs.Orders.{IsOrder, MayHaveNumber, MayHaveUnsigned, SaysFiles, SaysOptions, has_flag};
 ghost use Rattle.vme_words.specs.Orders.{number_in, task_name, texts_in};
 
 use crate::command::{
@@ -17,7 +17,12 @@ use crate::command::{
     faults_command, join_command, list_command, part_command, rules_command, tell_command,
     variables_command, vmecheck_command,
 };
-use crate::order::{AuditWords, Order, PartWords, Task};
+use crate::limits::{MOST_SLOTS, MOST_STEPS, MOST_WORKERS};
+use crate::order::{
+    AnnotateOrder, AuditOrder, BindOrder, CheckOrder, ConfirmOrder, ExplainOrder, FaultsOrder,
+    JoinOrder, JudgeOptions, ListOrder, Order, PartOrder, RecordingFiles, RulesOrder, Task,
+    TellOrder, VariablesOrder,
+};
 use crate::order_fault::OrderFault;
 use clap::error::ErrorKind;
 use clap::{ArgMatches, Command};
@@ -115,63 +120,43 @@ fn order_to(alloc: Global, task: Task, found: &ArgMatches<'_>) -> Result<Option<
 }
 
 /// The order that the matches of `check` are, if they are one.
-#[tactic(auto, using(crate::proofs::OrderLemmas::is_check))]
+#[tactic(auto, using(crate::proofs::OrderLemmas::is_order))]
 fn check_order(alloc: Global, found: &ArgMatches<'_>) -> Result<Option<Order>, AllocError>
     ensures said { IfOk result (λ o. IfSome o (λ order. IsOrder order
         (Some (codes "check", rows_of (found_of found.now))))) }
     ensures found { HasRecording (rows_of (found_of found.now)) → IfOk result (λ o. is_some o ≡ true) }
 {
-    recording_order(alloc, Task::Check, false, found)
+    let Some(options) = judge_options(found) else {
+        return Ok(None);
+    };
+    let Some(recording) = recording_files(alloc, found)? else {
+        return Ok(None);
+    };
+    Ok(Some(Order::Check(CheckOrder { options, recording })))
 }
 
 /// The order that the matches of `list` are, if they are one.
-#[tactic(auto, using(crate::proofs::OrderLemmas::is_list))]
+#[tactic(auto, using(crate::proofs::OrderLemmas::is_order))]
 fn list_order(alloc: Global, found: &ArgMatches<'_>) -> Result<Option<Order>, AllocError>
     ensures said { IfOk result (λ o. IfSome o (λ order. IsOrder order
         (Some (codes "list", rows_of (found_of found.now))))) }
     ensures found { HasRecording (rows_of (found_of found.now)) → IfOk result (λ o. is_some o ≡ true) }
 {
-    recording_order(alloc, Task::List, has_flag(found, "times"), found)
-}
-
-/// The order on a recording that the matches of its subcommand are, if they are one.
-fn recording_order(
-    alloc: Global,
-    command: Task,
-    has_times: bool,
-    found: &ArgMatches<'_>,
-) -> Result<Option<Order>, AllocError>
-    ensures task { IfOk result (λ o. IfSome o (λ order. order.command ≡ command)) }
-    ensures times { IfOk result (λ o. IfSome o (λ order. order.has_times ≡ has_times)) }
-    ensures says { IfOk result (λ o. IfSome o (λ order. SaysOrder order (rows_of (found_of found.now)))) }
-    ensures found { HasRecording (rows_of (found_of found.now)) → IfOk result (λ o. is_some o ≡ true) }
-{
-    let (Some(block), Some(workers), Some(skew)) = (
-        number(found, "block", 65536),
-        number(found, "workers", 64),
-        unsigned(found, "skew", 0),
-    ) else {
+    let Some(options) = judge_options(found) else {
         return Ok(None);
     };
-    match names_in(alloc, found)? {
-        Some(names) => Ok(Some(Order {
-            command,
-            block,
-            workers,
-            skew,
-            has_times,
-            scope: None,
-            picture: None,
-            names,
-            audit: None,
-            part: None,
-        })),
-        None => Ok(None),
-    }
+    let Some(recording) = recording_files(alloc, found)? else {
+        return Ok(None);
+    };
+    Ok(Some(Order::List(ListOrder {
+        options,
+        has_times: has_flag(found, "times"),
+        recording,
+    })))
 }
 
 /// The order that the matches of `confirm` are, if they are one.
-#[tactic(auto, using(crate::proofs::OrderLemmas::is_confirmation))]
+#[tactic(auto, using(crate::proofs::OrderLemmas::is_order))]
 fn confirm_order(alloc: Global, found: &ArgMatches<'_>) -> Result<Option<Order>, AllocError>
     ensures said { IfOk result (λ o. IfSome o (λ order. IsOrder order
         (Some (codes "confirm", rows_of (found_of found.now))))) }
@@ -180,77 +165,111 @@ fn confirm_order(alloc: Global, found: &ArgMatches<'_>) -> Result<Option<Order>,
     let Some(skew) = unsigned(found, "skew", 0) else {
         return Ok(None);
     };
-    match all_names_in(alloc, found)? {
-        Some(names) => Ok(Some(Order {
-            command: Task::Confirm,
-            block: 16_384,
-            workers: 4,
-            skew,
-            has_times: false,
-            scope: None,
-            picture: None,
-            names,
-            audit: None,
-            part: None,
-        })),
-        None => Ok(None),
-    }
+    let Some(recording) = recording_files(alloc, found)? else {
+        return Ok(None);
+    };
+    let Some(listing) = word_of(alloc, found, "LISTING")? else {
+        return Ok(None);
+    };
+    Ok(Some(Order::Confirm(ConfirmOrder {
+        skew,
+        recording,
+        listing,
+    })))
+}
+
+/// The order that the matches of `audit` are, if they are one.
+#[tactic(auto, using(crate::proofs::OrderLemmas::is_order))]
+fn audit_order(alloc: Global, found: &ArgMatches<'_>) -> Result<Option<Order>, AllocError>
+    ensures said { IfOk result (λ o. IfSome o (λ order. IsOrder order
+        (Some (codes "audit", rows_of (found_of found.now))))) }
+    ensures found { HasAudit (rows_of (found_of found.now)) → IfOk result (λ o. is_some o ≡ true) }
+{
+    let Some(transfers) = unsigned(found, "transfers", 0) else {
+        return Ok(None);
+    };
+    let Some(stop) = unsigned_if_given(found, "stop", 1) else {
+        return Ok(None);
+    };
+    let Some(skew) = unsigned(found, "skew", 0) else {
+        return Ok(None);
+    };
+    let Some(workers) = number(found, "workers", 1, MOST_WORKERS) else {
+        return Ok(None);
+    };
+    let Some(binding) = word_of(alloc, found, "BINDING")? else {
+        return Ok(None);
+    };
+    let allowed = texts_of(alloc, found, "allow")?;
+    let junit = word_of(alloc, found, "junit")?;
+    let dumps = texts_of(alloc, found, "DUMP")?;
+    Ok(Some(Order::Audit(AuditOrder {
+        transfers,
+        allowed,
+        stop,
+        skew,
+        workers,
+        is_quiet: has_flag(found, "quiet"),
+        junit,
+        binding,
+        dumps,
+    })))
 }
 
 /// The order that the matches of `rules` are.
-#[tactic(auto, using(crate::proofs::OrderLemmas::is_rules))]
+#[tactic(auto, using(crate::proofs::OrderLemmas::is_order))]
 fn rules_order(alloc: Global, found: &ArgMatches<'_>) -> Result<Option<Order>, AllocError>
     ensures said { IfOk result (λ o. IfSome o (λ order. IsOrder order
         (Some (codes "rules", rows_of (found_of found.now))))) }
     ensures found { IfOk result (λ o. is_some o ≡ true) }
 {
-    let names = with_given(alloc, Vec::new(alloc), found, "RULE")?;
-    Ok(Some(order_of_words(Task::Rules, 0, None, names)))
+    let rule = word_of(alloc, found, "RULE")?;
+    Ok(Some(Order::Rules(RulesOrder { rule })))
 }
 
 /// The order that the matches of `faults` are.
-#[tactic(auto, using(crate::proofs::OrderLemmas::is_faults))]
+#[tactic(auto, using(crate::proofs::OrderLemmas::is_order))]
 fn faults_order(alloc: Global, found: &ArgMatches<'_>) -> Result<Option<Order>, AllocError>
     ensures said { IfOk result (λ o. IfSome o (λ order. IsOrder order
         (Some (codes "faults", rows_of (found_of found.now))))) }
     ensures found { IfOk result (λ o. is_some o ≡ true) }
 {
-    let names = with_given(alloc, Vec::new(alloc), found, "KIND")?;
-    Ok(Some(order_of_words(Task::Faults, 0, None, names)))
+    let kind = word_of(alloc, found, "KIND")?;
+    Ok(Some(Order::Faults(FaultsOrder { kind })))
 }
 
 /// The order that the matches of `variables` are, if they are one.
-#[tactic(auto, using(crate::proofs::OrderLemmas::is_variables))]
+#[tactic(auto, using(crate::proofs::OrderLemmas::is_order))]
 fn variables_order(alloc: Global, found: &ArgMatches<'_>) -> Result<Option<Order>, AllocError>
     ensures said { IfOk result (λ o. IfSome o (λ order. IsOrder order
         (Some (codes "variables", rows_of (found_of found.now))))) }
     ensures found { HasName (codes "DUMP") (rows_of (found_of found.now)) → IfOk result (λ o. is_some o ≡ true) }
 {
-    match dump_in(alloc, found)? {
-        Some(names) => Ok(Some(order_of_words(Task::Variables, 0, None, names))),
-        None => Ok(None),
-    }
+    let Some(dump) = word_of(alloc, found, "DUMP")? else {
+        return Ok(None);
+    };
+    Ok(Some(Order::Variables(VariablesOrder { dump })))
 }
 
 /// The order that the matches of `bind` are, if they are one.
-#[tactic(auto, using(crate::proofs::OrderLemmas::is_bind))]
+#[tactic(auto, using(crate::proofs::OrderLemmas::is_order))]
 fn bind_order(alloc: Global, found: &ArgMatches<'_>) -> Result<Option<Order>, AllocError>
     ensures said { IfOk result (λ o. IfSome o (λ order. IsOrder order
         (Some (codes "bind", rows_of (found_of found.now))))) }
-    ensures found { HasName (codes "DUMP") (rows_of (found_of found.now)) → IfOk result (λ o. is_some o ≡ true) }
+    ensures found { HasBind (rows_of (found_of found.now)) → IfOk result (λ o. is_some o ≡ true) }
 {
-    match dump_in(alloc, found)? {
-        Some(names) => {
-            let names = with_given(alloc, names, found, "slots")?;
-            let scope = word_of(alloc, found, "scope")?;
-            Ok(Some(order_of_words(Task::Bind, 0, scope, names)))
-        }
-        None => Ok(None),
-    }
+    let Some(slots) = slots_of(found) else {
+        return Ok(None);
+    };
+    let Some(dump) = word_of(alloc, found, "DUMP")? else {
+        return Ok(None);
+    };
+    let scope = word_of(alloc, found, "scope")?;
+    Ok(Some(Order::Bind(BindOrder { slots, scope, dump })))
 }
 
 /// The order that the matches of `explain` are, if they are one.
-#[tactic(auto, using(crate::proofs::OrderLemmas::is_explain))]
+#[tactic(auto, using(crate::proofs::OrderLemmas::is_order))]
 fn explain_order(alloc: Global, found: &ArgMatches<'_>) -> Result<Option<Order>, AllocError>
     ensures said { IfOk result (λ o. IfSome o (λ order. IsOrder order
         (Some (codes "explain", rows_of (found_of found.now))))) }
@@ -259,18 +278,21 @@ fn explain_order(alloc: Global, found: &ArgMatches<'_>) -> Result<Option<Order>,
     let Some(skew) = unsigned(found, "skew", 0) else {
         return Ok(None);
     };
-    match names_in(alloc, found)? {
-        Some(names) => {
-            let names = with_given(alloc, names, found, "gtkw")?;
-            let picture = word_of(alloc, found, "svg")?;
-            Ok(Some(order_to_explain(skew, names, picture)))
-        }
-        None => Ok(None),
-    }
+    let Some(recording) = recording_files(alloc, found)? else {
+        return Ok(None);
+    };
+    let viewer = word_of(alloc, found, "gtkw")?;
+    let picture = word_of(alloc, found, "svg")?;
+    Ok(Some(Order::Explain(ExplainOrder {
+        viewer,
+        picture,
+        skew,
+        recording,
+    })))
 }
 
 /// The order that the matches of `annotate` are, if they are one.
-#[tactic(auto, using(crate::proofs::OrderLemmas::is_annotate))]
+#[tactic(auto, using(crate::proofs::OrderLemmas::is_order))]
 fn annotate_order(alloc: Global, found: &ArgMatches<'_>) -> Result<Option<Order>, AllocError>
     ensures said { IfOk result (λ o. IfSome o (λ order. IsOrder order
         (Some (codes "annotate", rows_of (found_of found.now))))) }
@@ -279,220 +301,113 @@ fn annotate_order(alloc: Global, found: &ArgMatches<'_>) -> Result<Option<Order>
     let Some(skew) = unsigned(found, "skew", 0) else {
         return Ok(None);
     };
-    match names_in(alloc, found)? {
-        Some(names) => Ok(Some(order_of_words(Task::Annotate, skew, None, names))),
-        None => Ok(None),
-    }
-}
-
-/// The order that the matches of `audit` are, if they are one.
-#[tactic(auto, using(crate::proofs::OrderLemmas::is_audit))]
-fn audit_order(alloc: Global, found: &ArgMatches<'_>) -> Result<Option<Order>, AllocError>
-    ensures said { IfOk result (λ o. IfSome o (λ order. IsOrder order
-        (Some (codes "audit", rows_of (found_of found.now))))) }
-    ensures found { HasAudit (rows_of (found_of found.now)) → IfOk result (λ o. is_some o ≡ true) }
-{
-    let (Some(workers), Some(skew), Some(binding)) = (
-        number(found, "workers", 64),
-        unsigned(found, "skew", 0),
-        found.get_str("BINDING"),
-    ) else {
+    let Some(recording) = recording_files(alloc, found)? else {
         return Ok(None);
     };
-    let Some(audit) = audit_words(alloc, found)? else {
-        return Ok(None);
-    };
-    let mut names = Vec::new(alloc);
-    names.push(String::from_str(alloc, binding)?)?;
-    let names = with_each(alloc, names, found, "DUMP")?;
-    Ok(Some(Order {
-        command: Task::Audit,
-        block: 16_384,
-        workers,
-        skew,
-        has_times: false,
-        scope: None,
-        picture: None,
-        names,
-        audit: Some(audit),
-        part: None,
-    }))
+    Ok(Some(Order::Annotate(AnnotateOrder { skew, recording })))
 }
 
 /// The order that the matches of `part` are, if they are one.
+#[tactic(auto, using(crate::proofs::OrderLemmas::is_order))]
 fn part_order(alloc: Global, found: &ArgMatches<'_>) -> Result<Option<Order>, AllocError>
     ensures said { IfOk result (λ o. IfSome o (λ order. IsOrder order
         (Some (codes "part", rows_of (found_of found.now))))) }
     ensures found { HasPart (rows_of (found_of found.now)) → IfOk result (λ o. is_some o ≡ true) }
 {
-    let Some(number) = unsigned(found, "number", 0) else {
+    let Some(number) = number(found, "number", 0, u32::MAX) else {
         return Ok(None);
     };
-    let words = PartWords {
+    let Some(recording) = recording_files(alloc, found)? else {
+        return Ok(None);
+    };
+    Ok(Some(Order::Part(PartOrder {
         number,
         listing: has_flag(found, "listing"),
-        files: None,
-    };
-    match names_in(alloc, found)? {
-        Some(names) => Ok(Some(order_of_parts(Task::Part, words, names))),
-        None => Ok(None),
-    }
+        recording,
+    })))
 }
 
 /// The order that the matches of `join` are.
+#[tactic(auto, using(crate::proofs::OrderLemmas::is_order))]
 fn join_order(alloc: Global, found: &ArgMatches<'_>) -> Result<Option<Order>, AllocError>
     ensures said { IfOk result (λ o. IfSome o (λ order. IsOrder order
         (Some (codes "join", rows_of (found_of found.now))))) }
     ensures found { IfOk result (λ o. is_some o ≡ true) }
 {
-    let names = with_each(alloc, Vec::new(alloc), found, "PART")?;
-    Ok(Some(order_of_words(Task::Join, 0, None, names)))
+    let parts = texts_of(alloc, found, "PART")?;
+    Ok(Some(Order::Join(JoinOrder { parts })))
 }
 
 /// The order that the matches of `tell` are, if they are one.
+#[tactic(auto, using(crate::proofs::OrderLemmas::is_order))]
 fn tell_order(alloc: Global, found: &ArgMatches<'_>) -> Result<Option<Order>, AllocError>
     ensures said { IfOk result (λ o. IfSome o (λ order. IsOrder order
         (Some (codes "tell", rows_of (found_of found.now))))) }
     ensures found { MayHaveUnsigned (codes "files") 1 (rows_of (found_of found.now))
         → IfOk result (λ o. is_some o ≡ true) }
 {
-    let files = unsigned(found, "files", 1);
-    if files.is_none() && found.get_str("files").is_some() {
+    let Some(file_count) = unsigned_if_given(found, "files", 1) else {
         return Ok(None);
-    }
-    let words = PartWords {
-        number: 0,
+    };
+    let parts = texts_of(alloc, found, "PART")?;
+    Ok(Some(Order::Tell(TellOrder {
         listing: has_flag(found, "list"),
-        files,
+        file_count,
+        parts,
+    })))
+}
+
+/// How a recording is judged, if each of its numbers is one.
+fn judge_options(found: &ArgMatches<'_>) -> Option<JudgeOptions>
+    ensures said { IfSome result (λ options. SaysOptions options (rows_of (found_of found.now))) }
+    ensures found { HasOptions (rows_of (found_of found.now)) → is_some result ≡ true }
+{
+    let Some(block) = number(found, "block", 1, MOST_STEPS) else {
+        return None;
     };
-    let names = with_each(alloc, Vec::new(alloc), found, "PART")?;
-    Ok(Some(order_of_parts(Task::Tell, words, names)))
+    let Some(workers) = number(found, "workers", 1, MOST_WORKERS) else {
+        return None;
+    };
+    let Some(skew) = unsigned(found, "skew", 0) else {
+        return None;
+    };
+    Some(JudgeOptions {
+        block,
+        workers,
+        skew,
+    })
 }
 
-/// An order of what is told of parts and these words, with the other numbers that the others have by default.
-fn order_of_parts(command: Task, words: PartWords, names: Vec<String>) -> Order
-    ensures command { result.command ≡ command }
-    ensures rest { SaysParts result (λ w. w ≡ words) (map (λ name. Some (string_bytes name)) names.items) }
+/// The files of a recording, if both have names.
+fn recording_files(
+    alloc: Global,
+    found: &ArgMatches<'_>,
+) -> Result<Option<RecordingFiles>, AllocError>
+    ensures said { IfOk result (λ o. IfSome o (λ files. SaysFiles files (rows_of (found_of found.now)))) }
+    ensures found { HasNames (rows_of (found_of found.now)) → IfOk result (λ o. is_some o ≡ true) }
 {
-    Order {
-        command,
-        block: 16_384,
-        workers: 4,
-        skew: 0,
-        has_times: false,
-        scope: None,
-        picture: None,
-        names,
-        audit: None,
-        part: Some(words),
-    }
-}
-
-/// What an audit is told, if its numbers are some.
-fn audit_words(alloc: Global, found: &ArgMatches<'_>) -> Result<Option<AuditWords>, AllocError>
-    ensures said { IfOk result (λ o. IfSome o (λ words. SaysAuditWords words (rows_of (found_of found.now)))) }
-    ensures found { HasAuditWords (rows_of (found_of found.now)) → IfOk result (λ o. is_some o ≡ true) }
-{
-    let Some(transfers) = unsigned(found, "transfers", 0) else {
+    let Some(binding) = word_of(alloc, found, "BINDING")? else {
         return Ok(None);
     };
-    let stop = unsigned(found, "stop", 1);
-    if stop.is_none() && found.get_str("stop").is_some() {
+    let Some(dump) = word_of(alloc, found, "DUMP")? else {
         return Ok(None);
-    }
-    let allowed = with_each(alloc, Vec::new(alloc), found, "allow")?;
-    let junit = word_of(alloc, found, "junit")?;
-    Ok(Some(AuditWords {
-        transfers,
-        allowed,
-        stop,
-        is_quiet: has_flag(found, "quiet"),
-        junit,
-    }))
+    };
+    Ok(Some(RecordingFiles { binding, dump }))
 }
 
-/// An order of this skew, this scope and these words, with the other numbers that the others have by default.
-fn order_of_words(command: Task, skew: u64, scope: Option<String>, names: Vec<String>) -> Order
-    ensures command { result.command ≡ command }
-    ensures says { SaysWords result (Some skew) (option_map string_bytes scope)
-        (map (λ name. Some (string_bytes name)) names.items) }
+/// The number of slots, if it isn't there or is one of a backplane.
+fn slots_of(found: &ArgMatches<'_>) -> Option<Option<u8>>
+    ensures value { IfSome result (λ slots. slots ≡ number_in (codes "slots") (rows_of (found_of found.now))) }
+    ensures range { IfSome result (λ slots. IfSome slots (λ n. (1 ≤ n) × (n ≤ MOST_SLOTS))) }
+    ensures found { MayHaveNumber (codes "slots") 1 MOST_SLOTS (rows_of (found_of found.now)) → is_some result ≡ true }
 {
-    Order {
-        command,
-        block: 16_384,
-        workers: 4,
-        skew,
-        has_times: false,
-        scope,
-        picture: None,
-        names,
-        audit: None,
-        part: None,
+    if found.get_str("slots").is_none() {
+        return Some(None);
     }
-}
-
-/// An order to explain, of this skew, these words and this picture, with the other numbers that the others have by
-/// default.
-fn order_to_explain(skew: u64, names: Vec<String>, picture: Option<String>) -> Order
-    ensures command { result.command ≡ Task.Explain }
-    ensures says { SaysWords result (Some skew) None (map (λ name. Some (string_bytes name)) names.items) }
-    ensures picture { option_map string_bytes result.picture ≡ option_map string_bytes picture }
-{
-    Order {
-        command: Task::Explain,
-        block: 16_384,
-        workers: 4,
-        skew,
-        has_times: false,
-        scope: None,
-        picture,
-        names,
-        audit: None,
-        part: None,
+    match number(found, "slots", 1, MOST_SLOTS) {
+        Some(slots) => Some(Some(slots as u8)),
+        None => None,
     }
-}
-
-/// The names, with one more where the words have it.
-fn with_given(
-    alloc: Global,
-    names: Vec<String>,
-    found: &ArgMatches<'_>,
-    id: &str,
-) -> Result<Vec<String>, AllocError>
-    ensures { IfOk result (λ all. map (λ n. Some (string_bytes n)) all.items
-        ≡ map (λ n. Some (string_bytes n)) names.items ++ if_given (first_of id.now (rows_of (found_of found.now)))) }
-{
-    match found.get_str(id) {
-        Some(name) => with_name(alloc, names, name),
-        None => Ok(names),
-    }
-}
-
-/// The texts, with those that the words have for an option or for files behind them.
-fn with_each(
-    alloc: Global,
-    texts: Vec<String>,
-    found: &ArgMatches<'_>,
-    id: &str,
-) -> Result<Vec<String>, AllocError>
-    ensures { IfOk result (λ all. map string_bytes all.items
-        ≡ map string_bytes texts.items ++ texts_in id.now (rows_of (found_of found.now))) }
-{
-    match found.get_strs(id) {
-        Some(more) => with_all(alloc, texts, more),
-        None => Ok(texts),
-    }
-}
-
-/// The texts, with these behind them.
-fn with_all(alloc: Global, mut texts: Vec<String>, more: &[&str]) -> Result<Vec<String>, AllocError>
-    ensures { IfOk result (λ all. map string_bytes all.items
-        ≡ map string_bytes texts.items ++ map (λ text. text.now) more.now) }
-{
-    for text in more {
-        texts.push(String::from_str(alloc, text)?)?;
-    }
-    Ok(texts)
 }
 
 /// Whether a flag is there.
@@ -505,65 +420,35 @@ fn has_flag(found: &ArgMatches<'_>, name: &str) -> bool
     }
 }
 
-/// The dump, if it has a name.
-fn dump_in(alloc: Global, found: &ArgMatches<'_>) -> Result<Option<Vec<String>>, AllocError>
-    ensures said { IfOk result (λ o. IfSome o (λ names. map (λ name. Some (string_bytes name)) names.items
-        ≡ first_of (codes "DUMP") (rows_of (found_of found.now)) ∷ [])) }
-    ensures found { HasName (codes "DUMP") (rows_of (found_of found.now)) → IfOk result (λ o. is_some o ≡ true) }
+/// The texts that the words have for an option or for files.
+fn texts_of(alloc: Global, found: &ArgMatches<'_>, id: &str) -> Result<Vec<String>, AllocError>
+    ensures { IfOk result (λ all. map string_bytes all.items ≡ texts_in id.now (rows_of (found_of found.now))) }
 {
-    match found.get_str("DUMP") {
-        Some(dump) => Ok(Some(with_name(alloc, Vec::new(alloc), dump)?)),
-        None => Ok(None),
+    match found.get_strs(id) {
+        Some(texts) => owned_texts(alloc, texts),
+        None => Ok(Vec::new(alloc)),
     }
 }
 
-/// The binding, the dump and the listing, if each has a name.
-fn all_names_in(alloc: Global, found: &ArgMatches<'_>) -> Result<Option<Vec<String>>, AllocError>
-    ensures found { HasConfirmation (rows_of (found_of found.now)) → IfOk result (λ o. is_some o ≡ true) }
-    ensures said { IfOk result (λ o. IfSome o (λ names. map (λ name. Some (string_bytes name)) names.items
-        ≡ names_in (rows_of (found_of found.now)) ++ first_of (codes "LISTING") (rows_of (found_of found.now)) ∷ [])) }
+/// These texts, in memory of their own.
+fn owned_texts(alloc: Global, texts: &[&str]) -> Result<Vec<String>, AllocError>
+    ensures { IfOk result (λ all. map string_bytes all.items ≡ map (λ text. text.now) texts.now) }
 {
-    let Some(listing) = found.get_str("LISTING") else {
-        return Ok(None);
-    };
-    match names_in(alloc, found)? {
-        Some(names) => Ok(Some(with_name(alloc, names, listing)?)),
-        None => Ok(None),
+    let mut all = Vec::new(alloc);
+    for text in texts {
+        all.push(String::from_str(alloc, text)?)?;
     }
+    Ok(all)
 }
 
-/// The names, with one more.
-fn with_name(alloc: Global, mut names: Vec<String>, name: &str) -> Result<Vec<String>, AllocError>
-    ensures { IfOk result (λ all. map (λ n. Some (string_bytes n)) all.items
-        ≡ map (λ n. Some (string_bytes n)) names.items ++ Some name.now ∷ []) }
-{
-    names.push(String::from_str(alloc, name)?)?;
-    Ok(names)
-}
-
-/// The binding and the dump, if both have names.
-fn names_in(alloc: Global, found: &ArgMatches<'_>) -> Result<Option<Vec<String>>, AllocError>
-    ensures said { IfOk result (λ o. IfSome o (λ names. map (λ name. Some (string_bytes name)) names.items
-        ≡ names_in (rows_of (found_of found.now)))) }
-    ensures found { HasNames (rows_of (found_of found.now)) → IfOk result (λ o. is_some o ≡ true) }
-{
-    let (Some(binding), Some(dump)) = (found.get_str("BINDING"), found.get_str("DUMP")) else {
-        return Ok(None);
-    };
-    let mut names = Vec::with_capacity(alloc, 2)?;
-    names.push(String::from_str(alloc, binding)?)?;
-    names.push(String::from_str(alloc, dump)?)?;
-    Ok(Some(names))
-}
-
-/// The number of an option, if it has one from 1 to the greatest.
-fn number(found: &ArgMatches<'_>, name: &str, greatest: u32) -> Option<u32>
+/// The number of an option, if it has one from the least to the greatest.
+fn number(found: &ArgMatches<'_>, name: &str, least: u32, greatest: u32) -> Option<u32>
     ensures value { IfSome result (λ n. number_in name.now (rows_of (found_of found.now)) ≡ Some n) }
-    ensures range { IfSome result (λ n. (1 ≤ n) × (n ≤ greatest)) }
-    ensures found { HasNumber name.now greatest (rows_of (found_of found.now)) → is_some result ≡ true }
+    ensures range { IfSome result (λ n. (least ≤ n) × (n ≤ greatest)) }
+    ensures found { HasNumber name.now least greatest (rows_of (found_of found.now)) → is_some result ≡ true }
 {
     match found.get_one::<u32>(name) {
-        Some(number) if 1 <= number && number <= greatest => Some(number),
+        Some(number) if least <= number && number <= greatest => Some(number),
         _ => None,
     }
 }
@@ -577,6 +462,21 @@ fn unsigned(found: &ArgMatches<'_>, name: &str, least: u64) -> Option<u64>
     match found.get_one::<u64>(name) {
         Some(number) if least <= number => Some(number),
         _ => None,
+    }
+}
+
+/// The same of an option that need not be there.
+fn unsigned_if_given(found: &ArgMatches<'_>, name: &str, least: u64) -> Option<Option<u64>>
+    ensures value { IfSome result (λ o. o ≡ number_in name.now (rows_of (found_of found.now))) }
+    ensures range { IfSome result (λ o. IfSome o (λ n. least ≤ n)) }
+    ensures found { MayHaveUnsigned name.now least (rows_of (found_of found.now)) → is_some result ≡ true }
+{
+    if found.get_str(name).is_none() {
+        return Some(None);
+    }
+    match unsigned(found, name, least) {
+        Some(number) => Some(Some(number)),
+        None => None,
     }
 }
 

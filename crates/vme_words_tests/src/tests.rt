@@ -1,7 +1,7 @@
 use std::alloc::{AllocError, Global};
 use std::process::Abort;
 use vme_words::words::order;
-use vme_words::{AuditWords, Order, OrderFault, Task, task_fault};
+use vme_words::{AuditOrder, JudgeOptions, Order, OrderFault, RecordingFiles, Task, task_fault};
 
 /// The words of a line, the program's name first.
 fn words_of(alloc: Global, line: &str) -> Result<Vec<String>, AllocError> {
@@ -30,345 +30,204 @@ fn joined(alloc: Global, texts: &[String]) -> Result<String, AllocError> {
     Ok(all)
 }
 
-/// Whether these are the texts, each with a space behind it.
-fn are_joined(alloc: Global, texts: &[String], wanted: &str) -> bool {
-    match joined(alloc, texts) {
-        Ok(all) => all.as_str() == wanted,
-        Err(_) => false,
+/// A word, or `-` where there is none.
+fn word_of(word: &Option<String>) -> &str {
+    match word {
+        Some(word) => word.as_str(),
+        None => "-",
     }
 }
 
-/// Lines, the task that each orders, its block and its workers, and its names, each with a space behind it.
-static ORDERS: [(&str, Task, (u32, u32), &str); 17] = [
+/// The files of a recording, in one line.
+fn files_line(alloc: Global, files: &RecordingFiles) -> Result<String, AllocError> {
+    format!(in alloc; "{} {}", files.binding.as_str(), files.dump.as_str())
+}
+
+/// How a recording is judged, in one line.
+fn options_line(alloc: Global, options: &JudgeOptions) -> Result<String, AllocError> {
+    format!(in alloc; "{} {} {}", options.block, options.workers, options.skew)
+}
+
+/// What an audit is told, in one line.
+fn audit_line(alloc: Global, order: &AuditOrder) -> Result<String, AllocError> {
+    let allowed = joined(alloc, order.allowed.as_slice())?;
+    let dumps = joined(alloc, order.dumps.as_slice())?;
+    format!(in alloc;
+        "audit {} {:?} {} {} {} {} {} allow {} of {}",
+        order.transfers,
+        order.stop,
+        order.skew,
+        order.workers,
+        order.is_quiet,
+        word_of(&order.junit),
+        order.binding.as_str(),
+        allowed.as_str(),
+        dumps.as_str()
+    )
+}
+
+/// An order on the recording of a binding and a dump, in one line.
+fn recording_line(alloc: Global, order: &Order) -> Result<String, AllocError> {
+    match order {
+        Order::Check(order) => {
+            let options = options_line(alloc, &order.options)?;
+            let files = files_line(alloc, &order.recording)?;
+            format!(in alloc; "check {} {}", options.as_str(), files.as_str())
+        }
+        Order::List(order) => {
+            let options = options_line(alloc, &order.options)?;
+            let files = files_line(alloc, &order.recording)?;
+            format!(in alloc;
+                "list {} {} {}",
+                options.as_str(),
+                files.as_str(),
+                order.has_times
+            )
+        }
+        Order::Confirm(order) => {
+            let files = files_line(alloc, &order.recording)?;
+            let listing = order.listing.as_str();
+            format!(in alloc; "confirm {} {} {}", order.skew, files.as_str(), listing)
+        }
+        Order::Explain(order) => {
+            let files = files_line(alloc, &order.recording)?;
+            let (viewer, picture) = (word_of(&order.viewer), word_of(&order.picture));
+            format!(in alloc;
+                "explain {viewer} {picture} {} {}",
+                order.skew,
+                files.as_str()
+            )
+        }
+        Order::Annotate(order) => {
+            let files = files_line(alloc, &order.recording)?;
+            format!(in alloc; "annotate {} {}", order.skew, files.as_str())
+        }
+        Order::Part(order) => {
+            let files = files_line(alloc, &order.recording)?;
+            format!(in alloc;
+                "part {} {} {}",
+                order.number,
+                order.listing,
+                files.as_str()
+            )
+        }
+        _ => Ok(String::new(alloc)),
+    }
+}
+
+/// An order in one line.
+fn line_of(alloc: Global, order: &Order) -> Result<String, AllocError> {
+    match order {
+        Order::Audit(order) => audit_line(alloc, order),
+        Order::Rules(order) => format!(in alloc; "rules {}", word_of(&order.rule)),
+        Order::Faults(order) => format!(in alloc; "faults {}", word_of(&order.kind)),
+        Order::Variables(order) => format!(in alloc; "variables {}", order.dump.as_str()),
+        Order::Bind(order) => {
+            let scope = word_of(&order.scope);
+            format!(in alloc; "bind {:?} {scope} {}", order.slots, order.dump.as_str())
+        }
+        Order::Join(order) => {
+            let parts = joined(alloc, order.parts.as_slice())?;
+            format!(in alloc; "join {}", parts.as_str())
+        }
+        Order::Tell(order) => {
+            let parts = joined(alloc, order.parts.as_slice())?;
+            format!(in alloc;
+                "tell {} {:?} {}",
+                order.listing,
+                order.file_count,
+                parts.as_str()
+            )
+        }
+        _ => recording_line(alloc, order),
+    }
+}
+
+/// Lines, and the order of each in one line: what is told comes in the order of the fields, but for the names of files.
+static ORDERS: [(&str, &str); 37] = [
     (
         "vmecheck check --block 5 --workers 3 B V",
-        Task::Check,
-        (5, 3),
-        "B V ",
+        "check 5 3 0 B V",
     ),
-    ("vmecheck check B V", Task::Check, (16384, 4), "B V "),
+    ("vmecheck check B V", "check 16384 4 0 B V"),
+    ("vmecheck check --skew 3 B V", "check 16384 4 3 B V"),
     (
         "vmecheck list B --block=65536 V --workers=64",
-        Task::List,
-        (65536, 64),
-        "B V ",
+        "list 65536 64 0 B V false",
+    ),
+    ("vmecheck list B V --skew=0", "list 16384 4 0 B V false"),
+    ("vmecheck list --times B V", "list 16384 4 0 B V true"),
+    ("vmecheck list B V --block 5 --times", "list 5 4 0 B V true"),
+    ("vmecheck confirm B V L", "confirm 0 B V L"),
+    (
+        "vmecheck confirm --skew 18446744073709551615 B V L",
+        "confirm 18446744073709551615 B V L",
+    ),
+    ("vmecheck rules", "rules -"),
+    ("vmecheck rules H4", "rules H4"),
+    ("vmecheck faults", "faults -"),
+    ("vmecheck faults BadVar", "faults BadVar"),
+    ("vmecheck variables V", "variables V"),
+    ("vmecheck bind V", "bind None - V"),
+    ("vmecheck bind V --slots 21", "bind Some(21) - V"),
+    ("vmecheck bind --slots 1 V", "bind Some(1) - V"),
+    ("vmecheck bind --scope top.bus V", "bind None top.bus V"),
+    ("vmecheck bind V --scope=2 --slots=3", "bind Some(3) 2 V"),
+    ("vmecheck bind --scope= V", "bind None  V"),
+    ("vmecheck explain B V", "explain - - 0 B V"),
+    ("vmecheck explain --gtkw=F B V", "explain F - 0 B V"),
+    ("vmecheck explain --svg P B V", "explain - P 0 B V"),
+    (
+        "vmecheck explain --skew 007 --svg=P --gtkw F B V",
+        "explain F P 7 B V",
+    ),
+    ("vmecheck annotate B V", "annotate 0 B V"),
+    ("vmecheck annotate --skew 2 B V", "annotate 2 B V"),
+    ("vmecheck part B V", "part 0 false B V"),
+    ("vmecheck part --number 3 --listing B V", "part 3 true B V"),
+    (
+        "vmecheck part B --number=4294967295 V",
+        "part 4294967295 false B V",
+    ),
+    ("vmecheck join P", "join P "),
+    ("vmecheck join P Q P", "join P Q P "),
+    ("vmecheck tell P", "tell false None P "),
+    ("vmecheck tell --list P Q", "tell true None P Q "),
+    ("vmecheck tell P --files 2 Q", "tell false Some(2) P Q "),
+    (
+        "vmecheck audit B V",
+        "audit 1 None 0 4 false - B allow  of V ",
     ),
     (
-        "vmecheck confirm B V L",
-        Task::Confirm,
-        (16384, 4),
-        "B V L ",
+        "vmecheck audit --allow H4 B V --quiet --stop 2 - --allow=C2=AS W --junit=F --workers 64",
+        "audit 1 Some(2) 0 64 true F B allow H4 C2=AS  of V - W ",
     ),
-    ("vmecheck rules", Task::Rules, (16384, 4), ""),
-    ("vmecheck rules H4", Task::Rules, (16384, 4), "H4 "),
-    ("vmecheck faults", Task::Faults, (16384, 4), ""),
     (
-        "vmecheck faults BadVar",
-        Task::Faults,
-        (16384, 4),
-        "BadVar ",
+        "vmecheck audit --transfers 18446744073709551615 --skew=7 --stop=1 -- B --quiet",
+        "audit 18446744073709551615 Some(1) 7 4 false - B allow  of --quiet ",
     ),
-    ("vmecheck variables V", Task::Variables, (16384, 4), "V "),
-    ("vmecheck bind V", Task::Bind, (16384, 4), "V "),
-    (
-        "vmecheck bind V --slots 21",
-        Task::Bind,
-        (16384, 4),
-        "V 21 ",
-    ),
-    ("vmecheck explain B V", Task::Explain, (16384, 4), "B V "),
-    ("vmecheck annotate B V", Task::Annotate, (16384, 4), "B V "),
-    ("vmecheck list --times B V", Task::List, (16384, 4), "B V "),
-    (
-        "vmecheck explain --gtkw=F B V",
-        Task::Explain,
-        (16384, 4),
-        "B V F ",
-    ),
-    ("vmecheck join P", Task::Join, (16384, 4), "P "),
-    ("vmecheck join P Q P", Task::Join, (16384, 4), "P Q P "),
 ];
 
-/// Whether a line orders this, and no skew.
-fn is_ordered(alloc: Global, line: &str, command: Task, numbers: (u32, u32), names: &str) -> bool {
+/// Whether the arguments of a line give this order.
+fn is_ordered(alloc: Global, line: &str, wanted: &str) -> bool {
     match order_of(alloc, line) {
-        Ok(order) => {
-            order.command == command
-                && (order.block, order.workers) == numbers
-                && order.skew == 0
-                && are_joined(alloc, &order.names, names)
-        }
+        Ok(order) => match line_of(alloc, &order) {
+            Ok(text) => text.as_str() == wanted,
+            Err(_) => false,
+        },
         Err(_) => false,
     }
 }
 
 #[test]
 fn orders(rt: HostRuntime) {
-    for (line, command, numbers, names) in ORDERS.iter() {
-        assert!(rt;
-            is_ordered(rt.alloc(), line, *command, *numbers, names),
-            "{line}"
-        );
-    }
-}
-
-/// Lines, and whether each asks for times.
-static TIMES: [(&str, bool); 4] = [
-    ("vmecheck list --times B V", true),
-    ("vmecheck list B V --block 5 --times", true),
-    ("vmecheck list B V", false),
-    ("vmecheck check B V", false),
-];
-
-/// Whether a line is an order that asks for times, or one that doesn't.
-fn asks_for_times(alloc: Global, line: &str, has_times: bool) -> bool {
-    match order_of(alloc, line) {
-        Ok(order) => order.has_times == has_times,
-        Err(_) => false,
-    }
-}
-
-#[test]
-fn times_are_ordered(rt: HostRuntime) {
-    for (line, has_times) in TIMES.iter() {
-        assert!(rt; asks_for_times(rt.alloc(), line, *has_times), "{line}");
-    }
-}
-
-/// Lines on parts, the task that each orders, the number of the file, whether a listing is wanted, how many files there
-/// are, and its names.
-static PARTS: [(&str, Task, (u64, bool, Option<u64>), &str); 6] = [
-    ("vmecheck part B V", Task::Part, (0, false, None), "B V "),
-    (
-        "vmecheck part --number 3 --listing B V",
-        Task::Part,
-        (3, true, None),
-        "B V ",
-    ),
-    (
-        "vmecheck part B --number=18446744073709551615 V",
-        Task::Part,
-        (u64::MAX, false, None),
-        "B V ",
-    ),
-    ("vmecheck tell P", Task::Tell, (0, false, None), "P "),
-    (
-        "vmecheck tell --list P Q",
-        Task::Tell,
-        (0, true, None),
-        "P Q ",
-    ),
-    (
-        "vmecheck tell P --files 2 Q",
-        Task::Tell,
-        (0, false, Some(2)),
-        "P Q ",
-    ),
-];
-
-/// Whether a line orders this of parts.
-fn is_of_parts(
-    alloc: Global,
-    line: &str,
-    command: Task,
-    told: (u64, bool, Option<u64>),
-    names: &str,
-) -> bool {
-    match order_of(alloc, line) {
-        Ok(order) => {
-            order.command == command
-                && order
-                    .part
-                    .is_some_and(|words| (words.number, words.listing, words.files) == told)
-                && are_joined(alloc, &order.names, names)
-        }
-        Err(_) => false,
-    }
-}
-
-#[test]
-fn parts_are_ordered(rt: HostRuntime) {
-    for (line, command, told, names) in PARTS.iter() {
-        assert!(rt;
-            is_of_parts(rt.alloc(), line, *command, *told, names),
-            "{line}"
-        );
-    }
-}
-
-/// Lines, the transfers, the skew and the workers of each, where it stops, whether it is quiet, and its names, what it
-/// allows and its path of a report.
-static AUDITS: [(&str, (u64, u64, u32), Option<u64>, bool, (&str, &str, &str)); 3] = [
-    (
-        "vmecheck audit B V",
-        (1, 0, 4),
-        None,
-        false,
-        ("B V ", "", "none"),
-    ),
-    (
-        "vmecheck audit --allow H4 B V --quiet --stop 2 - --allow=C2=AS W --junit=F --workers 64",
-        (1, 0, 64),
-        Some(2),
-        true,
-        ("B V - W ", "H4 C2=AS ", "F"),
-    ),
-    (
-        "vmecheck audit --transfers 18446744073709551615 --skew=7 --stop=1 -- B --quiet",
-        (u64::MAX, 7, 4),
-        Some(1),
-        false,
-        ("B --quiet ", "", "none"),
-    ),
-];
-
-/// Whether an order is of an audit with these transfers, this skew and so many workers.
-fn is_audit(order: &Order, numbers: (u64, u64, u32)) -> bool {
-    let (transfers, skew, workers) = numbers;
-    order.command == Task::Audit
-        && (order.skew, order.workers) == (skew, workers)
-        && order
-            .audit
-            .as_ref()
-            .is_some_and(|audit| audit.transfers == transfers)
-}
-
-/// Whether an audit is told to stop there, to be quiet, what it allows and where its report is written.
-fn is_told(
-    alloc: Global,
-    audit: &AuditWords,
-    stop: Option<u64>,
-    is_quiet: bool,
-    allowed: &str,
-    junit: &str,
-) -> bool {
-    let path = match &audit.junit {
-        Some(path) => path.as_str(),
-        None => "none",
-    };
-    (audit.stop, audit.is_quiet) == (stop, is_quiet)
-        && path == junit
-        && are_joined(alloc, &audit.allowed, allowed)
-}
-
-#[test]
-fn audits_are_ordered(rt: HostRuntime) {
-    for (line, numbers, stop, is_quiet, (names, allowed, junit)) in AUDITS.iter() {
-        let alloc = rt.alloc();
-        let holds = match order_of(alloc, line) {
-            Ok(order) => {
-                is_audit(&order, *numbers)
-                    && are_joined(alloc, &order.names, names)
-                    && order.audit.as_ref().is_some_and(|audit| is_told(
-                        alloc, audit, *stop, *is_quiet, allowed, junit,
-                    ))
-            }
-            Err(_) => false,
-        };
-        assert!(rt; holds, "{line}");
-    }
-}
-
-/// Lines, and the scope that each has.
-static SCOPES: [(&str, &str); 9] = [
-    ("vmecheck bind V", "none"),
-    ("vmecheck bind --slots 2 V", "none"),
-    ("vmecheck bind --scope top.bus V", "top.bus"),
-    ("vmecheck bind V --scope=2 --slots=3", "2"),
-    ("vmecheck bind --scope= V", ""),
-    ("vmecheck bind V --scope", "refused"),
-    ("vmecheck bind --scope a --scope b V", "refused"),
-    ("vmecheck check --scope a B V", "refused"),
-    ("vmecheck variables --scope a V", "refused"),
-];
-
-/// Lines, the file of the picture that each has, and how many names.
-static PICTURES: [(&str, &str, usize); 4] = [
-    ("vmecheck explain B V", "none", 2),
-    ("vmecheck explain --svg P B V", "P", 2),
-    ("vmecheck explain --svg=P --gtkw F B V", "P", 3),
-    ("vmecheck explain B V --gtkw F", "none", 3),
-];
-
-/// Whether a line has this file for the picture, `none` where it has none, and so many names.
-fn has_picture(alloc: Global, line: &str, wanted: &str, count: usize) -> bool {
-    match order_of(alloc, line) {
-        Ok(order) => {
-            let is_named = match &order.picture {
-                Some(path) => path.as_str() == wanted,
-                None => wanted == "none",
-            };
-            is_named && order.names.len() == count
-        }
-        Err(_) => false,
-    }
-}
-
-#[test]
-fn the_picture_is_a_word_of_its_own(rt: HostRuntime) {
-    for (line, wanted, count) in PICTURES.iter() {
-        assert!(rt; has_picture(rt.alloc(), line, wanted, *count), "{line}");
-    }
-}
-
-/// Whether a line has this scope: `none` where it has none, and `refused` where it is no order.
-fn has_scope(alloc: Global, line: &str, wanted: &str) -> bool {
-    match order_of(alloc, line) {
-        Ok(order) => match &order.scope {
-            Some(path) => path.as_str() == wanted,
-            None => wanted == "none",
-        },
-        Err(OrderFault::Usage(_error)) => wanted == "refused",
-        Err(OrderFault::Memory) => false,
-    }
-}
-
-#[test]
-fn scopes_are_ordered(rt: HostRuntime) {
-    for (line, wanted) in SCOPES.iter() {
-        assert!(rt; has_scope(rt.alloc(), line, wanted), "{line}");
-    }
-}
-
-/// Lines, and the skew that each has, if it is an order.
-static SKEWS: [(&str, Option<u64>); 14] = [
-    ("vmecheck check --skew 3 B V", Some(3)),
-    ("vmecheck list B V --skew=0", Some(0)),
-    (
-        "vmecheck confirm --skew 18446744073709551615 B V L",
-        Some(u64::MAX),
-    ),
-    ("vmecheck explain --skew 007 --gtkw F B V", Some(7)),
-    ("vmecheck check --skew 18446744073709551616 B V", None),
-    ("vmecheck check --skew ten B V", None),
-    ("vmecheck check --skew= B V", None),
-    ("vmecheck check --skew -1 B V", None),
-    ("vmecheck check --skew=-1 B V", None),
-    ("vmecheck check --skew 1.5 B V", None),
-    ("vmecheck check --skew 1 --skew 2 B V", None),
-    ("vmecheck check B V --skew", None),
-    ("vmecheck bind --skew 1 V", None),
-    ("vmecheck variables --skew 1 V", None),
-];
-
-/// Whether a line has this skew, or is no order where there is none.
-fn has_skew(alloc: Global, line: &str, skew: Option<u64>) -> bool {
-    match order_of(alloc, line) {
-        Ok(order) => skew == Some(order.skew),
-        Err(OrderFault::Usage(_error)) => skew.is_none(),
-        Err(OrderFault::Memory) => false,
-    }
-}
-
-#[test]
-fn skews_are_ordered(rt: HostRuntime) {
-    for (line, skew) in SKEWS.iter() {
-        assert!(rt; has_skew(rt.alloc(), line, *skew), "{line}");
+    for (line, wanted) in ORDERS.iter() {
+        assert!(rt; is_ordered(rt.alloc(), line, wanted), "{line}");
     }
 }
 
 /// Lines that are no orders, and whether each asks for help.
-static REFUSED: [(&str, bool); 52] = [
+static REFUSED: [(&str, bool); 67] = [
     ("vmecheck check --block 0 B V", false),
     ("vmecheck check --block 65537 B V", false),
     ("vmecheck check --workers 0 B V", false),
@@ -413,6 +272,21 @@ static REFUSED: [(&str, bool); 52] = [
     ("vmecheck tell", false),
     ("vmecheck tell --files 0 P", false),
     ("vmecheck tell --number 1 P", false),
+    ("vmecheck check --skew 18446744073709551616 B V", false),
+    ("vmecheck check --skew ten B V", false),
+    ("vmecheck check --skew= B V", false),
+    ("vmecheck check --skew -1 B V", false),
+    ("vmecheck check --skew=-1 B V", false),
+    ("vmecheck check --skew 1.5 B V", false),
+    ("vmecheck check --skew 1 --skew 2 B V", false),
+    ("vmecheck check B V --skew", false),
+    ("vmecheck bind --skew 1 V", false),
+    ("vmecheck variables --skew 1 V", false),
+    ("vmecheck bind V --scope", false),
+    ("vmecheck bind --scope a --scope b V", false),
+    ("vmecheck check --scope a B V", false),
+    ("vmecheck variables --scope a V", false),
+    ("vmecheck part --number 4294967296 B V", false),
     ("vmecheck help", true),
     ("vmecheck --version", true),
     ("vmecheck --help", true),

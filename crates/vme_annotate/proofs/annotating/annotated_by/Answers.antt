@@ -5,7 +5,7 @@ use Rattle.vcd_read.specs.Contents.{Contents}
 use Rattle.vme_answer.specs.declared.refusal.Refusal.{Refusal}
 use Rattle.vme_answer.proofs.AnswerLemmas.{dump_read-whole, dump_refused}
 use Rattle.vme_stream.specs.Inputs.{longest_input}
-use Rattle.vme_annotate.specs.Answers.{block_of}
+use Rattle.vme_commands.specs.declared.built_in.TheConstants.{BLOCK}
 use Rattle.vme_annotate.specs.Prepared.{GivesPrepared}
 use Rattle.vme_annotate.specs.TimedListings.{listed_in}
 use Rattle.vme_annotate.proofs.EndsLemmas.{refused_prepared, timed_refusal}
@@ -19,7 +19,7 @@ returns-in-Ok g c =
       Some text,
       c.in-Ok.ensures.bytes,
       subst (λ (read : Result Contents Refusal). GivesPrepared (Some text) c.annotated_in.result
-          (listed_in c.args.skew c.args.bound.now read block_of)) (sym (dump_read-whole text short))
+          (listed_in c.args.skew c.args.bound.now read BLOCK)) (sym (dump_read-whole text short))
           c.annotated_in.ensures,
     )
 
@@ -31,5 +31,5 @@ returns-in-Err g c =
       bytes,
       reading,
       refused_prepared bytes _ _ (timed_refusal _ _
-          (unread_by c.args.skew block_of bytes c.args.bound.now _ refused)),
+          (unread_by c.args.skew BLOCK bytes c.args.bound.now _ refused)),
     )

@@ -1,6 +1,6 @@
 use Rattle.std.proofs.Common.{subst, sym}
 use Rattle.vme_stream.proofs.InputLemmas.{unread}
-use Rattle.vme_annotate.specs.Answers.{block_of}
+use Rattle.vme_commands.specs.declared.built_in.TheConstants.{BLOCK}
 use Rattle.vme_annotate.specs.Prepared.{GivesPrepared}
 use Rattle.vme_annotate.proofs.EndsLemmas.{refused_prepared, timed_refusal}
 use Rattle.vme_annotate.proofs.ListedLemmas.{recording_is, unbound}
@@ -15,7 +15,7 @@ returns-in-Ok g c =
       binding_reading,
       dump_reading,
       subst (GivesPrepared dump c.annotated_by.result)
-          (sym (recording_is c.args.skew block_of binding dump c.in-Ok.bound bound_is)) given,
+          (sym (recording_is c.args.skew BLOCK binding dump c.in-Ok.bound bound_is)) given,
     )
 
 pub returns-in-Err : goal.returns-in-Err
@@ -27,5 +27,5 @@ returns-in-Err g c =
       binding_reading,
       left.1,
       refused_prepared left.0 c.in-Err.refusal _ (timed_refusal c.in-Err.refusal _
-          (unbound c.args.skew block_of binding left.0 c.in-Err.refusal refused)),
+          (unbound c.args.skew BLOCK binding left.0 c.in-Err.refusal refused)),
     )

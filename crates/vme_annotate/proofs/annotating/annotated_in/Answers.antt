@@ -1,7 +1,7 @@
 use Rattle.std.proofs.Common.{refl, subst, sym}
 use Rattle.std.specs.Prelude.{Err, Some}
 use Rattle.vme_answer.specs.declared.refusal.Refusal.{Refusal}
-use Rattle.vme_annotate.specs.Answers.{block_of}
+use Rattle.vme_commands.specs.declared.built_in.TheConstants.{BLOCK}
 use Rattle.vme_annotate.specs.Prepared.{GivesPrepared, recording_in}
 use Rattle.vme_annotate.proofs.EndsLemmas.{refused_prepared, timed_refusal}
 use Rattle.vme_annotate.proofs.RecordedLemmas.{defines, has_times, recorded}
@@ -19,7 +19,7 @@ added_to-requires c =
     let (t, is, timed) = rw c.deref.ensures.value at c.in-Ok.ensures in
     rw c.deref-2.ensures.value
     (defines c.args.skew c.args.bound.now c.args.text.items t
-    (recorded c.args.skew c.args.bound.now c.args.text.items block_of t is))
+    (recorded c.args.skew c.args.bound.now c.args.text.items BLOCK t is))
 
 pub returns-in-Err-added_to : goal.returns-in-Err-added_to
 returns-in-Err-added_to c =
@@ -34,7 +34,7 @@ returns-in-Ok-changes_of c =
       record {
         timed = timed;
         has_times = has_times c.args.skew c.args.bound.now c.args.text.items t
-            (recorded c.args.skew c.args.bound.now c.args.text.items block_of t is);
+            (recorded c.args.skew c.args.bound.now c.args.text.items BLOCK t is);
         planned = rw c.rows.ensures at c.in-Ok-changes_of.ensures;
         added = rw c.deref-2.ensures.value at c.in-Ok-added_to.ensures;
       },

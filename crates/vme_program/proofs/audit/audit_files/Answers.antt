@@ -5,9 +5,7 @@ use Rattle.vme_program.proofs.audit.audit_files.Goals as goal
 pub returns-in-Ok-clause-audited : goal.returns-in-Ok-clause-audited
 returns-in-Ok-clause-audited g c =
     inr (
-      c.in-Ok.words.now,
       c.as_slice-allowed.result.now,
-      c.in-Ok.ensures.words,
-      subst (AreAllowed c.in-Ok.words.now) (sym c.as_slice-allowed.ensures.value) c.in-Ok.ensures.allowed,
+      subst (AreAllowed c.args.order.now) (sym c.as_slice-allowed.ensures.value) c.in-Ok.ensures.allowed,
       c.audit_binding.ensures,
     )

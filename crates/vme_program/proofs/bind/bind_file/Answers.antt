@@ -1,4 +1,21 @@
+use Rattle.std.proofs.Common.{inl, inr}
+use Rattle.vme_answer.specs.declared.refusal.Input.TheVariants.{Dump}
+use Rattle.vme_program.proofs.Refusals.{tells_refused}
 use Rattle.vme_program.proofs.bind.bind_file.Goals as goal
 
-pub returns-in-Ok-clause-bound : goal.returns-in-Ok-clause-bound
-returns-in-Ok-clause-bound g c = (c.in-Ok.slots, c.in-Ok.ensures.told, c.bind_dump.ensures)
+pub returns-in-Some : goal.returns-in-Some
+returns-in-Some g c =
+    let (bytes, made, more, read, is_for, tells, ends) = c.bind.ensures in
+    inr (
+      (_, g.S.Reader.Source.reading c.bind.new.dump),
+      rw c.as_str.ensures.value at c.in-Some.ensures,
+      (_, bytes, made, more, c.scope_of.ensures, read, is_for, tells, ends),
+    )
+
+pub returns-in-None : goal.returns-in-None
+returns-in-None g c = inl (
+  rw c.as_str.ensures.value at c.in-None.ensures,
+  tells_refused Dump (g.O.Sink.writing c.args.out.now)
+      (g.E.Sink.writing c.args.err.now, g.E.Sink.writing c.refuse_input.new.err)
+      c.refuse_input.result c.refuse_input.ensures.told c.refuse_input.ensures.status,
+)

@@ -1,16 +1,22 @@
 use Rattle.std.proofs.Common.{inl, inr}
-use Rattle.vme_answer.specs.declared.refusal.Input.TheVariants.{Binding}
 use Rattle.vme_program.proofs.Refusals.{tells_refused}
 use Rattle.vme_program.proofs.explain.explain_files.Goals as goal
 
-pub returns-in-Some : goal.returns-in-Some
-returns-in-Some g c =
-    inr ((_, g.S.Reader.Source.reading c.explain_dump.new.binding), c.in-Some.ensures, c.explain_dump.ensures)
+pub returns-in-Ok : goal.returns-in-Ok
+returns-in-Ok g c =
+    inr (
+      (_, g.S.Reader.Source.reading c.explain_opened.new.binding),
+      (_, g.S.Reader.Source.reading c.explain_opened.new.dump),
+      c.in-Ok.ensures.binding,
+      c.in-Ok.ensures.dump,
+      c.explain_opened.ensures,
+    )
 
-pub returns-in-None : goal.returns-in-None
-returns-in-None g c = inl (
-  c.in-None.ensures,
-  tells_refused Binding (g.O.Sink.writing c.args.out.now)
+pub returns-in-Err : goal.returns-in-Err
+returns-in-Err g c = inl (
+  c.in-Err.input,
+  c.in-Err.ensures.unopened,
+  tells_refused c.in-Err.input (g.O.Sink.writing c.args.out.now)
       (g.E.Sink.writing c.args.err.now, g.E.Sink.writing c.refuse_input.new.err)
       c.refuse_input.result c.refuse_input.ensures.told c.refuse_input.ensures.status,
 )

@@ -11,7 +11,7 @@ returns-in-Ok g c =
     (g.O.Sink.writing c.args.out.now, g.O.Sink.writing c.write_joined.new.out)
     (g.E.Sink.writing c.args.err.now, g.E.Sink.writing c.write_joined.new.err)
     c.write_joined.result
-    (map string_bytes c.args.order.now.names.items)
+    (map string_bytes c.args.order.now.parts.items)
     (map (λ p. p.name.now) c.as_mut_slice.result.now)
     (map (λ p. g.S.Reader.Source.reading p.part) c.in-Ok.parts.items)
     (map (λ p. g.S.Reader.Source.reading p.part) c.as_mut_slice.result.now)

@@ -1,17 +1,16 @@
 use Rattle.std.proofs.Common.{◌∙◌, ap, map, string_bytes, subst}
-use Rattle.vme_program.specs.Parts.{TellsParts, asks_listing, files_told}
-use Rattle.vme_program.specs.Parts.{AreOpened}
+use Rattle.vme_program.specs.Parts.{AreOpened, TellsParts}
 use Rattle.vme_program.proofs.PartLemmas.{does_with}
 use Rattle.vme_program.proofs.parts.tell_files.Goals as goal
 
 pub returns-in-Ok : goal.returns-in-Ok
 returns-in-Ok g c =
     let opens = g.S.Environment.opens c.args.environment.now in
-    does_with opens (TellsParts (asks_listing c.args.order.now.part) (files_told c.args.order.now.part))
+    does_with opens (TellsParts c.args.order.now.listing c.args.order.now.file_count)
     (g.O.Sink.writing c.args.out.now, g.O.Sink.writing c.tell_opened.new.out)
     (g.E.Sink.writing c.args.err.now, g.E.Sink.writing c.tell_opened.new.err)
     c.tell_opened.result
-    (map string_bytes c.args.order.now.names.items)
+    (map string_bytes c.args.order.now.parts.items)
     (map (λ p. p.name.now) c.as_mut_slice.result.now)
     (map (λ p. g.S.Reader.Source.reading p.part) c.in-Ok.parts.items)
     (map (λ p. g.S.Reader.Source.reading p.part) c.as_mut_slice.result.now)

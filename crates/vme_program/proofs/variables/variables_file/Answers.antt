@@ -5,11 +5,15 @@ use Rattle.vme_program.proofs.variables.variables_file.Goals as goal
 
 pub returns-in-Some : goal.returns-in-Some
 returns-in-Some g c =
-    inr ((_, g.S.Reader.Source.reading c.tell_variables.new.dump), c.in-Some.ensures, c.tell_variables.ensures)
+    inr (
+      (_, g.S.Reader.Source.reading c.tell_variables.new.dump),
+      rw c.as_str.ensures.value at c.in-Some.ensures,
+      c.tell_variables.ensures,
+    )
 
 pub returns-in-None : goal.returns-in-None
 returns-in-None g c = inl (
-  c.in-None.ensures,
+  rw c.as_str.ensures.value at c.in-None.ensures,
   tells_refused Dump (g.O.Sink.writing c.args.out.now)
       (g.E.Sink.writing c.args.err.now, g.E.Sink.writing c.refuse_input.new.err)
       c.refuse_input.result c.refuse_input.ensures.told c.refuse_input.ensures.status,

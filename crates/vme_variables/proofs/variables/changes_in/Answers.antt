@@ -1,5 +1,5 @@
 use Rattle.vme_variables.specs.Counts.{counted, ended}
-use Rattle.vme_declarations.proofs.BodyLemmas.{taken-err, taken-ok}
+use Rattle.vme_variables.proofs.BodyLemmas.{taken-err, taken-ok}
 use Rattle.vme_variables.proofs.variables.changes_in.Goals as goal
 
 pub returns-in-Ok-clause-ok : goal.returns-in-Ok-clause-ok

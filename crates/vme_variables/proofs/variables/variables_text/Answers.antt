@@ -1,4 +1,4 @@
-use Rattle.vme_declarations.proofs.BodyLemmas.{head-fails, whole-err, whole-ok}
+use Rattle.vme_variables.proofs.BodyLemmas.{head-fails, whole-err, whole-ok}
 use Rattle.vme_variables.proofs.variables.variables_text.Goals as goal
 
 pub returns-in-Ok-clause-ok : goal.returns-in-Ok-clause-ok

@@ -1,7 +1,7 @@
 use Rattle.std.specs.Prelude.{codes}
 use Rattle.clap.specs.Words.{new_app}
-use Rattle.vme_words.specs.Commands.{allow_rule, file_rule, files_rule, flag_rule, number_rule, skew_rule, stop_rule}
-use Rattle.vme_words.specs.Commands.{transfers_rule, word_rule}
+use Rattle.vme_words.specs.Commands.{allow_rule, file_rule, files_rule, flag_rule, skew_rule, stop_rule}
+use Rattle.vme_words.specs.Commands.{transfers_rule, word_rule, workers_rule}
 use Rattle.vme_words.proofs.command.audit_command.Goals as goal
 
 pub returns : goal.returns
@@ -12,7 +12,7 @@ returns c =
     c.allow_option.ensures.rule c.allow_option.ensures.local in
     let stop = c.with_arg-command-3.ensures _ stop_rule allow c.stop_option.ensures.rule c.stop_option.ensures.local in
     let skew = c.with_arg-command-4.ensures _ skew_rule stop c.skew_option.ensures.rule c.skew_option.ensures.local in
-    let workers = c.with_arg-command-5.ensures _ (number_rule (codes "workers") 64 (codes "4")) skew
+    let workers = c.with_arg-command-5.ensures _ workers_rule skew
     c.workers_option.ensures.rule c.workers_option.ensures.local in
     let quiet = c.with_arg-command-6.ensures _ (flag_rule (codes "quiet")) workers
     c.quiet_flag.ensures.rule c.quiet_flag.ensures.local in

@@ -22,7 +22,7 @@ pub returns-in_default-clause-found : goal.returns-in_default-clause-found
 returns-in_default-clause-found c has =
     let got = number_there _ (λ bs r. ParsesUnsigned 32 10 bs r × ExplainsUnsignedError 10 bs r × HasUnsignedDigitsIfOk
     bs r) c.args.found.now c.args.name.now
-    c.args.greatest c.get_one.result has c.ranges.greatest.fits c.get_one.ensures.value (λ t x h. h.0) in
+    c.args.least c.args.greatest c.get_one.result has c.ranges.greatest.fits c.get_one.ensures.value (λ t x h. h.0) in
     let same = number_is c.get_one.result got.0 c.in-Some.number got.1 c.in-Some.is in
     absurd (omega (arith, got.3, same, c.if-number-greatest.false))
 
@@ -30,13 +30,13 @@ pub returns-in_default-2-clause-found : goal.returns-in_default-2-clause-found
 returns-in_default-2-clause-found c has =
     let got = number_there _ (λ bs r. ParsesUnsigned 32 10 bs r × ExplainsUnsignedError 10 bs r × HasUnsignedDigitsIfOk
     bs r) c.args.found.now c.args.name.now
-    c.args.greatest c.get_one.result has c.ranges.greatest.fits c.get_one.ensures.value (λ t x h. h.0) in
+    c.args.least c.args.greatest c.get_one.result has c.ranges.greatest.fits c.get_one.ensures.value (λ t x h. h.0) in
     let same = number_is c.get_one.result got.0 c.in-Some.number got.1 c.in-Some.is in
-    absurd (omega (arith, got.2, same, c.if-number-ge1.false))
+    absurd (omega (arith, got.2, same, c.if-least-number.false))
 
 pub returns-in_default-3-clause-found : goal.returns-in_default-3-clause-found
 returns-in_default-3-clause-found c has =
     let got = number_there _ (λ bs r. ParsesUnsigned 32 10 bs r × ExplainsUnsignedError 10 bs r × HasUnsignedDigitsIfOk
     bs r) c.args.found.now c.args.name.now
-    c.args.greatest c.get_one.result has c.ranges.greatest.fits c.get_one.ensures.value (λ t x h. h.0) in
+    c.args.least c.args.greatest c.get_one.result has c.ranges.greatest.fits c.get_one.ensures.value (λ t x h. h.0) in
     absurd (none_is c.get_one.result got.0 got.1 c.in_default.is)

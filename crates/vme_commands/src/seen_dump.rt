@@ -1,0 +1,74 @@
+//! What is kept of a dump that is read piece by piece, for what is shown of it where it is refused.
+
+use std::alloc::{AllocError, Global};
+use vcd_read::VcdFault;
+use vme_faults::FileKind;
+use vme_kept_lines::KeptLines;
+
+/// What was seen of a dump.
+#[derive(Drop)]
+pub(crate) struct SeenDump {
+    lines: KeptLines,
+    /// What kind of file it is, by the first bytes, once some were seen.
+    kind: Option<Option<FileKind>>,
+    is_stopped: bool,
+}
+
+impl SeenDump {
+    /// Before the first byte.
+    pub fn new(alloc: Global) -> SeenDump {
+        SeenDump {
+            lines: KeptLines::new(alloc),
+            kind: None,
+            is_stopped: false,
+        }
+    }
+
+    /// Passes over some bytes that were taken, with the first fault so far, if there is one. The only error is want of
+    /// memory.
+    pub fn pass(
+        &mut self,
+        alloc: Global,
+        bytes: &[u8],
+        fault: Option<VcdFault>,
+    ) -> Result<(), AllocError> {
+        if bytes.is_empty() {
+            return Ok(());
+        }
+        match fault {
+            Some(fault) => self.stop(fault, bytes),
+            None => {
+                self.see(bytes);
+                self.lines.pass(alloc, bytes)
+            }
+        }
+    }
+
+    /// Stops at the first fault of the dump, in these bytes or at their end; or goes on in its line. The only error is
+    /// want of memory.
+    pub fn stop(&mut self, fault: VcdFault, bytes: &[u8]) -> Result<(), AllocError> {
+        self.see(bytes);
+        if self.is_stopped {
+            return self.lines.go_on(bytes);
+        }
+        self.is_stopped = true;
+        self.lines.stop(fault.line, bytes)
+    }
+
+    /// Looks at the first bytes.
+    fn see(&mut self, bytes: &[u8]) {
+        if self.kind.is_none() {
+            self.kind = Some(FileKind::of(bytes));
+        }
+    }
+
+    /// The line of the fault.
+    pub fn line(&self) -> &[u8] {
+        self.lines.faulty()
+    }
+
+    /// What kind of file the dump is, if its first bytes show it.
+    pub fn kind(&self) -> Option<FileKind> {
+        self.kind.unwrap_or(None)
+    }
+}

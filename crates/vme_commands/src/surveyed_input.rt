@@ -1,0 +1,55 @@
+//! A dump that is surveyed as it is read.
+
+ghost use Rattle.std.specs.Prelude.{◌≡◌, ◌≤◌, ℕ, List, Result, IfOk, length, take};
+ghost use Rattle.vcd_read.specs.declared.fault.VcdFault.{VcdFault};
+ghost use Rattle.vme_declarations.specs.SurveyStages.{survey_ahead};
+ghost use Rattle.vme_declarations.specs.Surveys.{Survey, survey_of};
+ghost use Rattle.vme_stream.specs.ByteConsumers.{ContinuesAs};
+
+use crate::seen_dump::SeenDump;
+use std::alloc::{AllocError, Global};
+use vme_declarations::DumpSurvey;
+use vme_stream::ByteConsumer;
+
+/// A dump that is surveyed, and what is kept of it for what is shown where it is refused.
+#[derive(Drop)]
+pub(crate) struct SurveyedInput {
+    pub survey: DumpSurvey,
+    pub seen: SeenDump,
+}
+
+impl SurveyedInput {
+    /// Before the first byte.
+    pub fn new(alloc: Global) -> SurveyedInput
+        ensures { (rest : List ℕ) → survey_ahead result.survey rest ≡ survey_of rest }
+    {
+        SurveyedInput {
+            survey: DumpSurvey::new(),
+            seen: SeenDump::new(alloc),
+        }
+    }
+
+    /// Takes some of the first of these bytes, and says how many.
+    pub fn take(self, alloc: Global, bytes: &[u8]) -> Result<(SurveyedInput, usize), AllocError>
+        ensures within { IfOk result (λ made. made.1 ≤ length bytes.now) }
+        ensures taken { IfOk result (λ made. ContinuesAs (survey_ahead self.survey) (survey_ahead made.0.survey)
+            (take made.1 bytes.now)) }
+    {
+        let SurveyedInput { survey, seen } = self;
+        let mut seen = seen;
+        let (survey, count) = survey.take(alloc, bytes)?;
+        seen.pass(alloc, &bytes[..count], survey.fault())?;
+        Ok((SurveyedInput { survey, seen }, count))
+    }
+}
+
+impl ByteConsumer for SurveyedInput {
+    ghost use Rattle.std.specs.Prelude.{Result};
+    ghost use Rattle.vcd_read.specs.declared.fault.VcdFault.{VcdFault};
+    ghost use Rattle.vme_declarations.specs.Surveys.{Survey};
+    ghost use Rattle.vme_declarations.specs.SurveyStages.{survey_ahead};
+
+    ghost Outcome = { Result Survey VcdFault };
+
+    ghost ahead = { λ u. survey_ahead u.survey };
+}

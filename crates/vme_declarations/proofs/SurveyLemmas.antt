@@ -1,0 +1,276 @@
+-- A dump that is surveyed piece by piece.
+use Rattle.std.proofs.Common.{◌≡◌, ◌+◌, ℕ, false, List, [], ◌∷◌, ◌++◌, length, None, Result, Ok, Err}
+use Rattle.std.proofs.Common.{refl, sym, ap, subst}
+use Rattle.std.proofs.Common.{◌∙◌, append-nil, arith, length-append}
+use Rattle.vcd_read.specs.Body.{body_from, ready}
+use Rattle.vcd_read.specs.Fronts.{going_on}
+use Rattle.vcd_read.specs.Header.{◌>>=◌, appended, nothing_declared}
+use Rattle.vcd_read.specs.Meaning.{ReadFails, ReadFailsAs, dump_of, instants_from}
+use Rattle.vcd_read.specs.Reached.{Reached, rest_of}
+use Rattle.vcd_read.specs.Reading.{line_behind}
+use Rattle.vcd_read.specs.Sections.{Defined, Headed, defined, header_of}
+use Rattle.vcd_read.specs.Taking.{State, at_end, state_at, steps, taken_from}
+use Rattle.vcd_read.specs.Tokens.{Token, tokens, tokens_from}
+use Rattle.vcd_read.specs.declared.dump.Instant.{Instant}
+use Rattle.vcd_read.specs.declared.dump.Variable.{Variable}
+use Rattle.vcd_read.specs.declared.fault.FaultKind.{FaultKind}
+use Rattle.vcd_read.specs.declared.fault.FaultKind.TheVariants.{Memory}
+use Rattle.vcd_read.specs.declared.fault.VcdFault.{VcdFault}
+use Rattle.vcd_read.proofs.DefinedLemmas.{header_taken, taken_head}
+use Rattle.vcd_read.proofs.DumpLemmas.{contents_behind, dump_behind, dump_of-header, with_variables}
+use Rattle.vcd_read.proofs.FrontLemmas.{found-front}
+use Rattle.vcd_read.proofs.ReadLemmas.{fails_first}
+use Rattle.vcd_read.proofs.TakingLemmas.{Current, Ends, Follows, fails-followed, gives-followed, taken-follows}
+use Rattle.vme_declarations.specs.Surveys.{EndsBetweenTokens, IsSurveyOf, Survey, body_ahead, count_ahead, count_behind}
+use Rattle.vme_declarations.specs.Surveys.{counted, definitions_of, is_want_of_memory, survey_of, uncounted}
+use Rattle.vme_declarations.specs.Surveys.{variables_by, variables_in, with_count}
+use Rattle.vme_declarations.proofs.HeaderLemmas.{is-taken}
+
+-- ---- faults
+
+-- a fault that is no want of memory is what reading gives
+pub told-is : {X : Type 0} (fault : VcdFault) (r : Result X VcdFault) → is_want_of_memory fault.kind ≡ false
+    → ReadFails fault r → r ≡ Err fault
+told-is {X = X} fault r told fails = by_kind fault.line fault.kind told fails
+  where
+    by_kind : (line : ℕ) (kind : FaultKind) → is_want_of_memory kind ≡ false → ReadFailsAs line kind r
+        → r ≡ Err (record { line = line; kind = kind })
+    by_kind line Memory told fails = absurd (cc told)
+    by_kind line kind told fails = fails
+
+-- a fault stays, whatever comes of what is read
+fails_back : {X Y : Type 0} (line : ℕ) (kind : FaultKind) (r : Result X VcdFault) (f : X → Y) → ReadFailsAs line kind
+    (r >>= λ x. Ok (f x)) → ReadFailsAs line kind r
+fails_back line Memory r f h = h
+fails_back line kind (Ok x) f h = absurd (cc h)
+fails_back line kind (Err fault) f h = let same : fault ≡ record { line = line; kind = kind } = cc h in ap Err same
+
+fails_alike : (X Y : Type 0) (line : ℕ) (kind : FaultKind) (fault : VcdFault)
+    → ReadFailsAs {Y = X} line kind (Err fault) → ReadFailsAs {Y = Y} line kind (Err fault)
+fails_alike X Y line Memory fault h = h
+fails_alike X Y line kind fault h = let same : fault ≡ record { line = line; kind = kind } = cc h in ap Err same
+
+-- ---- the whole text
+
+-- what comes of a variable that is passed over
+abbrev pub passed : Unit {0} → Variable → Unit {0}
+passed none variable = none
+
+abbrev pub header : List ℕ → List Token → Result (Defined (Unit {0})) VcdFault
+header text ts = header_of passed text (nothing_declared tt) ts
+
+abbrev surveyed : Defined (List Variable) → Result Survey VcdFault
+surveyed d = with_count d.variables (count_behind d)
+
+-- a fault of the definitions is one of the survey
+pub definitions-fail : (text : List ℕ) (fault : VcdFault) → ReadFails fault (header text (tokens text))
+    → ReadFails fault (survey_of text)
+unfolding survey_of
+definitions-fail text fault fails =
+    let own = fails_back fault.line fault.kind (definitions_of text) (taken_head passed tt)
+    (subst (ReadFails fault) (header_taken passed text tt) fails) in
+    fails_first fault (definitions_of text) surveyed (survey_of text) refl own
+
+pub behind-counts : (text : List ℕ) (h : Headed) (n : ℕ) → header text (tokens text) ≡ Ok (defined h tt)
+    → taken_from uncounted counted h.nets 0 h.body ≡ Ok n
+    → survey_of text ≡ Ok (record { variables = variables_in text; instants = n })
+unfolding survey_of
+behind-counts text h n is counts =
+    let taken = is-taken passed text h tt tt is in
+    ap (λ (r : Result (Defined (List Variable)) VcdFault). r >>= surveyed) taken.1
+    ∙ ap (with_count taken.0) counts
+    ∙ ap (λ (vs : List Variable). Ok (record { variables = vs; instants = n })) (sym (ap variables_by taken.1))
+
+pub behind-fails : (text : List ℕ) (h : Headed) (fault : VcdFault) → header text (tokens text) ≡ Ok (defined h tt)
+    → ReadFails fault (taken_from uncounted counted h.nets 0 h.body) → ReadFails fault (survey_of text)
+unfolding survey_of
+behind-fails text h fault is fails =
+    let taken = is-taken passed text h tt tt is in
+    fails_first fault (taken_from uncounted counted h.nets 0 h.body)
+    (λ n. Ok (record { variables = taken.0; instants = n })) (survey_of text)
+    (ap (λ (r : Result (Defined (List Variable)) VcdFault). r >>= surveyed) taken.1) fails
+
+-- ---- the dump
+
+-- so many instants are behind
+abbrev Counts : List Instant → Current → ℕ → Type 0
+Counts done current n = length done ≡ n
+
+one_more : (done : List Instant) (n : ℕ) (x : Instant) → length done ≡ n → length (done ++ x ∷ []) ≡ n + 1
+one_more done n x e = omega (arith, e, length-append done (x ∷ []))
+
+follows : (h : Headed) → Follows (Ends Counts) (instants_from h.nets h.body)
+    (taken_from uncounted counted h.nets 0 h.body)
+follows h = taken-follows uncounted counted h.nets Counts (λ done current n net bits lt counts. counts)
+    (λ done current n time counts. one_more done n _ counts) h.body 0 refl
+
+count_ok : (variables : List Variable) (r : Result ℕ VcdFault) (survey : Survey) → with_count variables r ≡ Ok survey
+    → (variables ≡ survey.variables) × (r ≡ Ok survey.instants)
+count_ok variables (Ok n) survey e =
+    let same : record { variables = variables; instants = n } ≡ survey = cc e in
+    (ap (λ (s : Survey). s.variables) same, ap (λ (s : Survey). Ok s.instants) same)
+count_ok variables (Err fault) survey e = absurd (cc e)
+
+pub is-of-dump : (text : List ℕ) (survey : Survey) → survey_of text ≡ Ok survey → IsSurveyOf survey text
+unfolding survey_of
+is-of-dump text survey e = by_case (definitions_of text) refl e
+  where
+    by_case : (r : Result (Defined (List Variable)) VcdFault) → definitions_of text ≡ r → (r >>= surveyed) ≡ Ok survey
+        → IsSurveyOf survey text
+    by_case (Ok d) is made =
+        let (same, counts) = count_ok d.variables (count_behind d) survey made in
+        let gives = gives-followed (Ends Counts) (instants_from d.head.nets d.head.body) (count_behind d)
+        survey.instants (follows d.head) counts in (
+          record { variables = d.variables; instants = gives.0 },
+          dump_behind text d is
+              ∙ ap (λ (r : Result (List Instant) VcdFault). r >>= with_variables d.variables) gives.1,
+          same,
+          gives.2.1,
+        )
+    by_case (Err fault) is made = absurd (cc made)
+
+pub fails-of-dump : (text : List ℕ) (fault : VcdFault) → ReadFails fault (survey_of text) → ReadFails fault
+    (dump_of text)
+unfolding survey_of
+fails-of-dump text fault fails =
+    subst (ReadFails fault) (sym (dump_of-header text)) (by_case (definitions_of text) fails)
+  where
+    count_fails : (line : ℕ) (kind : FaultKind) (variables : List Variable) (r : Result ℕ VcdFault)
+        → ReadFailsAs line kind (with_count variables r) → ReadFailsAs line kind r
+    count_fails line kind variables r h = fails_back line kind r
+        (λ (n : ℕ). record { variables = variables; instants = n }) h
+
+    by_case : (r : Result (Defined (List Variable)) VcdFault) → ReadFails fault (r >>= surveyed)
+        → ReadFails fault (r >>= contents_behind)
+    by_case (Ok d) h =
+        fails_first fault (instants_from d.head.nets d.head.body) (with_variables d.variables) (contents_behind d) refl
+        (fails-followed (Ends Counts) (instants_from d.head.nets d.head.body) (count_behind d) fault (follows d.head)
+        (count_fails fault.line fault.kind d.variables (count_behind d) h))
+    by_case (Err first) h = fails_alike _ _ fault.line fault.kind first h
+
+-- ---- piece by piece
+
+abbrev ends_as : Result (State ℕ) VcdFault → Result ℕ VcdFault
+ends_as r = r >>= at_end counted
+
+module _ (r : Reached ℕ) where
+  -- what comes of these tokens
+  abbrev comes_of : List Token → Result ℕ VcdFault
+  comes_of ts = ends_as (steps uncounted counted r.nets (state_at r.progress r.bracket) (body_from r.place ts))
+
+  -- these tokens and more, of a piece and what follows it
+  parts : (piece rest : List ℕ) → EndsBetweenTokens piece → count_ahead r (piece ++ rest)
+      ≡ ends_as (rest_of uncounted counted r (tokens_from r.line piece) (tokens_from (line_behind r.line piece) rest))
+  parts piece rest ends = ap comes_of (append-nil (tokens_from r.line (piece ++ rest)) ∙ ends r.line rest)
+
+  later : (line : ℕ) (rest : List ℕ) → r.line ≡ line
+      → ends_as (rest_of uncounted counted r [] (tokens_from line rest)) ≡ count_ahead r rest
+  later line rest is =
+      ap (λ (l : ℕ). comes_of (tokens_from l rest)) (sym is) ∙ ap comes_of (sym (append-nil (tokens_from r.line rest)))
+
+-- what was read to leaves what comes of the body
+abbrev pub Leads : Reached ℕ → List Token → Reached ℕ → Type 0
+Leads r ts r2 = (more : List Token) → rest_of uncounted counted r ts more ≡ rest_of uncounted counted r2 [] more
+
+abbrev pub FailsAhead : VcdFault → Reached ℕ → List Token → Type 0
+FailsAhead fault r ts = (more : List Token) → ReadFails fault (rest_of uncounted counted r ts more)
+
+pub read-on : (front front2 : List ℕ) (r r2 : Reached ℕ) (piece : List ℕ) → front2 ≡ front
+    → r2.line ≡ line_behind r.line piece → EndsBetweenTokens piece
+    → Leads r (tokens_from r.line piece) r2
+    → (rest : List ℕ) → body_ahead front r (piece ++ rest) ≡ body_ahead front2 r2 rest
+read-on front front2 r r2 piece same is ends leads rest =
+    ap (with_count (variables_in front)) (parts r piece rest ends
+    ∙ ap ends_as (leads (tokens_from (line_behind r.line piece) rest)) ∙ later r2 (line_behind r.line piece) rest is)
+    ∙ ap (λ (f : List ℕ). body_ahead f r2 rest) (sym same)
+
+-- a fault of what comes of a body is one of its count
+count-of-fault : (fault : VcdFault) (variables : List Variable) (r : Result (State ℕ) VcdFault)
+    (whole : Result Survey VcdFault) → whole ≡ with_count variables (ends_as r) → ReadFails fault r
+    → ReadFails fault whole
+count-of-fault fault variables r whole is fails =
+    fails_first fault (ends_as r) (λ n. Ok (record { variables = variables; instants = n })) whole is
+    (fails_first fault r (at_end counted) (ends_as r) refl fails)
+
+pub read-fails : (front : List ℕ) (r : Reached ℕ) (piece : List ℕ) (fault : VcdFault) → EndsBetweenTokens piece
+    → FailsAhead fault r (tokens_from r.line piece)
+    → (rest : List ℕ) → ReadFails fault (body_ahead front r (piece ++ rest))
+read-fails front r piece fault ends fails rest =
+    let more = tokens_from (line_behind r.line piece) rest in
+    count-of-fault fault (variables_in front) (rest_of uncounted counted r (tokens_from r.line piece) more)
+    (body_ahead front r (piece ++ rest)) (ap (with_count (variables_in front)) (parts r piece rest ends)) (fails more)
+
+pub last-fails : (front : List ℕ) (r : Reached ℕ) (rest : List ℕ) (fault : VcdFault)
+    → FailsAhead fault r (tokens_from r.line rest) → ReadFails fault (body_ahead front r rest)
+last-fails front r rest fault fails =
+    count-of-fault fault (variables_in front) (rest_of uncounted counted r (tokens_from r.line rest) [])
+    (body_ahead front r rest) refl (fails [])
+
+-- ---- the definitions
+
+of_front : (front rest : List ℕ) → EndsBetweenTokens front
+    → survey_of (front ++ rest)
+    ≡ (header_of appended (front ++ rest) (nothing_declared [])
+    (tokens front ++ tokens_from (line_behind 1 front) rest) >>= surveyed)
+unfolding survey_of
+of_front front rest ends =
+    ap (λ (ts : List Token). header_of appended (front ++ rest) (nothing_declared []) ts >>= surveyed) (ends 1 rest)
+
+-- each text that begins so fails so
+pub front-fails : (front : List ℕ) (fault : VcdFault) → EndsBetweenTokens front
+    → ((text : List ℕ) (more : List Token) → ReadFails fault (header text (tokens front ++ more)))
+    → (rest : List ℕ) → ReadFails fault (survey_of (front ++ rest))
+front-fails front fault ends fails rest =
+    definitions-fail (front ++ rest) fault
+    (subst (λ (ts : List Token). ReadFails fault (header (front ++ rest) ts)) (sym (ends 1 rest))
+    (fails (front ++ rest) (tokens_from (line_behind 1 front) rest)))
+
+-- The body behind the definitions of a front, of which nothing is read yet.
+pub record IsBegun (front left : List ℕ) (h : Headed) (r : Reached ℕ) : Type 0 where
+  pub header : (text : List ℕ) (more : List Token) → header_of passed text (nothing_declared tt) (tokens front ++ more)
+      ≡ Ok (defined (going_on h more) tt)
+  pub nets : r.nets ≡ h.nets
+  pub progress : r.progress ≡ record { taken = 0; time = 0; begun = false }
+  pub bracket : r.bracket ≡ None
+  pub place : r.place ≡ ready
+  pub body : tokens_from r.line left ≡ h.body
+  pub line : line_behind r.line left ≡ line_behind 1 front
+
+module _ (front left : List ℕ) (h : Headed) (r : Reached ℕ) (begun : IsBegun front left h r)
+    (ends : EndsBetweenTokens front) where
+  whole_count : (more : List Token) → taken_from uncounted counted h.nets 0 (h.body ++ more)
+      ≡ ends_as (rest_of uncounted counted r (tokens_from r.line left) more)
+  whole_count more = rw (begun.nets, begun.progress, begun.bracket, begun.place, begun.body) refl
+
+  -- what the definitions of the front say of each text that begins so
+  begun_ahead : (rest : List ℕ) → survey_of (front ++ rest)
+      ≡ with_count (variables_in front)
+      (ends_as (rest_of uncounted counted r (tokens_from r.line left) (tokens_from (line_behind 1 front) rest)))
+  begun_ahead rest =
+      let more = tokens_from (line_behind 1 front) rest in
+      let whole : header front (tokens front) ≡ Ok (defined (going_on h []) tt) =
+      ap (header front) (sym (append-nil (tokens front))) ∙ begun.header front [] in
+      let taken = is-taken passed front (going_on h []) tt tt whole in
+      let found = found-front appended front (front ++ rest) more (nothing_declared []) (tokens front)
+      (defined (going_on h []) taken.0) taken.1 in
+      of_front front rest ends ∙ ap (λ (d : Result (Defined (List Variable)) VcdFault). d >>= surveyed) found
+      ∙ ap (with_count taken.0)
+      (ap (λ (body : List Token). taken_from uncounted counted h.nets 0 (body ++ more)) (append-nil h.body)
+      ∙ whole_count more)
+      ∙ ap (λ (vs : List Variable). with_count vs
+      (ends_as (rest_of uncounted counted r (tokens_from r.line left) more))) (sym (ap variables_by taken.1))
+
+  -- what the front has of the body is read
+  pub begun-read : (r2 : Reached ℕ) → r2.line ≡ line_behind r.line left → Leads r (tokens_from r.line left) r2
+      → (rest : List ℕ) → survey_of (front ++ rest) ≡ body_ahead front r2 rest
+  begun-read r2 is leads rest =
+      begun_ahead rest
+      ∙ ap (with_count (variables_in front)) (ap ends_as (leads (tokens_from (line_behind 1 front) rest))
+      ∙ later r2 (line_behind 1 front) rest (is ∙ begun.line))
+
+  pub begun-fails : (fault : VcdFault) → FailsAhead fault r (tokens_from r.line left) → (rest : List ℕ)
+      → ReadFails fault (survey_of (front ++ rest))
+  begun-fails fault fails rest =
+      let more = tokens_from (line_behind 1 front) rest in
+      count-of-fault fault (variables_in front) (rest_of uncounted counted r (tokens_from r.line left) more)
+      (survey_of (front ++ rest)) (begun_ahead rest) (fails more)

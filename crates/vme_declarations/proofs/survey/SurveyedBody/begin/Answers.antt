@@ -1,0 +1,54 @@
+use Rattle.std.proofs.Common.{◌∙◌, ℕ, ap, false}
+use Rattle.vcd_read.specs.Reached.{Reached, reached}
+use Rattle.vcd_read.specs.Taking.{Taking}
+use Rattle.vme_declarations.specs.declared.levels_seen.LevelsSeen.{LevelsSeen}
+use Rattle.vme_declarations.proofs.SurveyLemmas.{IsBegun, begun-fails, begun-read, front-fails}
+use Rattle.vme_declarations.proofs.survey.SurveyedBody.begin.Goals as goal
+
+abbrev seen : LevelsSeen → ℕ
+seen l = l.instants
+
+abbrev progress_of : ℕ → Taking ℕ
+progress_of n = record { taken = n; time = 0; begun = false }
+
+pub returns-in_ok-from_slice-in-Ok-clause-begun : goal.returns-in_ok-from_slice-in-Ok-clause-begun
+returns-in_ok-from_slice-in-Ok-clause-begun c =
+    let front = c.args.front.now in
+    let left = c.before_body-pieces.result.1.now in
+    let first = c.before_body-pieces.ensures in
+    let found = rw c.in-Ok-Some.field-0-is at c.in-Ok-Some.ensures.header in
+    let line = rw c.in-Ok-Some.field-0-is at c.in-Ok-Some.ensures.line in
+    let begun : IsBegun front left c.in-Ok-Some.head.head (reached seen c.before_body-pieces.result.0) = record {
+      header = found;
+      nets = first.nets;
+      progress = first.progress ∙ ap progress_of c.none.ensures;
+      bracket = first.bracket;
+      place = first.place;
+      body = first.body;
+      line = first.line ∙ line;
+    } in
+    rw c.in_ok-from_slice-in-Ok.ensures.items
+    (begun-read front left c.in-Ok-Some.head.head (reached seen c.before_body-pieces.result.0) begun c.requires
+    (reached seen c.in-Ok.pieces) c.in-Ok.ensures.line c.in-Ok.ensures.rest)
+
+pub returns-in-Err-read-clause-err : goal.returns-in-Err-read-clause-err
+returns-in-Err-read-clause-err c =
+    let front = c.args.front.now in
+    let left = c.before_body-pieces.result.1.now in
+    let first = c.before_body-pieces.ensures in
+    let found = rw c.in-Ok-Some.field-0-is at c.in-Ok-Some.ensures.header in
+    let line = rw c.in-Ok-Some.field-0-is at c.in-Ok-Some.ensures.line in
+    let begun : IsBegun front left c.in-Ok-Some.head.head (reached seen c.before_body-pieces.result.0) = record {
+      header = found;
+      nets = first.nets;
+      progress = first.progress ∙ ap progress_of c.none.ensures;
+      bracket = first.bracket;
+      place = first.place;
+      body = first.body;
+      line = first.line ∙ line;
+    } in
+    begun-fails front left c.in-Ok-Some.head.head (reached seen c.before_body-pieces.result.0) begun c.requires
+    c.in-Err-read.fault c.in-Err-read.ensures.rest
+
+pub returns-in-Err-clause-err : goal.returns-in-Err-clause-err
+returns-in-Err-clause-err c = front-fails c.args.front.now c.in-Err.fault c.requires c.in-Err.ensures.header

@@ -1,0 +1,23 @@
+-- How far a dump is surveyed.
+use Rattle.std.specs.Prelude.{ℕ, List, Result, Err}
+use Rattle.vcd_read.specs.Reached.{Reached, reached}
+use Rattle.vcd_read.specs.declared.fault.VcdFault.{VcdFault}
+use Rattle.vme_declarations.specs.declared.levels_seen.LevelsSeen.{LevelsSeen}
+use Rattle.vme_declarations.specs.declared.survey.SurveyStage.{SurveyStage}
+use Rattle.vme_declarations.specs.declared.survey.SurveyStage.TheVariants.{Definitions, Body, Failed}
+use Rattle.vme_declarations.specs.declared.survey.SurveyedBody.{SurveyedBody}
+use Rattle.vme_declarations.specs.declared.survey.DumpSurvey.{DumpSurvey}
+use Rattle.vme_declarations.specs.Surveys.{Survey, body_ahead, survey_of}
+
+-- how far the body is read, by how many instants are behind
+abbrev pub body_reached : SurveyedBody → Reached ℕ
+body_reached body = reached (λ (l : LevelsSeen). l.instants) body.pieces
+
+-- what is surveyed of the dump where these bytes follow those that were taken, or else its first fault
+abbrev pub stage_ahead : SurveyStage → List ℕ → Result Survey VcdFault
+stage_ahead Definitions rest = survey_of rest
+stage_ahead (Body body) rest = body_ahead body.front.items (body_reached body) rest
+stage_ahead (Failed told) rest = Err told.fault
+
+abbrev pub survey_ahead : DumpSurvey → List ℕ → Result Survey VcdFault
+survey_ahead survey rest = stage_ahead survey.stage rest

@@ -1,0 +1,203 @@
+//! What is kept of a dump that is read in pieces, for the text of a refusal.
+
+use crate::words::{last_word, line_start, up_to_feed, word_from};
+use memchr::memchr;
+use std::alloc::{AllocError, Global};
+use vcd_read::line_feeds;
+
+/// A line of a dump. Of the one that is still read no bytes are kept here.
+#[derive(Drop)]
+struct KeptLine {
+    number: u64,
+    bytes: Vec<u8>,
+}
+
+/// The lines that a fault may name which is met later, and the line of the fault.
+#[derive(Drop)]
+pub struct KeptLines {
+    /// The number of the line that the next piece begins on, and what stands before it there.
+    next: u64,
+    current: Vec<u8>,
+    /// The line of the last token.
+    last: Option<KeptLine>,
+    /// That of a bracket that is open, and of a comment.
+    bracket: Option<KeptLine>,
+    comment: Option<KeptLine>,
+    faulty: Vec<u8>,
+    /// Whether the line of the fault is read to its end.
+    is_ended: bool,
+}
+
+impl KeptLines {
+    /// Before the first byte.
+    pub fn new(alloc: Global) -> KeptLines {
+        KeptLines {
+            next: 1,
+            current: Vec::new(alloc),
+            last: None,
+            bracket: None,
+            comment: None,
+            faulty: Vec::new(alloc),
+            is_ended: false,
+        }
+    }
+
+    /// Passes over a piece without a fault, which ends behind a space. The only error is want of memory.
+    pub fn pass(&mut self, alloc: Global, piece: &[u8]) -> Result<(), AllocError> {
+        self.end_current(alloc, piece)?;
+        self.pass_brackets(alloc, piece)?;
+        if let Some(at) = last_word(piece) {
+            self.last = Some(self.line_of(alloc, piece, at)?);
+        }
+        let last = line_start(piece, piece.len());
+        if last > 0 {
+            self.current.clear();
+        }
+        self.current
+            .extend_from_slice(piece.get(last..).unwrap_or(b""))?;
+        self.next = self.next.saturating_add(line_feeds(piece));
+        Ok(())
+    }
+
+    /// Keeps the line of a fault that is met in these bytes, which follow those that were passed over, or at their end.
+    /// The only error is want of memory.
+    pub fn stop(&mut self, number: u64, bytes: &[u8]) -> Result<(), AllocError> {
+        self.faulty.clear();
+        match number.checked_sub(self.next) {
+            Some(further) => self.stop_in(further, bytes),
+            None => {
+                self.is_ended = true;
+                for kept in [&self.last, &self.bracket, &self.comment] {
+                    if let Some(line) = kept {
+                        if line.number == number {
+                            self.faulty.clear();
+                            self.faulty.extend_from_slice(&line.bytes)?;
+                        }
+                    }
+                }
+                Ok(())
+            }
+        }
+    }
+
+    /// The same of a line that is so many further than the one that the bytes begin on.
+    fn stop_in(&mut self, further: u64, bytes: &[u8]) -> Result<(), AllocError> {
+        let mut rest = bytes;
+        for _ in 0..further {
+            let (line, is_ended) = up_to_feed(rest);
+            if !is_ended {
+                self.is_ended = true;
+                return Ok(());
+            }
+            rest = rest.get(line.len().saturating_add(1)..).unwrap_or(b"");
+        }
+        if further == 0 {
+            self.faulty.extend_from_slice(&self.current)?;
+        }
+        self.go_on(rest)
+    }
+
+    /// Goes on in the line of the fault. The only error is want of memory.
+    pub fn go_on(&mut self, bytes: &[u8]) -> Result<(), AllocError> {
+        if self.is_ended {
+            return Ok(());
+        }
+        let (line, is_ended) = up_to_feed(bytes);
+        self.faulty.extend_from_slice(line)?;
+        self.is_ended = is_ended;
+        Ok(())
+    }
+
+    /// The line of the fault, without its end.
+    pub fn faulty(&self) -> &[u8] {
+        match self.faulty.as_slice() {
+            [front @ .., b'\r'] => front,
+            line => line,
+        }
+    }
+
+    /// The line of a place in a piece. Of one that doesn't end in it no bytes are kept.
+    fn line_of(&self, alloc: Global, piece: &[u8], at: usize) -> Result<KeptLine, AllocError> {
+        let start = line_start(piece, at);
+        let (line, is_ended) = up_to_feed(piece.get(start..).unwrap_or(b""));
+        let mut bytes = Vec::new(alloc);
+        if is_ended {
+            if start == 0 {
+                bytes.extend_from_slice(&self.current)?;
+            }
+            bytes.extend_from_slice(line)?;
+        }
+        let feeds = line_feeds(piece.get(..start).unwrap_or(b""));
+        Ok(KeptLine {
+            number: self.next.saturating_add(feeds),
+            bytes,
+        })
+    }
+
+    /// Keeps the bytes of the lines that end in a piece.
+    fn end_current(&mut self, alloc: Global, piece: &[u8]) -> Result<(), AllocError> {
+        let (_, is_ended) = up_to_feed(piece);
+        if !is_ended {
+            return Ok(());
+        }
+        if is_of(&self.last, self.next) {
+            self.last = Some(self.line_of(alloc, piece, 0)?);
+        }
+        if is_of(&self.bracket, self.next) {
+            self.bracket = Some(self.line_of(alloc, piece, 0)?);
+        }
+        if is_of(&self.comment, self.next) {
+            self.comment = Some(self.line_of(alloc, piece, 0)?);
+        }
+        Ok(())
+    }
+
+    /// Keeps the lines of the bracket and of the comment that are open behind a piece.
+    fn pass_brackets(&mut self, alloc: Global, piece: &[u8]) -> Result<(), AllocError> {
+        let mut from: usize = 0;
+        for _ in 0..piece.len() {
+            let Some(rest) = piece.get(from..) else {
+                return Ok(());
+            };
+            let Some(found) = memchr(b'$', rest) else {
+                return Ok(());
+            };
+            let at = from.saturating_add(found);
+            if let Some(word) = word_from(piece, at) {
+                self.pass_word(alloc, piece, at, word)?;
+            }
+            from = at.saturating_add(1);
+        }
+        Ok(())
+    }
+
+    /// Opens or closes a bracket or a comment by a word of a piece.
+    fn pass_word(
+        &mut self,
+        alloc: Global,
+        piece: &[u8],
+        at: usize,
+        word: &[u8],
+    ) -> Result<(), AllocError> {
+        match word {
+            b"$end" if self.comment.is_some() => self.comment = None,
+            b"$end" => self.bracket = None,
+            b"$comment" if self.comment.is_none() => {
+                self.comment = Some(self.line_of(alloc, piece, at)?);
+            }
+            b"$dumpvars" | b"$dumpall" | b"$dumpon" | b"$dumpoff" if self.comment.is_none() => {
+                self.bracket = Some(self.line_of(alloc, piece, at)?);
+            }
+            _ => {}
+        }
+        Ok(())
+    }
+}
+
+/// Whether a line is kept, and is of this number.
+fn is_of(kept: &Option<KeptLine>, number: u64) -> bool {
+    match kept {
+        Some(line) => line.number == number,
+        None => false,
+    }
+}

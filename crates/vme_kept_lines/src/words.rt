@@ -1,0 +1,50 @@
+//! The words of a dump.
+
+/// Whether no word goes on over a byte.
+pub(crate) fn is_space(byte: u8) -> bool {
+    matches!(byte, b' ' | b'\t' | b'\n' | b'\r')
+}
+
+/// The place of the first byte of the last word of some bytes.
+pub(crate) fn last_word(bytes: &[u8]) -> Option<usize> {
+    let end = bytes.iter().rposition(|byte| !is_space(*byte))?;
+    match bytes.get(..end)?.iter().rposition(|byte| is_space(*byte)) {
+        Some(before) => Some(before.saturating_add(1)),
+        None => Some(0),
+    }
+}
+
+/// The word that begins at a place, if one does.
+pub(crate) fn word_from(bytes: &[u8], at: usize) -> Option<&[u8]> {
+    if let Some(before) = at.checked_sub(1) {
+        if !is_space(*bytes.get(before)?) {
+            return None;
+        }
+    }
+    let rest = bytes.get(at..)?;
+    match rest.iter().position(|byte| is_space(*byte)) {
+        Some(end) => rest.get(..end),
+        None => Some(rest),
+    }
+}
+
+/// The place where the line of a place begins, among some bytes.
+pub(crate) fn line_start(bytes: &[u8], at: usize) -> usize {
+    match bytes
+        .get(..at)
+        .unwrap_or(b"")
+        .iter()
+        .rposition(|byte| *byte == b'\n')
+    {
+        Some(feed) => feed.saturating_add(1),
+        None => 0,
+    }
+}
+
+/// Some bytes up to the first line feed, and whether there is one.
+pub(crate) fn up_to_feed(bytes: &[u8]) -> (&[u8], bool) {
+    match bytes.iter().position(|byte| *byte == b'\n') {
+        Some(feed) => (bytes.get(..feed).unwrap_or(b""), true),
+        None => (bytes, false),
+    }
+}
