@@ -1,11 +1,7 @@
 pub mod ConfirmLemmas
-pub mod HeldLemmas
 pub mod RowLemmas
-pub mod DumpTexts
-pub mod DumpRefusals
 pub mod StepLemmas
 pub mod ListingLemmas
-pub mod DefinitionLemmas
 pub mod FoundLemmas
 pub mod BodyLemmas
 pub mod UnsettledLemmas

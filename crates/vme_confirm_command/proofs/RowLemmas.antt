@@ -2,7 +2,7 @@
 use Rattle.std.proofs.Common.{◌≡◌, ℕ, ◌+◌, ◌^◌, ◌≤◌, ◌<◌, Bool, true, false, List, [], ◌∷◌, ◌++◌, length, take, drop}
 use Rattle.std.proofs.Common.{Option, None, Some, refl, sym, ap, subst, ◌∙◌, arith, append_assoc, append-nil}
 use Rattle.std.proofs.Common.{length-append}
-use Rattle.std.proofs.Common.{length-drop, take-append-drop}
+use Rattle.std.proofs.Common.{length-drop}
 use Rattle.std.specs.Prelude.{Ok, Err, is_none}
 use Rattle.vme_trace.specs.Streams.{Reading}
 use Rattle.vme_listing.specs.Reading.{HasRead, IsFaultOfText, IsFollowedBy, IsTextOfListing}
@@ -17,13 +17,13 @@ use Rattle.vme_answer.specs.Refusals.{listing_refusal}
 use Rattle.vme_answer.specs.declared.refusal.Input.TheVariants.{Listing}
 use Rattle.vme_answer.specs.declared.refusal.Refusal.TheVariants.{TooLong}
 use Rattle.vme_confirm_command.specs.Confirmations.{GivesRows, listing_text, longest_listing}
-use Rattle.vme_confirm_command.specs.HeldInputs.{FailsAs, InputSoFar, IsReadTo}
+use Rattle.vme_dump_input.specs.HeldInputs.{FailsAs, InputSoFar, IsReadTo}
 use Rattle.vme_confirm_command.specs.RowsOfListing.{AreCounted, GaveRows, IsSomeReading, rows_refusal}
 use Rattle.vme_confirm_command.specs.declared.rows_fault.RowsFault.{RowsFault}
 use Rattle.vme_confirm_command.specs.declared.rows_fault.RowsFault.TheVariants.{Input, Text}
 use Rattle.vme_confirm_command.proofs.ConfirmLemmas.{listing_fault, text-fits, text-long}
 use Rattle.vme_confirm_command.specs.RowsOfListing.{AreRead, HasReadRows, IsCounted, HoldsMore, IsWholeText}
-use Rattle.vme_confirm_command.proofs.HeldLemmas.{some-reading, taken-first}
+use Rattle.vme_dump_input.proofs.HeldLemmas.{some-reading, split-at, taken-first}
 
 -- ---- more bytes are held
 
@@ -63,13 +63,6 @@ rows-filled done old new so_far rows filled has future ends =
     (has (filled.more ++ future) (followed old new filled future ends))
 
 -- ---- some of them are taken
-
-module _ (done held : List ℕ) (n : ℕ) where
-  pub split-at : (future : List ℕ) → (done ++ take n held) ++ (drop n held ++ future) ≡ done ++ (held ++ future)
-  split-at future =
-      append_assoc done (take n held) (drop n held ++ future)
-      ∙ ap (λ l. done ++ l) (sym (append_assoc (take n held) (drop n held) future))
-      ∙ ap (λ l. done ++ (l ++ future)) (take-append-drop n held)
 
 module _ (old now : Reading) (done : List ℕ) (input : InputSoFar) (h : IsReadTo old now done input) (n : ℕ)
     (within : n ≤ length input.held) (so_far : RowsSoFar) (rows : List Row) where

@@ -1,7 +1,6 @@
 pub mod Confirmations
-pub mod HeldInputs
 pub mod RowsOfListing
 pub mod StepChecks
-pub mod DumpReadings
+pub mod DumpChecks
 pub mod PieceChecks
 pub mod FoundRows

@@ -1,6 +1,6 @@
 //! The body of a dump, whose steps are compared with rows as they become complete.
 
-ghost use Rattle.std.specs.Prelude.{◌≡◌, ◌≤◌, ℕ, List, [], IfOk, Option, Ok};
+ghost use Rattle.std.specs.Prelude.{◌≡◌, ℕ, [], IfOk, Option, Ok};
 ghost use Rattle.vme_trace.specs.Streams.{Reading};
 ghost use Rattle.vme_trace.specs.Trace.{Trace};
 ghost use Rattle.vme_bind.specs.Binding.{BoundLines};
@@ -8,33 +8,23 @@ ghost use Rattle.vme_listing.specs.declared.row.Version.{Version};
 ghost use Rattle.vme_stream.specs.Inputs.{longest_input};
 ghost use Rattle.vme_cert.specs.Checking.{HasCompared};
 ghost use Rattle.vme_dump_steps.specs.SettledReadings.{skew_of};
-ghost use Rattle.vme_confirm_command.specs.DumpReadings.{Compares, IsAtBody, IsBodyUnread, IsChecked, IsDumpRefused};
-ghost use Rattle.vme_confirm_command.specs.DumpReadings.{MayBeRead, BeginsDump};
-ghost use Rattle.vme_confirm_command.specs.PieceChecks.{ChecksOn, FailsPiece, IsAtEnd, ReadsPiece};
+ghost use Rattle.vme_dump_input.specs.DumpReadings.{IsAtBody, IsBodyUnread};
+ghost use Rattle.vme_confirm_command.specs.DumpChecks.{Compares, IsChecked};
+ghost use Rattle.vme_dump_input.specs.DumpReadings.{MayBeRead, BeginsDump};
+ghost use Rattle.vme_dump_input.specs.PieceReadings.{IsAtEnd, ReadsPiece};
+ghost use Rattle.vme_confirm_command.specs.PieceChecks.{ChecksOn};
 ghost use Rattle.vme_confirm_command.specs.StepChecks.{IsComparing};
 
-use crate::definitions::{Begun, refused_for, unread};
-use crate::held_input::HeldInput;
 use crate::step_check::StepCheck;
 use std::alloc::Global;
 use vcd_read::VcdFault;
 use vme_answer::Refusal;
 use vme_bind::BindFault;
 use vme_cert::{Answer, RowSource};
+use vme_dump_input::{Begun, HeldInput, fault_of, opening_of, refused_in_body, unread};
 use vme_listing::Version;
-use vme_step_reader::{StepReader, StoppedSteps, given_is_a_prefix, times_go_on};
-use vme_trace::{Lines, Source};
-
-fn fault_of(stopped: StoppedSteps) -> VcdFault
-    ensures { result ≡ stopped.fault }
-{
-    let StoppedSteps {
-        fault,
-        time: _,
-        steps: _,
-    } = stopped;
-    fault
-}
+use vme_step_reader::{StepReader, given_is_a_prefix, times_go_on};
+use vme_trace::Source;
 
 /// Takes the first of the bytes that are held, as many as are whole tokens, and gives their steps to a check. It fails
 /// for a fault of the dump, or for want of memory.
@@ -101,21 +91,6 @@ fn check_last<S: RowSource>(
     }
 }
 
-/// Why a body isn't read on: for a fault of the dump, or for want of memory.
-fn refused_in_body<D: Source>(
-    dump: &mut D,
-    input: &mut HeldInput,
-    fault: Option<VcdFault>,
-) -> Refusal
-    ensures { (old : Reading) → input.old.limit ≡ longest_input
-        → FailsPiece old (D.reading dump.old) input.old fault → IsDumpRefused old (D.reading dump.new) result }
-{
-    match fault {
-        Some(fault) => refused_for(dump, input, fault),
-        None => Refusal::Memory,
-    }
-}
-
 /// Reads a body to its end, and compares its steps.
 fn compare_body<D: Source, S: RowSource>(
     alloc: Global,
@@ -146,15 +121,6 @@ fn compare_body<D: Source, S: RowSource>(
         }
     }
     check_last(alloc, reader, input.bytes(), check)
-}
-
-/// The levels that a body opens with, which are those of a backplane.
-fn opening_of(reader: &StepReader) -> &Lines
-    ensures is { result.now ≡ reader.now.given.opening }
-    ensures few { reader.now.given.opening.slots ≤ 21 }
-{
-    prove!(reader.opening().slots() <= 21);
-    reader.opening()
 }
 
 /// A check before the first step of a body.

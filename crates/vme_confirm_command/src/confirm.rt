@@ -14,19 +14,18 @@ ghost use Rattle.vme_bind.specs.Binding.{BoundLines};
 ghost use Rattle.vme_bind.specs.declared.fault.BindFault.{BindFault};
 ghost use Rattle.vme_listing.specs.declared.row.Row.{Row};
 ghost use Rattle.vme_listing.specs.declared.row.Version.{Version};
-ghost use Rattle.vme_confirm_command.specs.DumpReadings.{MayBeRead, BeginsDump};
+ghost use Rattle.vme_dump_input.specs.DumpReadings.{MayBeRead, BeginsDump};
 ghost use Rattle.vme_confirm_command.specs.FoundRows.{EndsFound, FindsRows};
 ghost use Rattle.vme_confirm_command.specs.RowsOfListing.{GaveRows, IsOver};
 ghost use Rattle.vme_answer.specs.declared.refusal.Refusal.{Refusal};
 
 use crate::body::compare_begun;
-use crate::definitions::{Begun, dump_input, read_definitions};
-use crate::held_input::HeldInput;
 use crate::listing_rows::{ListingRows, listing_input};
 use std::alloc::Global;
 use vme_answer::{Refusal, binding_from, cannot_write_line, refusal_line};
 use vme_bind::{BindFault, Binding};
 use vme_cert::Answer;
+use vme_dump_input::{Begun, HeldInput, dump_input, read_definitions};
 use vme_stream::{Message, complain, write_message};
 use vme_trace::{Sink, Source};
 

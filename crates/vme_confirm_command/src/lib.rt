@@ -5,11 +5,11 @@
 //!
 //! - `confirm`: [`confirm_with`] reads a binding, then the dump with the listing beside it, and
 //!   writes the answer.
-//! - `definitions`, `body`: the dump. Its steps go to `step_check` as they become complete, which
-//!   settles them if there is a skew and gives them to the checker of vme_cert.
+//! - `body`: the body of the dump, which vme_dump_input reads. Its steps go to `step_check` as they
+//!   become complete, which settles them if there is a skew and gives them to the checker of
+//!   vme_cert.
 //! - `listing_rows`, `row_reading`, `rows_fault`: the rows of the listing, each read as the checker
 //!   asks for it, up to the first fault.
-//! - `held_input`: the bytes of an input that were read and not taken.
 //!
 //! # What is proved
 //!
@@ -35,8 +35,6 @@
 
 mod body;
 pub mod confirm;
-mod definitions;
-mod held_input;
 mod listing_rows;
 mod row_reading;
 mod rows_fault;

@@ -1,19 +1,19 @@
 //! The rows of a listing, read one by one up to its first fault.
 
-ghost use Rattle.std.specs.Prelude.{◌≡◌, ◌<◌, ◌∷◌, ◌++◌, ℕ, List, [], Option, None, Some, IfOk, IfSome, MatchOption};
+ghost use Rattle.std.specs.Prelude.{◌≡◌, ◌<◌, ◌∷◌, ◌++◌, List, [], Option, None, Some, IfOk, IfSome, MatchOption};
 ghost use Rattle.vme_listing.specs.Reading.{RowsSoFar};
 ghost use Rattle.vme_trace.specs.Streams.{Reading};
 ghost use Rattle.vme_listing.specs.declared.row.Row.{Row};
 ghost use Rattle.vme_listing.specs.declared.row.Version.{Version};
-ghost use Rattle.vme_confirm_command.specs.HeldInputs.{not_read};
+ghost use Rattle.vme_dump_input.specs.HeldInputs.{not_read};
 ghost use Rattle.vme_confirm_command.specs.RowsOfListing.{AreCounted, EndsAt, EndsRows, GaveRows, IsOver};
 ghost use Rattle.vme_confirm_command.specs.RowsOfListing.{IsSomeReading, rows_left};
 
-use crate::held_input::HeldInput;
 use crate::row_reading::{begin_rows, next_row};
 use crate::rows_fault::RowsFault;
 use std::alloc::{AllocError, Global};
 use vme_cert::RowSource;
+use vme_dump_input::HeldInput;
 use vme_listing::{ListingPieces, Row, Version};
 use vme_trace::Source;
 

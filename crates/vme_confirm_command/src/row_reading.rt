@@ -6,11 +6,11 @@ ghost use Rattle.vme_trace.specs.Streams.{Reading};
 ghost use Rattle.vme_listing.specs.Places.{ends_listing};
 ghost use Rattle.vme_listing.specs.declared.row.Row.{Row};
 ghost use Rattle.vme_confirm_command.specs.Confirmations.{longest_listing};
-ghost use Rattle.vme_confirm_command.specs.HeldInputs.{FailsAs, IsReadTo};
+ghost use Rattle.vme_dump_input.specs.HeldInputs.{FailsAs, IsReadTo};
 ghost use Rattle.vme_confirm_command.specs.RowsOfListing.{AreRead, HoldsMore, IsCounted, ReadsRow, rows_left};
 
-use crate::held_input::HeldInput;
 use crate::rows_fault::RowsFault;
+use vme_dump_input::HeldInput;
 use vme_listing::{LONGEST_LINE, ListFault, ListingPieces, Row};
 use vme_stream::InFault;
 use vme_trace::Source;

@@ -1,6 +1,6 @@
 //! The steps of a dump, settled if there is a skew, as they are compared with rows.
 
-ghost use Rattle.std.specs.Prelude.{◌≡◌, ◌+◌, ◌-◌, ◌≤◌, ◌<◌, ℕ, Bool, List, [], true, false, length, Option, None};
+ghost use Rattle.std.specs.Prelude.{◌≡◌, ◌+◌, ◌-◌, ◌≤◌, ◌<◌, ℕ, List, [], true, false, length, Option};
 ghost use Rattle.std.specs.Prelude.{IfOk, OnOk};
 ghost use Rattle.vme_trace.specs.Followed.{with_steps};
 ghost use Rattle.vme_trace.specs.LineNumbers.{line_count};

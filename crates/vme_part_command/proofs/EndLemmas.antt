@@ -7,7 +7,7 @@ use Rattle.vme_stream.proofs.OutputLemmas.{front_is}
 use Rattle.vme_stream.specs.Inputs.{IsReading}
 use Rattle.vme_stream.specs.Outputs.{TriesToWrite}
 use Rattle.vme_listing.specs.Written.{AppendsFront}
-use Rattle.vme_answer.specs.Answers.{CommandAnswer, capture_read}
+use Rattle.vme_answer.specs.Answers.{CommandAnswer, binding_read, dump_read}
 use Rattle.vme_answer.specs.Ends.{Ends}
 use Rattle.vme_answer.specs.Texts.{line_of}
 use Rattle.vme_answer.specs.declared.refusal.Refusal.TheVariants.{Memory}
@@ -15,11 +15,11 @@ use Rattle.vme_part_format.specs.Tables.{PartValue}
 use Rattle.vme_part_command.specs.Answered.{Complains, ComplainsUnlessMemory, DoesOfParts, EndsUnlessMemory}
 use Rattle.vme_part_command.specs.Answered.{ListsPart, ListsRecording, no_join_answer, refusing}
 use Rattle.vme_part_command.specs.Inputs.{IsJoinOf, IsNoJoin}
-use Rattle.vme_part_command.specs.Written.{FindsPart, WritesPart, no_part_answer, written_part}
+use Rattle.vme_part_command.specs.Written.{FindsPart, WritesPart, dump_recording, no_part_answer, written_part}
 use Rattle.vme_part_command.specs.declared.inputs.NoJoin.{NoJoin}
 use Rattle.vme_part_command.specs.declared.inputs.NoJoin.TheVariants as none
-use Rattle.vme_part_command.specs.declared.part.NoPart.{NoPart}
-use Rattle.vme_part_command.specs.declared.part.NoPart.TheVariants as no_part
+use Rattle.vme_part_command.specs.declared.no_part.NoPart.{NoPart}
+use Rattle.vme_part_command.specs.declared.no_part.NoPart.TheVariants as no_part
 use Rattle.vme_part_command.specs.declared.part.PartOptions.{PartOptions}
 
 -- of a text of which a front was taken, the first bytes were
@@ -78,13 +78,15 @@ module _ (o : PartOptions) (binding dump : Reading × Reading) (err : Writing ×
     (b d : Option (List ℕ)) (binding_reading : IsReading binding.0 binding.1 b)
     (dump_reading : IsReading dump.0 dump.1 d) where
   pub ends_part : (p : PartValue) (out : Writing × Writing)
-      → FindsPart (λ (q : PartValue). q) o (capture_read b d) (Ok p) → EndsUnlessMemory (written_part p) out err status
+      → FindsPart (λ (q : PartValue). q) o (dump_recording (binding_read b) (dump_read d)) (Ok p)
+      → EndsUnlessMemory (written_part p) out err status
       → WritesPart o binding dump out err status
   ends_part p out is (inl ends) = (b, d, Ok p, binding_reading, dump_reading, is, ends)
   ends_part p out is (inr ends) = (b, d, Err (no_part.Refused Memory), binding_reading, dump_reading, tt, ends)
 
   pub ends_no_part : (why : NoPart) (out : Writing)
-      → FindsPart (λ (q : PartValue). q) o (capture_read b d) (Err why) → Complains (no_part_answer why) err status
+      → FindsPart (λ (q : PartValue). q) o (dump_recording (binding_read b) (dump_read d)) (Err why)
+      → Complains (no_part_answer why) err status
       → WritesPart o binding dump (out, out) err status
   ends_no_part why out is told =
       (b, d, Err why, binding_reading, dump_reading, is, complaint_ends _ _ out err status told)

@@ -18,11 +18,11 @@ use Rattle.vme_listing.specs.declared.row.Row.TheVariants.{FreeCycle, InterruptC
 use Rattle.vme_listing.specs.declared.row.Row.TheVariants.{Verdict}
 use Rattle.vme_part_format.specs.Tables.{PartValue}
 use Rattle.vme_part_listing.specs.Listings.{ListsOfWhole}
-use Rattle.vme_part_listing.specs.declared.answers.ToldListing.{ToldListing}
-use Rattle.vme_part_listing.specs.declared.answers.ToldListing.TheVariants as listed
+use Rattle.vme_part_listing.specs.declared.answers.ListingAnswer.{ListingAnswer}
+use Rattle.vme_part_listing.specs.declared.answers.ListingAnswer.TheVariants as listed
 use Rattle.vme_parts.specs.Telling.{TellsOfWhole, verdict_of}
-use Rattle.vme_parts.specs.declared.answers.Told.{Told}
-use Rattle.vme_parts.specs.declared.answers.Told.TheVariants as told
+use Rattle.vme_parts.specs.declared.answers.RecordingAnswer.{RecordingAnswer}
+use Rattle.vme_parts.specs.declared.answers.RecordingAnswer.TheVariants as told
 use Rattle.vme_parts.specs.declared.join_refusal.JoinRefusal.{JoinRefusal}
 use Rattle.vme_parts.specs.declared.join_refusal.JoinRefusal.TheVariants as apart
 use Rattle.vme_part_command.specs.Inputs.{IsJoinOf, IsNoJoin}
@@ -82,7 +82,7 @@ no_join_answer names why =
 -- ---- what is answered
 
 -- the verdict, or what is told in its place
-abbrev pub told_answer : Told → CommandAnswer
+abbrev pub told_answer : RecordingAnswer → CommandAnswer
 told_answer (told.Beyond number) = refusing (told_text (told.Beyond number))
 told_answer (told.Missing number) = refusing (told_text (told.Missing number))
 told_answer (told.Torn number) = refusing (told_text (told.Torn number))
@@ -116,7 +116,7 @@ abbrev pub listed_status : Recorded → ℕ
 listed_status listing = rows_status listing.rows
 
 -- the listing, or what is told in its place
-abbrev pub listed_answer : ToldListing → CommandAnswer
+abbrev pub listed_answer : ListingAnswer → CommandAnswer
 listed_answer (listed.Listing listing) =
     record { out = text_of listing; error = []; status = listed_status listing }
 listed_answer (listed.Refused what) = refusing (told_text what)
@@ -160,7 +160,7 @@ WritesJoin names inputs out err status =
     DoesOfParts (IsJoinOf inputs.0 inputs.1) written_part names inputs out err status
 
 -- this is told of the recording of so many files by one part of all inputs
-pub record IsToldOf (inputs : List Reading × List Reading) (files : Option ℕ) (what : Told) : Type 0 where
+pub record IsToldOf (inputs : List Reading × List Reading) (files : Option ℕ) (what : RecordingAnswer) : Type 0 where
   pub part : PartValue
   pub join : IsJoinOf inputs.0 inputs.1 part
   pub tells : TellsOfWhole part files what
@@ -174,11 +174,11 @@ TellsRecording names inputs files out err status =
 -- something is listed of a recording by a part, and its answer is told, or that there was no memory
 abbrev pub ListsPart : PartValue → Option ℕ → Writing × Writing → Writing × Writing → ℕ → Type 0
 ListsPart p files out err status =
-    ((what : ToldListing) × ListsOfWhole p files what × Ends (listed_answer what) out err status)
+    ((what : ListingAnswer) × ListsOfWhole p files what × Ends (listed_answer what) out err status)
     ⊎ Ends (refusal_answer Memory) out err status
 
 -- this is listed of it
-pub record IsListedOf (inputs : List Reading × List Reading) (files : Option ℕ) (what : ToldListing) : Type 0 where
+pub record IsListedOf (inputs : List Reading × List Reading) (files : Option ℕ) (what : ListingAnswer) : Type 0 where
   pub part : PartValue
   pub join : IsJoinOf inputs.0 inputs.1 part
   pub lists : ListsOfWhole part files what

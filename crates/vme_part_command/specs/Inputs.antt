@@ -5,7 +5,9 @@ use Rattle.vme_stream.specs.Inputs.{IsReading, longest_input}
 use Rattle.vme_part_format.specs.Bounds.{FitsPart}
 use Rattle.vme_part_format.specs.PartText.{part_bytes}
 use Rattle.vme_part_format.specs.Reading.{part_at}
+use Rattle.vme_part_format.specs.Sizes.{IsCompactPart}
 use Rattle.vme_part_format.specs.Tables.{PartValue}
+use Rattle.vme_parts.specs.Alike.{AreRefused, MakeOne, first_listing}
 use Rattle.vme_parts.specs.Files.{JoinsParts}
 use Rattle.vme_part_command.specs.declared.inputs.PartInputError.{PartInputError}
 use Rattle.vme_part_command.specs.declared.inputs.PartInputError.TheVariants as error
@@ -50,22 +52,19 @@ pub record HasFaultAt (old new : List Reading) (place : ℕ) (fault : NoPartInpu
   pub left : slice_get new place ≡ Some becomes
   pub is : IsFaulty was becomes fault
 
--- the first part has marks
-abbrev pub first_has_marks : List PartValue → Bool
-first_has_marks [] = false
-first_has_marks (p ∷ ps) = p.listing
-
 -- why there is no part of all, unless there was no memory: the first input that is no part, or why they make none
--- together
+-- together, of which the first has marks or none
 abbrev pub IsNoJoin : List Reading → List Reading → NoJoin → Type 0
 IsNoJoin old new none.Memory = Unit {0}
 IsNoJoin old new (none.Input place fault) = HasFaultAt old new place fault
 IsNoJoin old new (none.Apart why has_marks) =
-    (ps : List PartValue) × ReadParts old new ps × (has_marks ≡ first_has_marks ps)
+    (ps : List PartValue) × ReadParts old new ps × (has_marks ≡ first_listing ps) × AreRefused ps why
 
--- one part of all inputs, which can be written
+-- one part of all inputs, which can be written: they make one together, whose nodes are few if theirs are
 pub record IsJoinOf (old new : List Reading) (p : PartValue) : Type 0 where
   pub parts : List PartValue
   pub read : ReadParts old new parts
   pub joins : JoinsParts parts p
   pub fits : FitsPart p
+  pub one : MakeOne parts p
+  pub compact : All IsCompactPart parts → IsCompactPart p

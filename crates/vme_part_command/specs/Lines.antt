@@ -5,8 +5,8 @@ use Rattle.vme_part_format.specs.declared.fault.PartFault.{PartFault}
 use Rattle.vme_part_format.specs.declared.fault.PartFaultKind.{PartFaultKind}
 use Rattle.vme_part_format.specs.declared.fault.PartFaultKind.TheVariants as fault
 use Rattle.vme_parts.specs.Telling.{verdict_of}
-use Rattle.vme_parts.specs.declared.answers.Told.{Told}
-use Rattle.vme_parts.specs.declared.answers.Told.TheVariants as told
+use Rattle.vme_parts.specs.declared.answers.RecordingAnswer.{RecordingAnswer}
+use Rattle.vme_parts.specs.declared.answers.RecordingAnswer.TheVariants as told
 
 abbrev pub refusing_text : List ℕ → List ℕ
 refusing_text what = codes "vmecheck: " ++ what
@@ -40,7 +40,7 @@ abbrev pub fault_text : PartFault → List ℕ
 fault_text f = kind_text f.kind f.place
 
 -- what is told in place of a verdict, or the verdict
-abbrev pub told_text : Told → List ℕ
+abbrev pub told_text : RecordingAnswer → List ℕ
 told_text (told.Beyond number) = part_text number (codes " beyond the files")
 told_text (told.Missing number) = part_text number (codes " missing")
 told_text (told.Torn number) = part_text number (codes " torn")

@@ -1,44 +1,66 @@
 -- What the command `part` makes of a dump, and how it ends.
-use Rattle.std.specs.Prelude.{◌≡◌, ℕ, List, [], Result, Ok, Err, codes}
+use Rattle.std.specs.Prelude.{◌≡◌, ℕ, List, [], Option, Result, Ok, Err, codes}
+use Rattle.vcd_read.specs.Contents.{Contents}
+use Rattle.vcd_read.specs.Header.{◌>>=◌}
+use Rattle.vcd_start.specs.Starts.{start_of}
 use Rattle.vme_trace.specs.Streams.{Reading, Writing}
 use Rattle.vme_trace.specs.Trace.{Trace}
-use Rattle.vme_trace.specs.declared.block.Block.{Block}
-use Rattle.vme_answer.specs.Answers.{AnswerGives, CommandAnswer, capture_read}
+use Rattle.vme_bind.specs.Binding.{BoundLines}
+use Rattle.vme_bind.specs.Capture.{capture_of}
+use Rattle.vme_stream.specs.Inputs.{IsReading}
+use Rattle.vme_answer.specs.Answers.{AnswerGives, CommandAnswer, binding_read, dump_read, or_bad_binding}
 use Rattle.vme_answer.specs.Ends.{Does}
 use Rattle.vme_answer.specs.Texts.{line_of, refusal_status, refusal_text}
 use Rattle.vme_answer.specs.declared.refusal.Refusal.{Refusal}
-use Rattle.vme_summary.specs.Joins.{block_of, first_time}
 use Rattle.vme_part_format.specs.Bounds.{FitsPart}
 use Rattle.vme_part_format.specs.PartText.{part_bytes}
-use Rattle.vme_part_format.specs.Tables.{PartValue}
+use Rattle.vme_part_format.specs.Sizes.{IsSmall}
+use Rattle.vme_part_format.specs.Tables.{PartValue, part_value}
+use Rattle.vme_part_format.specs.declared.part.Part.{Part}
 use Rattle.vme_parts.specs.Files.{IsPartOfFile}
-use Rattle.vme_parts.specs.Opened.{opening_of, steps_of}
+use Rattle.vme_file_part.specs.FileOf.{file_of}
 use Rattle.vme_part_command.specs.Backplane.{backplane_of}
 use Rattle.vme_part_command.specs.Lines.{refusing_text}
-use Rattle.vme_part_command.specs.declared.part.NoPart.{NoPart}
-use Rattle.vme_part_command.specs.declared.part.NoPart.TheVariants as none
+use Rattle.vme_part_command.specs.declared.no_part.NoPart.{NoPart}
+use Rattle.vme_part_command.specs.declared.no_part.NoPart.TheVariants as none
 use Rattle.vme_part_command.specs.declared.part.PartOptions.{PartOptions}
 
--- a recording as the file of a number: the levels behind its first step are its opening, but for number 0
-abbrev pub file_of : ℕ → Trace → Block
-file_of number t =
-    block_of number (opening_of number (first_time t.steps) t.opening t.steps)
-    (steps_of number (first_time t.steps) t.steps)
+-- the recording that a binding makes of a dump, and the first time of the dump, if it has one
+pub record DumpRecording : Type 0 where
+  pub start : Option ℕ
+  pub recording : Trace
 
--- a part can be written, and is the one of a recording as a file, with marks or without
-pub record IsPartOfRecording (o : PartOptions) (t : Trace) (p : PartValue) : Type 0 where
-  pub backplane : p.backplane ≡ backplane_of t.opening
+-- these of a dump, or the first reason that there are none: the binding is read first
+abbrev pub dump_recording : Result BoundLines Refusal → Result Contents Refusal → Result DumpRecording Refusal
+dump_recording binding dump = do
+  bound ← binding
+  contents ← dump
+  t ← or_bad_binding (capture_of bound contents)
+  Ok (record { start = start_of contents; recording = t })
+
+-- A part can be written, in few bytes, and is the one of a recording as a file, with marks or without: but for number 0,
+-- the levels behind the dump's first time are the opening of the file, and its steps those behind that time.
+pub record IsPartOfRecording (o : PartOptions) (d : DumpRecording) (p : PartValue) : Type 0 where
+  pub backplane : p.backplane ≡ backplane_of d.recording.opening
   pub listing : p.listing ≡ o.listing
   pub fits : FitsPart p
-  pub stands : IsPartOfFile o.listing (file_of o.number t) p
+  pub small : IsSmall p
+  pub stands : IsPartOfFile o.listing (file_of o.number d.start d.recording) p
 
 -- What is found of a recording that is to be read: a part of it, seen by view, or why the recording isn't there, unless
 -- there was no memory. Or what is found of a recording has no place in a part.
-abbrev pub FindsPart : {X : Type 0} → (X → PartValue) → PartOptions → Result Trace Refusal → Result X NoPart → Type 0
-FindsPart view o read (Ok part) = (t : Trace) × (read ≡ Ok t) × IsPartOfRecording o t (view part)
-FindsPart view o read (Err (none.Refused refusal)) = AnswerGives (λ (t : Trace). t) (Err refusal) read
-FindsPart view o read (Err none.TooManyMarks) = (t : Trace) × (read ≡ Ok t)
-FindsPart view o read (Err none.OutOfRange) = (t : Trace) × (read ≡ Ok t)
+abbrev pub FindsPart : {X : Type 0} → (X → PartValue) → PartOptions → Result DumpRecording Refusal → Result X NoPart
+    → Type 0
+FindsPart view o read (Ok part) = (d : DumpRecording) × (read ≡ Ok d) × IsPartOfRecording o d (view part)
+FindsPart view o read (Err (none.Refused refusal)) = AnswerGives (λ (d : DumpRecording). d) (Err refusal) read
+FindsPart view o read (Err none.TooManyMarks) = (d : DumpRecording) × (read ≡ Ok d)
+FindsPart view o read (Err none.OutOfRange) = (d : DumpRecording) × (read ≡ Ok d)
+
+-- the same of what a dump says that is read, by a binding
+abbrev pub FindsOfDump : PartOptions → BoundLines → Reading → Reading → Result Part NoPart → Type 0
+FindsOfDump o bound old now found =
+    (bytes : Option (List ℕ)) × IsReading old now bytes
+    × FindsPart part_value o (dump_recording (Ok bound) (dump_read bytes)) found
 
 -- ---- the answer
 
@@ -71,5 +93,6 @@ part_answer (Err why) = no_part_answer why
 abbrev pub WritesPart : PartOptions → Reading × Reading → Reading × Reading → Writing × Writing → Writing × Writing → ℕ
     → Type 0
 WritesPart o binding dump out err status =
-    Does part_answer (λ b d found. FindsPart (λ (p : PartValue). p) o (capture_read b d) found) binding dump out err
+    Does part_answer (λ b d found. FindsPart (λ (p : PartValue). p) o (dump_recording (binding_read b) (dump_read d))
+    found) binding dump out err
     status

@@ -1,6 +1,6 @@
 //! What is told where there is no answer.
 
-ghost use Rattle.std.specs.Prelude.{◌≡◌, ◌++◌, IfOk};
+ghost use Rattle.std.specs.Prelude.{◌≡◌, IfOk};
 ghost use Rattle.vme_stream.specs.Outputs.{TriesToWrite};
 ghost use Rattle.vme_answer.specs.Answers.{refusal_answer};
 ghost use Rattle.vme_answer.specs.Texts.{line_of};

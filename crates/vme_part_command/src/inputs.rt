@@ -5,9 +5,10 @@ ghost use Rattle.vme_stream.specs.Inputs.{IsReading};
 ghost use Rattle.vme_part_format.specs.Bounds.{FitsPart};
 ghost use Rattle.vme_part_format.specs.PartText.{part_bytes};
 ghost use Rattle.vme_part_format.specs.Tables.{part_value};
+ghost use Rattle.vme_parts.specs.Alike.{first_listing};
 ghost use Rattle.vme_part_command.specs.Answered.{ComplainsUnlessMemory, name_at, no_join_answer, refusing};
 ghost use Rattle.vme_part_command.specs.Answered.{what_is_wrong};
-ghost use Rattle.vme_part_command.specs.Inputs.{IsPartInputError, IsJoinOf, IsNoJoin, ReadParts, first_has_marks};
+ghost use Rattle.vme_part_command.specs.Inputs.{IsPartInputError, IsJoinOf, IsNoJoin, ReadParts};
 ghost use Rattle.vme_part_command.specs.Lines.{input_text, marks_text};
 ghost use Rattle.vme_part_command.specs.declared.inputs.NoJoin.TheVariants as none;
 
@@ -120,7 +121,7 @@ fn read_parts<P: Source>(
 
 /// Whether the first of some parts has marks.
 fn has_marks(parts: &[Part]) -> bool
-    ensures { result ≡ first_has_marks (map part_value parts.now) }
+    ensures { result ≡ first_listing (map part_value parts.now) }
 {
     match parts.first() {
         Some(part) => part.listing,

@@ -4,7 +4,9 @@
 //! # Parts of this crate
 //!
 //! - `part`: [`write_part_of`] judges a dump that is a file of a recording, and writes its part.
-//!   `backplane`: the sum of the backplane that a recording is of.
+//!   `file_definitions` reads its definitions and its first time, `file_body` its body, piece by
+//!   piece; `file_check` judges the steps of each piece. `backplane`: the sum of the backplane that
+//!   a recording is of.
 //! - `inputs`: [`NamedPart`], and the one part of all that inputs are.
 //! - `join`: [`write_joined`] writes one part of several.
 //! - `tell`: [`tell_whole`] tells the verdict of the whole recording, [`list_whole`] writes its
@@ -16,8 +18,9 @@
 //! What is written to standard output and to standard error, and the exit status, are exactly the
 //! answer of what is found, unless a write of it fails (`Ends` of vme_answer):
 //!
-//! - of [`write_part_of`] the text of a part of the recording that the binding makes of the dump,
-//!   or the first reason that there is no recording (`WritesPart`);
+//! - of [`write_part_of`] the text of a part of the recording that the binding makes of the dump:
+//!   for a number over 0 the levels behind the dump's first time are its opening; or the first
+//!   reason that there is no recording (`WritesPart`);
 //! - of [`write_joined`] the text of one part that joins the parts that the inputs are, or the first
 //!   input that is no part, and why (`WritesJoin`);
 //! - of [`tell_whole`] and [`list_whole`] the verdict and the listing of the recording that the
@@ -25,19 +28,21 @@
 //!
 //! # What isn't proved
 //!
-//! That memory suffices. Which parts make none together, and why: only that all are parts then.
-//! That no dump is refused as out of the range of parts, or for too many marks.
-//!
-//! # Limits
-//!
-//! A dump and all of its steps are held at once.
+//! That memory suffices: of a dump what stands before its second time is held, and the longest
+//! token, with what a piece of it takes. Where the binding can't be used on the dump, all of it is
+//! held. Which parts make none together, and why: only that all are parts then. That no dump is
+//! refused as out of the range of parts, or for too many marks.
 #![tactic(auto)]
 
 mod backplane;
 mod complaints;
+mod file_body;
+mod file_check;
+mod file_definitions;
 mod inputs;
 mod join;
 mod lines;
+mod no_part;
 mod part;
 mod tell;
 

@@ -1,13 +1,13 @@
 //! The lines that are told of parts.
 
-ghost use Rattle.std.specs.Prelude.{◌≡◌, ◌≤◌, codes, length};
+ghost use Rattle.std.specs.Prelude.{◌≡◌, ◌≤◌, length};
 ghost use Rattle.vme_answer.specs.Texts.{break_text, line_of, verdict_status as status_of, verdict_text};
 ghost use Rattle.vme_part_tables.specs.Runs.{break_of};
 ghost use Rattle.vme_parts.specs.Telling.{verdict_of};
 ghost use Rattle.vme_part_command.specs.Lines.{byte_text, fault_text, kind_text, part_text, refusing_text, told_text};
 
 use vme_part_format::{PartFault, PartFaultKind, WideBreak};
-use vme_parts::{Told, WideVerdict};
+use vme_parts::{RecordingAnswer, WideVerdict};
 use vme_stream::Message;
 
 /// The line of a verdict.
@@ -82,15 +82,15 @@ pub(crate) fn refusing_line(what: &[u8]) -> Message
 }
 
 /// The line of what is told in place of a verdict, or of the verdict.
-pub(crate) fn told_line(told: &Told) -> Message
+pub(crate) fn told_line(told: &RecordingAnswer) -> Message
     ensures { result ≡ line_of (told_text told.now) }
 {
     match told {
-        Told::Beyond(number) => part_line(*number, b" beyond the files"),
-        Told::Missing(number) => part_line(*number, b" missing"),
-        Told::Torn(number) => part_line(*number, b" torn"),
-        Told::TooManySteps => refusing_line(b"too many steps"),
-        Told::Verdict(verdict) => verdict_line(verdict),
+        RecordingAnswer::Beyond(number) => part_line(*number, b" beyond the files"),
+        RecordingAnswer::Missing(number) => part_line(*number, b" missing"),
+        RecordingAnswer::Torn(number) => part_line(*number, b" torn"),
+        RecordingAnswer::TooManySteps => refusing_line(b"too many steps"),
+        RecordingAnswer::Verdict(verdict) => verdict_line(verdict),
     }
 }
 

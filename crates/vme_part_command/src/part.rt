@@ -1,23 +1,25 @@
 //! The part of one file of a recording.
 
-ghost use Rattle.std.specs.Prelude.{◌≡◌, ℕ, List, Ok, Option};
+ghost use Rattle.std.specs.Prelude.{ℕ, List, Ok, Option};
 ghost use Rattle.vme_stream.specs.Inputs.{IsReading};
-ghost use Rattle.vme_summary.specs.Joins.{first_time};
-ghost use Rattle.vme_answer.specs.Answers.{capture_read};
+ghost use Rattle.vme_answer.specs.Answers.{binding_read, dump_read};
 ghost use Rattle.vme_part_format.specs.Tables.{part_value};
 ghost use Rattle.vme_part_command.specs.Answered.{Complains};
-ghost use Rattle.vme_part_command.specs.Written.{FindsPart, WritesPart, no_part_answer};
+ghost use Rattle.vme_part_command.specs.Written.{FindsOfDump, FindsPart, WritesPart, dump_recording, no_part_answer};
 
-use crate::backplane::backplane_sum;
 use crate::complaints::refuse;
+use crate::file_body::part_of_begun;
+use crate::file_definitions::read_definitions;
 use crate::join::put_part;
 use crate::lines::refusing_line;
+use crate::no_part::NoPart;
 use std::alloc::Global;
-use vme_answer::{Refusal, capture_from, refusal_line};
+use vme_answer::{Refusal, binding_from, refusal_line};
+use vme_bind::Binding;
+use vme_dump_input::dump_input;
 use vme_part_format::Part;
-use vme_parts::{PartRefusal, can_write, part_of_steps, steps_of_file};
 use vme_stream::complain;
-use vme_trace::{Capture, Sink, Source, Step};
+use vme_trace::{Sink, Source};
 
 /// Which file of a recording a dump is, and what its part has.
 #[derive(Clone, Copy, Debug)]
@@ -28,53 +30,25 @@ pub struct PartOptions {
     pub listing: bool,
 }
 
-/// Why there is no part of a file.
-#[derive(Clone, Copy, Debug)]
-pub(crate) enum NoPart {
-    /// An input is refused, or memory runs out.
-    Refused(Refusal),
-    /// The nodes of a table have no numbers of 32 bits.
-    TooManyMarks,
-    /// What is found is out of the range of parts.
-    OutOfRange,
-}
-
-/// The time of the first step, if there is one.
-fn time_of(steps: &[Step]) -> Option<u64>
-    ensures { result ≡ first_time steps.now }
+/// The part of the recording that a binding makes of a dump that is a file of another.
+fn part_of_dump<D: Source>(
+    alloc: Global,
+    options: PartOptions,
+    bound: &Binding,
+    dump: &mut D,
+) -> Result<Part, NoPart>
+    ensures { FindsOfDump options bound.now (D.reading dump.old) (D.reading dump.new) result }
 {
-    match steps.first() {
-        Some(step) => Some(step.time),
-        None => None,
-    }
-}
-
-/// The part of a recording that is a file of another.
-fn part_of_recording(alloc: Global, options: PartOptions, capture: &Capture) -> Result<Part, NoPart>
-    ensures { FindsPart part_value options (Ok capture.now) result }
-{
-    let Ok(backplane) = backplane_sum(alloc, capture.opening()) else {
+    let Ok(mut input) = dump_input(alloc) else {
         return Err(NoPart::Refused(Refusal::Memory));
     };
-    let mut opening = *capture.opening();
-    let time = time_of(capture.steps());
-    let steps = steps_of_file(options.number, time, &mut opening, capture.steps());
-    match part_of_steps(
-        alloc,
-        backplane,
-        options.listing,
-        options.number,
-        &opening,
-        steps,
-    ) {
-        Ok(part) if can_write(&part) => Ok(part),
-        Ok(_) => Err(NoPart::OutOfRange),
-        Err(PartRefusal::TooManyNodes) => Err(NoPart::TooManyMarks),
-        Err(PartRefusal::Memory) => Err(NoPart::Refused(Refusal::Memory)),
+    match read_definitions(alloc, bound, dump, &mut input, options.number) {
+        Ok(begun) => part_of_begun(alloc, options, dump, &mut input, begun),
+        Err(refusal) => Err(NoPart::Refused(refusal)),
     }
 }
 
-/// The part of the recording that a binding makes of a dump that is a file of another.
+/// The same, where the binding is to be read: it is read first.
 fn made_part<B: Source, D: Source>(
     alloc: Global,
     options: PartOptions,
@@ -84,10 +58,10 @@ fn made_part<B: Source, D: Source>(
     ensures { (binding_bytes dump_bytes : Option (List ℕ))
         × IsReading (B.reading binding.old) (B.reading binding.new) binding_bytes
         × IsReading (D.reading dump.old) (D.reading dump.new) dump_bytes
-        × FindsPart part_value options (capture_read binding_bytes dump_bytes) result }
+        × FindsPart part_value options (dump_recording (binding_read binding_bytes) (dump_read dump_bytes)) result }
 {
-    match capture_from(alloc, binding, dump) {
-        Ok(capture) => part_of_recording(alloc, options, &capture),
+    match binding_from(alloc, binding) {
+        Ok(bound) => part_of_dump(alloc, options, &bound, dump),
         Err(refusal) => Err(NoPart::Refused(refusal)),
     }
 }

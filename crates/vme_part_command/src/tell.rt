@@ -8,8 +8,8 @@ ghost use Rattle.vme_part_command.specs.Answered.{ListsPart};
 ghost use Rattle.vme_part_command.specs.Answered.{ListsRecording, TellsRecording};
 ghost use Rattle.vme_part_command.specs.Answered.{listed_answer, listed_status, outcome_status};
 ghost use Rattle.vme_part_command.specs.Answered.{row_status, told_answer};
-ghost use Rattle.vme_part_listing.specs.declared.answers.ToldListing.TheVariants as listed;
-ghost use Rattle.vme_parts.specs.declared.answers.Told.TheVariants as told;
+ghost use Rattle.vme_part_listing.specs.declared.answers.ListingAnswer.TheVariants as listed;
+ghost use Rattle.vme_parts.specs.declared.answers.RecordingAnswer.TheVariants as told;
 
 use crate::complaints::{no_memory, refuse};
 use crate::inputs::{NamedPart, joined, refuse_joined};
@@ -18,8 +18,8 @@ use std::alloc::Global;
 use vme_answer::cannot_write_line;
 use vme_listing::{ListedVerdict, Listing, Row, write_listing};
 use vme_part_format::Part;
-use vme_part_listing::{ToldListing, tell_listing};
-use vme_parts::{Told, WideVerdict, tell_verdict};
+use vme_part_listing::{ListingAnswer, tell_listing};
+use vme_parts::{RecordingAnswer, WideVerdict, tell_verdict};
 use vme_stream::{complain, write_message};
 use vme_trace::{Sink, Source};
 
@@ -38,16 +38,16 @@ fn put_verdict<O: Sink, E: Sink>(verdict: &WideVerdict, out: &mut O, err: &mut E
 }
 
 /// Tells the verdict, or what is told in its place. The answer is the exit status.
-fn tell<O: Sink, E: Sink>(told: Told, out: &mut O, err: &mut E) -> u8
+fn tell<O: Sink, E: Sink>(told: RecordingAnswer, out: &mut O, err: &mut E) -> u8
     ensures { Ends (told_answer told)
         (O.writing out.old, O.writing out.new) (E.writing err.old, E.writing err.new) result }
 {
     match told {
-        Told::Verdict(verdict) => put_verdict(&verdict, out, err),
-        Told::Beyond(number) => refuse(part_line(number, b" beyond the files"), err),
-        Told::Missing(number) => refuse(part_line(number, b" missing"), err),
-        Told::Torn(number) => refuse(part_line(number, b" torn"), err),
-        Told::TooManySteps => refuse(refusing_line(b"too many steps"), err),
+        RecordingAnswer::Verdict(verdict) => put_verdict(&verdict, out, err),
+        RecordingAnswer::Beyond(number) => refuse(part_line(number, b" beyond the files"), err),
+        RecordingAnswer::Missing(number) => refuse(part_line(number, b" missing"), err),
+        RecordingAnswer::Torn(number) => refuse(part_line(number, b" torn"), err),
+        RecordingAnswer::TooManySteps => refuse(refusing_line(b"too many steps"), err),
     }
 }
 
@@ -115,15 +115,15 @@ fn put_listing<O: Sink, E: Sink>(listing: &Listing, out: &mut O, err: &mut E) ->
 }
 
 /// Writes the listing, or what is told in its place. The answer is the exit status.
-fn put_listed<O: Sink, E: Sink>(what: ToldListing, out: &mut O, err: &mut E) -> u8
+fn put_listed<O: Sink, E: Sink>(what: ListingAnswer, out: &mut O, err: &mut E) -> u8
     ensures { Ends (listed_answer what)
         (O.writing out.old, O.writing out.new) (E.writing err.old, E.writing err.new) result }
 {
     match what {
-        ToldListing::Listing(listing) => put_listing(&listing, out, err),
-        ToldListing::Refused(told) => refuse(told_line(&told), err),
-        ToldListing::Unmarked => refuse(refusing_line(b"parts without marks"), err),
-        ToldListing::TooLong => refuse(refusing_line(b"too many steps"), err),
+        ListingAnswer::Listing(listing) => put_listing(&listing, out, err),
+        ListingAnswer::Refused(told) => refuse(told_line(&told), err),
+        ListingAnswer::Unmarked => refuse(refusing_line(b"parts without marks"), err),
+        ListingAnswer::TooLong => refuse(refusing_line(b"too many steps"), err),
     }
 }
 

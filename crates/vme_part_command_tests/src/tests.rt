@@ -123,6 +123,65 @@ $enddefinitions $end
 #40 1p 1q
 ";
 
+/// No time.
+const HEADER: &str = "$timescale 1 ns $end
+$scope module bus $end
+$var wire 1 p AS $end
+$var wire 1 q DS0 $end
+$var wire 1 r DS1 $end
+$var wire 1 s DTACK $end
+$var wire 1 t BERR $end
+$var wire 1 u IACK $end
+$upscope $end
+$enddefinitions $end
+";
+
+/// No step, and no level of a line.
+const NO_LEVELS: &str = "$timescale 1 ns $end
+$scope module bus $end
+$var wire 1 p AS $end
+$var wire 1 q DS0 $end
+$var wire 1 r DS1 $end
+$var wire 1 s DTACK $end
+$var wire 1 t BERR $end
+$var wire 1 u IACK $end
+$upscope $end
+$enddefinitions $end
+#0
+";
+
+/// The first file, of which the first time has no levels.
+const LATER_FIRST: &str = "$timescale 1 ns $end
+$scope module bus $end
+$var wire 1 p AS $end
+$var wire 1 q DS0 $end
+$var wire 1 r DS1 $end
+$var wire 1 s DTACK $end
+$var wire 1 t BERR $end
+$var wire 1 u IACK $end
+$upscope $end
+$enddefinitions $end
+#0
+#1 1p 1q 1r 1s 1t 1u
+#10 0p
+";
+
+/// The second file, of which the levels stand before each time.
+const UNTIMED_SECOND: &str = "$timescale 1 ns $end
+$scope module bus $end
+$var wire 1 p AS $end
+$var wire 1 q DS0 $end
+$var wire 1 r DS1 $end
+$var wire 1 s DTACK $end
+$var wire 1 t BERR $end
+$var wire 1 u IACK $end
+$upscope $end
+$enddefinitions $end
+$dumpvars 0p 1q 1r 1s 1t 1u $end
+#20 0q
+#30 0s
+";
+
 /// The listing of the whole.
 const LISTING: &str = "vmecheck listing 3
 start 1
@@ -187,6 +246,21 @@ impl Read for TornReader<'_> {
         if self.left.is_empty() {
             return Err(Error::from(ErrorKind::Other));
         }
+        let count = self.left.len().min(buffer.len()).min(7);
+        buffer[..count].copy_from_slice(&self.left[..count]);
+        self.left = &self.left[count..];
+        Ok(count)
+    }
+}
+
+/// A reader of some bytes, a few at a time.
+#[derive(Drop)]
+struct ShortReader<'a> {
+    left: &'a [u8],
+}
+
+impl Read for ShortReader<'_> {
+    fn read(&mut self, buffer: &mut [u8]) -> io::Result<usize> {
         let count = self.left.len().min(buffer.len()).min(7);
         buffer[..count].copy_from_slice(&self.left[..count]);
         self.left = &self.left[count..];
@@ -330,6 +404,66 @@ fn the_verdict_and_the_listing_of_the_whole(rt: HostRuntime) {
     assert!(rt; tells_the_whole(rt.alloc()) == Some(true));
 }
 
+/// Whether a file opens with the levels behind its first time, and with none where that has none.
+fn opens_at_the_first_time(alloc: Global) -> Option<bool> {
+    let none = part_of(alloc, 0, NO_LEVELS)?;
+    let first = part_of(alloc, 1, LATER_FIRST)?;
+    let second = part_of(alloc, 2, UNTIMED_SECOND)?;
+    let third = part_of(alloc, 3, THIRD)?;
+    let parts = [
+        none.as_slice(),
+        first.as_slice(),
+        second.as_slice(),
+        third.as_slice(),
+    ];
+    tells(alloc, &parts, Some(4), true, (LISTING, "", 0))
+}
+
+#[test]
+fn the_opening_is_that_of_the_first_time(rt: HostRuntime) {
+    assert!(rt; opens_at_the_first_time(rt.alloc()) == Some(true));
+}
+
+/// The part with marks of a dump that comes in reads of a few bytes.
+fn part_by_reads(alloc: Global, number: u32, dump: &str) -> Option<Vec<u8>> {
+    let mut out = Page::new(alloc, 1_000_000);
+    let mut err = Page::new(alloc, 1000);
+    let options = PartOptions {
+        number,
+        listing: true,
+    };
+    let status = write_part_of(
+        alloc,
+        options,
+        &mut Bytes::new(BINDING),
+        &mut Io::new(ShortReader {
+            left: dump.as_bytes(),
+        }),
+        &mut out,
+        &mut err,
+    );
+    if status == 0 && err.bytes.is_empty() {
+        Some(out.bytes)
+    } else {
+        None
+    }
+}
+
+/// Whether a dump has the same part however it is read.
+fn writes_the_same_part(alloc: Global) -> Option<bool> {
+    let first = part_of(alloc, 0, FIRST)?;
+    let third = part_of(alloc, 2, THIRD)?;
+    Some(
+        part_by_reads(alloc, 0, FIRST)?.as_slice() == first.as_slice()
+            && part_by_reads(alloc, 2, THIRD)?.as_slice() == third.as_slice(),
+    )
+}
+
+#[test]
+fn short_reads_make_the_same_part(rt: HostRuntime) {
+    assert!(rt; writes_the_same_part(rt.alloc()) == Some(true));
+}
+
 /// Whether parts that were joined with others, one of them twice, say the listing of the whole.
 fn tells_by_joins(alloc: Global) -> Option<bool> {
     let first = part_of(alloc, 0, FIRST)?;
@@ -375,8 +509,10 @@ fn tells_torn_files(alloc: Global) -> Option<bool> {
     let second = part_of(alloc, 1, SECOND)?;
     let other = part_of(alloc, 2, OTHER_THIRD)?;
     let early = part_of(alloc, 2, SECOND)?;
+    let another = part_of(alloc, 1, THIRD)?;
     let torn = ("", "vmecheck: part 2 torn\n", 3);
     let differs = ("", "vmecheck: part 2 differs\n", 3);
+    let buddy_differs = ("", "vmecheck: part 1 differs\n", 3);
     Some(
         tells(
             alloc,
@@ -396,6 +532,12 @@ fn tells_torn_files(alloc: Global) -> Option<bool> {
             None,
             false,
             differs,
+        )? && tells(
+            alloc,
+            &[second.as_slice(), first.as_slice(), another.as_slice()],
+            None,
+            false,
+            buddy_differs,
         )?,
     )
 }
@@ -403,6 +545,56 @@ fn tells_torn_files(alloc: Global) -> Option<bool> {
 #[test]
 fn a_torn_file_is_told(rt: HostRuntime) {
     assert!(rt; tells_torn_files(rt.alloc()) == Some(true));
+}
+
+/// Whether a dump is refused as no file, with this line.
+fn is_no_file(alloc: Global, dump: &str, told: &str) -> bool {
+    let mut out = Page::new(alloc, 1000);
+    let mut err = Page::new(alloc, 1000);
+    let status = write_part_of(
+        alloc,
+        PartOptions {
+            number: 1,
+            listing: true,
+        },
+        &mut Bytes::new(BINDING),
+        &mut Bytes::new(dump.as_bytes()),
+        &mut out,
+        &mut err,
+    );
+    has_told(&out, &err, status, ("", told, 3))
+}
+
+/// Whether an empty file is refused, and one with only a header has no steps, and levels that none left.
+fn judges_short_files(alloc: Global) -> Option<bool> {
+    let header = part_of(alloc, 0, HEADER)?;
+    let first = part_of(alloc, 0, FIRST)?;
+    let behind = part_of(alloc, 1, HEADER)?;
+    let never = ("never idle\n", "", 2);
+    let torn = ("", "vmecheck: part 1 torn\n", 3);
+    Some(
+        is_no_file(alloc, "", "vmecheck: dump line 1: NoEndDefinitions\n")
+            && tells(alloc, &[header.as_slice()], None, false, never)?
+            && tells(
+                alloc,
+                &[header.as_slice(), behind.as_slice()],
+                None,
+                false,
+                never,
+            )?
+            && tells(
+                alloc,
+                &[first.as_slice(), behind.as_slice()],
+                None,
+                false,
+                torn,
+            )?,
+    )
+}
+
+#[test]
+fn short_files_are_judged_or_refused(rt: HostRuntime) {
+    assert!(rt; judges_short_files(rt.alloc()) == Some(true));
 }
 
 /// Whether parts of different backplanes, and with marks and without, are refused by their names.

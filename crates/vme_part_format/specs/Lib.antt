@@ -3,3 +3,4 @@ pub mod Sums
 pub mod PartText
 pub mod Reading
 pub mod Bounds
+pub mod Sizes

@@ -1,10 +1,11 @@
 //! A part as bytes.
 
 ghost use Rattle.std.specs.Prelude.{◌≡◌, ◌++◌, ◌+◌, ◌*◌, ◌^◌, ◌<◌, ◌≤◌, [], ◌∷◌, OnOk, IfOk};
-ghost use Rattle.std.specs.Prelude.{None, Some, false, flat_map, length, map, vec_len};
+ghost use Rattle.std.specs.Prelude.{None, Some, false, flat_map, length, map, true, vec_len};
 ghost use Rattle.vme_part_format.specs.Bounds.{FitSegments, FitsPart, FitsSegment};
 ghost use Rattle.vme_part_format.specs.PartText.{chains_bytes, head_bytes, lines_bytes, part_bytes, segment_bytes};
 ghost use Rattle.vme_part_format.specs.PartText.{flag, front_bytes, summed_bytes, tables_bytes, times_bytes};
+ghost use Rattle.vme_part_format.specs.Sizes.{IsCompactPart, marks_in, most_bytes, nodes_in};
 ghost use Rattle.vme_part_format.specs.Tables.{part_value, segment_value};
 
 use crate::levels::put_levels;
@@ -143,6 +144,15 @@ pub fn write_part(alloc: Global, part: &Part) -> Result<Vec<u8>, AllocError>
     // Without marks they are at most 4,034 for a segment, and 29.
     ensures few { part.now.listing ≡ false
         → IfOk result (λ out. length out.items ≤ 29 + 4034 * vec_len part.now.segments) }
+
+    // With marks they are at most 15 for a mark, 26 for a node, 4,669 for a segment, and 29.
+    ensures marked { part.now.listing ≡ true → IfOk result (λ out. length out.items
+        ≤ 29 + 4669 * vec_len part.now.segments + 26 * nodes_in (part_value part.now)
+        + 15 * marks_in (part_value part.now)) }
+
+    // Of one segment whose tables have at most two nodes a memory they are at most 4,096, or 16,384 and 16 for a mark.
+    ensures small { IsCompactPart (part_value part.now) → vec_len part.now.segments ≤ 1
+        → IfOk result (λ out. length out.items ≤ most_bytes (part_value part.now)) }
 {
     write_whole(alloc, part)
 }

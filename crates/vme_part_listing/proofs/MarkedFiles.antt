@@ -27,10 +27,10 @@ use Rattle.vme_parts.specs.Progress.{HasJudgedFiles, TellsAll}
 use Rattle.vme_parts.specs.Stands.{SegmentStandsFor, extent_of}
 use Rattle.vme_part_listing.specs.Listings.{ListsOfWhole}
 use Rattle.vme_parts.specs.Telling.{JudgesFiles}
-use Rattle.vme_part_listing.specs.declared.answers.ToldListing.{ToldListing}
-use Rattle.vme_part_listing.specs.declared.answers.ToldListing.TheVariants as listed
-use Rattle.vme_parts.specs.declared.answers.Told.{Told}
-use Rattle.vme_parts.specs.declared.judging.Judging.{Judging}
+use Rattle.vme_part_listing.specs.declared.answers.ListingAnswer.{ListingAnswer}
+use Rattle.vme_part_listing.specs.declared.answers.ListingAnswer.TheVariants as listed
+use Rattle.vme_parts.specs.declared.answers.RecordingAnswer.{RecordingAnswer}
+use Rattle.vme_parts.specs.declared.judged_segments.JudgedSegments.{JudgedSegments}
 use Rattle.vme_part_listing.specs.declared.listing.Ways.{Ways}
 use Rattle.vme_part_listing.proofs.MarkedWays.{opened_so}
 use Rattle.vme_parts.proofs.Passing.{tells_all}
@@ -44,12 +44,12 @@ PastMarks before after steps s =
     → HasMarks before o x → TellsAll true s v y → HasMarks after o (x ++ y)
 
 -- judging and the ways have come past the first of some segments, up to those that are left
-pub record MarksTo (j : Judging) (w : Ways) (s : SegmentValue) (ss left : List SegmentValue) : Type 0 where
+pub record MarksTo (j : JudgedSegments) (w : Ways) (s : SegmentValue) (ss left : List SegmentValue) : Type 0 where
   pub come : (files : List Block) (end : ℕ) → AreFiles files → AllStand true files (s ∷ ss) → AreNext 0 (s ∷ ss) end
       → (n : ℕ) × HasComeTo j s.opening files n × AreNext n left end × HasMarks w s.opening
       (joined_steps (take n files))
 
-pub marks_first : (j : Judging) (begun w : Ways) (s : SegmentValue) (ss : List SegmentValue) → j.steps < 2 ^ 64
+pub marks_first : (j : JudgedSegments) (begun w : Ways) (s : SegmentValue) (ss : List SegmentValue) → j.steps < 2 ^ 64
     → ((listing : Bool) (bs : List Block) → SegmentStandsFor listing s bs → HasJudgedFiles j (extent_of s) bs)
     → HasMarks begun s.opening [] → PastMarks begun w 0 s → MarksTo j w s ss ss
 marks_first j begun w s ss small judged none past =
@@ -68,9 +68,10 @@ marks_first j begun w s ss small judged none past =
           );
     }
 
-module _ (j : Judging) (w : Ways) (s : SegmentValue) (xs : List Segment) (i : ℕ) (x : Segment) (h : i < length xs)
-    (e : x ≡ get_or xs i x) (was : MarksTo j w s (map segment_value xs) (drop i (map segment_value xs))) where
-  pub marks_on : (r : Judging) (v : Ways) → r.steps < 2 ^ 64
+module _ (j : JudgedSegments) (w : Ways) (s : SegmentValue) (xs : List Segment) (i : ℕ) (x : Segment)
+    (h : i < length xs) (e : x ≡ get_or xs i x)
+    (was : MarksTo j w s (map segment_value xs) (drop i (map segment_value xs))) where
+  pub marks_on : (r : JudgedSegments) (v : Ways) → r.steps < 2 ^ 64
       → ((listing : Bool) (e : Extent) (bs ys : List Block) → HasJudgedFiles j e bs
       → SegmentStandsFor listing (segment_value x) ys → x.first ≡ e.last + 1
       → HasJudgedFiles r (joined_extent e (extent_of (segment_value x))) (bs ++ ys))
@@ -120,7 +121,7 @@ steps_of_recording (b ∷ bs) t is =
     ap (λ (k : Trace). k.steps) whole
 
 -- the marks of all of them are those of the recording
-pub marks_whole : (j : Judging) (w : Ways) (s : SegmentValue) (xs : List Segment) (i : ℕ) → length xs ≤ i
+pub marks_whole : (j : JudgedSegments) (w : Ways) (s : SegmentValue) (xs : List Segment) (i : ℕ) → length xs ≤ i
     → ((t : Trace) → malformed_step t ≡ None → t.opening.slots ≤ 21 → HasMarks w t.opening t.steps
     → marks_of_ways w ≡ all_marks t)
     → MarksTo j w s (map segment_value xs) (drop i (map segment_value xs))
@@ -143,7 +144,7 @@ marks_whole j w s xs i h law was files end are stand next t is few =
     )
 
 -- what is listed of what judging came to
-pub listing_told : (p : PartValue) (count : Option ℕ) (j : Judging) (what : ToldListing) → p.listing ≡ true
+pub listing_told : (p : PartValue) (count : Option ℕ) (j : JudgedSegments) (what : ListingAnswer) → p.listing ≡ true
     → JudgesFiles p count (Ok j) → ListsFiles j p.segments what → ListsOfWhole p count what
 listing_told p count j (listed.Listing l) marked judges lists files n are part has =
     let r = judges files n are part has in (
@@ -164,6 +165,6 @@ listing_told p count j (listed.Refused what) marked judges lists files n are par
 pub unmarked_told : (p : PartValue) (count : Option ℕ) → p.listing ≡ false → ListsOfWhole p count listed.Unmarked
 unmarked_told p count e files n are part has = e
 
-pub refused_told : (p : PartValue) (count : Option ℕ) (what : Told) → JudgesFiles p count (Err what)
+pub refused_told : (p : PartValue) (count : Option ℕ) (what : RecordingAnswer) → JudgesFiles p count (Err what)
     → ListsOfWhole p count (listed.Refused what)
 refused_told p count what judges files n are part has = judges files n are part has

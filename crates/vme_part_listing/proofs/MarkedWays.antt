@@ -25,7 +25,7 @@ use Rattle.vme_part_tables.specs.Ways.{WayOutcome, later_mark, outcome_in}
 use Rattle.vme_part_tables.proofs.Joining.{marks_of_both}
 use Rattle.vme_part_listing.specs.Marks.{HasWay}
 use Rattle.vme_parts.specs.Progress.{HasJudgedFiles}
-use Rattle.vme_parts.specs.declared.judging.Judging.{Judging}
+use Rattle.vme_parts.specs.declared.judged_segments.JudgedSegments.{JudgedSegments}
 use Rattle.vme_part_listing.specs.declared.listing.Way.{Way}
 use Rattle.vme_summary.specs.declared.extent.Extent.{Extent}
 use Rattle.vme_parts.proofs.Runs.{IsRun}
@@ -53,7 +53,7 @@ past_way {P} run law begin place count t w r o v x y steps memory marks opens co
     }
 
 -- the opening of the recording that judged files make
-pub opened_so : (j : Judging) (e : Extent) (bs : List Block) (t : Trace) (o : Levels) → HasJudgedFiles j e bs → o
+pub opened_so : (j : JudgedSegments) (e : Extent) (bs : List Block) (t : Trace) (o : Levels) → HasJudgedFiles j e bs → o
     ≡ e.opening
     → joined_trace bs ≡ Some t → o ≡ t.opening
 opened_so j e [] t o was same is = absurd (cc)

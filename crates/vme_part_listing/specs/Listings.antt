@@ -8,8 +8,8 @@ use Rattle.vme_summary.specs.Joins.{BlocksJoin, joined_trace}
 use Rattle.vme_part_format.specs.Tables.{PartValue}
 use Rattle.vme_parts.specs.Files.{AreFiles, IsPartOf}
 use Rattle.vme_parts.specs.Telling.{AllCovered, HasFiles, TellsOf}
-use Rattle.vme_part_listing.specs.declared.answers.ToldListing.{ToldListing}
-use Rattle.vme_part_listing.specs.declared.answers.ToldListing.TheVariants as listed
+use Rattle.vme_part_listing.specs.declared.answers.ListingAnswer.{ListingAnswer}
+use Rattle.vme_part_listing.specs.declared.answers.ListingAnswer.TheVariants as listed
 
 -- this is the listing of the recording that files make
 abbrev pub IsListingOfFiles : List Block → Recorded → Type 0
@@ -17,13 +17,13 @@ IsListingOfFiles files l =
     BlocksJoin files × ((t : Trace) → joined_trace files ≡ Some t → listing_of t ≡ l)
 
 -- this is listed of a recording of so many files
-abbrev pub ListsOf : List Block → PartValue → ℕ → ToldListing → Type 0
+abbrev pub ListsOf : List Block → PartValue → ℕ → ListingAnswer → Type 0
 ListsOf files p n (listed.Listing l) = AllCovered p n × (p.listing ≡ true) × IsListingOfFiles (take n files) l
 ListsOf files p n (listed.Refused what) = TellsOf files p n what
 ListsOf files p n listed.Unmarked = p.listing ≡ false
 ListsOf files p n listed.TooLong = AllCovered p n × (p.listing ≡ true)
 
 -- whatever files it is a part of, this is listed of them
-abbrev pub ListsOfWhole : PartValue → Option ℕ → ToldListing → Type 0
+abbrev pub ListsOfWhole : PartValue → Option ℕ → ListingAnswer → Type 0
 ListsOfWhole p count what =
     (files : List Block) (n : ℕ) → AreFiles files → IsPartOf files p → HasFiles p count n → ListsOf files p n what

@@ -22,9 +22,9 @@ use Rattle.vme_summary.specs.Joins.{joined_trace}
 use Rattle.vme_summary.specs.Runs.{known_run, handshake_run, stability_run, grant_run, acknowledge_run}
 use Rattle.vme_part_format.specs.Tables.{SegmentValue}
 use Rattle.vme_part_tables.specs.Runs.{mark_of}
-use Rattle.vme_part_listing.specs.declared.answers.ToldListing.{ToldListing}
-use Rattle.vme_part_listing.specs.declared.answers.ToldListing.TheVariants as listed
-use Rattle.vme_parts.specs.declared.judging.Judging.{Judging}
+use Rattle.vme_part_listing.specs.declared.answers.ListingAnswer.{ListingAnswer}
+use Rattle.vme_part_listing.specs.declared.answers.ListingAnswer.TheVariants as listed
+use Rattle.vme_parts.specs.declared.judged_segments.JudgedSegments.{JudgedSegments}
 use Rattle.vme_part_listing.specs.declared.listing.Way.{Way}
 use Rattle.vme_part_listing.specs.declared.listing.Ways.{Ways}
 use Rattle.vme_parts.specs.Covering.{AreNext}
@@ -71,7 +71,7 @@ ShowsFiles o ss ms =
     → (ms ≡ all_marks t) × (o ≡ t.opening)
 
 -- this is listed of it, where judging has come past all of them
-abbrev pub ListsFiles : Judging → List SegmentValue → ToldListing → Type 0
+abbrev pub ListsFiles : JudgedSegments → List SegmentValue → ListingAnswer → Type 0
 ListsFiles j ss (listed.Listing l) =
     (files : List Block) (end : ℕ) → AreFiles files → AllStand true files ss → AreNext 0 ss end
     → (t : Trace) → joined_trace (take end files) ≡ Some t → FoundAll j.states t → listing_of t ≡ l

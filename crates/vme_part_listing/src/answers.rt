@@ -1,15 +1,15 @@
 //! What is listed of the whole recording.
 
 use vme_listing::Listing;
-use vme_parts::Told;
+use vme_parts::RecordingAnswer;
 
 /// The listing of the whole recording, or why there is none.
 #[derive(Drop)]
-pub enum ToldListing {
+pub enum ListingAnswer {
     /// It is this.
     Listing(Listing),
     /// This is told in place of a verdict.
-    Refused(Told),
+    Refused(RecordingAnswer),
     /// The part has no marks.
     Unmarked,
     /// The first break or a mark is at an instant over 4,294,967,295.

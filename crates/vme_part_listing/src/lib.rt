@@ -18,5 +18,5 @@
 mod answers;
 mod listing;
 
-pub use answers::ToldListing;
+pub use answers::ListingAnswer;
 pub use listing::tell_listing;

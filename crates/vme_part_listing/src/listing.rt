@@ -16,7 +16,7 @@ ghost use Rattle.vme_part_listing.specs.Marks.{FitWays, HasMarks, ListsFiles, Sh
 ghost use Rattle.vme_parts.specs.Progress.{FitStates, TellsAll};
 ghost use Rattle.vme_part_listing.specs.Listings.{ListsOfWhole};
 
-use crate::answers::ToldListing;
+use crate::answers::ListingAnswer;
 use std::alloc::{AllocError, Global};
 use vme_chains::acknowledge::{Iack, acknowledge_over_captures};
 use vme_chains::grant::{Grant, grants_over_captures};
@@ -27,7 +27,7 @@ use vme_monitor::known::{Known, known_over_captures};
 use vme_monitor::mark::Mark;
 use vme_part_format::{OutcomeTable, Part, Segment, WideBreak, WideMark};
 use vme_part_tables::{follow, put_marks_on_way};
-use vme_parts::{Judging, judged};
+use vme_parts::{JudgedSegments, judged};
 use vme_stability::stability::{Stability, stability_over_captures};
 use vme_summary::listing_by;
 use vme_trace::{Break, Lines};
@@ -183,7 +183,7 @@ impl Ways {
 }
 
 /// How many steps judging has come past.
-fn step_count(judging: &Judging) -> u64
+fn step_count(judging: &JudgedSegments) -> u64
     ensures { result ≡ judging.now.steps }
 {
     judging.steps
@@ -205,7 +205,7 @@ fn marks_from(
     stability_over_captures();
     grants_over_captures();
     acknowledge_over_captures();
-    let mut judging = Judging::of(first);
+    let mut judging = JudgedSegments::of(first);
     let mut ways = Ways::at(alloc, &first.opening);
     ways.go_past(first, 0)?;
     for segment in rest {
@@ -225,10 +225,10 @@ fn marks_from(
 /// The listing of a recording past whose segments judging has come.
 fn listing_from(
     alloc: Global,
-    judging: &Judging,
+    judging: &JudgedSegments,
     first: &Segment,
     rest: &[Segment],
-) -> Result<ToldListing, AllocError>
+) -> Result<ListingAnswer, AllocError>
     requires fit { FitStates judging.now.states }
     requires first { IsSegment (segment_value first.now) }
     requires rest { All IsSegment (map segment_value rest.now) }
@@ -236,29 +236,29 @@ fn listing_from(
         ListsFiles judging.now (segment_value first.now ∷ map segment_value rest.now) what) }
 {
     let Some(event) = narrow_break(judging.states.first_break()) else {
-        return Ok(ToldListing::TooLong);
+        return Ok(ListingAnswer::TooLong);
     };
     let Some(marks) = marks_from(alloc, first, rest)? else {
-        return Ok(ToldListing::TooLong);
+        return Ok(ListingAnswer::TooLong);
     };
     let has_judged = judging.states.has_judged();
     let listing = listing_by(alloc, &first.opening, has_judged, event, marks.as_slice())?;
-    Ok(ToldListing::Listing(listing))
+    Ok(ListingAnswer::Listing(listing))
 }
 
 /// The listing of a recording past all of whose segments judging has come.
 fn list_all(
     alloc: Global,
-    judging: &Judging,
+    judging: &JudgedSegments,
     segments: &[Segment],
-) -> Result<ToldListing, AllocError>
+) -> Result<ListingAnswer, AllocError>
     requires fit { FitStates judging.now.states }
     requires segments { All IsSegment (map segment_value segments.now) }
     ensures { IfOk result (λ what. ListsFiles judging.now (map segment_value segments.now) what) }
 {
     match segments {
         [first, rest @ ..] => listing_from(alloc, judging, first, rest),
-        [] => Ok(ToldListing::TooLong),
+        [] => Ok(ListingAnswer::TooLong),
     }
 }
 
@@ -267,16 +267,16 @@ pub fn tell_listing(
     alloc: Global,
     part: &Part,
     files: Option<u64>,
-) -> Result<ToldListing, AllocError>
+) -> Result<ListingAnswer, AllocError>
     requires { FitsPart (part_value part.now) }
     ensures { IfOk result (λ what. ListsOfWhole (part_value part.now) files what) }
 {
     let judging = match judged(part, files) {
         Ok(judging) => judging,
-        Err(told) => return Ok(ToldListing::Refused(told)),
+        Err(told) => return Ok(ListingAnswer::Refused(told)),
     };
     if !part.listing {
-        return Ok(ToldListing::Unmarked);
+        return Ok(ListingAnswer::Unmarked);
     }
     list_all(alloc, &judging, part.segments.as_slice())
 }

@@ -1,10 +1,10 @@
 -- What a table of two says.
-use Rattle.std.proofs.Common.{inl, inr, ◌≡◌, ℕ, suc, ◌+◌, ◌-◌, ◌<◌, ◌≤◌, Bool, true, false, cond, eqb, ltb, List, []}
+use Rattle.std.proofs.Common.{inl, inr, ◌≡◌, ℕ, suc, ◌+◌, ◌-◌, ◌<◌, ◌≤◌, List, []}
 use Rattle.std.proofs.Common.{◌∷◌, ◌++◌}
 use Rattle.std.proofs.Common.{length, map, get_or, Option, Some, None, refl, ap, sym, subst, ◌∙◌, arith, append_assoc}
 use Rattle.std.proofs.Common.{length-append}
 use Rattle.std.specs.Prelude.{◌⊎◌, All, slice_get}
-use Rattle.std.specs.Option.{option_map, option_map_or, option_or}
+use Rattle.std.specs.Option.{option_map, option_or}
 use Rattle.std.proofs.lemmas.Bool.{lt-ltb, le-ltb, cases_order, cases_lt}
 use Rattle.std.proofs.lemmas.List.{length-map}
 use Rattle.std.proofs.lemmas.List.Elements.{All-map}
@@ -14,10 +14,10 @@ use Rattle.vme_part_format.specs.declared.table.TableEntry.{TableEntry}
 use Rattle.vme_part_format.specs.declared.wide.WideBreak.{WideBreak}
 use Rattle.vme_part_format.specs.declared.wide.WideMark.{WideMark}
 use Rattle.vme_part_tables.specs.Ways.{HasWays, NodesGoOn, WayOutcome, behind_break, behind_marks, ended_in, from_entry}
-use Rattle.vme_part_tables.specs.Ways.{gone_on, later_break, later_mark, later_outcome, outcome_in, walked}
+use Rattle.vme_part_tables.specs.Ways.{gone_on, later_break, later_outcome, outcome_in, walked}
 use Rattle.vme_part_tables.specs.Composed.{CanCompose, entry_of, entry_on, event_on, later_node, next_on, node_on}
 use Rattle.vme_part_tables.specs.Composed.{nodes_on, table_on}
-use Rattle.vme_part_tables.proofs.Walking.{behind_two, walked_here, walked_later, walked_memory, walked_over}
+use Rattle.vme_part_tables.proofs.Walking.{walked_here, walked_later, walked_memory, walked_over}
 use Rattle.vme_part_tables.proofs.Walking.{walked_past}
 
 pub length-nodes_on : (es : List TableEntry) (n : ℕ) (ns : List NodeValue) → length (nodes_on es n ns) ≡ length ns

@@ -1,5 +1,5 @@
 -- What is composed and pruned says both.
-use Rattle.std.proofs.Common.{◌≡◌, ℕ, ◌+◌, ap, ◌∙◌, arith, length}
+use Rattle.std.proofs.Common.{ℕ, ◌+◌, ◌∙◌, arith}
 use Rattle.vme_part_format.specs.Tables.{TableValue}
 use Rattle.vme_part_tables.specs.Composed.{CanCompose, table_on}
 use Rattle.vme_part_tables.specs.Pruned.{IsPruned}

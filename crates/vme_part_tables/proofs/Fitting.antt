@@ -1,14 +1,14 @@
 -- What is made of tables that can be written can be written.
-use Rattle.std.proofs.Common.{inl, inr, ◌≡◌, ℕ, zero, suc, ◌+◌, ◌-◌, ◌<◌, ◌≤◌, ◌^◌, Bool, true, false, List, [], ◌∷◌}
+use Rattle.std.proofs.Common.{inl, inr, ◌≡◌, ℕ, ◌+◌, ◌<◌, ◌≤◌, ◌^◌, Bool, true, false, List, [], ◌∷◌}
 use Rattle.std.proofs.Common.{◌++◌, length, map}
-use Rattle.std.proofs.Common.{get_or, Option, Some, None, refl, ap, sym, subst, ◌∙◌, arith, length-append}
-use Rattle.std.specs.Prelude.{◌⊎◌, All, IfSome, slice_get}
+use Rattle.std.proofs.Common.{get_or, Option, Some, None, refl, ap, subst, ◌∙◌, arith}
+use Rattle.std.specs.Prelude.{◌⊎◌, IfSome, slice_get}
 use Rattle.std.specs.Option.{option_map, option_or}
 use Rattle.std.proofs.lemmas.Bool.{lt-ltb, le-ltb, cases_lt}
 use Rattle.std.proofs.lemmas.List.{length-map, map-append}
 use Rattle.std.proofs.lemmas.List.Elements.{All-map}
 use Rattle.std.proofs.lemmas.Option.{slice_get_cases, slice_get_within}
-use Rattle.vme_part_format.specs.Bounds.{FitMarks, FitNodes, FitsBreak, FitsEntry, FitsMark, FitsNode, FitsTable}
+use Rattle.vme_part_format.specs.Bounds.{FitMarks, FitNodes, FitsBreak, FitsTable}
 use Rattle.vme_part_format.specs.Bounds.{HasNodes}
 use Rattle.vme_part_format.specs.Bounds.{stays}
 use Rattle.vme_part_format.specs.Tables.{NodeValue, TableValue}
@@ -16,9 +16,9 @@ use Rattle.vme_part_format.specs.declared.table.TableEntry.{TableEntry}
 use Rattle.vme_part_format.specs.declared.wide.WideBreak.{WideBreak}
 use Rattle.vme_part_format.specs.declared.wide.WideMark.{WideMark}
 use Rattle.vme_part_tables.specs.Ways.{HasWays, NodesGoOn, later, later_break, later_mark}
-use Rattle.vme_part_tables.specs.Composed.{CanCompose, entry_of, entry_on, event_on, later_node, next_on, node_on}
+use Rattle.vme_part_tables.specs.Composed.{CanCompose, entry_of, entry_on, event_on, later_node}
 use Rattle.vme_part_tables.specs.Composed.{nodes_on, table_on}
-use Rattle.vme_part_tables.proofs.Composing.{composed_memories, composed_ways, count_on}
+use Rattle.vme_part_tables.proofs.Composing.{composed_memories, composed_ways}
 
 -- a table that can be written has ways
 nodes_have_ways : (count steps : ℕ) (ns : List NodeValue) → FitNodes count steps ns → NodesGoOn count ns

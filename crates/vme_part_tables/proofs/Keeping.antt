@@ -8,7 +8,7 @@ use Rattle.std.proofs.Math.Seq.{drop-cons}
 use Rattle.std.proofs.lemmas.Bool.{cases_lt, cases_order}
 use Rattle.std.proofs.lemmas.List.{get_or-drop, get_or-set_other, get_or-set_same, get_or-take, length-drop, length-map}
 use Rattle.std.proofs.lemmas.List.{reverse-append, take-take}
-use Rattle.vme_part_format.specs.Tables.{NodeValue, node_value}
+use Rattle.vme_part_format.specs.Tables.{node_value}
 use Rattle.vme_part_format.specs.declared.table.TableNode.{TableNode}
 use Rattle.vme_part_tables.specs.Ways.{NodesGoOn}
 use Rattle.vme_part_tables.specs.Pruned.{IsKept, KeptGoOn, node_kept, nodes_kept}

@@ -8,4 +8,5 @@ mod Marking
 pub mod Fitting
 mod FittingPruned
 mod PruningAll
+mod Shortening
 mod ComposingAll

@@ -1,10 +1,9 @@
 -- What a table says without the nodes that no way reaches.
-use Rattle.std.proofs.Common.{inl, inr, ◌≡◌, ℕ, zero, suc, ◌+◌, ◌-◌, ◌<◌, ◌≤◌, ◌^◌, Bool, true, false, cond, eqb, ltb}
+use Rattle.std.proofs.Common.{inl, inr, ◌≡◌, ℕ, zero, suc, ◌+◌, ◌-◌, ◌<◌, ◌≤◌, Bool, true, false, cond}
 use Rattle.std.proofs.Common.{List, [], ◌∷◌, ◌++◌}
-use Rattle.std.proofs.Common.{length, map, take, drop, get_or, Option, Some, None, refl, ap, sym, subst, ◌∙◌, arith}
-use Rattle.std.specs.Prelude.{◌⊎◌, All, slice_get, slice_index_or}
-use Rattle.std.specs.Option.{option_map, option_map_or, option_or}
-use Rattle.std.specs.List.{count_by}
+use Rattle.std.proofs.Common.{length, map, take, drop, get_or, Some, None, refl, ap, sym, subst, ◌∙◌, arith}
+use Rattle.std.specs.Prelude.{◌⊎◌, slice_get}
+use Rattle.std.specs.Option.{option_map}
 use Rattle.std.proofs.lemmas.Bool.{lt-ltb, le-ltb, cases_order, cases_lt}
 use Rattle.std.proofs.lemmas.List.Sums.{count_by-le-length, sum_by-append, sum_by-cons}
 use Rattle.std.proofs.Math.Seq.{take-add}
@@ -13,7 +12,7 @@ use Rattle.std.proofs.lemmas.List.Elements.{All-map}
 use Rattle.std.proofs.lemmas.Option.{slice_get-map, slice_get_cases}
 use Rattle.vme_part_format.specs.Tables.{NodeValue, TableValue}
 use Rattle.vme_part_format.specs.declared.table.TableEntry.{TableEntry}
-use Rattle.vme_part_tables.specs.Ways.{HasWays, NodesGoOn, WayOutcome, behind_break, ended_in, from_entry, outcome_in}
+use Rattle.vme_part_tables.specs.Ways.{HasWays, NodesGoOn, ended_in, from_entry, outcome_in}
 use Rattle.vme_part_tables.specs.Ways.{walked}
 use Rattle.vme_part_tables.specs.Pruned.{AreCounts, KeepsWays, IsKept, KeptGoOn, entry_kept, kept_count, next_kept}
 use Rattle.vme_part_tables.specs.Pruned.{node_kept}

@@ -1,5 +1,5 @@
 -- One element more of a list is changed in place.
-use Rattle.std.proofs.Common.{◌≡◌, ℕ, zero, suc, ◌+◌, ◌-◌, ◌<◌, ◌≤◌, List, [], ◌∷◌, ◌++◌, length, get_or, take, drop}
+use Rattle.std.proofs.Common.{◌≡◌, ℕ, zero, suc, ◌+◌, ◌-◌, ◌<◌, List, [], ◌∷◌, ◌++◌, length, get_or, take, drop}
 use Rattle.std.proofs.Common.{map, refl, ap}
 use Rattle.std.proofs.Common.{sym, ◌∙◌, add-zero, add-one, arith, Some}
 use Rattle.std.specs.Prelude.{slice_get}

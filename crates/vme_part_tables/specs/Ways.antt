@@ -1,5 +1,5 @@
 -- What a table says of a memory that enters.
-use Rattle.std.specs.Prelude.{◌≡◌, ℕ, ◌-◌, ◌+◌, ◌<◌, ◌==◌, List, [], ◌∷◌, ◌++◌, map, Option, None, Some, min, ◌^◌}
+use Rattle.std.specs.Prelude.{ℕ, ◌-◌, ◌+◌, ◌<◌, ◌==◌, List, [], ◌∷◌, ◌++◌, map, Option, None, min, ◌^◌}
 use Rattle.std.specs.Prelude.{All, length, slice_get, nat_lt, if◌then◌else◌}
 use Rattle.std.specs.Option.{option_map, option_map_or, option_or}
 use Rattle.vme_part_format.specs.Tables.{NodeValue, TableValue}

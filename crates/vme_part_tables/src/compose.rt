@@ -9,6 +9,7 @@ ghost use Rattle.vme_part_tables.specs.Runs.{SaysBoth};
 ghost use Rattle.vme_part_tables.specs.Ways.{later_mark};
 
 use crate::prune::pruned;
+use crate::shorten::shortened;
 use crate::ways::later_break;
 use std::alloc::{AllocError, Global};
 use vme_part_format::{OutcomeTable, TableEntry, TableNode, WideBreak, WideMark};
@@ -165,5 +166,6 @@ pub fn composed(
     ensures { IfOk result (λ t. SaysBoth steps (table_value first) (table_value second) (table_value t)) }
 {
     let table = connected(first, second, steps)?;
+    let table = shortened(alloc, table)?;
     pruned(alloc, table)
 }

@@ -4,7 +4,8 @@
 //!
 //! - `ways`: ways through a table. [`follow`] says which memory is left and which rule is broken
 //!   first, [`put_marks_on_way`] adds the marks.
-//! - `compose`: [`composed`] makes one table of two; `prune`: without what no way reaches.
+//! - `compose`: [`composed`] makes one table of two. `shorten`: a node takes in the one that it goes
+//!   on with, where no other way leads there; `prune`: without what no way reaches.
 //! - `marked`: [`marked_table`] makes a table with marks of what a monitor's summary says.
 //!
 //! # What is proved
@@ -18,12 +19,14 @@
 //!
 //! # What isn't proved
 //!
-//! That memory suffices. That of the nodes which no way reaches none is left.
+//! That memory suffices. That of the nodes which no way reaches none is left, and that of those
+//! which a single way leads to each is taken in.
 #![tactic(auto)]
 
 mod compose;
 mod marked;
 mod prune;
+mod shorten;
 mod ways;
 
 pub use compose::{are_few_together, composed};

@@ -3,6 +3,7 @@ use Rattle.std.proofs.Common.{◌≡◌, ℕ, List, [], ◌∷◌, ◌++◌, map
 use Rattle.std.specs.Prelude.{All}
 use Rattle.std.proofs.lemmas.List.{map_push, take-map}
 use Rattle.std.proofs.lemmas.List.Elements.{All-same, All-take}
+use Rattle.vme_part_format.specs.Sizes.{IsCompact}
 use Rattle.vme_part_format.specs.Tables.{SegmentValue, segment_value}
 use Rattle.vme_part_format.specs.declared.segment.Segment.{Segment}
 use Rattle.vme_parts.specs.Buddies.{AreBuddies}
@@ -37,11 +38,11 @@ popped_all n old new e all =
     (All-take IsSegment n (map segment_value old) all)
 
 pub step_gathered : (done : List SegmentValue) (old new : List Segment) (x : Segment) (t r : SegmentValue)
-    → old ≡ new ++ x ∷ [] → IsOfBoth (segment_value x) t r → AreBuddies (segment_value x) t
+    → old ≡ new ++ x ∷ [] → IsOfBoth (segment_value x) t r → AreBuddies (segment_value x) t → IsCompact r
     → Gathered done (map segment_value old ++ t ∷ []) → Gathered done (map segment_value new ++ r ∷ [])
-step_gathered done old new x t r e b h g =
+step_gathered done old new x t r e b h few g =
     let front = map segment_value new in
     let s = segment_value x in
     let two : map segment_value old ++ t ∷ [] ≡ front ++ s ∷ t ∷ [] =
     ap (λ (k : List SegmentValue). k ++ t ∷ []) (popped_values old new x e) ∙ append_assoc front (s ∷ []) (t ∷ []) in
-    gathered_merged done front s t r (subst (Gathered done) two g) b h
+    gathered_merged done front s t r (subst (Gathered done) two g) b h few

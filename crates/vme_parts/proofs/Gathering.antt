@@ -9,6 +9,7 @@ use Rattle.std.proofs.lemmas.List.Elements.{All-take}
 use Rattle.std.proofs.lemmas.List.Elements.{Contains-append_left, Contains-append_right}
 use Rattle.std.proofs.lemmas.List.Elements.{Contains-push, Contains-push_cases}
 use Rattle.vme_part_format.specs.Bounds.{FitSegments, FitsSegment}
+use Rattle.vme_part_format.specs.Sizes.{IsCompact}
 use Rattle.vme_part_format.specs.Tables.{SegmentValue, last_of}
 use Rattle.vme_parts.specs.Buddies.{AreBuddies}
 use Rattle.vme_parts.specs.Files.{SegmentCovers, SegmentsCover, files_of}
@@ -57,6 +58,7 @@ gathered_none =
       covers = λ n. (λ c. c, λ c. c);
       stand = λ listing files all. all;
       fits = λ listing all. all;
+      compact = λ all. all;
     }
 
 -- one more behind
@@ -75,6 +77,8 @@ gathered_pushed done ss x g order =
       fits = λ listing all.
           All-push (FitsSegment listing) ss x (g.fits listing (all_front (FitsSegment listing) done (x ∷ []) all))
           (all_last (FitsSegment listing) done x all);
+      compact = λ all.
+          All-push IsCompact ss x (g.compact (all_front IsCompact done (x ∷ []) all)) (all_last IsCompact done x all);
     }
   where
     to : (n : ℕ) → (SegmentsCover ss n → SegmentsCover done n) → (SegmentsCover ss n ⊎ SegmentCovers x n)
@@ -101,6 +105,7 @@ gathered_within done ss x s g there within =
           let P : SegmentValue → Type 0 = λ s. SegmentStandsFor listing s (files_of files s) in
           g.stand listing files (all_front P done (x ∷ []) all);
       fits = λ listing all. g.fits listing (all_front (FitsSegment listing) done (x ∷ []) all);
+      compact = λ all. g.compact (all_front IsCompact done (x ∷ []) all);
     }
   where
     back : (n : ℕ) → (SegmentsCover done n → SegmentsCover ss n) → (SegmentsCover done n ⊎ SegmentCovers x n)
@@ -117,8 +122,8 @@ order_merged before (x ∷ xs) s t r e a = (a.0, order_merged (Some (last_of x.f
 
 -- two buddies at the end become one
 pub gathered_merged : (done front : List SegmentValue) (s t r : SegmentValue) → Gathered done (front ++ s ∷ t ∷ [])
-    → IsOfBoth s t r → AreBuddies s t → Gathered done (front ++ r ∷ [])
-gathered_merged done front s t r g b h =
+    → IsOfBoth s t r → AreBuddies s t → IsCompact r → Gathered done (front ++ r ∷ [])
+gathered_merged done front s t r g b h few =
     record {
       order = order_merged None front s t r b.first g.order;
       covers = λ n. (
@@ -130,6 +135,7 @@ gathered_merged done front s t r g b h =
           (both_stand s t r b h listing files) (g.stand listing files all);
       fits = λ listing all.
           all_merged (FitsSegment listing) front s t r (both_fit s t r b h listing) (g.fits listing all);
+      compact = λ all. all_merged IsCompact front s t r (λ p q. few) (g.compact all);
     }
   where
     to_two : (n : ℕ) → (SegmentCovers s n ⊎ SegmentCovers t n) → SegmentsCover (front ++ s ∷ t ∷ []) n

@@ -10,9 +10,11 @@ use Rattle.std.proofs.lemmas.List.Elements.{Contains-append_right, Contains-get_
 use Rattle.std.proofs.lemmas.List.Sorted.{All-permutation, Contains-permutation, IsPermutation-sym}
 use Rattle.vme_trace.specs.declared.block.Block.{Block}
 use Rattle.vme_part_format.specs.Bounds.{FitSegments, FitsPart, FitsSegment, FitsTable}
+use Rattle.vme_part_format.specs.Sizes.{IsCompact, IsCompactPart}
 use Rattle.vme_part_format.specs.Tables.{PartValue, SegmentValue, TableValue, last_of, part_value, segment_value}
 use Rattle.vme_part_format.specs.declared.part.Part.{Part}
 use Rattle.vme_part_tables.proofs.Fitting.{has_ways}
+use Rattle.vme_parts.specs.Alike.{AllAlike, HaveApart}
 use Rattle.vme_parts.specs.Buddies.{IsTableOf}
 use Rattle.vme_parts.specs.Files.{AllStand, IsPartOf, JoinsParts, SegmentsCover, SomeCovers}
 use Rattle.vme_parts.specs.Files.{files_of}
@@ -65,6 +67,15 @@ module _ (ps : List PartValue) (r : PartValue) (all : List SegmentValue)
         few = few;
         segments = fit_together r.listing None r.segments g.order (g.fits r.listing each_fits);
       }
+
+  each_compact : All IsCompactPart ps → All IsCompact all
+  each_compact parts k d h =
+      let s = get_or all k d in
+      let there = from s (Contains-get_or all k d h) in
+      All-contains IsCompact there.0.segments s (All-contains IsCompactPart ps there.0 parts there.1) there.2
+
+  pub parts_compact : All IsCompactPart ps → IsCompactPart r
+  parts_compact parts = g.compact (each_compact parts)
 
   pub parts_joined : JoinsParts ps r
   parts_joined files are parts = (
@@ -149,6 +160,33 @@ sorted_are_segments ps made sorted e same fits =
     All-permutation IsSegment made sorted same
     (All-same IsSegment made (segments_of ps) e (segments_are ps fits))
 
+-- what sorted segments say of one another
+module _ (ps : List PartValue) (made sorted : List SegmentValue) (e : made ≡ segments_of ps)
+    (same : IsPermutation made sorted) where
+  in_sorted : (s : SegmentValue) → Contains (segments_of ps) s → Contains sorted s
+  in_sorted s c =
+      Contains-permutation made sorted s same (subst (λ (ss : List SegmentValue). Contains ss s) (sym e) c)
+
+  from_sorted : (s : SegmentValue) → Contains sorted s → Contains (segments_of ps) s
+  from_sorted s c =
+      subst (λ (ss : List SegmentValue). Contains ss s) e
+      (Contains-permutation sorted made s (IsPermutation-sym made sorted same) c)
+
+  pub joins_alike : AllAlike sorted → AllAlike (segments_of ps)
+  joins_alike alike = λ s t p q h. alike s t (in_sorted s p) (in_sorted t q) h
+
+  pub joins_apart : (number : ℕ) → HaveApart sorted number → HaveApart (segments_of ps) number
+  joins_apart number a =
+      record {
+        one = a.one;
+        other = a.other;
+        one_there = from_sorted a.one a.one_there;
+        other_there = from_sorted a.other a.other_there;
+        numbered = a.numbered;
+        same_files = a.same_files;
+        apart = a.apart;
+      }
+
 -- the part of what is gathered of all segments, in whatever order
 module _ (ps : List PartValue) (r : PartValue) (made sorted : List SegmentValue) (e : made ≡ segments_of ps)
     (same : IsPermutation made sorted) (listed : All (λ (p : PartValue). p.listing ≡ r.listing) ps)
@@ -170,3 +208,6 @@ module _ (ps : List PartValue) (r : PartValue) (made sorted : List SegmentValue)
 
   pub joins_fit : FitsPart r
   joins_fit = parts_fit ps r sorted from_one into_sorted listed fits sum few g
+
+  pub joins_compact : All IsCompactPart ps → IsCompactPart r
+  joins_compact = parts_compact ps r sorted from_one into_sorted listed fits sum few g

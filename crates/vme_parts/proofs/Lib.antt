@@ -1,17 +1,19 @@
 pub mod Runs
-mod Standing
+pub mod Standing
 mod Unmarked
 mod Merging
 mod Gathering
 mod Nesting
-mod Halves
+pub mod Halves
 pub mod Ordering
 mod Backward
 pub mod Bare
-mod OneFile
-mod OpenedFile
+pub mod OneFile
+pub mod OpenedFile
 mod Tearing
 pub mod JoinedParts
+mod SameFiles
+mod Likeness
 pub mod StateLemmas
 pub mod Passing
 mod TornFiles

@@ -7,7 +7,7 @@ use Rattle.std.proofs.Math.Bool.{beq}
 use Rattle.std.specs.List.{range_with_len}
 use Rattle.std.proofs.lemmas.List.{drop_all, drop_more, get_or-map, length-map, length-set, take_all, take_more}
 use Rattle.std.proofs.lemmas.List.{take_more_set}
-use Rattle.std.proofs.lemmas.List.Elements.{All-push}
+use Rattle.std.proofs.lemmas.List.Elements.{All-cons, All-nil, All-push}
 use Rattle.std.proofs.lemmas.List.FromFn.{map-range_with_len_more}
 use Rattle.vme_trace.specs.Levels.{Levels, set_level}
 use Rattle.vme_trace.specs.LineNumbers.{line_count}
@@ -15,6 +15,7 @@ use Rattle.vme_trace.specs.declared.level.Level.{Level}
 use Rattle.vme_part_format.specs.Bounds.{FitMarks, FitNodes, FitsEntry, FitsLevels, FitsMark, FitsNode, FitsTable}
 use Rattle.vme_part_format.specs.Bounds.{FitSegments, FitsPart, FitsSegment, HasNodes, stays}
 use Rattle.vme_part_format.specs.PartText.{seen_level}
+use Rattle.vme_part_format.specs.Sizes.{IsCompact}
 use Rattle.vme_part_format.specs.Tables.{NodeValue, node_value, part_value, segment_value, table_value}
 use Rattle.vme_part_format.specs.declared.part.Part.{Part}
 use Rattle.vme_part_format.specs.declared.segment.Segment.{Segment}
@@ -148,6 +149,12 @@ same_flag true false e = absurd (cc)
 same_flag false true e = absurd (cc)
 same_flag false false e = refl
 
+pub other_flag : (a b : Bool) → not (beq a b) ≡ true → a ≡ b → ⊥
+other_flag true true e f = absurd (cc)
+other_flag true false e f = absurd (cc)
+other_flag false true e f = absurd (cc)
+other_flag false false e f = absurd (cc)
+
 -- a part of one segment
 pub one_fits : (p : Part) (s : Segment) → p.backplane < 2 ^ 64 → length p.segments.items ≡ 1
     → s ≡ get_or p.segments.items 0 s → FitsSegment p.listing (segment_value s) → FitsPart (part_value p)
@@ -163,3 +170,12 @@ one_fits p s small one is fits =
     all_fit [] n e = absurd (omega (arith, n))
     all_fit (x ∷ []) n e = (subst (λ (y : Segment). FitsSegment p.listing (segment_value y)) e fits, tt, tt)
     all_fit (x ∷ y ∷ xs) n e = absurd (omega (arith, n))
+
+-- and its tables have few nodes
+pub one_compact : (xs : List Segment) (s : Segment) → length xs ≡ 1 → s ≡ get_or xs 0 s → IsCompact (segment_value s)
+    → All IsCompact (map segment_value xs)
+one_compact [] s one is h = absurd (omega (arith, one))
+one_compact (x ∷ []) s one is h =
+    All-cons IsCompact (segment_value x) [] (subst (λ (y : Segment). IsCompact (segment_value y)) is h)
+    (All-nil IsCompact)
+one_compact (x ∷ y ∷ ys) s one is h = absurd (omega (arith, one))

@@ -58,7 +58,7 @@ pub pushed_alone : (old new : List Segment) (x : Segment) → old ≡ [] → new
     → map segment_value new ≡ segment_value x ∷ []
 pushed_alone old new x e p = ap (map segment_value) p ∙ ap (λ (xs : List Segment). map segment_value (xs ++ x ∷ [])) e
 
-first_is : (number : ℕ) (b : Block) → b.number ≡ number
+pub first_is : (number : ℕ) (b : Block) → b.number ≡ number
     → option_map (λ (s : Step). number) (slice_get b.steps 0) ≡ first_with_step (b ∷ [])
 first_is number b e = by_steps b.steps refl
   where

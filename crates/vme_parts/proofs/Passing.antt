@@ -18,7 +18,7 @@ use Rattle.vme_parts.specs.Joined.{joined_times}
 use Rattle.vme_parts.specs.Meeting.{FilesGoOn, ends_at, starts_at}
 use Rattle.vme_parts.specs.Progress.{HasJudgedFiles, HasStates, TellsAll}
 use Rattle.vme_parts.specs.Stands.{SegmentStandsFor, extent_of}
-use Rattle.vme_parts.specs.declared.judging.Judging.{Judging}
+use Rattle.vme_parts.specs.declared.judged_segments.JudgedSegments.{JudgedSegments}
 use Rattle.vme_parts.specs.declared.state.States.{States}
 use Rattle.vme_parts.proofs.Standing.{ends_of_both, starts_of_both}
 
@@ -39,7 +39,7 @@ tells_all listing s ys p =
       acknowledge = p.acknowledge;
     }
 
-pub first_judged : (j : Judging) (begun : States) (s : SegmentValue) → j.left ≡ s.left → j.times ≡ s.times
+pub first_judged : (j : JudgedSegments) (begun : States) (s : SegmentValue) → j.left ≡ s.left → j.times ≡ s.times
     → j.steps ≡ s.steps → s.steps < 2 ^ 64 → HasStates begun s.opening [] → PastTables begun j.states 0 s
     → (listing : Bool) (bs : List Block) → SegmentStandsFor listing s bs → HasJudgedFiles j (extent_of s) bs
 first_judged j begun s left times steps small none past listing bs p =
@@ -53,7 +53,7 @@ first_judged j begun s left times steps small none past listing bs p =
           (tells_all listing s bs p);
     }
 
-module _ (j r : Judging) (s : SegmentValue) (goes_on : FilesGoOn j.left j.times s.opening s.times) (left : r.left
+module _ (j r : JudgedSegments) (s : SegmentValue) (goes_on : FilesGoOn j.left j.times s.opening s.times) (left : r.left
     ≡ s.left)
     (times : r.times ≡ joined_times j.times s.times) (steps : r.steps ≡ j.steps + s.steps) (small : r.steps < 2 ^ 64)
     (past : PastTables j.states r.states j.steps s) where

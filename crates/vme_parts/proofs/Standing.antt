@@ -46,7 +46,7 @@ ends_of_both None (Some b) = refl
 ends_of_both (Some a) None = refl
 ends_of_both (Some a) (Some b) = refl
 
-numbers_of_both : (a b : Option SegmentTimes) → option_map (λ (t : SegmentTimes). t.number) (joined_times a b)
+pub numbers_of_both : (a b : Option SegmentTimes) → option_map (λ (t : SegmentTimes). t.number) (joined_times a b)
     ≡ option_or (option_map (λ (t : SegmentTimes). t.number) a) (option_map (λ (t : SegmentTimes). t.number) b)
 numbers_of_both None b = refl
 numbers_of_both (Some a) None = refl

@@ -22,12 +22,12 @@ use Rattle.vme_parts.specs.Progress.{FoundAll, HasJudgedFiles, IsTornIn, StopsAt
 use Rattle.vme_parts.specs.Stands.{SegmentStandsFor, extent_of}
 use Rattle.vme_parts.specs.Telling.{AllCovered, HasFiles, JudgesAll, JudgesFiles, TellsOfWhole, told_of}
 use Rattle.vme_parts.specs.Telling.{verdict_of}
-use Rattle.vme_parts.specs.declared.answers.Told.{Told}
-use Rattle.vme_parts.specs.declared.answers.Told.TheVariants as told
+use Rattle.vme_parts.specs.declared.answers.RecordingAnswer.{RecordingAnswer}
+use Rattle.vme_parts.specs.declared.answers.RecordingAnswer.TheVariants as told
 use Rattle.vme_parts.specs.declared.answers.WideVerdict.{WideVerdict}
-use Rattle.vme_parts.specs.declared.judging.Judging.{Judging}
-use Rattle.vme_parts.specs.declared.judging.Stop.{Stop}
-use Rattle.vme_parts.specs.declared.judging.Stop.TheVariants as stop
+use Rattle.vme_parts.specs.declared.judged_segments.JudgedSegments.{JudgedSegments}
+use Rattle.vme_parts.specs.declared.judged_segments.Stop.{Stop}
+use Rattle.vme_parts.specs.declared.judged_segments.Stop.TheVariants as stop
 use Rattle.vme_parts.proofs.Covered.{all_covered, from_none, gap_missing, last_covered, next_low, next_missing}
 use Rattle.vme_parts.proofs.Covered.{next_whole}
 use Rattle.vme_parts.proofs.WholeFiles.{HasComeTo, come_first, come_on, found_all, torn_below, torn_whole}
@@ -53,11 +53,11 @@ contained_at xs i x h e = (
 -- ---- past segments that follow one another
 
 -- judging has come past the first of some segments, up to those that are left
-pub record ComesTo (j : Judging) (s : SegmentValue) (ss left : List SegmentValue) : Type 0 where
+pub record ComesTo (j : JudgedSegments) (s : SegmentValue) (ss left : List SegmentValue) : Type 0 where
   pub come : (listing : Bool) (files : List Block) (end : ℕ) → AreFiles files → AllStand listing files (s ∷ ss)
       → AreNext 0 (s ∷ ss) end → (n : ℕ) × HasComeTo j s.opening files n × AreNext n left end
 
-pub comes_first : (j : Judging) (s : SegmentValue) (ss : List SegmentValue)
+pub comes_first : (j : JudgedSegments) (s : SegmentValue) (ss : List SegmentValue)
     → ((listing : Bool) (bs : List Block) → SegmentStandsFor listing s bs → HasJudgedFiles j (extent_of s) bs)
     → ComesTo j s ss ss
 comes_first j s ss judged =
@@ -70,7 +70,7 @@ comes_first j s ss judged =
           );
     }
 
-module _ (j : Judging) (s : SegmentValue) (xs : List Segment) (i : ℕ) (x : Segment) (h : i < length xs)
+module _ (j : JudgedSegments) (s : SegmentValue) (xs : List Segment) (i : ℕ) (x : Segment) (h : i < length xs)
     (e : x ≡ get_or xs i x) (was : ComesTo j s (map segment_value xs) (drop i (map segment_value xs))) where
   here : (listing : Bool) (files : List Block) (end : ℕ) → AreFiles files → AllStand listing files
       (s ∷ map segment_value xs)
@@ -88,7 +88,7 @@ module _ (j : Judging) (s : SegmentValue) (xs : List Segment) (i : ℕ) (x : Seg
       All-contains P (map segment_value xs) (segment_value x) (All-tail P s (map segment_value xs) stand)
       (contained_at xs i x h e)
 
-  pub comes_on : (r : Judging)
+  pub comes_on : (r : JudgedSegments)
       → ((listing : Bool) (e : Extent) (bs ys : List Block) → HasJudgedFiles j e bs
       → SegmentStandsFor listing (segment_value x) ys → x.first ≡ e.last + 1
       → HasJudgedFiles r (joined_extent e (extent_of (segment_value x))) (bs ++ ys))
@@ -122,7 +122,7 @@ module _ (j : Judging) (s : SegmentValue) (xs : List Segment) (i : ℕ) (x : Seg
       )
 
 -- past all of them
-pub judges_whole : (j : Judging) (s : SegmentValue) (xs : List Segment) (i : ℕ) → length xs ≤ i
+pub judges_whole : (j : JudgedSegments) (s : SegmentValue) (xs : List Segment) (i : ℕ) → length xs ≤ i
     → ComesTo j s (map segment_value xs) (drop i (map segment_value xs)) → JudgesAll (s ∷ map segment_value xs) (Ok j)
 judges_whole j s xs i h was =
     λ listing files end are stand next.
@@ -183,7 +183,7 @@ module _ (p : PartValue) (count : Option ℕ) (end : ℕ) (w : AreWithinFiles p.
           let same : s.opening ≡ v = cc in
           subst (λ (l : Levels). l.slots ≤ 21) same f.0.opening.slots.1
 
-      pub judged_told : (j : Judging) → JudgesAll p.segments (Ok j) → JudgesFiles p count (Ok j)
+      pub judged_told : (j : JudgedSegments) → JudgesAll p.segments (Ok j) → JudgesFiles p count (Ok j)
       judged_told j judges files n are part has =
           let r = judges p.listing files end are part.stands next in (
             covers_all files n part has,
@@ -211,7 +211,8 @@ module _ (p : PartValue) (count : Option ℕ) (end : ℕ) (w : AreWithinFiles p.
       stop_told stop.TooManySteps judges = many_told
 
 -- what is told of what judging came to
-pub verdict_told : (p : PartValue) (count : Option ℕ) (j : Judging) (v : WideVerdict) → JudgesFiles p count (Ok j)
+pub verdict_told : (p : PartValue) (count : Option ℕ) (j : JudgedSegments) (v : WideVerdict)
+    → JudgesFiles p count (Ok j)
     → ((t : Trace) → FoundAll j.states t → verdict_by rules_in_force t ≡ verdict_of v)
     → TellsOfWhole p count (told.Verdict v)
 verdict_told p count j v judges found files n are part has =
@@ -220,6 +221,6 @@ verdict_told p count j v judges found files n are part has =
       (r.2.1.extent.join, λ t is. found t (found_all j r.2.0 (take n files) t r.2.1 r.2.2 is)),
     )
 
-pub refusal_told : (p : PartValue) (count : Option ℕ) (what : Told) → JudgesFiles p count (Err what)
+pub refusal_told : (p : PartValue) (count : Option ℕ) (what : RecordingAnswer) → JudgesFiles p count (Err what)
     → TellsOfWhole p count what
 refusal_told p count what judges files n are part has = judges files n are part has

@@ -21,7 +21,7 @@ use Rattle.vme_part_format.specs.declared.segment.SegmentTimes.{SegmentTimes}
 use Rattle.vme_parts.specs.Meeting.{IsEarlyFile, IsTornAt, ends_at, starts_at}
 use Rattle.vme_parts.specs.Progress.{HasJudgedFiles, IsTornIn}
 use Rattle.vme_parts.specs.Stands.{SegmentStandsFor, extent_of, first_with_step}
-use Rattle.vme_parts.specs.declared.judging.Judging.{Judging}
+use Rattle.vme_parts.specs.declared.judged_segments.JudgedSegments.{JudgedSegments}
 
 -- the extent of a block alone
 abbrev extent_alone : Block → Extent
@@ -93,7 +93,7 @@ split (y ∷ ys) n e = by_steps y.steps refl (split ys n)
         let own : Some n ≡ Some y.number = rw f at e in
         split_here y ys n x xs f cc
 
-module _ (j : Judging) (s : SegmentValue) (listing : Bool) (e : Extent) (bs ys : List Block) (k : ℕ)
+module _ (j : JudgedSegments) (s : SegmentValue) (listing : Bool) (e : Extent) (bs ys : List Block) (k : ℕ)
     (was : HasJudgedFiles j e bs) (p : SegmentStandsFor listing s ys) (n : s.first ≡ e.last + 1) where
   -- where the segment opens with other levels
   torn_first : (zs : List Block) → IsExtent (extent_of s) zs → (s.opening ≡ j.left → ⊥) → k ≡ s.first → IsTornIn bs zs k

@@ -19,11 +19,11 @@ use Rattle.vme_parts.specs.Files.{AreFiles, files_of}
 use Rattle.vme_parts.specs.Progress.{FoundAll, HasJudgedFiles, HasStates, IsTornIn}
 use Rattle.vme_parts.specs.Stands.{SegmentStandsFor, extent_of}
 use Rattle.vme_parts.specs.Telling.{IsTornFile}
-use Rattle.vme_parts.specs.declared.judging.Judging.{Judging}
+use Rattle.vme_parts.specs.declared.judged_segments.JudgedSegments.{JudgedSegments}
 
 -- what is found is of the recording that the files make
-pub found_all : (j : Judging) (e : Extent) (bs : List Block) (t : Trace) → HasJudgedFiles j e bs → e.opening.slots ≤ 21
-    → joined_trace bs ≡ Some t → FoundAll j.states t
+pub found_all : (j : JudgedSegments) (e : Extent) (bs : List Block) (t : Trace) → HasJudgedFiles j e bs
+    → e.opening.slots ≤ 21 → joined_trace bs ≡ Some t → FoundAll j.states t
 found_all j e [] t was few is = absurd (cc)
 found_all j e (b ∷ bs) t was few is =
     let opens : Some b.opening ≡ Some e.opening = was.extent.opening in
@@ -119,13 +119,13 @@ torn_below files n size k are t =
     )
 
 -- what judging has come to up to a number, of segments that stand for their files
-pub record HasComeTo (j : Judging) (opening : Levels) (files : List Block) (n : ℕ) : Type 0 where
+pub record HasComeTo (j : JudgedSegments) (opening : Levels) (files : List Block) (n : ℕ) : Type 0 where
   pub extent : Extent
   pub judged : HasJudgedFiles j extent (take n files)
   pub last : extent.last + 1 ≡ n
   pub opened : opening ≡ extent.opening
 
-pub come_first : (j : Judging) (s : SegmentValue) (listing : Bool) (files : List Block) → s.first ≡ 0
+pub come_first : (j : JudgedSegments) (s : SegmentValue) (listing : Bool) (files : List Block) → s.first ≡ 0
     → SegmentStandsFor listing s (files_of files s)
     → ((listing : Bool) (bs : List Block) → SegmentStandsFor listing s bs → HasJudgedFiles j (extent_of s) bs)
     → HasComeTo j s.opening files (last_of s.first s.order + 1)
@@ -137,8 +137,8 @@ come_first j s listing files e p judged =
       opened = refl;
     }
 
-pub come_on : (j r : Judging) (o : Levels) (s : SegmentValue) (listing : Bool) (files : List Block) (n : ℕ) → s.first
-    ≡ n
+pub come_on : (j r : JudgedSegments) (o : Levels) (s : SegmentValue) (listing : Bool) (files : List Block) (n : ℕ)
+    → s.first ≡ n
     → SegmentStandsFor listing s (files_of files s)
     → ((listing : Bool) (e : Extent) (bs ys : List Block) → HasJudgedFiles j e bs → SegmentStandsFor listing s ys
     → s.first ≡ e.last + 1 → HasJudgedFiles r (joined_extent e (extent_of s)) (bs ++ ys))

@@ -4,6 +4,7 @@ use Rattle.std.specs.Prelude.{Option, None, Some}
 use Rattle.std.specs.List.{flat_map, last_or}
 use Rattle.vme_trace.specs.declared.block.Block.{Block}
 use Rattle.vme_part_format.specs.Bounds.{FitsNumbers, FitsSegment, IsBehind}
+use Rattle.vme_part_format.specs.Sizes.{IsCompact}
 use Rattle.vme_part_format.specs.Tables.{PartValue, SegmentValue, last_of}
 use Rattle.vme_parts.specs.Buddies.{HasTables}
 use Rattle.vme_parts.specs.Files.{AllStand, SegmentsCover}
@@ -13,13 +14,14 @@ abbrev pub Ascend : Option ℕ → List SegmentValue → Type 0
 Ascend before [] = Unit {0}
 Ascend before (s ∷ ss) = IsBehind before s × Ascend (Some (last_of s.first s.order)) ss
 
--- some segments say what others do: they cover the same files, they stand for theirs if the others do, and they can be
--- written if the others can
+-- some segments say what others do: they cover the same files, they stand for theirs if the others do, they can be
+-- written if the others can, and have few nodes if the others do
 pub record Gathered (done ss : List SegmentValue) : Type 0 where
   pub order : Ascend None ss
   pub covers : (n : ℕ) → SegmentsCover ss n ↔ SegmentsCover done n
   pub stand : (listing : Bool) (files : List Block) → AllStand listing files done → AllStand listing files ss
   pub fits : (listing : Bool) → All (FitsSegment listing) done → All (FitsSegment listing) ss
+  pub compact : All IsCompact done → All IsCompact ss
 
 -- what a segment is, whatever was read: its numbers, and tables of as many memories as the monitors have
 pub record IsSegment (s : SegmentValue) : Type 0 where

@@ -8,3 +8,4 @@ pub mod Opened
 pub mod Progress
 pub mod Covering
 pub mod Telling
+pub mod Alike

@@ -24,9 +24,9 @@ use Rattle.vme_part_format.specs.Tables.{SegmentValue}
 use Rattle.vme_part_tables.specs.Runs.{TellsRun, TellsRuns}
 use Rattle.vme_part_tables.specs.Ways.{WayOutcome}
 use Rattle.vme_parts.specs.Meeting.{ends_at, starts_at}
-use Rattle.vme_parts.specs.declared.judging.Judging.{Judging}
-use Rattle.vme_parts.specs.declared.judging.Stop.{Stop}
-use Rattle.vme_parts.specs.declared.judging.Stop.TheVariants as stop
+use Rattle.vme_parts.specs.declared.judged_segments.JudgedSegments.{JudgedSegments}
+use Rattle.vme_parts.specs.declared.judged_segments.Stop.{Stop}
+use Rattle.vme_parts.specs.declared.judged_segments.Stop.TheVariants as stop
 use Rattle.vme_parts.specs.declared.state.State.{State}
 use Rattle.vme_parts.specs.declared.state.States.{States}
 
@@ -72,7 +72,7 @@ pub record TellsAll (listing : Bool) (s : SegmentValue) (v : Levels) (y : List S
   pub acknowledge : TellsRuns listing 11 (phase_place acknowledgement_place) s.acknowledge (λ p. acknowledge_run p v y)
 
 -- judging has come past files that follow one another and have this extent
-pub record HasJudgedFiles (j : Judging) (e : Extent) (bs : List Block) : Type 0 where
+pub record HasJudgedFiles (j : JudgedSegments) (e : Extent) (bs : List Block) : Type 0 where
   pub extent : IsExtent e bs
   pub left : j.left ≡ e.left
   pub starts : starts_at j.times ≡ e.starts

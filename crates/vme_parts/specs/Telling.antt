@@ -9,13 +9,13 @@ use Rattle.vme_trace.specs.declared.verdict.Verdict.TheVariants as verdict
 use Rattle.vme_summary.specs.Joins.{BlocksJoin, joined_trace}
 use Rattle.vme_summary.specs.declared.extent.Extent.{Extent}
 use Rattle.vme_part_format.specs.Tables.{PartValue, SegmentValue}
-use Rattle.vme_parts.specs.declared.answers.Told.{Told}
-use Rattle.vme_parts.specs.declared.answers.Told.TheVariants as told
+use Rattle.vme_parts.specs.declared.answers.RecordingAnswer.{RecordingAnswer}
+use Rattle.vme_parts.specs.declared.answers.RecordingAnswer.TheVariants as told
 use Rattle.vme_parts.specs.declared.answers.WideVerdict.{WideVerdict}
 use Rattle.vme_parts.specs.declared.answers.WideVerdict.TheVariants as wide
-use Rattle.vme_parts.specs.declared.judging.Judging.{Judging}
-use Rattle.vme_parts.specs.declared.judging.Stop.{Stop}
-use Rattle.vme_parts.specs.declared.judging.Stop.TheVariants as stop
+use Rattle.vme_parts.specs.declared.judged_segments.JudgedSegments.{JudgedSegments}
+use Rattle.vme_parts.specs.declared.judged_segments.Stop.{Stop}
+use Rattle.vme_parts.specs.declared.judged_segments.Stop.TheVariants as stop
 use Rattle.vme_parts.specs.Covering.{AreNext}
 use Rattle.vme_parts.specs.Files.{AllStand, AreFiles, PartCovers, IsPartOf}
 use Rattle.vme_parts.specs.Progress.{HasJudgedFiles}
@@ -56,7 +56,7 @@ IsVerdictOfFiles files v =
     BlocksJoin files × ((t : Trace) → joined_trace files ≡ Some t → verdict_by rules_in_force t ≡ v)
 
 -- this is told of a recording of so many files
-abbrev pub TellsOf : List Block → PartValue → ℕ → Told → Type 0
+abbrev pub TellsOf : List Block → PartValue → ℕ → RecordingAnswer → Type 0
 TellsOf files p n (told.Beyond k) = PartCovers p k × (n ≤ k)
 TellsOf files p n (told.Missing k) = IsMissing p k × (k < n)
 TellsOf files p n (told.Torn k) = AllCovered p n × IsTornFile files k × (k < n)
@@ -64,17 +64,17 @@ TellsOf files p n told.TooManySteps = AllCovered p n
 TellsOf files p n (told.Verdict v) = AllCovered p n × IsVerdictOfFiles (take n files) (verdict_of v)
 
 -- whatever files it is a part of, this is told of them
-abbrev pub TellsOfWhole : PartValue → Option ℕ → Told → Type 0
+abbrev pub TellsOfWhole : PartValue → Option ℕ → RecordingAnswer → Type 0
 TellsOfWhole p count what =
     (files : List Block) (n : ℕ) → AreFiles files → IsPartOf files p → HasFiles p count n → TellsOf files p n what
 
 -- what is told where judging stops
-abbrev pub told_of : Stop → Told
+abbrev pub told_of : Stop → RecordingAnswer
 told_of (stop.Torn k) = told.Torn k
 told_of stop.TooManySteps = told.TooManySteps
 
 -- past all of some segments, or why not, whatever files they stand for
-abbrev pub JudgesAll : List SegmentValue → Result Judging Stop → Type 0
+abbrev pub JudgesAll : List SegmentValue → Result JudgedSegments Stop → Type 0
 JudgesAll ss (Ok j) =
     (listing : Bool) (files : List Block) (end : ℕ) → AreFiles files → AllStand listing files ss → AreNext 0 ss end
     → (e : Extent) × HasJudgedFiles j e (take end files) ×
@@ -86,7 +86,7 @@ JudgesAll ss (Err (stop.Torn k)) =
 JudgesAll ss (Err stop.TooManySteps) = Unit {0}
 
 -- past all files of a recording, or what is told in place of a verdict
-abbrev pub JudgesFiles : PartValue → Option ℕ → Result Judging Told → Type 0
+abbrev pub JudgesFiles : PartValue → Option ℕ → Result JudgedSegments RecordingAnswer → Type 0
 JudgesFiles p count (Ok j) =
     (files : List Block) (n : ℕ) → AreFiles files → IsPartOf files p → HasFiles p count n
     → AllCovered p n × AreNext 0 p.segments n × ((e : Extent) × HasJudgedFiles j e (take n files)

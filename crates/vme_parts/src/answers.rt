@@ -17,7 +17,7 @@ pub enum WideVerdict {
 
 /// What a part says of the whole recording.
 #[derive(Clone, Copy, Debug, PartialEq, Eq)]
-pub enum Told {
+pub enum RecordingAnswer {
     /// The recording has fewer files, and this is one more that is covered: the last one.
     Beyond(u64),
     /// No part covers this file, the least of those that aren't covered.

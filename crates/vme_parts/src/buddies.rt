@@ -1,13 +1,16 @@
 //! Segments that are the halves of one.
 
-ghost use Rattle.std.specs.Prelude.{◌≡◌, ◌+◌, ◌<◌, ◌^◌, IfOk, IsTrue};
+ghost use Rattle.std.specs.Prelude.{◌≡◌, ◌+◌, ◌<◌, ◌^◌, IfErr, IfOk, IsTrue};
 ghost use Rattle.vme_part_format.specs.Bounds.{FitsNumbers};
+ghost use Rattle.vme_part_format.specs.Sizes.{IsCompact};
 ghost use Rattle.vme_part_format.specs.Tables.{last_of, segment_value, table_value};
 ghost use Rattle.vme_part_tables.specs.Ways.{HasWays};
+ghost use Rattle.vme_parts.specs.Alike.{IsNoDifference};
 ghost use Rattle.vme_parts.specs.Buddies.{AreBuddies, FewNodes, HasTables, HaveFewNodes, SegmentGoesOn};
 ghost use Rattle.vme_parts.specs.Buddies.{are_buddies as are_buddies_of};
 ghost use Rattle.vme_parts.specs.Joined.{IsOfBoth};
 
+use crate::compact::is_compact;
 use crate::join_refusal::JoinRefusal;
 use crate::meets::{joined_times, torn_file};
 use std::alloc::{AllocError, Global};
@@ -110,7 +113,9 @@ pub(crate) fn joined(alloc: Global, first: Segment, second: Segment) -> Result<S
     requires second { HasTables (segment_value second) }
     requires buddies { AreBuddies (segment_value first) (segment_value second) }
     requires goes_on { SegmentGoesOn (segment_value first) (segment_value second) }
-    ensures { IfOk result (λ r. IsOfBoth (segment_value first) (segment_value second) (segment_value r)) }
+    ensures both { IfOk result (λ r. IsOfBoth (segment_value first) (segment_value second) (segment_value r)) }
+    ensures compact { IfOk result (λ r. IsCompact (segment_value r)) }
+    ensures refused { IfErr result IsNoDifference }
 {
     let Some(steps) = first.steps.checked_add(second.steps) else {
         return Err(JoinRefusal::TooManySteps);
@@ -118,9 +123,13 @@ pub(crate) fn joined(alloc: Global, first: Segment, second: Segment) -> Result<S
     if !have_few_nodes(&first, &second) {
         return Err(JoinRefusal::TooManyNodes);
     }
-    match joined_in(alloc, first, second, steps) {
-        Ok(segment) => Ok(segment),
-        Err(_) => Err(JoinRefusal::Memory),
+    let Ok(segment) = joined_in(alloc, first, second, steps) else {
+        return Err(JoinRefusal::Memory);
+    };
+    if is_compact(&segment) {
+        Ok(segment)
+    } else {
+        Err(JoinRefusal::TooManyNodes)
     }
 }
 

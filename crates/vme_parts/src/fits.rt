@@ -9,9 +9,11 @@ ghost use Rattle.vme_part_format.specs.Bounds.{FitsMark};
 ghost use Rattle.vme_part_format.specs.Bounds.{FitsNode, FitsNumbers, FitsPart, FitsSegment, FitsTable, FitsTimes};
 ghost use Rattle.vme_part_format.specs.Bounds.{stays};
 ghost use Rattle.vme_part_format.specs.PartText.{seen_level};
+ghost use Rattle.vme_part_format.specs.Sizes.{IsCompact, IsCompactPart};
 ghost use Rattle.vme_part_format.specs.Tables.{node_value, part_value, segment_value, table_value};
 
 use crate::buddies::{last_file, step_count};
+use crate::compact::is_compact;
 use vme_monitor::mark::MarkKind;
 use vme_part_format::{
     MEMORY_COUNTS, OutcomeTable, Part, STAYS, Segment, TableEntry, TableNode, WideBreak, WideMark,
@@ -259,14 +261,23 @@ fn backplane_of(part: &Part) -> u64
     part.backplane
 }
 
-/// Whether a part of one segment can be written: what can't is out of the range of a part.
+/// Whether a segment can be written, and has few nodes.
+fn segment_can(segment: &Segment, listing: bool) -> bool
+    ensures fits { IsTrue result → FitsSegment listing (segment_value segment.now) }
+    ensures compact { IsTrue result → IsCompact (segment_value segment.now) }
+{
+    segment_fits(segment, listing) && is_compact(segment)
+}
+
+/// Whether a part of one segment can be written, and has few nodes: what can't is out of the range of a part.
 pub fn can_write(part: &Part) -> bool
-    ensures { IsTrue result → FitsPart (part_value part.now) }
+    ensures fits { IsTrue result → FitsPart (part_value part.now) }
+    ensures compact { IsTrue result → IsCompactPart (part_value part.now) }
 {
     // any number of 64 bits can
     let _backplane = backplane_of(part);
     match part.segments.as_slice() {
-        [segment] => segment_fits(segment, part.listing),
+        [segment] => segment_can(segment, part.listing),
         _ => false,
     }
 }

@@ -1,17 +1,17 @@
 //! Segments that are gathered one by one: buddies are joined, and what lies in another is dropped.
 
-ghost use Rattle.std.specs.Prelude.{◌≡◌, ◌<◌, ◌++◌, ◌∷◌, [], All, IfOk, IfSome, IsPermutation, IsTrue, List, None};
+ghost use Rattle.std.specs.Prelude.{◌≡◌, ◌<◌, ◌++◌, ◌∷◌, [], All, IfErr, IfOk, IfSome, IsPermutation, IsTrue, List, None};
 ghost use Rattle.std.specs.Prelude.{OnOk};
 ghost use Rattle.std.specs.Prelude.{false, map};
 ghost use Rattle.std.specs.List.{last_or};
 ghost use Rattle.std.specs.List.Sorted.{IsNonDecreasingBy};
 ghost use Rattle.vme_part_format.specs.Tables.{SegmentValue, last_of, segment_value};
 ghost use Rattle.vme_part_format.specs.declared.segment.Segment.{Segment};
+ghost use Rattle.vme_parts.specs.Alike.{IsNoDifference};
 ghost use Rattle.vme_parts.specs.Gathering.{BeginsInLast, Gathered, IsSegment, Precedes, order_key as order_key_of};
 
 use crate::buddies::{LAST_ORDER, are_joinable, joined, last_file};
 use crate::join_refusal::JoinRefusal;
-use crate::same::are_same;
 use std::alloc::{AllocError, Global};
 use vme_part_format::Segment;
 
@@ -29,6 +29,7 @@ fn join_back(
     ensures gathered { IfOk result (λ s. (done : List SegmentValue)
         → Gathered done (map segment_value segments.old.items ++ segment_value next ∷ [])
         → Gathered done (map segment_value segments.new.items ++ segment_value s ∷ [])) }
+    ensures refused { IfErr result IsNoDifference }
 {
     let mut next = next;
     while let Some(last) = segments.pop() {
@@ -54,21 +55,6 @@ fn begins_in_last(segments: &[Segment], next: &Segment) -> bool
     }
 }
 
-/// Refuses a segment that says something else of the same files than the last of others.
-fn compare_with_last(segments: &[Segment], next: &Segment) -> Result<(), JoinRefusal>
-    requires segments { All IsSegment (map segment_value segments.now) }
-    requires next { IsSegment (segment_value next.now) }
-{
-    let Some(last) = segments.last() else {
-        return Ok(());
-    };
-    let has_same_files = next.first == last.first && next.order == last.order;
-    if has_same_files && !are_same(last, next) {
-        return Err(JoinRefusal::Differs(next.first));
-    }
-    Ok(())
-}
-
 /// Adds a segment behind others, none of which begins behind it, and joins buddies.
 fn add(alloc: Global, segments: &mut Vec<Segment>, next: Segment) -> Result<(), JoinRefusal>
     requires segments { All IsSegment (map segment_value segments.old.items) }
@@ -80,9 +66,9 @@ fn add(alloc: Global, segments: &mut Vec<Segment>, next: Segment) -> Result<(), 
         (λ last. Precedes last (segment_value next))) }
     ensures gathered { OnOk result ((done : List SegmentValue) → Gathered done (map segment_value segments.old.items)
         → Gathered (done ++ segment_value next ∷ []) (map segment_value segments.new.items)) }
+    ensures refused { IfErr result IsNoDifference }
 {
     if begins_in_last(segments.as_slice(), &next) {
-        compare_with_last(segments.as_slice(), &next)?;
         return Ok(());
     }
     let whole = join_back(alloc, segments, next)?;
@@ -110,7 +96,8 @@ pub(crate) fn sort_segments(segments: &mut Vec<Segment>) -> Result<(), AllocErro
 pub(crate) fn gather(alloc: Global, all: Vec<Segment>) -> Result<Vec<Segment>, JoinRefusal>
     requires segments { All IsSegment (map segment_value all.items) }
     requires order { IsNonDecreasingBy (λ (s : Segment). order_key_of (segment_value s)) all.items }
-    ensures { IfOk result (λ v. Gathered (map segment_value all.items) (map segment_value v.items)) }
+    ensures gathered { IfOk result (λ v. Gathered (map segment_value all.items) (map segment_value v.items)) }
+    ensures refused { IfErr result IsNoDifference }
 {
     let mut segments = Vec::new(alloc);
     for segment in all {

@@ -1,20 +1,24 @@
 //! Parts joined, in any order.
 
-ghost use Rattle.std.specs.Prelude.{◌≡◌, ◌<◌, ◌^◌, All, IfOk, OnOk, map};
+ghost use Rattle.std.specs.Prelude.{◌≡◌, ◌<◌, ◌^◌, All, IfErr, IfOk, OnOk, map};
 ghost use Rattle.vme_part_format.specs.Bounds.{FitsPart};
+ghost use Rattle.vme_part_format.specs.Sizes.{IsCompactPart};
 ghost use Rattle.vme_part_format.specs.Tables.{part_value, segment_value};
 ghost use Rattle.vme_part_format.specs.declared.part.Part.{Part};
+ghost use Rattle.vme_parts.specs.Alike.{AreRefused, AreRefusedBy, IsLike, MakeOne, first_backplane, first_listing};
 ghost use Rattle.vme_parts.specs.Files.{JoinsParts};
 ghost use Rattle.vme_parts.specs.Gathering.{segments_of};
 
 use crate::gather::{gather, sort_segments};
 use crate::join_refusal::JoinRefusal;
+use crate::same::compare_all;
 use std::alloc::{AllocError, Global};
 use vme_part_format::{Part, Segment};
 
 /// Refuses parts of which one is of another backplane, or has marks where others have none.
 fn check_alike(parts: &[Part], backplane: u64, listing: bool) -> Result<(), JoinRefusal>
-    ensures { OnOk result (All (λ (p : Part). p.listing ≡ listing) parts.now) }
+    ensures like { OnOk result (All (IsLike backplane listing) (map part_value parts.now)) }
+    ensures refused { IfErr result (AreRefusedBy backplane listing (map part_value parts.now)) }
 {
     for place in 0..parts.len() {
         let part = &parts[place];
@@ -41,7 +45,9 @@ fn all_segments(alloc: Global, parts: Vec<Part>) -> Result<Vec<Segment>, AllocEr
 }
 
 /// The backplane's sum of the first part, if there is one.
-fn backplane_of(parts: &[Part]) -> u64 {
+fn backplane_of(parts: &[Part]) -> u64
+    ensures { result ≡ first_backplane (map part_value parts.now) }
+{
     match parts.first() {
         Some(part) => part.backplane,
         None => 0,
@@ -49,7 +55,9 @@ fn backplane_of(parts: &[Part]) -> u64 {
 }
 
 /// Whether the first part has marks.
-fn has_marks(parts: &[Part]) -> bool {
+fn has_marks(parts: &[Part]) -> bool
+    ensures { result ≡ first_listing (map part_value parts.now) }
+{
     match parts.first() {
         Some(part) => part.listing,
         None => false,
@@ -61,12 +69,18 @@ pub fn join_parts(alloc: Global, parts: Vec<Part>) -> Result<Part, JoinRefusal>
     requires { All (λ (p : Part). FitsPart (part_value p)) parts.items }
     ensures joins { IfOk result (λ r. JoinsParts (map part_value parts.items) (part_value r)) }
     ensures fits { IfOk result (λ r. FitsPart (part_value r)) }
+    ensures one { IfOk result (λ r. MakeOne (map part_value parts.items) (part_value r)) }
+    ensures compact { IfOk result (λ r. All IsCompactPart (map part_value parts.items) → IsCompactPart (part_value r)) }
+    ensures refused { IfErr result (AreRefused (map part_value parts.items)) }
 {
     let backplane = backplane_of(parts.as_slice());
     let listing = has_marks(parts.as_slice());
     check_alike(parts.as_slice(), backplane, listing)?;
     let mut all = all_segments(alloc, parts)?;
     sort_segments(&mut all)?;
+    if let Err(why) = compare_all(all.as_slice()) {
+        return Err(why);
+    }
     let segments = gather(alloc, all)?;
     if (u32::MAX as usize) < segments.len() {
         return Err(JoinRefusal::TooManySegments);

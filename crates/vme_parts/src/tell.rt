@@ -7,19 +7,19 @@ ghost use Rattle.vme_parts.specs.Gathering.{IsSegment};
 ghost use Rattle.vme_parts.specs.Progress.{FitStates};
 ghost use Rattle.vme_parts.specs.Telling.{JudgesAll, JudgesFiles, TellsOfWhole, told_of as told_of_stop};
 
-use crate::answers::Told;
+use crate::answers::RecordingAnswer;
 use crate::cover::{beyond, covered, lacks};
-use crate::judging::{Judging, Stop};
+use crate::judged_segments::{JudgedSegments, Stop};
 use vme_part_format::{Part, Segment};
 
 /// Past a segment and those that follow it.
-fn judge_from(first: &Segment, rest: &[Segment]) -> Result<Judging, Stop>
+fn judge_from(first: &Segment, rest: &[Segment]) -> Result<JudgedSegments, Stop>
     requires first { IsSegment (segment_value first.now) }
     requires rest { All IsSegment (map segment_value rest.now) }
     ensures fit { IfOk result (λ j. FitStates j.states) }
     ensures judges { JudgesAll (segment_value first.now ∷ map segment_value rest.now) result }
 {
-    let mut judging = Judging::of(first);
+    let mut judging = JudgedSegments::of(first);
     for segment in rest {
         match judging.go_past(segment) {
             Ok(()) => (),
@@ -30,7 +30,7 @@ fn judge_from(first: &Segment, rest: &[Segment]) -> Result<Judging, Stop>
 }
 
 /// Past all segments, which follow one another.
-fn judge_all(segments: &[Segment]) -> Result<Judging, Stop>
+fn judge_all(segments: &[Segment]) -> Result<JudgedSegments, Stop>
     requires segments { All IsSegment (map segment_value segments.now) }
     requires some { segments.now ≡ [] → ⊥ }
     ensures fit { IfOk result (λ j. FitStates j.states) }
@@ -43,31 +43,31 @@ fn judge_all(segments: &[Segment]) -> Result<Judging, Stop>
 }
 
 /// What is told where judging stops.
-fn told_of(stop: Stop) -> Told
+fn told_of(stop: Stop) -> RecordingAnswer
     ensures { result ≡ told_of_stop stop }
 {
     match stop {
-        Stop::Torn(file) => Told::Torn(file),
-        Stop::TooManySteps => Told::TooManySteps,
+        Stop::Torn(file) => RecordingAnswer::Torn(file),
+        Stop::TooManySteps => RecordingAnswer::TooManySteps,
     }
 }
 
 /// Past all segments, of which none is missing.
-pub fn judged(part: &Part, files: Option<u64>) -> Result<Judging, Told>
+pub fn judged(part: &Part, files: Option<u64>) -> Result<JudgedSegments, RecordingAnswer>
     requires { FitsPart (part_value part.now) }
     ensures fit { IfOk result (λ j. FitStates j.states) }
     ensures judges { JudgesFiles (part_value part.now) files result }
 {
     let segments = part.segments.as_slice();
     if let Some(file) = beyond(segments, files) {
-        return Err(Told::Beyond(file));
+        return Err(RecordingAnswer::Beyond(file));
     }
     let end = match covered(segments) {
         Ok(end) => end,
-        Err(file) => return Err(Told::Missing(file)),
+        Err(file) => return Err(RecordingAnswer::Missing(file)),
     };
     if lacks(end, files) {
-        return Err(Told::Missing(end));
+        return Err(RecordingAnswer::Missing(end));
     }
     match judge_all(segments) {
         Ok(judging) => Ok(judging),
@@ -76,12 +76,12 @@ pub fn judged(part: &Part, files: Option<u64>) -> Result<Judging, Told>
 }
 
 /// What a part says of a recording of so many files, or of those up to the last that is covered.
-pub fn tell_verdict(part: &Part, files: Option<u64>) -> Told
+pub fn tell_verdict(part: &Part, files: Option<u64>) -> RecordingAnswer
     requires { FitsPart (part_value part.now) }
     ensures { TellsOfWhole (part_value part.now) files result }
 {
     match judged(part, files) {
-        Ok(judging) => Told::Verdict(judging.states.verdict()),
+        Ok(judging) => RecordingAnswer::Verdict(judging.states.verdict()),
         Err(told) => told,
     }
 }

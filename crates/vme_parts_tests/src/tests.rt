@@ -9,7 +9,7 @@ use std::process::Abort;
 use std::test::Fail;
 use vme_part_format::{Part, read_part, write_part};
 use vme_parts::{
-    JoinRefusal, Told, WideVerdict, can_write, join_parts, part_of_steps, steps_of_file,
+    JoinRefusal, RecordingAnswer, WideVerdict, can_write, join_parts, part_of_steps, steps_of_file,
     tell_verdict,
 };
 use vme_summary::verdict_by_blocks;
@@ -325,7 +325,11 @@ fn join_all(alloc: Global, texts: &[Vec<u8>]) -> Result<Vec<u8>, &'static str> {
 }
 
 /// What bytes of a part tell of so many files.
-fn told_of(alloc: Global, text: &[u8], files: Option<u64>) -> Result<Told, &'static str> {
+fn told_of(
+    alloc: Global,
+    text: &[u8],
+    files: Option<u64>,
+) -> Result<RecordingAnswer, &'static str> {
     let part = read_one(alloc, text)?;
     Ok(tell_verdict(&part, files))
 }
@@ -398,7 +402,7 @@ fn told_of_files(
     listing: bool,
     files: &[TestFile],
     count: Option<u64>,
-) -> Result<Told, &'static str> {
+) -> Result<RecordingAnswer, &'static str> {
     let text = joined(alloc, state, listing, files)?;
     told_of(alloc, text.as_slice(), count)
 }
@@ -420,17 +424,17 @@ fn verdict_of(alloc: Global, seed: u64) -> Result<Verdict, &'static str> {
 }
 
 /// Whether a verdict with numbers of 64 bits is this one.
-fn is_verdict(told: &Told, verdict: &Verdict) -> bool {
+fn is_verdict(told: &RecordingAnswer, verdict: &Verdict) -> bool {
     match (told, verdict) {
-        (Told::Verdict(WideVerdict::Conforming), Verdict::Conforming) => true,
-        (Told::Verdict(WideVerdict::NeverIdle), Verdict::NeverIdle) => true,
-        (Told::Verdict(WideVerdict::Broken(a)), Verdict::Broken(b)) => {
+        (RecordingAnswer::Verdict(WideVerdict::Conforming), Verdict::Conforming) => true,
+        (RecordingAnswer::Verdict(WideVerdict::NeverIdle), Verdict::NeverIdle) => true,
+        (RecordingAnswer::Verdict(WideVerdict::Broken(a)), Verdict::Broken(b)) => {
             a.instant == u64::from(b.instant)
                 && a.time == b.time
                 && a.rule == b.rule
                 && a.line == b.line
         }
-        (Told::Verdict(WideVerdict::Unreadable(a)), Verdict::Unreadable(b)) => {
+        (RecordingAnswer::Verdict(WideVerdict::Unreadable(a)), Verdict::Unreadable(b)) => {
             a.instant == u64::from(b.instant)
                 && a.time == b.time
                 && a.rule == b.rule
@@ -509,7 +513,7 @@ fn runs_that_overlap_make_the_whole(rt: HostRuntime) -> Result<(), Fail> {
     let part = joined_runs(alloc, &mut state, files.as_slice(), 6, 3)?;
     assert_eq!(rt; segments_in(alloc, part.as_slice())?, 2);
     let told = told_of(alloc, part.as_slice(), Some(9))?;
-    assert!(rt; matches!(told, Told::Verdict(_)));
+    assert!(rt; matches!(told, RecordingAnswer::Verdict(_)));
     Ok(())
 }
 
@@ -539,7 +543,7 @@ fn told_without(
     from: usize,
     to: usize,
     count: Option<u64>,
-) -> Result<Told, &'static str> {
+) -> Result<RecordingAnswer, &'static str> {
     let mut state = 4;
     let files = cut_recording(alloc, 2, &mut state, 8)?;
     let text = joined_without(alloc, &mut state, files.as_slice(), from, to)?;
@@ -550,13 +554,34 @@ fn told_without(
 #[test]
 fn what_isnt_there_is_told(rt: HostRuntime) -> Result<(), Fail> {
     let alloc = rt.alloc();
-    assert_eq!(rt; told_without(alloc, 8, 8, Some(9))?, Told::Missing(8));
-    assert_eq!(rt; told_without(alloc, 8, 8, Some(7))?, Told::Beyond(7));
-    assert_eq!(rt; told_without(alloc, 0, 4, None)?, Told::Missing(0));
-    assert_eq!(rt; told_without(alloc, 3, 4, None)?, Told::Missing(3));
-    assert_eq!(rt; told_without(alloc, 3, 4, Some(8))?, Told::Missing(3));
-    assert_eq!(rt; told_without(alloc, 0, 8, None)?, Told::Missing(0));
-    assert_eq!(rt; told_without(alloc, 0, 8, Some(0))?, Told::Missing(0));
+    assert_eq!(rt;
+        told_without(alloc, 8, 8, Some(9))?,
+        RecordingAnswer::Missing(8)
+    );
+    assert_eq!(rt;
+        told_without(alloc, 8, 8, Some(7))?,
+        RecordingAnswer::Beyond(7)
+    );
+    assert_eq!(rt;
+        told_without(alloc, 0, 4, None)?,
+        RecordingAnswer::Missing(0)
+    );
+    assert_eq!(rt;
+        told_without(alloc, 3, 4, None)?,
+        RecordingAnswer::Missing(3)
+    );
+    assert_eq!(rt;
+        told_without(alloc, 3, 4, Some(8))?,
+        RecordingAnswer::Missing(3)
+    );
+    assert_eq!(rt;
+        told_without(alloc, 0, 8, None)?,
+        RecordingAnswer::Missing(0)
+    );
+    assert_eq!(rt;
+        told_without(alloc, 0, 8, Some(0))?,
+        RecordingAnswer::Missing(0)
+    );
     Ok(())
 }
 
@@ -599,7 +624,7 @@ fn add_empty(
 }
 
 /// What is told of the halves of a recording with empty files between them, where the second may begin too early.
-fn told_with_gap(alloc: Global, gap: u8, early: bool) -> Result<Told, &'static str> {
+fn told_with_gap(alloc: Global, gap: u8, early: bool) -> Result<RecordingAnswer, &'static str> {
     let mut state = 4;
     let halves = cut_recording(alloc, 3, &mut state, 2)?;
     let mut files = Vec::new(alloc);
@@ -620,9 +645,9 @@ fn told_with_gap(alloc: Global, gap: u8, early: bool) -> Result<Told, &'static s
 #[test]
 fn a_tear_in_time_is_told_at_its_file(rt: HostRuntime) -> Result<(), Fail> {
     let alloc = rt.alloc();
-    assert_eq!(rt; told_with_gap(alloc, 1, true)?, Told::Torn(2));
-    assert_eq!(rt; told_with_gap(alloc, 2, true)?, Told::Torn(3));
-    assert!(rt; matches!(told_with_gap(alloc, 3, false)?, Told::Verdict(_)));
+    assert_eq!(rt; told_with_gap(alloc, 1, true)?, RecordingAnswer::Torn(2));
+    assert_eq!(rt; told_with_gap(alloc, 2, true)?, RecordingAnswer::Torn(3));
+    assert!(rt; matches!(told_with_gap(alloc, 3, false)?, RecordingAnswer::Verdict(_)));
     Ok(())
 }
 
@@ -644,7 +669,7 @@ fn torn_file(alloc: Global, file: &TestFile, number: u32) -> Result<TestFile, &'
 }
 
 /// What is told where the file of a number opens with other levels.
-fn told_with_torn(alloc: Global, torn: u32) -> Result<Told, &'static str> {
+fn told_with_torn(alloc: Global, torn: u32) -> Result<RecordingAnswer, &'static str> {
     let mut state = 6;
     let mut files = cut_recording(alloc, 5, &mut state, 8)?;
     if let Some(file) = files.get_mut(torn as usize) {
@@ -659,7 +684,7 @@ fn a_tear_in_levels_is_told_at_its_file(rt: HostRuntime) -> Result<(), Fail> {
     let alloc = rt.alloc();
     for torn in 1..8 {
         let told = told_with_torn(alloc, torn)?;
-        assert_eq!(rt; told, Told::Torn(u64::from(torn)));
+        assert_eq!(rt; told, RecordingAnswer::Torn(u64::from(torn)));
     }
     Ok(())
 }
@@ -678,6 +703,36 @@ fn why_two(
     let other = part_of(alloc, backplane, listing, second)?;
     parts.push(other).map_err(|_| "no memory")?;
     why_apart(alloc, parts.as_slice())
+}
+
+/// Why the parts of two files and of another under the number of the second aren't joined, if they aren't.
+fn why_three(
+    alloc: Global,
+    first: &TestFile,
+    second: &TestFile,
+    other: &TestFile,
+) -> Result<Option<JoinRefusal>, &'static str> {
+    let mut parts = Vec::new(alloc);
+    for file in [second, first, other] {
+        let part = part_of(alloc, 7, false, file)?;
+        parts.push(part).map_err(|_| "no memory")?;
+    }
+    why_apart(alloc, parts.as_slice())
+}
+
+/// Two files of one number are refused, though one of them follows the file before it.
+#[test]
+fn files_of_one_number_are_compared(rt: HostRuntime) -> Result<(), Fail> {
+    let alloc = rt.alloc();
+    let mut state = 8;
+    let files = cut_recording(alloc, 7, &mut state, 2)?;
+    let first = files.first().ok_or("no file")?;
+    let second = files.get(1).ok_or("no file")?;
+    let other = file_of(1, *first.capture.opening(), Vec::new(alloc))?;
+    let why = why_three(alloc, first, second, &other)?;
+    assert_eq!(rt; why, Some(JoinRefusal::Differs(1)));
+    assert_eq!(rt; why_three(alloc, first, second, second)?, None);
+    Ok(())
 }
 
 /// Parts of other backplanes, with marks and without, and that differ aren't joined.

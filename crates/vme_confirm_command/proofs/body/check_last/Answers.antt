@@ -3,8 +3,9 @@ use Rattle.std.proofs.Common.{[], Some}
 use Rattle.vme_trace.specs.Followed.{with_steps}
 use Rattle.vme_step_reader.specs.StepReading.{whole_reading}
 use Rattle.vme_dump_steps.specs.SettledReadings.{skew_of}
-use Rattle.vme_confirm_command.proofs.BodyLemmas.{finds-of, last-goes, stops-fault}
-use Rattle.vme_confirm_command.proofs.DumpRefusals.{faulty-is}
+use Rattle.vme_dump_input.proofs.BodyLemmas.{last-goes, stops-fault}
+use Rattle.vme_confirm_command.proofs.BodyLemmas.{finds-of}
+use Rattle.vme_dump_input.proofs.DumpRefusals.{faulty-is}
 use Rattle.vme_confirm_command.proofs.body.check_last.Goals as goal
 
 pub finish-found-requires : goal.finish-found-requires

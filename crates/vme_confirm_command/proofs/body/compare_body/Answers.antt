@@ -1,10 +1,10 @@
 -- The steps of each piece are compared.
 use Rattle.std.proofs.Common.{ℕ, List, refl, subst, sym, ◌∙◌}
 use Rattle.vme_dump_steps.specs.SettledReadings.{skew_of}
-use Rattle.vme_confirm_command.specs.HeldInputs.{FailsAs}
-use Rattle.vme_confirm_command.specs.PieceChecks.{IsAtEnd}
-use Rattle.vme_confirm_command.proofs.BodyLemmas.{body-ends, body-grown}
-use Rattle.vme_confirm_command.proofs.DumpRefusals.{unread-is}
+use Rattle.vme_dump_input.specs.HeldInputs.{FailsAs}
+use Rattle.vme_dump_input.specs.PieceReadings.{IsAtEnd}
+use Rattle.vme_dump_input.proofs.BodyLemmas.{body-ends, body-grown}
+use Rattle.vme_dump_input.proofs.DumpRefusals.{unread-is}
 use Rattle.vme_confirm_command.proofs.body.compare_body.Goals as goal
 
 pub loop-reader-init : goal.loop-reader-init

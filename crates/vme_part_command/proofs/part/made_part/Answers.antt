@@ -1,10 +1,21 @@
+use Rattle.vme_answer.specs.Answers.{binding_read, dump_read}
+use Rattle.vme_stream.proofs.InputLemmas.{unread}
+use Rattle.vme_part_command.proofs.FoundLemmas.{no-binding}
 use Rattle.vme_part_command.proofs.part.made_part.Goals as goal
 
 pub returns-in-Ok : goal.returns-in-Ok
 returns-in-Ok g c =
-    let (b, d, binding_reading, dump_reading, is) = c.in-Ok.ensures in
-    (b, d, binding_reading, dump_reading, rw is c.part_of_recording.ensures)
+    let (b, binding_reading, bound_is) = c.in-Ok.ensures in
+    let (d, dump_reading, found) = c.part_of_dump.ensures in
+    (b, d, binding_reading, dump_reading, rw bound_is found)
 
 pub returns-in-Err : goal.returns-in-Err
 returns-in-Err g c =
-    let (b, d, binding_reading, dump_reading, is) = c.in-Err.ensures in (b, d, binding_reading, dump_reading, is)
+    let (b, binding_reading, refused) = c.in-Err.ensures in
+    let dump = unread (g.D.Source.reading c.args.dump.now) in (
+      b,
+      dump.0,
+      binding_reading,
+      dump.1,
+      no-binding c.args.options (binding_read b) (dump_read dump.0) c.in-Err.refusal refused,
+    )

@@ -4,7 +4,7 @@ use Rattle.vme_trace.specs.Streams.{Writing}
 use Rattle.vme_part_command.specs.Answered.{Complains}
 use Rattle.vme_part_command.specs.Lines.{refusing_text}
 use Rattle.vme_part_command.specs.Written.{no_part_answer}
-use Rattle.vme_part_command.specs.declared.part.NoPart.{NoPart}
+use Rattle.vme_part_command.specs.declared.no_part.NoPart.{NoPart}
 use Rattle.vme_part_command.proofs.EndLemmas.{refused}
 use Rattle.vme_part_command.proofs.part.refuse_part.Goals as goal
 

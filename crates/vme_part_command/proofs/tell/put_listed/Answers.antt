@@ -2,7 +2,7 @@ use Rattle.std.proofs.Common.{subst, sym}
 use Rattle.std.specs.Prelude.{codes}
 use Rattle.vme_trace.specs.Streams.{Writing}
 use Rattle.vme_answer.specs.Ends.{Ends}
-use Rattle.vme_part_listing.specs.declared.answers.ToldListing.{ToldListing}
+use Rattle.vme_part_listing.specs.declared.answers.ListingAnswer.{ListingAnswer}
 use Rattle.vme_part_command.specs.Answered.{listed_answer}
 use Rattle.vme_part_command.specs.Lines.{refusing_text, told_text}
 use Rattle.vme_part_command.proofs.EndLemmas.{refused_ends}
@@ -13,7 +13,7 @@ returns-in-Refused g c =
     let said = c.refuse in
     let out : Writing = g.O.Sink.writing c.args.out.now in
     let err : Writing × Writing = (g.E.Sink.writing c.args.err.now, g.E.Sink.writing said.new.err) in
-    subst (λ (w : ToldListing). Ends (listed_answer w) (out, out) err said.result) (sym c.in-Refused.is)
+    subst (λ (w : ListingAnswer). Ends (listed_answer w) (out, out) err said.result) (sym c.in-Refused.is)
     (refused_ends (told_text c.in-Refused.told) out err said.result (rw c.told_line.ensures at said.ensures.told)
     said.ensures.status)
 
@@ -22,7 +22,7 @@ returns-in-Unmarked g c =
     let said = c.refuse-in-Unmarked in
     let out : Writing = g.O.Sink.writing c.args.out.now in
     let err : Writing × Writing = (g.E.Sink.writing c.args.err.now, g.E.Sink.writing said.new.err) in
-    subst (λ (w : ToldListing). Ends (listed_answer w) (out, out) err said.result) (sym c.in-Unmarked.is)
+    subst (λ (w : ListingAnswer). Ends (listed_answer w) (out, out) err said.result) (sym c.in-Unmarked.is)
     (refused_ends (refusing_text (codes "parts without marks")) out err said.result
     (rw c.refusing_line.ensures at said.ensures.told) said.ensures.status)
 
@@ -31,6 +31,6 @@ returns-in-TooLong g c =
     let said = c.refuse-in-TooLong in
     let out : Writing = g.O.Sink.writing c.args.out.now in
     let err : Writing × Writing = (g.E.Sink.writing c.args.err.now, g.E.Sink.writing said.new.err) in
-    subst (λ (w : ToldListing). Ends (listed_answer w) (out, out) err said.result) (sym c.in-TooLong.is)
+    subst (λ (w : ListingAnswer). Ends (listed_answer w) (out, out) err said.result) (sym c.in-TooLong.is)
     (refused_ends (refusing_text (codes "too many steps")) out err said.result
     (rw c.refusing_line-in-TooLong.ensures at said.ensures.told) said.ensures.status)

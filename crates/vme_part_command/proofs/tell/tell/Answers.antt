@@ -2,7 +2,7 @@ use Rattle.std.proofs.Common.{subst, sym}
 use Rattle.std.specs.Prelude.{codes}
 use Rattle.vme_trace.specs.Streams.{Writing}
 use Rattle.vme_answer.specs.Ends.{Ends}
-use Rattle.vme_parts.specs.declared.answers.Told.{Told}
+use Rattle.vme_parts.specs.declared.answers.RecordingAnswer.{RecordingAnswer}
 use Rattle.vme_part_command.specs.Answered.{told_answer}
 use Rattle.vme_part_command.specs.Lines.{part_text, refusing_text}
 use Rattle.vme_part_command.proofs.EndLemmas.{refused_ends}
@@ -13,7 +13,7 @@ returns-in-Beyond g c =
     let said = c.refuse in
     let out : Writing = g.O.Sink.writing c.args.out.now in
     let err : Writing × Writing = (g.E.Sink.writing c.args.err.now, g.E.Sink.writing said.new.err) in
-    subst (λ (w : Told). Ends (told_answer w) (out, out) err said.result) (sym c.in-Beyond.is)
+    subst (λ (w : RecordingAnswer). Ends (told_answer w) (out, out) err said.result) (sym c.in-Beyond.is)
     (refused_ends (part_text c.in-Beyond.number (codes " beyond the files")) out err said.result
     (rw c.part_line.ensures at said.ensures.told) said.ensures.status)
 
@@ -22,7 +22,7 @@ returns-in-Missing g c =
     let said = c.refuse-in-Missing in
     let out : Writing = g.O.Sink.writing c.args.out.now in
     let err : Writing × Writing = (g.E.Sink.writing c.args.err.now, g.E.Sink.writing said.new.err) in
-    subst (λ (w : Told). Ends (told_answer w) (out, out) err said.result) (sym c.in-Missing.is)
+    subst (λ (w : RecordingAnswer). Ends (told_answer w) (out, out) err said.result) (sym c.in-Missing.is)
     (refused_ends (part_text c.in-Missing.number (codes " missing")) out err said.result
     (rw c.part_line-in-Missing.ensures at said.ensures.told) said.ensures.status)
 
@@ -31,7 +31,7 @@ returns-in-Torn g c =
     let said = c.refuse-in-Torn in
     let out : Writing = g.O.Sink.writing c.args.out.now in
     let err : Writing × Writing = (g.E.Sink.writing c.args.err.now, g.E.Sink.writing said.new.err) in
-    subst (λ (w : Told). Ends (told_answer w) (out, out) err said.result) (sym c.in-Torn.is)
+    subst (λ (w : RecordingAnswer). Ends (told_answer w) (out, out) err said.result) (sym c.in-Torn.is)
     (refused_ends (part_text c.in-Torn.number (codes " torn")) out err said.result
     (rw c.part_line-in-Torn.ensures at said.ensures.told) said.ensures.status)
 
@@ -40,6 +40,6 @@ returns-in-TooManySteps g c =
     let said = c.refuse-in-TooManySteps in
     let out : Writing = g.O.Sink.writing c.args.out.now in
     let err : Writing × Writing = (g.E.Sink.writing c.args.err.now, g.E.Sink.writing said.new.err) in
-    subst (λ (w : Told). Ends (told_answer w) (out, out) err said.result) (sym c.in-TooManySteps.is)
+    subst (λ (w : RecordingAnswer). Ends (told_answer w) (out, out) err said.result) (sym c.in-TooManySteps.is)
     (refused_ends (refusing_text (codes "too many steps")) out err said.result
     (rw c.refusing_line.ensures at said.ensures.told) said.ensures.status)

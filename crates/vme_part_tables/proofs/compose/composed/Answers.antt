@@ -1,16 +1,15 @@
 use Rattle.std.proofs.Common.{subst}
 use Rattle.std.proofs.lemmas.Result.{IfOk-weaker}
 use Rattle.vme_part_format.specs.Tables.{TableValue, table_value}
-use Rattle.vme_part_tables.specs.Composed.{table_on}
 use Rattle.vme_part_tables.specs.Pruned.{IsPruned}
 use Rattle.vme_part_tables.specs.Runs.{SaysBoth}
 use Rattle.vme_part_tables.proofs.Composing.{composed_ways}
 use Rattle.vme_part_tables.proofs.ComposingAll.{both_pruned}
-use Rattle.vme_part_tables.proofs.Joining.{tables_tell_both}
+use Rattle.vme_part_tables.proofs.Shortening.{pruned_again}
 use Rattle.vme_part_tables.proofs.compose.composed.Goals as goal
 
-pub pruned-requires : goal.pruned-requires
-pruned-requires c =
+pub shortened-requires : goal.shortened-requires
+shortened-requires c =
     rw c.in_ok-table.ensures
     (composed_ways (table_value c.args.first) (table_value c.args.second) c.args.steps c.requires)
 
@@ -18,8 +17,10 @@ pub returns : goal.returns
 returns c =
     let a = table_value c.args.first in
     let b = table_value c.args.second in
-    IfOk-weaker c.pruned.result (λ t. IsPruned (table_value c.in_ok-table.table) (table_value t))
-    (λ t. SaysBoth c.args.steps a b (table_value t))
+    let on = table_value c.in_ok-table.table in
+    let short = table_value c.in_ok-table-2.table in
+    IfOk-weaker c.pruned.result (λ t. IsPruned short (table_value t)) (λ t. SaysBoth c.args.steps a b (table_value t))
     (λ t p. both_pruned a b c.args.steps c.requires (table_value t)
-    (subst (λ (on : TableValue). IsPruned on (table_value t)) c.in_ok-table.ensures p))
+    (subst (λ (v : TableValue). IsPruned v (table_value t)) c.in_ok-table.ensures
+    (pruned_again on short (table_value t) c.in_ok-table-2.ensures p)))
     c.pruned.ensures

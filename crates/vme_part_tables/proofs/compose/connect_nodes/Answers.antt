@@ -1,4 +1,4 @@
-use Rattle.std.proofs.Common.{◌≡◌, ◌+◌, ◌-◌, ◌<◌, ◌≤◌, suc, rules, ap, sym, ◌∙◌, arith, length, map, take}
+use Rattle.std.proofs.Common.{◌≡◌, ◌-◌, ◌≤◌, rules, ap, sym, ◌∙◌, arith, length, map, take}
 use Rattle.std.proofs.lemmas.List.{length-map, take_all}
 use Rattle.vme_monitor.proofs.Stepped.{stepped_rest}
 use Rattle.vme_part_format.specs.Tables.{node_value}

@@ -1,9 +1,6 @@
-use Rattle.std.proofs.Common.{◌≡◌, ◌+◌, ◌<◌, ◌^◌, ap, sym, ◌∙◌, arith, length, map, rules}
+use Rattle.std.proofs.Common.{ap, ◌∙◌, arith, map, rules}
 use Rattle.std.proofs.lemmas.List.{length-map}
 use Rattle.vme_part_format.specs.Tables.{node_value}
-use Rattle.vme_part_tables.specs.Marked.{entry_made, onward_at}
-use Rattle.std.proofs.Common.{ℕ, Some}
-use Rattle.std.specs.Prelude.{slice_get}
 use Rattle.vme_part_tables.proofs.Marking.{map_reverse, table_says, table_ways}
 use Rattle.vme_part_tables.proofs.marked.made_table.Goals as goal
 

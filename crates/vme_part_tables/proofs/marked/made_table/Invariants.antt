@@ -1,4 +1,4 @@
-use Rattle.std.proofs.Common.{◌≡◌, ℕ, ◌<◌, ◌+◌, length, map, vec_len}
+use Rattle.std.proofs.Common.{◌≡◌, ℕ, ◌<◌, length, vec_len}
 use Rattle.std.specs.Prelude.{Some, slice_get}
 use Rattle.vme_part_tables.specs.Marked.{entry_made, onward_at}
 use Rattle.vme_part_tables.proofs.marked.made_table.Given as goal

@@ -1,4 +1,4 @@
-use Rattle.std.proofs.Common.{◌≡◌, ◌+◌, ◌<◌, None, ap, sym, subst, ◌∙◌, arith, length, map, rules}
+use Rattle.std.proofs.Common.{◌≡◌, ◌<◌, None, ap, subst, ◌∙◌, arith, map, rules}
 use Rattle.vme_part_format.specs.Tables.{node_value}
 use Rattle.vme_part_tables.specs.Marked.{SaysBehind, made_says, says_at}
 use Rattle.vme_part_tables.proofs.Marking.{made_step, memory_step, row_tells}

@@ -1,4 +1,4 @@
-use Rattle.std.proofs.Common.{◌≡◌, ◌+◌, ◌-◌, ◌<◌, ap, sym, arith, rules}
+use Rattle.std.proofs.Common.{ap, arith, rules}
 use Rattle.vme_part_format.specs.declared.table.TableNode.{TableNode}
 use Rattle.vme_part_tables.proofs.Keeping.{kept_go_on, kept_one_more, next_behind}
 use Rattle.vme_part_tables.proofs.prune.keep_for_nodes.Goals as goal

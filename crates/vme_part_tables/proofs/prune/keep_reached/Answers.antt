@@ -1,4 +1,4 @@
-use Rattle.std.proofs.Common.{◌≡◌, get_or, rules, arith}
+use Rattle.std.proofs.Common.{get_or, rules, arith}
 use Rattle.std.proofs.lemmas.List.{length-map}
 use Rattle.vme_part_format.specs.Tables.{node_value}
 use Rattle.vme_part_tables.proofs.Keeping.{kept_still}

@@ -1,4 +1,4 @@
-use Rattle.std.proofs.Common.{◌≡◌, ◌+◌, ◌-◌, ◌<◌, ◌≤◌, ap, arith, vec_len}
+use Rattle.std.proofs.Common.{ap, arith, vec_len}
 use Rattle.vme_part_tables.proofs.Keeping.{last_dropped, last_kept, last_keeps, popped_left}
 use Rattle.vme_part_tables.proofs.prune.kept_nodes.Goals as goal
 

@@ -1,6 +1,5 @@
-use Rattle.std.proofs.Common.{◌≡◌, ◌+◌, ◌-◌, ◌<◌, ◌≤◌, arith, drop, length, take}
+use Rattle.std.proofs.Common.{◌+◌, ◌-◌, ◌<◌, ◌≤◌, arith, drop, length}
 use Rattle.std.proofs.lemmas.List.{length-drop}
-use Rattle.vme_part_tables.specs.Pruned.{kept_count}
 use Rattle.vme_part_tables.proofs.Pruning.{counts_between, next_node}
 use Rattle.vme_part_tables.proofs.prune.next_kept.Goals as goal
 

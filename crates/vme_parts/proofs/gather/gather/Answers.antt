@@ -68,8 +68,8 @@ loop-segment-preserved c =
           (c.in_ok-add.ensures.gathered (map segment_value at.yielded) at.invariant.gathered);
     }
 
-pub returns : goal.returns
-returns c =
+pub returns-clause-gathered : goal.returns-clause-gathered
+returns-clause-gathered c =
     let at = c.loop-segment in
     let empty : into_iter_items at.segment-iterator ≡ []
     = nil_from_length (into_iter_items at.segment-iterator)

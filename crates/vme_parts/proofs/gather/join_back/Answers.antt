@@ -50,13 +50,14 @@ loop-last-preserved c =
     record {
       segments = popped_front c.loop-last.segments.items c.pop.new.self.items c.in-Some.last was
           c.loop-last.invariant.segments;
-      next = segment_of_both s t r c.in_ok-next.ensures buddies
+      next = segment_of_both s t r c.in_ok-next.ensures.both buddies
           (popped_last c.loop-last.segments.items c.pop.new.self.items c.in-Some.last was
           c.loop-last.invariant.segments);
-      first = first_of_both s t r (segment_value c.args.next) c.in_ok-next.ensures buddies c.loop-last.invariant.first;
+      first = first_of_both s t r (segment_value c.args.next) c.in_ok-next.ensures.both buddies
+          c.loop-last.invariant.first;
       gathered = λ done g.
-          step_gathered done c.loop-last.segments.items c.pop.new.self.items c.in-Some.last t r was c.in_ok-next.ensures
-          buddies (c.loop-last.invariant.gathered done g);
+          step_gathered done c.loop-last.segments.items c.pop.new.self.items c.in-Some.last t r was
+          c.in_ok-next.ensures.both buddies c.in_ok-next.ensures.compact (c.loop-last.invariant.gathered done g);
     }
 
 pub returns-clause-segments : goal.returns-clause-segments

@@ -1,16 +1,34 @@
 use Rattle.std.proofs.Common.{◌≡◌, arith}
-use Rattle.vme_part_format.specs.declared.part.Part.{Part}
-use Rattle.vme_parts.proofs.Measures.{all_more, all_whole, same_flag}
+use Rattle.vme_part_format.specs.Tables.{PartValue}
+use Rattle.vme_parts.proofs.Likeness.{all_like, like_more, unlike}
+use Rattle.vme_parts.proofs.Measures.{other_flag, same_flag}
 use Rattle.vme_parts.proofs.join.check_alike.Goals as goal
 
 pub loop-place-preserved : goal.loop-place-preserved
 loop-place-preserved c =
     let l = c.loop-place in
-    all_more (λ (p : Part). p.listing ≡ c.args.listing) c.args.parts.now l.place c.index-parts-place.result
-    c.loop-place-test.true c.index-parts-place.is
+    like_more c.args.backplane c.args.listing c.args.parts.now l.place c.index-parts-place.result c.loop-place-test.true
+    c.index-parts-place.is c.if-part-backplane.false
     (same_flag c.index-parts-place.result.listing c.args.listing c.if-part-listing.false) l.invariant
 
-pub returns : goal.returns
-returns c =
-    all_whole (λ (p : Part). p.listing ≡ c.args.listing) c.args.parts.now c.loop-place.place
+pub returns-then-part-backplane-clause-refused : goal.returns-then-part-backplane-clause-refused
+returns-then-part-backplane-clause-refused c =
+    let l = c.loop-place in
+    unlike c.args.backplane c.args.listing c.args.parts.now l.place
+    (λ (p : PartValue). p.backplane ≡ c.args.backplane → ⊥) c.index-parts-place.result c.loop-place-test.true
+    c.index-parts-place.is l.invariant c.if-part-backplane.true
+
+pub returns-then-part-listing-clause-refused : goal.returns-then-part-listing-clause-refused
+returns-then-part-listing-clause-refused c =
+    let l = c.loop-place in
+    unlike c.args.backplane c.args.listing c.args.parts.now l.place
+    (λ (p : PartValue). (p.backplane ≡ c.args.backplane) × (p.listing ≡ c.args.listing → ⊥))
+    c.index-parts-place.result c.loop-place-test.true c.index-parts-place.is l.invariant (
+      c.if-part-backplane.false,
+      other_flag c.index-parts-place.result.listing c.args.listing c.if-part-listing.true,
+    )
+
+pub returns-clause-like : goal.returns-clause-like
+returns-clause-like c =
+    all_like c.args.backplane c.args.listing c.args.parts.now c.loop-place.place
     (omega (arith, c.loop-place-test.false)) c.loop-place.invariant

@@ -1,7 +1,8 @@
-use Rattle.std.proofs.Common.{◌≡◌, take}
+use Rattle.std.proofs.Common.{map, take}
 use Rattle.std.specs.Prelude.{All}
-use Rattle.vme_part_format.specs.declared.part.Part.{Part}
+use Rattle.vme_part_format.specs.Tables.{part_value}
+use Rattle.vme_parts.specs.Alike.{IsLike}
 use Rattle.vme_parts.proofs.join.check_alike.Given as goal
 
 abbrev pub invariant-loop-place : goal.invariant-loop-place
-invariant-loop-place l = All (λ (p : Part). p.listing ≡ l.listing) (take l.place l.parts)
+invariant-loop-place l = All (IsLike l.backplane l.listing) (take l.place (map part_value l.parts))

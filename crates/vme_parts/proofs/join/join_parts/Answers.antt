@@ -1,10 +1,13 @@
 use Rattle.std.proofs.Common.{◌≡◌, map, arith}
 use Rattle.std.proofs.lemmas.List.{length-map}
-use Rattle.std.proofs.lemmas.List.Elements.{All-map}
+use Rattle.std.proofs.lemmas.List.Elements.{All-map, All-weaker}
 use Rattle.std.proofs.lemmas.List.Sorted.{IsPermutation-map}
 use Rattle.vme_part_format.specs.Bounds.{FitsPart}
 use Rattle.vme_part_format.specs.Tables.{PartValue, part_value, segment_value}
-use Rattle.vme_parts.proofs.JoinedParts.{joins_all, joins_fit, sorted_are_segments}
+use Rattle.vme_parts.specs.Alike.{IsLike}
+use Rattle.vme_parts.proofs.JoinedParts.{joins_alike, joins_all, joins_apart, joins_compact, joins_fit}
+use Rattle.vme_parts.proofs.JoinedParts.{sorted_are_segments}
+use Rattle.vme_parts.proofs.Likeness.{refused_apart}
 use Rattle.vme_parts.proofs.join.join_parts.Goals as goal
 
 pub gather-requires-clause-segments : goal.gather-requires-clause-segments
@@ -28,12 +31,12 @@ returns-clause-joins c =
     (map segment_value c.sort_segments.new.segments.items) c.in_ok-all.ensures
     (IsPermutation-map segment_value c.in_ok-all.all.items c.sort_segments.new.segments.items
     c.sort_segments.ensures.same)
-    (All-map (λ (p : PartValue). p.listing ≡ r.listing) part_value parts
-    (rw c.as_slice-3.ensures.value at c.in_ok-check_alike.ensures))
+    (All-weaker (IsLike r.backplane r.listing) (λ (p : PartValue). p.listing ≡ r.listing) (λ p like. like.1)
+    (map part_value parts) (rw c.as_slice-3.ensures.value at c.in_ok-check_alike.ensures.like))
     (All-map FitsPart part_value parts c.requires)
     (omega arith)
     (omega (arith, length-map segments.items segment_value))
-    c.in_ok-segments.ensures
+    c.in_ok-segments.ensures.gathered
 
 pub returns-clause-fits : goal.returns-clause-fits
 returns-clause-fits c =
@@ -48,9 +51,62 @@ returns-clause-fits c =
     (map segment_value c.sort_segments.new.segments.items) c.in_ok-all.ensures
     (IsPermutation-map segment_value c.in_ok-all.all.items c.sort_segments.new.segments.items
     c.sort_segments.ensures.same)
-    (All-map (λ (p : PartValue). p.listing ≡ r.listing) part_value parts
-    (rw c.as_slice-3.ensures.value at c.in_ok-check_alike.ensures))
+    (All-weaker (IsLike r.backplane r.listing) (λ (p : PartValue). p.listing ≡ r.listing) (λ p like. like.1)
+    (map part_value parts) (rw c.as_slice-3.ensures.value at c.in_ok-check_alike.ensures.like))
     (All-map FitsPart part_value parts c.requires)
     (omega arith)
     (omega (arith, length-map segments.items segment_value))
-    c.in_ok-segments.ensures
+    c.in_ok-segments.ensures.gathered
+
+pub returns-clause-one : goal.returns-clause-one
+returns-clause-one c =
+    record {
+      like = rw c.as_slice-3.ensures.value at c.in_ok-check_alike.ensures.like;
+      alike = joins_alike (map part_value c.args.parts.items) (map segment_value c.in_ok-all.all.items)
+          (map segment_value c.sort_segments.new.segments.items) c.in_ok-all.ensures
+          (IsPermutation-map segment_value c.in_ok-all.all.items c.sort_segments.new.segments.items
+          c.sort_segments.ensures.same)
+          (rw c.as_slice-4.ensures.value at c.in_default.ensures.alike);
+    }
+
+pub returns-clause-compact : goal.returns-clause-compact
+returns-clause-compact c =
+    let parts = c.args.parts.items in
+    let segments = c.in_ok-segments.segments in
+    let r : PartValue = record {
+      backplane = c.backplane_of-backplane.result;
+      listing = c.has_marks-listing.result;
+      segments = map segment_value segments.items;
+    } in
+    joins_compact (map part_value parts) r (map segment_value c.in_ok-all.all.items)
+    (map segment_value c.sort_segments.new.segments.items) c.in_ok-all.ensures
+    (IsPermutation-map segment_value c.in_ok-all.all.items c.sort_segments.new.segments.items
+    c.sort_segments.ensures.same)
+    (All-weaker (IsLike r.backplane r.listing) (λ (p : PartValue). p.listing ≡ r.listing) (λ p like. like.1)
+    (map part_value parts) (rw c.as_slice-3.ensures.value at c.in_ok-check_alike.ensures.like))
+    (All-map FitsPart part_value parts c.requires)
+    (omega arith)
+    (omega (arith, length-map segments.items segment_value))
+    c.in_ok-segments.ensures.gathered
+
+pub compare_all-requires-clause-segments : goal.compare_all-requires-clause-segments
+compare_all-requires-clause-segments c =
+    rw c.as_slice-4.ensures.value
+    (sorted_are_segments (map part_value c.args.parts.items) (map segment_value c.in_ok-all.all.items)
+    (map segment_value c.sort_segments.new.segments.items) c.in_ok-all.ensures
+    (IsPermutation-map segment_value c.in_ok-all.all.items c.sort_segments.new.segments.items
+    c.sort_segments.ensures.same)
+    (All-map FitsPart part_value c.args.parts.items c.requires))
+
+pub compare_all-requires-clause-order : goal.compare_all-requires-clause-order
+compare_all-requires-clause-order c = rw c.as_slice-4.ensures.value c.in_ok-sort_segments.ensures.order
+
+pub returns-in-Err-clause-refused : goal.returns-in-Err-clause-refused
+returns-in-Err-clause-refused c =
+    let parts = map part_value c.args.parts.items in
+    let (number, same, apart) = c.in-Err.ensures.apart in
+    refused_apart parts c.in-Err.why number same
+    (joins_apart parts (map segment_value c.in_ok-all.all.items)
+    (map segment_value c.sort_segments.new.segments.items) c.in_ok-all.ensures
+    (IsPermutation-map segment_value c.in_ok-all.all.items c.sort_segments.new.segments.items
+    c.sort_segments.ensures.same) number (rw c.as_slice-4.ensures.value at apart))

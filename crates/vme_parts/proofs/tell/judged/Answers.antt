@@ -3,7 +3,7 @@ use Rattle.std.specs.Prelude.{Err}
 use Rattle.vme_part_format.specs.Tables.{part_value, segment_value}
 use Rattle.vme_part_format.specs.declared.segment.Segment.{Segment}
 use Rattle.vme_parts.specs.Telling.{JudgesAll, JudgesFiles}
-use Rattle.vme_parts.specs.declared.answers.Told.{Told}
+use Rattle.vme_parts.specs.declared.answers.RecordingAnswer.{RecordingAnswer}
 use Rattle.vme_parts.proofs.Covered.{none_lacks}
 use Rattle.vme_parts.proofs.JoinedParts.{part_segments}
 use Rattle.vme_parts.proofs.ToldFiles.{beyond_told, judged_told, lacking_told, missing_told, stop_told}
@@ -56,7 +56,7 @@ returns-in-Err-judge_all-clause-judges c =
     let judges : JudgesAll p.segments (Err why) =
     subst (λ (xs : List Segment). JudgesAll (map segment_value xs) (Err why)) c.as_slice-segments.ensures.value
     c.in-Err-judge_all.ensures.judges in
-    subst (λ (what : Told). JudgesFiles p c.args.files (Err what)) (sym c.told_of.ensures)
+    subst (λ (what : RecordingAnswer). JudgesFiles p c.args.files (Err what)) (sym c.told_of.ensures)
     (stop_told p c.args.files c.in-Ok.end
     (rw c.as_slice-segments.ensures.value at (c.beyond.ensures.within c.in_default.is))
     (rw c.as_slice-segments.ensures.value at c.in-Ok.ensures.next) (c.lacks.ensures.whole c.if-lacks.false) why

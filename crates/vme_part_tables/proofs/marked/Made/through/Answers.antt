@@ -1,4 +1,4 @@
-use Rattle.std.proofs.Common.{◌≡◌, ◌+◌, ◌<◌, [], ap, sym, ◌∙◌, arith, length, map, rules}
+use Rattle.std.proofs.Common.{◌≡◌, ◌+◌, ◌<◌, [], ap, sym, ◌∙◌, length, map, rules}
 use Rattle.vme_part_format.specs.Tables.{node_value}
 use Rattle.vme_part_format.specs.declared.table.TableNode.{TableNode}
 use Rattle.vme_part_tables.specs.Marked.{turned}

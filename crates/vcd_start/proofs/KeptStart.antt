@@ -1,0 +1,87 @@
+-- Once a first time is known it stays so.
+use Rattle.std.proofs.Common.{◌≡◌, ℕ, Bool, true, false, ◌&&◌, List, [], ◌∷◌, Option, Some, Result, Ok, Err, refl}
+use Rattle.std.proofs.Common.{sym, ap, subst, ◌∙◌}
+use Rattle.std.specs.Prelude.{◌==◌, if◌then◌else◌, not}
+use Rattle.vcd_read.specs.declared.fault.VcdFault.{VcdFault}
+use Rattle.vcd_read.specs.Body.{BodyContext, BodyItem, at_the_end, body_from, bracket_end, bracket_open, change}
+use Rattle.vcd_read.specs.Body.{context_after, skipped, time_item, wrong}
+use Rattle.vcd_read.specs.Contents.{Contents}
+use Rattle.vcd_read.specs.Header.{◌>>=◌, Net}
+use Rattle.vcd_read.specs.Numbers.{number}
+use Rattle.vcd_read.specs.Reached.{Reached}
+use Rattle.vcd_read.specs.Taking.{State, Taking, advanced, at_end, ended, progress_after, state_at, steps}
+use Rattle.vcd_read.specs.Tokens.{Token}
+use Rattle.vcd_start.specs.Starts.{start_of}
+use Rattle.vcd_start.specs.Taken.{StartComesTo, or_time, unchanged}
+
+module _ (nets : List Net) (time : ℕ) where
+  abbrev HasTime : Taking (Option ℕ) → Type 0
+  HasTime p = p.taken ≡ Some time
+
+  advanced_has : (p : Taking (Option ℕ)) (t : ℕ) → HasTime p → HasTime (advanced or_time p t)
+  advanced_has p t h = by_case (p.begun && not (t == p.time))
+    where
+      by_case : (b : Bool)
+          → HasTime (if b then record { taken = or_time p.taken p.time; time = t; begun = true } else record p
+          { time = t; begun = true })
+      by_case true = ap (λ (s : Option ℕ). or_time s p.time) h
+      by_case false = h
+
+  item_has : (p : Taking (Option ℕ)) (item : BodyItem) → HasTime p
+      → HasTime (progress_after unchanged or_time nets p item)
+  item_has p (time_item line digits) h = advanced_has p (number digits) h
+  item_has p (change line digits code) h = h
+  item_has p (skipped line code) h = h
+  item_has p (bracket_open line) h = h
+  item_has p (bracket_end line) h = h
+  item_has p (wrong line kind) h = h
+
+  abbrev stepped : Taking (Option ℕ) → Result BodyContext VcdFault → Result (State (Option ℕ)) VcdFault
+  stepped p c = c >>= λ next. Ok (record { context = next; progress = p })
+
+  step_has : (items : List BodyItem) (item : BodyItem) (s : State (Option ℕ)) (end : State (Option ℕ))
+      → HasTime s.progress → (c : Result BodyContext VcdFault)
+      → ((next : State (Option ℕ)) → HasTime next.progress → steps unchanged or_time nets next items ≡ Ok end
+      → HasTime end.progress)
+      → (stepped (progress_after unchanged or_time nets s.progress item) c
+      >>= λ next. steps unchanged or_time nets next items) ≡ Ok end → HasTime end.progress
+  step_has items item s end h (Ok next) rest is =
+      rest (record { context = next; progress = progress_after unchanged or_time nets s.progress item })
+      (item_has s.progress item h) is
+  step_has items item s end h (Err fault) rest is = absurd (cc)
+
+  steps_have : (items : List BodyItem) (s end : State (Option ℕ)) → HasTime s.progress
+      → steps unchanged or_time nets s items ≡ Ok end → HasTime end.progress
+  unfolding steps
+  steps_have [] s end h is =
+      let same : s ≡ end = cc in subst (λ (e : State (Option ℕ)). HasTime e.progress) same h
+  steps_have (item ∷ items) s end h is =
+      step_has items item s end h (context_after nets s.context item)
+      (λ next has e. steps_have items next end has e) is
+
+  ended_is : (p : Taking (Option ℕ)) → HasTime p → ended or_time p ≡ Some time
+  ended_is p h = by_case p.begun
+    where
+      by_case : (b : Bool) → (if b then or_time p.taken p.time else p.taken) ≡ Some time
+      by_case true = ap (λ (s : Option ℕ). or_time s p.time) h
+      by_case false = h
+
+  end_is : (s : State (Option ℕ)) (start : Option ℕ) (c : Result BodyContext VcdFault) → HasTime s.progress
+      → (c >>= λ stood. Ok (ended or_time s.progress)) ≡ Ok start → start ≡ Some time
+  end_is s start (Ok stood) h is =
+      let same : ended or_time s.progress ≡ start = cc in sym same ∙ ended_is s.progress h
+  end_is s start (Err fault) h is = absurd (cc)
+
+-- what is known of a first time where reading has come so far is so
+pub kept-start : (r : Reached (Option ℕ)) (time : ℕ) → r.progress.taken ≡ Some time → (more : List Token)
+    (dump : Contents) → StartComesTo r more dump → start_of dump ≡ Some time
+kept-start r time has more dump comes =
+    by_steps (steps unchanged or_time r.nets (state_at r.progress r.bracket) (body_from r.place more)) refl comes
+  where
+    by_steps : (w : Result (State (Option ℕ)) VcdFault)
+        → steps unchanged or_time r.nets (state_at r.progress r.bracket) (body_from r.place more) ≡ w
+        → (w >>= at_end or_time) ≡ Ok (start_of dump) → start_of dump ≡ Some time
+    by_steps (Ok end) is ends =
+        end_is r.nets time end (start_of dump) (at_the_end end.context)
+        (steps_have r.nets time (body_from r.place more) (state_at r.progress r.bracket) end has is) ends
+    by_steps (Err fault) is ends = absurd (cc)

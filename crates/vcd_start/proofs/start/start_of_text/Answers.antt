@@ -1,0 +1,31 @@
+use Rattle.std.proofs.Common.{[], sym, append-nil, ◌∙◌}
+use Rattle.vcd_read.specs.Meaning.{dump_of}
+use Rattle.vcd_read.specs.Reached.{outcome_of, reached}
+use Rattle.vcd_read.specs.Tokens.{tokens}
+use Rattle.vcd_start.specs.Starts.{start_of}
+use Rattle.vcd_start.specs.Taken.{or_time, unchanged}
+use Rattle.vcd_start.proofs.StartLemmas.{never-gives, same-start}
+use Rattle.vcd_start.proofs.start.start_of_text.Goals as goal
+
+pub returns-in-Ok : goal.returns-in-Ok
+returns-in-Ok c dump whole =
+    let text = c.args.text.now in
+    let r = reached (λ v. v.time) c.in-Ok-Some.pieces in
+    let read = rw c.in-Ok-Some.field-0-is at c.in-Ok-Some.ensures.read in
+    same-start r c.in-Ok.first.time dump c.in-Ok.ensures
+    (read text [] dump (sym (append-nil (tokens text))) whole) ∙ sym c.into_time.ensures
+
+pub returns-in-Ok-unless_memory : goal.returns-in-Ok-unless_memory
+returns-in-Ok-unless_memory c dump whole =
+    let text = c.args.text.now in
+    let r = reached (λ v. v.time) c.in-Ok-Some.pieces in
+    let read = rw c.in-Ok-Some.field-0-is at c.in-Ok-Some.ensures.read in
+    let fault = c.in-Err-finish.fault in
+    absurd (never-gives (outcome_of unchanged or_time r) fault.line fault.kind c.in-Ok-unless_memory.ensures
+    c.in-Err-finish.ensures (start_of dump) (read text [] dump (sym (append-nil (tokens text))) whole))
+
+pub returns-in-Ok-unless_memory-2 : goal.returns-in-Ok-unless_memory-2
+returns-in-Ok-unless_memory-2 c dump whole =
+    let text = c.args.text.now in
+    absurd (never-gives (dump_of text) c.in-Err.fault.line c.in-Err.fault.kind c.in-Ok-unless_memory-2.ensures
+    (c.in-Err.ensures.fails text [] (sym (append-nil (tokens text)))) dump whole)

@@ -1,0 +1,25 @@
+-- The first time of a dump.
+use Rattle.std.specs.Prelude.{◌≡◌, ℕ, List, Option, Ok, option_map, slice_get}
+use Rattle.vcd_read.specs.Contents.{Contents}
+use Rattle.vcd_read.specs.Meaning.{dump_of}
+use Rattle.vcd_read.specs.declared.dump.Instant.{Instant}
+use Rattle.vcd_start.specs.declared.start.Start.{Start}
+use Rattle.vcd_start.specs.declared.start.Start.TheVariants.{NotTold, Told}
+
+-- the time of the first of some instants, if there is one
+abbrev pub first_time_of : List Instant → Option ℕ
+first_time_of instants = option_map (λ (i : Instant). i.time) (slice_get instants 0)
+
+-- the first time of a dump, if it has one: 0 where a change stands before each time that the dump tells, or else the
+-- first that it tells
+abbrev pub start_of : Contents → Option ℕ
+start_of dump = first_time_of dump.instants
+
+-- if a text is a dump, this is its first time
+abbrev pub StartsAt : List ℕ → Option ℕ → Type 0
+StartsAt text time = (dump : Contents) → dump_of text ≡ Ok dump → start_of dump ≡ time
+
+-- what is told of the first time of a text is so
+abbrev pub TellsStart : List ℕ → Start → Type 0
+TellsStart text NotTold = Unit {0}
+TellsStart text (Told time) = StartsAt text time

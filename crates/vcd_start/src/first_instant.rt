@@ -1,0 +1,51 @@
+//! The time of the first instant of a body.
+
+ghost use Rattle.std.specs.Prelude.{◌≡◌};
+
+use std::alloc::{AllocError, Global};
+use vcd_read::ChangeVisitor;
+
+/// What takes the time of the first instant that ends.
+#[derive(Drop)]
+pub(crate) struct FirstInstant {
+    pub time: Option<u64>,
+}
+
+impl FirstInstant {
+    /// The time that was taken, if one was.
+    pub fn into_time(self) -> Option<u64>
+        ensures { result ≡ self.time }
+    {
+        self.time
+    }
+}
+
+impl ChangeVisitor for FirstInstant {
+    ghost use Rattle.std.specs.Prelude.{ℕ, Option};
+    ghost use Rattle.vcd_start.specs.Taken.{or_time, unchanged};
+
+    ghost Taken = { Option ℕ };
+
+    ghost taken = { λ v. v.time };
+
+    ghost with_change = { unchanged };
+
+    ghost with_instant = { or_time };
+
+    fn change(
+        &mut self,
+        alloc: Global,
+        net: u32,
+        size: u32,
+        digits: &[u8],
+    ) -> Result<(), AllocError> {
+        let _ = (alloc, net, size, digits.len());
+        Ok(())
+    }
+
+    fn end_instant(&mut self, alloc: Global, time: u64) -> Result<(), AllocError> {
+        let _ = alloc;
+        self.time = self.time.or(Some(time));
+        Ok(())
+    }
+}

@@ -1,0 +1,112 @@
+//! The first time of a dump, by a front of its text.
+
+ghost use Rattle.std.specs.Prelude.{◌≡◌, ◌≢◌, ◌++◌, ℕ, List, None, IfErr, IfNone, IfOk, IfSome, Ok, OnOk};
+ghost use Rattle.vcd_read.specs.Contents.{Contents};
+ghost use Rattle.vcd_read.specs.Meaning.{ReadFails, dump_of};
+ghost use Rattle.vcd_read.specs.Reached.{reached};
+ghost use Rattle.vcd_read.specs.Tokens.{Token, tokens};
+ghost use Rattle.vcd_read.specs.declared.fault.FaultKind.TheVariants.{Memory};
+ghost use Rattle.vcd_start.specs.Starts.{StartsAt, TellsStart};
+ghost use Rattle.vcd_start.specs.Taken.{IsStartRead};
+
+use crate::first_instant::FirstInstant;
+use crate::no_variables::NoVariables;
+use std::alloc::{AllocError, Global};
+use vcd_read::{FaultKind, Pieces, VcdFault, read_front, whole_tokens};
+
+/// What the front of a text tells of its first time.
+#[derive(Clone, Copy, Debug)]
+pub enum Start {
+    /// The first instant doesn't end in it.
+    NotTold,
+    /// The first time of the text, if it has one.
+    Told(Option<u64>),
+}
+
+/// Reads the body that a front of a text has, if its definitions end in it. A fault is that of every text that goes on
+/// so.
+fn read_in(alloc: Global, front: &[u8]) -> Result<Option<Pieces<FirstInstant>>, VcdFault>
+    ensures read { IfOk result
+        (λ found. IfSome found (λ pieces. IsStartRead front.now (reached (λ v. v.time) pieces))) }
+    ensures none { IfOk result (λ found. IfNone found ((dump : Contents) → dump_of front.now ≡ Ok dump → ⊥)) }
+    ensures fails { IfErr result (λ fault. (text : List ℕ) (more : List Token)
+        → tokens text ≡ tokens front.now ++ more → ReadFails fault (dump_of text)) }
+{
+    match read_front(alloc, front, NoVariables::new(alloc)) {
+        Ok(Some((found, _))) => {
+            let (pieces, rest) = found.before_body(FirstInstant { time: None });
+            match pieces.read(alloc, rest) {
+                Ok(pieces) => Ok(Some(pieces)),
+                Err(fault) => Err(fault),
+            }
+        }
+        Ok(None) => Ok(None),
+        Err(fault) => Err(fault),
+    }
+}
+
+/// A text with a fault is no dump, unless memory ran out.
+fn unless_memory(fault: VcdFault) -> Result<(), AllocError>
+    ensures { OnOk result (fault.kind ≢ Memory) }
+{
+    match fault.kind {
+        FaultKind::Memory => Err(AllocError),
+        _ => Ok(()),
+    }
+}
+
+/// What is known of the first time where the body is read so far.
+fn told_by(pieces: Pieces<FirstInstant>) -> Start
+    ensures { (front text : List ℕ) (more : List Token) → IsStartRead front (reached (λ v. v.time) pieces)
+        → tokens text ≡ tokens front ++ more → TellsStart text result }
+{
+    let (_, first) = pieces.with_visitor(FirstInstant { time: None });
+    match first.into_time() {
+        Some(time) => Start::Told(Some(time)),
+        None => Start::NotTold,
+    }
+}
+
+/// What the whole tokens of a front tell.
+fn start_by_tokens(alloc: Global, front: &[u8]) -> Result<Start, AllocError>
+    ensures { IfOk result (λ start. (text : List ℕ) (more : List Token) → tokens text ≡ tokens front.now ++ more
+        → TellsStart text start) }
+{
+    match read_in(alloc, front) {
+        Ok(Some(pieces)) => Ok(told_by(pieces)),
+        Ok(None) => Ok(Start::NotTold),
+        Err(fault) => match unless_memory(fault) {
+            Ok(()) => Ok(Start::Told(None)),
+            Err(error) => Err(error),
+        },
+    }
+}
+
+/// The first time of each dump that begins with these bytes, if they tell it. The only error is want of memory.
+pub fn start_in(alloc: Global, front: &[u8]) -> Result<Start, AllocError>
+    ensures { IfOk result (λ start. (rest : List ℕ) → TellsStart (front.now ++ rest) start) }
+{
+    let count = whole_tokens(front);
+    start_by_tokens(alloc, &front[..count])
+}
+
+/// The first time of a whole dump, if it has one. Of a text that is no dump nothing is said. The only error is want of
+/// memory.
+pub fn start_of_text(alloc: Global, text: &[u8]) -> Result<Option<u64>, AllocError>
+    ensures { IfOk result (λ time. StartsAt text.now time) }
+{
+    match read_in(alloc, text) {
+        Ok(Some(pieces)) => match pieces.finish(alloc) {
+            Ok(first) => Ok(first.into_time()),
+            Err(fault) => match unless_memory(fault) {
+                Ok(()) => Ok(None),
+                Err(error) => Err(error),
+            },
+        },
+        Ok(None) => Ok(None),
+        Err(fault) => match unless_memory(fault) {
+            Ok(()) => Ok(None),
+            Err(error) => Err(error),
+        },
+    }
+}

@@ -1,0 +1,42 @@
+-- What comparing the steps of a dump with rows comes to.
+use Rattle.std.specs.Prelude.{◌≡◌, ℕ, List, [], Option, Result, Ok, Err}
+use Rattle.vcd_read.specs.Contents.{Contents}
+use Rattle.vme_trace.specs.Streams.{Reading}
+use Rattle.vme_trace.specs.Trace.{Trace}
+use Rattle.vme_bind.specs.Binding.{BoundLines}
+use Rattle.vme_bind.specs.Capture.{capture_of}
+use Rattle.vme_bind.specs.declared.fault.BindFault.{BindFault}
+use Rattle.vme_listing.specs.Recorded.{recorded_rows, rows_in}
+use Rattle.vme_listing.specs.declared.row.Row.{Row}
+use Rattle.vme_listing.specs.declared.row.Version.{Version}
+use Rattle.vme_answer.specs.declared.refusal.Refusal.{Refusal}
+use Rattle.vme_skew.specs.Settled.{settled_or}
+use Rattle.vme_cert.specs.Comparing.{Decides}
+use Rattle.vme_cert.specs.declared.compare.Answer.{Answer}
+use Rattle.vme_step_reader.specs.StepReading.{StepReading, whole_reading}
+use Rattle.vme_dump_input.specs.DumpReadings.{IsDumpRefused, IsReadDump, IsSound}
+use Rattle.vme_confirm_command.specs.StepChecks.{HasStepped}
+use Rattle.vme_confirm_command.specs.declared.step_check.StepCheck.{StepCheck}
+
+-- the steps that were given are compared
+pub record IsChecked {Source : Type 0} (skew : Option ℕ) (r : StepReading) (t : Trace) (check : StepCheck Source) : Type
+    0 where
+  pub sound : IsSound r
+  pub stepped : HasStepped skew r.given (whole_reading r []).time t check.settler check.checker check.count
+      check.is_too_long
+
+module _ {Whole Source : Type 0} (gave : Whole → Source → List Row → Type 0) (is_over : Source → Type 0) (whole : Whole)
+    (version : Version) (bound : BoundLines) (skew : ℕ) where
+  -- what is found of the rows, by the recording that the binding makes of a dump, or why it makes none
+  abbrev pub FindsOf : Contents → Result Answer BindFault → Source → Type 0
+  FindsOf contents (Ok answer) source =
+      (t : Trace) × (settled_or skew (capture_of bound contents) ≡ Ok t)
+      × ((more : List Row) × gave whole source more
+      × Decides is_over more (rows_in version (recorded_rows t)) source answer)
+  FindsOf contents (Err fault) source =
+      (capture_of bound contents ≡ Err fault) × ((rows : List Row) × gave whole source rows)
+
+  abbrev pub Compares : Reading → Reading → Result (Result Answer BindFault) Refusal → Source → Type 0
+  Compares old now (Ok found) source =
+      (contents : Contents) × IsReadDump old now contents × FindsOf contents found source
+  Compares old now (Err refusal) source = IsDumpRefused old now refusal × ((rows : List Row) × gave whole source rows)

@@ -1,0 +1,114 @@
+-- The body of a dump as it is read.
+use Rattle.std.proofs.Common.{◌≡◌, ◌≤◌, ℕ, Bool, true, false, List, [], ◌++◌, length, take, drop}
+use Rattle.std.proofs.Common.{None, refl, sym, ap, subst, ◌∙◌, append_assoc, append-nil, take-append-drop}
+use Rattle.std.specs.Prelude.{Ok}
+use Rattle.vcd_read.specs.declared.fault.FaultKind.{FaultKind}
+use Rattle.vcd_read.specs.declared.fault.FaultKind.TheVariants as vcd
+use Rattle.vme_trace.specs.Followed.{with_steps}
+use Rattle.vme_trace.specs.Streams.{Reading}
+use Rattle.vme_trace.specs.Trace.{Trace}
+use Rattle.vme_trace.specs.WellFormed.{malformed_step}
+use Rattle.vme_trace.specs.declared.step.Step.{Step}
+use Rattle.vme_bind.specs.Binding.{BoundLines}
+use Rattle.vme_bind.specs.TextReading.{StopsAs, TextReading, reading_of_text}
+use Rattle.vme_stream.specs.Inputs.{longest_input}
+use Rattle.vme_step_reader.specs.StepReading.{StepReading, whole_reading}
+use Rattle.vme_dump_steps.specs.SettledSteps.{GoOnFrom, GoOnTo}
+use Rattle.vme_dump_steps.proofs.ReadSteps.{GivenIsPrefix, StepsFollow, StepsWithin, TimeGoesOn, steps-from, steps-to}
+use Rattle.vme_dump_input.specs.DumpReadings.{HasFault, HasFaultBefore, IsAtBody, IsSound}
+use Rattle.vme_dump_input.specs.HeldInputs.{InputSoFar, IsAllOf, IsGrown, IsReadTo}
+use Rattle.vme_dump_input.specs.PieceReadings.{IsAtEnd}
+use Rattle.vme_dump_input.proofs.DumpTexts.{agree}
+use Rattle.vme_dump_input.proofs.HeldLemmas.{all-read, taken-first}
+use Rattle.vme_dump_input.proofs.HeldLemmas.{split-at}
+
+-- ---- a fault
+
+pub stops-fault : (bound : BoundLines) (text : List ℕ) (reading : TextReading) (line : ℕ) (kind : FaultKind) (t : Trace)
+    (time : ℕ) → reading_of_text bound text ≡ Ok reading → StopsAs line kind t time reading → HasFault text line kind
+stops-fault bound text reading line vcd.Memory t time is stops = tt
+stops-fault bound text reading line kind t time is stops =
+    (agree bound text).faulty reading (record { line = line; kind = kind }) is
+    (ap (λ (x : TextReading). x.fault) stops)
+
+-- ---- a piece
+
+module _ (bound : BoundLines) (old now : Reading) (input : InputSoFar) (r : StepReading)
+    (at : IsAtBody bound old now input r) where
+  module _ (next : StepReading) (n : ℕ) (within : n ≤ length input.held)
+      (taken : (rest : List ℕ) → whole_reading r (take n input.held ++ rest) ≡ whole_reading next rest) where
+    goes : (rest : List ℕ) → whole_reading r (input.held ++ rest) ≡ whole_reading next (drop n input.held ++ rest)
+    goes rest =
+        ap (whole_reading r) (ap (λ l. l ++ rest) (sym (take-append-drop n input.held))
+        ∙ append_assoc (take n input.held) (drop n input.held) rest)
+        ∙ taken (drop n input.held ++ rest)
+
+    -- is taken
+    pub body-taken : IsAtBody bound old now (record input { held = drop n input.held }) next
+    body-taken = record {
+      done = at.done ++ take n input.held;
+      read = taken-first old now at.done input at.read n within;
+      body = λ rest ends.
+          ap (reading_of_text bound) (split-at at.done input.held n rest) ∙ at.body rest ends
+          ∙ ap (λ (x : TextReading). Ok x) (goes rest);
+    }
+
+  -- has a fault
+  pub body-stops : (line : ℕ) (kind : FaultKind) (t : Trace) (time : ℕ)
+      → ((rest : List ℕ) → StopsAs line kind t time (whole_reading r (input.held ++ rest)))
+      → HasFaultBefore at.done input (record { line = line; kind = kind })
+  body-stops line kind t time stops rest ends =
+      stops-fault bound (at.done ++ (input.held ++ rest)) (whole_reading r (input.held ++ rest)) line kind t time
+      (at.body rest ends) (stops rest)
+
+  -- more bytes follow
+  pub body-grown : (later : Reading) (after : InputSoFar) → input.is_whole ≡ false → IsGrown input after
+      → IsReadTo old later at.done after → IsAtBody bound old later after r
+  body-grown later after going grown read = record {
+    done = at.done;
+    read = read;
+    body = λ rest ends.
+        let same : after.held ++ rest ≡ input.held ++ (grown.more ++ rest) =
+        ap (λ l. l ++ rest) grown.held ∙ append_assoc input.held grown.more rest in
+        ap (λ l. reading_of_text bound (at.done ++ l)) same
+        ∙ at.body (grown.more ++ rest) (λ whole. absurd (ends_not input.is_whole going whole))
+        ∙ ap (λ l. Ok (whole_reading r l)) (sym same);
+  }
+    where
+      ends_not : (flag : Bool) → flag ≡ false → flag ≡ true → ⊥
+      ends_not true e h = absurd (cc)
+      ends_not false e h = absurd (cc)
+
+  -- none do
+  pub body-ends : input.is_whole ≡ true → input.limit ≡ longest_input → IsAtEnd bound old now input.held r
+  body-ends whole limit = record {
+    text = at.done ++ input.held;
+    all = subst (IsAllOf old now (at.done ++ input.held)) limit (all-read old now at.done input at.read whole);
+    body = ap (λ l. reading_of_text bound (at.done ++ l)) (sym (append-nil input.held))
+        ∙ at.body [] (λ _. refl) ∙ ap (λ l. Ok (whole_reading r l)) (append-nil input.held);
+  }
+
+-- what is read goes on as a recording
+pub sound-next : (r next : StepReading) (steps : List Step) (piece : List ℕ) → IsSound r
+    → ((rest : List ℕ) → whole_reading r (piece ++ rest) ≡ whole_reading next rest)
+    → next.given ≡ with_steps r.given steps → IsSound next
+sound-next r next steps piece sound taken given = record {
+  few = subst (λ (t : Trace). t.opening.slots ≤ 21) (sym given) sound.few;
+  whole = ap (λ (t : Trace). length t.opening.levels) given ∙ sound.whole;
+  formed = λ rest.
+      ap (λ (x : TextReading). malformed_step x.recorded) (sym (taken rest)) ∙ sound.formed (piece ++ rest);
+}
+
+module _ (follows : StepsFollow) (within : StepsWithin) (on : TimeGoesOn) (front : GivenIsPrefix) (r : StepReading)
+    (sound : IsSound r) where
+  pub piece-goes : (next : StepReading) (steps : List Step) (piece : List ℕ) (time : ℕ)
+      → ((rest : List ℕ) → whole_reading r (piece ++ rest) ≡ whole_reading next rest)
+      → next.given ≡ with_steps r.given steps → malformed_step next.given ≡ None
+      → time ≡ (whole_reading next []).time → GoOnTo r.given (whole_reading r []).time steps time
+  piece-goes next steps piece time taken given formed now =
+      subst (GoOnTo r.given (whole_reading r []).time steps) (sym now)
+      (steps-to follows within on front r sound.whole sound.few next steps piece taken given formed)
+
+  pub last-goes : (bytes : List ℕ) (steps : List Step) → (whole_reading r bytes).recorded ≡ with_steps r.given steps
+      → GoOnFrom r.given (whole_reading r []).time steps
+  last-goes bytes steps is = steps-from follows r sound.whole sound.few sound.formed bytes steps is

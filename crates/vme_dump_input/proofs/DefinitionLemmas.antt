@@ -1,0 +1,80 @@
+-- The definitions of a dump as they are read.
+use Rattle.std.proofs.Common.{◌≡◌, ◌≤◌, ℕ, true, List, [], ◌++◌, length, drop, take, sym, ap, subst, ◌∙◌, append-nil}
+use Rattle.std.specs.Prelude.{Ok}
+use Rattle.vcd_read.specs.declared.fault.FaultKind.{FaultKind}
+use Rattle.vcd_read.specs.declared.fault.FaultKind.TheVariants as vcd
+use Rattle.vcd_read.specs.declared.fault.VcdFault.{VcdFault}
+use Rattle.vme_trace.specs.LineNumbers.{line_count}
+use Rattle.vme_trace.specs.Streams.{Reading}
+use Rattle.vme_trace.specs.Trace.{Trace}
+use Rattle.vme_trace.specs.declared.step.Step.{Step}
+use Rattle.vme_bind.specs.Binding.{BoundLines}
+use Rattle.vme_bind.specs.TextCapture.{CaptureFailsBy, DumpFails}
+use Rattle.vme_bind.specs.TextReading.{reading_of_text}
+use Rattle.vme_bind.specs.declared.fault.CaptureFault.{CaptureFault}
+use Rattle.vme_bind.specs.declared.fault.CaptureFault.TheVariants.{Dump}
+use Rattle.vme_listing.specs.Reading.{IsFollowedBy}
+use Rattle.vme_step_reader.specs.StepReading.{StepReading, whole_reading}
+use Rattle.vme_dump_input.specs.DumpReadings.{HasFault, HasFaultBefore, IsAtBody, IsBodyUnread, IsSound}
+use Rattle.vme_dump_input.specs.HeldInputs.{InputSoFar, IsReadTo}
+use Rattle.vme_dump_input.proofs.DumpTexts.{agree}
+use Rattle.vme_dump_input.proofs.HeldLemmas.{taken-first}
+use Rattle.vme_dump_input.proofs.HeldLemmas.{split-at}
+
+-- ---- a fault of the dump
+
+capture_fault : (bound : BoundLines) (text : List ℕ) (line : ℕ) (kind : FaultKind)
+    → DumpFails line kind (reading_of_text bound text) → HasFault text line kind
+capture_fault bound text line vcd.Memory fails = tt
+capture_fault bound text line kind fails = (agree bound text).fails (record { line = line; kind = kind }) fails
+
+pub faulty-before : (bound : BoundLines) (input : InputSoFar) (fault : VcdFault)
+    → ((rest : List ℕ) → IsFollowedBy input.is_whole rest
+    → CaptureFailsBy (Dump fault) (reading_of_text bound (input.held ++ rest)))
+    → HasFaultBefore [] input fault
+faulty-before bound input fault fails rest ends =
+    capture_fault bound (input.held ++ rest) fault.line fault.kind (fails rest ends)
+
+-- where nothing follows
+pub fails-last : (bound : BoundLines) (input : InputSoFar) (fault : CaptureFault) → input.is_whole ≡ true
+    → CaptureFailsBy fault (reading_of_text bound input.held) → (rest : List ℕ) → IsFollowedBy input.is_whole rest
+    → CaptureFailsBy fault (reading_of_text bound (input.held ++ rest))
+fails-last bound input fault whole fails rest ends =
+    subst (λ (l : List ℕ). CaptureFailsBy fault (reading_of_text bound l))
+    (sym (ap (λ (l : List ℕ). input.held ++ l) (ends whole) ∙ append-nil input.held)) fails
+
+-- ---- the body is begun
+
+module _ (bound : BoundLines) (old now : Reading) (input : InputSoFar) (h : IsReadTo old now [] input) (n : ℕ)
+    (within : n ≤ length input.held) (r : StepReading) where
+  pub begun-body : ((rest : List ℕ) → IsFollowedBy input.is_whole rest
+      → reading_of_text bound (input.held ++ rest) ≡ Ok (whole_reading r (drop n input.held ++ rest)))
+      → IsAtBody bound old now (record input { held = drop n input.held }) r
+  begun-body begins = record {
+    done = take n input.held;
+    read = taken-first old now [] input h n within;
+    body = λ rest ends.
+        ap (reading_of_text bound) (split-at [] input.held n rest) ∙ begins rest ends;
+  }
+
+  pub begun-last : input.is_whole ≡ true
+      → reading_of_text bound input.held ≡ Ok (whole_reading r (drop n input.held))
+      → IsAtBody bound old now (record input { held = drop n input.held }) r
+  begun-last whole begins = begun-body (λ rest ends.
+      let none : rest ≡ [] = ends whole in
+      subst (λ (l : List ℕ). reading_of_text bound (input.held ++ l) ≡ Ok (whole_reading r (drop n input.held ++ l)))
+      (sym none)
+      (ap (reading_of_text bound) (append-nil input.held) ∙ begins
+      ∙ ap (λ l. Ok (whole_reading r l)) (sym (append-nil (drop n input.held)))))
+
+-- ---- before the first step
+
+pub unread-given : (r : StepReading) → IsBodyUnread r → record { opening = r.given.opening; steps = [] } ≡ r.given
+unread-given r unread = by_steps r.given unread.none
+  where
+    by_steps : (t : Trace) → t.steps ≡ [] → record { opening = t.opening; steps = [] } ≡ t
+    by_steps t none = ap (λ (l : List Step). record t { steps = l }) (sym none)
+
+pub unread-sound : (r : StepReading) → IsBodyUnread r → r.given.opening.slots ≤ 21
+    → length r.given.opening.levels ≡ line_count → IsSound r
+unread-sound r unread few whole = record { few = few; whole = whole; formed = unread.formed }

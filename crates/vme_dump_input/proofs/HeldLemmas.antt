@@ -1,0 +1,268 @@
+-- An input as it is read on.
+use Rattle.std.proofs.Common.{◌≡◌, ℕ, suc, ◌+◌, ◌*◌, ◌≤◌, ◌<◌, ◌⊎◌, inl, inr, Bool, true, false, List, [], ◌∷◌, ◌++◌}
+use Rattle.std.proofs.Common.{length, take, drop, Option, None, Some, refl, sym, ap, subst, ◌∙◌, arith}
+use Rattle.std.proofs.Common.{append_assoc, append-nil, length-append, take-append-drop}
+use Rattle.std.specs.Io.KnownBytes.{Consumes, IsAtEnd}
+use Rattle.std.proofs.KnownBytes.{Consumes-trans}
+use Rattle.std.proofs.Math.Nat.{suc-mul}
+use Rattle.std.proofs.lemmas.Bool.{cases_lt}
+use Rattle.std.proofs.lemmas.Nat.{mul-le}
+use Rattle.vme_trace.specs.Streams.{Reading}
+use Rattle.vme_stream.specs.Inputs.{IsInTime, IsReading, most_reads}
+use Rattle.vme_stream.proofs.InputLemmas.{gives_more, in_time, read_to_end, reads_more}
+use Rattle.vme_stream.specs.InFaults.{InputFailsBy}
+use Rattle.vme_stream.specs.declared.input.InFault.{InFault}
+use Rattle.vme_stream.specs.declared.input.InFault.TheVariants as failed
+use Rattle.vme_dump_input.specs.HeldInputs.{FailsAs, InputSoFar, IsAllOf, IsReadTo, IsToldWhole, MayLimit}
+use Rattle.vme_dump_input.specs.HeldInputs.{not_read}
+
+module _ (old now : Reading) (done : List ℕ) (input : InputSoFar) (h : IsReadTo old now done input) where
+  -- some of what is held is taken
+  pub taken-first : (n : ℕ) → n ≤ length input.held
+      → IsReadTo old now (done ++ take n input.held) (record input { held = drop n input.held })
+  taken-first n within =
+      let same : (done ++ take n input.held) ++ drop n input.held ≡ done ++ input.held =
+      append_assoc done (take n input.held) (drop n input.held)
+      ∙ ap (λ l. done ++ l) (take-append-drop n input.held) in
+      record {
+        consumed = subst (Consumes old.left now.left) (sym same) h.consumed;
+        read = ap (λ l. length l) same ∙ h.read;
+        failures = h.failures;
+        reads = h.reads;
+        some = h.some;
+        full = h.full;
+        has_full = h.has_full;
+        bounded = h.bounded;
+        limits = h.limits;
+        within = h.within;
+        whole = subst (λ l. IsToldWhole input.is_whole old l input.read input.limit) (sym same) h.whole;
+        in_time = h.in_time;
+      }
+
+  in-time : input.reads < most_reads → IsInTime old now
+  in-time less = record { failures = h.failures; reads = omega (arith, h.reads, less) }
+
+  -- where all is read
+  pub all-read : input.is_whole ≡ true → IsAllOf old now (done ++ input.held) input.limit
+  all-read ends =
+      let told = subst (λ (b : Bool). IsToldWhole b old (done ++ input.held) input.read input.limit) ends h.whole in
+      ((in-time (h.in_time ends), told.0), omega (arith, h.read, told.1))
+
+  -- where reading is given up
+  few_full : (full room read limit : ℕ) → full * room ≤ read → read ≤ limit + room → MayLimit limit room
+      → full ≤ 65537
+  few_full full room read limit most within may = by_order (cases_lt full 65538)
+    where
+      by_order : (full < 65538) ⊎ (65538 ≤ full) → full ≤ 65537
+      by_order (inl less) = omega (arith, less)
+      by_order (inr many) =
+          absurd (omega (arith, mul-le 65538 room full room many (omega arith), most, within, may.few, may.some))
+
+  pub gives-up : input.reads ≡ most_reads → IsReading old now None
+  gives-up many =
+      let few = few_full h.full input.room input.read input.limit h.has_full.enough h.within h.limits in
+      gives_more old now (done ++ input.held) h.consumed (omega (arith, h.read, h.some, many))
+      (omega (arith, h.reads, many)) (omega (arith, h.has_full.counted, many, few)) h.failures
+
+  pub too-long : input.reads < most_reads → input.limit < input.read
+      → (bytes : List ℕ) × (input.limit < length bytes) × IsReading old now (Some bytes)
+  too-long less long =
+      reads_more old now (done ++ input.held) input.limit h.consumed (omega (arith, h.read, long)) (in-time less)
+
+  pub reading-so-far : input.reads < most_reads → (bytes : Option (List ℕ)) × IsReading old now bytes
+  reading-so-far less = in_time old now (in-time less)
+
+  -- it may be left at any time
+  pub some-reading : (bytes : Option (List ℕ)) × IsReading old now bytes
+  some-reading = by_reads (cases_lt input.reads most_reads)
+    where
+      by_reads : (input.reads < most_reads) ⊎ (most_reads ≤ input.reads)
+          → (bytes : Option (List ℕ)) × IsReading old now bytes
+      by_reads (inl less) = reading-so-far less
+      by_reads (inr many) = (None, gives-up (omega (arith, many, h.bounded)))
+
+  module _ (later : Reading) where
+    pub fails-now : later.failures ≡ suc now.failures → IsReading old later None
+    fails-now failed = inl (failed ∙ ap (λ n. suc n) h.failures)
+
+    pub fails-by : (limit : ℕ) (fault : InFault) → input.reads < most_reads → later.reads ≡ now.reads
+        → InputFailsBy now later fault → FailsAs limit old later fault
+    fails-by limit failed.Read less same fails = fails-now fails
+    fails-by limit failed.TooLong less same fails = absurd fails
+    fails-by limit failed.Memory less same fails =
+        in_time old later (record { failures = fails ∙ h.failures; reads = omega (arith, same, h.reads, less) })
+
+    -- the end is read
+    pub read-end : Consumes now.left later.left [] → IsAtEnd later.left → later.failures ≡ now.failures
+        → later.reads ≡ now.reads → later.short_reads ≡ now.short_reads → input.reads < most_reads
+        → input.read ≤ input.limit → IsReadTo old later done (record input { is_whole = true })
+    read-end none ends same reads shorts less within =
+        let bytes = done ++ input.held in
+        let consumed : Consumes old.left later.left bytes =
+        subst (Consumes old.left later.left) (append-nil bytes)
+        (Consumes-trans old.left now.left later.left bytes [] h.consumed none) in
+        let time : IsInTime old later = record {
+          failures = same ∙ h.failures;
+          reads = omega (arith, reads, h.reads, less);
+        } in
+        record {
+          consumed = consumed;
+          read = h.read;
+          failures = same ∙ h.failures;
+          reads = reads ∙ h.reads;
+          some = h.some;
+          full = h.full;
+          has_full = record {
+            counted = h.has_full.counted ∙ ap (λ n. n + h.full) (sym shorts);
+            enough = h.has_full.enough;
+          };
+          bounded = h.bounded;
+          limits = h.limits;
+          within = h.within;
+          whole = ((read_to_end old later bytes consumed ends time).1, within);
+          in_time = λ _. less;
+        }
+
+    module _ (more : List ℕ) (some : 0 < length more) (consumed : Consumes now.left later.left more)
+        (same : later.failures ≡ now.failures) (reads : later.reads ≡ suc now.reads) (less : input.reads < most_reads)
+        (going : input.is_whole ≡ false) where
+      grown : (flag : Bool) → flag ≡ false → (bytes : List ℕ) (read limit : ℕ) → IsToldWhole flag old bytes read limit
+      grown true e bytes read limit = absurd (cc)
+      grown false e bytes read limit = tt
+
+      ends-not : (flag : Bool) → flag ≡ false → (n : ℕ) → flag ≡ true → n < most_reads
+      ends-not true e n h = absurd (cc)
+      ends-not false e n h = absurd (cc)
+
+      on : input.read + length more ≤ input.limit + input.room → (full : ℕ)
+          → old.short_reads + (input.reads + 1) ≡ later.short_reads + full
+          → full * input.room ≤ input.read + length more
+          → IsReadTo old later done
+          (record input { held = input.held ++ more; read = input.read + length more; reads = input.reads + 1 })
+      on within full counted enough =
+          let same_bytes : (done ++ input.held) ++ more ≡ done ++ (input.held ++ more) =
+          append_assoc done input.held more in
+          record {
+            consumed = subst (Consumes old.left later.left) same_bytes
+                (Consumes-trans old.left now.left later.left (done ++ input.held) more h.consumed consumed);
+            read = ap (λ l. length l) (sym same_bytes) ∙ length-append (done ++ input.held) more
+                ∙ ap (λ n. n + length more) h.read;
+            failures = same ∙ h.failures;
+            reads = omega (arith, reads, h.reads);
+            some = omega (arith, h.some, some);
+            full = full;
+            has_full = record { counted = counted; enough = enough };
+            bounded = omega (arith, less);
+            limits = h.limits;
+            within = within;
+            whole = grown input.is_whole going (done ++ (input.held ++ more)) (input.read + length more) input.limit;
+            in_time = ends-not input.is_whole going (input.reads + 1);
+          }
+
+      more-full : (full room read n : ℕ) → full * room ≤ read → room ≤ n → suc full * room ≤ read + n
+      more-full full room read n enough all = omega (arith, suc-mul full room, enough, all)
+
+      -- more bytes are read
+      pub read-on : input.read + length more ≤ input.limit + input.room
+          → (length more < input.room → later.short_reads ≡ suc now.short_reads)
+          → (input.room ≤ length more → later.short_reads ≡ now.short_reads)
+          → IsReadTo old later done
+          (record input { held = input.held ++ more; read = input.read + length more; reads = input.reads + 1 })
+      read-on within short full = by_room (cases_lt (length more) input.room)
+        where
+          by_room : (length more < input.room) ⊎ (input.room ≤ length more)
+              → IsReadTo old later done
+              (record input { held = input.held ++ more; read = input.read + length more; reads = input.reads + 1 })
+          by_room (inl less_room) =
+              on within h.full (omega (arith, h.has_full.counted, short less_room)) (omega (arith, h.has_full.enough))
+          by_room (inr all) =
+              on within (suc h.full) (omega (arith, h.has_full.counted, full all))
+              (more-full h.full input.room input.read (length more) h.has_full.enough all)
+
+-- before the first read
+pub first-read : (here : Reading) (limit room : ℕ) → MayLimit limit room → IsReadTo here here [] (not_read limit room)
+first-read here limit room may = record {
+  consumed = nothing here.left;
+  read = refl;
+  failures = refl;
+  reads = omega arith;
+  some = omega arith;
+  full = 0;
+  has_full = record { counted = refl; enough = omega arith };
+  bounded = omega arith;
+  limits = may;
+  within = omega arith;
+  whole = tt;
+  in_time = λ ends. absurd (cc);
+}
+  where
+    nothing : (told : Option (List ℕ)) → Consumes told told []
+    nothing None = tt
+    nothing (Some bytes) = refl
+
+-- what is known of an input, by its parts
+pub same-input : (a b : InputSoFar) → a.held ≡ b.held → a.limit ≡ b.limit → a.room ≡ b.room → a.read ≡ b.read
+    → a.reads ≡ b.reads → a.is_whole ≡ b.is_whole → a ≡ b
+same-input a b held limit room read reads whole =
+    ap (λ (x : List ℕ). record a { held = x }) held
+    ∙ (ap (λ (x : ℕ). record a { held = b.held; limit = x }) limit
+    ∙ (ap (λ (x : ℕ). record a { held = b.held; limit = b.limit; room = x }) room
+    ∙ (ap (λ (x : ℕ). record a { held = b.held; limit = b.limit; room = b.room; read = x }) read
+    ∙ (ap (λ (x : ℕ). record a { held = b.held; limit = b.limit; room = b.room; read = b.read; reads = x }) reads
+    ∙ ap (λ (x : Bool). record b { is_whole = x }) whole))))
+
+-- a read more, by the parts of what is known then
+module _ (old now later : Reading) (done : List ℕ) (before after : InputSoFar) (h : IsReadTo old now done before)
+    (more : List ℕ) (count : ℕ) (long : length more ≡ count) (held : after.held ≡ before.held ++ more)
+    (limit : after.limit ≡ before.limit) (room : after.room ≡ before.room) where
+  -- that gave bytes
+  pub read-some : 0 < count → after.read ≡ before.read + count → after.reads ≡ before.reads + 1
+      → after.is_whole ≡ before.is_whole → Consumes now.left later.left more → later.failures ≡ now.failures
+      → later.reads ≡ suc now.reads
+      → (count < before.room → later.short_reads ≡ suc now.short_reads)
+      → (before.room ≤ count → later.short_reads ≡ now.short_reads) → before.reads < most_reads
+      → before.is_whole ≡ false → before.read + count ≤ before.limit + before.room → IsReadTo old later done after
+  read-some some read reads whole consumed same reads_are short full less going within =
+      subst (IsReadTo old later done)
+      (sym (same-input after
+      (record before { held = before.held ++ more; read = before.read + length more; reads = before.reads + 1 }) held
+      limit room (read ∙ ap (λ n. before.read + n) (sym long)) reads whole))
+      (read-on old now done before h later more (omega (arith, some, long)) consumed same reads_are less going
+      (omega (arith, long, within)) (λ l. short (omega (arith, l, long))) (λ l. full (omega (arith, l, long))))
+
+  -- that gave none
+  pub read-none : count ≡ 0 → after.read ≡ before.read → after.reads ≡ before.reads → after.is_whole ≡ true
+      → Consumes now.left later.left more → IsAtEnd later.left → later.failures ≡ now.failures
+      → later.reads ≡ now.reads → later.short_reads ≡ now.short_reads → before.reads < most_reads
+      → before.read ≤ before.limit → IsReadTo old later done after
+  read-none none read reads whole consumed ends same reads_are shorts less within =
+      let nothing : more ≡ [] = no-bytes more (long ∙ none) in
+      subst (IsReadTo old later done)
+      (sym (same-input after (record before { is_whole = true })
+      (held ∙ (ap (λ l. before.held ++ l) nothing ∙ append-nil before.held)) limit room read reads whole))
+      (read-end old now done before h later (subst (Consumes now.left later.left) nothing consumed) ends same reads_are
+      shorts less within)
+    where
+      no-bytes : (l : List ℕ) → length l ≡ 0 → l ≡ []
+      no-bytes [] e = refl
+      no-bytes (x ∷ l) e = absurd (omega (arith, e))
+
+-- ---- what is taken before each read
+
+pub rest-same : (first gone more held grown next : List ℕ) (n : ℕ) → gone ++ held ≡ first ++ more
+    → next ≡ drop n held ++ grown → (gone ++ take n held) ++ next ≡ first ++ (more ++ grown)
+rest-same first gone more held grown next n same is =
+    ap (λ (l : List ℕ). (gone ++ take n held) ++ l) is
+    ∙ append_assoc gone (take n held) (drop n held ++ grown)
+    ∙ ap (λ (l : List ℕ). gone ++ l) (sym (append_assoc (take n held) (drop n held) grown)
+    ∙ ap (λ (l : List ℕ). l ++ grown) (take-append-drop n held))
+    ∙ sym (append_assoc gone held grown) ∙ ap (λ (l : List ℕ). l ++ grown) same ∙ append_assoc first more grown
+
+-- ---- a front of what is held is taken
+
+module _ (done held : List ℕ) (n : ℕ) where
+  pub split-at : (future : List ℕ) → (done ++ take n held) ++ (drop n held ++ future) ≡ done ++ (held ++ future)
+  split-at future =
+      append_assoc done (take n held) (drop n held ++ future)
+      ∙ ap (λ l. done ++ l) (sym (append_assoc (take n held) (drop n held) future))
+      ∙ ap (λ l. done ++ (l ++ future)) (take-append-drop n held)

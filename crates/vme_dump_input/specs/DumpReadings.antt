@@ -1,0 +1,82 @@
+-- What reading a dump piece by piece comes to.
+use Rattle.std.specs.Prelude.{◌≡◌, ℕ, ◌≤◌, List, [], ◌++◌, length, Option, None, Some, Result, Ok, Err}
+use Rattle.vcd_read.specs.Contents.{Contents}
+use Rattle.vcd_read.specs.Meaning.{dump_of}
+use Rattle.vcd_read.specs.declared.fault.FaultKind.{FaultKind}
+use Rattle.vcd_read.specs.declared.fault.FaultKind.TheVariants as vcd
+use Rattle.vcd_read.specs.declared.fault.VcdFault.{VcdFault}
+use Rattle.vme_trace.specs.LineNumbers.{line_count}
+use Rattle.vme_trace.specs.Streams.{Reading}
+use Rattle.vme_trace.specs.WellFormed.{malformed_step}
+use Rattle.vme_bind.specs.Binding.{BoundLines}
+use Rattle.vme_bind.specs.Capture.{capture_of}
+use Rattle.vme_bind.specs.TextReading.{reading_of_text}
+use Rattle.vme_listing.specs.Reading.{IsFollowedBy}
+use Rattle.vme_stream.specs.Inputs.{IsReading}
+use Rattle.vme_answer.specs.Answers.{dump_read}
+use Rattle.vme_answer.specs.declared.refusal.Refusal.{Refusal}
+use Rattle.vme_answer.specs.declared.refusal.Refusal.TheVariants.{Memory}
+use Rattle.vme_step_reader.specs.StepReading.{StepReading, whole_reading}
+use Rattle.vme_dump_input.specs.HeldInputs.{InputSoFar, IsReadTo}
+use Rattle.vme_dump_input.specs.declared.definitions.Begun.{Begun}
+use Rattle.vme_dump_input.specs.declared.definitions.Begun.TheVariants.{Body, Unusable}
+
+-- the dump is refused for this, unless there was no memory
+abbrev pub IsDumpRefused : Reading → Reading → Refusal → Type 0
+IsDumpRefused old now Memory = (bytes : Option (List ℕ)) × IsReading old now bytes
+IsDumpRefused old now refusal = (bytes : Option (List ℕ)) × IsReading old now bytes × (dump_read bytes ≡ Err refusal)
+
+-- the dump was read, and has these contents
+pub record IsReadDump (old now : Reading) (contents : Contents) : Type 0 where
+  pub text : List ℕ
+  pub reading : IsReading old now (Some text)
+  pub is : dump_read (Some text) ≡ Ok contents
+
+-- a text has this fault, unless there was no memory
+abbrev pub HasFault : List ℕ → ℕ → FaultKind → Type 0
+HasFault text line vcd.Memory = Unit {0}
+HasFault text line kind = dump_of text ≡ Err (record { line = line; kind = kind })
+
+-- so has each text that begins with what was taken and is held
+abbrev pub HasFaultBefore : List ℕ → InputSoFar → VcdFault → Type 0
+HasFaultBefore done input fault = (rest : List ℕ) → IsFollowedBy input.is_whole rest
+    → HasFault (done ++ (input.held ++ rest)) fault.line fault.kind
+
+-- the body of a dump is read as far as this reader is, and what is held goes on with it
+pub record IsAtBody (bound : BoundLines) (old now : Reading) (input : InputSoFar) (r : StepReading) : Type 0 where
+  pub done : List ℕ
+  pub read : IsReadTo old now done input
+  pub body : (rest : List ℕ) → IsFollowedBy input.is_whole rest
+      → reading_of_text bound (done ++ (input.held ++ rest)) ≡ Ok (whole_reading r (input.held ++ rest))
+
+-- what is read goes on with a recording as one is made
+pub record IsSound (r : StepReading) : Type 0 where
+  pub few : r.given.opening.slots ≤ 21
+  pub whole : length r.given.opening.levels ≡ line_count
+  pub formed : (rest : List ℕ) → malformed_step (whole_reading r rest).recorded ≡ None
+
+-- nothing of a body was given, and all that is read of it is a recording
+pub record IsBodyUnread (r : StepReading) : Type 0 where
+  pub none : r.given.steps ≡ []
+  pub formed : (rest : List ℕ) → malformed_step (whole_reading r rest).recorded ≡ None
+
+abbrev pub MayBeRead : Begun → Type 0
+MayBeRead (Body r) = IsBodyUnread r
+MayBeRead (Unusable fault) = Unit {0}
+
+abbrev pub MayBeReadIf : Option Begun → Type 0
+MayBeReadIf None = Unit {0}
+MayBeReadIf (Some begun) = MayBeRead begun
+
+-- the definitions of a dump were read; or the binding can't be used on it, and all of it was; or it is refused
+abbrev pub BeginsDump : BoundLines → Reading → Reading → InputSoFar → Result Begun Refusal → Type 0
+BeginsDump bound old now input (Ok (Body r)) = IsAtBody bound old now input r
+BeginsDump bound old now input (Ok (Unusable fault)) =
+    (contents : Contents) × IsReadDump old now contents × (capture_of bound contents ≡ Err fault)
+BeginsDump bound old now input (Err refusal) = IsDumpRefused old now refusal
+
+-- the same, unless the definitions don't end in what is held
+abbrev pub MayBegin : BoundLines → Reading → Reading → InputSoFar → InputSoFar → Result (Option Begun) Refusal → Type 0
+MayBegin bound old now held input (Ok (Some begun)) = BeginsDump bound old now input (Ok begun)
+MayBegin bound old now held input (Ok None) = (input ≡ held) × IsReadTo old now [] input
+MayBegin bound old now held input (Err refusal) = IsDumpRefused old now refusal

@@ -1,0 +1,3 @@
+pub mod HeldInputs
+pub mod DumpReadings
+pub mod PieceReadings

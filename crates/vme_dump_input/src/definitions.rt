@@ -1,0 +1,214 @@
+//! The definitions of a dump.
+
+ghost use Rattle.std.specs.Prelude.{◌≡◌, ◌≤◌, ℕ, List, [], ◌++◌, drop, length, true, None, Ok, IfOk, IfErr};
+ghost use Rattle.vme_trace.specs.Streams.{Reading};
+ghost use Rattle.vme_bind.specs.TextCapture.{CaptureFailsBy};
+ghost use Rattle.vme_bind.specs.TextReading.{reading_of_text};
+ghost use Rattle.vme_listing.specs.Reading.{IsFollowedBy};
+ghost use Rattle.vme_stream.specs.Inputs.{longest_input};
+ghost use Rattle.vme_answer.specs.Refusals.{refused};
+ghost use Rattle.vme_answer.specs.declared.refusal.Input.TheVariants.{Dump};
+ghost use Rattle.vme_answer.specs.declared.refusal.Refusal.TheVariants.{BadBinding};
+ghost use Rattle.vme_bind.specs.declared.fault.BindFault.{BindFault};
+ghost use Rattle.vme_dump_input.specs.declared.definitions.Begun.TheVariants.{Body, Unusable};
+ghost use Rattle.vme_dump_input.specs.HeldInputs.{IsReadTo, not_read};
+ghost use Rattle.vme_dump_input.specs.DumpReadings.{HasFaultBefore, IsDumpRefused, MayBeRead, MayBeReadIf};
+ghost use Rattle.vme_dump_input.specs.DumpReadings.{MayBegin};
+ghost use Rattle.vme_dump_input.specs.DumpReadings.{BeginsDump};
+
+use crate::held_input::HeldInput;
+use std::alloc::{AllocError, Global};
+use vcd_read::{VcdFault, whole_tokens};
+use vme_answer::{Input, Refusal, captured_in};
+use vme_bind::{BindFault, Binding, CaptureFault};
+use vme_dump_steps::DefinitionsEnd;
+use vme_step_reader::{StepReader, begin_last_steps, begin_steps};
+use vme_stream::InFault;
+use vme_trace::Source;
+
+/// How many bytes a dump has at most.
+const LONGEST_DUMP: u64 = 268_435_456;
+
+/// How much room each read of a dump has.
+const DUMP_ROOM: usize = 65_536;
+
+/// What a dump is read to.
+pub fn dump_input(alloc: Global) -> Result<HeldInput, AllocError>
+    ensures { IfOk result (λ input. input ≡ not_read longest_input DUMP_ROOM) }
+{
+    HeldInput::new(alloc, LONGEST_DUMP, DUMP_ROOM)
+}
+
+/// The definitions of a dump were read.
+#[derive(Drop)]
+pub enum Begun {
+    /// What reads its body.
+    Body(StepReader),
+    /// The binding can't be used on it.
+    Unusable(BindFault),
+}
+
+/// Why a dump can't be had.
+pub fn unread(fault: InFault) -> Refusal
+    ensures { result ≡ refused Dump fault }
+{
+    Refusal::of_input(Input::Dump, fault)
+}
+
+/// What a fault of a dump is to the answer: that it can't be had at all comes before.
+pub fn refused_for<D: Source>(dump: &mut D, input: &mut HeldInput, fault: VcdFault) -> Refusal
+    ensures refused { (old : Reading) (done : List ℕ) → IsReadTo old (D.reading dump.old) done input.old
+        → input.old.limit ≡ longest_input → HasFaultBefore done input.old fault
+        → IsDumpRefused old (D.reading dump.new) result }
+    ensures limit { input.new.limit ≡ input.old.limit }
+{
+    match input.read_rest(dump) {
+        Ok(()) => Refusal::of_dump(fault),
+        Err(fault) => unread(fault),
+    }
+}
+
+/// What it is that a binding makes no recording of a dump.
+fn unusable_for(refusal: Refusal) -> Result<Begun, Refusal>
+    ensures unusable { IfOk result (λ begun. (fault : BindFault) × (refusal ≡ BadBinding fault)
+        × (begun ≡ Unusable fault)) }
+    ensures refused { IfErr result (λ other. (other ≡ refusal) × ((fault : BindFault)
+        → refusal ≡ BadBinding fault → ⊥)) }
+{
+    match refusal {
+        Refusal::BadBinding(fault) => Ok(Begun::Unusable(fault)),
+        _ => Err(refusal),
+    }
+}
+
+/// What a dump is of whose definitions nothing is begun: the rest of it is read for its own faults before one of the
+/// binding.
+fn unusable<D: Source>(
+    alloc: Global,
+    bound: &Binding,
+    dump: &mut D,
+    input: &mut HeldInput,
+) -> Result<Begun, Refusal>
+    ensures begun { IfOk result MayBeRead }
+    ensures unusable { IfOk result (λ begun. (fault : BindFault) × (begun ≡ Unusable fault)) }
+    ensures read { (old : Reading) → IsReadTo old (D.reading dump.old) [] input.old → input.old.limit ≡ longest_input
+        → BeginsDump bound.now old (D.reading dump.new) input.new result }
+    ensures limit { input.old.limit ≡ longest_input → input.new.limit ≡ longest_input }
+{
+    while !input.is_whole() {
+        if let Err(fault) = input.read(dump) {
+            return Err(unread(fault));
+        }
+    }
+    let Err(refusal) = captured_in(alloc, bound, input.bytes()) else {
+        return Err(Refusal::Memory);
+    };
+    unusable_for(refusal)
+}
+
+/// What a fault that is met before the body is.
+pub fn not_begun<D: Source>(
+    alloc: Global,
+    bound: &Binding,
+    dump: &mut D,
+    input: &mut HeldInput,
+    fault: CaptureFault,
+) -> Result<Begun, Refusal>
+    ensures begun { IfOk result MayBeRead }
+    ensures unusable { IfOk result (λ begun. (fault : BindFault) × (begun ≡ Unusable fault)) }
+    ensures read { (old : Reading) → IsReadTo old (D.reading dump.old) [] input.old → input.old.limit ≡ longest_input
+        → ((rest : List ℕ) → IsFollowedBy input.old.is_whole rest
+        → CaptureFailsBy fault (reading_of_text bound.now (input.old.held ++ rest)))
+        → BeginsDump bound.now old (D.reading dump.new) input.new result }
+    ensures limit { input.old.limit ≡ longest_input → input.new.limit ≡ longest_input }
+{
+    match fault {
+        CaptureFault::Dump(fault) => Err(refused_for(dump, input, fault)),
+        CaptureFault::Binding(_) => unusable(alloc, bound, dump, input),
+    }
+}
+
+/// Begins with the body, where all of the dump is held.
+fn begin_last<D: Source>(
+    alloc: Global,
+    bound: &Binding,
+    dump: &mut D,
+    input: &mut HeldInput,
+) -> Result<Begun, Refusal>
+    requires { input.old.is_whole ≡ true }
+    ensures begun { IfOk result MayBeRead }
+    ensures read { (old : Reading) → IsReadTo old (D.reading dump.old) [] input.old → input.old.limit ≡ longest_input
+        → BeginsDump bound.now old (D.reading dump.new) input.new result }
+    ensures limit { input.old.limit ≡ longest_input → input.new.limit ≡ longest_input }
+{
+    match begin_last_steps(alloc, bound, input.bytes()) {
+        Ok((reader, count)) => {
+            input.take_first(count);
+            Ok(Begun::Body(reader))
+        }
+        Err(fault) => not_begun(alloc, bound, dump, input, fault),
+    }
+}
+
+/// Takes the definitions away, which have so many bytes: the body is left.
+fn body_behind(input: &mut HeldInput, found: (StepReader, usize)) -> Begun
+    requires { found.1 ≤ length input.old.held }
+    ensures body { result ≡ Body found.0 }
+    ensures input { input.new ≡ record input.old { held = drop found.1 input.old.held } }
+{
+    let (reader, count) = found;
+    input.take_first(count);
+    Begun::Body(reader)
+}
+
+/// Begins with the body, if the definitions end in what is held.
+fn begin<D: Source>(
+    alloc: Global,
+    bound: &Binding,
+    dump: &mut D,
+    input: &mut HeldInput,
+) -> Result<Option<Begun>, Refusal>
+    ensures begun { IfOk result MayBeReadIf }
+    ensures read { (old : Reading) → IsReadTo old (D.reading dump.old) [] input.old → input.old.limit ≡ longest_input
+        → MayBegin bound.now old (D.reading dump.new) input.old input.new result }
+    ensures left { result ≡ Ok None → input.new ≡ input.old }
+    ensures limit { input.old.limit ≡ longest_input → input.new.limit ≡ longest_input }
+{
+    match begin_steps(alloc, bound, input.bytes()) {
+        Ok(Some(found)) => Ok(Some(body_behind(input, found))),
+        Ok(None) => Ok(None),
+        Err(fault) => match not_begun(alloc, bound, dump, input, fault) {
+            Ok(begun) => Ok(Some(begun)),
+            Err(refusal) => Err(refusal),
+        },
+    }
+}
+
+/// Reads the definitions of a dump, of which nothing is read.
+pub fn read_definitions<D: Source>(
+    alloc: Global,
+    bound: &Binding,
+    dump: &mut D,
+    input: &mut HeldInput,
+) -> Result<Begun, Refusal>
+    ensures begun { IfOk result MayBeRead }
+    ensures read { (old : Reading) → IsReadTo old (D.reading dump.old) [] input.old → input.old.limit ≡ longest_input
+        → BeginsDump bound.now old (D.reading dump.new) input.new result }
+    ensures limit { input.old.limit ≡ longest_input → input.new.limit ≡ longest_input }
+{
+    let mut search = DefinitionsEnd::new();
+    while !input.is_whole() {
+        if let Err(fault) = input.read(dump) {
+            return Err(unread(fault));
+        }
+        let held = input.bytes();
+        if search.may_end(&held[..whole_tokens(held)]) {
+            match begin(alloc, bound, dump, input) {
+                Ok(Some(begun)) => return Ok(begun),
+                Ok(None) => {}
+                Err(refusal) => return Err(refusal),
+            }
+        }
+    }
+    begin_last(alloc, bound, dump, input)
+}

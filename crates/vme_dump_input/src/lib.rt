@@ -1,0 +1,38 @@
+//! A dump that is read piece by piece: its bytes as they come, its definitions, and why it is
+//! refused. What is done with its steps is each command's own.
+//!
+//! # Parts
+//!
+//! - `held_input`: [`HeldInput`], the bytes of an input that were read and not taken, up to a limit.
+//! - `definitions`: [`read_definitions`] reads the definitions of a dump, up to its body.
+//!   [`refused_for`] and [`not_begun`] say what a fault is that is met in them.
+//! - `body`: what a fault is that is met in the body.
+//!
+//! # What is proved
+//!
+//! - The bytes that are held and those that were taken are what was read (`IsReadTo`). At the end
+//!   they are all of the input (`IsAllOf`), and an input that can't be had, or is too long, is told
+//!   so (`FailsAs`).
+//! - Behind the definitions the body goes on with what is held (`BeginsDump`, `IsAtBody`), or the
+//!   binding can't be used on the dump, all of which was read; or the dump is refused for its first
+//!   reason (`IsDumpRefused`): one that can't be had has no fault.
+//!
+//! # What isn't proved
+//!
+//! When a byte is read, and that memory suffices: what the definitions and the longest token take.
+//! Where the binding can't be used on the dump, all of the dump is held.
+//!
+//! # Limits
+//!
+//! A dump has at most 268,435,456 bytes.
+//!
+//! Start reading at `specs/HeldInputs`, then `specs/DumpReadings`.
+#![tactic(auto)]
+
+mod body;
+mod definitions;
+mod held_input;
+
+pub use body::{fault_of, opening_of, refused_in_body};
+pub use definitions::{Begun, dump_input, not_begun, read_definitions, refused_for, unread};
+pub use held_input::HeldInput;

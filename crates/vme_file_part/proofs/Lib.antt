@@ -1,0 +1,2 @@
+pub mod GrownFile
+pub mod SoFar

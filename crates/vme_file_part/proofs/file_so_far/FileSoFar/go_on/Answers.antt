@@ -1,0 +1,20 @@
+-- The steps are judged, if there are some.
+use Rattle.vme_file_part.proofs.SoFar.{found-by-it, its-found}
+use Rattle.vme_file_part.proofs.file_so_far.FileSoFar.go_on.Goals as goal
+
+pub segment_with-requires-clause-found : goal.segment_with-requires-clause-found
+segment_with-requires-clause-found c =
+    let (number, listing, start, t, h, may) = c.requires in
+    (t, its-found number listing start c.args.self t h, may)
+
+pub returns : goal.returns
+returns c number listing start t h may = record {
+  number_is = h.number_is;
+  listing_is = h.listing_is;
+  start_is = h.start_is;
+  found = record {
+    opened = h.found.opened;
+    found = found-by-it number listing start c.args.self t h c.in_ok-segment.segment _
+        (c.in_ok-segment.ensures t (its-found number listing start c.args.self t h) may);
+  };
+}

@@ -1,0 +1,28 @@
+-- The first step may be the opening.
+use Rattle.std.proofs.Common.{List, ap, subst, arith, ◌∙◌}
+use Rattle.std.specs.Prelude.{IfOk}
+use Rattle.vme_trace.specs.Levels.{Levels}
+use Rattle.vme_trace.specs.declared.block.Block.{Block}
+use Rattle.vme_trace.specs.declared.step.Step.{Step}
+use Rattle.vme_summary.specs.Joins.{block_of}
+use Rattle.vme_part_format.specs.Tables.{segment_value}
+use Rattle.vme_parts.specs.Opened.{opening_of}
+use Rattle.vme_file_part.specs.Growing.{StandsForFile}
+use Rattle.vme_file_part.proofs.file_so_far.begun.Goals as goal
+
+pub segment_of-requires-clause-accepted : goal.segment_of-requires-clause-accepted
+segment_of-requires-clause-accepted c = c.steps_of_file-steps.ensures.formed c.requires.formed
+
+pub segment_of-requires-clause-few : goal.segment_of-requires-clause-few
+segment_of-requires-clause-few c = omega (arith, c.steps_of_file-steps.ensures.few, c.requires.few)
+
+pub returns : goal.returns
+returns c =
+    let number = c.args.number in
+    let made = c.segment_of.result in
+    let behind = c.steps_of_file-steps.ensures in
+    let rest = c.steps_of_file-steps.result.now in
+    subst (λ (b : Block). IfOk made (λ s. StandsForFile c.args.listing (segment_value s) b))
+    (ap (λ (o : Levels). block_of number o rest) behind.opening
+    ∙ ap (λ (l : List Step). block_of number (opening_of number c.args.start c.args.opening.now c.args.steps.now) l)
+    behind.steps) c.segment_of.ensures

@@ -1,0 +1,51 @@
+-- The steps are judged from the levels that are left, and the tables are joined.
+use Rattle.std.proofs.Common.{arith, subst}
+use Rattle.std.proofs.lemmas.Result.{IfOk-weaker}
+use Rattle.vme_trace.specs.Levels.{Levels}
+use Rattle.vme_summary.specs.Joins.{block_of}
+use Rattle.vme_part_format.specs.Tables.{segment_value}
+use Rattle.vme_file_part.specs.Growing.{StandsForFile}
+use Rattle.vme_file_part.proofs.GrownFile.{behind-sound, file-grown, file-left, file-steps, file-tables}
+use Rattle.vme_file_part.proofs.file_so_far.with_more.Goals as goal
+
+pub segment_of-requires-clause-accepted : goal.segment_of-requires-clause-accepted
+segment_of-requires-clause-accepted c =
+    let (o, x, a, may) = c.requires in
+    behind-sound o c.args.segment.left x c.args.steps.now
+    (file-left c.args.listing (segment_value c.args.segment) (block_of c.args.number o x) a) may.formed
+
+pub segment_of-requires-clause-few : goal.segment_of-requires-clause-few
+segment_of-requires-clause-few c =
+    let (o, x, a, may) = c.requires in omega (arith, may.few)
+
+pub extended-requires-clause-first : goal.extended-requires-clause-first
+extended-requires-clause-first c =
+    let (o, x, a, may) = c.requires in
+    file-tables c.args.listing (segment_value c.args.segment) (block_of c.args.number o x) a
+
+pub extended-requires-clause-second : goal.extended-requires-clause-second
+extended-requires-clause-second c =
+    file-tables c.args.listing (segment_value c.in_ok-more.more)
+    (block_of c.args.number c.args.segment.left c.args.steps.now) c.in_ok-more.ensures
+
+pub extended-requires-clause-steps : goal.extended-requires-clause-steps
+extended-requires-clause-steps c =
+    let (o, x, a, may) = c.requires in
+    omega (
+      arith,
+      may.few,
+      file-steps c.args.listing (segment_value c.args.segment) (block_of c.args.number o x) a,
+      file-steps c.args.listing (segment_value c.in_ok-more.more)
+          (block_of c.args.number c.args.segment.left c.args.steps.now) c.in_ok-more.ensures,
+    )
+
+pub returns : goal.returns
+returns c o x a may =
+    let s = segment_value c.args.segment in
+    let t = segment_value c.in_ok-more.more in
+    let y = c.args.steps.now in
+    let left = file-left c.args.listing s (block_of c.args.number o x) a in
+    IfOk-weaker c.extended.result _ _
+    (λ r e. file-grown c.args.listing s t (segment_value r) c.args.number o x y a
+    (subst (λ (v : Levels). StandsForFile c.args.listing t (block_of c.args.number v y)) left c.in_ok-more.ensures) e
+    may.formed may.few) c.extended.ensures

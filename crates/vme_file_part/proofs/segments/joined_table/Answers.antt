@@ -1,0 +1,19 @@
+use Rattle.std.proofs.Common.{ap, map, length, arith}
+use Rattle.std.proofs.lemmas.List.{length-map}
+use Rattle.vme_part_format.specs.Tables.{node_value, table_value}
+use Rattle.vme_parts.proofs.Halves.{can_compose}
+use Rattle.vme_file_part.proofs.segments.joined_table.Goals as goal
+
+pub are_few_together-requires : goal.are_few_together-requires
+are_few_together-requires c = let (n, p, q) = c.requires in omega (arith, p.ways.few)
+
+pub composed-requires : goal.composed-requires
+composed-requires c =
+    let (n, p, q) = c.requires in
+    can_compose n (table_value c.args.first) (table_value c.args.second) p q
+    (omega (
+      arith,
+      c.are_few_together.ensures.0 c.if-not-are_few_together.false,
+      length-map c.args.first.nodes.items node_value,
+      length-map c.args.second.nodes.items node_value,
+    ))

@@ -1,0 +1,2 @@
+pub mod FileOf
+pub mod Growing

@@ -1,0 +1,226 @@
+//! A file whose steps come one after the other.
+
+ghost use Rattle.std.specs.Prelude.{◌≡◌, ◌+◌, ◌<◌, ◌≤◌, ◌++◌, ◌∷◌, ℕ, [], Bool, IfOk, List, None, Option, Some, length};
+ghost use Rattle.vme_trace.specs.Followed.{with_steps};
+ghost use Rattle.vme_trace.specs.Levels.{Levels};
+ghost use Rattle.vme_trace.specs.Trace.{Trace};
+ghost use Rattle.vme_trace.specs.WellFormed.{malformed_step};
+ghost use Rattle.vme_trace.specs.declared.step.Step.{Step};
+ghost use Rattle.vme_summary.specs.Joins.{block_of};
+ghost use Rattle.vme_part_format.specs.Tables.{part_value, segment_value};
+ghost use Rattle.vme_parts.specs.Buddies.{HasTables};
+ghost use Rattle.vme_parts.specs.Files.{IsPartOfFile};
+ghost use Rattle.vme_file_part.specs.Growing.{IsExtended, IsFileSoFar, IsFoundOfFile, IsFoundIn, FileMayGoOn};
+ghost use Rattle.vme_file_part.specs.Growing.{StandsForFile};
+ghost use Rattle.vme_file_part.specs.FileOf.{file_of};
+
+use crate::segments::{joined_table, later_times, segment_of};
+use std::alloc::Global;
+use vme_part_format::{Part, Segment};
+use vme_parts::{PartRefusal, steps_of_file};
+use vme_trace::{Lines, Step};
+
+/// A file of a recording as far as its steps came, judged whatever stood before it.
+#[derive(Drop)]
+pub struct FileSoFar {
+    number: u32,
+    listing: bool,
+    /// The first time of its dump, if it has one.
+    start: Option<u64>,
+    /// The levels before the first step of the dump.
+    opening: Lines,
+    /// What is found, once a step came.
+    segment: Option<Segment>,
+}
+
+/// One segment of a file's steps and of those behind them.
+fn extended(alloc: Global, first: Segment, second: Segment) -> Result<Segment, PartRefusal>
+    requires first { HasTables (segment_value first) }
+    requires second { HasTables (segment_value second) }
+    requires steps { first.steps + second.steps ≤ 268435456 }
+    ensures { IfOk result (λ r. IsExtended (segment_value first) (segment_value second) (segment_value r)) }
+{
+    let by = first.steps;
+    let known = joined_table(alloc, first.known, second.known, by)?;
+    let handshake = joined_table(alloc, first.handshake, second.handshake, by)?;
+    let stability = joined_table(alloc, first.stability, second.stability, by)?;
+    let grant = joined_table(alloc, first.grant, second.grant, by)?;
+    let acknowledge = joined_table(alloc, first.acknowledge, second.acknowledge, by)?;
+    Ok(Segment {
+        first: first.first,
+        order: first.order,
+        steps: by + second.steps,
+        opening: first.opening,
+        left: second.left,
+        times: later_times(first.times, second.times),
+        known,
+        handshake,
+        stability,
+        grant,
+        acknowledge,
+    })
+}
+
+/// The segment of a file that goes on with these steps.
+fn with_more(
+    alloc: Global,
+    listing: bool,
+    number: u32,
+    segment: Segment,
+    steps: &[Step],
+) -> Result<Segment, PartRefusal>
+    requires { (o : Levels) × (x : List Step) × StandsForFile listing (segment_value segment) (block_of number o x)
+        × FileMayGoOn (record { opening = o; steps = x }) steps.now }
+    ensures { (o : Levels) (x : List Step) → StandsForFile listing (segment_value segment) (block_of number o x)
+        → FileMayGoOn (record { opening = o; steps = x }) steps.now
+        → IfOk result (λ s. StandsForFile listing (segment_value s) (block_of number o (x ++ steps.now))) }
+{
+    let more = segment_of(alloc, listing, number, &segment.left, steps)?;
+    extended(alloc, segment, more)
+}
+
+/// The segment of a file that begins with these steps of its dump.
+fn begun(
+    alloc: Global,
+    listing: bool,
+    number: u32,
+    start: Option<u64>,
+    opening: &Lines,
+    steps: &[Step],
+) -> Result<Segment, PartRefusal>
+    requires { FileMayGoOn (record { opening = opening.now; steps = [] }) steps.now }
+    ensures { IfOk result (λ s. StandsForFile listing (segment_value s)
+        (file_of number start (record { opening = opening.now; steps = steps.now }))) }
+{
+    let mut opening = *opening;
+    let steps = steps_of_file(number, start, &mut opening, steps);
+    segment_of(alloc, listing, number, &opening, steps)
+}
+
+/// The segment of a file that goes on with these steps, once a step came; else they are the first.
+fn segment_with(
+    alloc: Global,
+    listing: bool,
+    number: u32,
+    start: Option<u64>,
+    opening: &Lines,
+    segment: Option<Segment>,
+    steps: &[Step],
+) -> Result<Segment, PartRefusal>
+    requires some { 0 < length steps.now }
+    requires found { (t : Trace) × IsFoundIn number listing start opening.now segment t × FileMayGoOn t steps.now }
+    ensures { (t : Trace) → IsFoundIn number listing start opening.now segment t → FileMayGoOn t steps.now
+        → IfOk result (λ s. IsFoundOfFile number listing start (Some s) (with_steps t steps.now)) }
+{
+    match segment {
+        Some(segment) => with_more(alloc, listing, number, segment, steps),
+        None => begun(alloc, listing, number, start, opening, steps),
+    }
+}
+
+/// The segment of a file whose steps all came.
+fn whole_segment(
+    alloc: Global,
+    listing: bool,
+    number: u32,
+    opening: &Lines,
+    segment: Option<Segment>,
+) -> Result<Segment, PartRefusal>
+    requires { (start : Option ℕ) × (t : Trace) × IsFoundIn number listing start opening.now segment t
+        × (malformed_step t ≡ None) }
+    ensures { (start : Option ℕ) (t : Trace) → IsFoundIn number listing start opening.now segment t
+        → malformed_step t ≡ None
+        → IfOk result (λ s. StandsForFile listing (segment_value s) (file_of number start t)) }
+{
+    match segment {
+        Some(segment) => Ok(segment),
+        None => {
+            let none = Vec::new(alloc);
+            segment_of(alloc, listing, number, opening, none.as_slice())
+        }
+    }
+}
+
+/// The part of one segment. The backplane has this sum.
+fn part_with(
+    alloc: Global,
+    backplane: u64,
+    listing: bool,
+    segment: Segment,
+) -> Result<Part, PartRefusal>
+    ensures backplane { IfOk result (λ p. p.backplane ≡ backplane) }
+    ensures listing { IfOk result (λ p. p.listing ≡ listing) }
+    ensures one { IfOk result (λ p. (part_value p).segments ≡ segment_value segment ∷ []) }
+{
+    let mut segments = Vec::new(alloc);
+    segments.push(segment)?;
+    Ok(Part {
+        backplane,
+        listing,
+        segments,
+    })
+}
+
+impl FileSoFar {
+    /// Before the first step of a dump, which has this first time, if it has one, and these levels before any change.
+    pub fn new(number: u32, listing: bool, start: Option<u64>, opening: &Lines) -> FileSoFar
+        ensures { IsFileSoFar number listing start result (record { opening = opening.now; steps = [] }) }
+    {
+        FileSoFar {
+            number,
+            listing,
+            start,
+            opening: *opening,
+            segment: None,
+        }
+    }
+
+    /// Judges the steps that follow.
+    pub fn go_on(self, alloc: Global, steps: &[Step]) -> Result<FileSoFar, PartRefusal>
+        requires { (number : ℕ) × (listing : Bool) × (start : Option ℕ) × (t : Trace)
+            × IsFileSoFar number listing start self t × FileMayGoOn t steps.now }
+        ensures { (number : ℕ) (listing : Bool) (start : Option ℕ) (t : Trace)
+            → IsFileSoFar number listing start self t → FileMayGoOn t steps.now
+            → IfOk result (λ f. IsFileSoFar number listing start f (with_steps t steps.now)) }
+    {
+        if steps.is_empty() {
+            return Ok(self);
+        }
+        let FileSoFar {
+            number,
+            listing,
+            start,
+            opening,
+            segment,
+        } = self;
+        let segment = segment_with(alloc, listing, number, start, &opening, segment, steps)?;
+        Ok(FileSoFar {
+            number,
+            listing,
+            start,
+            opening,
+            segment: Some(segment),
+        })
+    }
+
+    /// The part of the file, where no more steps follow. The backplane has this sum.
+    pub fn into_part(self, alloc: Global, backplane: u64) -> Result<Part, PartRefusal>
+        requires { (number : ℕ) × (listing : Bool) × (start : Option ℕ) × (t : Trace)
+            × IsFileSoFar number listing start self t × (malformed_step t ≡ None) }
+        ensures backplane { IfOk result (λ p. p.backplane ≡ backplane) }
+        ensures listing { IfOk result (λ p. p.listing ≡ self.listing) }
+        ensures stands { (number : ℕ) (listing : Bool) (start : Option ℕ) (t : Trace)
+            → IsFileSoFar number listing start self t → malformed_step t ≡ None
+            → IfOk result (λ p. IsPartOfFile listing (file_of number start t) (part_value p)) }
+    {
+        let FileSoFar {
+            number,
+            listing,
+            start: _,
+            opening,
+            segment,
+        } = self;
+        let segment = whole_segment(alloc, listing, number, &opening, segment)?;
+        part_with(alloc, backplane, listing, segment)
+    }
+}

@@ -1,0 +1,83 @@
+//! Segments of one file, by what vme_parts makes of all of its steps.
+
+ghost use Rattle.std.specs.Prelude.{◌≡◌, ◌∷◌, ◌≤◌, [], ℕ, IfOk, None, length};
+ghost use Rattle.vme_trace.specs.WellFormed.{malformed_step};
+ghost use Rattle.vme_summary.specs.Joins.{block_of};
+ghost use Rattle.vme_part_format.specs.Tables.{part_value, segment_value, table_value};
+ghost use Rattle.vme_part_tables.specs.Runs.{SaysBoth};
+ghost use Rattle.vme_parts.specs.Buddies.{IsTableOf};
+ghost use Rattle.vme_parts.specs.Joined.{joined_times};
+ghost use Rattle.vme_file_part.specs.Growing.{StandsForFile};
+
+use std::alloc::Global;
+use vme_part_format::{OutcomeTable, Part, Segment, SegmentTimes};
+use vme_part_tables::{are_few_together, composed};
+use vme_parts::{PartRefusal, part_of_steps};
+use vme_trace::{Lines, Step};
+
+/// The only segment of a part.
+fn only_segment(part: Part) -> Segment
+    requires { length (part_value part).segments ≡ 1 }
+    ensures { (part_value part).segments ≡ segment_value result ∷ [] }
+{
+    let Part {
+        backplane: _,
+        listing: _,
+        mut segments,
+    } = part;
+    match segments.pop() {
+        Some(segment) => segment,
+        None => unreachable!(),
+    }
+}
+
+/// The segment of one file: of its number, its opening and its steps.
+pub(crate) fn segment_of(
+    alloc: Global,
+    listing: bool,
+    number: u32,
+    opening: &Lines,
+    steps: &[Step],
+) -> Result<Segment, PartRefusal>
+    requires accepted { malformed_step (record { opening = opening.now; steps = steps.now }) ≡ None }
+    requires few { length steps.now ≤ 268435456 }
+    ensures { IfOk result (λ s. StandsForFile listing (segment_value s) (block_of number opening.now steps.now)) }
+{
+    let part = part_of_steps(alloc, 0, listing, number, opening, steps)?;
+    Ok(only_segment(part))
+}
+
+/// The table of so many steps and of those behind them.
+pub(crate) fn joined_table(
+    alloc: Global,
+    first: OutcomeTable,
+    second: OutcomeTable,
+    steps: u64,
+) -> Result<OutcomeTable, PartRefusal>
+    requires { (n : ℕ) × IsTableOf n (table_value first) × IsTableOf n (table_value second) }
+    ensures { IfOk result (λ t. SaysBoth steps (table_value first) (table_value second) (table_value t)) }
+{
+    if !are_few_together(&first, &second) {
+        return Err(PartRefusal::TooManyNodes);
+    }
+    let table = composed(alloc, first, second, steps)?;
+    Ok(table)
+}
+
+/// The times of steps and of those behind them.
+pub(crate) fn later_times(
+    before: Option<SegmentTimes>,
+    after: Option<SegmentTimes>,
+) -> Option<SegmentTimes>
+    ensures { result ≡ joined_times before after }
+{
+    match (before, after) {
+        (Some(before), Some(after)) => Some(SegmentTimes {
+            number: before.number,
+            first: before.first,
+            last: after.last,
+        }),
+        (None, after) => after,
+        (before, None) => before,
+    }
+}

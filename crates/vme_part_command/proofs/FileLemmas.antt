@@ -1,0 +1,115 @@
+-- A dump that is a file, as it is read.
+use Rattle.std.proofs.Common.{◌≡◌, ◌≤◌, ℕ, Bool, true, false, List, [], ◌++◌, length, take, drop, Option}
+use Rattle.std.proofs.Common.{refl, sym, ap, subst, ◌∙◌, append_assoc, append-nil, take-append-drop}
+use Rattle.std.specs.Prelude.{Ok}
+use Rattle.vcd_start.specs.Starts.{TellsStart}
+use Rattle.vcd_start.specs.declared.start.Start.{Start}
+use Rattle.vcd_start.specs.declared.start.Start.TheVariants.{NotTold, Told}
+use Rattle.vme_trace.specs.Streams.{Reading}
+use Rattle.vme_bind.specs.Binding.{BoundLines}
+use Rattle.vme_bind.specs.TextReading.{TextReading, reading_of_text}
+use Rattle.vme_listing.specs.Reading.{IsFollowedBy}
+use Rattle.vme_stream.specs.Inputs.{longest_input}
+use Rattle.vme_step_reader.specs.StepReading.{StepReading, whole_reading}
+use Rattle.vme_dump_input.specs.DumpReadings.{IsAtBody}
+use Rattle.vme_dump_input.specs.HeldInputs.{InputSoFar, IsAllOf, IsGrown, IsReadTo}
+use Rattle.vme_dump_input.proofs.HeldLemmas.{all-read, split-at, taken-first}
+use Rattle.vme_part_command.specs.FileReadings.{IsAtFile, IsAtFileEnd, IsStartFor, TellsStartFor}
+
+ends_not : (flag : Bool) → flag ≡ false → flag ≡ true → ⊥
+ends_not true e h = absurd (cc)
+ends_not false e h = absurd (cc)
+
+-- ---- the body is begun
+
+module _ (bound : BoundLines) (number : ℕ) (start : Option ℕ) (old now : Reading) (input : InputSoFar)
+    (h : IsReadTo old now [] input) (n : ℕ) (within : n ≤ length input.held) (r : StepReading) where
+  pub begun-file : ((rest : List ℕ) → IsFollowedBy input.is_whole rest
+      → reading_of_text bound (input.held ++ rest) ≡ Ok (whole_reading r (drop n input.held ++ rest)))
+      → ((rest : List ℕ) → IsFollowedBy input.is_whole rest → IsStartFor number (input.held ++ rest) start)
+      → IsAtFile bound number start old now (record input { held = drop n input.held }) r
+  begun-file begins starts = record {
+    done = take n input.held;
+    read = taken-first old now [] input h n within;
+    body = λ rest ends.
+        ap (reading_of_text bound) (split-at [] input.held n rest) ∙ begins rest ends;
+    starts = λ rest ends. subst (λ (l : List ℕ). IsStartFor number l start) (sym (split-at [] input.held n rest))
+        (starts rest ends);
+  }
+
+  pub begun-last-file : input.is_whole ≡ true
+      → reading_of_text bound input.held ≡ Ok (whole_reading r (drop n input.held))
+      → IsStartFor number input.held start
+      → IsAtFile bound number start old now (record input { held = drop n input.held }) r
+  begun-last-file whole begins starts = begun-file
+      (λ rest ends.
+      let none : rest ≡ [] = ends whole in
+      subst (λ (l : List ℕ). reading_of_text bound (input.held ++ l) ≡ Ok (whole_reading r (drop n input.held ++ l)))
+      (sym none)
+      (ap (reading_of_text bound) (append-nil input.held) ∙ begins
+      ∙ ap (λ l. Ok (whole_reading r l)) (sym (append-nil (drop n input.held)))))
+      (λ rest ends. subst (λ (l : List ℕ). IsStartFor number l start)
+      (sym (ap (λ (l : List ℕ). input.held ++ l) (ends whole) ∙ append-nil input.held)) starts)
+
+-- ---- a piece
+
+module _ (bound : BoundLines) (number : ℕ) (start : Option ℕ) (old now : Reading) (input : InputSoFar)
+    (r : StepReading) (at : IsAtFile bound number start old now input r) where
+  abbrev pub body_at : IsAtBody bound old now input r
+  body_at = record { done = at.done; read = at.read; body = at.body }
+
+  module _ (next : StepReading) (n : ℕ) (within : n ≤ length input.held)
+      (taken : (rest : List ℕ) → whole_reading r (take n input.held ++ rest) ≡ whole_reading next rest) where
+    goes : (rest : List ℕ) → whole_reading r (input.held ++ rest) ≡ whole_reading next (drop n input.held ++ rest)
+    goes rest =
+        ap (whole_reading r) (ap (λ l. l ++ rest) (sym (take-append-drop n input.held))
+        ∙ append_assoc (take n input.held) (drop n input.held) rest)
+        ∙ taken (drop n input.held ++ rest)
+
+    -- is taken
+    pub file-taken : IsAtFile bound number start old now (record input { held = drop n input.held }) next
+    file-taken = record {
+      done = at.done ++ take n input.held;
+      read = taken-first old now at.done input at.read n within;
+      body = λ rest ends.
+          ap (reading_of_text bound) (split-at at.done input.held n rest) ∙ at.body rest ends
+          ∙ ap (λ (x : TextReading). Ok x) (goes rest);
+      starts = λ rest ends. subst (λ (l : List ℕ). IsStartFor number l start)
+          (sym (split-at at.done input.held n rest)) (at.starts rest ends);
+    }
+
+  -- more bytes follow
+  pub file-grown : (later : Reading) (after : InputSoFar) → input.is_whole ≡ false → IsGrown input after
+      → IsReadTo old later at.done after → IsAtFile bound number start old later after r
+  file-grown later after going grown read = record {
+    done = at.done;
+    read = read;
+    body = λ rest ends.
+        ap (λ l. reading_of_text bound (at.done ++ l)) (same rest)
+        ∙ at.body (grown.more ++ rest) (λ whole. absurd (ends_not input.is_whole going whole))
+        ∙ ap (λ l. Ok (whole_reading r l)) (sym (same rest));
+    starts = λ rest ends. subst (λ (l : List ℕ). IsStartFor number (at.done ++ l) start) (sym (same rest))
+        (at.starts (grown.more ++ rest) (λ whole. absurd (ends_not input.is_whole going whole)));
+  }
+    where
+      same : (rest : List ℕ) → after.held ++ rest ≡ input.held ++ (grown.more ++ rest)
+      same rest = ap (λ l. l ++ rest) grown.held ∙ append_assoc input.held grown.more rest
+
+  -- none do
+  pub file-ends : input.is_whole ≡ true → input.limit ≡ longest_input
+      → IsAtFileEnd bound number start old now input.held r
+  file-ends whole limit = record {
+    text = at.done ++ input.held;
+    all = subst (IsAllOf old now (at.done ++ input.held)) limit (all-read old now at.done input at.read whole);
+    body = ap (λ l. reading_of_text bound (at.done ++ l)) (sym (append-nil input.held))
+        ∙ at.body [] (λ _. refl) ∙ ap (λ l. Ok (whole_reading r l)) (append-nil input.held);
+    starts = subst (λ (l : List ℕ). IsStartFor number (at.done ++ l) start) (append-nil input.held)
+        (at.starts [] (λ _. refl));
+  }
+
+-- ---- the first time
+
+-- what is told of it is told of the file of each number
+pub tells-for : (number : ℕ) (text : List ℕ) (start : Start) → TellsStart text start → TellsStartFor number text start
+tells-for number text NotTold tells = tt
+tells-for number text (Told time) tells = λ other. tells

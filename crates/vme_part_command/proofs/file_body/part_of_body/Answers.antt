@@ -1,0 +1,47 @@
+-- The opening is that of what was read.
+use Rattle.std.proofs.Common.{[], ap, length, subst, sym, ◌∙◌}
+use Rattle.vme_trace.specs.Levels.{Levels}
+use Rattle.vme_trace.specs.Trace.{Trace}
+use Rattle.vme_dump_input.proofs.DefinitionLemmas.{unread-given, unread-sound}
+use Rattle.vme_dump_input.proofs.HeldLemmas.{some-reading}
+use Rattle.vme_part_command.specs.Backplane.{backplane_of}
+use Rattle.vme_part_command.specs.FileChecks.{HasTakenSteps, IsFileJudged}
+use Rattle.vme_part_command.proofs.file_body.part_of_body.Goals as goal
+
+pub judge_body-requires : goal.judge_body-requires
+judge_body-requires g c =
+    let o = c.args.options in
+    let r = c.args.reader in
+    let is = c.opening_of.ensures.is in (
+      o.number,
+      o.listing,
+      c.args.start,
+      record {
+        sound = unread-sound r c.requires c.opening_of.ensures.few
+            (ap (λ (l : Levels). length l.levels) (sym is) ∙ c.new-check.ensures.whole);
+        taken = subst (λ (t : Trace). HasTakenSteps o.number o.listing c.args.start c.new-check.result t)
+            (unread-given r c.requires)
+            (subst (λ (v : Levels). HasTakenSteps o.number o.listing c.args.start c.new-check.result
+            (record { opening = v; steps = [] })) is c.new-check.ensures.taken);
+      },
+    )
+
+pub returns-in_default : goal.returns-in_default
+returns-in_default g c bound old at limit =
+    let some = some-reading old (g.D.Source.reading c.args.dump.now) at.done c.args.input.now at.read in
+    (some.0, some.1, tt)
+
+pub returns : goal.returns
+returns g c bound old at limit =
+    let o = c.args.options in
+    let r = c.args.reader in
+    let is = c.opening_of.ensures.is in
+    let judged : IsFileJudged o.number o.listing c.args.start r c.new-check.result = record {
+      sound = unread-sound r c.requires c.opening_of.ensures.few
+          (ap (λ (l : Levels). length l.levels) (sym is) ∙ c.new-check.ensures.whole);
+      taken = subst (λ (t : Trace). HasTakenSteps o.number o.listing c.args.start c.new-check.result t)
+          (unread-given r c.requires)
+          (subst (λ (v : Levels). HasTakenSteps o.number o.listing c.args.start c.new-check.result
+          (record { opening = v; steps = [] })) is c.new-check.ensures.taken);
+    } in
+    c.judge_body.ensures bound o c.args.start old judged at limit (c.in-Ok.ensures ∙ ap backplane_of is)

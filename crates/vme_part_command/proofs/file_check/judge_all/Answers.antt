@@ -1,0 +1,54 @@
+-- All steps are judged.
+use Rattle.std.proofs.Common.{List, subst, sym}
+use Rattle.std.proofs.lemmas.Result.{IfOk-weaker}
+use Rattle.vme_trace.specs.Followed.{with_steps}
+use Rattle.vme_trace.specs.declared.step.Step.{Step}
+use Rattle.vme_file_part.specs.Growing.{FileMayGoOn}
+use Rattle.vme_part_command.specs.FileChecks.{IsPending}
+use Rattle.vme_part_command.proofs.CheckLemmas.{all-may, found-all, pending-more}
+use Rattle.vme_part_command.proofs.file_check.judge_all.Goals as goal
+
+pub judge_batches-requires : goal.judge_batches-requires
+judge_batches-requires c =
+    let (number, listing, start, t, h, may) = c.requires in
+    let steps = c.args.steps.items in (
+      number,
+      listing,
+      start,
+      with_steps t steps,
+      subst (λ (l : List Step). IsPending number listing start c.args.file l (with_steps t steps))
+          (sym c.in_ok-append.ensures.items)
+          (pending-more number listing start c.args.file c.args.pending.items t h steps),
+      may,
+    )
+
+pub gone_on-requires : goal.gone_on-requires
+gone_on-requires c =
+    let (number, listing, start, t, h, may) = c.requires in
+    let steps = c.args.steps.items in
+    let made = c.in_ok-file.ensures number listing start (with_steps t steps)
+    (subst (λ (l : List Step). IsPending number listing start c.args.file l (with_steps t steps))
+    (sym c.in_ok-append.ensures.items)
+    (pending-more number listing start c.args.file c.args.pending.items t h steps)) may in (
+      number,
+      listing,
+      start,
+      made.judged,
+      made.found,
+      subst (FileMayGoOn made.judged) (sym c.as_slice.ensures.value)
+          (all-may number listing start c.in_ok-file.file c.in_ok-file.rest.items (with_steps t steps) made may),
+    )
+
+pub returns : goal.returns
+returns c number listing start t h may =
+    let steps = c.args.steps.items in
+    let made = c.in_ok-file.ensures number listing start (with_steps t steps)
+    (subst (λ (l : List Step). IsPending number listing start c.args.file l (with_steps t steps))
+    (sym c.in_ok-append.ensures.items)
+    (pending-more number listing start c.args.file c.args.pending.items t h steps)) may in
+    IfOk-weaker c.gone_on.result _ _
+    (λ file found. found-all number listing start c.in_ok-file.file file c.in_ok-file.rest.items (with_steps t steps)
+    made (rw (sym c.as_slice.ensures.value) found))
+    (c.gone_on.ensures number listing start made.judged made.found
+    (subst (FileMayGoOn made.judged) (sym c.as_slice.ensures.value)
+    (all-may number listing start c.in_ok-file.file c.in_ok-file.rest.items (with_steps t steps) made may)))

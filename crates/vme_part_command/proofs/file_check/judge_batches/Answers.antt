@@ -1,0 +1,37 @@
+-- A batch is judged, and the steps behind it are left.
+use Rattle.std.proofs.Common.{List, subst, sym, ◌∙◌}
+use Rattle.vme_trace.specs.Followed.{with_steps}
+use Rattle.vme_trace.specs.declared.step.Step.{Step}
+use Rattle.vme_file_part.specs.Growing.{FileMayGoOn}
+use Rattle.vme_part_command.specs.FileChecks.{IsFoundSoFar, IsPending}
+use Rattle.vme_part_command.proofs.CheckLemmas.{pending-less, some-may}
+use Rattle.vme_part_command.proofs.file_check.judge_batches.Goals as goal
+
+pub loop-alloc-init : goal.loop-alloc-init
+loop-alloc-init c = record { pending = λ number listing start t h may. h }
+
+pub gone_on-requires : goal.gone_on-requires
+gone_on-requires c =
+    let (number, listing, start, t, first, may) = c.requires in
+    let h = c.loop-alloc.invariant.pending number listing start t first may in (
+      number,
+      listing,
+      start,
+      h.judged,
+      h.found,
+      subst (FileMayGoOn h.judged) (sym (c.as_slice.ensures.value ∙ c.in_ok-rest.ensures.items))
+          (some-may number listing start c.loop-alloc.file c.loop-alloc.pending.items t h 16384 may),
+    )
+
+pub loop-alloc-preserved : goal.loop-alloc-preserved
+loop-alloc-preserved c = record {
+  pending = λ number listing start t first may.
+      let h = c.loop-alloc.invariant.pending number listing start t first may in
+      let batch = c.as_slice.ensures.value ∙ c.in_ok-rest.ensures.items in
+      subst (λ (l : List Step). IsPending number listing start c.in_ok-file.file l t) (sym c.in_ok-rest.ensures.tail)
+      (pending-less number listing start c.loop-alloc.file c.loop-alloc.pending.items t h 16384 c.in_ok-file.file
+      (subst (λ (l : List Step). IsFoundSoFar number listing start c.in_ok-file.file (with_steps h.judged l)) batch
+      (c.in_ok-file.ensures number listing start h.judged h.found
+      (subst (FileMayGoOn h.judged) (sym batch)
+      (some-may number listing start c.loop-alloc.file c.loop-alloc.pending.items t h 16384 may)))));
+}

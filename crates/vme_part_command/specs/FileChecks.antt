@@ -1,0 +1,75 @@
+-- How far the steps of a dump that is a file are judged.
+use Rattle.std.specs.Prelude.{◌≡◌, ℕ, ◌≤◌, ◌<◌, Bool, true, false, List, length, Option, None, Some, Result, Ok, Err}
+use Rattle.vme_trace.specs.Followed.{with_steps}
+use Rattle.vme_trace.specs.Trace.{Trace}
+use Rattle.vme_trace.specs.WellFormed.{capture_limit, malformed_step}
+use Rattle.vme_trace.specs.declared.step.Step.{Step}
+use Rattle.vme_bind.specs.Capture.{limited}
+use Rattle.vme_answer.specs.Answers.{AnswerGives, or_bad_binding}
+use Rattle.vme_part_format.specs.Bounds.{FitsPart}
+use Rattle.vme_part_format.specs.Sizes.{IsCompactPart}
+use Rattle.vme_part_format.specs.Tables.{part_value}
+use Rattle.vme_part_format.specs.declared.part.Part.{Part}
+use Rattle.vme_parts.specs.Files.{IsPartOfFile}
+use Rattle.vme_file_part.specs.Growing.{IsFileSoFar}
+use Rattle.vme_file_part.specs.FileOf.{file_of}
+use Rattle.vme_file_part.specs.declared.file_so_far.FileSoFar.{FileSoFar}
+use Rattle.vme_step_reader.specs.StepReading.{StepReading}
+use Rattle.vme_dump_input.specs.DumpReadings.{IsSound}
+use Rattle.vme_part_command.specs.declared.file_check.FileCheck.{FileCheck}
+use Rattle.vme_part_command.specs.declared.no_part.NoPart.{NoPart}
+use Rattle.vme_part_command.specs.declared.no_part.NoPart.TheVariants as none
+
+-- what is found of a file so far, unless the nodes of a table have no numbers
+abbrev pub IsFoundSoFar : ℕ → Bool → Option ℕ → Option FileSoFar → Trace → Type 0
+IsFoundSoFar number listing start None t = Unit {0}
+IsFoundSoFar number listing start (Some file) t = IsFileSoFar number listing start file t
+
+-- the same of the steps before some others
+pub record IsPending (number : ℕ) (listing : Bool) (start : Option ℕ) (file : Option FileSoFar) (pending : List Step)
+    (t : Trace) : Type 0 where
+  pub judged : Trace
+  pub all : with_steps judged pending ≡ t
+  pub found : IsFoundSoFar number listing start file judged
+
+-- a recording has no more steps than one may have
+pub record MayBeJudged (t : Trace) : Type 0 where
+  pub formed : malformed_step t ≡ None
+  pub few : length t.steps ≤ capture_limit
+
+-- the steps that were given are counted and judged, but for some; or they are too many
+abbrev pub FileComesTo : ℕ → Bool → Option ℕ → Option FileSoFar → List Step → ℕ → Bool → Trace → Type 0
+FileComesTo number listing start file pending count true t = capture_limit < length t.steps
+FileComesTo number listing start file pending count false t =
+    (count ≡ length t.steps) × (count ≤ capture_limit) × IsPending number listing start file pending t
+
+-- a check was given all steps of this recording
+abbrev pub HasTakenSteps : ℕ → Bool → Option ℕ → FileCheck → Trace → Type 0
+HasTakenSteps number listing start check t =
+    FileComesTo number listing start check.file check.pending.items check.count check.is_too_long t
+
+-- and they are those that a reader gave
+pub record IsFileJudged (number : ℕ) (listing : Bool) (start : Option ℕ) (r : StepReading) (check : FileCheck) : Type 0
+  where
+    pub sound : IsSound r
+    pub taken : HasTakenSteps number listing start check r.given
+
+-- a part can be written, its nodes are few, and it is the one of a recording as the file of a number, whose dump has
+-- this first time
+pub record IsPartOfSteps (number : ℕ) (listing : Bool) (start : Option ℕ) (backplane : ℕ) (t : Trace)
+    (p : Part) : Type 0
+  where
+    pub backplane_is : p.backplane ≡ backplane
+    pub listing_is : p.listing ≡ listing
+    pub fits : FitsPart (part_value p)
+    pub compact : IsCompactPart (part_value p)
+    pub stands : IsPartOfFile listing (file_of number start t) (part_value p)
+
+-- what is found of all steps, or why there is no part of them
+abbrev pub FindsOfSteps : ℕ → Bool → Option ℕ → ℕ → Trace → Result Part NoPart → Type 0
+FindsOfSteps number listing start backplane t (Ok part) =
+    (limited t ≡ Ok t) × IsPartOfSteps number listing start backplane t part
+FindsOfSteps number listing start backplane t (Err (none.Refused refusal)) =
+    AnswerGives (λ (u : Trace). u) (Err refusal) (or_bad_binding (limited t))
+FindsOfSteps number listing start backplane t (Err none.TooManyMarks) = limited t ≡ Ok t
+FindsOfSteps number listing start backplane t (Err none.OutOfRange) = limited t ≡ Ok t

@@ -1,0 +1,150 @@
+//! The body of a dump that is a file of a recording, judged as it is read.
+
+ghost use Rattle.std.specs.Prelude.{◌≡◌, ℕ, Bool, IfOk, Ok, Option};
+ghost use Rattle.vme_trace.specs.Streams.{Reading};
+ghost use Rattle.vme_bind.specs.Binding.{BoundLines};
+ghost use Rattle.vme_stream.specs.Inputs.{longest_input};
+ghost use Rattle.vme_dump_input.specs.DumpReadings.{IsBodyUnread};
+ghost use Rattle.vme_part_command.specs.Backplane.{backplane_of};
+ghost use Rattle.vme_part_command.specs.FileChecks.{IsFileJudged};
+ghost use Rattle.vme_part_command.specs.FileReadings.{BeginsFile, IsAtFile, IsAtFileEnd, MayBeBegun, ReadsFile};
+ghost use Rattle.vme_part_command.specs.Written.{FindsOfDump};
+ghost use Rattle.vme_part_command.specs.declared.part.PartOptions.{PartOptions as Options};
+
+use crate::backplane::backplane_sum;
+use crate::file_check::FileCheck;
+use crate::file_definitions::BegunFile;
+use crate::no_part::NoPart;
+use crate::part::PartOptions;
+use std::alloc::Global;
+use vcd_read::VcdFault;
+use vme_answer::Refusal;
+use vme_dump_input::{HeldInput, fault_of, opening_of, refused_in_body, unread};
+use vme_part_format::Part;
+use vme_step_reader::StepReader;
+use vme_trace::Source;
+
+/// Takes the first of the bytes that are held, as many as are whole tokens, and judges their steps. It fails for a
+/// fault of the dump, or for want of memory.
+fn judge_piece(
+    alloc: Global,
+    reader: StepReader,
+    input: &mut HeldInput,
+    check: FileCheck,
+) -> Result<(StepReader, FileCheck), Option<VcdFault>>
+    requires { (number : ℕ) × (listing : Bool) × (start : Option ℕ) × IsFileJudged number listing start reader check }
+    ensures reads { (bound : BoundLines) (number : ℕ) (start : Option ℕ) (old now : Reading)
+        → IsAtFile bound number start old now input.old reader
+        → ReadsFile bound number start old now input.new result }
+    ensures judges { (number : ℕ) (listing : Bool) (start : Option ℕ) → IsFileJudged number listing start reader check
+        → IfOk result (λ made. IsFileJudged number listing start made.0 made.1) }
+    ensures opening { IfOk result (λ made. made.0.given.opening ≡ reader.given.opening) }
+    ensures input { (input.new.limit ≡ input.old.limit) × (input.new.is_whole ≡ input.old.is_whole)
+        × (input.new.reads ≡ input.old.reads) }
+{
+    match reader.take(alloc, input.bytes()) {
+        Ok((reader, steps, count)) => {
+            input.take_first(count);
+            match check.take(alloc, steps) {
+                Ok(check) => Ok((reader, check)),
+                Err(_) => Err(None),
+            }
+        }
+        Err(stopped) => Err(Some(fault_of(stopped))),
+    }
+}
+
+/// Takes the last bytes. The answer is the part of the file.
+fn judge_last(
+    alloc: Global,
+    reader: StepReader,
+    bytes: &[u8],
+    check: FileCheck,
+    backplane: u64,
+) -> Result<Part, NoPart>
+    requires { (number : ℕ) × (listing : Bool) × (start : Option ℕ) × IsFileJudged number listing start reader check }
+    ensures { (bound : BoundLines) (options : Options) (start : Option ℕ) (old now : Reading)
+        → IsFileJudged options.number options.listing start reader check
+        → IsAtFileEnd bound options.number start old now bytes.now reader
+        → backplane ≡ backplane_of reader.given.opening → FindsOfDump options bound old now result }
+{
+    match reader.finish(alloc, bytes) {
+        Ok(steps) => check.finish(alloc, steps, backplane),
+        Err(stopped) => Err(NoPart::Refused(Refusal::of_dump(fault_of(stopped)))),
+    }
+}
+
+/// Reads a body to its end. The answer is the part of the file.
+fn judge_body<D: Source>(
+    alloc: Global,
+    dump: &mut D,
+    input: &mut HeldInput,
+    reader: StepReader,
+    check: FileCheck,
+    backplane: u64,
+) -> Result<Part, NoPart>
+    requires { (number : ℕ) × (listing : Bool) × (start : Option ℕ) × IsFileJudged number listing start reader check }
+    ensures { (bound : BoundLines) (options : Options) (start : Option ℕ) (old : Reading)
+        → IsFileJudged options.number options.listing start reader check
+        → IsAtFile bound options.number start old (D.reading dump.old) input.old reader
+        → input.old.limit ≡ longest_input → backplane ≡ backplane_of reader.given.opening
+        → FindsOfDump options bound old (D.reading dump.new) result }
+{
+    let mut reader = reader;
+    let mut check = check;
+    while !input.is_whole() {
+        let (next, judged) = match judge_piece(alloc, reader, input, check) {
+            Ok(made) => made,
+            Err(fault) => return Err(NoPart::Refused(refused_in_body(dump, input, fault))),
+        };
+        reader = next;
+        check = judged;
+        if let Err(fault) = input.read(dump) {
+            return Err(NoPart::Refused(unread(fault)));
+        }
+    }
+    judge_last(alloc, reader, input.bytes(), check, backplane)
+}
+
+/// Judges the body of a dump that has this first time.
+fn part_of_body<D: Source>(
+    alloc: Global,
+    options: PartOptions,
+    dump: &mut D,
+    input: &mut HeldInput,
+    reader: StepReader,
+    start: Option<u64>,
+) -> Result<Part, NoPart>
+    requires { IsBodyUnread reader }
+    ensures { (bound : BoundLines) (old : Reading)
+        → IsAtFile bound options.number start old (D.reading dump.old) input.old reader
+        → input.old.limit ≡ longest_input → FindsOfDump options bound old (D.reading dump.new) result }
+{
+    let opening = *opening_of(&reader);
+    let Ok(backplane) = backplane_sum(alloc, &opening) else {
+        return Err(NoPart::Refused(Refusal::Memory));
+    };
+    let check = FileCheck::new(alloc, options.number, options.listing, start, &opening);
+    judge_body(alloc, dump, input, reader, check, backplane)
+}
+
+/// The part of a dump whose definitions were read, or why there is none.
+pub(crate) fn part_of_begun<D: Source>(
+    alloc: Global,
+    options: PartOptions,
+    dump: &mut D,
+    input: &mut HeldInput,
+    begun: BegunFile,
+) -> Result<Part, NoPart>
+    requires { MayBeBegun begun }
+    ensures { (bound : BoundLines) (old : Reading)
+        → BeginsFile bound options.number old (D.reading dump.old) input.old (Ok begun)
+        → input.old.limit ≡ longest_input → FindsOfDump options bound old (D.reading dump.new) result }
+{
+    match begun {
+        BegunFile::Body(reader, start) => {
+            part_of_body(alloc, options, dump, input, reader, start)
+        }
+        BegunFile::Unusable(fault) => Err(NoPart::Refused(Refusal::BadBinding(fault))),
+    }
+}

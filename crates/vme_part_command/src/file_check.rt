@@ -1,0 +1,215 @@
+//! The steps of a dump that is a file of a recording, judged as they come.
+
+ghost use Rattle.std.specs.Prelude.{◌≡◌, ◌+◌, ◌≤◌, ◌<◌, ℕ, Bool, [], false, true, IfOk, None, Ok, Option, length};
+ghost use Rattle.vme_trace.specs.LineNumbers.{line_count};
+ghost use Rattle.vme_bind.specs.Capture.{limited};
+ghost use Rattle.vme_trace.specs.Followed.{with_steps};
+ghost use Rattle.vme_trace.specs.Trace.{Trace};
+ghost use Rattle.vme_trace.specs.WellFormed.{capture_limit, malformed_step};
+ghost use Rattle.vme_trace.specs.declared.step.Step.{Step};
+ghost use Rattle.vme_file_part.specs.Growing.{IsFileSoFar, FileMayGoOn};
+ghost use Rattle.vme_part_command.specs.FileChecks.{FindsOfSteps, HasTakenSteps, IsFoundSoFar, IsPending, MayBeJudged};
+
+use crate::no_part::NoPart;
+use std::alloc::{AllocError, Global};
+use vme_answer::Refusal;
+use vme_bind::{BindFault, BindKind};
+use vme_file_part::FileSoFar;
+use vme_part_format::Part;
+use vme_parts::{PartRefusal, can_write};
+use vme_trace::{Lines, Step};
+
+/// How many steps a recording has at most.
+const MOST_STEPS: usize = 268_435_456;
+
+/// So many steps are judged at once, however they come: so a dump has one part, however it is read.
+const BATCH: usize = 16_384;
+
+/// What the steps of a dump come to, as they come.
+#[derive(Drop)]
+pub(crate) struct FileCheck {
+    /// What is found, unless the nodes of a table have no numbers: then nothing more is judged.
+    file: Option<FileSoFar>,
+    /// The steps behind those that are judged.
+    pending: Vec<Step>,
+    /// How many steps came, and whether they are too many: then nothing more is judged either.
+    count: usize,
+    is_too_long: bool,
+}
+
+/// Judges the steps that follow, unless the nodes of a table have no numbers.
+fn gone_on(
+    alloc: Global,
+    file: Option<FileSoFar>,
+    steps: &[Step],
+) -> Result<Option<FileSoFar>, AllocError>
+    requires { (number : ℕ) × (listing : Bool) × (start : Option ℕ) × (t : Trace)
+        × IsFoundSoFar number listing start file t × FileMayGoOn t steps.now }
+    ensures { (number : ℕ) (listing : Bool) (start : Option ℕ) (t : Trace)
+        → IsFoundSoFar number listing start file t → FileMayGoOn t steps.now
+        → IfOk result (λ file. IsFoundSoFar number listing start file (with_steps t steps.now)) }
+{
+    let Some(file) = file else {
+        return Ok(None);
+    };
+    match file.go_on(alloc, steps) {
+        Ok(file) => Ok(Some(file)),
+        Err(PartRefusal::TooManyNodes) => Ok(None),
+        Err(PartRefusal::Memory) => Err(AllocError),
+    }
+}
+
+/// Judges steps in batches, as long as there are enough. The rest is handed back.
+fn judge_batches(
+    alloc: Global,
+    file: Option<FileSoFar>,
+    pending: Vec<Step>,
+) -> Result<(Option<FileSoFar>, Vec<Step>), AllocError>
+    requires { (number : ℕ) × (listing : Bool) × (start : Option ℕ) × (t : Trace)
+        × IsPending number listing start file pending.items t × MayBeJudged t }
+    ensures { (number : ℕ) (listing : Bool) (start : Option ℕ) (t : Trace)
+        → IsPending number listing start file pending.items t → MayBeJudged t
+        → IfOk result (λ made. IsPending number listing start made.0 made.1.items t) }
+{
+    let mut file = file;
+    let mut pending = pending;
+    while pending.len() >= BATCH {
+        let rest = pending.split_off(BATCH)?;
+        file = gone_on(alloc, file, pending.as_slice())?;
+        pending = rest;
+    }
+    Ok((file, pending))
+}
+
+/// Judges all steps, the last of which these are.
+fn judge_all(
+    alloc: Global,
+    file: Option<FileSoFar>,
+    pending: Vec<Step>,
+    steps: Vec<Step>,
+) -> Result<Option<FileSoFar>, AllocError>
+    requires { (number : ℕ) × (listing : Bool) × (start : Option ℕ) × (t : Trace)
+        × IsPending number listing start file pending.items t × MayBeJudged (with_steps t steps.items) }
+    ensures { (number : ℕ) (listing : Bool) (start : Option ℕ) (t : Trace)
+        → IsPending number listing start file pending.items t → MayBeJudged (with_steps t steps.items)
+        → IfOk result (λ file. IsFoundSoFar number listing start file (with_steps t steps.items)) }
+{
+    let mut pending = pending;
+    let mut steps = steps;
+    pending.append(&mut steps)?;
+    let (file, rest) = judge_batches(alloc, file, pending)?;
+    gone_on(alloc, file, rest.as_slice())
+}
+
+/// The part of a file whose steps all came.
+fn part_in(alloc: Global, file: FileSoFar, backplane: u64) -> Result<Part, NoPart>
+    requires { (number : ℕ) × (listing : Bool) × (start : Option ℕ) × (t : Trace)
+        × IsFileSoFar number listing start file t × (malformed_step t ≡ None) }
+    ensures { (number : ℕ) (listing : Bool) (start : Option ℕ) (t : Trace)
+        → IsFileSoFar number listing start file t → malformed_step t ≡ None → limited t ≡ Ok t
+        → FindsOfSteps number listing start backplane t result }
+{
+    match file.into_part(alloc, backplane) {
+        Ok(part) if can_write(&part) => Ok(part),
+        Ok(_) => Err(NoPart::OutOfRange),
+        Err(PartRefusal::TooManyNodes) => Err(NoPart::TooManyMarks),
+        Err(PartRefusal::Memory) => Err(NoPart::Refused(Refusal::Memory)),
+    }
+}
+
+impl FileCheck {
+    /// Before the first step of a dump that is the file of a number, with marks or without. It has this first time, if
+    /// it has one, and these levels before any change.
+    pub fn new(
+        alloc: Global,
+        number: u32,
+        listing: bool,
+        start: Option<u64>,
+        opening: &Lines,
+    ) -> FileCheck
+        ensures taken { HasTakenSteps number listing start result (record { opening = opening.now; steps = [] }) }
+        ensures whole { length opening.now.levels ≡ line_count }
+    {
+        FileCheck {
+            file: Some(FileSoFar::new(number, listing, start, opening)),
+            pending: Vec::new(alloc),
+            count: 0,
+            is_too_long: false,
+        }
+    }
+
+    /// Counts the steps that follow, and says whether they aren't too many.
+    fn counts(&mut self, steps: usize) -> bool
+        ensures few { result ≡ true → (self.new.count ≡ self.old.count + steps) × (self.new.is_too_long ≡ false)
+            × (self.old.is_too_long ≡ false) }
+        ensures within { result ≡ true → self.old.count ≤ capture_limit → self.new.count ≤ capture_limit }
+        ensures many { result ≡ false → self.old.is_too_long ≡ false → capture_limit < self.old.count + steps }
+        ensures long { result ≡ false → self.new.is_too_long ≡ true }
+        ensures left { (self.new.file ≡ self.old.file) × (self.new.pending ≡ self.old.pending) }
+    {
+        if self.is_too_long || self.count > MOST_STEPS || steps > MOST_STEPS - self.count {
+            self.is_too_long = true;
+            return false;
+        }
+        self.count += steps;
+        true
+    }
+
+    /// Takes the steps that follow.
+    pub fn take(self, alloc: Global, steps: Vec<Step>) -> Result<FileCheck, AllocError>
+        requires { (number : ℕ) × (listing : Bool) × (start : Option ℕ) × (t : Trace)
+            × HasTakenSteps number listing start self t × (malformed_step (with_steps t steps.items) ≡ None) }
+        ensures { (number : ℕ) (listing : Bool) (start : Option ℕ) (t : Trace)
+            → HasTakenSteps number listing start self t → malformed_step (with_steps t steps.items) ≡ None
+            → IfOk result (λ check. HasTakenSteps number listing start check (with_steps t steps.items)) }
+    {
+        let mut check = self;
+        if !check.counts(steps.len()) {
+            return Ok(check);
+        }
+        let FileCheck {
+            file,
+            mut pending,
+            count,
+            is_too_long,
+        } = check;
+        let mut steps = steps;
+        pending.append(&mut steps)?;
+        let (file, pending) = judge_batches(alloc, file, pending)?;
+        Ok(FileCheck {
+            file,
+            pending,
+            count,
+            is_too_long,
+        })
+    }
+
+    /// The part of the file, whose last steps these are. The backplane has this sum.
+    pub fn finish(self, alloc: Global, steps: Vec<Step>, backplane: u64) -> Result<Part, NoPart>
+        requires { (number : ℕ) × (listing : Bool) × (start : Option ℕ) × (t : Trace)
+            × HasTakenSteps number listing start self t × (malformed_step (with_steps t steps.items) ≡ None) }
+        ensures { (number : ℕ) (listing : Bool) (start : Option ℕ) (t : Trace)
+            → HasTakenSteps number listing start self t → malformed_step (with_steps t steps.items) ≡ None
+            → FindsOfSteps number listing start backplane (with_steps t steps.items) result }
+    {
+        let mut check = self;
+        if !check.counts(steps.len()) {
+            let fault = BindFault {
+                line: 0,
+                kind: BindKind::TooManySteps,
+            };
+            return Err(NoPart::Refused(Refusal::BadBinding(fault)));
+        }
+        let FileCheck {
+            file,
+            pending,
+            count: _,
+            is_too_long: _,
+        } = check;
+        match judge_all(alloc, file, pending, steps) {
+            Ok(Some(file)) => part_in(alloc, file, backplane),
+            Ok(None) => Err(NoPart::TooManyMarks),
+            Err(_) => Err(NoPart::Refused(Refusal::Memory)),
+        }
+    }
+}

@@ -1,0 +1,59 @@
+-- Parts of one backplane, with marks or without.
+use Rattle.std.proofs.Common.{◌≡◌, ℕ, ◌+◌, ◌<◌, ◌≤◌, Bool, List, length, map, get_or, take, ap, sym, subst, ◌∙◌, arith}
+use Rattle.std.proofs.Common.{Some}
+use Rattle.std.specs.Prelude.{All}
+use Rattle.std.specs.Option.{option_map}
+use Rattle.std.proofs.lemmas.List.{get_or-map, length-map}
+use Rattle.std.proofs.lemmas.Option.{slice_get-get_or, slice_get-map}
+use Rattle.vme_part_format.specs.Tables.{PartValue, part_value}
+use Rattle.vme_part_format.specs.declared.part.Part.{Part}
+use Rattle.vme_parts.specs.Alike.{AreRefused, AreRefusedBy, HasUnlikeAt, HaveApart, IsLike, IsNoDifference}
+use Rattle.vme_parts.specs.Alike.{first_backplane, first_listing}
+use Rattle.vme_parts.specs.Gathering.{segments_of}
+use Rattle.vme_parts.specs.declared.join_refusal.JoinRefusal.{JoinRefusal}
+use Rattle.vme_parts.specs.declared.join_refusal.JoinRefusal.TheVariants as refusal
+use Rattle.vme_parts.proofs.Measures.{all_more, all_whole}
+
+module _ (backplane : ℕ) (listing : Bool) (xs : List Part) (i : ℕ) where
+  pub like_more : (x : Part) → i < length xs → x ≡ get_or xs i x → x.backplane ≡ backplane → x.listing ≡ listing
+      → All (IsLike backplane listing) (take i (map part_value xs))
+      → All (IsLike backplane listing) (take (i + 1) (map part_value xs))
+  like_more x h is p q was =
+      all_more (IsLike backplane listing) (map part_value xs) i (part_value x) (omega (arith, h, length-map xs part_value))
+      (ap part_value is ∙ sym (get_or-map part_value xs i x (part_value x) h)) (p, q) was
+
+  pub all_like : length xs ≤ i → All (IsLike backplane listing) (take i (map part_value xs))
+      → All (IsLike backplane listing) (map part_value xs)
+  all_like h was =
+      all_whole (IsLike backplane listing) (map part_value xs) i (omega (arith, h, length-map xs part_value)) was
+
+  pub unlike : (Is : PartValue → Type 0) (x : Part) → i < length xs → x ≡ get_or xs i x
+      → All (IsLike backplane listing) (take i (map part_value xs)) → Is (part_value x)
+      → HasUnlikeAt backplane listing (map part_value xs) i Is
+  unlike Is x h is was one = (
+    part_value x,
+    slice_get-map part_value xs i ∙ ap (option_map part_value) (slice_get-get_or xs i x h ∙ ap Some (sym is)),
+    was,
+    one,
+  )
+
+-- ---- why parts make none together
+
+pub refused_by : (backplane : ℕ) (listing : Bool) (ps : List PartValue) (why : JoinRefusal)
+    → backplane ≡ first_backplane ps → listing ≡ first_listing ps → AreRefusedBy backplane listing ps why
+    → AreRefused ps why
+refused_by backplane listing ps why e f h =
+    subst (λ b. AreRefusedBy b (first_listing ps) ps why) e (subst (λ l. AreRefusedBy backplane l ps why) f h)
+
+pub refused_apart : (ps : List PartValue) (why : JoinRefusal) (number : ℕ) → why ≡ refusal.Differs number
+    → HaveApart (segments_of ps) number → AreRefused ps why
+refused_apart ps why number e h = subst (AreRefused ps) (sym e) h
+
+pub refused_else : (ps : List PartValue) (why : JoinRefusal) → IsNoDifference why → AreRefused ps why
+refused_else ps refusal.Memory h = tt
+refused_else ps (refusal.Backplane place) h = absurd h
+refused_else ps (refusal.Marks place) h = absurd h
+refused_else ps (refusal.Differs number) h = absurd h
+refused_else ps refusal.TooManySteps h = tt
+refused_else ps refusal.TooManyNodes h = tt
+refused_else ps refusal.TooManySegments h = tt

@@ -1,0 +1,92 @@
+-- Which parts make one together: those of one backplane, all with marks or none, of which no two say different things of
+-- the same files.
+use Rattle.std.specs.Prelude.{◌≡◌, ℕ, ◌<◌, Bool, false, List, [], ◌∷◌, All, Contains, Some, length, slice_get, take}
+use Rattle.vme_part_format.specs.Tables.{PartValue, SegmentValue, TableValue}
+use Rattle.vme_part_tables.specs.Ways.{outcome_in}
+use Rattle.vme_parts.specs.Gathering.{segments_of}
+use Rattle.vme_parts.specs.declared.join_refusal.JoinRefusal.{JoinRefusal}
+use Rattle.vme_parts.specs.declared.join_refusal.JoinRefusal.TheVariants as refusal
+
+-- two tables say the same of each memory that enters: the memory that is left, and the first break
+pub record AreTablesAlike (t u : TableValue) : Type 0 where
+  pub as_many : length u.entries ≡ length t.entries
+  pub leaving : (memory : ℕ) → memory < length t.entries
+      → (outcome_in t memory).leaving ≡ (outcome_in u memory).leaving
+  pub event : (memory : ℕ) → memory < length t.entries → (outcome_in t memory).event ≡ (outcome_in u memory).event
+
+-- two segments say the same of their files, but for marks
+pub record AreAlike (s t : SegmentValue) : Type 0 where
+  pub steps : s.steps ≡ t.steps
+  pub opening : s.opening ≡ t.opening
+  pub left : s.left ≡ t.left
+  pub times : s.times ≡ t.times
+  pub known : AreTablesAlike s.known t.known
+  pub handshake : AreTablesAlike s.handshake t.handshake
+  pub stability : AreTablesAlike s.stability t.stability
+  pub grant : AreTablesAlike s.grant t.grant
+  pub acknowledge : AreTablesAlike s.acknowledge t.acknowledge
+
+abbrev pub HaveSameFiles : SegmentValue → SegmentValue → Type 0
+HaveSameFiles s t = (s.first ≡ t.first) × (s.order ≡ t.order)
+
+-- any two of the same files say the same
+abbrev pub AllAlike : List SegmentValue → Type 0
+AllAlike ss = (s t : SegmentValue) → Contains ss s → Contains ss t → HaveSameFiles s t → AreAlike s t
+
+-- two of the same files, from a number on, don't
+pub record HaveApart (ss : List SegmentValue) (number : ℕ) : Type 0 where
+  pub one : SegmentValue
+  pub other : SegmentValue
+  pub one_there : Contains ss one
+  pub other_there : Contains ss other
+  pub numbered : one.first ≡ number
+  pub same_files : HaveSameFiles one other
+  pub apart : AreAlike one other → ⊥
+
+-- a part is of a backplane, with marks or without
+abbrev pub IsLike : ℕ → Bool → PartValue → Type 0
+IsLike backplane listing p = (p.backplane ≡ backplane) × (p.listing ≡ listing)
+
+-- the backplane of the first part, and whether it has marks
+abbrev pub first_backplane : List PartValue → ℕ
+first_backplane [] = 0
+first_backplane (p ∷ ps) = p.backplane
+
+abbrev pub first_listing : List PartValue → Bool
+first_listing [] = false
+first_listing (p ∷ ps) = p.listing
+
+-- parts make one together
+pub record MakeOne (ps : List PartValue) (r : PartValue) : Type 0 where
+  pub like : All (IsLike r.backplane r.listing) ps
+  pub alike : AllAlike (segments_of ps)
+
+-- those before a place are of a backplane, with marks or without, and for the one there something else is so
+abbrev pub HasUnlikeAt : ℕ → Bool → List PartValue → ℕ → (PartValue → Type 0) → Type 0
+HasUnlikeAt backplane listing ps place Is =
+    (p : PartValue) × (slice_get ps place ≡ Some p) × All (IsLike backplane listing) (take place ps) × Is p
+
+-- why parts make none together, of which the first is of a backplane, with marks or without
+abbrev pub AreRefusedBy : ℕ → Bool → List PartValue → JoinRefusal → Type 0
+AreRefusedBy backplane listing ps refusal.Memory = Unit {0}
+AreRefusedBy backplane listing ps (refusal.Backplane place) =
+    HasUnlikeAt backplane listing ps place (λ p. p.backplane ≡ backplane → ⊥)
+AreRefusedBy backplane listing ps (refusal.Marks place) =
+    HasUnlikeAt backplane listing ps place (λ p. (p.backplane ≡ backplane) × (p.listing ≡ listing → ⊥))
+AreRefusedBy backplane listing ps (refusal.Differs number) = HaveApart (segments_of ps) number
+AreRefusedBy backplane listing ps refusal.TooManySteps = Unit {0}
+AreRefusedBy backplane listing ps refusal.TooManyNodes = Unit {0}
+AreRefusedBy backplane listing ps refusal.TooManySegments = Unit {0}
+
+abbrev pub AreRefused : List PartValue → JoinRefusal → Type 0
+AreRefused ps why = AreRefusedBy (first_backplane ps) (first_listing ps) ps why
+
+-- a refusal that says nothing of how parts differ
+abbrev pub IsNoDifference : JoinRefusal → Type 0
+IsNoDifference refusal.Memory = Unit {0}
+IsNoDifference (refusal.Backplane place) = ⊥
+IsNoDifference (refusal.Marks place) = ⊥
+IsNoDifference (refusal.Differs number) = ⊥
+IsNoDifference refusal.TooManySteps = Unit {0}
+IsNoDifference refusal.TooManyNodes = Unit {0}
+IsNoDifference refusal.TooManySegments = Unit {0}

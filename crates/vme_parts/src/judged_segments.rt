@@ -1,0 +1,89 @@
+//! Segments judged in order.
+
+ghost use Rattle.std.specs.Prelude.{◌≡◌, ◌+◌, ◌++◌, Bool, IfErr, List, OnOk};
+ghost use Rattle.vme_trace.specs.declared.block.Block.{Block};
+ghost use Rattle.vme_summary.specs.Extents.{joined_extent};
+ghost use Rattle.vme_summary.specs.declared.extent.Extent.{Extent};
+ghost use Rattle.vme_part_format.specs.Tables.{segment_value};
+ghost use Rattle.vme_parts.specs.Buddies.{HasTables};
+ghost use Rattle.vme_parts.specs.Progress.{FitStates, HasJudgedFiles, StopsAt};
+ghost use Rattle.vme_parts.specs.Stands.{SegmentStandsFor, extent_of};
+
+use crate::buddies::step_count;
+use crate::meets::{joined_times, torn_file};
+use crate::state::States;
+use vme_part_format::{Segment, SegmentTimes};
+use vme_trace::Lines;
+
+/// Why judging doesn't go past a segment.
+#[derive(Clone, Copy)]
+pub enum Stop {
+    /// This file doesn't follow those before it.
+    Torn(u64),
+    /// There are more steps than 64 bits count.
+    TooManySteps,
+}
+
+/// What judging segments in order has come to.
+#[derive(Clone, Copy)]
+pub struct JudgedSegments {
+    pub left: Lines,
+    pub times: Option<SegmentTimes>,
+    pub steps: u64,
+    pub states: States,
+}
+
+impl JudgedSegments {
+    /// Past the first segment.
+    pub fn of(segment: &Segment) -> JudgedSegments
+        requires { HasTables (segment_value segment.now) }
+        ensures fit { FitStates result.states }
+        ensures judged { (listing : Bool) (bs : List Block) → SegmentStandsFor listing (segment_value segment.now) bs
+            → HasJudgedFiles result (extent_of (segment_value segment.now)) bs }
+    {
+        let begun = States::at(&segment.opening);
+        JudgedSegments {
+            left: segment.left,
+            times: segment.times,
+            steps: step_count(segment),
+            states: begun.past(segment, 0),
+        }
+    }
+
+    /// Past a segment that follows.
+    pub fn go_past(&mut self, segment: &Segment) -> Result<(), Stop>
+        requires fit { FitStates self.old.states }
+        requires tables { HasTables (segment_value segment.now) }
+        ensures fit { FitStates self.new.states }
+        ensures judged { OnOk result ((listing : Bool) (e : Extent) (bs ys : List Block) → HasJudgedFiles self.old e bs
+            → SegmentStandsFor listing (segment_value segment.now) ys → segment.now.first ≡ e.last + 1
+            → HasJudgedFiles self.new (joined_extent e (extent_of (segment_value segment.now))) (bs ++ ys)) }
+        ensures stops { IfErr result (λ stop. (listing : Bool) (e : Extent) (bs ys : List Block)
+            → HasJudgedFiles self.old e bs → SegmentStandsFor listing (segment_value segment.now) ys
+            → segment.now.first ≡ e.last + 1
+            → StopsAt bs ys stop) }
+    {
+        let torn = torn_file(
+            &self.left,
+            self.times,
+            segment.first,
+            &segment.opening,
+            segment.times,
+        );
+        if let Some(file) = torn {
+            return Err(Stop::Torn(file));
+        }
+        let Some(steps) = self.steps.checked_add(segment.steps) else {
+            return Err(Stop::TooManySteps);
+        };
+        let states = self.states.past(segment, self.steps);
+        let times = joined_times(self.times, segment.times);
+        *self = JudgedSegments {
+            left: segment.left,
+            times,
+            steps,
+            states,
+        };
+        Ok(())
+    }
+}
