@@ -1,7 +1,7 @@
 -- The parts of a rule, as they are asked and as they are defined.
 use Rattle.std.proofs.Common.{◌≡◌, Bool, true, false, ◌&&◌, ◌||◌, not, refl}
-use Rattle.vme_cert.proofs.Asked.{acknowledged-is, answered-interrupt-is, has-is, interrupt-is, open-write-is}
-use Rattle.vme_cert.proofs.Asked.{spoils-pair-is, turns-block-is, twice-is, was-answered-is}
+use Rattle.vme_cert.proofs.Conditions.{acknowledged-is, answered-interrupt-is, has-is, interrupt-is, open-write-is}
+use Rattle.vme_cert.proofs.Conditions.{spoils-pair-is, turns-block-is, twice-is, was-answered-is}
 use Rattle.vme_cert.proofs.Cycles.{cycle-starts-is, low-no_fall}
 use Rattle.vme_cert.proofs.Held.{held-is, needed-at}
 use Rattle.vme_cert.proofs.OpenTransfer.{starts-is}

@@ -1,11 +1,11 @@
 pub mod Addresses
 pub mod Answers
 pub mod Arms
-pub mod Asked
 pub mod Breaks
 pub mod Chains
 pub mod Checking
 pub mod Comparing
+pub mod Conditions
 pub mod CycleAnswers
 pub mod Cycles
 pub mod Deciding

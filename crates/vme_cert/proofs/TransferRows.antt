@@ -30,7 +30,7 @@ use Rattle.vme_cert.specs.State.{IsOpenTransfer, IsTransfer}
 use Rattle.vme_cert.specs.declared.comparison.OpenRow.{OpenRow}
 use Rattle.vme_cert.specs.declared.state.Transfer.{Transfer}
 use Rattle.vme_cert.proofs.Answers.{answers-is, is_answer-is}
-use Rattle.vme_cert.proofs.Asked.{answer-is}
+use Rattle.vme_cert.proofs.Conditions.{answer-is}
 use Rattle.vme_cert.proofs.Finding.{greatest-found}
 use Rattle.vme_cert.proofs.Following.{ended-in}
 use Rattle.vme_cert.proofs.OpenTransfer.{starts-is}

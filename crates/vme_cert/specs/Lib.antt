@@ -1,8 +1,8 @@
 pub mod Agreement
-pub mod Asked
 pub mod Breaking
 pub mod Checking
 pub mod Comparing
+pub mod Conditions
 pub mod Ended
 pub mod Following
 pub mod Instant

@@ -32,7 +32,7 @@
 //! 1. The definitions named above, and `specs/Agreement.antt`.
 //! 2. `bus`: the levels at an instant and at the one before; `search`: the loop that it uses.
 //! 3. `state`: what has to be known of the instants before, each field by its definition
-//!    (`specs/State.antt`), and what is asked of it (`specs/Asked.antt`).
+//!    (`specs/State.antt`), and what is asked of it (`specs/Conditions.antt`).
 //! 4. `rules`: each rule beside its definition, in the order of docs/PROTOCOL.md; which rules a line
 //!    may break; and the first that is broken.
 //! 5. `comparison` and `open_rows`: the given rows as they are taken, those that are open, and the

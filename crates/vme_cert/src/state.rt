@@ -7,7 +7,7 @@ ghost use Rattle.vme_trace.specs.Judged.{Stretch, is_judged};
 ghost use Rattle.vme_trace.specs.LineNumbers.{is_answer_line};
 ghost use Rattle.vme_trace.specs.Trace.{Trace};
 ghost use Rattle.vme_trace.specs.Transfers.{answers_write, is_answer, strobe_rises};
-ghost use Rattle.vme_cert.specs.Asked.{AnswersAsked, is_data_held, is_unanswered};
+ghost use Rattle.vme_cert.specs.Conditions.{DecidesCondition, is_data_held, is_unanswered};
 ghost use Rattle.vme_cert.specs.Instant.{IsBusOf};
 ghost use Rattle.vme_cert.specs.State.{AreRequested, Holds, IsCycle, IsOpenTransfer, IsTransfer, IsStateOf, is_freed};
 ghost use Rattle.vme_cert.specs.declared.bus.Bus.{Bus};
@@ -236,25 +236,25 @@ impl State {
     }
 }
 
-#[tactic(auto, using(crate::proofs::Asked::questions))]
+#[tactic(auto, using(crate::proofs::Conditions::questions))]
 impl State {
     /// Whether the transfer is answered at the instant.
     pub(crate) fn is_answer(&self, bus: &Bus) -> bool
-        ensures { AnswersAsked bus.now self.now result is_answer }
+        ensures { DecidesCondition bus.now self.now result is_answer }
     {
         self.transfer.is_open & bus.answer_falls() & !self.transfer.answered
     }
 
     /// Whether it is, and is a write.
     pub(crate) fn answers_write(&self, bus: &Bus) -> bool
-        ensures { AnswersAsked bus.now self.now result answers_write }
+        ensures { DecidesCondition bus.now self.now result answers_write }
     {
         self.is_answer(bus) & self.transfer.is_write
     }
 
     /// Whether it started before, and isn't answered by then.
     pub(crate) fn is_unanswered(&self, bus: &Bus) -> bool
-        ensures { AnswersAsked bus.now self.now result is_unanswered }
+        ensures { DecidesCondition bus.now self.now result is_unanswered }
     {
         let answered = self.transfer.answered | bus.answer_falls();
         self.transfer.is_open & (self.transfer.start < bus.instant) & !answered
@@ -262,7 +262,7 @@ impl State {
 
     /// Whether it is a write that started before, isn't answered by then, and no strobe has risen in it.
     pub(crate) fn is_data_held(&self, bus: &Bus) -> bool
-        ensures { AnswersAsked bus.now self.now result is_data_held }
+        ensures { DecidesCondition bus.now self.now result is_data_held }
     {
         let answered = self.transfer.answered | bus.answer_falls();
         let rose = self.transfer.rose_by(bus);

@@ -12,7 +12,7 @@ use Rattle.vme_trace.specs.Signals.{falls}
 use Rattle.vme_trace.specs.Trace.{Trace}
 use Rattle.vme_trace.specs.Transfers.{answer_falls, answers, answers_write, in_transfer, is_answer, is_answered}
 use Rattle.vme_trace.specs.Transfers.{is_write, strobe_rises}
-use Rattle.vme_cert.specs.Asked.{is_data_held, is_unanswered}
+use Rattle.vme_cert.specs.Conditions.{is_data_held, is_unanswered}
 use Rattle.vme_cert.specs.State.{IsCycle, IsLastCycle, IsOpenTransfer, IsTransfer, is_acknowledged}
 use Rattle.vme_cert.specs.declared.state.Cycle.{Cycle}
 use Rattle.vme_cert.specs.declared.state.Transfer.{Transfer}

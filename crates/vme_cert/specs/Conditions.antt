@@ -9,9 +9,9 @@ use Rattle.vme_cert.specs.declared.bus.Bus.{Bus}
 use Rattle.vme_cert.specs.declared.state.State.{State}
 
 -- this is the answer, of whatever recording and stretch the levels and the state are
-abbrev pub AnswersAsked : Bus → State → Bool → (Trace → Stretch → ℕ → Bool) → Type 0
-AnswersAsked bus state answer asked = (t : Trace) (span : Stretch) → IsStateOf t span bus state
-    → answer ≡ asked t span bus.instant
+abbrev pub DecidesCondition : Bus → State → Bool → (Trace → Stretch → ℕ → Bool) → Type 0
+DecidesCondition bus state answer condition = (t : Trace) (span : Stretch) → IsStateOf t span bus state
+    → answer ≡ condition t span bus.instant
 
 module _ (t : Trace) (span : Stretch) where
   -- it started before, and isn't answered by then
