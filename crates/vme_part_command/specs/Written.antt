@@ -38,8 +38,8 @@ dump_recording binding dump = do
   t ← or_bad_binding (capture_of bound contents)
   Ok (record { start = start_of contents; recording = t })
 
--- A part can be written, in few bytes, and is the one of a recording as a file, with marks or without: but for number 0,
--- the levels behind the dump's first time are the opening of the file, and its steps those behind that time.
+-- A part can be written, in few bytes, and is the one of a recording as a file, with marks or without: but for number
+-- 0, the levels behind the dump's first time are the opening of the file, and its steps those behind that time.
 pub record IsPartOfRecording (o : PartOptions) (d : DumpRecording) (p : PartValue) : Type 0 where
   pub backplane : p.backplane ≡ backplane_of d.recording.opening
   pub listing : p.listing ≡ o.listing

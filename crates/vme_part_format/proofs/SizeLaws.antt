@@ -401,7 +401,8 @@ compact_part_size p fits compact marked =
 pub part_is_small : (p : PartValue) → FitsPart p → IsCompactPart p → length p.segments ≤ 1 → IsSmall p
 part_is_small p fits compact one = by_marks p.listing refl
   where
-    by_marks : (b : Bool) → p.listing ≡ b → length (part_bytes p) ≤ (if p.listing then 16384 + 16 * marks_in p else 4096)
+    by_marks : (b : Bool) → p.listing ≡ b
+        → length (part_bytes p) ≤ (if p.listing then 16384 + 16 * marks_in p else 4096)
     by_marks true e =
         let few = compact_part_size p fits compact e in
         subst (λ b. length (part_bytes p) ≤ (if b then 16384 + 16 * marks_in p else 4096)) (sym e)

@@ -10,3 +10,4 @@ mod FittingPruned
 mod PruningAll
 mod Shortening
 mod ComposingAll
+pub mod Noting

@@ -1,5 +1,5 @@
 -- What is said through nodes in the order in which they are made.
-use Rattle.std.proofs.Common.{inl, inr, ◌≡◌, ℕ, zero, suc, ◌+◌, ◌-◌, ◌^◌, ◌<◌, ◌≤◌, get_or, true, List, []}
+use Rattle.std.proofs.Common.{inl, inr, ◌≡◌, ℕ, zero, suc, ◌+◌, ◌-◌, ◌^◌, ◌<◌, ◌≤◌, get_or, Bool, true, List, []}
 use Rattle.std.proofs.Common.{◌∷◌, ◌++◌, length, map, reverse}
 use Rattle.std.proofs.Common.{Option, Some, None, refl, ap, sym, subst, ◌∙◌, arith, length-append, append-nil}
 use Rattle.std.proofs.Common.{eqb}
@@ -21,7 +21,7 @@ use Rattle.vme_part_tables.specs.Ways.{HasWays, WayOutcome, behind_break, behind
 use Rattle.vme_part_tables.specs.Ways.{outcome_in, walked}
 use Rattle.vme_part_tables.specs.Runs.{TellsRun, TellsRuns, break_of, mark_of}
 use Rattle.vme_part_tables.specs.Marked.{AreMade, MadeGoOn, SayBelow, SaysBehind, entry_made}
-use Rattle.vme_part_tables.specs.Marked.{made_says, onward_at}
+use Rattle.vme_part_tables.specs.Marked.{if_needed, is_needed, made_says, onward_at}
 use Rattle.vme_part_tables.specs.Marked.{says_at, turned}
 use Rattle.vme_part_tables.specs.declared.marked.Onward.{Onward}
 use Rattle.vme_part_tables.proofs.Walking.{behind_two, walked_here, walked_memory, walked_past}
@@ -304,16 +304,18 @@ memory_step place m first new os ps o says i pushed count ways stays here below 
 
 -- a table that says of each memory what is said from its place
 pub marked_tells : {P : Type 0} (place : P → ℕ) (nth : ℕ → P) (count : ℕ) (made : List NodeValue)
-    (onward : List Onward) (says : P → Outcome P) (t : TableValue) → ((p : P) → place p < count)
-    → ((p : P) → nth (place p) ≡ p) → SayBelow place count made onward count (λ k. says (nth k))
+    (onward : List Onward) (needs : List Bool) (says : P → Outcome P) (t : TableValue) → ((p : P) → place p < count)
+    → ((p : P) → nth (place p) ≡ p)
+    → SayBelow place count made onward count (λ k. if_needed (is_needed needs k) (says (nth k)))
     → ((k : ℕ) → k < count → outcome_in t k ≡ says_at count made (onward_at onward k)) → length t.entries ≡ count
-    → HasWays t → TellsRuns true count place t says
-marked_tells place nth count made onward says t placed found say told many ways =
+    → HasWays t → TellsRuns true count place t (λ p. if_needed (is_needed needs (place p)) (says p))
+marked_tells place nth count made onward needs says t placed found say told many ways =
     record {
       counted = many;
       ways = ways;
       tells = λ p.
-          subst (λ w. TellsRun true place w (says p)) (sym (told (place p) (placed p)))
-          (subst (λ q. TellsRun true place (says_at count made (onward_at onward (place p))) (says q)) (found p)
-          (say (place p) (placed p)));
+          let b = is_needed needs (place p) in
+          subst (λ w. TellsRun true place w (if_needed b (says p))) (sym (told (place p) (placed p)))
+          (subst (λ q. TellsRun true place (says_at count made (onward_at onward (place p))) (if_needed b (says q)))
+          (found p) (say (place p) (placed p)));
     }

@@ -1,14 +1,15 @@
 -- A table with marks of what a monitor's summary says.
-use Rattle.std.specs.Prelude.{◌≡◌, ℕ, ◌+◌, ◌-◌, ◌<◌, true, List, ◌++◌, All, Option, None, length, map, reverse}
+use Rattle.std.specs.Prelude.{◌≡◌, ℕ, ◌+◌, ◌-◌, ◌<◌, Bool, true, false, List, [], ◌++◌, All, Option, None, length}
+use Rattle.std.specs.Prelude.{map, reverse}
 use Rattle.std.specs.Prelude.{slice_get, nat_lt, if◌then◌else◌}
 use Rattle.std.specs.Option.{option_map, option_map_or}
 use Rattle.vme_trace.specs.declared.verdict.Break.{Break}
 use Rattle.vme_monitor.specs.Outcome.{Outcome, earlier}
 use Rattle.vme_monitor.specs.declared.mark.Mark.{Mark}
-use Rattle.vme_part_format.specs.Tables.{NodeValue}
+use Rattle.vme_part_format.specs.Tables.{NodeValue, TableValue}
 use Rattle.vme_part_format.specs.declared.table.TableEntry.{TableEntry}
 use Rattle.vme_part_format.specs.declared.wide.WideBreak.{WideBreak}
-use Rattle.vme_part_tables.specs.Ways.{NodesGoOn, WayOutcome, behind_break, walked}
+use Rattle.vme_part_tables.specs.Ways.{NodesGoOn, WayOutcome, behind_break, outcome_in, walked}
 use Rattle.vme_part_tables.specs.Runs.{TellsRun, break_of, mark_of}
 use Rattle.vme_part_tables.specs.declared.marked.Onward.{Onward}
 
@@ -51,3 +52,19 @@ SayBelow {P} place memories made onward n runs =
 -- the entry of a memory
 abbrev pub entry_made : ℕ → ℕ → Onward → TableEntry
 entry_made memories made o = record { next = turned memories made o.way; event = o.event }
+
+-- whether the marks of the memory at a place are needed
+abbrev pub is_needed : List Bool → ℕ → Bool
+is_needed needs place = option_map_or (λ b. b) (slice_get needs place) false
+
+-- those of each memory that a table leaves are
+abbrev pub AreNeeded : TableValue → List Bool → Type 0
+AreNeeded t needs = (k : ℕ) → k < length t.entries → is_needed needs (outcome_in t k).leaving ≡ true
+
+abbrev pub marks_if : Bool → List Mark → List Mark
+marks_if true marks = marks
+marks_if false marks = []
+
+-- a run, and its marks where they are needed
+abbrev pub if_needed : {P : Type 0} → Bool → Outcome P → Outcome P
+if_needed b o = record { leaving = o.leaving; event = o.event; marks = marks_if b o.marks }

@@ -6,7 +6,8 @@
 //!   first, [`put_marks_on_way`] adds the marks.
 //! - `compose`: [`composed`] makes one table of two. `shorten`: a node takes in the one that it goes
 //!   on with, where no other way leads there; `prune`: without what no way reaches.
-//! - `marked`: [`marked_table`] makes a table with marks of what a monitor's summary says.
+//! - `marked`: [`marked_table`] makes a table with marks of what a monitor's summary says; `left`:
+//!   [`left_memories`] says of which memories the marks of what follows are needed.
 //!
 //! # What is proved
 //!
@@ -15,7 +16,8 @@
 //! table says of it and then, so many instants later, what the second says of the memory that the
 //! first leaves (`gone_on`); and if both tables can be written as parts of a file, it can
 //! (`SaysBoth`). [`marked_table`] tells of each memory that enters what the summary does: the
-//! memory that is left, the first break and the marks (`TellsRuns`).
+//! memory that is left, the first break and, where they are needed, the marks (`TellsRuns`). They
+//! are of each memory that the table before leaves (`AreNeeded`).
 //!
 //! # What isn't proved
 //!
@@ -24,11 +26,13 @@
 #![tactic(auto)]
 
 mod compose;
+mod left;
 mod marked;
 mod prune;
 mod shorten;
 mod ways;
 
 pub use compose::{are_few_together, composed};
+pub use left::left_memories;
 pub use marked::{marked_table, widened};
 pub use ways::{follow, later_break, put_marks_on_way};

@@ -4,7 +4,8 @@ ghost use Rattle.std.specs.Prelude.{◌≡◌, ℕ, ◌+◌, ◌<◌, ◌≤◌,
 ghost use Rattle.std.specs.Option.{option_map};
 ghost use Rattle.vme_part_format.specs.Tables.{node_value, table_value};
 ghost use Rattle.vme_part_format.specs.declared.wide.WideBreak.{WideBreak};
-ghost use Rattle.vme_part_tables.specs.Marked.{AreMade, MadeGoOn, SayBelow, SaysBehind, made_says, says_at};
+ghost use Rattle.vme_part_tables.specs.Marked.{AreMade, MadeGoOn, SayBelow, SaysBehind, if_needed, made_says};
+ghost use Rattle.vme_part_tables.specs.Marked.{is_needed as is_needed_of, marks_if, says_at};
 ghost use Rattle.vme_part_tables.specs.Marked.{onward_at as onward_at_of, turned as turned_of};
 ghost use Rattle.vme_part_tables.specs.Runs.{TellsRuns, break_of, mark_of};
 ghost use Rattle.vme_part_tables.specs.Ways.{HasWays, outcome_in};
@@ -115,11 +116,38 @@ impl Made {
     }
 }
 
+/// Whether the marks of the memory at a place are needed.
+fn is_needed(needs: &[bool], place: usize) -> bool
+    ensures { result ≡ is_needed_of needs.now place }
+{
+    match needs.get(place) {
+        Some(is_needed) => *is_needed,
+        None => false,
+    }
+}
+
+/// The marks of a memory, if they are needed.
+fn marks_if_needed<M: Finite>(
+    alloc: Global,
+    summary: &M::Summary,
+    memory: M::Memory,
+    is_needed: bool,
+) -> Result<Vec<Mark>, AllocError>
+    ensures { IfOk result (λ v. v.items ≡ marks_if is_needed (M.outcome summary.now memory).marks) }
+{
+    if is_needed {
+        M::marks(alloc, summary, memory)
+    } else {
+        Ok(Vec::new(alloc))
+    }
+}
+
 /// Where ways go on from the memories of a monitor, by what a summary says of each.
 fn memory_ways<M: Finite>(
     alloc: Global,
     made: &mut Made,
     summary: &M::Summary,
+    needs: &[bool],
 ) -> Result<Vec<Onward>, AllocError>
     requires empty { made.old.nodes.items ≡ [] }
     requires memories { made.old.memories ≡ M.COUNT }
@@ -129,14 +157,14 @@ fn memory_ways<M: Finite>(
     ensures ways { IfOk result (λ v. AreMade made.old.memories (map node_value made.new.nodes.items) v.items) }
     ensures says { IfOk result
         (λ v. SayBelow M.place_of made.old.memories (map node_value made.new.nodes.items) v.items M.COUNT
-        (λ k. M.outcome summary.now (M.nth_of k))) }
+        (λ k. if_needed (is_needed_of needs.now k) (M.outcome summary.now (M.nth_of k)))) }
 {
     let mut onward = Vec::with_capacity(alloc, M::COUNT)?;
     for place in 0..M::COUNT {
         let memory = M::nth(place);
         let left = M::leaving(summary, memory);
         let found = M::event(summary, memory);
-        let marks = M::marks(alloc, summary, memory)?;
+        let marks = marks_if_needed::<M>(alloc, summary, memory, is_needed(needs, place))?;
         let next = Onward {
             event: None,
             way: M::place(left) as u32,
@@ -191,19 +219,22 @@ fn made_table(
     Ok(OutcomeTable { entries, nodes })
 }
 
-/// The table with marks of what a monitor's summary says: a node for each memory of which it says marks.
+/// The table with marks of what a monitor's summary says: a node for each memory of which it says marks, if they are
+/// needed. Of the others it says none.
 pub fn marked_table<M: Finite>(
     alloc: Global,
     summary: &M::Summary,
+    needs: &[bool],
 ) -> Result<OutcomeTable, AllocError>
     requires { 0 < M.COUNT }
-    ensures { IfOk result (λ t. TellsRuns true M.COUNT M.place_of (table_value t) (λ p. M.outcome summary.now p)) }
+    ensures { IfOk result (λ t. TellsRuns true M.COUNT M.place_of (table_value t)
+        (λ p. if_needed (is_needed_of needs.now (M.place_of p)) (M.outcome summary.now p))) }
 {
     let mut made = Made {
         memories: M::COUNT as u32,
         nodes: Vec::new(alloc),
     };
-    let onward = memory_ways::<M>(alloc, &mut made, summary)?;
+    let onward = memory_ways::<M>(alloc, &mut made, summary, needs)?;
     let table = made_table(alloc, made, onward.as_slice(), M::COUNT)?;
     Ok(table)
 }

@@ -19,7 +19,8 @@ module _ (backplane : ℕ) (listing : Bool) (xs : List Part) (i : ℕ) where
       → All (IsLike backplane listing) (take i (map part_value xs))
       → All (IsLike backplane listing) (take (i + 1) (map part_value xs))
   like_more x h is p q was =
-      all_more (IsLike backplane listing) (map part_value xs) i (part_value x) (omega (arith, h, length-map xs part_value))
+      all_more (IsLike backplane listing) (map part_value xs) i (part_value x)
+      (omega (arith, h, length-map xs part_value))
       (ap part_value is ∙ sym (get_or-map part_value xs i x (part_value x) h)) (p, q) was
 
   pub all_like : length xs ≤ i → All (IsLike backplane listing) (take i (map part_value xs))

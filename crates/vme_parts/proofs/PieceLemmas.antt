@@ -1,13 +1,22 @@
 -- Pieces of the steps of a recording.
-use Rattle.std.proofs.Common.{◌≡◌, ℕ, ◌+◌, List, [], ◌++◌, None, take, drop, ap, sym, ◌∙◌, subst}
+use Rattle.std.proofs.Common.{◌≡◌, ℕ, ◌+◌, ◌<◌, ◌^◌, Bool, true, false, List, [], ◌++◌, None, length, take, drop, refl}
+use Rattle.std.proofs.Common.{ap, sym, ◌∙◌, subst, arith}
 use Rattle.std.proofs.Math.Seq.{take-add}
 use Rattle.std.proofs.lemmas.List.{take-append-drop}
 use Rattle.vme_trace.specs.Levels.{Levels}
 use Rattle.vme_trace.specs.Trace.{levels_after}
 use Rattle.vme_trace.specs.WellFormed.{malformed_step}
 use Rattle.vme_trace.specs.declared.step.Step.{Step}
+use Rattle.vme_monitor.specs.Outcome.{Outcome, followed, nothing_shown}
 use Rattle.vme_monitor.specs.Runs.{levels_after-append}
 use Rattle.vme_summary.proofs.Sound.{sound_apart}
+use Rattle.vme_part_format.specs.Tables.{TableValue}
+use Rattle.vme_part_tables.specs.Marked.{AreNeeded, if_needed, is_needed}
+use Rattle.vme_part_tables.specs.Runs.{SaysBoth, TellsRuns}
+use Rattle.vme_part_tables.proofs.Joining.{tables_tell_both}
+use Rattle.vme_part_tables.proofs.Noting.{needed_within, whole_needed}
+use Rattle.vme_parts.proofs.Bare.{tells_same}
+use Rattle.vme_parts.proofs.Runs.{IsRun}
 
 -- the steps up to a piece's end
 pub piece_more : (xs : List Step) (n k m : ℕ) → n + k ≡ m → take n xs ++ take k (drop n xs) ≡ take m xs
@@ -36,3 +45,40 @@ piece_sound o xs n k e =
 pub none_sound : (o : Levels) (xs : List Step) → malformed_step (record { opening = o; steps = xs }) ≡ None
     → malformed_step (record { opening = o; steps = [] }) ≡ None
 none_sound o xs e = (sound_apart o [] xs e).first
+
+-- no steps show no marks, needed or not
+pub none_needed : {P : Type 0} (place : P → ℕ) (count : ℕ) (t : TableValue) (needs : List Bool) (run : P → Outcome P)
+    → ((p : P) → run p ≡ nothing_shown p)
+    → TellsRuns true count place t (λ p. if_needed (is_needed needs (place p)) (run p))
+    → TellsRuns true count place t run
+none_needed {P} place count t needs run e =
+    tells_same true count place t (λ p. if_needed (is_needed needs (place p)) (run p)) run
+    (λ p. rw (e p) (by_case (is_needed needs (place p)) p))
+  where
+    by_case : (b : Bool) (p : P) → if_needed b (nothing_shown p) ≡ nothing_shown p
+    by_case true p = refl
+    by_case false p = refl
+
+-- a table tells of the run over steps and a piece behind them, if that of the piece tells of those memories that the
+-- steps leave
+pub needed_of_both : {P : Type 0} (run : P → Levels → List Step → Outcome P) → IsRun run → (place : P → ℕ) (count : ℕ)
+    (needs : List Bool) (o v : Levels) (x y : List Step) (a b c : TableValue) → ((p : P) → place p < count)
+    → v ≡ levels_after o x → length x + length y < 2 ^ 64 → SaysBoth (length x) a b c → AreNeeded a needs
+    → TellsRuns true count place a (λ p. run p o x)
+    → TellsRuns true count place b (λ p. if_needed (is_needed needs (place p)) (run p v y))
+    → TellsRuns true count place c (λ p. run p o (x ++ y))
+needed_of_both {P} run law place count needs o v x y a b c placed e fits s needed p q =
+    tables_tell_both (length x) (length y) fits place true count a b c (λ k. run k o x)
+    (λ k. if_needed (is_needed needs (place k)) (run k v y)) (λ k. run k o (x ++ y)) s p q
+    (λ k. needed_within (length y) (is_needed needs (place k)) (run k v y) (law.within k v y)) whole
+  where
+    whole : (k : P) → run k o (x ++ y) ≡ followed (length x) (run k o x)
+        (if_needed (is_needed needs (place (run k o x).leaving)) (run (run k o x).leaving v y))
+    whole k =
+        let left = (run k o x).leaving in
+        let low : place k < length a.entries = omega (arith, placed k, p.counted) in
+        let there : is_needed needs (place left) ≡ true =
+        subst (λ j. is_needed needs j ≡ true) (p.tells k).leaving (needed (place k) low) in
+        let goes : run k o (x ++ y) ≡ followed (length x) (run k o x) (run left v y) = rw e (law.joined k o x y) in
+        goes
+        ∙ ap (followed (length x) (run k o x)) (sym (whole_needed (is_needed needs (place left)) (run left v y) there))

@@ -1,6 +1,6 @@
 -- Segments of the same files that say the same.
-use Rattle.std.proofs.Common.{inl, inr, ◌≡◌, ℕ, zero, suc, ◌+◌, ◌-◌, ◌<◌, ◌≤◌, List, [], ◌∷◌, length, map, get_or, refl, ap}
-use Rattle.std.proofs.Common.{sym, subst, ◌∙◌, arith}
+use Rattle.std.proofs.Common.{inl, inr, ◌≡◌, ℕ, zero, suc, ◌+◌, ◌-◌, ◌<◌, ◌≤◌, List, [], ◌∷◌, length, map}
+use Rattle.std.proofs.Common.{get_or, refl, ap, sym, subst, ◌∙◌, arith}
 use Rattle.std.specs.Prelude.{◌⊎◌, All, Contains}
 use Rattle.std.specs.List.Sorted.{IsNonDecreasingBy}
 use Rattle.std.proofs.lemmas.Bool.{cases_order}
@@ -212,7 +212,8 @@ have_apart xs n a b some h is-a is-b same apart =
       apart = apart;
     }
   where
-    there : (k : ℕ) (x : Segment) → k < length xs → x ≡ get_or xs k x → Contains (map segment_value xs) (segment_value x)
+    there : (k : ℕ) (x : Segment) → k < length xs → x ≡ get_or xs k x
+        → Contains (map segment_value xs) (segment_value x)
     there k x lt is = (
       k,
       omega (arith, lt, length-map xs segment_value),

@@ -1,5 +1,5 @@
 -- Tables without marks tell of the monitors' runs, whose marks are left out.
-use Rattle.std.proofs.Common.{ℕ, false, List, ap, ◌∙◌, Option}
+use Rattle.std.proofs.Common.{◌≡◌, ℕ, false, List, ap, ◌∙◌, Option}
 use Rattle.vme_trace.specs.Levels.{Levels}
 use Rattle.vme_trace.specs.declared.step.Change.{Change}
 use Rattle.vme_trace.specs.declared.step.Step.{Step}
@@ -9,6 +9,7 @@ use Rattle.vme_monitor.specs.WithoutMarks.{unmarked_step, unmarked_run}
 use Rattle.vme_monitor.specs.declared.mark.Next.{Next}
 use Rattle.vme_part_format.specs.Tables.{TableValue}
 use Rattle.vme_part_tables.specs.Runs.{TellsRuns}
+use Rattle.vme_parts.proofs.Bare.{tells_same}
 
 pub unmarked_tells : {P S : Type 0} (observation : Levels → Levels → List Change → Option S)
     (next : P → Levels → Levels → S → Next P) (count : ℕ) (place : P → ℕ) (t : TableValue) (o : Levels) (x : List Step)
@@ -26,3 +27,13 @@ unmarked_tells {P} observation next count place t o x s =
             marks = (s.tells k).marks;
           };
     }
+
+-- so does a table of what a summary says of these
+pub summary_tells : {P S : Type 0} (observation : Levels → Levels → List Change → Option S)
+    (next : P → Levels → Levels → S → Next P) (count : ℕ) (place : P → ℕ) (t : TableValue) (says : P → Outcome P)
+    (o : Levels) (x : List Step) → ((p : P) → says p ≡ run_of (machine_step observation (unmarked_step next)) p o x)
+    → TellsRuns false count place t says
+    → TellsRuns false count place t (λ p. run_of (machine_step observation next) p o x)
+summary_tells observation next count place t says o x e s =
+    unmarked_tells observation next count place t o x
+    (tells_same false count place t says (λ p. run_of (machine_step observation (unmarked_step next)) p o x) e s)

@@ -1,5 +1,5 @@
--- Which parts make one together: those of one backplane, all with marks or none, of which no two say different things of
--- the same files.
+-- Which parts make one together: those of one backplane, all with marks or none, of which no two say different things
+-- of the same files.
 use Rattle.std.specs.Prelude.{◌≡◌, ℕ, ◌<◌, Bool, false, List, [], ◌∷◌, All, Contains, Some, length, slice_get, take}
 use Rattle.vme_part_format.specs.Tables.{PartValue, SegmentValue, TableValue}
 use Rattle.vme_part_tables.specs.Ways.{outcome_in}

@@ -9,3 +9,4 @@ pub mod Progress
 pub mod Covering
 pub mod Telling
 pub mod Alike
+pub mod FileTables

@@ -1,7 +1,7 @@
 //! Segments that are gathered one by one: buddies are joined, and what lies in another is dropped.
 
-ghost use Rattle.std.specs.Prelude.{◌≡◌, ◌<◌, ◌++◌, ◌∷◌, [], All, IfErr, IfOk, IfSome, IsPermutation, IsTrue, List, None};
-ghost use Rattle.std.specs.Prelude.{OnOk};
+ghost use Rattle.std.specs.Prelude.{◌≡◌, ◌<◌, ◌++◌, ◌∷◌, [], All, IfErr, IfOk, IfSome, IsPermutation, IsTrue};
+ghost use Rattle.std.specs.Prelude.{List, None, OnOk};
 ghost use Rattle.std.specs.Prelude.{false, map};
 ghost use Rattle.std.specs.List.{last_or};
 ghost use Rattle.std.specs.List.Sorted.{IsNonDecreasingBy};

@@ -1,25 +1,20 @@
 //! The part of one file.
 
-ghost use Rattle.std.specs.Prelude.{◌≡◌, ◌≤◌, ◌∷◌, [], IfOk, None, false, length, slice_get};
+ghost use Rattle.std.specs.Prelude.{◌≡◌, ◌≤◌, ◌∷◌, [], IfOk, None, false, length, slice_get, true};
 ghost use Rattle.std.specs.Option.{option_map};
 ghost use Rattle.vme_trace.specs.Block.{trace_of};
 ghost use Rattle.vme_trace.specs.WellFormed.{malformed_step};
 ghost use Rattle.vme_trace.specs.declared.step.Step.{Step};
-ghost use Rattle.vme_monitor.specs.KnownSpec.{nil_place};
-ghost use Rattle.vme_monitor.specs.OverStretches.{phase_place};
-ghost use Rattle.vme_dtb.specs.MemoryPlaces.{memory_place};
-ghost use Rattle.vme_stability.specs.HoldingPlaces.{holding_place};
-ghost use Rattle.vme_chains.specs.GrantMemory.{arbitration_place};
-ghost use Rattle.vme_chains.specs.AcknowledgeSpec.{acknowledgement_place};
 ghost use Rattle.vme_summary.specs.Joins.{block_of, first_time, last_time};
-ghost use Rattle.vme_summary.specs.Runs.{acknowledge_run, grant_run, handshake_run, known_run, stability_run};
 ghost use Rattle.vme_part_format.specs.Tables.{part_value, segment_value, table_value};
 ghost use Rattle.vme_part_format.specs.declared.segment.SegmentTimes.{SegmentTimes};
 ghost use Rattle.vme_part_tables.specs.Runs.{TellsRuns};
+ghost use Rattle.vme_parts.specs.FileTables.{AreTablesOf};
 ghost use Rattle.vme_parts.specs.Files.{IsPartOfFile};
 ghost use Rattle.vme_parts.specs.Meeting.{ends_at, starts_at};
 ghost use Rattle.vme_parts.specs.Stands.{SegmentStandsFor};
 
+use crate::one_walk::summarise_monitors;
 use crate::part_refusal::PartRefusal;
 use crate::pieces::{lines_behind, table_with_marks};
 use std::alloc::{AllocError, Global};
@@ -35,132 +30,99 @@ use vme_part_tables::widened;
 use vme_stability::stability::{Stability, StabilityRules};
 use vme_trace::{Block, Lines, Step};
 
-/// The table without marks of some steps.
-fn bare_table<M: Finite>(
-    alloc: Global,
-    opening: &Lines,
-    steps: &[Step],
-) -> Result<OutcomeTable, AllocError>
-    requires accepted { malformed_step (record { opening = opening.now; steps = steps.now }) ≡ None }
-    requires few { length steps.now ≤ 268435456 }
-    ensures { IfOk result (λ t. TellsRuns false M.COUNT M.place_of (table_value t)
-        (λ p. M.run p opening.now steps.now)) }
+/// The table without marks of what a monitor's summary says.
+fn bare_table<M: Finite>(alloc: Global, summary: &M::Summary) -> Result<OutcomeTable, AllocError>
+    ensures { IfOk result (λ t. TellsRuns false M.COUNT M.place_of (table_value t) (λ p. M.outcome summary.now p)) }
 {
-    let summary = M::summarise(alloc, opening, steps)?;
     let mut entries = Vec::with_capacity(alloc, M::COUNT)?;
     for place in 0..M::COUNT {
         let memory = M::nth(place);
-        let left = M::leaving(&summary, memory);
+        let left = M::leaving(summary, memory);
         let next = M::place(left) as u32;
-        let event = widened(M::event(&summary, memory));
+        let event = widened(M::event(summary, memory));
         entries.push(TableEntry { next, event })?;
     }
     let nodes = Vec::new(alloc);
     Ok(OutcomeTable { entries, nodes })
 }
 
-fn known_table(
-    alloc: Global,
-    listing: bool,
-    opening: &Lines,
-    steps: &[Step],
-) -> Result<OutcomeTable, PartRefusal>
-    requires accepted { malformed_step (record { opening = opening.now; steps = steps.now }) ≡ None }
-    requires few { length steps.now ≤ 268435456 }
-    ensures { IfOk result (λ t. TellsRuns listing 4 (phase_place nil_place) (table_value t)
-        (λ p. known_run p opening.now steps.now)) }
-{
-    if listing {
-        table_with_marks::<Known>(alloc, opening, steps)
-    } else {
-        match bare_table::<BreakMonitor<KnownRules>>(alloc, opening, steps) {
-            Ok(table) => Ok(table),
-            Err(_) => Err(PartRefusal::Memory),
-        }
-    }
+/// The tables of the five monitors, and the lines that steps leave.
+#[derive(Drop)]
+struct FileTables {
+    known: OutcomeTable,
+    handshake: OutcomeTable,
+    stability: OutcomeTable,
+    grant: OutcomeTable,
+    acknowledge: OutcomeTable,
+    left: Lines,
 }
 
-fn handshake_table(
-    alloc: Global,
-    listing: bool,
-    opening: &Lines,
-    steps: &[Step],
-) -> Result<OutcomeTable, PartRefusal>
-    requires accepted { malformed_step (record { opening = opening.now; steps = steps.now }) ≡ None }
-    requires few { length steps.now ≤ 268435456 }
-    ensures { IfOk result (λ t. TellsRuns listing 147 (phase_place memory_place) (table_value t)
-        (λ p. handshake_run p opening.now steps.now)) }
+/// The tables without marks of some steps, which the monitors are led along at once.
+fn bare_tables(alloc: Global, opening: &Lines, steps: &[Step]) -> Result<FileTables, AllocError>
+    requires { length steps.now ≤ 268435456 }
+    ensures { IfOk result (AreTablesOf false opening.now steps.now) }
 {
-    if listing {
-        table_with_marks::<Dtb>(alloc, opening, steps)
-    } else {
-        match bare_table::<BreakMonitor<HandshakeRules>>(alloc, opening, steps) {
-            Ok(table) => Ok(table),
-            Err(_) => Err(PartRefusal::Memory),
-        }
-    }
+    let (summaries, left) = summarise_monitors::<
+        BreakMonitor<KnownRules>,
+        BreakMonitor<HandshakeRules>,
+        BreakMonitor<StabilityRules>,
+        BreakMonitor<GrantRules>,
+        BreakMonitor<AcknowledgeRules>,
+    >(alloc, opening, steps)?;
+    let known = bare_table::<BreakMonitor<KnownRules>>(alloc, &summaries.known)?;
+    let handshake = bare_table::<BreakMonitor<HandshakeRules>>(alloc, &summaries.handshake)?;
+    let stability = bare_table::<BreakMonitor<StabilityRules>>(alloc, &summaries.stability)?;
+    let grant = bare_table::<BreakMonitor<GrantRules>>(alloc, &summaries.grant)?;
+    let acknowledge = bare_table::<BreakMonitor<AcknowledgeRules>>(alloc, &summaries.acknowledge)?;
+    Ok(FileTables {
+        known,
+        handshake,
+        stability,
+        grant,
+        acknowledge,
+        left,
+    })
 }
 
-fn stability_table(
-    alloc: Global,
-    listing: bool,
-    opening: &Lines,
-    steps: &[Step],
-) -> Result<OutcomeTable, PartRefusal>
+/// The tables with marks of some steps.
+fn marked_tables(alloc: Global, opening: &Lines, steps: &[Step]) -> Result<FileTables, PartRefusal>
     requires accepted { malformed_step (record { opening = opening.now; steps = steps.now }) ≡ None }
     requires few { length steps.now ≤ 268435456 }
-    ensures { IfOk result (λ t. TellsRuns listing 13 (phase_place holding_place) (table_value t)
-        (λ p. stability_run p opening.now steps.now)) }
+    ensures { IfOk result (AreTablesOf true opening.now steps.now) }
 {
-    if listing {
-        table_with_marks::<Stability>(alloc, opening, steps)
-    } else {
-        match bare_table::<BreakMonitor<StabilityRules>>(alloc, opening, steps) {
-            Ok(table) => Ok(table),
-            Err(_) => Err(PartRefusal::Memory),
-        }
-    }
+    let known = table_with_marks::<Known>(alloc, opening, steps)?;
+    let handshake = table_with_marks::<Dtb>(alloc, opening, steps)?;
+    let stability = table_with_marks::<Stability>(alloc, opening, steps)?;
+    let grant = table_with_marks::<Grant>(alloc, opening, steps)?;
+    let acknowledge = table_with_marks::<Iack>(alloc, opening, steps)?;
+    let left = lines_behind(opening, steps);
+    Ok(FileTables {
+        known,
+        handshake,
+        stability,
+        grant,
+        acknowledge,
+        left,
+    })
 }
 
-fn grant_table(
+/// The tables of some steps, with marks or without.
+fn tables_of(
     alloc: Global,
     listing: bool,
     opening: &Lines,
     steps: &[Step],
-) -> Result<OutcomeTable, PartRefusal>
+) -> Result<FileTables, PartRefusal>
     requires accepted { malformed_step (record { opening = opening.now; steps = steps.now }) ≡ None }
     requires few { length steps.now ≤ 268435456 }
-    ensures { IfOk result (λ t. TellsRuns listing 35 (phase_place arbitration_place) (table_value t)
-        (λ p. grant_run p opening.now steps.now)) }
+    ensures { IfOk result (AreTablesOf listing opening.now steps.now) }
 {
     if listing {
-        table_with_marks::<Grant>(alloc, opening, steps)
-    } else {
-        match bare_table::<BreakMonitor<GrantRules>>(alloc, opening, steps) {
-            Ok(table) => Ok(table),
-            Err(_) => Err(PartRefusal::Memory),
-        }
+        return marked_tables(alloc, opening, steps);
     }
-}
-
-fn acknowledge_table(
-    alloc: Global,
-    listing: bool,
-    opening: &Lines,
-    steps: &[Step],
-) -> Result<OutcomeTable, PartRefusal>
-    requires accepted { malformed_step (record { opening = opening.now; steps = steps.now }) ≡ None }
-    requires few { length steps.now ≤ 268435456 }
-    ensures { IfOk result (λ t. TellsRuns listing 11 (phase_place acknowledgement_place) (table_value t)
-        (λ p. acknowledge_run p opening.now steps.now)) }
-{
-    if listing {
-        table_with_marks::<Iack>(alloc, opening, steps)
-    } else {
-        match bare_table::<BreakMonitor<AcknowledgeRules>>(alloc, opening, steps) {
-            Ok(table) => Ok(table),
-            Err(_) => Err(PartRefusal::Memory),
-        }
+    match bare_tables(alloc, opening, steps) {
+        Ok(all) => Ok(all),
+        Err(_) => Err(PartRefusal::Memory),
     }
 }
 
@@ -198,25 +160,20 @@ fn segment_of_steps(
         SegmentStandsFor listing (segment_value s) (block_of number opening.now steps.now ∷ [])) }
 {
     let first = u64::from(number);
-    let left = lines_behind(opening, steps);
     let times = times_of(first, steps);
-    let known = known_table(alloc, listing, opening, steps)?;
-    let handshake = handshake_table(alloc, listing, opening, steps)?;
-    let stability = stability_table(alloc, listing, opening, steps)?;
-    let grant = grant_table(alloc, listing, opening, steps)?;
-    let acknowledge = acknowledge_table(alloc, listing, opening, steps)?;
+    let tables = tables_of(alloc, listing, opening, steps)?;
     Ok(Segment {
         first,
         order: 0,
         steps: steps.len() as u64,
         opening: *opening,
-        left,
+        left: tables.left,
         times,
-        known,
-        handshake,
-        stability,
-        grant,
-        acknowledge,
+        known: tables.known,
+        handshake: tables.handshake,
+        stability: tables.stability,
+        grant: tables.grant,
+        acknowledge: tables.acknowledge,
     })
 }
 

@@ -1,5 +1,5 @@
-//! A table with marks, made of pieces of the steps: of a piece each memory has its own marks, and those that run on as
-//! one share what follows it.
+//! A table with marks, made of pieces of the steps: of a piece each memory that the steps before it leave has its own
+//! marks, and those that run on as one share what follows it.
 
 ghost use Rattle.std.specs.Prelude.{◌≡◌, ◌+◌, ◌≤◌, ◌<◌, ◌^◌, ◌++◌, IfOk, List, None, length, true};
 ghost use Rattle.vme_trace.specs.Levels.{Levels};
@@ -7,6 +7,7 @@ ghost use Rattle.vme_trace.specs.Trace.{levels_after};
 ghost use Rattle.vme_trace.specs.WellFormed.{malformed_step};
 ghost use Rattle.vme_trace.specs.declared.step.Step.{Step};
 ghost use Rattle.vme_part_format.specs.Tables.{table_value};
+ghost use Rattle.vme_part_tables.specs.Marked.{if_needed, is_needed};
 ghost use Rattle.vme_part_tables.specs.Runs.{TellsRuns};
 ghost use Rattle.vme_parts.specs.Buddies.{IsTableOf};
 
@@ -16,7 +17,7 @@ use std::alloc::{AllocError, Global};
 use vme_monitor::finite::Finite;
 use vme_monitor::monitor::Monitor;
 use vme_part_format::OutcomeTable;
-use vme_part_tables::{composed, marked_table};
+use vme_part_tables::{composed, left_memories, marked_table};
 use vme_trace::{Lines, Step};
 
 /// So many steps are summarised at once.
@@ -33,20 +34,21 @@ pub(crate) fn lines_behind(opening: &Lines, steps: &[Step]) -> Lines
     lines
 }
 
-/// The table with marks of a piece.
+/// The table of a piece, with the marks of those memories that need them.
 fn piece_table<M: Finite>(
     alloc: Global,
     opening: &Lines,
     steps: &[Step],
+    needs: &[bool],
 ) -> Result<OutcomeTable, AllocError>
     requires accepted { malformed_step (record { opening = opening.now; steps = steps.now }) ≡ None }
     requires few { length steps.now ≤ 268435456 }
     requires some { 0 < M.COUNT }
     ensures { IfOk result (λ t. TellsRuns true M.COUNT M.place_of (table_value t)
-        (λ p. M.run p opening.now steps.now)) }
+        (λ p. if_needed (is_needed needs.now (M.place_of p)) (M.run p opening.now steps.now))) }
 {
     let summary = M::summarise(alloc, opening, steps)?;
-    marked_table::<M>(alloc, &summary)
+    marked_table::<M>(alloc, &summary, needs)
 }
 
 /// The table of so many steps and of a piece behind them.
@@ -66,7 +68,8 @@ fn with_piece<M: Finite>(
         → TellsRuns true M.COUNT M.place_of (table_value table) (λ p. M.run p o x)
         → TellsRuns true M.COUNT M.place_of (table_value t) (λ p. M.run p o (x ++ piece.now))) }
 {
-    let next = piece_table::<M>(alloc, opening, piece)?;
+    let needs = left_memories(alloc, &table)?;
+    let next = piece_table::<M>(alloc, opening, piece, needs.as_slice())?;
     if !nodes_are_few(&table, &next) {
         return Err(PartRefusal::TooManyNodes);
     }
@@ -86,7 +89,7 @@ pub(crate) fn table_with_marks<M: Finite>(
     ensures { IfOk result (λ t. TellsRuns true M.COUNT M.place_of (table_value t)
         (λ p. M.run p opening.now steps.now)) }
 {
-    let mut table = piece_table::<M>(alloc, opening, &steps[..0])?;
+    let mut table = piece_table::<M>(alloc, opening, &steps[..0], &[])?;
     let mut lines = *opening;
     let mut done = 0;
     while done < steps.len() {

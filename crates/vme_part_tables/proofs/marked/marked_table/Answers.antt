@@ -9,5 +9,5 @@ returns g c =
     let told = rw (c.COUNT-2.ensures, c.as_slice.ensures.value) at c.in_ok-table.ensures.says in
     marked_tells g.M.Finite.place_of g.M.Finite.nth_of g.M.Finite.COUNT
     (map node_value c.memory_ways.new.made.nodes.items) c.in_ok-onward.onward.items
-    (g.M.Monitor.outcome c.args.summary.now) (table_value c.in_ok-table.table) g.met.M.Finite.placed
+    c.args.needs.now (g.M.Monitor.outcome c.args.summary.now) (table_value c.in_ok-table.table) g.met.M.Finite.placed
     g.met.M.Finite.found say told (c.in_ok-table.ensures.counted ∙ c.COUNT-2.ensures) c.in_ok-table.ensures.ways

@@ -1,6 +1,6 @@
 use Rattle.std.proofs.Common.{◌≡◌, ◌<◌, None, ap, subst, ◌∙◌, arith, map, rules}
 use Rattle.vme_part_format.specs.Tables.{node_value}
-use Rattle.vme_part_tables.specs.Marked.{SaysBehind, made_says, says_at}
+use Rattle.vme_part_tables.specs.Marked.{SaysBehind, if_needed, is_needed, made_says, marks_if, says_at}
 use Rattle.vme_part_tables.proofs.Marking.{made_step, memory_step, row_tells}
 use Rattle.vme_part_tables.proofs.marked.memory_ways.Goals as goal
 
@@ -11,13 +11,17 @@ loop-place-preserved g c =
     let place = g.M.Finite.place_of in
     let nth = g.M.Finite.nth_of in
     let says = g.M.Monitor.outcome c.args.summary.now in
-    let run = says (nth c.loop-place.place) in
+    let b = is_needed c.args.needs.now c.loop-place.place in
+    let run = if_needed b (says (nth c.loop-place.place)) in
     let memory = c.nth-memory.ensures in
     let old = map node_value c.loop-place.made.nodes.items in
     let new = map node_value c.through.new.self.nodes.items in
     let left : c.leaving-left.result ≡ run.leaving = c.leaving-left.ensures ∙ ap (λ p. (says p).leaving) memory in
     let found : c.event-found.result ≡ run.event = c.event-found.ensures ∙ ap (λ p. (says p).event) memory in
-    let shown : c.in_ok-marks.marks.items ≡ run.marks = c.in_ok-marks.ensures ∙ ap (λ p. (says p).marks) memory in
+    let shown : c.in_ok-marks.marks.items ≡ run.marks =
+    c.in_ok-marks.ensures
+    ∙ (ap (λ x. marks_if x (says c.nth-memory.result).marks) c.is_needed.ensures
+    ∙ ap (λ p. marks_if b (says p).marks) memory) in
     let at : c.place.result ≡ place run.leaving = c.place.ensures ∙ ap place left in
     let low : place run.leaving < m = rw c.requires.memories (g.met.M.Finite.placed run.leaving) in
     let way = rw same at c.in_ok-way.ensures.way in
@@ -37,7 +41,8 @@ loop-place-preserved g c =
       as_many = search rules;
       says = memory_step place m c.loop-place.made.nodes.items c.through.new.self.nodes.items
           c.loop-place.onward.items c.push.new.self.items c.in_ok-way.way
-          (λ k. g.M.Monitor.outcome c.args.summary.now (nth k)) c.loop-place.place c.in_ok-push.ensures.items
+          (λ k. if_needed (is_needed c.args.needs.now k) (g.M.Monitor.outcome c.args.summary.now (nth k)))
+          c.loop-place.place c.in_ok-push.ensures.items
           (search rules) c.loop-place.invariant.ways kept
           (row_tells place m old run.leaving run.event run.marks (says_at m new c.in_ok-way.way) low says)
           c.loop-place.invariant.says;

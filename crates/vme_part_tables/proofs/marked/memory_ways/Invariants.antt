@@ -1,6 +1,6 @@
 use Rattle.std.proofs.Common.{◌≡◌, ◌≤◌, length, map, vec_len}
 use Rattle.vme_part_format.specs.Tables.{node_value}
-use Rattle.vme_part_tables.specs.Marked.{AreMade, MadeGoOn, SayBelow}
+use Rattle.vme_part_tables.specs.Marked.{AreMade, MadeGoOn, SayBelow, if_needed, is_needed}
 use Rattle.vme_part_tables.proofs.marked.memory_ways.Given as goal
 
 abbrev pub invariant-loop-place : goal.invariant-loop-place
@@ -12,5 +12,5 @@ invariant-loop-place g l =
       ways : AreMade l.fn.made.memories (map node_value l.made.nodes.items) l.onward.items;
       as_many : vec_len l.onward ≡ l.place;
       says : SayBelow g.M.Finite.place_of l.fn.made.memories (map node_value l.made.nodes.items) l.onward.items l.place
-          (λ k. g.M.Monitor.outcome l.summary (g.M.Finite.nth_of k));
+          (λ k. if_needed (is_needed l.needs k) (g.M.Monitor.outcome l.summary (g.M.Finite.nth_of k)));
     }

@@ -2,7 +2,7 @@ use Rattle.std.proofs.Common.{rules, ◌≡◌, ◌+◌, false, List, [], map, a
 use Rattle.vme_part_format.specs.Tables.{NodeValue, node_value}
 use Rattle.vme_part_format.specs.declared.table.TableEntry.{TableEntry}
 use Rattle.vme_part_tables.specs.Runs.{TellsRuns}
-use Rattle.vme_parts.proofs.Bare.{AreRows, bare_tells, rows_more, tells_same}
+use Rattle.vme_parts.proofs.Bare.{AreRows, bare_tells, rows_more}
 use Rattle.vme_parts.proofs.made.bare_table.Goals as goal
 
 pub overflow_cast-next : goal.overflow_cast-next
@@ -11,7 +11,7 @@ overflow_cast-next g c =
 
 pub loop-place-preserved : goal.loop-place-preserved
 loop-place-preserved g c =
-    let says = g.M.Monitor.outcome c.in_ok-summary.summary in
+    let says = g.M.Monitor.outcome c.args.summary.now in
     let e : TableEntry = record { next = c.place-next.result; event = c.widened-event.result } in
     record {
       as_many = search rules;
@@ -32,14 +32,10 @@ returns g c =
     let place = g.M.Finite.place_of in
     let nth = g.M.Finite.nth_of in
     let count = g.M.Finite.COUNT in
-    let says = g.M.Monitor.outcome c.in_ok-summary.summary in
+    let says = g.M.Monitor.outcome c.args.summary.now in
     let es = c.loop-place.entries.items in
     let whole : c.loop-place.place ≡ count = search rules in
     let none : map node_value c.new-nodes.result.items ≡ [] = ap (map node_value) c.new-nodes.ensures.items in
-    subst (λ (ns : List NodeValue). TellsRuns false count place (record { entries = es; nodes = ns })
-    (λ p. g.M.Monitor.run p c.args.opening.now c.args.steps.now)) (sym none)
-    (tells_same false count place (record { entries = es; nodes = [] }) says
-    (λ p. g.M.Monitor.run p c.args.opening.now c.args.steps.now)
-    c.in_ok-summary.ensures.stands.outcomes
+    subst (λ (ns : List NodeValue). TellsRuns false count place (record { entries = es; nodes = ns }) says) (sym none)
     (bare_tells place nth says count es (omega (arith, g.met.M.Finite.few)) (search rules)
-    (subst (AreRows place nth says es) whole c.loop-place.invariant.rows) g.met.M.Finite.placed g.met.M.Finite.found))
+    (subst (AreRows place nth says es) whole c.loop-place.invariant.rows) g.met.M.Finite.placed g.met.M.Finite.found)

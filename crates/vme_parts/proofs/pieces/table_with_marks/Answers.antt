@@ -1,4 +1,5 @@
-use Rattle.std.proofs.Common.{◌≡◌, ◌+◌, ◌-◌, ◌≤◌, List, None, true, length, take, drop, ap, sym, ◌∙◌, subst, arith}
+use Rattle.std.proofs.Common.{◌≡◌, ◌+◌, ◌-◌, ◌≤◌, List, [], None, true, length, take, drop, refl, ap, sym, ◌∙◌}
+use Rattle.std.proofs.Common.{subst, arith}
 use Rattle.std.proofs.lemmas.List.{length-take-le}
 use Rattle.vme_trace.specs.Levels.{Levels}
 use Rattle.vme_trace.specs.Trace.{levels_after}
@@ -6,7 +7,7 @@ use Rattle.vme_trace.specs.WellFormed.{malformed_step}
 use Rattle.vme_trace.specs.declared.step.Step.{Step}
 use Rattle.vme_part_format.specs.Tables.{table_value}
 use Rattle.vme_part_tables.specs.Runs.{TellsRuns}
-use Rattle.vme_parts.proofs.PieceLemmas.{none_sound, piece_lines, piece_more, piece_sound}
+use Rattle.vme_parts.proofs.PieceLemmas.{none_needed, none_sound, piece_lines, piece_more, piece_sound}
 use Rattle.vme_parts.proofs.pieces.table_with_marks.Goals as goal
 
 pub piece_table-requires-clause-accepted : goal.piece_table-requires-clause-accepted
@@ -19,6 +20,16 @@ with_piece-requires-clause-accepted g c =
     subst (λ (v : Levels). malformed_step
     (record { opening = v; steps = take k (drop n c.args.steps.now) }) ≡ None) (sym c.loop-done.invariant.lines)
     (piece_sound c.args.opening.now c.args.steps.now n k c.requires.accepted)
+
+pub loop-done-init : goal.loop-done-init
+loop-done-init g c =
+    let o = c.args.opening.now in
+    record {
+      within = omega arith;
+      lines = refl;
+      tells = none_needed g.M.Finite.place_of g.M.Finite.COUNT (table_value c.in_ok-table.table) []
+          (λ p. g.M.Monitor.run p o []) (λ p. g.met.M.Monitor.nothing p o) c.in_ok-table.ensures;
+    }
 
 pub loop-done-preserved : goal.loop-done-preserved
 loop-done-preserved g c =

@@ -1,8 +1,8 @@
-use Rattle.std.proofs.Common.{true, subst, arith}
+use Rattle.std.proofs.Common.{subst, arith}
 use Rattle.vme_part_format.specs.Tables.{table_value}
 use Rattle.vme_part_tables.specs.Runs.{SaysBoth}
 use Rattle.vme_parts.proofs.Halves.{can_compose}
-use Rattle.vme_parts.proofs.Runs.{tables_of_both}
+use Rattle.vme_parts.proofs.PieceLemmas.{needed_of_both}
 use Rattle.vme_parts.proofs.pieces.with_piece.Goals as goal
 
 pub composed-requires : goal.composed-requires
@@ -11,12 +11,16 @@ composed-requires g c =
     (record { ways = c.in_ok-next.ensures.ways; counted = c.in_ok-next.ensures.counted })
     (c.nodes_are_few.ensures c.if-not-nodes_are_few.false)
 
+pub left_memories-requires : goal.left_memories-requires
+left_memories-requires g c = c.requires.table.ways
+
 pub returns : goal.returns
 returns g c = λ o x opens count tells.
-    tables_of_both g.M.Monitor.run
-    (record { joined = g.met.M.Monitor.joined; within = g.met.M.Monitor.within }) g.M.Finite.place_of true
-    g.M.Finite.COUNT o c.args.opening.now x c.args.piece.now (table_value c.args.table)
-    (table_value c.in_ok-next.next) (table_value c.in_ok-table.table) opens
+    needed_of_both g.M.Monitor.run
+    (record { joined = g.met.M.Monitor.joined; within = g.met.M.Monitor.within }) g.M.Finite.place_of
+    g.M.Finite.COUNT c.in_ok-needs.needs.items o c.args.opening.now x c.args.piece.now (table_value c.args.table)
+    (table_value c.in_ok-next.next) (table_value c.in_ok-table.table) g.met.M.Finite.placed opens
     (omega (arith, c.requires.fits))
     (subst (λ n. SaysBoth n (table_value c.args.table) (table_value c.in_ok-next.next)
-    (table_value c.in_ok-table.table)) count c.in_ok-table.ensures) tells c.in_ok-next.ensures
+    (table_value c.in_ok-table.table)) count c.in_ok-table.ensures) c.in_ok-needs.ensures tells
+    (rw c.as_slice.ensures.value at c.in_ok-next.ensures)

@@ -1,0 +1,52 @@
+-- The memories that a table leaves are noted, and the marks of others left out.
+use Rattle.std.proofs.Common.{inl, inr, ◌≡◌, ℕ, zero, suc, ◌+◌, ◌<◌, ◌≤◌, Bool, true, false, List, [], ◌∷◌, get_or}
+use Rattle.std.proofs.Common.{length, Option, None, ap, subst, sym, refl, arith}
+use Rattle.std.specs.Prelude.{◌⊎◌}
+use Rattle.std.specs.Option.{option_map_or}
+use Rattle.std.proofs.lemmas.Bool.{cases_lt}
+use Rattle.std.proofs.lemmas.Option.{slice_get-get_or}
+use Rattle.vme_monitor.specs.Outcome.{IsWithin, Outcome}
+use Rattle.vme_part_format.specs.Tables.{TableValue}
+use Rattle.vme_part_format.specs.declared.table.TableEntry.{TableEntry}
+use Rattle.vme_part_tables.specs.Marked.{if_needed, is_needed}
+use Rattle.vme_part_tables.specs.Ways.{HasWays, WayOutcome, ended_in, from_entry, outcome_in}
+use Rattle.vme_part_tables.proofs.Composing.{walked_leaving}
+
+-- a table leaves one of its memories
+pub leaves_one : (t : TableValue) (k : ℕ) → HasWays t → k < length t.entries
+    → (outcome_in t k).leaving < length t.entries
+leaves_one t k p h =
+    let d : TableEntry = record { next = 0; event = None } in
+    let e : TableEntry = get_or t.entries k d in
+    let at : outcome_in t k ≡ from_entry t e =
+    ap (λ (o : Option TableEntry). option_map_or (from_entry t) o (ended_in k)) (slice_get-get_or t.entries k d h) in
+    let left = walked_leaving (length t.entries) t.nodes e.next p.nodes (p.entries k d h) in
+    subst (λ (w : WayOutcome). w.leaving < length t.entries) (sym at) left
+
+-- one more is noted
+pub noted_more : (t : TableValue) (old new : List Bool) (n : ℕ)
+    → ((k : ℕ) → get_or old k false ≡ true → get_or new k false ≡ true)
+    → get_or new (outcome_in t n).leaving false ≡ true
+    → ((k : ℕ) → k < n → get_or old (outcome_in t k).leaving false ≡ true)
+    → (k : ℕ) → k < n + 1 → get_or new (outcome_in t k).leaving false ≡ true
+noted_more t old new n more here before k h = by_place (cases_lt k n)
+  where
+    by_place : ((k < n) ⊎ (n ≤ k)) → get_or new (outcome_in t k).leaving false ≡ true
+    by_place (inl i) = more (outcome_in t k).leaving (before k i)
+    by_place (inr i) =
+        let same : n ≡ k = omega arith in
+        subst (λ j. get_or new (outcome_in t j).leaving false ≡ true) same here
+
+-- what is noted is needed
+pub is_noted : (needs : List Bool) (k : ℕ) → get_or needs k false ≡ true → is_needed needs k ≡ true
+is_noted [] k e = absurd (cc)
+is_noted (b ∷ bs) zero e = e
+is_noted (b ∷ bs) (suc k) e = is_noted bs k e
+
+-- what is told of a run where its marks are needed is all of it
+pub whole_needed : {P : Type 0} (b : Bool) (o : Outcome P) → b ≡ true → if_needed b o ≡ o
+whole_needed b o e = rw e refl
+
+pub needed_within : {P : Type 0} (n : ℕ) (b : Bool) (o : Outcome P) → IsWithin n o → IsWithin n (if_needed b o)
+needed_within n true o h = h
+needed_within n false o h = (h.0, tt)

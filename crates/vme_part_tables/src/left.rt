@@ -1,0 +1,42 @@
+//! The memories that a table leaves.
+
+ghost use Rattle.std.specs.Prelude.{◌≡◌, ℕ, ◌<◌, IfOk, false, length, slice_index_or, true};
+ghost use Rattle.vme_part_format.specs.Tables.{table_value};
+ghost use Rattle.vme_part_tables.specs.Marked.{AreNeeded};
+ghost use Rattle.vme_part_tables.specs.Ways.{HasWays};
+
+use crate::ways::follow;
+use std::alloc::{AllocError, Global};
+use vme_part_format::OutcomeTable;
+
+/// Notes the memory at a place.
+fn note(needs: &mut [bool], place: usize)
+    requires { place < length needs.old }
+    ensures more { (k : ℕ) → slice_index_or needs.old k false ≡ true → slice_index_or needs.new k false ≡ true }
+    ensures here { slice_index_or needs.new place false ≡ true }
+{
+    needs[place] = true;
+}
+
+/// Notes each memory that a table leaves.
+fn note_left(needs: &mut [bool], table: &OutcomeTable)
+    requires ways { HasWays (table_value table.now) }
+    requires as_many { length needs.old ≡ length table.now.entries.items }
+    ensures { AreNeeded (table_value table.now) needs.new }
+{
+    let count = table.entries.len() as u32;
+    for memory in 0..count {
+        let (left, _) = follow(table, memory);
+        note(needs, left as usize);
+    }
+}
+
+/// Which memories a table leaves, by their places: of steps behind its own no others are needed.
+pub fn left_memories(alloc: Global, table: &OutcomeTable) -> Result<Vec<bool>, AllocError>
+    requires { HasWays (table_value table.now) }
+    ensures { IfOk result (λ needs. AreNeeded (table_value table.now) needs.items) }
+{
+    let mut needs = vec![in alloc; false; table.entries.len()]?;
+    note_left(needs.as_mut_slice(), table);
+    Ok(needs)
+}

@@ -1,0 +1,27 @@
+-- The tables of one file.
+use Rattle.std.specs.Prelude.{◌≡◌, Bool, List}
+use Rattle.vme_trace.specs.Levels.{Levels}
+use Rattle.vme_trace.specs.Trace.{levels_after}
+use Rattle.vme_trace.specs.declared.step.Step.{Step}
+use Rattle.vme_monitor.specs.KnownSpec.{nil_place}
+use Rattle.vme_monitor.specs.OverStretches.{phase_place}
+use Rattle.vme_dtb.specs.MemoryPlaces.{memory_place}
+use Rattle.vme_stability.specs.HoldingPlaces.{holding_place}
+use Rattle.vme_chains.specs.GrantMemory.{arbitration_place}
+use Rattle.vme_chains.specs.AcknowledgeSpec.{acknowledgement_place}
+use Rattle.vme_summary.specs.Runs.{known_run, handshake_run, stability_run, grant_run, acknowledge_run}
+use Rattle.vme_part_format.specs.Tables.{table_value}
+use Rattle.vme_part_tables.specs.Runs.{TellsRuns}
+use Rattle.vme_parts.specs.declared.made.FileTables.{FileTables}
+
+-- tables tell of the monitors' runs over these steps after that opening, which leave these lines
+pub record AreTablesOf (listing : Bool) (o : Levels) (x : List Step) (all : FileTables) : Type 0 where
+  pub known : TellsRuns listing 4 (phase_place nil_place) (table_value all.known) (λ p. known_run p o x)
+  pub handshake : TellsRuns listing 147 (phase_place memory_place) (table_value all.handshake)
+      (λ p. handshake_run p o x)
+  pub stability : TellsRuns listing 13 (phase_place holding_place) (table_value all.stability)
+      (λ p. stability_run p o x)
+  pub grant : TellsRuns listing 35 (phase_place arbitration_place) (table_value all.grant) (λ p. grant_run p o x)
+  pub acknowledge : TellsRuns listing 11 (phase_place acknowledgement_place) (table_value all.acknowledge)
+      (λ p. acknowledge_run p o x)
+  pub left : all.left ≡ levels_after o x
