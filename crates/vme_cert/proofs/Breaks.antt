@@ -1,71 +1,158 @@
--- Where a rule isn't broken: on a line that doesn't change, where it asks for an edge; and what follows where none is.
-use Rattle.std.proofs.Common.{◌≡◌, ℕ, ◌+◌, ◌-◌, ◌<◌, ◌≤◌, Bool, true, false, ◌&&◌, ◌||◌, not, List, [], ◌∷◌, refl, sym}
-use Rattle.std.proofs.Common.{◌∙◌, ap, arith, subst}
-use Rattle.std.specs.Prelude.{◌==◌, nat_le, None, Some}
+-- Which rules may be broken on a line, and what follows where none is.
+use Rattle.std.proofs.Common.{◌≡◌, ℕ, suc, ◌<◌, Bool, true, false, ◌||◌, not, List, [], ◌∷◌, get_or, length, refl, sym}
+use Rattle.std.proofs.Common.{◌∙◌, arith, ◌+◌, ◌-◌, ◌≤◌, ◌&&◌, ap, subst}
+use Rattle.std.specs.Prelude.{◌==◌, nat_le, nat_lt, if◌then◌else◌, None, Some}
+use Rattle.std.specs.List.{list_any}
+use Rattle.std.proofs.lemmas.Bool.{agree_below, agree_below_at}
 use Rattle.std.proofs.lemmas.Bool.Decides.{nat_tests}
-use Rattle.vme_trace.specs.Instants.{any, every, least}
-use Rattle.vme_trace.specs.Changes.{is_changed}
-use Rattle.vme_trace.specs.Cycles.{cycle_starts}
-use Rattle.vme_trace.specs.Judged.{Stretch, is_judged}
-use Rattle.vme_trace.specs.Levels.{Levels, is_high, is_known_on, is_low, level_at, same_level}
-use Rattle.vme_trace.specs.LineNumbers.{BERR, DTACK, WRITE, has_line, is_answer_line, line_count}
-use Rattle.vme_trace.specs.Rules.{breaks, ends_span, is_broken}
-use Rattle.vme_trace.specs.Signals.{falls, has_edge, high, known, level, low, rises}
-use Rattle.vme_trace.specs.Trace.{Trace, levels_at, time_at}
-use Rattle.vme_trace.specs.Transfers.{strobe_falls, transfer_starts}
-use Rattle.vme_trace.specs.Verdict.{break_at, rule_break}
-use Rattle.vme_trace.specs.declared.level.Level.{Level}
-use Rattle.vme_trace.specs.declared.level.Level.TheVariants.{Low, High, Unknown}
-use Rattle.vme_trace.specs.declared.rule.Rule.{Rule}
-use Rattle.vme_trace.specs.declared.rule.Rule.TheVariants.{H1, S1, U1, U2, U3, U4}
-use Rattle.vme_trace.specs.declared.step.Change.{Change}
-use Rattle.vme_trace.proofs.Changing.{level-kept}
+use Rattle.vme_trace.specs.declared.class.Class.TheVariants as class
+use Rattle.vme_trace.proofs.EveryRule.{every-rule, same-rule}
 use Rattle.vme_trace.proofs.Ranges.{any-fails, fails-any, least-none}
+use Rattle.vme_trace.proofs.Changing.{level-kept}
 use Rattle.vme_trace.proofs.SpanEnds.{slots_at}
-use Rattle.vme_cert.specs.Breaking.{LeadToInstant}
-use Rattle.vme_cert.specs.Instant.{IsBusOf}
-use Rattle.vme_cert.specs.RulesByLine.{asks_for_edge, speaks_of}
+use Rattle.vme_cert.specs.Words.{A, BERR, Change, Class, DS0, DS1, DTACK, H1, High, LWORD, Level, Levels, Low, Rule, S1}
+use Rattle.vme_cert.specs.Words.{S3, Stretch, Trace, U1, U2, U3, U4, Unknown, WRITE, any, break_at, breaks, class_of}
+use Rattle.vme_cert.specs.Words.{cycle_runs, cycle_starts, ends_span, every, falls, has_edge, has_line, high}
+use Rattle.vme_cert.specs.Words.{highest_address, is_answer, is_broken, is_changed, is_extended, is_high, is_judged}
+use Rattle.vme_cert.specs.Words.{is_known_on, is_low, is_needed, is_selected, is_short, is_standard, known, least}
+use Rattle.vme_cert.specs.Words.{level, level_at, levels_at, line_count, low, modifier_of, needs_of, none, rises}
+use Rattle.vme_cert.specs.Words.{rule_break, rule_number, same_level, time_at, transfer_starts}
+use Rattle.vme_cert.specs.RulesByLine.{rules_on, speaks_of, asks_for_edge}
+use Rattle.vme_cert.specs.Instant.{LeadToInstant, IsBusOf}
 use Rattle.vme_cert.specs.State.{IsStateOf}
 use Rattle.vme_cert.specs.declared.bus.Bus.{Bus}
 use Rattle.vme_cert.specs.declared.state.State.{State}
-use Rattle.vme_cert.proofs.OpenTransfer.{starts-is}
-use Rattle.vme_cert.proofs.Searching.{any-first}
-use Rattle.vme_cert.proofs.Spoken.{unspoken}
-use Rattle.vme_cert.proofs.Truth.{or_false}
+use Rattle.std.proofs.lemmas.List.Folds.{list_any_at}
+use Rattle.vme_cert.proofs.Ranges.{equal, eq_fails, false_of_not, true_of_not, within_of, and_off, and_true, lt_of}
+use Rattle.vme_cert.proofs.Ranges.{any-first, or_false, decide}
+use Rattle.vme_cert.proofs.Fields.{starts-is}
 
-off : (a : Bool) → (a && false) ≡ false
-off true = refl
-off false = refl
+-- ---- The table of rules by line lists the rules that speak of a line: every rule is tried on every line.
+
+abbrev listed : Rule → ℕ → Bool
+listed r l = list_any (λ y. rule_number y == rule_number r) (rules_on l)
+
+tried : (r : Rule) → agree_below (listed r) (speaks_of r) line_count ≡ true
+unfolding rules_on
+tried r = every-rule (λ q. agree_below (listed q) (speaks_of q) line_count) refl r
+
+pub listed-is : (l : ℕ) (r : Rule) → l < line_count → listed r l ≡ speaks_of r l
+listed-is l r below = agree_below_at (listed r) (speaks_of r) line_count l (tried r) below
+
+-- each rule on the row of a line speaks of it
+pub listed-speaks : (l k : ℕ) → l < line_count → k < length (rules_on l) → speaks_of (get_or (rules_on l) k U1) l ≡ true
+listed-speaks l k below within =
+    let r = get_or (rules_on l) k U1 in
+    sym (listed-is l r below)
+    ∙ list_any_at (λ y. rule_number y == rule_number r) (rules_on l) k U1 within (same (rule_number r))
+  where
+    same : (n : ℕ) → (n == n) ≡ true
+    same n = grind (arith, nat_tests)
+
+-- and each rule that speaks of a line is on its row
+pub speaks-listed : (l : ℕ) (r : Rule) → l < line_count → speaks_of r l ≡ true
+    → (k : ℕ) × (k < length (rules_on l)) × (get_or (rules_on l) k U1 ≡ r)
+speaks-listed l r below spoken = found (rules_on l) (listed-is l r below ∙ spoken)
+  where
+    found : (rs : List Rule) → list_any (λ y. rule_number y == rule_number r) rs ≡ true
+        → (k : ℕ) × (k < length rs) × (get_or rs k U1 ≡ r)
+    found [] h = absurd (cc)
+    found (x ∷ rs) h = by_test (rule_number x == rule_number r) refl h (λ k. found rs k)
+      where
+        by_test : (b : Bool) → (rule_number x == rule_number r) ≡ b
+            → (b || list_any (λ y. rule_number y == rule_number r) rs) ≡ true
+            → (list_any (λ y. rule_number y == rule_number r) rs ≡ true
+            → (k : ℕ) × (k < length rs) × (get_or rs k U1 ≡ r))
+            → (k : ℕ) × (k < length (x ∷ rs)) × (get_or (x ∷ rs) k U1 ≡ r)
+        by_test true e h later = (0, omega arith, same-rule x r (equal (rule_number x) (rule_number r) e))
+        by_test false e h later = let (k, below, at) = later h in (suc k, omega arith, at)
+
+-- ---- The lines of which a rule speaks: on others it isn't broken. And the table of rules by line says the same.
+
+highest_31 : (code : ℕ) → highest_address code ≤ 31
+unfolding highest_address
+highest_31 code = by_tests (is_extended code) (is_standard code) (is_short code)
+  where
+    by_tests : (a b c : Bool) → (if a then 31 else if b then 23 else if c then 15 else 0) ≤ 31
+    by_tests true b c = omega arith
+    by_tests false true c = omega arith
+    by_tests false false true = omega arith
+    by_tests false false false = omega arith
+
+pub needs_31 : (v : Levels) → (needs_of v).highest ≤ 31
+unfolding needs_of
+needs_31 v = by_class (class_of v) refl
+  where
+    by_class : (k : Class) → class_of v ≡ k → (needs_of v).highest ≤ 31
+    by_class class.S e = rw e (highest_31 (modifier_of v))
+    by_class class.K e = rw e (highest_31 (modifier_of v))
+    by_class class.I e = rw e (omega arith)
+    by_class class.F e = rw e (omega arith)
+
+outside : (l k : ℕ) (m : Bool) → k ≤ 31 → (nat_le 5 l && nat_le l 44) ≡ false
+    → ((l == 5) || (m && ((nat_le 6 l && nat_le l 11) || (l == 12))) || (nat_le 14 l && nat_le l (13 + k))) ≡ false
+outside l k m most h = grind (arith, nat_tests)
+
+-- no cycle needs other lines
+not_needed : (v : Levels) (l : ℕ) → (nat_le 5 l && nat_le l 44) ≡ false → is_needed v l ≡ false
+unfolding is_needed
+not_needed v l h = outside l (needs_of v).highest (needs_of v).modifier (needs_31 v) h
+
+apart : (l : ℕ) (w x y u v : Bool) → (nat_le 159 l && nat_le l 190) ≡ false
+    → ((w && ((x && (nat_le 159 l && nat_le l 166)) || (y && (nat_le 167 l && nat_le l 174)))) || (u && v && x && y
+    && (nat_le 159 l && nat_le l 190))) ≡ false
+apart l w x y u v h = grind (arith, nat_tests)
+
+-- a transfer moves no other lines than those of data
+not_selected : (v : Levels) (l : ℕ) → (nat_le 159 l && nat_le l 190) ≡ false → is_selected v l ≡ false
+unfolding is_selected
+not_selected v l h =
+    apart l (is_high (level_at v LWORD)) (is_low (level_at v DS0)) (is_low (level_at v DS1)) (is_low (level_at v LWORD))
+    (is_low (level_at v (A 1))) h
+
+abbrev holds : Trace → Stretch → ℕ → ℕ → ℕ → Bool
+holds t span j l i = cycle_starts t span i && cycle_runs t span i j && none (is_answer t span) i (j + 1) && is_needed
+    (levels_at t i) l
+
+-- the rule isn't broken elsewhere
+module _ (t : Trace) (span : Stretch) (j l : ℕ) where
+  pub unspoken : (r : Rule) → is_judged span j ≡ true → speaks_of r l ≡ false → is_broken t span r j l ≡ false
+  unfolding is_broken
+  unspoken U1 n h = rw (eq_fails j span.end
+      (lt_of j span.end (and_true (nat_lt span.start j) (nat_lt j span.end) n).1)) refl
+  unspoken U2 n h = rw (not_needed (levels_at t j) l h, and_off) refl
+  unspoken U4 n h = rw (not_selected (levels_at t j) l h) refl
+  unspoken S1 n h = ap (λ b. has_edge t l j && b)
+      (fails-any (holds t span j l) (span.start + 1) j
+      (λ i a b. rw (not_needed (levels_at t i) l h)
+      (and_off (cycle_starts t span i && cycle_runs t span i j && none (is_answer t span) i (j + 1)))))
+      ∙ and_off (has_edge t l j)
+  unspoken S3 n h = rw (not_selected (levels_at t (j - 1)) l h) refl
+  unspoken r n h = rw h refl
+
+-- ---- Where a rule isn't broken: on a line that doesn't change, where it asks for an edge; and what follows where none
+-- is.
 
 -- ---- a line that stays
+
+one_level : (x : Level) → ((is_high x && is_low x) ≡ false) × ((is_low x && is_high x) ≡ false)
+    × (not (same_level x x) ≡ false)
+one_level Low = (refl, refl, refl)
+one_level High = (refl, refl, refl)
+one_level Unknown = (refl, refl, refl)
 
 module _ (t : Trace) (l j : ℕ) (still : level t l j ≡ level t l (j - 1)) where
   no_fall : falls t l j ≡ false
   unfolding falls low high
-  no_fall = rw still (by_level (level t l (j - 1)))
-    where
-      by_level : (x : Level) → (is_high x && is_low x) ≡ false
-      by_level Low = refl
-      by_level High = refl
-      by_level Unknown = refl
+  no_fall = rw still (one_level (level t l (j - 1))).0
 
   no_rise : rises t l j ≡ false
   unfolding rises low high
-  no_rise = rw still (by_level (level t l (j - 1)))
-    where
-      by_level : (x : Level) → (is_low x && is_high x) ≡ false
-      by_level Low = refl
-      by_level High = refl
-      by_level Unknown = refl
+  no_rise = rw still (one_level (level t l (j - 1))).1
 
   no_edge : has_edge t l j ≡ false
   unfolding has_edge
-  no_edge = rw still (by_level (level t l (j - 1)))
-    where
-      by_level : (x : Level) → not (same_level x x) ≡ false
-      by_level Low = refl
-      by_level High = refl
-      by_level Unknown = refl
+  no_edge = rw still (one_level (level t l (j - 1))).2
 
   pub unbroken-still : (span : Stretch) (r : Rule) → asks_for_edge r ≡ true → is_broken t span r j l ≡ false
   unfolding is_broken
@@ -75,7 +162,7 @@ module _ (t : Trace) (l j : ℕ) (still : level t l j ≡ level t l (j - 1)) whe
   unbroken-still span U3 e = absurd (cc)
   unbroken-still span U4 e = absurd (cc)
   unbroken-still span H1 e = absurd (cc)
-  unbroken-still span r e = first_of (rw (no_fall, off), rw (no_rise, off), rw (no_edge, off))
+  unbroken-still span r e = first_of (rw (no_fall, and_off), rw (no_rise, and_off), rw (no_edge, and_off))
 
 -- a line that isn't among the changes stays
 pub stays : (t : Trace) (bus : Bus) (cs : List Change) (l : ℕ) → IsBusOf t bus → LeadToInstant bus cs
@@ -90,7 +177,7 @@ stays t bus cs l at lead h =
 module _ (t : Trace) (span : Stretch) (j l : ℕ) where
   pub breaks-off : (r : Rule) → is_broken t span r j l ≡ false → breaks t span r j l ≡ false
   unfolding breaks
-  breaks-off r h = rw h (off _)
+  breaks-off r h = rw h (and_off _)
 
   -- where it is asked at all
   pub breaks-is : (r : Rule) → is_judged span j ≡ true → has_line t.opening.slots l ≡ true
@@ -114,77 +201,34 @@ module _ (t : Trace) (span : Stretch) (j l : ℕ) where
   breaks-unspoken r judged h = sym (breaks-off r (unspoken t span j l r judged h))
 
   pub direction-only : is_judged span j ≡ true → is_broken t span U3 j WRITE ≡ false → is_broken t span U3 j l ≡ false
-  direction-only judged h = by_test (l == WRITE) refl
-    where
-      same : (i k : ℕ) → (i == k) ≡ true → k ≡ i
-      same i k e = grind (arith, nat_tests)
-
-      by_test : (b : Bool) → (l == WRITE) ≡ b → is_broken t span U3 j l ≡ false
-      by_test true e = subst (λ k. is_broken t span U3 j k ≡ false) (same l WRITE e) h
-      by_test false e = unspoken t span j l U3 judged e
+  direction-only judged h = decide (l == WRITE)
+      (λ e. subst (λ k. is_broken t span U3 j k ≡ false) (sym (equal l WRITE e)) h)
+      (λ e. unspoken t span j l U3 judged e)
 
   pub answers-only : is_judged span j ≡ true → is_broken t span H1 j DTACK ≡ false
       → is_broken t span H1 j BERR ≡ false → is_broken t span H1 j l ≡ false
-  answers-only judged h k = by_tests (l == DTACK) (l == BERR) refl refl
-    where
-      same : (i k : ℕ) → (i == k) ≡ true → k ≡ i
-      same i k e = grind (arith, nat_tests)
-
-      neither : (l == DTACK) ≡ false → (l == BERR) ≡ false → is_answer_line l ≡ false
-      neither e f = rw (e, f) refl
-
-      by_tests : (a b : Bool) → (l == DTACK) ≡ a → (l == BERR) ≡ b → is_broken t span H1 j l ≡ false
-      by_tests true b e f = subst (λ k. is_broken t span H1 j k ≡ false) (same l DTACK e) h
-      by_tests false true e f = subst (λ k. is_broken t span H1 j k ≡ false) (same l BERR f) k
-      by_tests false false e f = unspoken t span j l H1 judged (neither e f)
-
-  pub unstarted-cycle : cycle_starts t span j ≡ false → is_broken t span U2 j l ≡ false
-  unfolding is_broken
-  unstarted-cycle h = rw h refl
+  answers-only judged h k = decide (l == DTACK)
+      (λ e. subst (λ k. is_broken t span H1 j k ≡ false) (sym (equal l DTACK e)) h)
+      (λ e. decide (l == BERR) (λ f. subst (λ k. is_broken t span H1 j k ≡ false) (sym (equal l BERR f)) k)
+      (λ f. unspoken t span j l H1 judged (rw (e, f) refl)))
 
   pub unstarted-direction : transfer_starts t span j ≡ false → is_broken t span U3 j l ≡ false
   unfolding is_broken
-  unstarted-direction h = rw (h, off) refl
+  unstarted-direction h = rw (h, and_off) refl
 
   pub unstarted-answers : transfer_starts t span j ≡ false → is_broken t span H1 j l ≡ false
   unfolding is_broken
-  unstarted-answers h = rw (h, off) refl
-
-  pub unstarted-strobe : strobe_falls t j ≡ false → is_broken t span U4 j l ≡ false
-  unfolding is_broken
-  unstarted-strobe h = rw (h, off) refl
-
-  pub known-cycle : known t l j ≡ true → is_broken t span U2 j l ≡ false
-  unfolding is_broken
-  known-cycle h = rw (h, off) refl
-
-  pub known-data : known t l j ≡ true → is_broken t span U4 j l ≡ false
-  unfolding is_broken
-  known-data h = rw (h, off) refl
+  unstarted-answers h = rw (h, and_off) refl
 
 -- what is known of each line of a range, from its first to its last
 pub known-within : (t : Trace) (j first last l : ℕ) → every (is_known_on (levels_at t j)) first (last + 1) ≡ true
     → (nat_le first l && nat_le l last) ≡ true → known t l j ≡ true
 unfolding known
 known-within t j first last l all within =
-    known_of (is_known_on (levels_at t j) l)
+    let (from, below) = within_of first l last within in
+    true_of_not (is_known_on (levels_at t j) l)
     (any-fails (λ k. not (is_known_on (levels_at t j) k)) first (last + 1) l
-    (none (any (λ k. not (is_known_on (levels_at t j) k)) first (last + 1)) all) (from first l last within)
-    (below first l last within))
-  where
-    known_of : (b : Bool) → not b ≡ false → b ≡ true
-    known_of true h = refl
-    known_of false h = absurd (cc)
-
-    none : (b : Bool) → not b ≡ true → b ≡ false
-    none true h = absurd (cc)
-    none false h = refl
-
-    from : (f l e : ℕ) → (nat_le f l && nat_le l e) ≡ true → f ≤ l
-    from f l e h = grind (arith, nat_tests)
-
-    below : (f l e : ℕ) → (nat_le f l && nat_le l e) ≡ true → l < e + 1
-    below f l e h = grind (arith, nat_tests)
+    (false_of_not (any (λ k. not (is_known_on (levels_at t j) k)) first (last + 1)) all) from below)
 
 -- ---- where no rule is broken
 

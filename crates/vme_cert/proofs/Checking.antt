@@ -1,48 +1,38 @@
--- The stretches of a recording from one instant to the next.
+-- The stretches of a recording from one instant to the next, and its steps taken one by one.
 use Rattle.std.proofs.Common.{◌≡◌, ℕ, zero, suc, ◌+◌, ◌<◌, ◌≤◌, true, false, List, [], ◌∷◌, ◌++◌, map, refl, sym, ◌∙◌}
-use Rattle.std.proofs.Common.{ap, subst, arith, inl, inr, ◌⊎◌, append_assoc, length-append, add-one}
-use Rattle.std.specs.Prelude.{◌-◌, nat_lt, Option, None, Some, if◌then◌else◌}
-use Rattle.vme_trace.specs.Instants.{those}
-use Rattle.vme_trace.specs.Judged.{Stretch, is_idle_at, is_judged, is_reset_at, loses_control_at, span_end, span_from}
-use Rattle.vme_trace.specs.Judged.{span_starts}
-use Rattle.vme_trace.specs.LineNumbers.{AS, BBSY, line_count}
-use Rattle.vme_trace.specs.Rules.{all_rules, breaks, is_unreadable}
-use Rattle.vme_trace.specs.Levels.{Levels, is_idle, is_reset}
-use Rattle.vme_trace.specs.Trace.{Trace, changed, last_instant, levels_at}
-use Rattle.vme_trace.specs.Changes.{lost_among}
-use Rattle.vme_trace.specs.WellFormed.{are_changes}
-use Rattle.vme_trace.specs.declared.step.Change.{Change}
-use Rattle.vme_trace.specs.Verdict.{break_at, break_before, least_break}
-use Rattle.vme_trace.specs.declared.rule.Rule.{Rule}
-use Rattle.vme_trace.specs.declared.rule.Rule.TheVariants.{U1}
-use Rattle.vme_trace.specs.declared.verdict.Break.{Break}
+use Rattle.std.proofs.Common.{ap, subst, arith, inl, inr, ◌⊎◌, append_assoc, length-append, add-one, not, get_or}
+use Rattle.std.proofs.Common.{length, take, append-nil}
+use Rattle.std.specs.Prelude.{◌-◌, nat_lt, Option, None, Some, if◌then◌else◌, slice_get}
+use Rattle.std.proofs.lemmas.Option.{slice_get_read, slice_get_within}
+use Rattle.std.proofs.lemmas.List.{length-take-le, take_all}
+use Rattle.std.proofs.Math.Seq.{get_or-append_seam}
 use Rattle.vme_trace.proofs.JudgedSpans.{Awaits, awaits-first, awaits-next, busy-no_start, end-after, end-within}
 use Rattle.vme_trace.proofs.JudgedSpans.{reset-holds_at, span_reset, spans_after, spans_from_first, spans_next}
-use Rattle.vme_trace.proofs.Ranges.{fails-any, those-none, those-split}
+use Rattle.vme_trace.proofs.Ranges.{fails-any, those-none, those-split, any-fails, least-none-any}
+use Rattle.vme_trace.proofs.OpenTransfers.{is_judged-holds}
 use Rattle.vme_trace.proofs.SpanEnds.{u1-held}
-use Rattle.vme_listing.specs.Recorded.{outcome_of}
-use Rattle.vme_listing.specs.declared.row.ListedVerdict.{ListedVerdict}
-use Rattle.vme_listing.specs.declared.row.ListedVerdict.TheVariants.{Broken, Conforming, NeverIdle, Unreadable}
-use Rattle.vme_listing.specs.declared.row.Row.{Row}
-use Rattle.vme_listing.specs.declared.row.Row.TheVariants.{Reset, Verdict}
-use Rattle.vme_listing.specs.declared.row.Version.{Version}
-use Rattle.vme_cert.specs.Breaking.{LeadToInstant, named}
-use Rattle.vme_cert.specs.Checking.{Checks, IsEnded, IsJudging, IsStage, IsWaiting, rows_by, rows_from}
+use Rattle.vme_trace.proofs.CutBlocks.{levels_after-append, levels_at-taken, taken_more}
+use Rattle.vme_cert.specs.Words.{AS, BBSY, Break, Broken, Change, Conforming, IsCapture, Levels, ListedVerdict}
+use Rattle.vme_cert.specs.Words.{NeverIdle, Reset, Row, Rule, Step, Stretch, Trace, U1, Unreadable, Verdict, Version}
+use Rattle.vme_cert.specs.Words.{all_rules, are_changes, break_at, break_before, breaks, changed, is_idle, is_idle_at}
+use Rattle.vme_cert.specs.Words.{is_judged, is_reset, is_reset_at, is_step, is_unreadable, last_instant, least_break}
+use Rattle.vme_cert.specs.Words.{levels_at, line_count, loses_control_at, lost_among, malformed_step, outcome_of}
+use Rattle.vme_cert.specs.Words.{span_end, span_from, span_starts, those, with_steps}
+use Rattle.vme_cert.specs.Instant.{LeadToInstant, named, IsBusOf}
+use Rattle.vme_cert.specs.Checking.{Checks, HasCompared, HasFollowed, IsEnded, IsJudging, IsStage, IsWaiting, MayGoOn}
+use Rattle.vme_cert.specs.Checking.{last_levels, rows_by, rows_from}
 use Rattle.vme_cert.specs.Following.{CanClose, Follows, rows_to}
-use Rattle.vme_cert.specs.Instant.{IsBusOf}
-use Rattle.vme_cert.specs.State.{Holds}
+use Rattle.vme_cert.specs.State.{Holds, IsStateOf}
 use Rattle.vme_cert.specs.declared.bus.Bus.{Bus}
 use Rattle.vme_cert.specs.declared.checker.Checker.{Checker}
 use Rattle.vme_cert.specs.declared.checker.Stage.{Stage}
 use Rattle.vme_cert.specs.declared.checker.Stage.TheVariants.{Ended, Judging, Waiting}
 use Rattle.vme_cert.specs.declared.open_rows.OpenRows.{OpenRows}
 use Rattle.vme_cert.specs.declared.state.State.{State}
-use Rattle.vme_cert.proofs.FirstBreaks.{at-loss, at-reset, at-rest, break-instant, found-first, held, none-after}
-use Rattle.vme_cert.proofs.FirstBreaks.{none-first, none-on, quiet}
-use Rattle.vme_cert.proofs.Following.{open-last}
-use Rattle.vme_cert.proofs.Stretches.{recorded-from}
-use Rattle.vme_cert.proofs.TransferRows.{transfer-last}
-use Rattle.vme_cert.proofs.Truth.{eq_past, lt_fails, lt_holds, second_fails}
+use Rattle.vme_cert.proofs.Stretches.{at-loss, at-reset, at-rest, break-instant, found-first, held, none-after}
+use Rattle.vme_cert.proofs.Stretches.{none-first, none-on, quiet, recorded-from}
+use Rattle.vme_cert.proofs.Following.{open-last, transfer-last}
+use Rattle.vme_cert.proofs.Ranges.{same_value, eq_past, lt_fails, lt_holds, second_fails, and_true, true_of_not}
 
 -- where no instant is left no stretch is, and one that isn't idle starts none
 no_spans : (t : Trace) (n : ℕ) → last_instant t + 1 ≤ n → spans_after t n ≡ []
@@ -57,36 +47,36 @@ next_spans t n within busy =
     (fails-any (span_starts t) n (n + 1) (λ i a b. let here : i ≡ n = omega arith in
     ap (span_starts t) here ∙ busy-no_start t n busy))))
 
-module _ {Whole Source : Type 0} (gave : Whole → Source → List Row → Type 0) (is_over : Source → Type 0) (whole : Whole)
-    (v : Version) (t : Trace) where
+module _ {Whole Source : Type 0} {gave : Whole → Source → List Row → Type 0} {is_over : Source → Type 0} {whole : Whole}
+    {v : Version} {t : Trace} where
   -- what is open has no edges where the listing ends
-  pub follows-close : (done : List Row) (span : Stretch) (n : ℕ) (rows : OpenRows Source)
+  pub follows-close : {done : List Row} {span : Stretch} {n : ℕ} {rows : OpenRows Source}
       → Follows gave is_over whole v done t span n rows → n ≤ span.end
       → CanClose gave is_over whole v (done ++ rows_to t span n) rows
-  follows-close done span n rows h within =
-      let from : n ≤ n = omega arith in
+  follows-close {done} {span} {n} {rows} h within =
       record {
         version_is = h.are_taken.version_is;
         taken_is = omega (arith, h.taken_is, length-append done (rows_to t span n));
         given = h.given;
         is_given = h.are_taken.is_given;
-        compared = h.are_taken.compared n from within;
-        tenure = open-last v done t span h.given n rows.compared.taken BBSY n rows.tenure h.tenure from within;
-        cycle = open-last v done t span h.given n rows.compared.taken AS n rows.cycle h.cycle from within;
-        transfer = transfer-last t span v done h.given n rows.compared.taken n rows.transfer h.transfer from within;
+        compared = h.are_taken.compared n (omega arith) within;
+        tenure = open-last v done t span BBSY n h.given rows.compared.taken rows.tenure h.placed.tenure h.tenure within;
+        cycle = open-last v done t span AS n h.given rows.compared.taken rows.cycle h.placed.cycle h.cycle within;
+        transfer = transfer-last t span v done h.given rows.compared.taken n rows.transfer h.placed.transfer h.transfer
+            within;
       }
 
   -- at the opening
-  pub waits-first : (rows : OpenRows Source) → CanClose gave is_over whole v [] rows
+  pub waits-first : {rows : OpenRows Source} → CanClose gave is_over whole v [] rows
       → IsWaiting gave is_over whole v t 0 NeverIdle rows
-  waits-first rows h = record {
+  waits-first h = record {
     awaits = awaits-first t;
     done = [];
     all = ap (rows_from t NeverIdle) (sym (spans_from_first t)) ∙ sym (recorded-from t);
     rows_are = h;
   }
 
-  module _ (n : ℕ) (within : n ≤ last_instant t) (outcome : ListedVerdict) (rows : OpenRows Source) where
+  module _ {n : ℕ} (within : n ≤ last_instant t) {outcome : ListedVerdict} {rows : OpenRows Source} where
     -- an instant that isn't idle
     pub waits-on : IsWaiting gave is_over whole v t n outcome rows → is_idle_at t n ≡ false
         → IsWaiting gave is_over whole v t (n + 1) outcome rows
@@ -99,11 +89,11 @@ module _ {Whole Source : Type 0} (gave : Whole → Source → List Row → Type 
     }
 
     -- and one that is
-    pub starts : (h : IsWaiting gave is_over whole v t n outcome rows) → is_idle_at t n ≡ true → (state : State)
-        → Holds t (span_from t n) (n + 1) (n + 1) state → (later : OpenRows Source)
+    pub starts : (h : IsWaiting gave is_over whole v t n outcome rows) → is_idle_at t n ≡ true → {state : State}
+        → Holds t (span_from t n) (n + 1) (n + 1) state → {later : OpenRows Source}
         → Follows gave is_over whole v h.done t (span_from t n) (n + 1) later
         → IsJudging gave is_over whole v t (n + 1) Conforming later state
-    starts h idle state holds later follows =
+    starts h idle holds follows =
         let found = spans_next t n n h.awaits (omega arith) within idle
         (fails-any (is_idle_at t) n n (λ i a b. absurd (omega arith))) in
         let order = end-after t n within in
@@ -120,7 +110,7 @@ module _ {Whole Source : Type 0} (gave : Whole → Source → List Row → Type 
           rows_are = follows;
         }
 
-    module _ (state : State) (h : IsJudging gave is_over whole v t n outcome rows state) where
+    module _ {state : State} (h : IsJudging gave is_over whole v t n outcome rows state) where
       abbrev span : Stretch
       span = span_from t h.start
 
@@ -131,11 +121,11 @@ module _ {Whole Source : Type 0} (gave : Whole → Source → List Row → Type 
       listed = h.done ++ rows_to t span n
 
       -- a reset
-      pub resets : span_end t h.start ≡ n → is_reset_at t n ≡ true → (new : OpenRows Source)
+      pub resets : span_end t h.start ≡ n → is_reset_at t n ≡ true → {new : OpenRows Source}
           → CanClose gave is_over whole v (h.done ++ rows_to t span n ++ Reset n ∷ []) new
           → IsWaiting gave is_over whole v t (n + 1) outcome new
       unfolding least_break
-      resets ends reset new closed = record {
+      resets ends reset closed = record {
         awaits = rw add-one (subst (λ m. Awaits t (suc m)) ends
             (span_reset t span h.is (ap (is_reset_at t) ends ∙ reset)));
         done = h.done ++ rows_to t span n ++ Reset n ∷ [];
@@ -186,15 +176,15 @@ module _ {Whole Source : Type 0} (gave : Whole → Source → List Row → Type 
                 append_assoc h.done (rows_to t span n) (Verdict (outcome_of (Some b)) ∷ [])
                 ∙ (ap (λ i. h.done ++ (rows_to t span i ++ Verdict (outcome_of (Some b)) ∷ [])) (sym at)
                 ∙ (ap (λ (o : Option Break). h.done ++ rows_by t span o later) (sym found) ∙ h.all));
-            rows_are = follows-close h.done span n rows h.rows_are h.upto;
+            rows_are = follows-close h.rows_are h.upto;
           }
 
       -- or none
-      pub goes-later : n < span_end t h.start → break_at t span all_rules n ≡ None → (new : State)
-          → Holds t span (n + 1) (n + 1) new → (taken : OpenRows Source)
+      pub goes-later : n < span_end t h.start → break_at t span all_rules n ≡ None → {new : State}
+          → Holds t span (n + 1) (n + 1) new → {taken : OpenRows Source}
           → Follows gave is_over whole v h.done t span (n + 1) taken
           → IsJudging gave is_over whole v t (n + 1) outcome taken new
-      goes-later before here new holds taken follows = record {
+      goes-later before here holds follows = record {
         start = h.start;
         is = h.is;
         after = omega (arith, h.after);
@@ -206,42 +196,6 @@ module _ {Whole Source : Type 0} (gave : Whole → Source → List Row → Type 
         all = h.all;
         rows_are = follows;
       }
-
-  -- at the last instant
-  pub ended : (outcome : ListedVerdict) (rows : OpenRows Source) (stage : Stage)
-      → IsStage gave is_over whole v t (last_instant t + 1) outcome rows stage
-      → IsEnded gave is_over whole v t outcome rows
-  unfolding least_break
-  ended outcome rows Ended h = h
-  ended outcome rows Waiting h = record {
-    done = h.done;
-    all = ap (λ (spans : List Stretch). h.done ++ rows_from t outcome spans)
-        (sym (no_spans t (last_instant t + 1) (omega arith))) ∙ h.all;
-    rows_are = h.rows_are;
-  }
-  ended outcome rows (Judging state) h =
-      let span = span_from t h.start in
-      let ends : span.end ≡ last_instant t + 1 = omega (arith, h.upto, end-within t h.start) in
-      record {
-        done = h.done ++ rows_to t span (last_instant t + 1);
-        all =
-            append_assoc h.done (rows_to t span (last_instant t + 1)) (Verdict outcome ∷ [])
-            ∙ (ap (λ (rows : List Row). h.done ++ rows) (sym (whole_span h.start h.unbroken ends)) ∙ h.all);
-        rows_are = follows-close h.done span (last_instant t + 1) rows h.rows_are h.upto;
-      }
-    where
-      whole_span : (s : ℕ) → break_before t (span_from t s) all_rules (last_instant t + 1) ≡ None
-          → span_end t s ≡ last_instant t + 1
-          → rows_by t (span_from t s) (least_break t (span_from t s) all_rules) (rows_from t Conforming
-          (spans_after t (span_end t s + 1))) ≡ rows_to t (span_from t s) (last_instant t + 1) ++ Verdict outcome ∷ []
-      whole_span s none ends = rw (
-        none,
-        ends,
-        no_spans t (last_instant t + 1 + 1) (omega arith),
-        h.conforms,
-        lt_fails (last_instant t + 1) (last_instant t + 1) (omega arith),
-        second_fails (is_reset_at t (last_instant t + 1)) false refl,
-      ) refl
 
 -- what an instant shows by its levels
 pub idle-is : (t : Trace) (levels : Levels) (n : ℕ) → levels ≡ levels_at t n → is_idle_at t n ≡ is_idle levels
@@ -262,17 +216,14 @@ named-break (Some b) rule line e = (
   ap (λ (p : Rule × ℕ). p.0) (sym (same_value _ _ e)),
   ap (λ (p : Rule × ℕ). p.1) (sym (same_value _ _ e)),
 )
-  where
-    same_value : (x y : Rule × ℕ) → Some x ≡ Some y → x ≡ y
-    same_value x y h = cc
 
 pub named-none : (o : Option Break) → None ≡ named o → o ≡ None
 named-none None e = refl
 named-none (Some b) e = absurd (cc)
 
 -- where a break ends all
-module _ {Whole Source : Type 0} (gave : Whole → Source → List Row → Type 0) (is_over : Source → Type 0) (whole : Whole)
-    (v : Version) (t : Trace) (bus : Bus) (rows : OpenRows Source) (outcome : ListedVerdict)
+module _ {Whole Source : Type 0} {gave : Whole → Source → List Row → Type 0} {is_over : Source → Type 0} {whole : Whole}
+    {v : Version} {t : Trace} {bus : Bus} {rows : OpenRows Source} {outcome : ListedVerdict}
     (new : Checker Source) where
   pub checks-ended : new.bus ≡ bus → new.rows ≡ rows → new.stage ≡ Ended → new.outcome ≡ outcome → IsBusOf t bus
       → IsEnded gave is_over whole v t outcome rows → Checks gave is_over whole v t new
@@ -285,10 +236,10 @@ module _ {Whole Source : Type 0} (gave : Whole → Source → List Row → Type 
   }
 
 -- an instant of a stretch, or its end, by the levels and the changes
-module _ {Whole Source : Type 0} (gave : Whole → Source → List Row → Type 0) (is_over : Source → Type 0) (whole : Whole)
-    (v : Version) (t : Trace) (bus : Bus) (cs : List Change) (at : IsBusOf t bus) (lead : LeadToInstant bus cs)
-    (few : bus.before.slots ≤ 21) (within : bus.instant ≤ last_instant t) (outcome : ListedVerdict)
-    (rows : OpenRows Source) (state : State)
+module _ {Whole Source : Type 0} {gave : Whole → Source → List Row → Type 0} {is_over : Source → Type 0} {whole : Whole}
+    {v : Version} {t : Trace} {bus : Bus} {cs : List Change} {outcome : ListedVerdict} {rows : OpenRows Source}
+    {state : State} (at : IsBusOf t bus) (lead : LeadToInstant bus cs) (few : bus.before.slots ≤ 21)
+    (within : bus.instant ≤ last_instant t)
     (h : IsJudging gave is_over whole v t bus.instant outcome rows state) where
   made : levels_at t bus.instant ≡ changed (levels_at t (bus.instant - 1)) cs
   made = sym at.levels ∙ (lead.made ∙ ap (λ (w : Levels). changed w cs) at.before)
@@ -302,18 +253,17 @@ module _ {Whole Source : Type 0} (gave : Whole → Source → List Row → Type 
   lost_is : (o : Option ℕ) → o ≡ lost_among bus.levels cs → lost_among (levels_at t bus.instant) cs ≡ o
   lost_is o e = ap (λ (w : Levels). lost_among w cs) (sym at.levels) ∙ sym e
 
-  pub judge-resets : is_reset bus.levels ≡ true → (new : OpenRows Source)
+  pub judge-resets : is_reset bus.levels ≡ true → {new : OpenRows Source}
       → CanClose gave is_over whole v (h.done ++ rows_to t (span_from t h.start) bus.instant ++ Reset bus.instant ∷ [])
       new
       → IsWaiting gave is_over whole v t (bus.instant + 1) outcome new
-  judge-resets reset new closed =
+  judge-resets reset closed =
       let here = reset-is t bus.levels bus.instant at.levels ∙ reset in
-      resets gave is_over whole v t bus.instant within outcome rows state h
-      (at-reset t h.start h.is bus.instant h.after h.upto within here) here new closed
+      resets within h (at-reset t h.start h.is bus.instant h.after h.upto within here) here closed
 
   pub judge-loses : (line : ℕ) → Some line ≡ lost_among bus.levels cs
       → IsEnded gave is_over whole v t (Unreadable U1 bus.instant line) rows
-  judge-loses line e = breaks-off gave is_over whole v t bus.instant within outcome rows state h _
+  judge-loses line e = breaks-off within h _
       (at-loss t h.start h.is cs bus.instant line h.after h.upto within few_slots made sound (lost_is (Some line) e))
 
   pub judge-breaks : (rule : Rule) (line : ℕ)
@@ -328,14 +278,26 @@ module _ {Whole Source : Type 0} (gave : Whole → Source → List Row → Type 
       (ap (λ (r : Rule). if is_unreadable r then Unreadable r b.instant b.line else Broken r b.instant b.line) same_rule
       ∙ (ap (λ i. if is_unreadable rule then Unreadable rule i b.line else Broken rule i b.line) same_instant
       ∙ ap (λ l. if is_unreadable rule then Unreadable rule bus.instant l else Broken rule bus.instant l) same_line))
-      (breaks-off gave is_over whole v t bus.instant within outcome rows state h b here)
+      (breaks-off within h b here)
 
   pub judge-within : is_reset bus.levels ≡ false → None ≡ lost_among bus.levels cs → bus.instant < span_end t h.start
   judge-within unreset e = at-rest t h.start h.is cs bus.instant h.after h.upto within few_slots made sound
       (reset-is t bus.levels bus.instant at.levels ∙ unreset) (lost_is None e)
 
+-- the state with what starts at the instant
+pub judge-state : {Whole Source : Type 0} {gave : Whole → Source → List Row → Type 0} {is_over : Source → Type 0}
+    {whole : Whole} {v : Version} {t : Trace} {bus : Bus} {outcome : ListedVerdict} {rows : OpenRows Source}
+    {state opened : State} → IsBusOf t bus → (h : IsJudging gave is_over whole v t bus.instant outcome rows state)
+    → bus.instant < span_end t h.start
+    → (is_judged (span_from t h.start) bus.instant ≡ true
+    → Holds t (span_from t h.start) (bus.instant + 1) bus.instant opened)
+    → IsStateOf t (span_from t h.start) bus opened
+judge-state {t = t} {bus = bus} at h before holds =
+    let judged = is_judged-holds (span_from t h.start) bus.instant h.after before in
+    record { at = at; is = h.is; judged = judged; holds = holds judged }
+
 -- the levels one instant later
-pub advanced : (t : Trace) (old new : Bus) (cs : List Change) → IsBusOf t old → new.instant ≡ old.instant + 1
+advanced : (t : Trace) (old new : Bus) (cs : List Change) → IsBusOf t old → new.instant ≡ old.instant + 1
     → new.before ≡ old.levels → new.levels ≡ changed old.levels cs
     → levels_at t (old.instant + 1) ≡ changed (levels_at t old.instant) cs → IsBusOf t new
 advanced t old new cs at instant before levels made =
@@ -344,3 +306,136 @@ advanced t old new cs at instant before levels made =
       before = before ∙ (at.levels ∙ ap (levels_at t) back);
       levels = levels ∙ (ap (λ (w : Levels). changed w cs) at.levels ∙ (sym made ∙ ap (levels_at t) (sym instant)));
     }
+
+-- what was so of the next instant is so there
+pub arrives : {Whole Source : Type 0} {gave : Whole → Source → List Row → Type 0} {is_over : Source → Type 0}
+    {whole : Whole} {v : Version} {t : Trace} {old : Checker Source} {stage : Stage} (new : Bus) (cs : List Change)
+    → Checks gave is_over whole v t old → new.instant ≡ old.bus.instant + 1 → new.before ≡ old.bus.levels
+    → new.levels ≡ changed old.bus.levels cs
+    → levels_at t (old.bus.instant + 1) ≡ changed (levels_at t old.bus.instant) cs → old.stage ≡ stage
+    → IsBusOf t new × IsStage gave is_over whole v t new.instant old.outcome old.rows stage
+arrives {gave = gave} {is_over = is_over} {whole = whole} {v = v} {t = t} {old = old} {stage = stage} new cs h instant
+    before levels made is = (
+      advanced t old.bus new cs h.at instant before levels made,
+      subst (λ n. IsStage gave is_over whole v t n old.outcome old.rows stage) (sym instant)
+          (subst (IsStage gave is_over whole v t (old.bus.instant + 1) old.outcome old.rows) is h.stage_is),
+    )
+
+-- ---- What the step before an instant does.
+
+module _ (t : Trace) (i : ℕ) (step : Step) (found : slice_get t.steps i ≡ Some step) where
+  -- its changes make the levels
+  pub levels-made : levels_at t (i + 1) ≡ changed (levels_at t i) step.changes
+  unfolding levels_at
+  levels-made = rw (add-one, found) refl
+
+  -- and are sound where no step is malformed
+  pub sound-step : malformed_step t ≡ None → are_changes (levels_at t i) 0 step.changes ≡ true
+  unfolding malformed_step is_step
+  sound-step well =
+      let fits = true_of_not (is_step t i) (any-fails (λ n. not (is_step t n)) 0 (length t.steps) i
+      (least-none-any _ _ _ well) (omega arith) (slice_get_within t.steps i step found)) in
+      (and_true _ _ (rw found at fits)).1
+
+-- the step that was read at a place
+pub step_at : (t : Trace) (steps : List Step) (i : ℕ) (step : Step) → steps ≡ t.steps → i < length steps
+    → step ≡ get_or steps i step → slice_get t.steps i ≡ Some step
+step_at t steps i step e below is = ap (λ (xs : List Step). slice_get xs i) (sym e) ∙ slice_get_read steps
+    (length steps) i step refl below is
+
+-- ---- A recording whose steps are taken one by one.
+
+pub goes_to : (recorded : Trace) (step : Step) (more : List Step)
+    → with_steps recorded (step ∷ more) ≡ with_steps (with_steps recorded (step ∷ [])) more
+goes_to recorded step more =
+    ap (λ (steps : List Step). record recorded { steps = steps }) (sym (append_assoc recorded.steps (step ∷ []) more))
+
+pub next-is : (recorded : Trace) (step : Step) (more : List Step)
+    → slice_get (recorded.steps ++ step ∷ more) (last_instant recorded) ≡ Some step
+next-is recorded step more =
+    slice_get_read (recorded.steps ++ step ∷ more) (length (recorded.steps ++ step ∷ more)) (length recorded.steps) step
+    refl (omega (arith, length-append recorded.steps (step ∷ more)))
+    (sym (get_or-append_seam recorded.steps step more step))
+
+-- the levels behind a step more
+pub levels-next : (recorded : Trace) (step : Step) (levels : Levels) (changes : List Change)
+    → levels ≡ last_levels recorded → changes ≡ step.changes
+    → changed levels changes ≡ last_levels (with_steps recorded (step ∷ []))
+levels-next recorded step levels changes behind same =
+    ap (λ (w : Levels). changed w changes) behind ∙ (ap (changed (last_levels recorded)) same
+    ∙ sym (levels_after-append recorded.opening recorded.steps (step ∷ [])))
+
+pub all-taken : (recorded : Trace) → with_steps recorded [] ≡ recorded
+all-taken recorded =
+    ap (λ (steps : List Step). record recorded { steps = steps }) (append-nil recorded.steps)
+
+-- a recording up to an instant
+abbrev pub recorded_to : Trace → ℕ → Trace
+recorded_to t n = record t { steps = take n t.steps }
+
+module _ (t : Trace) (n : ℕ) where
+  pub goes_on-to : (step : Step) → slice_get t.steps n ≡ Some step
+      → with_steps (recorded_to t n) (step ∷ []) ≡ recorded_to t (n + 1)
+  goes_on-to step found =
+      ap (λ (steps : List Step). record t { steps = steps }) (sym (taken_more t.steps n step found))
+
+  pub may-go_on : (step : Step) → IsCapture t → slice_get t.steps n ≡ Some step → MayGoOn (recorded_to t n) step
+  may-go_on step capture found =
+      let below = slice_get_within t.steps n step found in
+      record {
+        within = omega (arith, below, capture.limited, length-take-le n t.steps (omega arith));
+        sound = ap (λ (w : Levels). are_changes w 0 step.changes) (sym (levels_at-taken t n))
+            ∙ sound-step t n step found capture.well_formed;
+      }
+
+  pub whole-to : length t.steps ≤ n → recorded_to t n ≡ t
+  whole-to past = ap (λ (steps : List Step). record t { steps = steps }) (take_all n t.steps past)
+
+-- ---- Where the recording is whole.
+
+module _ {Whole Source : Type 0} (gave : Whole → Source → List Row → Type 0) (is_over : Source → Type 0) (whole : Whole)
+    (v : Version) (t : Trace) where
+  -- at the last instant
+  ended : (outcome : ListedVerdict) (rows : OpenRows Source) (stage : Stage)
+      → IsStage gave is_over whole v t (last_instant t + 1) outcome rows stage
+      → IsEnded gave is_over whole v t outcome rows
+  unfolding least_break
+  ended outcome rows Ended h = h
+  ended outcome rows Waiting h = record {
+    done = h.done;
+    all = ap (λ (spans : List Stretch). h.done ++ rows_from t outcome spans)
+        (sym (no_spans t (last_instant t + 1) (omega arith))) ∙ h.all;
+    rows_are = h.rows_are;
+  }
+  ended outcome rows (Judging state) h =
+      let span = span_from t h.start in
+      let ends : span.end ≡ last_instant t + 1 = omega (arith, h.upto, end-within t h.start) in
+      record {
+        done = h.done ++ rows_to t span (last_instant t + 1);
+        all =
+            append_assoc h.done (rows_to t span (last_instant t + 1)) (Verdict outcome ∷ [])
+            ∙ (ap (λ (rows : List Row). h.done ++ rows) (sym (whole_span h.start h.unbroken ends)) ∙ h.all);
+        rows_are = follows-close h.rows_are h.upto;
+      }
+    where
+      whole_span : (s : ℕ) → break_before t (span_from t s) all_rules (last_instant t + 1) ≡ None
+          → span_end t s ≡ last_instant t + 1
+          → rows_by t (span_from t s) (least_break t (span_from t s) all_rules) (rows_from t Conforming
+          (spans_after t (span_end t s + 1))) ≡ rows_to t (span_from t s) (last_instant t + 1) ++ Verdict outcome ∷ []
+      whole_span s none ends = rw (
+        none,
+        ends,
+        no_spans t (last_instant t + 1 + 1) (omega arith),
+        h.conforms,
+        lt_fails (last_instant t + 1) (last_instant t + 1) (omega arith),
+        second_fails (is_reset_at t (last_instant t + 1)) false refl,
+      ) refl
+
+pub ended-all : {Whole Source : Type 0} {gave : Whole → Source → List Row → Type 0} {is_over : Source → Type 0}
+    {whole : Whole} {v : Version} {t : Trace} {checker : Checker Source} → HasFollowed t checker
+    → HasCompared gave is_over whole v t checker → IsEnded gave is_over whole v t checker.outcome checker.rows
+ended-all {gave = gave} {is_over = is_over} {whole = whole} {v = v} {t = t} {checker = checker} taken compared =
+    let h = subst (λ (u : Trace). Checks gave is_over whole v u checker) (all-taken t) (compared []) in
+    ended gave is_over whole v t checker.outcome checker.rows checker.stage
+    (subst (λ n. IsStage gave is_over whole v t (n + 1) checker.outcome checker.rows checker.stage) taken.instant
+    h.stage_is)

@@ -4,18 +4,18 @@ use Rattle.std.proofs.Common.{length, take, refl, sym, ◌∙◌, ap, subst, ari
 use Rattle.std.specs.Prelude.{◌==◌, Option, None, Some, slice_get, MatchOption}
 use Rattle.std.proofs.lemmas.Bool.Decides.{nat_tests}
 use Rattle.std.proofs.lemmas.Option.{slice_get_past, slice_get_within}
-use Rattle.vme_listing.specs.declared.row.Row.{Row}
+use Rattle.std.proofs.lemmas.List.{append-nil}
+use Rattle.vme_cert.specs.Words.{Row}
 use Rattle.vme_cert.specs.Comparing.{Decides, Extends, IsBegun, IsCompared, IsDue, IsGiven, IsGivenNext, IsSame}
 use Rattle.vme_cert.specs.Comparing.{IsSettled, same_to, spares}
 use Rattle.vme_cert.specs.declared.comparison.Comparison.{Comparison}
 use Rattle.vme_cert.specs.declared.comparison.OpenRow.{OpenRow}
 use Rattle.vme_cert.specs.declared.compare.Answer.TheVariants.{Yes, No}
-use Rattle.vme_cert.proofs.Truth.{below_or_from, equal}
+use Rattle.vme_cert.specs.Agreement.{DecidesListing, DiffersAt}
+use Rattle.vme_cert.specs.declared.compare.Answer.{Answer}
+use Rattle.vme_cert.proofs.Ranges.{same_value, below_or_from, equal, decide}
 
 module _ {A : Type 0} where
-  same_value : (x y : A) → Some x ≡ Some y → x ≡ y
-  same_value x y h = cc
-
   none_some : (x : A) → None ≡ Some x → ⊥
   none_some x h = cc
 
@@ -52,12 +52,8 @@ module _ {A : Type 0} where
 
 spared : (still : ℕ → Bool) (row : OpenRow) (n : ℕ) → spares still (Some row) n ≡ false → (n ≡ row.place) ⊎ (still n
     ≡ false)
-spared still row n off = by_tests (still n) (n == row.place) refl refl
-  where
-    by_tests : (a b : Bool) → still n ≡ a → (n == row.place) ≡ b → (n ≡ row.place) ⊎ (still n ≡ false)
-    by_tests true true e f = inl (equal n row.place f)
-    by_tests true false e f = let h : (true && not false) ≡ false = rw (e, f) at off in absurd (cc)
-    by_tests false b e f = inr e
+spared still row n off = decide (n == row.place) (λ f. inl (equal n row.place f)) (λ f. decide (still n)
+    (λ e. let h : (true && not false) ≡ false = rw (e, f) at off in absurd (cc)) (λ e. inr e))
 
 module _ (given right : List Row) (taken : ℕ) (still : ℕ → Bool) (row : OpenRow) where
   -- of an open one it was seen that it isn't the same
@@ -109,38 +105,39 @@ compared-on given more right rights taken next still now (Some row) order extend
     }
 
 -- by fewer that are open
-pub compared-fewer : (given right : List Row) (taken : ℕ) (still now : ℕ → Bool) (wrong : Option ℕ)
-    → ((n : ℕ) → now n ≡ false → still n ≡ false) → IsCompared given right taken still wrong
+pub compared-fewer : {given right : List Row} {taken : ℕ} {still : ℕ → Bool} {wrong : Option ℕ} (now : ℕ → Bool)
+    → IsCompared given right taken still wrong → ((n : ℕ) → now n ≡ false → still n ≡ false)
     → IsCompared given right taken now wrong
-compared-fewer given right taken still now wrong kept h = record {
+compared-fewer now h kept = record {
   same = λ n below off. h.same n below (kept n off);
   differs = h.differs;
 }
 
 -- one is compared
-module _ {Source : Type 0} (o : Option OpenRow) (edge : Option ℕ) (old new : Comparison Source)
+module _ {Source : Type 0} {o : Option OpenRow} {edge : Option ℕ} {old new : Comparison Source}
     (s : IsSettled o edge old new) where
-  pub settled-compared : (given right : List Row) (still : ℕ → Bool)
+  pub settled-compared : {given right : List Row} {still : ℕ → Bool}
       → IsCompared given right old.taken still old.wrong → IsDue given right old.taken edge o
       → IsCompared given right new.taken (spares still o) new.wrong
-  settled-compared given right still h due = subst (λ n. IsCompared given right n (spares still o) new.wrong)
+  settled-compared {given} {right} {still} h due = subst (λ n. IsCompared given right n (spares still o) new.wrong)
       (sym s.taken) (s.wrong given right still h due)
 
-  pub settled-given : {Whole : Type 0} (gave : Whole → Source → List Row → Type 0) (is_over : Source → Type 0)
-      (whole : Whole) (given : List Row) → IsGiven gave is_over whole given old.source old.taken
+  pub settled-given : {Whole : Type 0} {gave : Whole → Source → List Row → Type 0} {is_over : Source → Type 0}
+      {whole : Whole} {given : List Row} → IsGiven gave is_over whole given old.source old.taken
       → IsGiven gave is_over whole given new.source new.taken
-  settled-given gave is_over whole given h =
+  settled-given {gave = gave} {is_over = is_over} {whole = whole} {given = given} h =
       subst (IsGiven gave is_over whole given new.source) (sym s.taken)
       (subst (λ (c : Source). IsGiven gave is_over whole given c old.taken) (sym s.source) h)
 
 -- one more is taken
-module _ {Whole Source : Type 0} (gave : Whole → Source → List Row → Type 0) (is_over : Source → Type 0) (right : Row)
-    (old new : Comparison Source) (row : OpenRow) (b : IsBegun gave is_over right old new row) (given more : List Row)
-    (extends : Extends given more old.taken) where
-  pub begun-compared : (rights all : List Row) (still now : ℕ → Bool) → Extends rights all old.taken
+module _ {Whole Source : Type 0} {gave : Whole → Source → List Row → Type 0} {is_over : Source → Type 0} {right : Row}
+    {old new : Comparison Source} {row : OpenRow} (b : IsBegun gave is_over right old new row) where
+  pub begun-compared : {given rights : List Row} {still : ℕ → Bool} (more all : List Row) (now : ℕ → Bool)
+      → IsCompared given rights old.taken still old.wrong → Extends given more old.taken
+      → Extends rights all old.taken
       → ((n : ℕ) → now n ≡ false → (still n ≡ false) × ((n == row.place) ≡ false))
-      → IsCompared given rights old.taken still old.wrong → IsCompared more all new.taken now new.wrong
-  begun-compared rights all still now others kept h =
+      → IsCompared more all new.taken now new.wrong
+  begun-compared {given} {rights} {still} more all now h extends others kept =
       subst (λ n. IsCompared more all n now new.wrong) (sym b.taken)
       (subst (λ (w : Option ℕ). IsCompared more all (old.taken + 1) now w) (sym b.wrong)
       (compared-on given more rights all old.taken (old.taken + 1) still now old.wrong (omega arith) extends others
@@ -149,15 +146,15 @@ module _ {Whole Source : Type 0} (gave : Whole → Source → List Row → Type 
       below_last : (n : ℕ) → row.place ≡ old.taken → n < old.taken + 1 → (n == row.place) ≡ false → n < old.taken
       below_last n e below other = grind (arith, nat_tests)
 
-module _ {Whole Source : Type 0} (gave : Whole → Source → List Row → Type 0) (is_over : Source → Type 0)
-    (whole : Whole) where
+module _ {Whole Source : Type 0} {gave : Whole → Source → List Row → Type 0} {is_over : Source → Type 0}
+    {whole : Whole} where
   -- one more was asked for
-  pub given-next : (given : List Row) (row : Option Row) (old new : Source) (taken : ℕ)
+  pub given-next : {given : List Row} {old : Source} {taken : ℕ} (row : Option Row) (new : Source)
       → IsGiven gave is_over whole given old taken
       → MatchOption row (gave whole new given) (λ row. gave whole new (given ++ row ∷ []))
       → (row ≡ None → is_over new) → (is_over old → row ≡ None)
       → IsGivenNext gave is_over whole given row new taken
-  given-next given None old new taken h asked over stays = record {
+  given-next {given} {old} {taken} None new h asked over stays = record {
     more = given;
     is_given = record { gave_is = asked; count = inr (over refl, omega (arith, most h.count)) };
     extends = λ n below. refl;
@@ -167,7 +164,7 @@ module _ {Whole Source : Type 0} (gave : Whole → Source → List Row → Type 
       most : (length given ≡ taken) ⊎ (is_over old × (length given ≤ taken)) → length given ≤ taken
       most (inl e) = omega arith
       most (inr short) = short.1
-  given-next given (Some row) old new taken h asked over stays =
+  given-next {given} {old} {taken} (Some row) new h asked over stays =
       let all : length given ≡ taken = whole_taken h.count in
       record {
         more = given ++ row ∷ [];
@@ -222,3 +219,25 @@ module _ {Source : Type 0} (is_over : Source → Type 0) (given right : List Row
       ]),
       over,
     )
+
+-- ---- The answer to all rows that are given, by those that were asked for.
+
+pub decides-all : {Source : Type 0} (is_over : Source → Type 0) (given more right : List Row) (source : Source)
+    (answer : Answer) → Decides is_over given right source answer → (is_over source → more ≡ [])
+    → DecidesListing (given ++ more) right answer
+decides-all is_over given more right source Yes (same, over) none =
+    ap (λ (rows : List Row). given ++ rows) (none over) ∙ (append-nil given ∙ same)
+decides-all is_over given more right source (No row) (differs, known) none = by_count known
+  where
+    by_count : (row ≤ length given) ⊎ is_over source → DiffersAt (given ++ more) right row
+    by_count (inr over) = subst (λ (rows : List Row). DiffersAt rows right row)
+        (sym (ap (λ (rows : List Row). given ++ rows) (none over) ∙ append-nil given)) differs
+    by_count (inl within) =
+        let first = differs.first in
+        record {
+          first = first;
+          before = take-same (row - 1) (given ++ more) given
+              (λ i below. slice_get-front given more i (omega (arith, below, within))) ∙ differs.before;
+          here = λ same. differs.here
+              (sym (slice_get-front given more (row - 1) (omega (arith, first, within))) ∙ same);
+        }

@@ -1,81 +1,133 @@
--- What the levels that are kept show of a recording.
-use Rattle.std.proofs.Common.{◌≡◌, ℕ, ◌-◌, not, refl, ap}
-use Rattle.vme_trace.specs.Edges.{answer_between, falls_between, rises_between, starts_between, strobe_falls_between}
-use Rattle.vme_trace.specs.Edges.{strobe_rises_between, strobes_high_in}
-use Rattle.vme_trace.specs.Levels.{is_high, is_known, is_low, level_at, same_level}
-use Rattle.vme_trace.specs.Signals.{falls, has_edge, high, known, low, rises}
-use Rattle.vme_trace.specs.Trace.{Trace}
-use Rattle.vme_trace.specs.Transfers.{answer_falls, strobe_falls, strobe_rises, strobes_high}
-use Rattle.vme_cert.specs.Instant.{IsBusOf, starts_transfer}
-use Rattle.vme_cert.specs.declared.bus.Bus.{Bus}
+-- The grant that a tenure takes, and the lines that are known within a stretch.
+use Rattle.std.proofs.Common.{◌≡◌, ℕ, ◌-◌, not, refl, ap, Bool, true, false, ◌||◌, ◌∙◌, ◌+◌, ◌<◌, ◌≤◌, sym, arith, inl}
+use Rattle.std.proofs.Common.{inr, ◌⊎◌, ◌&&◌}
+use Rattle.std.specs.Prelude.{None, is_some, Option, Some, option_map, unwrap_or, nat_lt}
+use Rattle.vme_trace.proofs.Ranges.{any-holds, fails-any, least-found, least-none-any, any-fails}
+use Rattle.vme_trace.proofs.JudgedSpans.{span_holds, span_runs}
+use Rattle.vme_cert.specs.Words.{AS, IsSpanOf, Stretch, Trace, any, every, falls, grant, greatest, has_edge}
+use Rattle.vme_cert.specs.Words.{has_reached, high, is_control, is_granting, is_judged, is_known_on, is_lost, is_reset}
+use Rattle.vme_cert.specs.Words.{is_reset_at, known, least, levels_at, line_count, loses_control, loses_control_at, low}
+use Rattle.vme_cert.specs.Words.{near, rises, taken_grant, tenure_level, tenure_slot}
+use Rattle.vme_cert.proofs.Ranges.{or_on, any-first, greatest-is, any-start, and_true, lt_of, decide}
 
-module _ (t : Trace) (bus : Bus) (at : IsBusOf t bus) where
-  module _ (l : ℕ) where
-    pub was_low-is : is_low (level_at bus.before l) ≡ low t l (bus.instant - 1)
-    unfolding low
-    was_low-is = ap (λ v. is_low (level_at v l)) at.before
+-- for what a line shows by the levels that are kept: to open this is to open each of these
+unfoldable pub shown : Trace → ℕ → ℕ → Bool
+unfolding falls has_edge high known low rises
+shown t l i = falls t l i
 
-    pub was_high-is : is_high (level_at bus.before l) ≡ high t l (bus.instant - 1)
-    unfolding high
-    was_high-is = ap (λ v. is_high (level_at v l)) at.before
+-- ---- The grant that a tenure takes.
 
-    pub low-is : is_low (level_at bus.levels l) ≡ low t l bus.instant
-    unfolding low
-    low-is = ap (λ v. is_low (level_at v l)) at.levels
+granting-is : (t : Trace) (i : ℕ) → any (λ n. low t (grant n 0) i) 0 4 ≡ is_granting t i
+unfolding is_granting
+granting-is t i = refl
 
-    pub high-is : is_high (level_at bus.levels l) ≡ high t l bus.instant
-    unfolding high
-    high-is = ap (λ v. is_high (level_at v l)) at.levels
+pub taken-now : (t : Trace) (j : ℕ) → is_granting t j ≡ true → taken_grant t j ≡ j
+unfolding taken_grant
+taken-now t j e = rw e refl
 
-    pub knows-is : is_known (level_at bus.levels l) ≡ known t l bus.instant
-    unfolding known
-    knows-is = ap (λ v. is_known (level_at v l)) at.levels
+pub taken-before : (t : Trace) (j : ℕ) → is_granting t j ≡ false → taken_grant t j ≡ j - 1
+unfolding taken_grant
+taken-before t j e = rw e refl
 
-    pub falls-is : falls_between bus.before bus.levels l ≡ falls t l bus.instant
-    unfolding falls low high
-    falls-is = rw (at.before, at.levels) refl
+-- a tenure has a level where one is granted
+pub granted-near : (t : Trace) (j : ℕ) → is_some (tenure_level t j) ≡ near (is_granting t) j
+unfolding tenure_level
+granted-near t j = any-first (λ n. low t (grant n 0) (taken_grant t j)) 0 4
+    ∙ (granting-is t (taken_grant t j) ∙ decide (is_granting t j)
+    (λ e. rw (taken-now t j e, e) (sym (or_on (is_granting t (j - 1)))))
+    (λ e. rw (taken-before t j e, e) (or_off (is_granting t (j - 1)))))
+  where
+    or_off : (a : Bool) → a ≡ (a || false)
+    or_off true = refl
+    or_off false = refl
 
-    pub rises-is : rises_between bus.before bus.levels l ≡ rises t l bus.instant
-    unfolding rises low high
-    rises-is = rw (at.before, at.levels) refl
+-- for the grant that a tenure takes
+pub ruleset grants = (taken-now, taken-before)
 
-    pub has_edge-is : not (same_level (level_at bus.before l) (level_at bus.levels l)) ≡ has_edge t l bus.instant
-    unfolding has_edge
-    has_edge-is = rw (at.before, at.levels) refl
+-- ---- Requests and nets of a grant chain that a backplane has, and how far a grant has come.
 
-  pub strobe_rises-is : strobe_rises_between bus.before bus.levels ≡ strobe_rises t bus.instant
-  unfolding rises low high
-  strobe_rises-is = rw (at.before, at.levels) refl
+back : (k : ℕ) → 0 < k → k - 1 + 1 ≡ k
+back k h = omega arith
 
-  pub strobe_falls-is : strobe_falls_between bus.before bus.levels ≡ strobe_falls t bus.instant
-  unfolding falls low high
-  strobe_falls-is = rw (at.before, at.levels) refl
+one_more : (k : ℕ) → 0 < k → 1 + (k - 1) ≡ k
+one_more k h = omega arith
 
-  pub strobes_high-is : strobes_high_in bus.levels ≡ strobes_high t bus.instant
-  unfolding high
-  strobes_high-is = rw at.levels refl
+above_zero : (k : ℕ) → (k ≡ 0) ⊎ (0 < k)
+above_zero k = grind arith
 
-  pub answer_falls-is : answer_between bus.before bus.levels ≡ answer_falls t bus.instant
-  unfolding falls low high
-  answer_falls-is = rw (at.before, at.levels) refl
+true_or_false : (a : Bool) → a ≡ true → not a ≡ true → ⊥
+true_or_false true h k = cc
+true_or_false false h k = cc
 
-  pub transfer_starts-is : starts_between bus.before bus.levels ≡ starts_transfer t bus.instant
-  unfolding low high
-  transfer_starts-is = rw (at.before, at.levels) refl
+-- a grant has come as far as the net before the first that isn't low
+pub reached : (p : ℕ → Bool) (n : ℕ) → 0 < n → p 0 ≡ true → option_map (λ k. 1 + k) (greatest (λ k. every p 0 (k + 1)) 0
+    n) ≡ Some (unwrap_or (least (λ k. not (p k)) 0 n) n)
+reached p n some low = by_least (least (λ k. not (p k)) 0 n) refl
+  where
+    as_far : (m : ℕ) → 0 < m → m ≤ n → any (λ k. not (p k)) 0 m ≡ false → any (λ k. every p 0 (k + 1)) (m - 1 + 1) n
+        ≡ false → greatest (λ k. every p 0 (k + 1)) 0 n ≡ Some (m - 1)
+    as_far m above within so_far rest = greatest-is (λ k. every p 0 (k + 1)) 0 n (m - 1) (omega arith) (omega arith)
+        (ap (λ k. not (any (λ i. not (p i)) 0 k)) (back m above) ∙ ap not so_far) rest
 
--- for what the lines show
-pub ruleset edges = (
-  was_low-is,
-  was_high-is,
-  low-is,
-  high-is,
-  knows-is,
-  falls-is,
-  rises-is,
-  has_edge-is,
-  strobe_rises-is,
-  strobe_falls-is,
-  strobes_high-is,
-  answer_falls-is,
-  transfer_starts-is,
-)
+    by_least : (o : Option ℕ) → least (λ k. not (p k)) 0 n ≡ o → option_map (λ k. 1 + k)
+        (greatest (λ k. every p 0 (k + 1)) 0 n) ≡ Some (unwrap_or (least (λ k. not (p k)) 0 n) n)
+    by_least None e =
+        let none = least-none-any (λ k. not (p k)) 0 n e in
+        rw (e, as_far n some (omega arith) none (any-start (λ k. every p 0 (k + 1)) (n - 1 + 1) n (omega arith)))
+        (ap (λ k. Some k) (one_more n some))
+    by_least (Some m) e =
+        let found = least-found (λ k. not (p k)) 0 n m e in
+        elim (above_zero m) [
+          | inl first ↦ absurd (true_or_false (p 0) low (ap (λ k. not (p k)) (sym first) ∙ found.holds))
+          | inr above ↦
+              rw (
+                e,
+                as_far m above (omega (arith, found.below)) found.least
+                    (fails-any (λ k. every p 0 (k + 1)) (m - 1 + 1) n
+                    (λ k a b. ap not (any-holds (λ i. not (p i)) 0 (k + 1) m (omega arith) (omega (arith, above))
+                    found.holds))),
+              )
+              (ap (λ k. Some k) (one_more m above))
+        ]
+
+module _ (t : Trace) (j level : ℕ) (is : tenure_level t j ≡ Some level) where
+  abbrev pub passes : ℕ → Bool
+  passes k = low t (grant level k) (taken_grant t j)
+
+  granted-first : passes 0 ≡ true
+  unfolding tenure_level
+  granted-first = (least-found (λ n. low t (grant n 0) (taken_grant t j)) 0 4 level is).holds
+
+  -- the slot that takes the grant drives the first net that isn't low
+  pub slot-reached : (past : ℕ) (first : Option ℕ) → past ≡ t.opening.slots + 1 → first ≡ least (λ k. not (passes k)) 0
+      past → Some (unwrap_or first past) ≡ tenure_slot t j
+  unfolding tenure_slot has_reached
+  slot-reached past first e f =
+      rw (is, sym e, reached passes past (omega arith) granted-first, f) refl
+
+-- ---- Within a stretch every control line is known.
+
+module _ (t : Trace) (span : Stretch) (is : IsSpanOf t span) (j : ℕ) (judged : is_judged span j ≡ true) where
+  after : span.start < j
+  after = lt_of span.start j (and_true (nat_lt span.start j) (nat_lt j span.end) judged).0
+
+  before : j < span.end
+  before = lt_of j span.end (and_true (nat_lt span.start j) (nat_lt j span.end) judged).1
+
+  none_lost : (l : ℕ) → l < line_count → is_lost (levels_at t j) l ≡ false
+  unfolding loses_control_at loses_control
+  none_lost l below = any-fails (is_lost (levels_at t j)) 0 line_count l
+      (span_holds t span j is (omega (arith, after)) before) (omega arith) below
+
+  unreset : is_reset (levels_at t j) ≡ false
+  unfolding is_reset_at
+  unreset = span_runs t span j is (omega (arith, after)) before
+
+  pub control-known : (l : ℕ) → l < line_count → is_control (levels_at t j).slots l ≡ true → known t l j ≡ true
+  unfolding known
+  control-known l below control = decide (is_known_on (levels_at t j) l) (λ e. e)
+      (λ e. let lost : (true && not false && not false) ≡ false = rw (control, e, unreset) at (none_lost l below) in
+      absurd (cc))
+
+  pub address-known : known t AS j ≡ true
+  address-known = control-known AS (omega arith) refl

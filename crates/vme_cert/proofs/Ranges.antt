@@ -1,14 +1,258 @@
--- A range that is longer by one.
-use Rattle.std.proofs.Common.{◌≡◌, ℕ, ◌+◌, ◌≤◌, Bool, true, false, ◌&&◌, not, refl, ◌∙◌, ap, arith, add-one}
-use Rattle.std.specs.Prelude.{Some, nat_le, nat_lt}
-use Rattle.vme_trace.specs.Instants.{any, none, greatest}
-use Rattle.vme_trace.proofs.Ranges.{any-step}
-use Rattle.vme_trace.specs.Judged.{Stretch, is_judged}
-use Rattle.vme_cert.proofs.Truth.{and_true, de_morgan, le_holds, lt_of, second_fails}
+-- What tests say, and searches over a range of numbers.
+use Rattle.std.proofs.Common.{◌≡◌, ℕ, ◌+◌, ◌<◌, ◌≤◌, Bool, true, false, ◌&&◌, ◌||◌, not, refl, arith, ◌⊎◌, zero, suc}
+use Rattle.std.proofs.Common.{[], ◌∷◌, get_or, sym, ◌∙◌, ap, inl, inr, cond, add-one}
+use Rattle.std.specs.Prelude.{◌==◌, nat_le, nat_lt, Option, None, Some, is_some}
+use Rattle.std.proofs.lemmas.Bool.Decides.{nat_tests}
+use Rattle.vme_trace.proofs.Ranges.{any-fails, fails-any, clash, searches, any-holds, any-step, least-found}
+use Rattle.vme_trace.proofs.Ranges.{least-none-any, those-none}
+use Rattle.vme_cert.specs.Words.{Stretch, any, greatest, is_judged, least, none, those}
+
+-- ---- What tests on numbers say, and two tests together.
+
+pub le_of : (i j : ℕ) → nat_le i j ≡ true → i ≤ j
+le_of i j h = grind (arith, nat_tests)
+
+pub le_holds : (i j : ℕ) → i ≤ j → nat_le i j ≡ true
+le_holds i j h = grind (arith, nat_tests)
+
+pub lt_of : (i j : ℕ) → nat_lt i j ≡ true → i < j
+lt_of i j h = grind (arith, nat_tests)
+
+pub lt_holds : (i j : ℕ) → i < j → nat_lt i j ≡ true
+lt_holds i j h = grind (arith, nat_tests)
+
+pub lt_not : (i j : ℕ) → nat_lt i j ≡ false → j ≤ i
+lt_not i j h = grind (arith, nat_tests)
+
+pub lt_fails : (i j : ℕ) → j ≤ i → nat_lt i j ≡ false
+lt_fails i j h = grind (arith, nat_tests)
+
+pub equal : (i j : ℕ) → (i == j) ≡ true → i ≡ j
+equal i j h = grind (arith, nat_tests)
+
+pub eq_fails : (i j : ℕ) → i < j → (i == j) ≡ false
+eq_fails i j h = grind (arith, nat_tests)
+
+pub eq_past : (i j : ℕ) → j < i → (i == j) ≡ false
+eq_past i j h = grind (arith, nat_tests)
+
+pub decide : {P : Type 0} (b : Bool) → (b ≡ true → P) → (b ≡ false → P) → P
+decide true holds fails = holds refl
+decide false holds fails = fails refl
+
+pub case_of : {A P : Type 0} (o : Option A) → (o ≡ None → P) → ((x : A) → o ≡ Some x → P) → P
+case_of None none some = none refl
+case_of (Some x) none some = some x refl
+
+pub below_or_from : (k m : ℕ) → (k < m) ⊎ (m ≤ k)
+below_or_from k m = grind arith
+
+pub order_of : (i k : ℕ) → (i < k) ⊎ ((i ≡ k) ⊎ (k < i))
+order_of i k = grind arith
+
+pub last_or_before : (i j : ℕ) → i < j + 1 → (i ≡ j) ⊎ (i < j)
+last_or_before i j h = grind arith
+
+pub de_morgan : (a b : Bool) → not (a || b) ≡ (not a && not b)
+de_morgan true b = refl
+de_morgan false b = refl
+
+pub true_of_not : (b : Bool) → not b ≡ false → b ≡ true
+true_of_not true h = refl
+true_of_not false h = absurd (cc)
+
+pub false_of_not : (b : Bool) → not b ≡ true → b ≡ false
+false_of_not true h = absurd (cc)
+false_of_not false h = refl
+
+pub and_true : (a b : Bool) → (a && b) ≡ true → (a ≡ true) × (b ≡ true)
+and_true true b h = (refl, h)
+and_true false b h = absurd (cc)
+
+pub within_of : (f i n : ℕ) → (nat_le f i && nat_le i n) ≡ true → (f ≤ i) × (i < n + 1)
+within_of f i n h = let both = and_true (nat_le f i) (nat_le i n) h in
+    let last = le_of i n both.1 in (le_of f i both.0, omega arith)
+
+pub both : (a b : Bool) → a ≡ true → b ≡ true → (a && b) ≡ true
+both a b h k = rw (h, k) refl
+
+pub and_on : (a : Bool) → (a && true) ≡ a
+and_on true = refl
+and_on false = refl
+
+pub and_off : (a : Bool) → (a && false) ≡ false
+and_off true = refl
+and_off false = refl
+
+pub or_on : (a : Bool) → (a || true) ≡ true
+or_on true = refl
+or_on false = refl
+
+pub first_fails : (a b : Bool) → a ≡ false → (a && b) ≡ false
+first_fails a b h = rw h refl
+
+pub second_fails : (a b : Bool) → b ≡ false → (a && b) ≡ false
+second_fails true b h = h
+second_fails false b h = refl
+
+pub unless : (a b : Bool) → (a ≡ true → (a && b) ≡ false) → (a && b) ≡ false
+unless true b h = h refl
+unless false b h = refl
+
+pub or_false : (a b : Bool) → (a || b) ≡ false → (a ≡ false) × (b ≡ false)
+or_false true b h = absurd (cc)
+or_false false b h = (refl, h)
+
+-- ---- What is asked of the four levels.
+
+pub each-of : (q : ℕ → Bool) (a b c d : Bool) → a ≡ q 0 → b ≡ q 1 → c ≡ q 2 → d ≡ q 3 → (n : ℕ) → n < 4
+    → get_or (a ∷ b ∷ c ∷ d ∷ []) n false ≡ q n
+each-of q a b c d e f g h zero below = e
+each-of q a b c d e f g h (suc zero) below = f
+each-of q a b c d e f g h (suc (suc zero)) below = g
+each-of q a b c d e f g h (suc (suc (suc zero))) below = h
+each-of q a b c d e f g h (suc (suc (suc (suc n)))) below = absurd (omega arith)
+
+-- ---- What the greatest of a range is.
+
+-- none holds in a shorter range either
+pub none-shorter : (p : ℕ → Bool) (f m n : ℕ) → m ≤ n → any p f n ≡ false → any p f m ≡ false
+none-shorter p f m n h none = fails-any p f m (λ i a b. any-fails p f n i none a (omega arith))
+
+chosen : (b : Bool) (x y z : Option ℕ) → cond b x y ≡ z → ((b ≡ true) × (x ≡ z)) ⊎ ((b ≡ false) × (y ≡ z))
+chosen true x y z h = inl (refl, h)
+chosen false x y z h = inr (refl, h)
+
+pub same_value : {A : Type 0} (x y : A) → Some x ≡ Some y → x ≡ y
+same_value x y h = cc
+
+-- where there is no greatest, none holds
+pub greatest-none-any : (p : ℕ → Bool) (f n : ℕ) → greatest p f n ≡ None → any p f n ≡ false
+unfolding greatest any
+greatest-none-any p f zero e = refl
+greatest-none-any p f (suc n) e =
+    elim (chosen (nat_le f n && p n) (Some n) (greatest p f n) None e) [
+      | inl here ↦ absurd (some_is_none n here.1)
+      | inr none ↦ rw (greatest-none-any p f n none.1, none.0) refl
+    ]
+  where
+    some_is_none : (n : ℕ) → Some n ≡ None → ⊥
+    some_is_none n h = cc
+
+-- what it is to be the greatest
+pub record IsGreatest (p : ℕ → Bool) (f n i : ℕ) : Type 0 where
+  pub from : f ≤ i
+  pub before : i < n
+  pub holds : p i ≡ true
+  pub last : any p (i + 1) n ≡ false
+
+-- the greatest that was found is the greatest
+pub greatest-found : (p : ℕ → Bool) (f n i : ℕ) → greatest p f n ≡ Some i → IsGreatest p f n i
+unfolding greatest any
+greatest-found p f zero i e = absurd (cc)
+greatest-found p f (suc n) i e =
+    elim (chosen (nat_le f n && p n) (Some n) (greatest p f n) (Some i) e) [
+      | inl here ↦
+          let same : n ≡ i = same_value n i here.1 in
+          let both = and_true (nat_le f n) (p n) here.0 in
+          let from : f ≤ n = le_of f n both.0 in
+          record {
+            from = omega arith;
+            before = omega arith;
+            holds = ap p (sym same) ∙ both.1;
+            last = fails-any p
+                (i + 1) (suc n) (λ k a b. absurd (omega arith));
+          }
+      | inr earlier ↦
+          let found = greatest-found p f n i earlier.1 in
+          let not_here : p n ≡ false = rw (le_holds f n (omega (arith, found.from, found.before))) at earlier.0 in
+          record {
+            from = found.from;
+            before = omega (arith, found.before);
+            holds = found.holds;
+            last = fails-any p (i + 1) (suc n) (λ k a b. elim (last_or_before k n (omega arith)) [
+              | inl is ↦ ap p is ∙ not_here
+              | inr less ↦ any-fails p (i + 1) n k found.last a less
+            ]);
+          }
+    ]
+
+-- the greatest is found where none after it holds
+pub greatest-is : (p : ℕ → Bool) (f n i : ℕ) → f ≤ i → i < n → p i ≡ true → any p (i + 1) n ≡ false → greatest p f n
+    ≡ Some i
+greatest-is p f n i from before holds last = case_of (greatest p f n)
+    (λ e. absurd (clash (p i) holds (any-fails p f n i (greatest-none-any p f n e) from before)))
+    (λ k e. let found = greatest-found p f n k e in e ∙ elim (order_of k i) [
+      | inl less ↦ absurd (clash (p i) holds (any-fails p (k + 1) n i found.last (omega arith) before))
+      | inr (inl is) ↦ ap (λ m. Some m) is
+      | inr (inr more) ↦ absurd (clash (p k) found.holds (any-fails p (i + 1) n k last (omega arith) found.before))
+    ])
+
+-- of those that start only the last decides, where no earlier one holds and none does that doesn't start
+pub only-last : (s p : ℕ → Bool) (f j i : ℕ) → IsGreatest s f (j + 1) i → ((k : ℕ) → s k ≡ false → p k ≡ false)
+    → ((k : ℕ) → k < i → s k ≡ true → p k ≡ false) → any p f j ≡ (nat_lt i j && p i)
+only-last s p f j i found off earlier = by_order (last_or_before i j found.before)
+  where
+    sooner : (k : ℕ) → k < i → p k ≡ false
+    sooner k before = decide (s k) (earlier k before) (off k)
+
+    past : (k : ℕ) → i < k → k < j → p k ≡ false
+    past k after before = off k (any-fails s (i + 1) (j + 1) k found.last (omega arith) (omega arith))
+
+    by_value : i < j → any p f j ≡ p i
+    by_value before = decide (p i) (λ e. any-holds p f j i found.from before e ∙ sym e)
+        (λ e. fails-any p f j (λ k a b. elim (order_of k i) [
+          | inl less ↦ sooner k less
+          | inr (inl same) ↦ ap p same ∙ e
+          | inr (inr more) ↦ past k more b
+        ]) ∙ sym e)
+
+    by_order : (i ≡ j) ⊎ (i < j) → any p f j ≡ (nat_lt i j && p i)
+    by_order (inl e) = rw (lt_fails i j (omega arith)) (fails-any p f j
+        (λ k a b. sooner k (omega (arith, b))))
+    by_order (inr before) = rw (lt_holds i j before) (by_value before)
+
+-- ---- One instant more, or less, of a search.
+
+pub any-start : (p : ℕ → Bool) (f n : ℕ) → n ≤ f → any p f n ≡ false
+any-start p f n h = fails-any p f n (λ i a b. absurd (omega arith))
+
+or_neither : (a b c : Bool) → a ≡ false → c ≡ false → (a || (b && c)) ≡ false
+or_neither a b c h k = grind (arith, nat_tests)
+
+pub any-more : (p : ℕ → Bool) (f n : ℕ) → any p f n ≡ false → p n ≡ false → any p f (n + 1) ≡ false
+any-more p f n none fails = any-step p f n ∙ or_neither (any p f n) (nat_le f n) (p n) none fails
+
+pub any-end : (p : ℕ → Bool) (f m n : ℕ) → n ≤ m → any p f m ≡ false → any p f n ≡ false
+any-end p f m n h none = fails-any p f n (λ i a b. any-fails p f m i none a (omega arith))
+
+chosen_below : (f n : ℕ) (b : Bool) (o : Option ℕ) → n < f → cond (nat_le f n && b) (Some n) o ≡ o
+chosen_below f n b o k = grind (arith, nat_tests)
+
+pub greatest-none : (p : ℕ → Bool) (f n : ℕ) → n ≤ f → greatest p f n ≡ None
+unfolding greatest
+greatest-none p f zero h = refl
+greatest-none p f (suc n) h = chosen_below f n (p n) (greatest p f n) (omega arith) ∙ greatest-none p f n (omega arith)
+
+pub those-empty : (p : ℕ → Bool) (f n : ℕ) → n ≤ f → those p f n ≡ []
+those-empty p f n h = those-none p f n (any-start p f n h)
+
+-- one of a range holds where there is a least
+pub any-first : (p : ℕ → Bool) (f n : ℕ) → is_some (least p f n) ≡ any p f n
+any-first p f n = case_of (least p f n) (λ e. rw e (sym (least-none-any p f n e)))
+    (λ i e. let found = least-found p f n i e in rw e (sym (any-holds p f n i found.first found.below found.holds)))
+
+-- for the goals of a loop that searches a range from its first number on
+pub ruleset steps = (searches, any-start, any-more, any-end)
+
+-- ---- A range that is longer by one.
 
 pub after_start : (span : Stretch) (j : ℕ) → is_judged span j ≡ true → span.start + 1 ≤ j
 after_start span j judged = let after =
     lt_of span.start j (and_true (nat_lt span.start j) (nat_lt j span.end) judged).0 in omega arith
+
+pub unjudged : (span : Stretch) (i : ℕ) → i ≤ span.start → is_judged span i ≡ false
+unjudged span i h = grind (arith, nat_tests)
 
 pub greatest-here : (p : ℕ → Bool) (f n : ℕ) → f ≤ n → p n ≡ true → greatest p f (n + 1) ≡ Some n
 unfolding greatest

@@ -1,22 +1,11 @@
 -- The rows of a recording, stretch by stretch, and how far they are followed behind an instant.
 use Rattle.std.specs.Prelude.{◌≡◌, ℕ, ◌+◌, ◌*◌, ◌<◌, ◌≤◌, ◌&&◌, true, List, [], ◌∷◌, ◌++◌, Option, None, Some, nat_lt}
 use Rattle.std.specs.Prelude.{if◌then◌else◌}
-use Rattle.vme_trace.specs.Judged.{IsSpanOf, Stretch, is_reset_at, span_end, span_from}
-use Rattle.vme_trace.specs.Rules.{all_rules}
-use Rattle.vme_trace.specs.Followed.{with_steps}
-use Rattle.vme_trace.specs.Levels.{Levels}
-use Rattle.vme_trace.specs.Trace.{Trace, last_instant, levels_after}
-use Rattle.vme_trace.specs.WellFormed.{are_changes, capture_limit}
-use Rattle.vme_trace.specs.declared.step.Step.{Step}
-use Rattle.vme_trace.specs.Verdict.{break_before, least_break}
-use Rattle.vme_trace.specs.declared.verdict.Break.{Break}
+use Rattle.vme_cert.specs.Words.{Break, Conforming, IsSpanOf, Levels, ListedVerdict, Reset, Row, Step, Stretch, Trace}
+use Rattle.vme_cert.specs.Words.{Verdict, Version, all_rules, are_changes, break_before, capture_limit, is_reset_at}
+use Rattle.vme_cert.specs.Words.{last_instant, least_break, levels_after, outcome_of, recorded_rows, span_end}
+use Rattle.vme_cert.specs.Words.{span_from, with_steps}
 use Rattle.vme_trace.proofs.JudgedSpans.{Awaits, spans_after}
-use Rattle.vme_listing.specs.Recorded.{outcome_of, recorded_rows}
-use Rattle.vme_listing.specs.declared.row.ListedVerdict.{ListedVerdict}
-use Rattle.vme_listing.specs.declared.row.ListedVerdict.TheVariants.{Conforming}
-use Rattle.vme_listing.specs.declared.row.Row.{Row}
-use Rattle.vme_listing.specs.declared.row.Row.TheVariants.{Reset, Verdict}
-use Rattle.vme_listing.specs.declared.row.Version.{Version}
 use Rattle.vme_cert.specs.Following.{CanClose, Follows, rows_to}
 use Rattle.vme_cert.specs.Instant.{IsBusOf}
 use Rattle.vme_cert.specs.State.{Holds}

@@ -1,8 +1,7 @@
 -- Which of the right rows were compared with the given ones, and the least that differs.
-use Rattle.std.specs.Prelude.{◌≡◌, ℕ, ◌+◌, ◌-◌, ◌<◌, ◌≤◌, ◌==◌, ◌&&◌, ◌⊎◌, not, Bool, false, List, length, slice_get}
-use Rattle.std.specs.Prelude.{Option, None, Some}
-use Rattle.vme_listing.specs.Recorded.{row_in}
-use Rattle.vme_listing.specs.declared.row.Row.{Row}
+use Rattle.std.specs.Prelude.{ℕ, Option, ◌≡◌, ◌+◌, ◌-◌, ◌<◌, ◌≤◌, ◌==◌, ◌&&◌, ◌⊎◌, not, Bool, false, List, length}
+use Rattle.std.specs.Prelude.{slice_get, None, Some}
+use Rattle.vme_cert.specs.Words.{Row, row_in}
 use Rattle.vme_cert.specs.Agreement.{DiffersAt}
 use Rattle.vme_cert.specs.Ended.{ended}
 use Rattle.vme_cert.specs.declared.compare.Answer.{Answer}

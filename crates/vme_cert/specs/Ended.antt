@@ -1,8 +1,6 @@
 -- A row but for its last edge.
 use Rattle.std.specs.Prelude.{ℕ, Option}
-use Rattle.vme_listing.specs.declared.row.Row.{Row}
-use Rattle.vme_listing.specs.declared.row.Row.TheVariants.{AddressedCycle, FreeCycle, InterruptCycle, OpenTenure}
-use Rattle.vme_listing.specs.declared.row.Row.TheVariants.{Tenure, Transfer}
+use Rattle.vme_cert.specs.Words.{AddressedCycle, FreeCycle, InterruptCycle, OpenTenure, Row, Tenure, Transfer}
 
 -- a row with its end or its close
 abbrev pub ended : Row → Option ℕ → Row

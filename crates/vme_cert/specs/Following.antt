@@ -1,20 +1,14 @@
 -- The rows of a stretch that have started, and those of them whose edge is to come.
 use Rattle.std.specs.Prelude.{◌≡◌, ℕ, ◌+◌, ◌-◌, ◌<◌, ◌≤◌, ◌||◌, Bool, true, false, List, ◌∷◌, ◌++◌, length, slice_get}
 use Rattle.std.specs.Prelude.{Option, None, Some}
-use Rattle.vme_trace.specs.Instants.{any, greatest, least}
-use Rattle.vme_trace.specs.Judged.{IsSpanOf, Stretch, is_judged}
-use Rattle.vme_trace.specs.LineNumbers.{AS, BBSY}
-use Rattle.vme_trace.specs.Signals.{low, rises}
-use Rattle.vme_trace.specs.Trace.{Trace}
-use Rattle.vme_trace.specs.Transfers.{answers, strobes_high, transfer_starts}
-use Rattle.vme_listing.specs.Recorded.{cycle_rows, row_in, rows_before, rows_in, tenure_rows, transfer_row}
-use Rattle.vme_listing.specs.declared.row.Row.{Row}
-use Rattle.vme_listing.specs.declared.row.Row.TheVariants.{Start}
-use Rattle.vme_listing.specs.declared.row.Version.{Version}
+use Rattle.vme_cert.specs.Words.{AS, BBSY, IsSpanOf, Row, Start, Stretch, Trace, Version, answers, any, cycle_rows}
+use Rattle.vme_cert.specs.Words.{greatest, is_judged, least, low, rises, row_in, rows_before, rows_in, strobes_high}
+use Rattle.vme_cert.specs.Words.{tenure_rows, transfer_row, transfer_starts}
 use Rattle.vme_cert.specs.Comparing.{IsCompared, IsDue, IsGiven, is_at}
 use Rattle.vme_cert.specs.Ended.{ended}
 use Rattle.vme_cert.specs.Instant.{IsBusOf}
 use Rattle.vme_cert.specs.declared.bus.Bus.{Bus}
+use Rattle.vme_cert.specs.declared.comparison.Comparison.{Comparison}
 use Rattle.vme_cert.specs.declared.comparison.OpenRow.{OpenRow}
 use Rattle.vme_cert.specs.declared.open_rows.OpenRows.{OpenRows}
 
@@ -42,6 +36,16 @@ pub record IsTaken (given : List Row) (taken : ℕ) (row : OpenRow) : Type 0 whe
   pub below : row.place < taken
   pub given_is : row.given ≡ slice_get given row.place
 
+abbrev pub IsTakenAt : List Row → ℕ → Option OpenRow → Type 0
+IsTakenAt given taken None = Unit {0}
+IsTakenAt given taken (Some row) = IsTaken given taken row
+
+-- each open one was
+pub record AreAtPlaces {Source : Type 0} (given : List Row) (taken : ℕ) (rows : OpenRows Source) : Type 0 where
+  pub tenure : IsTakenAt given taken rows.tenure
+  pub cycle : IsTakenAt given taken rows.cycle
+  pub transfer : IsTakenAt given taken rows.transfer
+
 -- the rows that are given in a version, where the right ones of earlier stretches are done, and those of a stretch
 -- follow
 module _ (version : Version) (done : List Row) (t : Trace) (span : Stretch) where
@@ -63,35 +67,32 @@ module _ (version : Version) (done : List Row) (t : Trace) (span : Stretch) wher
   abbrev pub IsRight : ℕ → ℕ → (ℕ → Row) → Type 0
   IsRight first place row = (end : ℕ) → first ≤ end → end ≤ span.end → slice_get (right_to end) place ≡ Some (row end)
 
-  module _ (given : List Row) (first taken : ℕ) where
-    -- a row that ends where a line rises, which it doesn't before an instant
-    pub record IsOpen (l j : ℕ) (row : OpenRow) : Type 0 where
-      pub start : ℕ
-      pub before : start < j
-      pub still : any (rises t l) (start + 1) j ≡ false
-      pub is_low : low t l (j - 1) ≡ true
-      pub is_taken : IsTaken given taken row
-      pub right : IsRight first row.place (λ end. ended row.right (least (rises t l) (start + 1) end))
+  -- a row that ends where a line rises, which it doesn't before an instant
+  pub record IsOpen (l j : ℕ) (row : OpenRow) : Type 0 where
+    pub start : ℕ
+    pub before : start < j
+    pub still : any (rises t l) (start + 1) j ≡ false
+    pub is_low : low t l (j - 1) ≡ true
+    pub right : IsRight (start + 1) row.place (λ end. ended row.right (least (rises t l) (start + 1) end))
 
-    abbrev pub IsOpenAt : ℕ → ℕ → Option OpenRow → Type 0
-    IsOpenAt l j None = Unit {0}
-    IsOpenAt l j (Some row) = IsOpen l j row
+  abbrev pub IsOpenAt : ℕ → ℕ → Option OpenRow → Type 0
+  IsOpenAt l j None = Unit {0}
+  IsOpenAt l j (Some row) = IsOpen l j row
 
-    -- the row of the last transfer to start before one instant, with its answer before a second, which isn't closed
-    -- before a third
-    pub record IsTransferRow (opened answered closed : ℕ) (row : OpenRow) : Type 0 where
-      pub start : ℕ
-      pub last : greatest (transfer_starts t span) (span.start + 1) opened ≡ Some start
-      pub still : any (strobes_high t) (start + 1) closed ≡ false
-      pub is_taken : IsTaken given taken row
-      pub right : IsRight first row.place
-          (λ end. row_in version (transfer_row t span end start (least (answers t span start) start end)))
-      pub known : (end : ℕ) (edge : Option ℕ) → ended row.right edge
-          ≡ ended (row_in version (transfer_row t span end start (least (answers t span start) start answered))) edge
+  -- the row of the last transfer to start before one instant, with its answer before a second, which isn't closed
+  -- before a third
+  pub record IsTransferRow (opened answered closed : ℕ) (row : OpenRow) : Type 0 where
+    pub start : ℕ
+    pub last : greatest (transfer_starts t span) (span.start + 1) opened ≡ Some start
+    pub still : any (strobes_high t) (start + 1) closed ≡ false
+    pub right : IsRight (start + 1) row.place
+        (λ end. row_in version (transfer_row t span end start (least (answers t span start) start end)))
+    pub known : (end : ℕ) (edge : Option ℕ) → ended row.right edge
+        ≡ ended (row_in version (transfer_row t span end start (least (answers t span start) start answered))) edge
 
-    abbrev pub IsTransferAt : ℕ → ℕ → ℕ → Option OpenRow → Type 0
-    IsTransferAt opened answered closed None = Unit {0}
-    IsTransferAt opened answered closed (Some row) = IsTransferRow opened answered closed row
+  abbrev pub IsTransferAt : ℕ → ℕ → ℕ → Option OpenRow → Type 0
+  IsTransferAt opened answered closed None = Unit {0}
+  IsTransferAt opened answered closed (Some row) = IsTransferRow opened answered closed row
 
 module _ {Whole Source : Type 0} (gave : Whole → Source → List Row → Type 0) (is_over : Source → Type 0) (whole : Whole)
     (version : Version) where
@@ -107,23 +108,23 @@ module _ {Whole Source : Type 0} (gave : Whole → Source → List Row → Type 
     pub transfer : IsDue given (rows_in version rights) rows.compared.taken None rows.transfer
 
   module _ (done : List Row) (t : Trace) (span : Stretch) where
-    -- all but the open ones were compared, whatever the end is from a first one on
-    pub record AreTaken (given : List Row) (first : ℕ) (rows : OpenRows Source) : Type 0 where
-      pub version_is : rows.compared.version ≡ version
-      pub is_given : IsGiven gave is_over whole given rows.compared.source rows.compared.taken
-      pub compared : (end : ℕ) → first ≤ end → end ≤ span.end → IsCompared given (right_to version done t span end)
-          rows.compared.taken (is_open rows) rows.compared.wrong
+    -- all but some were compared, whatever the end is from a first one on
+    pub record AreTaken (given : List Row) (first : ℕ) (taken : Comparison Source) (still : ℕ → Bool) : Type 0 where
+      pub version_is : taken.version ≡ version
+      pub is_given : IsGiven gave is_over whole given taken.source taken.taken
+      pub compared : (end : ℕ) → first ≤ end → end ≤ span.end
+          → IsCompared given (right_to version done t span end) taken.taken still taken.wrong
 
     -- so many were taken, and these are open: by instants before which a tenure and a cycle haven't ended, and a
     -- transfer has started, is answered, and hasn't closed
     pub record AreOpen (first taken tenures cycles opened answered closed : ℕ) (rows : OpenRows Source) : Type 0 where
       pub taken_is : rows.compared.taken ≡ taken
       pub given : List Row
-      pub are_taken : AreTaken given first rows
-      pub tenure : IsOpenAt version done t span given first rows.compared.taken BBSY tenures rows.tenure
-      pub cycle : IsOpenAt version done t span given first rows.compared.taken AS cycles rows.cycle
-      pub transfer :
-          IsTransferAt version done t span given first rows.compared.taken opened answered closed rows.transfer
+      pub are_taken : AreTaken given first rows.compared (is_open rows)
+      pub placed : AreAtPlaces given rows.compared.taken rows
+      pub tenure : IsOpenAt version done t span BBSY tenures rows.tenure
+      pub cycle : IsOpenAt version done t span AS cycles rows.cycle
+      pub transfer : IsTransferAt version done t span opened answered closed rows.transfer
 
     -- the rows that start before an instant
     abbrev pub Follows : ℕ → OpenRows Source → Type 0
@@ -143,3 +144,11 @@ module _ {Whole Source : Type 0} (gave : Whole → Source → List Row → Type 
     abbrev pub WithAnswer : ℕ → OpenRows Source → Type 0
     WithAnswer j rows =
         AreOpen (j + 1) (count_before version done t span (j + 1)) (j + 1) (j + 1) (j + 1) (j + 1) j rows
+
+-- at an instant of a stretch the open rows come from one of these to the next, whatever was recorded, done and given
+abbrev pub LeadsOn : {Whole Source : Type 0} → Bus → OpenRows Source → OpenRows Source
+    → (Whole → Version → List Row → Trace → Stretch → ℕ → OpenRows Source → Type 0)
+    → (Whole → Version → List Row → Trace → Stretch → ℕ → OpenRows Source → Type 0) → Type 0
+LeadsOn {Whole} {Source} bus old new Before After =
+    (whole : Whole) (version : Version) (done : List Row) (t : Trace) (span : Stretch) → IsInStretch t span bus
+    → Before whole version done t span bus.instant old → After whole version done t span bus.instant new

@@ -1,9 +1,7 @@
 -- The levels that are kept of a recording, and whether a transfer starts by them.
-use Rattle.std.specs.Prelude.{◌≡◌, ℕ, Bool, ◌-◌, ◌&&◌, ◌||◌}
-use Rattle.vme_trace.specs.LineNumbers.{DS0, DS1}
-use Rattle.vme_trace.specs.Signals.{low}
-use Rattle.vme_trace.specs.Trace.{Trace, levels_at}
-use Rattle.vme_trace.specs.Transfers.{strobes_high}
+use Rattle.std.specs.Prelude.{◌≡◌, ℕ, Bool, ◌-◌, ◌&&◌, ◌||◌, true, List, Option, option_map}
+use Rattle.vme_cert.specs.Words.{Break, Change, DS0, DS1, Rule, Trace, are_changes, changed, levels_at, low}
+use Rattle.vme_cert.specs.Words.{strobes_high}
 use Rattle.vme_cert.specs.declared.bus.Bus.{Bus}
 
 -- they are those of the recording at the instant and at the one before
@@ -14,3 +12,12 @@ pub record IsBusOf (t : Trace) (bus : Bus) : Type 0 where
 -- both strobes were high, and one is low: at a judged instant a transfer starts
 abbrev pub starts_transfer : Trace → ℕ → Bool
 starts_transfer t i = strobes_high t (i - 1) && (low t DS0 i || low t DS1 i)
+
+-- the changes lead from the levels of the instant before to those of the instant, and each changes a line
+pub record LeadToInstant (bus : Bus) (changes : List Change) : Type 0 where
+  pub made : bus.levels ≡ changed bus.before changes
+  pub sound : are_changes bus.before 0 changes ≡ true
+
+-- the rule and the line of a break
+abbrev pub named : Option Break → Option (Rule × ℕ)
+named o = option_map (λ b. (b.rule, b.line)) o

@@ -1,11 +1,8 @@
 -- Which rules a line may break.
 use Rattle.std.specs.Prelude.{ℕ, Bool, true, false, ◌==◌, ◌&&◌, nat_le, nat_lt, List, [], ◌∷◌, if◌then◌else◌}
-use Rattle.vme_trace.specs.LineNumbers.{A, AS, BBSY, BERR, D, DS1, IACK, WRITE, grant, iack, is_answer_line, is_data}
-use Rattle.vme_trace.specs.LineNumbers.{is_grant, is_slot_iack, is_strobe}
-use Rattle.vme_trace.specs.declared.rule.Rule.{Rule}
-use Rattle.vme_trace.specs.declared.rule.Rule.TheVariants.{B1, B2, B3, B4, C1, C2, G1, G2, G3, G4, G5, H1, H2, H3, H4}
-use Rattle.vme_trace.specs.declared.rule.Rule.TheVariants.{H5, H6, H7, H8, I1, I2, I3, I4, I5, S1, S2, S3, U1, U2, U3}
-use Rattle.vme_trace.specs.declared.rule.Rule.TheVariants.{U4}
+use Rattle.vme_cert.specs.Words.{A, AS, B1, B2, B3, B4, BBSY, BERR, C1, C2, D, DS1, G1, G2, G3, G4, G5, H1, H2, H3, H4}
+use Rattle.vme_cert.specs.Words.{H5, H6, H7, H8, I1, I2, I3, I4, I5, IACK, Rule, S1, S2, S3, U1, U2, U3, U4, WRITE}
+use Rattle.vme_cert.specs.Words.{grant, iack, is_answer_line, is_data, is_grant, is_slot_iack, is_strobe}
 
 -- the rules that may be broken on a line at a judged instant, the lines by their numbers
 unfoldable pub rules_on : ℕ → List Rule

@@ -1,17 +1,11 @@
 -- What the state of a stretch says: of the cycles and transfers that started before one instant, and of what happened
 -- before another, which is the same or the one before it.
-use Rattle.std.specs.Prelude.{◌≡◌, ℕ, ◌+◌, ◌-◌, ◌<◌, ◌&&◌, Bool, true, false, get_or, List, [], ◌∷◌, None, Some}
-use Rattle.vme_trace.specs.Instants.{any, none, greatest}
-use Rattle.vme_trace.specs.Cycle.{needs_of}
-use Rattle.vme_trace.specs.Cycles.{answers_of, class_at, cycle_starts}
-use Rattle.vme_trace.specs.Judged.{IsSpanOf, Stretch, is_judged}
-use Rattle.vme_trace.specs.LineNumbers.{AS, BBSY, BERR, BR, DTACK}
-use Rattle.vme_trace.specs.Rules.{is_later}
-use Rattle.vme_trace.specs.Signals.{falls, low, rises}
-use Rattle.vme_trace.specs.Tenures.{grant_falls, last_before}
-use Rattle.vme_trace.specs.Trace.{Trace, levels_at}
-use Rattle.vme_trace.specs.Transfers.{answers_write, is_answer, is_answered, is_write, strobe_rises, strobes_high}
-use Rattle.vme_trace.specs.Transfers.{transfer_starts}
+use Rattle.std.specs.Prelude.{◌≡◌, ℕ, ◌+◌, ◌-◌, ◌<◌, ◌&&◌, Bool, true, false, get_or, List, [], ◌∷◌, None, Some, not}
+use Rattle.std.specs.Prelude.{nat_lt}
+use Rattle.vme_cert.specs.Words.{AS, BBSY, BERR, BR, DTACK, IsSpanOf, Stretch, Trace, answers_of, answers_write, any}
+use Rattle.vme_cert.specs.Words.{class_at, cycle_starts, falls, grant_falls, greatest, in_transfer, is_answer}
+use Rattle.vme_cert.specs.Words.{is_answered, is_judged, is_later, is_write, last_before, levels_at, low, needs_of}
+use Rattle.vme_cert.specs.Words.{none, rises, strobe_rises, strobes_high, transfer_starts}
 use Rattle.vme_cert.specs.Instant.{IsBusOf}
 use Rattle.vme_cert.specs.declared.bus.Bus.{Bus}
 use Rattle.vme_cert.specs.declared.state.Cycle.{Cycle}
@@ -98,3 +92,21 @@ pub record IsStateOf (t : Trace) (span : Stretch) (bus : Bus) (state : State) : 
   pub is : IsSpanOf t span
   pub judged : is_judged span bus.instant ≡ true
   pub holds : Holds t span (bus.instant + 1) bus.instant state
+
+-- ---- What rules ask of the transfer of an instant.
+
+-- this is the answer, of whatever recording and stretch the levels and the state are
+abbrev pub DecidesCondition : Bus → State → Bool → (Trace → Stretch → ℕ → Bool) → Type 0
+DecidesCondition bus state answer condition = (t : Trace) (span : Stretch) → IsStateOf t span bus state
+    → answer ≡ condition t span bus.instant
+
+module _ (t : Trace) (span : Stretch) where
+  -- it started before, and isn't answered by then
+  abbrev pub is_unanswered : ℕ → Bool
+  is_unanswered j = in_transfer t span (λ i. nat_lt i j && not (is_answered t span i (j + 1))) j
+
+  -- it is a write that started before, isn't answered by then, and no strobe rose since
+  abbrev pub is_data_held : ℕ → Bool
+  is_data_held j =
+      in_transfer t span (λ i. nat_lt i j && is_write t span i && not (is_answered t span i (j + 1))
+      && none (strobe_rises t) (i + 1) (j + 1)) j

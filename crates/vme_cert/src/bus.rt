@@ -1,15 +1,11 @@
 //! The levels at an instant and at the one before.
-#![tactic(auto, using(crate::proofs::Instant::edges))]
+#![tactic(auto, unfolding(crate::proofs::Instant::shown))]
 
-ghost use Rattle.std.specs.Prelude.{◌≡◌, ℕ, ◌+◌, ◌-◌, ◌<◌, ◌≤◌, not, IsTrue, IfSome, unwrap_or};
-ghost use Rattle.vme_trace.specs.LineNumbers.{BR, grant, has_line};
-ghost use Rattle.vme_trace.specs.Instants.{least};
-ghost use Rattle.vme_trace.specs.Levels.{is_low, level_at};
-ghost use Rattle.vme_trace.specs.Signals.{falls, has_edge, high, known, low, near, rises};
-ghost use Rattle.vme_trace.specs.Tenures.{grant_falls, is_granting, taken_grant, tenure_level, tenure_slot};
-ghost use Rattle.vme_trace.specs.Trace.{Trace, changed, levels_at};
-ghost use Rattle.vme_trace.specs.Transfers.{answer_falls, strobe_falls, strobe_rises, strobes_high};
-ghost use Rattle.vme_trace.specs.WellFormed.{capture_limit};
+ghost use Rattle.std.specs.Prelude.{◌≡◌, ◌+◌, ◌-◌, ◌<◌, ◌≤◌, not, IsTrue, IfSome, unwrap_or};
+ghost use Rattle.vme_cert.specs.Words.{BR, Trace, answer_falls, capture_limit, changed, falls, grant, grant_falls};
+ghost use Rattle.vme_cert.specs.Words.{has_edge, has_line, high, is_granting, is_low, known, least, level_at};
+ghost use Rattle.vme_cert.specs.Words.{levels_at, low, near, rises, strobe_falls, strobe_rises, strobes_high};
+ghost use Rattle.vme_cert.specs.Words.{taken_grant, tenure_level, tenure_slot};
 
 use crate::search::least;
 use vme_trace::{Change, Line, Lines, edges};
@@ -178,7 +174,7 @@ impl Bus {
 
     /// The levels as the arbiter grants, or else those of the instant before: whose grant a tenure takes that starts
     /// here.
-    #[tactic(auto, using(crate::proofs::Granted::grants))]
+    #[tactic(auto, using(crate::proofs::Instant::grants))]
     fn granted(&self) -> &Lines
         ensures { (t : Trace) → IsBusOf t self.now → result.now ≡ levels_at t (taken_grant t self.now.instant) }
     {

@@ -1,14 +1,8 @@
 //! The stretches of a recording, step by step: from an idle instant to a reset, a lost line or a break.
 
 ghost use Rattle.std.specs.Prelude.{◌≡◌, ◌+◌, ◌*◌, ◌<◌, ◌≤◌, List, [], ◌∷◌, true, if◌then◌else◌};
-ghost use Rattle.vme_trace.specs.Followed.{with_steps};
-ghost use Rattle.vme_trace.specs.Rules.{is_unreadable};
-ghost use Rattle.vme_trace.specs.Trace.{Trace, changed, last_instant, levels_at};
-ghost use Rattle.vme_trace.specs.WellFormed.{are_changes, capture_limit};
-ghost use Rattle.vme_listing.specs.Recorded.{recorded_rows, rows_in};
-ghost use Rattle.vme_listing.specs.declared.row.ListedVerdict.TheVariants.{Broken, Unreadable};
-ghost use Rattle.vme_listing.specs.declared.row.Row.{Row};
-ghost use Rattle.vme_listing.specs.declared.row.Version.{Version};
+ghost use Rattle.vme_cert.specs.Words.{Broken, Row, Trace, Unreadable, Version, are_changes, capture_limit, changed};
+ghost use Rattle.vme_cert.specs.Words.{is_unreadable, last_instant, levels_at, recorded_rows, rows_in, with_steps};
 
 use crate::bus::Bus;
 use crate::compare::Answer;
@@ -42,11 +36,10 @@ pub struct Checker<S: RowSource> {
 }
 
 impl<S: RowSource> Checker<S> {
-    ghost use Rattle.vme_cert.specs.Breaking.{LeadToInstant};
+    ghost use Rattle.vme_cert.specs.Instant.{LeadToInstant, IsBusOf};
     ghost use Rattle.vme_cert.specs.Checking.{Checks, HasCompared, HasFollowed, IsJudging, IsWaiting, MayGoOn};
     ghost use Rattle.vme_cert.specs.Checking.{at_opening};
     ghost use Rattle.vme_cert.specs.Comparing.{Decides};
-    ghost use Rattle.vme_cert.specs.Instant.{IsBusOf};
     ghost use Rattle.vme_cert.specs.declared.checker.Stage.TheVariants.{Ended, Waiting};
 
     /// At the opening: of the rows none was given, and they are to be in this version.
@@ -173,13 +166,8 @@ impl<S: RowSource> Checker<S> {
             → (more : List Row) × S.gave whole result.1 more
             × Decides S.is_over more (rows_in version (recorded_rows recorded)) result.1 result.0 }
     {
-        let Checker {
-            bus: _,
-            mut rows,
-            stage: _,
-            outcome,
-        } = self;
-        rows.follow(Row::Verdict(outcome));
+        let mut rows = self.rows;
+        rows.follow(Row::Verdict(self.outcome));
         rows.compared.finish()
     }
 
@@ -189,24 +177,6 @@ impl<S: RowSource> Checker<S> {
             → HasCompared S.gave S.is_over whole version recorded self
             → (rows : List Row) × S.gave whole result rows }
     {
-        let Checker {
-            bus: _,
-            rows,
-            stage: _,
-            outcome: _,
-        } = self;
-        let OpenRows {
-            compared,
-            tenure: _,
-            cycle: _,
-            transfer: _,
-        } = rows;
-        let Comparison {
-            source,
-            version: _,
-            taken: _,
-            wrong: _,
-        } = compared;
-        source
+        self.rows.compared.source
     }
 }

@@ -1,6 +1,6 @@
 //! Whether a listing is that of a recording: as its rows, or as its text.
 
-ghost use Rattle.std.specs.Prelude.{◌≡◌, [], List, IfOk, IfErr};
+ghost use Rattle.std.specs.Prelude.{[], List, IfOk, IfErr};
 ghost use Rattle.vme_listing.specs.Reading.{IsFirstFault, IsNoListing};
 ghost use Rattle.vme_listing.specs.Recorded.{recorded_rows, rows_in};
 ghost use Rattle.vme_listing.specs.declared.row.Row.{Row};
@@ -44,7 +44,10 @@ pub fn confirm(alloc: Global, capture: &Capture, listing: &Listing) -> Result<An
         (rows_in listing.now.version (recorded_rows capture.now)) answer) }
 {
     let _ = alloc;
-    let (answer, _source) = check(capture, listing.version(), ListedRows::of(listing.rows()));
+    let rows = ListedRows {
+        rest: listing.rows(),
+    };
+    let (answer, _source) = check(capture, listing.version(), rows);
     Ok(answer)
 }
 
@@ -60,7 +63,10 @@ pub fn confirm_text(alloc: Global, capture: &Capture, text: &[u8]) -> Result<Ans
         return Err(ListFault::BadHeader);
     };
     let version = reader.version();
-    let rows = TextRows::of(reader);
+    let rows = TextRows {
+        reader,
+        fault: None,
+    };
     let (answer, source) = check(capture, version, rows);
     match source.fault() {
         Some(fault) => Err(fault),

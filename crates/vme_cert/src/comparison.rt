@@ -1,7 +1,7 @@
 //! The given rows, taken one by one as the right ones start, and the least that differs.
 
 ghost use Rattle.std.specs.Prelude.{◌≡◌, ◌<◌, ◌^◌, true, false, List, length, Some, None};
-ghost use Rattle.vme_listing.specs.declared.row.Row.{Row};
+ghost use Rattle.vme_cert.specs.Words.{Row};
 ghost use Rattle.vme_cert.specs.Ended.{ended};
 
 use crate::compare::Answer;
@@ -33,69 +33,17 @@ pub(crate) struct Comparison<S: RowSource> {
 fn ended(row: Row, edge: Option<u32>) -> Row
     ensures { result ≡ ended row edge }
 {
-    match row {
-        Row::OpenTenure { start, end: _ } => Row::OpenTenure { start, end: edge },
-        Row::Tenure {
-            start,
-            level,
-            slot,
-            end: _,
-        } => Row::Tenure {
-            start,
-            level,
-            slot,
-            end: edge,
-        },
-        Row::AddressedCycle {
-            start,
-            class,
-            modifier,
-            address,
-            end: _,
-        } => Row::AddressedCycle {
-            start,
-            class,
-            modifier,
-            address,
-            end: edge,
-        },
-        Row::FreeCycle {
-            start,
-            modifier,
-            end: _,
-        } => Row::FreeCycle {
-            start,
-            modifier,
-            end: edge,
-        },
-        Row::InterruptCycle {
-            start,
-            level,
-            end: _,
-        } => Row::InterruptCycle {
-            start,
-            level,
-            end: edge,
-        },
-        Row::Transfer {
-            direction,
-            line,
-            start,
-            cycle,
-            answer,
-            close: _,
-            lanes,
-        } => Row::Transfer {
-            direction,
-            line,
-            start,
-            cycle,
-            answer,
-            close: edge,
-            lanes,
-        },
-        row => row,
+    let mut row = row;
+    match &mut row {
+        Row::OpenTenure { end, .. } => *end = edge,
+        Row::Tenure { end, .. } => *end = edge,
+        Row::AddressedCycle { end, .. } => *end = edge,
+        Row::FreeCycle { end, .. } => *end = edge,
+        Row::InterruptCycle { end, .. } => *end = edge,
+        Row::Transfer { close, .. } => *close = edge,
+        _ => {}
     }
+    row
 }
 
 /// Whether two rows are one.
@@ -119,18 +67,6 @@ fn is_given(given: Option<Row>, row: Row) -> bool
 
 impl<S: RowSource> Comparison<S> {
     ghost use Rattle.vme_cert.specs.Comparing.{Decides, IsBegun, IsCompared, IsGiven, IsSettled};
-
-    /// None was taken.
-    pub(crate) fn new(version: Version, source: S) -> Comparison<S>
-        ensures { result ≡ record { source = source; version = version; taken = 0; wrong = None } }
-    {
-        Comparison {
-            source,
-            version,
-            taken: 0,
-            wrong: None,
-        }
-    }
 
     /// The next right row starts, and the next given one is taken.
     pub(crate) fn begin(&mut self, right: Row) -> OpenRow

@@ -29,10 +29,11 @@
 //!
 //! # In which order to read
 //!
-//! 1. The definitions named above, and `specs/Agreement.antt`.
+//! 1. The definitions named above, and `specs/Agreement.antt`. `specs/Words.antt` lists the words of
+//!    both crates that are used here.
 //! 2. `bus`: the levels at an instant and at the one before; `search`: the loop that it uses.
 //! 3. `state`: what has to be known of the instants before, each field by its definition
-//!    (`specs/State.antt`), and what is asked of it (`specs/Conditions.antt`).
+//!    (`specs/State.antt`), and what is asked of it.
 //! 4. `rules`: each rule beside its definition, in the order of docs/PROTOCOL.md; which rules a line
 //!    may break; and the first that is broken.
 //! 5. `comparison` and `open_rows`: the given rows as they are taken, those that are open, and the
@@ -40,6 +41,10 @@
 //! 6. `rows`: the rows that start at an instant, and those that end.
 //! 7. `checker`: stretches, from an idle instant to a reset, a lost line or a break.
 //! 8. `source` and `compare`: where the given rows come from, a listing or a text.
+//!
+//! The lemmas of `proofs/` stand in the same order: `Ranges` and `Instant` for the levels, `Fields`
+//! for the state, `Conditions` and `Breaks` for the rules, `Comparing`, `Placing`, `Following` and
+//! `Stepping` for the rows, `Stretches` and `Checking` for the stretches.
 //!
 //! # What isn't proved
 //!

@@ -1,8 +1,7 @@
 //! The rows that are open: at most one of each kind.
 
-ghost use Rattle.std.specs.Prelude.{◌≡◌, ◌+◌, ◌<◌, ◌≤◌, ◌^◌, ◌∷◌, ◌++◌, [], List, None};
-ghost use Rattle.vme_listing.specs.declared.row.Row.{Row};
-ghost use Rattle.vme_listing.specs.declared.row.Version.{Version};
+ghost use Rattle.std.specs.Prelude.{◌≡◌, ◌+◌, ◌<◌, ◌^◌, ◌∷◌, ◌++◌, [], List, None};
+ghost use Rattle.vme_cert.specs.Words.{Row, Version};
 
 use crate::comparison::{Comparison, OpenRow};
 use crate::source::RowSource;
@@ -28,7 +27,12 @@ impl<S: RowSource> OpenRows<S> {
         ensures taken { result.compared.taken ≡ 0 }
     {
         OpenRows {
-            compared: Comparison::new(version, source),
+            compared: Comparison {
+                source,
+                version,
+                taken: 0,
+                wrong: None,
+            },
             tenure: None,
             cycle: None,
             transfer: None,

@@ -1,18 +1,10 @@
 //! The rows that start at an instant, and those that end.
 
 ghost use Rattle.std.specs.Prelude.{◌≡◌, ◌+◌, ◌<◌, ◌≤◌, ◌^◌, ℕ, List, Option, None, Some, if◌then◌else◌};
-ghost use Rattle.vme_trace.specs.Cycle.{class_of, needs_of};
-ghost use Rattle.vme_trace.specs.Judged.{Stretch};
-ghost use Rattle.vme_trace.specs.LineNumbers.{DTACK};
-ghost use Rattle.vme_trace.specs.Signals.{falls};
-ghost use Rattle.vme_trace.specs.Trace.{Trace};
-ghost use Rattle.vme_listing.specs.Recorded.{address_to, cycle_row, data_of, transfer_row};
-ghost use Rattle.vme_listing.specs.declared.row.AnswerLine.TheVariants.{Berr, Dtack};
-ghost use Rattle.vme_listing.specs.declared.row.Direction.TheVariants.{Read, Write};
-ghost use Rattle.vme_listing.specs.declared.row.Row.{Row};
-ghost use Rattle.vme_listing.specs.declared.row.Version.{Version};
+ghost use Rattle.vme_cert.specs.Words.{Berr, DTACK, Dtack, Read, Row, Stretch, Trace, Version, Write, address_to};
+ghost use Rattle.vme_cert.specs.Words.{class_of, cycle_row, data_of, falls, needs_of, transfer_row};
 ghost use Rattle.vme_cert.specs.Ended.{ended};
-ghost use Rattle.vme_cert.specs.Following.{CanClose, Follows, IsInStretch, WithAnswer, WithCycle, WithTenure};
+ghost use Rattle.vme_cert.specs.Following.{CanClose, Follows, IsInStretch, WithAnswer, WithCycle, WithTenure, LeadsOn};
 ghost use Rattle.vme_cert.specs.Following.{WithTransfer};
 ghost use Rattle.vme_cert.specs.Instant.{IsBusOf};
 ghost use Rattle.vme_cert.specs.State.{IsLastCycle, IsOpenTransfer, IsStateOf};
@@ -85,17 +77,6 @@ fn direction(is_write: bool) -> Direction
     }
 }
 
-/// The row of a transfer that starts at the instant, and isn't answered yet.
-fn pending_row(bus: &Bus) -> Row
-    ensures { (t : Trace) (span : Stretch) (end : ℕ) → IsBusOf t bus.now
-        → result ≡ transfer_row t span end bus.now.instant None }
-{
-    Row::PendingTransfer {
-        start: bus.instant,
-        direction: direction(bus.low(Line::WRITE)),
-    }
-}
-
 /// The answer line that falls at the instant, DTACK* before BERR*.
 fn answer_line(bus: &Bus) -> AnswerLine
     ensures { (t : Trace) → IsBusOf t bus.now
@@ -163,10 +144,7 @@ impl<S: RowSource> OpenRows<S> {
     /// A tenure starts where the bus becomes busy by a grant, and ends where it is free.
     fn follow_tenure(&mut self, bus: &Bus)
         requires { self.old.compared.taken < 2 ^ 62 }
-        ensures rows { (whole : S.Whole) (version : Version) (done : List Row) (t : Trace) (span : Stretch)
-            → IsInStretch t span bus.now
-            → Follows S.gave S.is_over whole version done t span bus.now.instant self.old
-            → WithTenure S.gave S.is_over whole version done t span bus.now.instant self.new }
+        ensures rows { LeadsOn bus.now self.old self.new (Follows S.gave S.is_over) (WithTenure S.gave S.is_over) }
         ensures taken { self.new.compared.taken ≤ self.old.compared.taken + 1 }
     {
         if bus.rises(Line::BBSY) {
@@ -196,10 +174,7 @@ impl<S: RowSource> OpenRows<S> {
     /// A cycle starts where the address strobe falls, and ends where it rises.
     fn follow_cycle(&mut self, bus: &Bus)
         requires { self.old.compared.taken < 2 ^ 62 }
-        ensures rows { (whole : S.Whole) (version : Version) (done : List Row) (t : Trace) (span : Stretch)
-            → IsInStretch t span bus.now
-            → WithTenure S.gave S.is_over whole version done t span bus.now.instant self.old
-            → WithCycle S.gave S.is_over whole version done t span bus.now.instant self.new }
+        ensures rows { LeadsOn bus.now self.old self.new (WithTenure S.gave S.is_over) (WithCycle S.gave S.is_over) }
         ensures taken { self.new.compared.taken ≤ self.old.compared.taken + 1 }
     {
         if bus.rises(Line::AS) {
@@ -214,20 +189,21 @@ impl<S: RowSource> OpenRows<S> {
         self.cycle = Some(self.compared.begin(row));
     }
 
-    /// A transfer starts.
+    /// A transfer starts, and isn't answered yet.
     fn begin_transfer(&mut self, bus: &Bus)
         requires { self.old.compared.taken < 2 ^ 62 }
-        ensures rows { (whole : S.Whole) (version : Version) (done : List Row) (t : Trace) (span : Stretch)
-            → IsInStretch t span bus.now
-            → WithCycle S.gave S.is_over whole version done t span bus.now.instant self.old
-            → WithTransfer S.gave S.is_over whole version done t span bus.now.instant self.new }
+        ensures rows { LeadsOn bus.now self.old self.new (WithCycle S.gave S.is_over) (WithTransfer S.gave S.is_over) }
         ensures taken { self.new.compared.taken ≤ self.old.compared.taken + 1 }
     {
         if !bus.transfer_starts() {
             return;
         }
-        let row = pending_row(bus);
-        self.transfer = Some(self.compared.begin(row));
+        self.transfer = Some(
+            self.compared.begin(Row::PendingTransfer {
+                start: bus.instant,
+                direction: direction(bus.low(Line::WRITE)),
+            }),
+        );
     }
 
     /// The last transfer is answered.

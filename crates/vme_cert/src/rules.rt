@@ -2,22 +2,12 @@
 
 ghost use Rattle.std.specs.Prelude.{◌≡◌, ◌==◌, ℕ, ◌+◌, ◌<◌, ◌≤◌, ◌&&◌, ◌||◌, true, false, nat_le, not, IsTrue};
 ghost use Rattle.std.specs.List.{list_any};
-ghost use Rattle.vme_trace.specs.Instants.{any, least};
-ghost use Rattle.vme_trace.specs.Changes.{is_changed};
-ghost use Rattle.vme_trace.specs.Names.{rule_number};
-ghost use Rattle.vme_trace.specs.Judged.{Stretch};
-ghost use Rattle.vme_trace.specs.LineNumbers.{grant, grant_level, grant_place, has_line, is_grant, is_slot_grant};
-ghost use Rattle.vme_trace.specs.LineNumbers.{is_slot_iack, line_count};
-ghost use Rattle.vme_trace.specs.LineNumbers.{input_of as input_net};
-ghost use Rattle.vme_trace.specs.Rules.{all_rules, breaks, is_block_class, is_broken, is_interrupt, is_option_equal};
-ghost use Rattle.vme_trace.specs.Rules.{is_single};
-ghost use Rattle.vme_trace.specs.Signals.{known, low};
-ghost use Rattle.vme_trace.specs.Tenures.{tenure_slot};
-ghost use Rattle.vme_trace.specs.Trace.{Trace};
-ghost use Rattle.vme_trace.specs.Verdict.{break_at};
-ghost use Rattle.vme_trace.specs.declared.rule.Rule.{Rule as BusRule};
-ghost use Rattle.vme_trace.specs.declared.rule.Rule.TheVariants.{H1, U3};
-ghost use Rattle.vme_cert.specs.Breaking.{LeadToInstant, named};
+ghost use Rattle.vme_cert.specs.Words.{H1, Rule as BusRule, Stretch, Trace, U3, all_rules, any, break_at, breaks};
+ghost use Rattle.vme_cert.specs.Words.{grant, grant_level, grant_place, has_line, input_of as input_net};
+ghost use Rattle.vme_cert.specs.Words.{is_block_class, is_broken, is_changed, is_grant, is_interrupt, is_option_equal};
+ghost use Rattle.vme_cert.specs.Words.{is_single, is_slot_grant, is_slot_iack, known, least, line_count, low};
+ghost use Rattle.vme_cert.specs.Words.{rule_number, tenure_slot};
+ghost use Rattle.vme_cert.specs.Instant.{LeadToInstant, named};
 ghost use Rattle.vme_cert.specs.RulesByLine.{rules_on, speaks_of};
 ghost use Rattle.vme_cert.specs.State.{IsStateOf};
 
@@ -164,7 +154,7 @@ impl Bus {
 impl State {
     /// Whether a rule is broken on a line.
     #[inline(never)]
-    #[tactic(auto, unfolding(vme_trace::specs::Rules::is_broken), using(crate::proofs::Arms::asked))]
+    #[tactic(auto, unfolding(vme_trace::specs::Rules::is_broken), using(crate::proofs::Conditions::asked))]
     fn is_broken(&self, bus: &Bus, rule: Rule, line: Line) -> bool
         requires has { IsTrue (has_line bus.now.levels.slots line) }
         requires speaks { IsTrue (speaks_of rule line) }
@@ -180,16 +170,13 @@ impl State {
                     && (is_selected(&bus.levels, line)
                         & !bus.knows(line)
                         & (self.transfer.is_open
-                            & self.transfer.is_write
-                            & !self.transfer.answered))
+                            & (self.transfer.is_write & !self.transfer.answered)))
             }
             H1 => bus.transfer_starts() & !bus.high_near(line),
             H2 => bus.rises(line) & self.is_unanswered(bus),
             H3 => {
-                let was_answered = self.transfer.is_open
-                    & (self.transfer.start < bus.instant)
-                    & self.transfer.answered;
-                bus.falls(line) & was_answered
+                let answered = (self.transfer.start < bus.instant) & self.transfer.answered;
+                bus.falls(line) & (self.transfer.is_open & answered)
             }
             H4 => bus.falls(line) & !self.transfer.is_open,
             H5 => {
@@ -220,13 +207,13 @@ impl State {
             C1 => {
                 let writes = self.answers_write(bus);
                 let spoils = self.cycle.answered_again | self.cycle.first_writes | !writes;
-                let pairs = self.cycle.has_started & is_single(self.cycle.class);
-                bus.falls(line) & self.is_answer(bus) & (pairs & (self.cycle.answered & spoils))
+                let spoilt = is_single(self.cycle.class) & (self.cycle.answered & spoils);
+                bus.falls(line) & self.is_answer(bus) & (self.cycle.has_started & spoilt)
             }
             C2 => {
                 let turns = self.cycle.first_writes != self.answers_write(bus);
-                let keeps = self.cycle.has_started & is_block(self.cycle.class);
-                bus.falls(line) & self.is_answer(bus) & (keeps & (self.cycle.answered & turns))
+                let turned = is_block(self.cycle.class) & (self.cycle.answered & turns);
+                bus.falls(line) & self.is_answer(bus) & (self.cycle.has_started & turned)
             }
             G1 => is_passed_on(line) && (bus.falls(line) & !bus.low_near(input_of(line))),
             G2 => is_passed_on(line) && (bus.rises(line) & !bus.high_near(input_of(line))),
@@ -255,8 +242,8 @@ impl State {
                 bus.falls(line) & self.answers_write(bus) & acknowledges
             }
             I5 => {
-                let acknowledges = self.cycle.has_started & is_interrupt(self.cycle.class);
-                bus.falls(line) & self.is_answer(bus) & (acknowledges & self.cycle.answered)
+                let again = is_interrupt(self.cycle.class) & self.cycle.answered;
+                bus.falls(line) & self.is_answer(bus) & (self.cycle.has_started & again)
             }
         }
     }
@@ -277,7 +264,7 @@ impl State {
     }
 
     /// The least line on which a rule is broken, by their numbers the first one included and the end not.
-    #[tactic(auto, using(crate::proofs::Searching::steps))]
+    #[tactic(auto, using(crate::proofs::Ranges::steps))]
     fn least_line(&self, bus: &Bus, rule: Rule, first: u8, end: u8) -> Option<Line>
         requires { end ≤ line_count }
         ensures { (t : Trace) (span : Stretch) → IsStateOf t span bus.now self.now

@@ -1,9 +1,7 @@
 //! Where the rows of a listing come from, one by one: a listing, or a text.
 
 ghost use Rattle.std.specs.Prelude.{◌≡◌, ◌∷◌, ◌++◌, [], ℕ, List, true, IfSome, MatchOption};
-ghost use Rattle.vme_listing.specs.Places.{ends_listing};
-ghost use Rattle.vme_listing.specs.Reading.{HasRead, IsFaultOfText, IsTextOfListing, listed};
-ghost use Rattle.vme_listing.specs.declared.row.Row.{Row};
+ghost use Rattle.vme_cert.specs.Words.{HasRead, IsFaultOfText, IsTextOfListing, Row, ends_listing, listed};
 
 use vme_listing::{ListFault, Row, RowReader};
 
@@ -29,20 +27,12 @@ pub trait RowSource: Drop {
 /// The rows of a list that are left.
 #[derive(Drop)]
 pub(crate) struct ListedRows<'a> {
-    rest: &'a [Row],
-}
-
-impl<'a> ListedRows<'a> {
-    pub(crate) fn of(rows: &'a [Row]) -> ListedRows<'a>
-        ensures { result.rest.now ≡ rows.now }
-    {
-        ListedRows { rest: rows }
-    }
+    pub(crate) rest: &'a [Row],
 }
 
 impl RowSource for ListedRows<'_> {
     ghost use Rattle.std.specs.Prelude.{◌≡◌, ◌++◌, [], List};
-    ghost use Rattle.vme_listing.specs.declared.row.Row.{Row};
+    ghost use Rattle.vme_cert.specs.Words.{Row};
 
     ghost Whole = { List Row };
 
@@ -60,22 +50,11 @@ impl RowSource for ListedRows<'_> {
 /// The rows of a text, up to its first fault.
 #[derive(Drop)]
 pub(crate) struct TextRows<'a> {
-    reader: RowReader<'a>,
-    fault: Option<ListFault>,
+    pub(crate) reader: RowReader<'a>,
+    pub(crate) fault: Option<ListFault>,
 }
 
-impl<'a> TextRows<'a> {
-    /// None was given so far.
-    pub(crate) fn of(reader: RowReader<'a>) -> TextRows<'a>
-        ensures reader { result.reader ≡ reader.entry }
-        ensures fault { result.fault ≡ None }
-    {
-        TextRows {
-            reader,
-            fault: None,
-        }
-    }
-
+impl TextRows<'_> {
     /// The first fault of the text, of which what is left is read.
     pub(crate) fn fault(mut self) -> Option<ListFault>
         ensures whole { (text : List ℕ) (rows : List Row) → HasRead text rows self.entry.reader → result ≡ None
@@ -103,9 +82,7 @@ impl<'a> TextRows<'a> {
 
 impl RowSource for TextRows<'_> {
     ghost use Rattle.std.specs.Prelude.{◌≡◌, ◌⊎◌, ℕ, true, List, IfSome, IsSome};
-    ghost use Rattle.vme_listing.specs.Places.{ends_listing};
-    ghost use Rattle.vme_listing.specs.Reading.{HasRead, IsFaultOfText};
-    ghost use Rattle.vme_listing.specs.declared.row.Version.{Version};
+    ghost use Rattle.vme_cert.specs.Words.{HasRead, IsFaultOfText, Version, ends_listing};
 
     ghost Whole = { List ℕ × Version };
 

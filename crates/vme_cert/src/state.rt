@@ -2,14 +2,11 @@
 //! `specs/State.antt`.
 
 ghost use Rattle.std.specs.Prelude.{◌≡◌, ℕ, ◌+◌, ◌<◌, IsTrue, get_or, false, true};
-ghost use Rattle.vme_trace.specs.Instants.{any};
-ghost use Rattle.vme_trace.specs.Judged.{Stretch, is_judged};
-ghost use Rattle.vme_trace.specs.LineNumbers.{is_answer_line};
-ghost use Rattle.vme_trace.specs.Trace.{Trace};
-ghost use Rattle.vme_trace.specs.Transfers.{answers_write, is_answer, strobe_rises};
-ghost use Rattle.vme_cert.specs.Conditions.{DecidesCondition, is_data_held, is_unanswered};
+ghost use Rattle.vme_cert.specs.Words.{Stretch, Trace, answers_write, any, is_answer, is_answer_line, is_judged};
+ghost use Rattle.vme_cert.specs.Words.{strobe_rises};
+ghost use Rattle.vme_cert.specs.State.{DecidesCondition, is_data_held, is_unanswered, AreRequested, Holds, IsCycle};
+ghost use Rattle.vme_cert.specs.State.{IsOpenTransfer, IsTransfer, IsStateOf, is_freed};
 ghost use Rattle.vme_cert.specs.Instant.{IsBusOf};
-ghost use Rattle.vme_cert.specs.State.{AreRequested, Holds, IsCycle, IsOpenTransfer, IsTransfer, IsStateOf, is_freed};
 ghost use Rattle.vme_cert.specs.declared.bus.Bus.{Bus};
 ghost use Rattle.vme_cert.specs.declared.state.State.{State};
 
@@ -57,7 +54,7 @@ pub(crate) struct State {
     pub(crate) granted: bool,
 }
 
-#[tactic(auto, using(crate::proofs::Cycles::cycles))]
+#[tactic(auto, using(crate::proofs::Fields::cycles))]
 impl Cycle {
     /// That which starts at the instant, or else this one.
     fn opened(self, bus: &Bus) -> Cycle
@@ -100,7 +97,7 @@ impl Cycle {
     }
 }
 
-#[tactic(auto, using(crate::proofs::OpenTransfer::transfers))]
+#[tactic(auto, using(crate::proofs::Fields::transfers))]
 impl Transfer {
     /// That which starts at the instant, or else this one.
     fn opened(self, bus: &Bus) -> Transfer
@@ -242,7 +239,7 @@ impl State {
     pub(crate) fn is_answer(&self, bus: &Bus) -> bool
         ensures { DecidesCondition bus.now self.now result is_answer }
     {
-        self.transfer.is_open & bus.answer_falls() & !self.transfer.answered
+        self.transfer.is_open & (bus.answer_falls() & !self.transfer.answered)
     }
 
     /// Whether it is, and is a write.
@@ -257,7 +254,7 @@ impl State {
         ensures { DecidesCondition bus.now self.now result is_unanswered }
     {
         let answered = self.transfer.answered | bus.answer_falls();
-        self.transfer.is_open & (self.transfer.start < bus.instant) & !answered
+        self.transfer.is_open & ((self.transfer.start < bus.instant) & !answered)
     }
 
     /// Whether it is a write that started before, isn't answered by then, and no strobe has risen in it.
@@ -266,11 +263,8 @@ impl State {
     {
         let answered = self.transfer.answered | bus.answer_falls();
         let rose = self.transfer.rose_by(bus);
-        self.transfer.is_open
-            & (self.transfer.start < bus.instant)
-            & self.transfer.is_write
-            & !answered
-            & !rose
+        let held = (self.transfer.start < bus.instant) & self.transfer.is_write & !answered & !rose;
+        self.transfer.is_open & held
     }
 
     /// Whether a strobe rose since an answer line fell.

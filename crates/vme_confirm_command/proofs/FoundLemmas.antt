@@ -18,7 +18,7 @@ use Rattle.vme_cert.specs.Agreement.{DecidesListing}
 use Rattle.vme_cert.specs.declared.compare.Answer.{Answer}
 use Rattle.vme_cert.specs.declared.compare.Answer.TheVariants.{Yes, No}
 use Rattle.vme_cert.specs.Comparing.{Decides}
-use Rattle.vme_cert.proofs.Deciding.{decides-all}
+use Rattle.vme_cert.proofs.Comparing.{decides-all}
 use Rattle.vme_answer.specs.Answers.{dump_read, or_bad_binding}
 use Rattle.vme_answer.specs.declared.refusal.Refusal.{Refusal}
 use Rattle.vme_answer.specs.declared.refusal.Refusal.TheVariants.{BadBinding, Memory}

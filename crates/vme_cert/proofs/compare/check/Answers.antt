@@ -1,9 +1,8 @@
 -- Each step makes the next levels, and the checker follows.
 use Rattle.std.proofs.Common.{length, ap, subst, arith}
-use Rattle.vme_trace.specs.Trace.{Trace}
+use Rattle.vme_cert.specs.Words.{Trace}
 use Rattle.vme_cert.specs.Checking.{HasCompared, HasFollowed, at_opening}
-use Rattle.vme_cert.proofs.Steps.{step_at}
-use Rattle.vme_cert.proofs.Taking.{goes_on-to, may-go_on, recorded_to, whole-to}
+use Rattle.vme_cert.proofs.Checking.{step_at, goes_on-to, may-go_on, recorded_to, whole-to}
 use Rattle.vme_cert.proofs.compare.check.Goals as goal
 
 pub loop-step-init : goal.loop-step-init

@@ -1,7 +1,7 @@
 -- The checker has followed the steps so far.
 use Rattle.std.proofs.Common.{[]}
 use Rattle.vme_cert.specs.Checking.{HasCompared, HasFollowed}
-use Rattle.vme_cert.proofs.Taking.{recorded_to}
+use Rattle.vme_cert.proofs.Checking.{recorded_to}
 use Rattle.vme_cert.proofs.compare.check.Given as goal
 
 abbrev pub invariant-loop-step : goal.invariant-loop-step

@@ -1,12 +1,9 @@
 -- The rows that were asked for, and those that are left.
-use Rattle.std.proofs.Common.{◌≡◌, ◌++◌, ◌∙◌, [], inl, inr, sym, ap, subst}
-use Rattle.std.specs.Prelude.{IfSome, IsSome, None, Option, Some}
-use Rattle.vme_listing.specs.Reading.{HasRead, IsFaultOfText, IsTextOfListing, Unread, listed}
-use Rattle.vme_listing.specs.Recorded.{recorded_rows, rows_in}
-use Rattle.vme_listing.specs.declared.fault.ListFault.{ListFault}
-use Rattle.vme_listing.specs.declared.row.Version.{Version}
+use Rattle.std.proofs.Common.{◌≡◌, ◌++◌, inl, inr, sym, subst}
+use Rattle.std.specs.Prelude.{IsSome, None, Option, Some}
+use Rattle.vme_cert.specs.Words.{IsTextOfListing, ListFault, Version, listed, recorded_rows, rows_in}
 use Rattle.vme_cert.specs.contracts.source.TextRowsRowSource.TheImpl.{ghosts}
-use Rattle.vme_cert.proofs.Deciding.{decides-all, decides-text}
+use Rattle.vme_cert.proofs.Comparing.{decides-all}
 use Rattle.vme_cert.proofs.compare.confirm_text.Goals as goal
 
 no_fault : (fault : Option ListFault) → fault ≡ None → IsSome fault → ⊥
@@ -19,35 +16,28 @@ returns-in-None-clause-answer c =
     let all = recorded_rows c.args.capture.now in
     let version = c.version-version.result in
     let (answer, source) = c.check-answer.result in
-    let found = c.check-answer.ensures (text, version) (
-      subst (HasRead text []) (sym c.of-rows.ensures.reader) c.in-Some.ensures.read,
-      ap (λ (u : Unread). u.version) c.of-rows.ensures.reader ∙ sym c.version-version.ensures,
-      subst (λ (f : Option ListFault). IfSome f (IsFaultOfText text)) (sym c.of-rows.ensures.fault) tt,
-    ) in
+    let found = c.check-answer.ensures (text, version) (c.in-Some.ensures.read, sym c.version-version.ensures, tt) in
     let left = c.fault.ensures.whole text found.0 found.1.0 c.in-None.is in
-    decides-text text c.args.capture.now version (found.0 ++ left.0) answer
-    (subst (λ (v : Version). IsTextOfListing text (listed v (found.0 ++ left.0))) found.1.1 left.1)
-    (decides-all ghosts.is_over found.0 left.0 (rows_in version all) source answer found.2 (λ over. elim over [
-      | inl some ↦ absurd (no_fault source.fault (c.fault.ensures.kept c.in-None.is) some)
-      | inr ends ↦ left.2 ends
-    ]))
+    let is = subst (λ (v : Version). IsTextOfListing text (listed v (found.0 ++ left.0))) found.1.1 left.1 in (
+      listed version (found.0 ++ left.0),
+      is.0,
+      is.1,
+      decides-all ghosts.is_over found.0 left.0 (rows_in version all) source answer found.2 (λ over. elim over [
+        | inl some ↦ absurd (no_fault source.fault (c.fault.ensures.kept c.in-None.is) some)
+        | inr ends ↦ left.2 ends
+      ]),
+    )
 
 pub returns-in-Some-fault-clause-first : goal.returns-in-Some-fault-clause-first
 returns-in-Some-fault-clause-first c =
     let text = c.args.text.now in
-    let found = c.check-answer.ensures (text, c.version-version.result) (
-      subst (HasRead text []) (sym c.of-rows.ensures.reader) c.in-Some.ensures.read,
-      ap (λ (u : Unread). u.version) c.of-rows.ensures.reader ∙ sym c.version-version.ensures,
-      subst (λ (f : Option ListFault). IfSome f (IsFaultOfText text)) (sym c.of-rows.ensures.fault) tt,
-    ) in
+    let version = c.version-version.result in
+    let found = c.check-answer.ensures (text, version) (c.in-Some.ensures.read, sym c.version-version.ensures, tt) in
     (c.in-Some-fault.ensures.fault text found.0 found.1.0 found.1.2).0
 
 pub returns-in-Some-fault-clause-none : goal.returns-in-Some-fault-clause-none
 returns-in-Some-fault-clause-none c =
     let text = c.args.text.now in
-    let found = c.check-answer.ensures (text, c.version-version.result) (
-      subst (HasRead text []) (sym c.of-rows.ensures.reader) c.in-Some.ensures.read,
-      ap (λ (u : Unread). u.version) c.of-rows.ensures.reader ∙ sym c.version-version.ensures,
-      subst (λ (f : Option ListFault). IfSome f (IsFaultOfText text)) (sym c.of-rows.ensures.fault) tt,
-    ) in
+    let version = c.version-version.result in
+    let found = c.check-answer.ensures (text, version) (c.in-Some.ensures.read, sym c.version-version.ensures, tt) in
     (c.in-Some-fault.ensures.fault text found.0 found.1.0 found.1.2).1

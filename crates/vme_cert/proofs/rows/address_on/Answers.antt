@@ -1,13 +1,11 @@
 -- The lines up to the one at hand make the address so far.
 use Rattle.std.proofs.Common.{◌≡◌, ◌+◌, ◌*◌, ◌^◌, ◌%◌, ◌<◌, ◌≤◌, ℕ, sym, ◌∙◌, ap, arith}
-use Rattle.vme_trace.specs.Cycle.{Needs, is_within}
-use Rattle.vme_trace.specs.Levels.{level_at, is_high}
-use Rattle.vme_listing.specs.Recorded.{address_to}
-use Rattle.vme_cert.proofs.Addresses.{weight_below, weight-is, next-weight, address-below, address_line}
-use Rattle.vme_cert.proofs.Addresses.{no_address_line, with_high, without_high}
-use Rattle.vme_cert.proofs.Spoken.{needs_31}
-use Rattle.vme_cert.proofs.rows.address_on.Goals as goal
+use Rattle.vme_cert.specs.Words.{Needs, address_to, is_high, is_within, level_at}
+use Rattle.vme_cert.proofs.Placing.{weight_below, weight-is, next-weight, address-below, address_line, no_address_line}
+use Rattle.vme_cert.proofs.Placing.{with_high, without_high}
+use Rattle.vme_cert.proofs.Breaks.{needs_31}
 use Rattle.vme_cert.proofs.rows.address_on.Goals.{then-is_high, else-is_high}
+use Rattle.vme_cert.proofs.rows.address_on.Goals as goal
 
 pub overflow_add-address : goal.overflow_add-address
 overflow_add-address c =

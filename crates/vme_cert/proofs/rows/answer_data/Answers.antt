@@ -1,9 +1,7 @@
 use Rattle.std.proofs.Common.{◌∙◌, ap}
 use Rattle.std.specs.Prelude.{Some}
-use Rattle.vme_trace.specs.Lanes.{lanes_at}
-use Rattle.vme_trace.specs.Levels.{Levels}
-use Rattle.vme_trace.specs.declared.data.Lanes.{Lanes}
-use Rattle.vme_cert.proofs.TransferRows.{data-before, data-here}
+use Rattle.vme_cert.specs.Words.{Lanes, Levels, lanes_at}
+use Rattle.vme_cert.proofs.Following.{data-before, data-here}
 use Rattle.vme_cert.proofs.rows.answer_data.Goals as goal
 
 pub returns-then-transfer-bus : goal.returns-then-transfer-bus

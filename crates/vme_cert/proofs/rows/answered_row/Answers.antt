@@ -1,4 +1,4 @@
-use Rattle.vme_cert.proofs.TransferRows.{answered-is}
+use Rattle.vme_cert.proofs.Following.{answered-is}
 use Rattle.vme_cert.proofs.rows.answered_row.Goals as goal
 
 pub returns : goal.returns

@@ -1,9 +1,7 @@
 use Rattle.std.proofs.Common.{ap, arith, sym, ◌∙◌}
 use Rattle.std.specs.Prelude.{◌/◌, None}
-use Rattle.vme_trace.specs.Cycle.{modifier_of}
-use Rattle.vme_listing.specs.Recorded.{address_to, cycle_row}
-use Rattle.vme_listing.specs.declared.row.Row.TheVariants.{InterruptCycle, AddressedCycle}
-use Rattle.vme_cert.proofs.Addresses.{address-below, addressed-row, interrupt-highest}
+use Rattle.vme_cert.specs.Words.{AddressedCycle, InterruptCycle, address_to, cycle_row, modifier_of}
+use Rattle.vme_cert.proofs.Placing.{address-below, addressed-row, interrupt-highest}
 use Rattle.vme_cert.proofs.rows.cycle_row.Goals as goal
 
 pub overflow_cast-level : goal.overflow_cast-level

@@ -1,9 +1,9 @@
 use Rattle.std.proofs.Common.{◌∙◌, ap}
 use Rattle.std.specs.Prelude.{◌==◌}
 use Rattle.std.specs.List.{list_any}
-use Rattle.vme_trace.specs.Names.{rule_number}
+use Rattle.vme_cert.specs.Words.{rule_number}
 use Rattle.vme_cert.specs.RulesByLine.{rules_on}
-use Rattle.vme_cert.proofs.RulesTable.{listed-is}
+use Rattle.vme_cert.proofs.Breaks.{listed-is}
 use Rattle.vme_cert.proofs.rules.speaks_of.Goals as goal
 
 pub returns : goal.returns

@@ -1,20 +1,16 @@
 -- The chain is low as far as the net before the first that isn't.
 use Rattle.std.proofs.Common.{◌+◌, ◌∙◌, ap, not, refl, sym}
 use Rattle.std.specs.Prelude.{Some, unwrap_or}
-use Rattle.vme_trace.specs.Instants.{least}
-use Rattle.vme_trace.specs.Levels.{Levels, is_low, level_at}
-use Rattle.vme_trace.specs.LineNumbers.{grant}
-use Rattle.vme_trace.specs.Signals.{low}
-use Rattle.vme_trace.specs.Tenures.{taken_grant}
-use Rattle.vme_trace.specs.Trace.{levels_at}
 use Rattle.vme_trace.proofs.SpanEnds.{slots_at}
-use Rattle.vme_cert.proofs.Chains.{slot-reached}
-use Rattle.vme_cert.proofs.Granted.{slot-none}
+use Rattle.vme_cert.specs.Words.{Levels, grant, is_low, least, level_at, levels_at, low, taken_grant, tenure_slot}
+use Rattle.vme_cert.proofs.Instant.{slot-reached}
 use Rattle.vme_cert.proofs.bus.Bus.tenure_slot.Goals as goal
 
 pub returns-in_err-level : goal.returns-in_err-level
+unfolding tenure_slot
 returns-in_err-level c t at =
-    rw c.from_residual.ensures (slot-none t c.args.self.now.instant (c.in_err-level.ensures.level t at))
+    let none = c.in_err-level.ensures.level t at in
+    rw c.from_residual.ensures (rw (← none) refl)
 
 pub returns : goal.returns
 unfolding low

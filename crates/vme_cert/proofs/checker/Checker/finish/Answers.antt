@@ -1,16 +1,10 @@
-use Rattle.std.proofs.Common.{◌+◌, ◌∙◌, false, List, ◌∷◌, ◌++◌, [], length, refl, sym, ap, subst, arith}
-use Rattle.vme_trace.specs.Trace.{Trace}
-use Rattle.vme_listing.specs.Recorded.{recorded_rows, rows_in}
-use Rattle.vme_listing.specs.declared.row.Row.{Row}
-use Rattle.vme_listing.specs.declared.row.Row.TheVariants.{Verdict}
-use Rattle.vme_cert.specs.Checking.{Checks, IsStage}
+use Rattle.std.proofs.Common.{◌∙◌, false, List, length, refl, sym, ap, subst, arith}
+use Rattle.vme_cert.specs.Words.{Row, recorded_rows, rows_in}
 use Rattle.vme_cert.specs.Comparing.{IsCompared, is_at}
-use Rattle.vme_cert.specs.Following.{is_open}
-use Rattle.vme_cert.proofs.Checking.{ended}
+use Rattle.vme_cert.proofs.Checking.{ended-all}
 use Rattle.vme_cert.proofs.Comparing.{compared-fewer}
 use Rattle.vme_cert.proofs.Following.{all-off, none-at}
 use Rattle.vme_cert.proofs.Placing.{rows_in-length}
-use Rattle.vme_cert.proofs.Taking.{all-taken}
 use Rattle.vme_cert.proofs.checker.Checker.finish.Goals as goal
 
 pub follow-requires : goal.follow-requires
@@ -21,21 +15,14 @@ finish-requires g c = omega (arith, c.follow.ensures.taken, c.requires.1.few, c.
 
 pub returns : goal.returns
 returns g c whole v t taken compared =
-    let self = c.args.self in
-    let last = taken.instant in
-    let h = subst (λ (u : Trace). Checks g.S.RowSource.gave g.S.RowSource.is_over whole v u self) (all-taken t)
-    (compared []) in
-    let e = ended g.S.RowSource.gave g.S.RowSource.is_over whole v t self.outcome self.rows self.stage
-    (subst (λ n. IsStage g.S.RowSource.gave g.S.RowSource.is_over whole v t (n + 1) self.outcome self.rows self.stage)
-    last h.stage_is) in
+    let e = ended-all taken compared in
     let new = c.follow.new.self in
     let closed = c.follow.ensures.rows whole v e.done refl e.rows_are in
     let none = c.follow.ensures.closed in
     c.finish.ensures whole closed.given (rows_in v (recorded_rows t)) closed.is_given
     (subst (λ (rows : List Row). IsCompared closed.given (rows_in v rows) new.compared.taken (λ n. false)
     new.compared.wrong) e.all
-    (compared-fewer closed.given (rows_in v (e.done ++ Verdict self.outcome ∷ [])) new.compared.taken (is_open new)
-    (λ n. false) new.compared.wrong (λ n off. all-off (is_at new.tenure n) (is_at new.cycle n) (is_at new.transfer n)
-    (none-at new.tenure n none.tenure) (none-at new.cycle n none.cycle) (none-at new.transfer n none.transfer))
-    closed.compared))
+    (compared-fewer (λ n. false) closed.compared
+    (λ n off. all-off (is_at new.tenure n) (is_at new.cycle n) (is_at new.transfer n)
+    (none-at new.tenure n none.tenure) (none-at new.cycle n none.cycle) (none-at new.transfer n none.transfer))))
     (closed.taken_is ∙ (ap (λ (rows : List Row). length rows) e.all ∙ sym (rows_in-length v (recorded_rows t))))

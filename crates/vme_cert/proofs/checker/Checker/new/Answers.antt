@@ -1,7 +1,5 @@
 use Rattle.std.proofs.Common.{◌∙◌, refl, sym, ap, subst, arith}
-use Rattle.vme_trace.specs.Followed.{with_steps}
-use Rattle.vme_trace.specs.Trace.{Trace, levels_at}
-use Rattle.vme_listing.specs.declared.row.ListedVerdict.TheVariants.{NeverIdle}
+use Rattle.vme_cert.specs.Words.{NeverIdle, Trace, levels_at, with_steps}
 use Rattle.vme_cert.specs.Checking.{IsWaiting, at_opening}
 use Rattle.vme_cert.specs.declared.bus.Bus.{Bus}
 use Rattle.vme_cert.proofs.Checking.{waits-first}
@@ -26,5 +24,4 @@ returns-clause-compared g c whole gave_none more =
     let first = c.opening.ensures.instant in
     c.wait.ensures.checks whole c.args.version t (c.opening.ensures.at t refl) (omega (arith, first))
     (subst (λ n. IsWaiting g.S.RowSource.gave g.S.RowSource.is_over whole c.args.version t n NeverIdle c.new.result)
-    (sym first) (waits-first g.S.RowSource.gave g.S.RowSource.is_over whole c.args.version t c.new.result
-    (c.new.ensures.rows whole gave_none)))
+    (sym first) (waits-first (c.new.ensures.rows whole gave_none)))

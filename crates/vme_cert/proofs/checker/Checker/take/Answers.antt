@@ -1,11 +1,7 @@
 use Rattle.std.proofs.Common.{◌≡◌, ◌+◌, ◌∙◌, [], ◌∷◌, sym, ap, subst, arith, length-append}
-use Rattle.vme_trace.specs.Followed.{with_steps}
-use Rattle.vme_trace.specs.Levels.{Levels}
-use Rattle.vme_trace.specs.Trace.{Trace, changed, last_instant, levels_at}
-use Rattle.vme_trace.specs.WellFormed.{are_changes}
+use Rattle.vme_cert.specs.Words.{Levels, Trace, are_changes, changed, last_instant, levels_at, with_steps}
 use Rattle.vme_cert.specs.Checking.{Checks, last_levels}
-use Rattle.vme_cert.proofs.Steps.{made}
-use Rattle.vme_cert.proofs.Taking.{goes_to, levels-next, next-is}
+use Rattle.vme_cert.proofs.Checking.{levels-made, goes_to, levels-next, next-is}
 use Rattle.vme_cert.proofs.checker.Checker.take.Goals as goal
 
 pub go_on-requires-clause-limit : goal.go_on-requires-clause-limit
@@ -43,6 +39,6 @@ returns-clause-compared g c whole version recorded taken compared more =
     (goes_to recorded step more)
     (c.go_on.ensures.checks whole version t
     (subst (λ i. levels_at t (i + 1) ≡ changed (levels_at t i) c.as_slice.result.now) (sym taken.instant)
-    (made t n step (next-is recorded step more) ∙ ap (changed (levels_at t n)) (sym c.as_slice.ensures)))
+    (levels-made t n step (next-is recorded step more) ∙ ap (changed (levels_at t n)) (sym c.as_slice.ensures)))
     (omega (arith, taken.instant, length-append recorded.steps (step ∷ more)))
     (compared (step ∷ more)))

@@ -17,8 +17,8 @@ returns-in-Some g c whole given rights h compared all = (
 pub returns-in-Some-next : goal.returns-in-Some-next
 returns-in-Some-next g c whole given rights h compared all =
     let taken = c.args.self.taken in
-    let next = given-next g.S.RowSource.gave g.S.RowSource.is_over whole given c.next.result c.args.self.source
-    c.next.new.self taken h (c.next.ensures.row whole given h.gave_is) c.next.ensures.over c.next.ensures.stays in (
+    let next = given-next c.next.result c.next.new.self h (c.next.ensures.row whole given h.gave_is)
+    c.next.ensures.over c.next.ensures.stays in (
       next.more,
       next.is_given.gave_is,
       finish-longer g.S.RowSource.is_over given rights taken all next.more next.extends
@@ -29,8 +29,8 @@ returns-in-Some-next g c whole given rights h compared all =
 pub returns-in-None : goal.returns-in-None
 returns-in-None g c whole given rights h compared all =
     let taken = c.args.self.taken in
-    let next = given-next g.S.RowSource.gave g.S.RowSource.is_over whole given c.next.result c.args.self.source
-    c.next.new.self taken h (c.next.ensures.row whole given h.gave_is) c.next.ensures.over c.next.ensures.stays in (
+    let next = given-next c.next.result c.next.new.self h (c.next.ensures.row whole given h.gave_is)
+    c.next.ensures.over c.next.ensures.stays in (
       next.more,
       next.is_given.gave_is,
       finish-same g.S.RowSource.is_over given rights taken all next.more next.extends

@@ -1,15 +1,15 @@
 -- It is compared with the least that differs so far.
 use Rattle.std.proofs.Common.{◌≡◌, ℕ, List, refl, sym, ◌∙◌, ap, subst, arith}
 use Rattle.std.specs.Prelude.{None, Option, Some}
-use Rattle.vme_listing.specs.declared.row.Row.{Row}
+use Rattle.vme_cert.specs.Words.{Row}
 use Rattle.vme_cert.specs.Comparing.{IsCompared, IsDue, IsSame, spares}
 use Rattle.vme_cert.specs.Ended.{ended}
 use Rattle.vme_cert.specs.declared.comparison.OpenRow.{OpenRow}
 use Rattle.vme_cert.proofs.Comparing.{settle-later, settle-other}
-use Rattle.vme_cert.proofs.comparison.Comparison.settle.Goals as goal
 use Rattle.vme_cert.proofs.comparison.Comparison.settle.Goals.{in-Some-wrong, in_default-wrong}
 use Rattle.vme_cert.proofs.comparison.Comparison.settle.Goals.{in_default-wrong-via-in-Some-wrong+else-wrong-row}
 use Rattle.vme_cert.proofs.comparison.Comparison.settle.Goals.{in_default-wrong-via-in_default-wrong}
+use Rattle.vme_cert.proofs.comparison.Comparison.settle.Goals as goal
 
 -- what is due differs, if the given row is another
 differs : (given right : List Row) (taken : ℕ) (edge : Option ℕ) (row : OpenRow) (shown : Row)

@@ -1,15 +1,19 @@
-use Rattle.std.proofs.Common.{◌∙◌, sym}
+use Rattle.std.proofs.Common.{◌∙◌, ap, sym}
+use Rattle.std.specs.Prelude.{if◌then◌else◌}
+use Rattle.vme_cert.specs.Words.{Direction, PendingTransfer, Read, Write, is_write}
 use Rattle.vme_cert.proofs.Stepping.{transfer-begins, transfer-idle}
 use Rattle.vme_cert.proofs.open_rows.OpenRows.begin_transfer.Goals as goal
 
 pub returns-then-not-transfer_starts-clause-rows : goal.returns-then-not-transfer_starts-clause-rows
 returns-then-not-transfer_starts-clause-rows g c whole v done t span within h =
-    transfer-idle g.S.RowSource.gave g.S.RowSource.is_over whole v done t span c.args.bus.now.instant within.is
-    within.judged c.args.self.now h (sym (c.transfer_starts.ensures t within.at) ∙ c.if-not-transfer_starts.true)
+    transfer-idle c.args.bus.now.instant within.is within.judged h
+    (sym (c.transfer_starts.ensures t within.at) ∙ c.if-not-transfer_starts.true)
 
 pub returns-clause-rows : goal.returns-clause-rows
+unfolding is_write
 returns-clause-rows g c whole v done t span within h =
-    transfer-begins g.S.RowSource.gave g.S.RowSource.is_over whole v done t span c.args.bus.now.instant within.is
-    within.judged c.args.self.now h (sym (c.transfer_starts.ensures t within.at) ∙ c.if-not-transfer_starts.false)
-    c.pending_row-row.result (λ end. c.pending_row-row.ensures t span end within.at) c.begin.new.self c.begin.result
-    c.begin.ensures
+    let j = c.args.bus.now.instant in
+    transfer-begins j within.is within.judged h
+    (sym (c.transfer_starts.ensures t within.at) ∙ c.if-not-transfer_starts.false)
+    (λ end. ap (λ (d : Direction). PendingTransfer j d)
+    (c.direction.ensures ∙ ap (λ b. if b then Write else Read) (c.low.ensures t within.at))) c.begin.ensures

@@ -2,11 +2,7 @@
 use Rattle.std.proofs.Common.{◌≡◌, ◌∙◌, ◌++◌, ◌∷◌, ℕ, true, false, not, List, [], append_assoc, refl, sym, ap, subst}
 use Rattle.std.specs.Prelude.{IfSome, None, Ok, Option, Result, Some, is_some}
 use Rattle.std.proofs.lemmas.List.{append-nil}
-use Rattle.vme_listing.specs.Places.{ends_listing}
-use Rattle.vme_listing.specs.Reading.{HasRead, IsTextOfListing, Unread, listed}
-use Rattle.vme_listing.specs.declared.fault.ListFault.{ListFault}
-use Rattle.vme_listing.specs.declared.row.Row.{Row}
-use Rattle.vme_listing.specs.declared.row.Version.{Version}
+use Rattle.vme_cert.specs.Words.{HasRead, IsTextOfListing, ListFault, Row, Unread, Version, ends_listing, listed}
 use Rattle.vme_cert.proofs.source.TextRows.fault.Goals as goal
 
 there : {A : Type 0} → (o : Option A) → is_some o ≡ true → o ≡ None → ⊥

@@ -1,8 +1,6 @@
 -- More rows were read, unless the listing was whole.
 use Rattle.std.proofs.Common.{◌≡◌, ◌++◌, ℕ, List, true, [], length}
-use Rattle.vme_listing.specs.Places.{ends_listing}
-use Rattle.vme_listing.specs.Reading.{HasRead}
-use Rattle.vme_listing.specs.declared.row.Row.{Row}
+use Rattle.vme_cert.specs.Words.{HasRead, Row, ends_listing}
 use Rattle.vme_cert.proofs.source.TextRows.fault.Given as goal
 
 abbrev pub invariant-loop-row : goal.invariant-loop-row

@@ -1,6 +1,6 @@
 use Rattle.std.proofs.Common.{◌∙◌, ap, refl, sym}
-use Rattle.vme_trace.specs.Cycle.{class_of, needs_of}
-use Rattle.vme_cert.proofs.Cycles.{cycle-here}
+use Rattle.vme_cert.specs.Words.{class_of, needs_of}
+use Rattle.vme_cert.proofs.Fields.{cycle-here}
 use Rattle.vme_cert.proofs.state.Cycle.opened.Goals as goal
 
 pub returns : goal.returns

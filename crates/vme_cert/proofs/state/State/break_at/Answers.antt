@@ -1,19 +1,17 @@
 -- The rules up to the one at hand aren't broken; and none is where nothing that may break one does.
-use Rattle.std.proofs.Common.{◌≡◌, ◌<◌, ◌&&◌, ◌||◌, List, drop, refl, sym, ◌∙◌, ap, arith, add-one, drop-cons}
+use Rattle.std.proofs.Common.{◌≡◌, ◌<◌, ◌&&◌, ◌||◌, List, false, drop, refl, sym, ◌∙◌, ap, arith, add-one, drop-cons}
 use Rattle.std.specs.Prelude.{nat_le}
-use Rattle.vme_cert.proofs.Truth.{or_false}
-use Rattle.vme_trace.specs.Rules.{all_rules}
-use Rattle.vme_trace.specs.Verdict.{break_at, rule_count}
-use Rattle.vme_trace.specs.declared.rule.Rule.{Rule}
-use Rattle.vme_trace.specs.declared.rule.Rule.TheVariants.{U1, U2, U4}
-use Rattle.vme_cert.specs.Breaking.{named}
+use Rattle.vme_cert.specs.Words.{Rule, U1, U2, U4, all_rules, break_at, cycle_starts, is_broken, rule_count}
+use Rattle.vme_cert.specs.Words.{strobe_falls}
+use Rattle.vme_cert.specs.Instant.{named}
+use Rattle.vme_cert.proofs.Ranges.{or_false, and_off}
 use Rattle.vme_cert.proofs.Breaks.{break_at-empty, break_at-here, break_at-next, break_at-none, breaks-off}
-use Rattle.vme_cert.proofs.Breaks.{breaks-unspoken, known-cycle, known-data, unbroken, unstarted-cycle}
-use Rattle.vme_cert.proofs.Breaks.{unstarted-strobe}
-use Rattle.vme_cert.proofs.Cycles.{cycle-starts-is}
+use Rattle.vme_cert.proofs.Breaks.{breaks-unspoken, unbroken}
+use Rattle.vme_cert.proofs.Fields.{cycle-starts-is}
 use Rattle.vme_cert.proofs.state.State.break_at.Goals as goal
 
 pub returns-then-not-change-transfer : goal.returns-then-not-change-transfer
+unfolding is_broken
 returns-then-not-change-transfer c t span h =
     let bus = c.args.bus.now in
     let j = bus.instant in
@@ -27,16 +25,18 @@ returns-then-not-change-transfer c t span h =
     sym (ap named (break_at-none t span j (unbroken t span bus c.args.self.now c.args.changes.now h c.requires
     (λ r l e s. c.is_change_broken-change.ensures t span r l h one.0 e s)
     (λ l. c.is_unreadable-cycle.ensures t span l h two.1
-    (λ e. breaks-off t span j l U2
-    (unstarted-cycle t span j l (cycle-starts-is t span j h.judged ∙ (sym (c.falls-starts.ensures t h.at) ∙ e))))
-    (λ e. breaks-off t span j l U2 (known-cycle t span j l e))
+    (λ e. let none : cycle_starts t span j ≡ false =
+    cycle-starts-is t span j h.judged ∙ (sym (c.falls-starts.ensures t h.at) ∙ e) in
+    breaks-off t span j l U2 (rw none refl))
+    (λ e. breaks-off t span j l U2 (rw (e, and_off) refl))
     (λ e. sym (breaks-unspoken t span j l U2 h.judged
     (ap (λ n. nat_le 5 l && nat_le l n) (sym c.address.ensures) ∙ e))))
     (λ l. c.is_transfer_start_broken-transfer.ensures.direction t span l h one.1)
     (λ l. c.is_transfer_start_broken-transfer.ensures.answers t span l h one.1)
     (λ l. c.is_unreadable-data.ensures t span l h three.1
-    (λ e. breaks-off t span j l U4 (unstarted-strobe t span j l (sym (c.strobe_falls-strobed.ensures t h.at) ∙ e)))
-    (λ e. breaks-off t span j l U4 (known-data t span j l e))
+    (λ e. let none : strobe_falls t j ≡ false = sym (c.strobe_falls-strobed.ensures t h.at) ∙ e in
+    breaks-off t span j l U4 (rw (none, and_off) refl))
+    (λ e. breaks-off t span j l U4 (rw (e, and_off) refl))
     (λ e. sym (breaks-unspoken t span j l U4 h.judged (ap (λ n. nat_le n l && nat_le l 190) (sym c.data.ensures)
     ∙ (ap (λ n. nat_le c.data.result l && nat_le l n) (sym c.data-2.ensures) ∙ e)))))) all_rules))
 

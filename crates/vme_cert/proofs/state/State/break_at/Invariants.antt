@@ -1,9 +1,6 @@
 -- None of the rules so far is broken.
 use Rattle.std.proofs.Common.{◌≡◌, drop}
-use Rattle.vme_trace.specs.Judged.{Stretch}
-use Rattle.vme_trace.specs.Rules.{all_rules}
-use Rattle.vme_trace.specs.Trace.{Trace}
-use Rattle.vme_trace.specs.Verdict.{break_at}
+use Rattle.vme_cert.specs.Words.{Stretch, Trace, all_rules, break_at}
 use Rattle.vme_cert.specs.State.{IsStateOf}
 use Rattle.vme_cert.proofs.state.State.break_at.Given as goal
 

@@ -1,16 +1,11 @@
 use Rattle.std.proofs.Common.{◌≡◌, ℕ, ◌+◌, ◌∙◌, ap, not, subst, sym, true}
 use Rattle.std.specs.Prelude.{is_some}
-use Rattle.vme_trace.specs.Instants.{none}
-use Rattle.vme_trace.specs.LineNumbers.{BR}
-use Rattle.vme_trace.specs.Rules.{is_broken}
-use Rattle.vme_trace.specs.Signals.{low}
-use Rattle.vme_trace.specs.Tenures.{grant_falls, last_before}
-use Rattle.vme_trace.specs.declared.rule.Rule.{Rule}
+use Rattle.vme_cert.specs.Words.{BR, Rule, grant_falls, is_broken, last_before, low, none}
 use Rattle.vme_cert.specs.RulesByLine.{speaks_of}
-use Rattle.vme_cert.proofs.Arms as arms
-use Rattle.vme_cert.proofs.Granted.{granted-near}
-use Rattle.vme_cert.proofs.Held.{direction-is}
-use Rattle.vme_cert.proofs.Since.{since-asks}
+use Rattle.vme_cert.proofs.Conditions as arms
+use Rattle.vme_cert.proofs.Instant.{granted-near}
+use Rattle.vme_cert.proofs.Conditions.{direction-is}
+use Rattle.vme_cert.proofs.Fields.{since-asks}
 use Rattle.vme_cert.proofs.state.State.is_broken.Goals as goal
 
 spoken : {q r : Rule} (l : ℕ) → q ≡ r → speaks_of q l ≡ true → speaks_of r l ≡ true

@@ -1,12 +1,8 @@
 use Rattle.std.proofs.Common.{◌≡◌, ◌∙◌, ap, arith, below_more, false, get_or, List, length, subst, sym, true}
-use Rattle.vme_trace.specs.Judged.{Stretch}
-use Rattle.vme_trace.specs.Rules.{is_broken}
-use Rattle.vme_trace.specs.Trace.{Trace}
-use Rattle.vme_trace.specs.declared.rule.Rule.{Rule}
-use Rattle.vme_trace.specs.declared.rule.Rule.TheVariants.{U1}
+use Rattle.vme_cert.specs.Words.{Rule, Stretch, Trace, U1, is_broken}
 use Rattle.vme_cert.specs.RulesByLine.{speaks_of}
 use Rattle.vme_cert.specs.State.{IsStateOf}
-use Rattle.vme_cert.proofs.RulesTable.{listed-speaks, speaks-listed}
+use Rattle.vme_cert.proofs.Breaks.{listed-speaks, speaks-listed}
 use Rattle.vme_cert.proofs.state.State.is_line_broken.Goals as goal
 
 pub is_broken-requires-clause-speaks : goal.is_broken-requires-clause-speaks

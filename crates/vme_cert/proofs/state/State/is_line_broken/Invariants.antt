@@ -1,9 +1,6 @@
 -- Of the rules so far none is broken.
 use Rattle.std.proofs.Common.{◌≡◌, ℕ, ◌<◌, false, get_or}
-use Rattle.vme_trace.specs.Judged.{Stretch}
-use Rattle.vme_trace.specs.Rules.{is_broken}
-use Rattle.vme_trace.specs.Trace.{Trace}
-use Rattle.vme_trace.specs.declared.rule.Rule.TheVariants.{U1}
+use Rattle.vme_cert.specs.Words.{Stretch, Trace, U1, is_broken}
 use Rattle.vme_cert.specs.RulesByLine.{rules_on}
 use Rattle.vme_cert.specs.State.{IsStateOf}
 use Rattle.vme_cert.proofs.state.State.is_line_broken.Given as goal

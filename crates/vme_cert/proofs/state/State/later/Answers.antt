@@ -1,9 +1,6 @@
-use Rattle.std.proofs.Common.{◌∙◌, refl, sym}
-use Rattle.vme_trace.specs.LineNumbers.{BBSY, BERR, DTACK}
-use Rattle.vme_trace.specs.Signals.{falls}
-use Rattle.vme_trace.specs.Tenures.{grant_falls}
-use Rattle.vme_trace.specs.Transfers.{strobe_rises}
-use Rattle.vme_cert.proofs.Since.{since-alike, since-later-alike, since-later-step, since-step}
+use Rattle.std.proofs.Common.{refl}
+use Rattle.vme_cert.specs.Words.{BBSY, BERR, DTACK, falls, grant_falls, strobe_rises}
+use Rattle.vme_cert.proofs.Fields.{since-later-step, since-step}
 use Rattle.vme_cert.proofs.state.State.later.Goals as goal
 
 pub returns : goal.returns
@@ -15,12 +12,11 @@ returns c t span h =
       cycle = c.later.ensures t span c.args.self.now h refl (c.is_answer-is_answer.ensures t span h)
           (c.answers_write-writes.ensures t span h);
       transfer = c.later-2.ensures t span h.at h.judged h.holds.transfer;
-      acknowledge_freed = since-alike _ _ _ _ _ _ h.holds.acknowledge_freed
-          (c.falls-acknowledge_falls.ensures t h.at) rises
-          ∙ sym (since-step t span (falls t DTACK) (strobe_rises t) j h.judged);
-      error_freed = since-alike _ _ _ _ _ _ h.holds.error_freed (c.falls-error_falls.ensures t h.at) rises
-          ∙ sym (since-step t span (falls t BERR) (strobe_rises t) j h.judged);
+      acknowledge_freed = since-step t span (falls t DTACK) (strobe_rises t) j h.judged h.holds.acknowledge_freed
+          (c.falls-acknowledge_falls.ensures t h.at) rises;
+      error_freed = since-step t span (falls t BERR) (strobe_rises t) j h.judged h.holds.error_freed
+          (c.falls-error_falls.ensures t h.at) rises;
       requested = c.requested_later.ensures t span h.at h.judged h.holds.requested;
-      granted = since-later-alike _ _ _ _ _ _ h.holds.granted (c.falls-busy_falls.ensures t h.at) grants
-          ∙ sym (since-later-step t span (falls t BBSY) (grant_falls t) j h.judged);
+      granted = since-later-step t span (falls t BBSY) (grant_falls t) j h.judged h.holds.granted
+          (c.falls-busy_falls.ensures t h.at) grants;
     }

@@ -1,9 +1,6 @@
 -- The rule isn't broken on the lines up to the one at hand.
 use Rattle.std.proofs.Common.{◌≡◌, false}
-use Rattle.vme_trace.specs.Instants.{any}
-use Rattle.vme_trace.specs.Judged.{Stretch}
-use Rattle.vme_trace.specs.Rules.{breaks}
-use Rattle.vme_trace.specs.Trace.{Trace}
+use Rattle.vme_cert.specs.Words.{Stretch, Trace, any, breaks}
 use Rattle.vme_cert.specs.State.{IsStateOf}
 use Rattle.vme_cert.proofs.state.State.least_line.Given as goal
 

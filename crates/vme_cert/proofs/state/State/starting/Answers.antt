@@ -1,14 +1,8 @@
 use Rattle.std.proofs.Common.{ℕ, ◌+◌, ◌∙◌, ap, arith, sym}
-use Rattle.vme_trace.specs.Cycles.{cycle_starts}
-use Rattle.vme_trace.specs.LineNumbers.{BBSY, BERR, BR, DTACK}
-use Rattle.vme_trace.specs.Signals.{falls, low}
-use Rattle.vme_trace.specs.Tenures.{grant_falls}
-use Rattle.vme_trace.specs.Transfers.{strobe_rises}
+use Rattle.vme_cert.specs.Words.{BBSY, BERR, BR, DTACK, cycle_starts, falls, grant_falls, low, strobe_rises}
 use Rattle.vme_cert.specs.State.{is_requested}
-use Rattle.vme_cert.proofs.Fours.{each-of}
-use Rattle.vme_cert.proofs.OpenTransfer.{none-started}
-use Rattle.vme_cert.proofs.Searching.{greatest-none}
-use Rattle.vme_cert.proofs.Since.{since-later-start, since-start}
+use Rattle.vme_cert.proofs.Ranges.{each-of, greatest-none}
+use Rattle.vme_cert.proofs.Fields.{none-started, since-later-start, since-start}
 use Rattle.vme_cert.proofs.state.State.starting.Goals as goal
 
 pub returns : goal.returns

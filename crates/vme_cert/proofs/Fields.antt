@@ -1,0 +1,554 @@
+-- The fields of the state as a cycle or a transfer starts, and one instant later.
+use Rattle.std.proofs.Common.{◌≡◌, ℕ, ◌+◌, ◌-◌, ◌≤◌, ◌<◌, ◌&&◌, ◌||◌, Bool, true, false, refl, sym, ◌∙◌, ap, arith, inl}
+use Rattle.std.proofs.Common.{inr, ◌⊎◌, ◌∷◌, ◌++◌, [], not, add-one, List, subst}
+use Rattle.std.specs.Prelude.{Some, nat_le, if◌then◌else◌, nat_lt, unwrap_or}
+use Rattle.std.proofs.Math.Bool.{beq}
+use Rattle.std.proofs.lemmas.Bool.Decides.{nat_tests}
+use Rattle.vme_trace.proofs.OpenTransfers.{in_transfer-is}
+use Rattle.vme_trace.proofs.Ranges.{any-holds, fails-any, any-step, any-fails, clash}
+use Rattle.vme_cert.specs.Words.{AS, DS0, DS1, DTACK, High, Level, Low, Stretch, Trace, Unknown, WRITE, answer_falls}
+use Rattle.vme_cert.specs.Words.{answers, answers_of, answers_write, any, class_at, cycle_starts, differ, falls}
+use Rattle.vme_cert.specs.Words.{greatest, high, in_transfer, is_answer, is_answered, is_high, is_judged, is_known}
+use Rattle.vme_cert.specs.Words.{is_later, is_low, is_write, known, last_before, lasts, level, levels_at, low, needs_of}
+use Rattle.vme_cert.specs.Words.{none, rises, spoils_pair, strobe_rises, strobes_high, those, transfer_starts, turns}
+use Rattle.vme_cert.specs.State.{is_many, writes_first, AreClosed, IsOpenTransfer, IsTransfer, IsCycle, IsLastCycle}
+use Rattle.vme_cert.specs.State.{is_acknowledged}
+use Rattle.vme_cert.specs.Instant.{starts_transfer}
+use Rattle.vme_cert.specs.declared.state.Transfer.{Transfer}
+use Rattle.vme_cert.specs.declared.state.Cycle.{Cycle}
+use Rattle.vme_cert.proofs.Ranges.{below_or_from, both, IsGreatest, and_off, and_on, greatest-found, and_true, le_holds}
+use Rattle.vme_cert.proofs.Ranges.{none-shorter, after_start, greatest-here, greatest-not, none-step, any-start}
+use Rattle.vme_cert.proofs.Ranges.{last_or_before, lt_of, greatest-none-any, those-empty, false_of_not, order_of}
+use Rattle.vme_cert.proofs.Ranges.{true_of_not, greatest-none, decide, lt_not, case_of}
+use Rattle.vme_cert.proofs.Instant.{address-known}
+
+-- ---- The transfer of an instant: the last to start, while no instant since then had both strobes high.
+
+pub high-and-low : (x y : Level) → (is_high x && is_high y) ≡ true → (is_low x || is_low y) ≡ true → ⊥
+high-and-low High High h k = cc
+high-and-low High Low h k = cc
+high-and-low High Unknown h k = cc
+high-and-low Low y h k = cc
+high-and-low Unknown y h k = cc
+
+module _ (t : Trace) (span : Stretch) where
+  -- one that starts later finds both strobes high before it
+  pub high-between : (i k : ℕ) → i < k → transfer_starts t span i ≡ true → transfer_starts t span k ≡ true
+      → any (strobes_high t) (i + 1) k ≡ true
+  unfolding transfer_starts low high
+  high-between i k order first second =
+      elim (just-or-later i k order) [
+        | inl e ↦ absurd (high-and-low (level t DS0 i) (level t DS1 i) (ap (strobes_high t) (sym e) ∙ before)
+            (and_true (is_judged span i && strobes_high t (i - 1)) _ first).1)
+        | inr later ↦ any-holds (strobes_high t) (i + 1) k (k - 1) (omega arith) (omega arith) before
+      ]
+    where
+      just-or-later : (i k : ℕ) → i < k → (k - 1 ≡ i) ⊎ (i < k - 1)
+      just-or-later i k h = grind arith
+
+      before : strobes_high t (k - 1) ≡ true
+      before = (and_true (is_judged span k) (strobes_high t (k - 1))
+          (and_true (is_judged span k && strobes_high t (k - 1)) _ second).0).1
+
+  module _ (j : ℕ) (judged : is_judged span j ≡ true) where
+    lasts-not : (i : ℕ) → any (strobes_high t) (i + 1) j ≡ true → lasts t span i j ≡ false
+    unfolding lasts
+    lasts-not i h = rw h (and_off (nat_le i j && is_judged span j))
+
+    pub lasts-on : (i : ℕ) → i ≤ j → none (strobes_high t) (i + 1) j ≡ true → lasts t span i j ≡ true
+    unfolding lasts
+    lasts-on i order h = rw (le_holds i j order, judged, h) refl
+
+    not-in : (p : ℕ → Bool)
+        → ((i : ℕ) → span.start < i → i ≤ j → transfer_starts t span i ≡ true → lasts t span i j ≡ false)
+        → in_transfer t span p j ≡ false
+    unfolding in_transfer
+    not-in p h = fails-any (λ i. transfer_starts t span i && lasts t span i j && p i) (span.start + 1) (j + 1)
+        (λ i a b. decide (transfer_starts t span i) (λ e. rw (e, h i (omega arith) (omega arith) e) refl)
+        (λ e. rw e refl))
+
+    -- each has closed
+    pub in-none : (p : ℕ → Bool) → ((i : ℕ) → i < j + 1 → transfer_starts t span i ≡ true
+        → any (strobes_high t) (i + 1) j ≡ true) → in_transfer t span p j ≡ false
+    in-none p closed = not-in p (λ i a b start. lasts-not i (closed i (omega arith) start))
+
+    module _ (i : ℕ) (last : greatest (transfer_starts t span) (span.start + 1) (j + 1) ≡ Some i) where
+      found : IsGreatest (transfer_starts t span) (span.start + 1) (j + 1) i
+      found = greatest-found (transfer_starts t span) (span.start + 1) (j + 1) i last
+
+      -- the last one runs: what is asked of the transfer at the instant is asked of it
+      pub in-last : (p : ℕ → Bool) → none (strobes_high t) (i + 1) j ≡ true → in_transfer t span p j ≡ p i
+      in-last p still =
+          let from = found.from in
+          let before = found.before in
+          in_transfer-is t span p i j (omega arith) (omega arith) found.holds (lasts-on i (omega arith) still)
+
+-- ---- The answer of the transfer of an instant, and those of the cycle, by the state.
+
+module _ (t : Trace) (span : Stretch) (j i : ℕ) (judged : is_judged span j ≡ true)
+    (last : greatest (transfer_starts t span) (span.start + 1) (j + 1) ≡ Some i)
+    (still : none (strobes_high t) (i + 1) j ≡ true) where
+  within : i ≤ j
+  within = let before = (greatest-found (transfer_starts t span) (span.start + 1) (j + 1) i last).before in omega arith
+
+  here : lasts t span i j ≡ true
+  here = lasts-on t span j judged i within still
+
+  -- the field one instant later, and as rules ask for it there
+  pub answered-step : is_answered t span i (j + 1) ≡ (is_answered t span i j || answer_falls t j)
+  unfolding is_answered
+  answered-step = any-step (λ r. lasts t span i r && answer_falls t r) i j ∙ rw (le_holds i j within, here) refl
+
+  pub answers-is : answers t span i j ≡ (answer_falls t j && not (is_answered t span i j))
+  unfolding answers
+  answers-is = rw here refl
+
+  pub is_answer-is : is_answer t span j ≡ (answer_falls t j && not (is_answered t span i j))
+  unfolding is_answer
+  is_answer-is = in-last t span j judged i last (λ k. answers t span k j) still ∙ answers-is
+
+-- the answers of a cycle that started by then
+pub answers-step : (t : Trace) (span : Stretch) (i j : ℕ) → i ≤ j → answers_of t span i (j + 1)
+    ≡ answers_of t span i j ++ (if is_answer t span j then j ∷ [] else [])
+unfolding answers_of those
+answers-step t span i j order = rw (add-one, le_holds i j order) refl
+
+-- ---- The answers of a cycle, with one more or none, and what rules ask of them.
+
+pub later-with : (rs : List ℕ) (r : ℕ) (b : Bool) → is_later (rs ++ (if b then r ∷ [] else [])) ≡ (is_later rs || b)
+later-with [] r true = refl
+later-with [] r false = refl
+later-with (q ∷ rs) r b = refl
+
+pub many-with : (rs : List ℕ) (r : ℕ) (b : Bool) → is_many (rs ++ (if b then r ∷ [] else []))
+    ≡ (is_many rs || (b && is_later rs))
+many-with [] r true = refl
+many-with [] r false = refl
+many-with (q ∷ []) r true = refl
+many-with (q ∷ []) r false = refl
+many-with (q ∷ p ∷ rs) r b = refl
+
+module _ (t : Trace) (span : Stretch) where
+  pub first-with : (rs : List ℕ) (r : ℕ) (b : Bool) → writes_first t span (rs ++ (if b then r ∷ [] else []))
+      ≡ (writes_first t span rs || (b && not (is_later rs) && answers_write t span r))
+  first-with [] r true = refl
+  first-with [] r false = refl
+  first-with (q ∷ rs) r b = stays (answers_write t span q) b (answers_write t span r)
+    where
+      stays : (a b w : Bool) → a ≡ (a || (b && false && w))
+      stays true b w = refl
+      stays false true w = refl
+      stays false false w = refl
+
+  -- the pair of a single cycle, and the direction of a block cycle
+  pub spoils-is : (rs : List ℕ) (r : ℕ)
+      → (is_later rs && (is_many rs || writes_first t span rs || not (answers_write t span r))) ≡ spoils_pair t span
+      rs r
+  unfolding spoils_pair
+  spoils-is [] r = refl
+  spoils-is (q ∷ []) r = refl
+  spoils-is (q ∷ p ∷ rs) r = refl
+
+  pub turns-is : (rs : List ℕ) (r : ℕ) → (is_later rs && not (beq (writes_first t span rs) (answers_write t span r)))
+      ≡ turns t span rs r
+  unfolding turns
+  turns-is [] r = refl
+  turns-is (q ∷ rs) r = differ-is (answers_write t span q) (answers_write t span r)
+    where
+      differ-is : (a b : Bool) → not (beq a b) ≡ differ a b
+      differ-is true true = refl
+      differ-is true false = refl
+      differ-is false true = refl
+      differ-is false false = refl
+
+-- ---- The field that says which transfer is open, as one starts, and one instant later.
+
+pub longer : (p : ℕ → Bool) (f m n : ℕ) → m ≤ n → any p f m ≡ true → any p f n ≡ true
+longer p f m n order h =
+    decide (any p f n) (λ e. e) (λ e. absurd (clash (any p f m) h (none-shorter p f m n order e)))
+
+module _ (t : Trace) (span : Stretch) (j : ℕ) (judged : is_judged span j ≡ true) where
+  pub starts-is : transfer_starts t span j ≡ starts_transfer t j
+  unfolding transfer_starts
+  starts-is = rw judged refl
+
+  -- one starts
+  pub open-here : starts_transfer t j ≡ true → (w : Bool) → w ≡ low t WRITE j → IsTransfer t span (j + 1) j (record {
+    is_open = true;
+    start = j;
+    is_write = w;
+    answered = false;
+    rose = false;
+  })
+  unfolding is_write is_answered
+  open-here here w is = record {
+    here = λ e. record {
+      last = greatest-here (transfer_starts t span) (span.start + 1) j (after_start span j judged) (starts-is ∙ here);
+      still = ap not (any-start (strobes_high t) (j + 1) j (omega arith));
+      direction = is;
+      answered = sym (any-start (λ r. lasts t span j r && answer_falls t r) j j (omega arith));
+      rose = sym (any-start (strobe_rises t) (j + 1) j (omega arith));
+    };
+    absent = λ e. absurd (cc);
+  }
+
+  -- none starts
+  pub open-not : starts_transfer t j ≡ false → (c : Transfer) → IsTransfer t span j j c → IsTransfer t span (j + 1) j c
+  open-not here c is = record {
+    here = λ e. let w = is.here e in record {
+      last = greatest-not (transfer_starts t span) (span.start + 1) j (starts-is ∙ here) ∙ w.last;
+      still = w.still;
+      direction = w.direction;
+      answered = w.answered;
+      rose = w.rose;
+    };
+    absent = λ e i before start. elim (last_or_before i j before) [
+      | inl same ↦ absurd
+          (clash (transfer_starts t span j) (ap (transfer_starts t span) (sym same) ∙ start) (starts-is ∙ here))
+      | inr earlier ↦ is.absent e i earlier start
+    ];
+  }
+
+  -- one instant later
+  closed-on : AreClosed t span (j + 1) j → AreClosed t span (j + 1) (j + 1)
+  closed-on is i before start = longer (strobes_high t) (i + 1) j (j + 1) (omega arith) (is i before start)
+
+  module _ (c : Transfer) (is : IsOpenTransfer t span (j + 1) j c) where
+    found-transfer : IsGreatest (transfer_starts t span) (span.start + 1) (j + 1) c.start
+    found-transfer = greatest-found (transfer_starts t span) (span.start + 1) (j + 1) c.start is.last
+
+    closes : c.start < j → strobes_high t j ≡ true → AreClosed t span (j + 1) (j + 1)
+    closes later there i before start =
+        any-holds (strobes_high t) (i + 1) (j + 1) j (elim (below_or_from c.start i) [
+          | inl past ↦ absurd (clash (transfer_starts t span i) start
+              (any-fails (transfer_starts t span) (c.start + 1) (j + 1) i found-transfer.last (omega arith) before))
+          | inr earlier ↦ omega arith
+        ]) (omega arith) there
+
+    still-on : (nat_lt c.start j && strobes_high t j) ≡ false → none (strobes_high t) (c.start + 1) (j + 1) ≡ true
+    still-on h = decide (nat_lt c.start j)
+        (λ e. let before = lt_of c.start j e in
+        let low : strobes_high t j ≡ false = rw e at h in
+        none-step (strobes_high t) (c.start + 1) j (omega arith)
+        ∙ both (none (strobes_high t) (c.start + 1) j) (not (strobes_high t j)) is.still (ap not low))
+        (λ e. let same = lt_not c.start j e in
+        ap not (any-start (strobes_high t) (c.start + 1) (j + 1) (omega arith)))
+
+    pub rose-on : any (strobe_rises t) (c.start + 1) (j + 1) ≡ (c.rose || (nat_lt c.start j && strobe_rises t j))
+    rose-on = any-step (strobe_rises t) (c.start + 1) j
+        ∙ (ap (λ b. b || (nat_le (c.start + 1) j && strobe_rises t j)) (sym is.rose)
+        ∙ ap (λ b. c.rose || (b && strobe_rises t j)) (alike c.start j))
+      where
+        alike : (i k : ℕ) → nat_le (i + 1) k ≡ nat_lt i k
+        alike i k = grind (arith, nat_tests)
+
+    stays-open : (nat_lt c.start j && strobes_high t j) ≡ false → IsOpenTransfer t span (j + 1) (j + 1) (record c {
+      is_open = true;
+      answered = c.answered || answer_falls t j;
+      rose = any (strobe_rises t) (c.start + 1) (j + 1);
+    })
+    stays-open h = record {
+      last = is.last;
+      still = still-on h;
+      direction = is.direction;
+      answered = ap (λ b. b || answer_falls t j) is.answered
+          ∙ sym (answered-step t span j c.start judged is.last is.still);
+      rose = refl;
+    }
+
+  pub transfer-later : (c : Transfer) → IsTransfer t span (j + 1) j c → (hi fa ro : Bool) → hi ≡ strobes_high t j
+      → fa ≡ answer_falls t j → (IsOpenTransfer t span (j + 1) j c → ro ≡ any (strobe_rises t) (c.start + 1) (j + 1))
+      → IsTransfer t span (j + 1) (j + 1) (record c {
+        is_open = c.is_open && not (nat_lt c.start j && hi);
+        answered = c.answered || fa;
+        rose = ro;
+      })
+  transfer-later c is hi fa ro h f r = rw (h, f) (by_flags c.is_open (nat_lt c.start j && strobes_high t j) refl refl)
+    where
+      by_flags : (a b : Bool) → c.is_open ≡ a → (nat_lt c.start j && strobes_high t j) ≡ b
+          → IsTransfer t span (j + 1) (j + 1) (record c {
+            is_open = a && not b;
+            answered = c.answered || answer_falls t j;
+            rose = ro;
+          })
+      by_flags false b e g = record { here = λ k. absurd (cc); absent = λ k. closed-on (is.absent e) }
+      by_flags true true e g =
+          let parts = and_true (nat_lt c.start j) (strobes_high t j) g in record {
+            here = λ k. absurd (cc);
+            absent = λ k. closes c (is.here e) (lt_of c.start j parts.0) parts.1;
+          }
+      by_flags true false e g = record {
+        here = λ k. subst (λ b. IsOpenTransfer t span (j + 1) (j + 1) (record c {
+          is_open = true;
+          answered = c.answered || answer_falls t j;
+          rose = b;
+        })) (sym (r (is.here e))) (stays-open c (is.here e) g);
+        absent = λ k. absurd (cc);
+      }
+
+-- behind the start of a stretch none has started
+pub none-started : (t : Trace) (span : Stretch) → AreClosed t span (span.start + 1) (span.start + 1)
+unfolding transfer_starts
+none-started t span i before start =
+    let judged = (and_true (is_judged span i) (strobes_high t (i - 1))
+    (and_true (is_judged span i && strobes_high t (i - 1)) _ start).0).0 in
+    let after = after_start span i judged in
+    absurd (omega arith)
+
+-- for the open transfer as it starts, and one instant later
+pub ruleset transfers = (open-here, open-not, transfer-later, rose-on)
+
+-- ---- The field that says which cycle is the last, as one starts, and one instant later.
+
+-- what is high isn't low, and what is low isn't high
+one_of : (x : Level) → (is_high x ≡ true → is_low x ≡ false) × (is_low x ≡ true → is_high x ≡ false)
+one_of Low = (λ h. absurd (cc), λ h. refl)
+one_of High = (λ h. refl, λ h. absurd (cc))
+one_of Unknown = (λ h. absurd (cc), λ h. absurd (cc))
+
+module _ (t : Trace) (l j : ℕ) where
+  pub fall-low : falls t l j ≡ true → low t l j ≡ true
+  unfolding falls
+  fall-low h = (and_true (high t l (j - 1)) (low t l j) h).1
+
+  -- what was low doesn't fall
+  pub low-no_fall : low t l (j - 1) ≡ true → falls t l j ≡ false
+  unfolding falls low high
+  low-no_fall h = rw ((one_of (level t l (j - 1))).1 h) refl
+
+  -- what falls doesn't rise
+  pub no-rise : falls t l j ≡ true → rises t l j ≡ false
+  unfolding falls rises low high
+  no-rise h = rw ((one_of (level t l (j - 1))).0 (and_true (high t l (j - 1)) (low t l j) h).0) refl
+
+  -- what rises doesn't fall
+  pub no-fall : rises t l j ≡ true → falls t l j ≡ false
+  unfolding rises
+  no-fall h = low-no_fall (and_true (low t l (j - 1)) (high t l j) h).0
+
+  -- what was low and doesn't rise stays low, where it is known
+  pub stays-low : low t l (j - 1) ≡ true → rises t l j ≡ false → known t l j ≡ true → low t l j ≡ true
+  unfolding rises low high known
+  stays-low h r k = by_level (level t l j) (is_low (level t l (j - 1))) h r k
+    where
+      by_level : (x : Level) (a : Bool) → a ≡ true → (a && is_high x) ≡ false → is_known x ≡ true → is_low x ≡ true
+      by_level Low a e h k = refl
+      by_level High a e h k = let c : (true && true) ≡ false = rw e at h in absurd (cc)
+      by_level Unknown a e h k = absurd (cc)
+
+-- what has ended stays so
+pub stays-ended : (p : ℕ → Bool) (i j : ℕ) → none p (i + 1) j ≡ false → none p (i + 1) (j + 1) ≡ false
+stays-ended p i j h = rw (any-step p (i + 1) j, true_of_not (any p (i + 1) j) h) refl
+
+starts-after : (t : Trace) (span : Stretch) (i : ℕ) → cycle_starts t span i ≡ true → span.start + 1 ≤ i
+unfolding cycle_starts
+starts-after t span i h = after_start span i (and_true (is_judged span i) (falls t AS i) h).0
+
+starts-low : (t : Trace) (span : Stretch) (i : ℕ) → cycle_starts t span i ≡ true → low t AS i ≡ true
+unfolding cycle_starts
+starts-low t span i h = fall-low t AS i (and_true (is_judged span i) (falls t AS i) h).1
+
+-- where AS* falls each cycle has ended
+all-ended : (t : Trace) (span : Stretch) (j : ℕ) (c : Cycle) → IsCycle t span j j c → falls t AS j ≡ true → (i : ℕ)
+    → cycle_starts t span i ≡ true → i < j → none (rises t AS) (i + 1) j ≡ false
+all-ended t span j c is here i start before = decide c.has_started (λ e. by_last (is.here e))
+    (λ e. absurd (clash (cycle_starts t span i) start (any-fails (cycle_starts t span) (span.start + 1) j i
+    (greatest-none-any (cycle_starts t span) (span.start + 1) j (is.absent e)) (starts-after t span i start) before)))
+  where
+    by_last : IsLastCycle t span j j c → none (rises t AS) (i + 1) j ≡ false
+    by_last w =
+        let found = greatest-found (cycle_starts t span) (span.start + 1) j c.start w.last in
+        let stopped : c.runs ≡ false = decide c.runs
+        (λ e. absurd (clash (falls t AS j) here (low-no_fall t AS j (w.is_low e found.before)))) (λ e. e) in
+        elim (order_of i c.start) [
+          | inl earlier ↦ w.others i start earlier
+          | inr (inl e) ↦ ap (λ k. none (rises t AS) (k + 1) j) e ∙ (sym w.runs ∙ stopped)
+          | inr (inr later) ↦ absurd (clash (cycle_starts t span i) start
+              (any-fails (cycle_starts t span) (c.start + 1) j i found.last (omega arith) before))
+        ]
+
+module _ (t : Trace) (span : Stretch) (j : ℕ) (judged : is_judged span j ≡ true) where
+  pub cycle-starts-is : cycle_starts t span j ≡ falls t AS j
+  unfolding cycle_starts
+  cycle-starts-is = rw judged refl
+
+  -- one starts
+  pub cycle-here : (o : Cycle) → IsCycle t span j j o → falls t AS j ≡ true → (c : Cycle) → c.start ≡ j
+      → c.class ≡ class_at t span j → c.needs ≡ needs_of (levels_at t j) → c.runs ≡ true → c.answered ≡ false
+      → c.first_writes ≡ false → c.answered_again ≡ false → c.acknowledged ≡ false → IsLastCycle t span (j + 1) j c
+  unfolding answers_of
+  cycle-here o was here c at class needs runs answered first again acknowledged =
+      let none_yet = ap (λ k. those (is_answer t span) k j) at ∙ those-empty (is_answer t span) j j (omega arith) in
+      record {
+        last = greatest-here (cycle_starts t span) (span.start + 1) j (after_start span j judged)
+            (cycle-starts-is ∙ here) ∙ ap (λ k. Some k) (sym at);
+        class = class ∙ sym (ap (class_at t span) at);
+        needs = needs ∙ sym (ap (λ k. needs_of (levels_at t k)) at);
+        runs = runs ∙ sym (ap (λ k. none (rises t AS) (k + 1) j) at
+            ∙ ap not (any-start (rises t AS) (j + 1) j (omega arith)));
+        is_low = λ on before. absurd (omega arith);
+        others = λ i start before. all-ended t span j o was here i start (omega arith);
+        answered = answered ∙ sym (ap is_later none_yet);
+        first_writes = first ∙ sym (ap (writes_first t span) none_yet);
+        answered_again = again ∙ sym (ap is_many none_yet);
+        acknowledged = acknowledged ∙ sym (ap (λ k. is_acknowledged t span k j) at
+            ∙ any-start (λ r. is_answer t span r && falls t DTACK r) j j (omega arith));
+      }
+
+  -- none starts
+  pub cycle-not : falls t AS j ≡ false → (c : Cycle) → IsCycle t span j j c → IsCycle t span (j + 1) j c
+  cycle-not here c is =
+      let same = greatest-not (cycle_starts t span) (span.start + 1) j (cycle-starts-is ∙ here) in
+      record {
+        here = λ e. let w = is.here e in record {
+          last = same ∙ w.last;
+          class = w.class;
+          needs = w.needs;
+          runs = w.runs;
+          is_low = w.is_low;
+          others = w.others;
+          answered = w.answered;
+          first_writes = w.first_writes;
+          answered_again = w.answered_again;
+          acknowledged = w.acknowledged;
+        };
+        absent = λ e. same ∙ is.absent e;
+      }
+
+  module _ (c : Cycle) (is : IsLastCycle t span (j + 1) j c) where
+    found-cycle : IsGreatest (cycle_starts t span) (span.start + 1) (j + 1) c.start
+    found-cycle = greatest-found (cycle_starts t span) (span.start + 1) (j + 1) c.start is.last
+
+    pub cycle-within : c.start ≤ j
+    cycle-within = let before = found-cycle.before in omega arith
+
+    pub runs-on : none (rises t AS) (c.start + 1) (j + 1) ≡ (c.runs && not (rises t AS j))
+    runs-on = by_order (last_or_before c.start j found-cycle.before)
+      where
+        by_order : (c.start ≡ j) ⊎ (c.start < j) → none (rises t AS) (c.start + 1) (j + 1)
+            ≡ (c.runs && not (rises t AS j))
+        by_order (inl e) = ap not (any-start (rises t AS) (c.start + 1) (j + 1) (omega arith))
+            ∙ (sym (is.runs ∙ ap not (any-start (rises t AS) (c.start + 1) j (omega arith)))
+            ∙ (sym (and_on c.runs) ∙ ap (λ b. c.runs && not b) (sym (no-rise t AS j
+            (sym cycle-starts-is ∙ (ap (cycle_starts t span) (sym e) ∙ found-cycle.holds))))))
+        by_order (inr before) = none-step (rises t AS) (c.start + 1) j (omega arith)
+            ∙ ap (λ b. b && not (rises t AS j)) (sym is.runs)
+
+    low-now : known t AS j ≡ true → (c.runs && not (rises t AS j)) ≡ true → low t AS j ≡ true
+    low-now knows on = by_order (last_or_before c.start j found-cycle.before)
+      where
+        parts : (c.runs ≡ true) × (not (rises t AS j) ≡ true)
+        parts = and_true c.runs (not (rises t AS j)) on
+
+        by_order : (c.start ≡ j) ⊎ (c.start < j) → low t AS j ≡ true
+        by_order (inl e) = starts-low t span j (ap (cycle_starts t span) (sym e) ∙ found-cycle.holds)
+        by_order (inr before) = stays-low t AS j (is.is_low parts.0 before) (false_of_not (rises t AS j) parts.1) knows
+
+    answers-later : answers_of t span c.start (j + 1)
+        ≡ answers_of t span c.start j ++ (if is_answer t span j then j ∷ [] else [])
+    answers-later = answers-step t span c.start j cycle-within
+
+    acknowledged-step : is_acknowledged t span c.start (j + 1)
+        ≡ (is_acknowledged t span c.start j || (is_answer t span j && falls t DTACK j))
+    acknowledged-step = any-step (λ r. is_answer t span r && falls t DTACK r) c.start j
+        ∙ rw (le_holds c.start j cycle-within) refl
+
+    later-last : known t AS j ≡ true → IsLastCycle t span (j + 1) (j + 1) (record c {
+      runs = c.runs && not (rises t AS j);
+      answered = c.answered || is_answer t span j;
+      first_writes = c.first_writes || (is_answer t span j && not c.answered && answers_write t span j);
+      answered_again = c.answered_again || (is_answer t span j && c.answered);
+      acknowledged = c.acknowledged || (is_answer t span j && falls t DTACK j);
+    })
+    later-last knows =
+        let rs = answers_of t span c.start j in
+        let an = is_answer t span j in
+        let back : j + 1 - 1 ≡ j = omega arith in
+        record {
+          last = is.last;
+          class = is.class;
+          needs = is.needs;
+          runs = sym runs-on;
+          is_low = λ on before. ap (low t AS) back ∙ low-now knows on;
+          others = λ i start before. stays-ended (rises t AS) i j (is.others i start before);
+          answered = ap (λ b. b || an) is.answered ∙ sym (ap is_later answers-later ∙ later-with rs j an);
+          first_writes = ap (λ b. b || (an && not c.answered && answers_write t span j)) is.first_writes
+              ∙ (ap (λ b. writes_first t span rs || (an && not b && answers_write t span j)) is.answered
+              ∙ sym (ap (writes_first t span) answers-later ∙ first-with t span rs j an));
+          answered_again = ap (λ b. b || (an && c.answered)) is.answered_again
+              ∙ (ap (λ b. is_many rs || (an && b)) is.answered ∙ sym (ap is_many answers-later ∙ many-with rs j an));
+          acknowledged = ap (λ b. b || (an && falls t DTACK j)) is.acknowledged ∙ sym acknowledged-step;
+        }
+
+  -- one instant later
+  pub cycle-later : known t AS j ≡ true → (c : Cycle) → IsCycle t span (j + 1) j c → (ri an wr fa : Bool)
+      → ri ≡ rises t AS j → an ≡ is_answer t span j → wr ≡ answers_write t span j → fa ≡ falls t DTACK j
+      → IsCycle t span (j + 1) (j + 1) (record c {
+        runs = c.runs && not ri;
+        answered = c.answered || an;
+        first_writes = c.first_writes || (an && not c.answered && wr);
+        answered_again = c.answered_again || (an && c.answered);
+        acknowledged = c.acknowledged || (an && fa);
+      })
+  cycle-later knows c is ri an wr fa r a w f =
+      rw (r, a, w, f) (record { here = λ e. later-last c (is.here e) knows; absent = λ e. is.absent e })
+
+-- for the last cycle as it starts, and one instant later
+pub ruleset cycles = (cycle-here, cycle-not, cycle-later, address-known)
+
+-- ---- What happened since the last time that something else did: the fields that rules H6, G5 and B2 ask for.
+
+module _ (t : Trace) (span : Stretch) (p q : ℕ → Bool) (j : ℕ) (judged : is_judged span j ≡ true) where
+  last-here : p j ≡ true → last_before t span p (j + 1) ≡ j
+  unfolding last_before
+  last-here here = ap (λ o. unwrap_or o span.start)
+      (greatest-here p (span.start + 1) j (after_start span j judged) here)
+
+  last-not : p j ≡ false → last_before t span p (j + 1) ≡ last_before t span p j
+  unfolding last_before
+  last-not here = ap (λ o. unwrap_or o span.start) (greatest-not p (span.start + 1) j here)
+
+  -- it is no later than the instant
+  last-within : last_before t span p j + 1 ≤ j
+  unfolding last_before
+  last-within = case_of (greatest p (span.start + 1) j) (λ e. rw e (after_start span j judged))
+      (λ i e. let found = (greatest-found p (span.start + 1) j i e).before in rw e (omega arith))
+
+  -- what a rule asks at an instant of what happened up to there
+  pub since-asks : any q (last_before t span p j) (j + 1) ≡ (any q (last_before t span p j) j || q j)
+  since-asks = any-step q (last_before t span p j) j
+      ∙ rw (le_holds (last_before t span p j) j (omega (arith, last-within))) refl
+
+  pub since-later-asks : any q (last_before t span p j + 1) (j + 1) ≡ (any q (last_before t span p j + 1) j || q j)
+  since-later-asks = any-step q (last_before t span p j + 1) j
+      ∙ rw (le_holds (last_before t span p j + 1) j last-within) refl
+
+  -- the field one instant later
+  pub since-step : {a b c : Bool} → a ≡ any q (last_before t span p j) j → b ≡ p j → c ≡ q j
+      → ((a && not b) || c) ≡ any q (last_before t span p (j + 1)) (j + 1)
+  since-step e f g = rw (e, f, g) (decide (p j) (λ e. rw (last-here e, e, here_only, and_off) refl)
+      (λ e. rw (last-not e, e, since-asks, and_on) refl))
+    where
+      here_only : any q j (j + 1) ≡ q j
+      here_only = any-step q j j ∙ rw (any-start q j j (omega arith), le_holds j j (omega arith)) refl
+
+  pub since-later-step : {a b c : Bool} → a ≡ any q (last_before t span p j + 1) j → b ≡ p j → c ≡ q j
+      → ((a || c) && not b) ≡ any q (last_before t span p (j + 1) + 1) (j + 1)
+  since-later-step e f g = rw (e, f, g) (decide (p j)
+      (λ e. rw (last-here e, e, and_off) (sym (any-start q (j + 1) (j + 1) (omega arith))))
+      (λ e. rw (last-not e, e, and_on) (sym since-later-asks)))
+
+-- the fields behind the start of a stretch
+module _ (t : Trace) (span : Stretch) (p q : ℕ → Bool) where
+  last-start : last_before t span p (span.start + 1) ≡ span.start
+  unfolding last_before
+  last-start = ap (λ o. unwrap_or o span.start) (greatest-none p (span.start + 1) (span.start + 1) (omega arith))
+
+  pub since-start : any q (last_before t span p (span.start + 1)) (span.start + 1) ≡ q span.start
+  since-start = ap (λ k. any q k (span.start + 1)) last-start
+      ∙ (any-step q span.start span.start
+      ∙ rw (any-start q span.start span.start (omega arith), le_holds span.start span.start (omega arith)) refl)
+
+  pub since-later-start : any q (last_before t span p (span.start + 1) + 1) (span.start + 1) ≡ false
+  since-later-start = ap (λ k. any q (k + 1) (span.start + 1)) last-start
+      ∙ any-start q (span.start + 1) (span.start + 1) (omega arith)
