@@ -1,158 +1,96 @@
 use std::alloc::{AllocError, Global};
-use std::process::Abort;
-use std::test::Fail;
 use vcd_read::{
-    Bit, ChangeVisitor, DetachedPiece, Dump, FaultKind, Instant, Pieces, Stopped, Variable,
+    Bit, ChangeVisitor, DetachedPiece, Dump, FaultKind, Front, Instant, Pieces, Stopped, Variable,
     Variables, VcdFault, line_feeds, read_front, read_vcd,
 };
 
 /// What a dump says, a line for each variable and each instant.
-fn shown(alloc: Global, dump: &Dump) -> Result<Vec<u8>, AllocError> {
-    let mut text = shown_variables(alloc, dump.variables())?;
-    for instant in dump.instants() {
-        show_instant(alloc, &mut text, instant)?;
-    }
-    Ok(text)
+fn show_dump(alloc: Global, text: &mut Vec<u8>, dump: &Dump) -> Result<(), AllocError> {
+    show_variables(alloc, text, dump.variables())?;
+    show_instants(alloc, text, dump.instants())
 }
 
-fn show_instant(alloc: Global, text: &mut Vec<u8>, instant: &Instant) -> Result<(), AllocError> {
-    let time = instant.time;
-    push(text, format!(in alloc; "#{time}")?)?;
-    for value in instant.values.as_slice() {
-        let net = value.net;
-        push(text, format!(in alloc; " {net}=")?)?;
-        show_bits(text, value.bits.as_slice())?;
+fn show_instants(
+    alloc: Global,
+    text: &mut Vec<u8>,
+    instants: &[Instant],
+) -> Result<(), AllocError> {
+    for instant in instants {
+        show_time(alloc, text, instant.time)?;
+        for value in instant.values.as_slice() {
+            show_net(alloc, text, value.net)?;
+            show_bits(text, value.bits.as_slice())?;
+        }
+        text.push(b'\n')?;
     }
-    text.push(b'\n')?;
     Ok(())
 }
 
-fn push(text: &mut Vec<u8>, part: String) -> Result<(), AllocError> {
-    text.extend_from_slice(part.as_bytes())?;
+fn show_time(alloc: Global, text: &mut Vec<u8>, time: u64) -> Result<(), AllocError> {
+    text.extend_from_slice(format!(in alloc; "#{time}")?.as_bytes())?;
     Ok(())
 }
 
-fn shown_variables(alloc: Global, variables: &[Variable]) -> Result<Vec<u8>, AllocError> {
-    let mut text = Vec::new(alloc);
+fn show_net(alloc: Global, text: &mut Vec<u8>, net: u32) -> Result<(), AllocError> {
+    text.extend_from_slice(format!(in alloc; " {net}=")?.as_bytes())?;
+    Ok(())
+}
+
+fn show_variables(
+    alloc: Global,
+    text: &mut Vec<u8>,
+    variables: &[Variable],
+) -> Result<(), AllocError> {
     for variable in variables {
-        show_variable(alloc, &mut text, variable)?;
+        text.extend_from_slice(variable.path.as_bytes())?;
+        if let Some((left, right)) = variable.index {
+            text.extend_from_slice(format!(in alloc; "[{left}:{right}]")?.as_bytes())?;
+        }
+        let (size, net) = (variable.size, variable.net);
+        text.extend_from_slice(format!(in alloc; " {size} {net}\n")?.as_bytes())?;
     }
-    Ok(text)
+    Ok(())
 }
 
-fn show_variable(alloc: Global, text: &mut Vec<u8>, variable: &Variable) -> Result<(), AllocError> {
-    text.extend_from_slice(variable.path.as_bytes())?;
-    if let Some((left, right)) = variable.index {
-        push(text, format!(in alloc; "[{left}:{right}]")?)?;
+fn digit_of(bit: Bit) -> u8 {
+    match bit {
+        Bit::Zero => b'0',
+        Bit::One => b'1',
+        Bit::X => b'x',
+        Bit::Z => b'z',
     }
-    let (size, net) = (variable.size, variable.net);
-    push(text, format!(in alloc; " {size} {net}\n")?)
 }
 
 fn show_bits(text: &mut Vec<u8>, bits: &[Bit]) -> Result<(), AllocError> {
     for bit in bits {
-        text.push(match bit {
-            Bit::Zero => b'0',
-            Bit::One => b'1',
-            Bit::X => b'x',
-            Bit::Z => b'z',
-        })?;
+        text.push(digit_of(*bit))?;
     }
     Ok(())
 }
 
-/// The bits of a net that changed, as digits.
-#[derive(Drop)]
-struct Changed {
-    net: u32,
-    bits: Vec<u8>,
-}
-
-/// Takes the changes of a body, and tells the instants as `shown` does.
-#[derive(Drop)]
-struct Telling {
-    text: Vec<u8>,
-    /// The nets that changed at the instant at hand, each once.
-    changed: Vec<Changed>,
-}
-
-impl ChangeVisitor for Telling {
-    ghost Taken = { Unit {0} };
-
-    ghost taken = { λ t. tt };
-
-    ghost with_change = { λ t net bits. t };
-
-    ghost with_instant = { λ t time. t };
-
-    fn change(
-        &mut self,
-        alloc: Global,
-        net: u32,
-        size: u32,
-        digits: &[u8],
-    ) -> Result<(), AllocError> {
-        self.set(bits_of(alloc, net, size, digits)?)
-    }
-
-    fn end_instant(&mut self, alloc: Global, time: u64) -> Result<(), AllocError> {
-        self.tell(alloc, time)
-    }
-}
-
-/// The bits of a value, extended on the left.
-fn bits_of(alloc: Global, net: u32, size: u32, digits: &[u8]) -> Result<Changed, AllocError> {
-    let first = digits.first().copied().unwrap_or(b'x');
-    let fill = if first == b'1' { b'0' } else { first };
-    let mut bits = Vec::new(alloc);
-    bits.resize((size as usize).saturating_sub(digits.len()), fill)?;
-    bits.extend_from_slice(digits)?;
-    bits.make_ascii_lowercase();
-    Ok(Changed { net, bits })
-}
-
-impl Telling {
-    fn set(&mut self, change: Changed) -> Result<(), AllocError> {
-        self.changed.retain(|changed| changed.net != change.net);
-        self.changed.push(change)?;
-        Ok(())
-    }
-
-    fn tell(&mut self, alloc: Global, time: u64) -> Result<(), AllocError> {
-        self.changed.sort_unstable_by_key(|changed| changed.net);
-        push(&mut self.text, format!(in alloc; "#{time}")?)?;
-        for changed in &self.changed {
-            let net = changed.net;
-            push(&mut self.text, format!(in alloc; " {net}=")?)?;
-            self.text.extend_from_slice(&changed.bits)?;
-        }
-        self.text.push(b'\n')?;
-        self.changed.clear();
-        Ok(())
-    }
-}
-
-/// What a taker is told.
+/// What is told of a body.
 #[derive(Drop)]
 enum Visit {
-    Change(Changed),
+    /// A net, and the bits that it changes to, as digits.
+    Change(u32, Vec<u8>),
+    /// The time of an instant that ends.
     End(u64),
 }
 
 /// Keeps all that it is told.
 #[derive(Drop)]
-struct Keeping {
+struct Visits {
     visits: Vec<Visit>,
 }
 
-impl ChangeVisitor for Keeping {
+impl ChangeVisitor for Visits {
     ghost Taken = { Unit {0} };
 
-    ghost taken = { λ k. tt };
+    ghost taken = { λ v. tt };
 
-    ghost with_change = { λ k net bits. k };
+    ghost with_change = { λ v net bits. v };
 
-    ghost with_instant = { λ k time. k };
+    ghost with_instant = { λ v time. v };
 
     fn change(
         &mut self,
@@ -161,8 +99,8 @@ impl ChangeVisitor for Keeping {
         size: u32,
         digits: &[u8],
     ) -> Result<(), AllocError> {
-        self.visits
-            .push(Visit::Change(bits_of(alloc, net, size, digits)?))?;
+        let bits = bits_of(alloc, size, digits)?;
+        self.visits.push(Visit::Change(net, bits))?;
         Ok(())
     }
 
@@ -173,16 +111,68 @@ impl ChangeVisitor for Keeping {
     }
 }
 
-impl Telling {
-    fn take_all(&mut self, alloc: Global, keeping: Keeping) -> Result<(), AllocError> {
-        for visits in keeping.visits {
-            match visits {
-                Visit::Change(change) => self.set(change)?,
-                Visit::End(time) => self.tell(alloc, time)?,
+/// Nothing is told yet.
+fn none_told(alloc: Global) -> Visits {
+    Visits {
+        visits: Vec::new(alloc),
+    }
+}
+
+/// The digits of a value, extended on the left.
+fn extend_bits(bits: &mut Vec<u8>, size: u32, digits: &[u8]) -> Result<(), AllocError> {
+    let first = digits.first().copied().unwrap_or(b'x');
+    let fill = if first == b'1' { b'0' } else { first };
+    bits.resize((size as usize).saturating_sub(digits.len()), fill)?;
+    bits.extend_from_slice(digits)?;
+    bits.make_ascii_lowercase();
+    Ok(())
+}
+
+fn bits_of(alloc: Global, size: u32, digits: &[u8]) -> Result<Vec<u8>, AllocError> {
+    let mut bits = Vec::new(alloc);
+    extend_bits(&mut bits, size, digits)?;
+    Ok(bits)
+}
+
+/// The last bits that a net changes to.
+fn last_bits(visits: &[Visit], net: u32) -> Option<&[u8]> {
+    let mut last = None;
+    for visit in visits {
+        if let Visit::Change(changed, bits) = visit {
+            if *changed == net {
+                last = Some(bits.as_slice());
             }
         }
-        Ok(())
     }
+    last
+}
+
+/// No net of these dumps has a greater number.
+const LAST_NET: u32 = 9;
+
+/// The nets that change, and the last bits of each.
+fn show_changes(alloc: Global, text: &mut Vec<u8>, visits: &[Visit]) -> Result<(), AllocError> {
+    for net in 0..LAST_NET + 1 {
+        if let Some(bits) = last_bits(visits, net) {
+            show_net(alloc, text, net)?;
+            text.extend_from_slice(bits)?;
+        }
+    }
+    Ok(())
+}
+
+/// What is told of the instants that end. The result is where the visits behind these begin.
+fn show_visits(alloc: Global, text: &mut Vec<u8>, visits: &[Visit]) -> Result<usize, AllocError> {
+    let mut from = 0;
+    for (at, visit) in visits.iter().enumerate() {
+        if let Visit::End(time) = visit {
+            show_time(alloc, text, *time)?;
+            show_changes(alloc, text, visits.get(from..at).unwrap_or(&[]))?;
+            text.push(b'\n')?;
+            from = at + 1;
+        }
+    }
+    Ok(from)
 }
 
 /// Where pieces of a text end that have so many bytes at least, and end behind a space.
@@ -200,39 +190,100 @@ fn ends_of(alloc: Global, text: &[u8], size: usize) -> Result<Vec<usize>, AllocE
     Ok(ends)
 }
 
-/// Begins to read a text by a front of it.
-fn begun(alloc: Global, front: &[u8]) -> Result<Option<(Pieces<Telling>, Variables)>, VcdFault> {
-    let Some((front, variables)) = read_front(alloc, front, Variables::new(alloc))? else {
-        return Ok(None);
-    };
-    let telling = Telling {
-        text: Vec::new(alloc),
-        changed: Vec::new(alloc),
-    };
-    let (pieces, rest) = front.before_body(telling);
-    Ok(Some((pieces.read(alloc, rest)?, variables)))
+/// Begins to read the body behind a front.
+fn body_begun(
+    alloc: Global,
+    front: Front<'_>,
+    variables: Variables,
+) -> Result<(Pieces<Visits>, Variables), VcdFault> {
+    let (pieces, rest) = front.before_body(none_told(alloc));
+    Ok((pieces.read(alloc, rest)?, variables))
 }
 
-/// What a dump says that is read in such pieces, if its definitions end.
-fn shown_by_pieces(alloc: Global, text: &[u8], size: usize) -> Result<Option<Vec<u8>>, VcdFault> {
-    let mut reading = None;
-    let mut from = 0;
-    for end in ends_of(alloc, text, size)? {
-        reading = match reading {
-            None => begun(alloc, text.get(..end).unwrap_or(text))?,
-            Some((pieces, variables)) => {
-                let piece = text.get(from..end).unwrap_or(&[]);
-                Some((pieces.read(alloc, piece)?, variables))
-            }
-        };
-        from = end;
+/// Begins to read a text by a front of it.
+fn begun(alloc: Global, front: &[u8]) -> Result<Option<(Pieces<Visits>, Variables)>, VcdFault> {
+    match read_front(alloc, front, Variables::new(alloc))? {
+        Some((front, variables)) => Ok(Some(body_begun(alloc, front, variables)?)),
+        None => Ok(None),
     }
-    let Some((pieces, variables)) = reading else {
-        return Ok(None);
-    };
-    let mut found = shown_variables(alloc, variables.as_slice())?;
-    found.extend_from_slice(&pieces.finish(alloc)?.text)?;
-    Ok(Some(found))
+}
+
+/// Goes on behind a place of a text, in pieces that end there.
+fn read_on(
+    alloc: Global,
+    pieces: Pieces<Visits>,
+    text: &[u8],
+    begin: usize,
+    ends: &[usize],
+) -> Result<Visits, VcdFault> {
+    let mut pieces = pieces;
+    let mut from = begin;
+    for end in ends {
+        pieces = pieces.read(alloc, text.get(from..*end).unwrap_or(&[]))?;
+        from = *end;
+    }
+    pieces.finish(alloc)
+}
+
+/// What a dump says, by its variables and what is told of its body.
+fn show_told(
+    alloc: Global,
+    text: &mut Vec<u8>,
+    variables: &[Variable],
+    visits: &[Visit],
+) -> Result<(), AllocError> {
+    show_variables(alloc, text, variables)?;
+    show_visits(alloc, text, visits)?;
+    Ok(())
+}
+
+/// Whether a body that was begun says this where the rest is read in such pieces, or its fault.
+fn body_says(
+    alloc: Global,
+    begun: (Pieces<Visits>, Variables),
+    text: &[u8],
+    begin: usize,
+    ends: &[usize],
+    wanted: &str,
+) -> Result<bool, VcdFault> {
+    let (pieces, variables) = begun;
+    let told = read_on(alloc, pieces, text, begin, ends)?;
+    let mut found = Vec::new(alloc);
+    show_told(
+        alloc,
+        &mut found,
+        variables.as_slice(),
+        told.visits.as_slice(),
+    )?;
+    Ok(found.as_slice() == wanted.as_bytes())
+}
+
+/// Whether a text says this where it is read in pieces with these ends, or its fault; `None` where its definitions
+/// don't end.
+fn says_in_pieces(
+    alloc: Global,
+    text: &[u8],
+    ends: &[usize],
+    wanted: &str,
+) -> Result<Option<bool>, VcdFault> {
+    for (count, end) in ends.iter().enumerate() {
+        if let Some(begun) = begun(alloc, text.get(..*end).unwrap_or(text))? {
+            let behind = ends.get(count + 1..).unwrap_or(&[]);
+            return Ok(Some(body_says(alloc, begun, text, *end, behind, wanted)?));
+        }
+    }
+    Ok(None)
+}
+
+/// The same, where the pieces have so many bytes at least.
+fn says_by_pieces(
+    alloc: Global,
+    text: &[u8],
+    size: usize,
+    wanted: &str,
+) -> Result<Option<bool>, VcdFault> {
+    let ends = ends_of(alloc, text, size)?;
+    says_in_pieces(alloc, text, &ends, wanted)
 }
 
 /// Where a text may be cut in front of a time at the beginning of a line.
@@ -247,123 +298,94 @@ fn times_of(alloc: Global, text: &[u8]) -> Result<Vec<usize>, AllocError> {
     Ok(ends)
 }
 
-/// A piece, and what it tells where it is read apart.
-#[derive(Drop)]
-struct KeptPiece<'a> {
-    piece: &'a [u8],
-    apart: Option<DetachedPiece<Keeping>>,
+/// What is told before and behind, and the end of an instant between them.
+fn visits_together(
+    earlier: Visits,
+    ended: Option<u64>,
+    later: Visits,
+) -> Result<Visits, AllocError> {
+    let mut visits = earlier.visits;
+    if let Some(time) = ended {
+        visits.push(Visit::End(time))?;
+    }
+    for visit in later.visits {
+        visits.push(visit)?;
+    }
+    Ok(Visits { visits })
 }
 
-/// Reads each piece of a body apart from the others.
-fn read_detached<'a>(
+/// Puts what was told earlier before what is told of a piece that was joined.
+fn with_earlier(
     alloc: Global,
-    pieces: &Pieces<Telling>,
-    body: &'a [u8],
-    ends: &[usize],
-) -> Result<Vec<KeptPiece<'a>>, AllocError> {
-    let mut all = Vec::new(alloc);
-    let mut from = 0;
-    let mut line = pieces.line();
-    for end in ends {
-        let piece = body.get(from..*end).unwrap_or(&[]);
-        let visits = Vec::new(alloc);
-        let apart = pieces.detached(alloc, piece, line, Keeping { visits });
-        all.push(KeptPiece { piece, apart })?;
-        line = line.saturating_add(line_feeds(piece));
-        from = *end;
-    }
-    Ok(all)
+    pieces: Pieces<Visits>,
+    earlier: Visits,
+    ended: Option<u64>,
+) -> Result<Pieces<Visits>, AllocError> {
+    let (pieces, later) = pieces.with_visitor(none_told(alloc));
+    let (pieces, _) = pieces.with_visitor(visits_together(earlier, ended, later)?);
+    Ok(pieces)
 }
 
 /// What a body is that was read, and how many of its pieces were joined.
 #[derive(Drop)]
 struct Joined {
-    pieces: Pieces<Telling>,
+    pieces: Pieces<Visits>,
     count: usize,
 }
 
-/// Goes on behind a piece: it is joined where it fits, and read in order elsewhere.
-fn join_piece(alloc: Global, so_far: Joined, kept: KeptPiece<'_>) -> Result<Joined, VcdFault> {
-    let Joined { pieces, count } = so_far;
-    let KeptPiece { piece, apart } = kept;
-    let Some(apart) = apart else {
-        let pieces = pieces.read(alloc, piece)?;
-        return Ok(Joined { pieces, count });
-    };
+/// Goes on behind a piece that was read apart: it is joined where it fits, and read in order elsewhere.
+fn join_piece(
+    alloc: Global,
+    pieces: Pieces<Visits>,
+    piece: &[u8],
+    apart: DetachedPiece<Visits>,
+) -> Result<Joined, VcdFault> {
     if !pieces.may_join(&apart) {
-        let pieces = pieces.read(alloc, piece)?;
-        return Ok(Joined { pieces, count });
+        return read_in_order(alloc, pieces, piece);
     }
     let ended = pieces.ended_by(&apart);
-    let (pieces, mut telling) = pieces.join(apart);
-    let (pieces, keeping) = pieces.with_visitor(IgnoreChanges);
-    if let Some(time) = ended {
-        telling.tell(alloc, time)?;
-    }
-    telling.take_all(alloc, keeping)?;
-    let (pieces, _) = pieces.with_visitor(telling);
+    let (pieces, earlier) = pieces.join(apart);
     Ok(Joined {
-        pieces,
-        count: count.saturating_add(1),
+        pieces: with_earlier(alloc, pieces, earlier, ended)?,
+        count: 1,
     })
 }
 
-/// What a dump says whose definitions end in a front, and whose body is cut here, and how many pieces of it were
-/// joined.
-fn shown_by_joining(
+fn read_in_order(alloc: Global, pieces: Pieces<Visits>, piece: &[u8]) -> Result<Joined, VcdFault> {
+    Ok(Joined {
+        pieces: pieces.read(alloc, piece)?,
+        count: 0,
+    })
+}
+
+/// What is told of a body whose pieces are read apart by what was begun first, and joined where they fit, and how many
+/// are.
+fn read_joining(
     alloc: Global,
-    front: &[u8],
+    origin: &Pieces<Visits>,
+    pieces: Pieces<Visits>,
     body: &[u8],
     ends: &[usize],
-) -> Result<Option<(Vec<u8>, usize)>, VcdFault> {
-    let Some((pieces, _)) = begun(alloc, front)? else {
-        return Ok(None);
-    };
-    let all = read_detached(alloc, &pieces, body, ends)?;
+) -> Result<(Visits, usize), VcdFault> {
     let mut so_far = Joined { pieces, count: 0 };
-    for kept in all {
-        so_far = join_piece(alloc, so_far, kept)?;
+    let mut from = 0;
+    let mut line = origin.line();
+    for end in ends {
+        let piece = body.get(from..*end).unwrap_or(&[]);
+        let count = so_far.count;
+        so_far = match origin.detached(alloc, piece, line, none_told(alloc)) {
+            Some(apart) => join_piece(alloc, so_far.pieces, piece, apart)?,
+            None => read_in_order(alloc, so_far.pieces, piece)?,
+        };
+        so_far.count = so_far.count.saturating_add(count);
+        line = line.saturating_add(line_feeds(piece));
+        from = *end;
     }
-    let count = so_far.count;
-    Ok(Some((so_far.pieces.finish(alloc)?.text, count)))
+    Ok((so_far.pieces.finish(alloc)?, so_far.count))
 }
 
 /// The sizes of pieces that are tried.
-const SIZES: [usize; 6] = [1, 2, 5, 13, 40, 64];
-
-/// Takes changes of which nothing is kept.
-#[derive(Drop)]
-struct IgnoreChanges;
-
-impl ChangeVisitor for IgnoreChanges {
-    ghost Taken = { Unit {0} };
-
-    ghost taken = { λ s. tt };
-
-    ghost with_change = { λ s net bits. s };
-
-    ghost with_instant = { λ s time. s };
-
-    fn change(
-        &mut self,
-        alloc: Global,
-        net: u32,
-        size: u32,
-        digits: &[u8],
-    ) -> Result<(), AllocError> {
-        let _ = alloc;
-        let _ = net;
-        let _ = size;
-        let _ = digits;
-        Ok(())
-    }
-
-    fn end_instant(&mut self, alloc: Global, time: u64) -> Result<(), AllocError> {
-        let _ = alloc;
-        let _ = time;
-        Ok(())
-    }
-}
+static SIZES: [usize; 6] = [1, 2, 5, 13, 40, 64];
 
 /// The definitions of a recording of six lines of the bus, but for their end.
 const BUS: &str = "\
@@ -412,7 +434,7 @@ $var wire 65536 !!!! e $end $var wire 1 clock f $end $var wire 8 \" g $end $endd
 ";
 
 /// The front and the rest of texts, and what they say.
-const TOLD: [(&str, &str, &str); 7] = [
+static TOLD: [(&str, &str, &str); 7] = [
     (BUS, BUS_BODY, BUS_SHOWN),
     (
         "",
@@ -453,44 +475,61 @@ const TOLD: [(&str, &str, &str); 7] = [
     ),
 ];
 
-/// The texts of a list, one behind the other.
-fn together(alloc: Global, parts: &[&str]) -> Result<Vec<u8>, AllocError> {
+/// Three texts, one behind the other.
+fn together(alloc: Global, first: &[u8], next: &[u8], last: &[u8]) -> Result<Vec<u8>, AllocError> {
     let mut text = Vec::new(alloc);
-    for part in parts {
-        text.extend_from_slice(part.as_bytes())?;
-    }
+    put_together(&mut text, first, next, last)?;
     Ok(text)
 }
 
-/// Whether a text is a dump that says this.
-fn says(alloc: Global, text: &[u8], wanted: &str) -> Result<bool, VcdFault> {
-    let dump = read_vcd(alloc, text)?;
-    let found = shown(alloc, &dump)?;
-    Ok(found.as_slice() == wanted.as_bytes())
+fn put_together(
+    text: &mut Vec<u8>,
+    first: &[u8],
+    next: &[u8],
+    last: &[u8],
+) -> Result<(), AllocError> {
+    text.extend_from_slice(first)?;
+    text.extend_from_slice(next)?;
+    text.extend_from_slice(last)?;
+    Ok(())
 }
 
-/// The same, where it is read in pieces.
-fn says_by_pieces(alloc: Global, text: &[u8], size: usize, wanted: &str) -> Result<bool, VcdFault> {
-    let found = shown_by_pieces(alloc, text, size)?;
-    Ok(match found {
-        Some(found) => found.as_slice() == wanted.as_bytes(),
-        None => false,
-    })
+/// Whether a dump says this.
+fn dump_says(alloc: Global, dump: &Dump, wanted: &str) -> bool {
+    let mut found = Vec::new(alloc);
+    show_dump(alloc, &mut found, dump).is_ok() && found.as_slice() == wanted.as_bytes()
+}
+
+/// Whether a text is a dump that says this.
+fn says(alloc: Global, text: &[u8], wanted: &str) -> bool {
+    match read_vcd(alloc, text) {
+        Ok(dump) => dump_says(alloc, &dump, wanted),
+        Err(_) => false,
+    }
+}
+
+/// The same, also in pieces of each size that is tried.
+fn says_always(alloc: Global, text: &[u8], wanted: &str) -> bool {
+    let mut same = says(alloc, text, wanted);
+    for size in SIZES.iter() {
+        same &= says_by_pieces(alloc, text, *size, wanted) == Ok(Some(true));
+    }
+    same
+}
+
+/// The same of a front and the rest of a text.
+fn are_told(alloc: Global, front: &str, rest: &str, wanted: &str) -> bool {
+    match together(alloc, front.as_bytes(), rest.as_bytes(), b"") {
+        Ok(text) => says_always(alloc, &text, wanted),
+        Err(_) => false,
+    }
 }
 
 #[test]
-fn dumps(rt: HostRuntime) -> Result<(), Fail> {
-    for (front, rest, wanted) in TOLD {
-        let text = together(rt.alloc(), &[front, rest])?;
-        assert!(rt; says(rt.alloc(), &text, wanted)?, "not {wanted}");
-        for size in SIZES {
-            assert!(rt;
-                says_by_pieces(rt.alloc(), &text, size, wanted)?,
-                "{size}: not {wanted}"
-            );
-        }
+fn dumps(rt: HostRuntime) {
+    for (front, rest, wanted) in TOLD.iter() {
+        assert!(rt; are_told(rt.alloc(), front, rest, wanted), "not {wanted}");
     }
-    Ok(())
 }
 
 /// One variable of one bit, in two lines.
@@ -500,7 +539,7 @@ const ONE_BIT: &str = "$var wire 1 p AS $end\n$enddefinitions $end\n";
 type Faulty = (&'static str, u64, FaultKind);
 
 /// Faults of a body, behind the definitions of one variable.
-const OF_BODIES: [Faulty; 20] = [
+static OF_BODIES: [Faulty; 20] = [
     ("1q", 3, FaultKind::UndeclaredCode),
     ("b10 p", 3, FaultKind::TooWide),
     ("#5\n#4", 4, FaultKind::TimeBackwards),
@@ -524,7 +563,7 @@ const OF_BODIES: [Faulty; 20] = [
 ];
 
 /// Faults of a header.
-const OF_HEADERS: [Faulty; 11] = [
+static OF_HEADERS: [Faulty; 11] = [
     ("$upscope $end", 1, FaultKind::ScopeUnderflow),
     ("$var wire 1 p $end", 1, FaultKind::BadVar),
     ("$var wire 1 p AS $end\n", 2, FaultKind::NoEndDefinitions),
@@ -547,7 +586,7 @@ const OF_HEADERS: [Faulty; 11] = [
 ];
 
 /// Faults of fronts of the recording of the bus.
-const OF_FRONTS: [Faulty; 2] = [
+static OF_FRONTS: [Faulty; 2] = [
     ("$enddef", 10, FaultKind::UnfinishedSection),
     (
         "$enddefinitions $end\n#0 1p 1q 1r 1s 1t 1u\n#",
@@ -557,7 +596,7 @@ const OF_FRONTS: [Faulty; 2] = [
 ];
 
 /// Codes that aren't declared, where many are.
-const OF_CODES: [Faulty; 5] = [
+static OF_CODES: [Faulty; 5] = [
     ("#0 1#", 3, FaultKind::UndeclaredCode),
     ("#0 1!\"", 3, FaultKind::UndeclaredCode),
     ("#0 1!!!", 3, FaultKind::UndeclaredCode),
@@ -565,72 +604,105 @@ const OF_CODES: [Faulty; 5] = [
     ("#0 1\x7f", 3, FaultKind::UndeclaredCode),
 ];
 
-/// Whether reading a text gives this fault, also in pieces, which are none of it before its definitions end.
-fn fails_with(alloc: Global, text: &[u8], sizes: &[usize], line: u64, kind: FaultKind) -> bool {
-    let is_fault = |fault: VcdFault| fault.line == line && fault.kind == kind;
-    let mut same = match read_vcd(alloc, text) {
+/// Whether reading a text gives this fault.
+fn has_fault(alloc: Global, text: &[u8], line: u64, kind: FaultKind) -> bool {
+    match read_vcd(alloc, text) {
         Ok(_) => false,
-        Err(fault) => is_fault(fault),
-    };
+        Err(fault) => fault == VcdFault { line, kind },
+    }
+}
+
+/// Whether reading a text in pieces does, which are none of it before its definitions end.
+fn has_fault_by_pieces(
+    alloc: Global,
+    text: &[u8],
+    size: usize,
+    line: u64,
+    kind: FaultKind,
+) -> bool {
+    match says_by_pieces(alloc, text, size, "") {
+        Ok(Some(_)) => false,
+        Ok(None) => matches!(
+            kind,
+            FaultKind::NoEndDefinitions | FaultKind::UnfinishedSection
+        ),
+        Err(fault) => fault == VcdFault { line, kind },
+    }
+}
+
+/// Whether reading a text gives this fault, also in pieces.
+fn fails_with(alloc: Global, text: &[u8], sizes: &[usize], line: u64, kind: FaultKind) -> bool {
+    let mut same = has_fault(alloc, text, line, kind);
     for size in sizes {
-        same &= match shown_by_pieces(alloc, text, *size) {
-            Ok(Some(_)) => false,
-            Ok(None) => matches!(
-                kind,
-                FaultKind::NoEndDefinitions | FaultKind::UnfinishedSection
-            ),
-            Err(fault) => is_fault(fault),
-        };
+        same &= has_fault_by_pieces(alloc, text, *size, line, kind);
     }
     same
 }
 
-fn assert_faults(
-    rt: &impl Abort,
+/// Whether a text fails so behind a front.
+fn fails_behind(alloc: Global, front: &str, faulty: &Faulty, sizes: &[usize]) -> bool {
+    let (rest, line, kind) = *faulty;
+    match together(alloc, front.as_bytes(), rest.as_bytes(), b"") {
+        Ok(text) => fails_with(alloc, &text, sizes, line, kind),
+        Err(_) => false,
+    }
+}
+
+/// The first of such texts that doesn't fail so.
+fn first_right(
     alloc: Global,
-    front: &'static str,
+    front: &str,
     faults: &[Faulty],
     sizes: &[usize],
-) -> Result<(), Fail> {
-    for (rest, line, kind) in faults {
-        let text = together(alloc, &[front, *rest])?;
-        assert!(rt;
-            fails_with(alloc, &text, sizes, *line, *kind),
-            "{line} {kind:?}"
-        );
+) -> Option<&'static str> {
+    for faulty in faults {
+        if !fails_behind(alloc, front, faulty, sizes) {
+            return Some(faulty.0);
+        }
     }
-    Ok(())
+    None
 }
 
 #[test]
-fn faults_of_bodies(rt: HostRuntime) -> Result<(), Fail> {
-    assert_faults(&rt, rt.alloc(), ONE_BIT, &OF_BODIES, &SIZES)
+fn faults_of_bodies(rt: HostRuntime) {
+    let right = first_right(rt.alloc(), ONE_BIT, &OF_BODIES, &SIZES);
+    assert!(rt; right.is_none(), "{}", right.unwrap_or(""));
 }
 
-/// Where reading a body in such pieces stops, if it does.
-fn stopped_by_pieces(
+/// Where reading a body stops in pieces that end there, if it does.
+fn stopped_in_body(
     alloc: Global,
-    text: &[u8],
-    size: usize,
-) -> Result<Option<Stopped<Telling>>, VcdFault> {
-    let Some((front, _)) = read_front(alloc, text, Variables::new(alloc))? else {
-        return Ok(None);
-    };
-    let telling = Telling {
-        text: Vec::new(alloc),
-        changed: Vec::new(alloc),
-    };
-    let (mut pieces, body) = front.before_body(telling);
+    pieces: Pieces<Visits>,
+    body: &[u8],
+    ends: &[usize],
+) -> Option<Stopped<Visits>> {
+    let mut pieces = pieces;
     let mut from = 0;
-    for end in ends_of(alloc, body, size)? {
-        let piece = body.get(from..end).unwrap_or(&[]);
+    for end in ends {
+        let piece = body.get(from..*end).unwrap_or(&[]);
         pieces = match pieces.read_until_fault(alloc, piece) {
             Ok(pieces) => pieces,
-            Err(stopped) => return Ok(Some(stopped)),
+            Err(stopped) => return Some(stopped),
         };
-        from = end;
+        from = *end;
     }
-    Ok(pieces.finish_or_stop(alloc).err())
+    pieces.finish_or_stop(alloc).err()
+}
+
+/// Where reading a text does behind a front, whose body is read in such pieces.
+fn stopped_behind(alloc: Global, front: Front<'_>, size: usize) -> Option<Stopped<Visits>> {
+    let (pieces, body) = front.before_body(none_told(alloc));
+    match ends_of(alloc, body, size) {
+        Ok(ends) => stopped_in_body(alloc, pieces, body, &ends),
+        Err(_) => None,
+    }
+}
+
+fn stopped_by_pieces(alloc: Global, text: &[u8], size: usize) -> Option<Stopped<Visits>> {
+    match read_front(alloc, text, Variables::new(alloc)) {
+        Ok(Some((front, _))) => stopped_behind(alloc, front, size),
+        Ok(None) | Err(_) => None,
+    }
 }
 
 /// A body, the line and kind of its first fault, what is told of the instants that end before it, how many nets change
@@ -638,7 +710,7 @@ fn stopped_by_pieces(
 type Stopping = (&'static str, u64, FaultKind, &'static str, usize, u64);
 
 /// Faults behind the definitions of one variable.
-const STOPS: [Stopping; 9] = [
+static STOPS: [Stopping; 9] = [
     ("2p", 3, FaultKind::BadToken, "", 0, 0),
     ("1p 1q", 3, FaultKind::UndeclaredCode, "", 1, 0),
     (
@@ -692,243 +764,398 @@ const STOPS: [Stopping; 9] = [
     ("#0 1p #1 $end", 3, FaultKind::BadToken, "#0 0=1\n", 0, 1),
 ];
 
-#[test]
-fn a_fault_comes_with_what_stands_before_it(rt: HostRuntime) -> Result<(), Fail> {
-    let alloc = rt.alloc();
-    for (body, line, kind, told, changed, last) in STOPS {
-        let text = together(alloc, &[ONE_BIT, body])?;
-        for size in SIZES {
-            let Some(stopped) = stopped_by_pieces(alloc, &text, size)? else {
-                assert!(rt; false, "{body}: no fault");
-                continue;
-            };
-            let Stopped {
-                fault,
-                visitor,
-                time,
-            } = stopped;
-            assert!(rt; fault == VcdFault { line, kind }, "{size}: {body}: {fault}");
-            assert!(rt; time == last, "{size}: {body}: {time}");
-            assert!(rt;
-                visitor.text.as_slice() == told.as_bytes() && visitor.changed.len() == changed,
-                "{size}: {body}"
-            );
+/// Whether visits tell this, and so many nets change behind it.
+fn visits_tell(alloc: Global, visits: &[Visit], told: &str, changed: usize) -> bool {
+    let mut found = Vec::new(alloc);
+    match show_visits(alloc, &mut found, visits) {
+        Ok(from) => {
+            found.as_slice() == told.as_bytes()
+                && nets_changed(visits.get(from..).unwrap_or(&[])) == changed
+        }
+        Err(_) => false,
+    }
+}
+
+/// How many nets change.
+fn nets_changed(visits: &[Visit]) -> usize {
+    let mut count: usize = 0;
+    for net in 0..LAST_NET + 1 {
+        if last_bits(visits, net).is_some() {
+            count = count.saturating_add(1);
         }
     }
-    Ok(())
+    count
+}
+
+/// Whether reading the body stops so, in pieces of this size.
+fn stops(alloc: Global, text: &[u8], size: usize, stopping: &Stopping) -> bool {
+    let (_, line, kind, told, changed, last) = *stopping;
+    match stopped_by_pieces(alloc, text, size) {
+        Some(stopped) => {
+            stopped.fault == VcdFault { line, kind }
+                && stopped.time == last
+                && visits_tell(alloc, stopped.visitor.visits.as_slice(), told, changed)
+        }
+        None => false,
+    }
+}
+
+/// Whether reading a text stops so in pieces of each size.
+fn stops_always(alloc: Global, text: &[u8], stopping: &Stopping) -> bool {
+    let mut same = true;
+    for size in SIZES.iter() {
+        same &= stops(alloc, text, *size, stopping);
+    }
+    same
+}
+
+/// Whether reading the body behind the definitions of one variable does.
+fn body_stops(alloc: Global, stopping: &Stopping) -> bool {
+    match together(alloc, ONE_BIT.as_bytes(), stopping.0.as_bytes(), b"") {
+        Ok(text) => stops_always(alloc, &text, stopping),
+        Err(_) => false,
+    }
+}
+
+#[test]
+fn a_fault_comes_with_what_stands_before_it(rt: HostRuntime) {
+    for stopping in STOPS.iter() {
+        assert!(rt; body_stops(rt.alloc(), stopping), "{}", stopping.0);
+    }
+}
+
+/// Pieces of a body, and the last time that was read behind each.
+static TIMES: [(&str, u64); 5] = [
+    ("#10 0p\n", 10),
+    ("1p\n", 10),
+    ("#10 #20 \n", 20),
+    ("$comment #30 \n", 20),
+    ("$end #40\n", 40),
+];
+
+/// One variable of one bit, and a change.
+const ONE_CHANGE: &str = "$var wire 1 p AS $end\n$enddefinitions $end\n1p\n";
+
+/// The first piece behind which another time is the last, or which isn't read.
+fn first_wrong_time(alloc: Global, pieces: Pieces<Visits>) -> Option<&'static str> {
+    let mut pieces = pieces;
+    for (piece, time) in TIMES.iter() {
+        pieces = match pieces.read(alloc, piece.as_bytes()) {
+            Ok(pieces) => pieces,
+            Err(_) => return Some(*piece),
+        };
+        if pieces.time() != *time {
+            return Some(*piece);
+        }
+    }
+    None
+}
+
+/// Whether the last time is 0 behind the first change, and then as it stands beside each piece.
+fn are_times_known(alloc: Global) -> bool {
+    match begun(alloc, ONE_CHANGE.as_bytes()) {
+        Ok(Some((pieces, _))) => pieces.time() == 0 && first_wrong_time(alloc, pieces).is_none(),
+        Ok(None) | Err(_) => false,
+    }
 }
 
 /// The last time that was read is known between pieces.
 #[test]
-fn the_last_time_is_known_between_pieces(rt: HostRuntime) -> Result<(), Fail> {
-    let alloc = rt.alloc();
-    let text = together(alloc, &[ONE_BIT, "1p\n"])?;
-    let (mut pieces, _) = begun(alloc, text.as_slice())?.ok_or("no definitions")?;
-    assert!(rt; pieces.time() == 0);
-    for (piece, time) in [
-        ("#10 0p\n", 10),
-        ("1p\n", 10),
-        ("#10 #20 \n", 20),
-        ("$comment #30 \n", 20),
-        ("$end #40\n", 40),
-    ] {
-        pieces = pieces.read(alloc, piece.as_bytes())?;
-        assert!(rt; pieces.time() == time, "{piece}");
+fn the_last_time_is_known_between_pieces(rt: HostRuntime) {
+    assert!(rt; are_times_known(rt.alloc()));
+}
+
+#[test]
+fn faults_of_headers(rt: HostRuntime) {
+    let right = first_right(rt.alloc(), "", &OF_HEADERS, &SIZES);
+    assert!(rt; right.is_none(), "{}", right.unwrap_or(""));
+}
+
+#[test]
+fn faults_of_fronts(rt: HostRuntime) {
+    let right = first_right(rt.alloc(), BUS, &OF_FRONTS, &SIZES);
+    assert!(rt; right.is_none(), "{}", right.unwrap_or(""));
+}
+
+#[test]
+fn faults_of_codes(rt: HostRuntime) {
+    let right = first_right(rt.alloc(), CODES, &OF_CODES, &THIRTEEN);
+    assert!(rt; right.is_none(), "{}", right.unwrap_or(""));
+}
+
+/// One size of pieces.
+static THIRTEEN: [usize; 1] = [13];
+
+/// The digits of the longest vector that is tried.
+const DIGITS: &str = "1x0zXZ1x0zXZ1x0zXZ1x0zXZ1x0zXZ1x0zXZ1x0z";
+
+/// Those of the longest time, of which any 19 are below 2^64.
+const TIME: &str = "2345678923456789234567892345678923456789";
+
+/// The longest code.
+const CODE: &str = "~~~~~~~~~~~~~~~~~~~~~~~~~~~~~~~~~~~~~~~~";
+
+/// So many bytes of a text.
+fn front_of(text: &'static str, length: usize) -> &'static [u8] {
+    text.as_bytes().get(..length).unwrap_or(b"")
+}
+
+/// Some spaces.
+const SPACES: &str = "                ";
+
+/// No place of an item, and a byte.
+const NO_OTHER: (usize, u8) = (usize::MAX, 0);
+
+/// Writes an item behind definitions and so many spaces, and as many spaces behind it. It has another byte at a place,
+/// if it has that place.
+fn write_spaced(
+    text: &mut Vec<u8>,
+    front: &[u8],
+    count: usize,
+    item: &[u8],
+    other: (usize, u8),
+) -> Result<(), AllocError> {
+    text.extend_from_slice(front)?;
+    text.extend_from_slice(front_of(SPACES, count))?;
+    for (at, byte) in item.iter().enumerate() {
+        text.push(if at == other.0 { other.1 } else { *byte })?;
     }
+    text.extend_from_slice(front_of(SPACES, count))?;
     Ok(())
 }
 
-#[test]
-fn faults_of_headers(rt: HostRuntime) -> Result<(), Fail> {
-    assert_faults(&rt, rt.alloc(), "", &OF_HEADERS, &SIZES)
-}
-
-#[test]
-fn faults_of_fronts(rt: HostRuntime) -> Result<(), Fail> {
-    assert_faults(&rt, rt.alloc(), BUS, &OF_FRONTS, &SIZES)
-}
-
-#[test]
-fn faults_of_codes(rt: HostRuntime) -> Result<(), Fail> {
-    assert_faults(&rt, rt.alloc(), CODES, &OF_CODES, &[13])
-}
-
-/// The digits of a vector of this length, of each kind in turn.
-fn digits_of(alloc: Global, length: usize) -> Result<Vec<u8>, AllocError> {
-    let mut digits = Vec::new(alloc);
-    for place in 0..length {
-        digits.push(match place % 6 {
-            0 => b'1',
-            1 => b'x',
-            2 => b'0',
-            3 => b'z',
-            4 => b'X',
-            _ => b'Z',
-        })?;
-    }
-    Ok(digits)
-}
-
-/// A change behind these definitions and so many spaces, and as many spaces behind it.
-fn spaced(alloc: Global, front: &[u8], count: usize, change: &[u8]) -> Result<Vec<u8>, AllocError> {
-    let mut text = Vec::from_slice(alloc, front)?;
-    for _ in 0..count {
-        text.push(b' ')?;
-    }
-    text.extend_from_slice(change)?;
-    for _ in 0..count {
-        text.push(b' ')?;
-    }
-    Ok(text)
-}
-
-/// The same, with another byte at a place of the change.
-fn spoiled(
+fn spaced(
     alloc: Global,
     front: &[u8],
     count: usize,
-    change: &[u8],
-    place: usize,
-    byte: u8,
+    item: &[u8],
+    other: (usize, u8),
 ) -> Result<Vec<u8>, AllocError> {
-    let mut change = Vec::from_slice(alloc, change)?;
-    if let Some(spoiled) = change.get_mut(place) {
-        *spoiled = byte;
-    }
-    spaced(alloc, front, count, &change)
+    let mut text = Vec::new(alloc);
+    write_spaced(&mut text, front, count, item, other)?;
+    Ok(text)
 }
 
-/// Whether a text is a dump in which the only net has this value at time 0.
-fn has_value(alloc: Global, text: &[u8], value: &[u8]) -> Result<bool, VcdFault> {
-    let dump = read_vcd(alloc, text)?;
+/// Whether the instants of a dump say this.
+fn instants_say(alloc: Global, dump: &Dump, wanted: &[u8]) -> bool {
     let mut found = Vec::new(alloc);
-    for instant in dump.instants() {
-        show_instant(alloc, &mut found, instant)?;
+    show_instants(alloc, &mut found, dump.instants()).is_ok() && found.as_slice() == wanted
+}
+
+/// Whether a text is a dump whose instants say this.
+fn has_instants(alloc: Global, text: &[u8], wanted: &[u8]) -> bool {
+    match read_vcd(alloc, text) {
+        Ok(dump) => instants_say(alloc, &dump, wanted),
+        Err(_) => false,
     }
-    let mut wanted = together(alloc, &["#0 0="])?;
-    wanted.extend_from_slice(value)?;
-    wanted.push(b'\n')?;
-    Ok(found == wanted)
+}
+
+/// Whether an item says this behind so many spaces.
+fn is_read_behind(alloc: Global, front: &[u8], count: usize, item: &[u8], wanted: &[u8]) -> bool {
+    match spaced(alloc, front, count, item, NO_OTHER) {
+        Ok(text) => has_instants(alloc, &text, wanted),
+        Err(_) => false,
+    }
+}
+
+/// Whether it does behind none to fifteen spaces.
+fn is_read(alloc: Global, front: &[u8], item: &[u8], wanted: &[u8]) -> bool {
+    let mut same = true;
+    for count in 0..16 {
+        same &= is_read_behind(alloc, front, count, item, wanted);
+    }
+    same
+}
+
+/// Whether an item with another byte at a place gives this fault behind so many spaces.
+fn is_refused_at(
+    alloc: Global,
+    front: &[u8],
+    count: usize,
+    item: &[u8],
+    other: (usize, u8),
+    kind: FaultKind,
+) -> bool {
+    match spaced(alloc, front, count, item, other) {
+        Ok(text) => has_fault(alloc, &text, 3, kind),
+        Err(_) => false,
+    }
+}
+
+/// Whether it does at each place from the second to the last of these, behind none to fifteen spaces.
+fn is_refused(
+    alloc: Global,
+    front: &[u8],
+    item: &[u8],
+    last: usize,
+    byte: u8,
+    kind: FaultKind,
+) -> bool {
+    let mut same = true;
+    for count in 0..16 {
+        for place in 0..last {
+            same &= is_refused_at(alloc, front, count, item, (place + 1, byte), kind);
+        }
+    }
+    same
+}
+
+/// The definitions of a vector.
+const VECTOR: &[u8] = b"$var wire 64 p A $end\n$enddefinitions $end\n";
+
+/// What a value of the vector says at time 0.
+fn vector_shown(alloc: Global, digits: &[u8]) -> Result<Vec<u8>, AllocError> {
+    let bits = bits_of(alloc, 64, digits)?;
+    together(alloc, b"#0 0=", &bits, b"\n")
+}
+
+/// Whether a change of the vector says this, and is refused with a 2 at each place of its digits.
+fn is_vector(alloc: Global, digits: &[u8], wanted: &[u8]) -> bool {
+    match together(alloc, b"b", digits, b" p") {
+        Ok(item) => {
+            is_read(alloc, VECTOR, &item, wanted)
+                && is_refused(
+                    alloc,
+                    VECTOR,
+                    &item,
+                    digits.len(),
+                    b'2',
+                    FaultKind::BadToken,
+                )
+        }
+        Err(_) => false,
+    }
+}
+
+/// Whether a change of the vector to so many digits is read.
+fn is_vector_of(alloc: Global, length: usize) -> bool {
+    let digits = front_of(DIGITS, length);
+    match vector_shown(alloc, digits) {
+        Ok(wanted) => is_vector(alloc, digits, &wanted),
+        Err(_) => false,
+    }
 }
 
 /// Vectors of each length, with so many spaces before and behind them.
 #[test]
-fn vectors_of_each_length_at_each_place(rt: HostRuntime) -> Result<(), Fail> {
-    let alloc = rt.alloc();
-    let front = b"$var wire 64 p A $end\n$enddefinitions $end\n";
+fn vectors_of_each_length_at_each_place(rt: HostRuntime) {
     for length in 1..41 {
-        let digits = digits_of(alloc, length)?;
-        let mut change = together(alloc, &["b"])?;
-        change.extend_from_slice(&digits)?;
-        change.extend_from_slice(b" p")?;
-        let value = bits_of(alloc, 0, 64, &digits)?.bits;
-        for count in 0..16 {
-            let text = spaced(alloc, front, count, &change)?;
-            assert!(rt; has_value(alloc, &text, &value)?, "{length} behind {count}");
-            for place in 1..length + 1 {
-                let text = spoiled(alloc, front, count, &change, place, b'2')?;
-                assert!(rt;
-                    fails_with(alloc, &text, &[], 3, FaultKind::BadToken),
-                    "{length} behind {count}, at {place}"
-                );
-            }
+        assert!(rt; is_vector_of(rt.alloc(), length), "{length}");
+    }
+}
+
+/// The definitions of one variable.
+const SHORT: &[u8] = b"$var wire 1 p A $end\n$enddefinitions $end\n";
+
+/// Whether a time with these digits says this, also with zeros before them.
+fn is_time(alloc: Global, time: &[u8], digits: &[u8], wanted: &[u8]) -> bool {
+    match together(alloc, b"#000000000000000000000000", digits, b"") {
+        Ok(late) => { is_read(alloc, SHORT, time, wanted) && is_read(alloc, SHORT, &late, wanted) }
+        Err(_) => false,
+    }
+}
+
+/// Whether a time is too large behind none to fifteen spaces.
+fn is_too_large(alloc: Global, time: &[u8]) -> bool {
+    let mut same = true;
+    for count in 0..16 {
+        same &= is_refused_at(
+            alloc,
+            SHORT,
+            count,
+            time,
+            NO_OTHER,
+            FaultKind::NumberTooLarge,
+        );
+    }
+    same
+}
+
+/// Whether a time with these digits is read up to 19 digits, and too large with more.
+fn is_time_or_too_large(alloc: Global, time: &[u8], digits: &[u8]) -> bool {
+    if digits.len() > 19 {
+        return is_too_large(alloc, time);
+    }
+    match together(alloc, time, b"\n", b"") {
+        Ok(wanted) => is_time(alloc, time, digits, &wanted),
+        Err(_) => false,
+    }
+}
+
+/// Whether a time of so many digits is read, and refused with a colon at each place of its digits.
+fn is_time_of(alloc: Global, length: usize) -> bool {
+    let digits = front_of(TIME, length);
+    match together(alloc, b"#", digits, b"") {
+        Ok(time) => {
+            is_time_or_too_large(alloc, &time, digits)
+                && is_refused(alloc, SHORT, &time, length, b':', FaultKind::BadToken)
         }
+        Err(_) => false,
     }
-    Ok(())
-}
-
-/// The digits of a time of this length, of which any 19 are below 2^64.
-fn time_of(alloc: Global, length: usize) -> Result<Vec<u8>, AllocError> {
-    let mut digits = Vec::new(alloc);
-    for place in 0..length {
-        digits.push(b'2' + (place % 8) as u8)?;
-    }
-    Ok(digits)
-}
-
-/// Whether a text is a dump with one instant, at this time.
-fn has_time(alloc: Global, text: &[u8], time: &[u8]) -> Result<bool, VcdFault> {
-    let dump = read_vcd(alloc, text)?;
-    let mut found = Vec::new(alloc);
-    for instant in dump.instants() {
-        show_instant(alloc, &mut found, instant)?;
-    }
-    let mut wanted = together(alloc, &["#"])?;
-    wanted.extend_from_slice(time)?;
-    wanted.push(b'\n')?;
-    Ok(found == wanted)
 }
 
 /// Times of each length, with so many spaces before and behind them. Up to 19 digits they fit; 20 are too large here,
 /// and zeros before them change nothing.
 #[test]
-fn times_of_each_length_at_each_place(rt: HostRuntime) -> Result<(), Fail> {
-    let alloc = rt.alloc();
-    let front = b"$var wire 1 p A $end\n$enddefinitions $end\n";
+fn times_of_each_length_at_each_place(rt: HostRuntime) {
     for length in 1..41 {
-        let digits = time_of(alloc, length)?;
-        let mut time = together(alloc, &["#"])?;
-        time.extend_from_slice(&digits)?;
-        let mut late = together(alloc, &["#000000000000000000000000"])?;
-        late.extend_from_slice(&digits)?;
-        for count in 0..16 {
-            let text = spaced(alloc, front, count, &time)?;
-            let zeros = spaced(alloc, front, count, &late)?;
-            if length < 20 {
-                assert!(rt; has_time(alloc, &text, &digits)?, "{length} behind {count}");
-                assert!(rt; has_time(alloc, &zeros, &digits)?, "{length} behind zeros");
-            } else {
-                assert!(rt;
-                    fails_with(alloc, &text, &[], 3, FaultKind::NumberTooLarge),
-                    "{length} behind {count}"
-                );
-            }
-            for place in 1..length + 1 {
-                let text = spoiled(alloc, front, count, &time, place, b':')?;
-                assert!(rt;
-                    fails_with(alloc, &text, &[], 3, FaultKind::BadToken),
-                    "{length} behind {count}, at {place}"
-                );
-            }
-        }
+        assert!(rt; is_time_of(rt.alloc(), length), "{length}");
     }
-    Ok(())
+}
+
+/// Whether a change of a code is read behind these definitions, and refused with another byte at each place of it.
+fn is_code(alloc: Global, front: &[u8], code: &[u8]) -> bool {
+    match together(alloc, b"1", code, b"") {
+        Ok(item) => {
+            is_read(alloc, front, &item, b"#0 0=1\n")
+                && is_refused(
+                    alloc,
+                    front,
+                    &item,
+                    code.len(),
+                    1,
+                    FaultKind::UndeclaredCode,
+                )
+        }
+        Err(_) => false,
+    }
+}
+
+/// Whether a change of a code of so many bytes is.
+fn is_code_of(alloc: Global, length: usize) -> bool {
+    let code = front_of(CODE, length);
+    match together(
+        alloc,
+        b"$var wire 1 ",
+        code,
+        b" A $end\n$enddefinitions $end\n",
+    ) {
+        Ok(front) => is_code(alloc, &front, code),
+        Err(_) => false,
+    }
 }
 
 /// Changes of codes of each length, with so many spaces before and behind them.
 #[test]
-fn codes_of_each_length_at_each_place(rt: HostRuntime) -> Result<(), Fail> {
-    let alloc = rt.alloc();
+fn codes_of_each_length_at_each_place(rt: HostRuntime) {
     for length in 1..41 {
-        let mut code = Vec::new(alloc);
-        code.resize(length, b'~')?;
-        let mut front = together(alloc, &["$var wire 1 "])?;
-        front.extend_from_slice(&code)?;
-        front.extend_from_slice(b" A $end\n$enddefinitions $end\n")?;
-        let mut change = together(alloc, &["1"])?;
-        change.extend_from_slice(&code)?;
-        for count in 0..16 {
-            let text = spaced(alloc, &front, count, &change)?;
-            assert!(rt; has_value(alloc, &text, b"1")?, "{length} behind {count}");
-            for place in 1..length + 1 {
-                let text = spoiled(alloc, &front, count, &change, place, 1)?;
-                assert!(rt;
-                    fails_with(alloc, &text, &[], 3, FaultKind::UndeclaredCode),
-                    "{length} behind {count}, at {place}"
-                );
-            }
-        }
+        assert!(rt; is_code_of(rt.alloc(), length), "{length}");
     }
-    Ok(())
+}
+
+/// What is shown of a fault.
+fn is_fault_shown(alloc: Global) -> bool {
+    let kind = FaultKind::BadVar;
+    let fault = VcdFault { line: 3, kind };
+    match format!(in alloc; "{fault}") {
+        Ok(shown) => shown.as_str() == "dump line 3: BadVar",
+        Err(_) => false,
+    }
 }
 
 #[test]
-fn a_fault_is_shown_with_its_line(rt: HostRuntime) -> Result<(), Fail> {
-    let kind = FaultKind::BadVar;
-    let fault = VcdFault { line: 3, kind };
-    let shown = format!(in rt.alloc(); "{fault}")?;
-    assert!(rt; shown.as_str() == "dump line 3: BadVar");
-    Ok(())
+fn a_fault_is_shown_with_its_line(rt: HostRuntime) {
+    assert!(rt; is_fault_shown(rt.alloc()));
 }
 
 /// Whether memory is refused, which is ample.
@@ -939,25 +1166,59 @@ fn is_short_of_memory(alloc: Global, text: &[u8]) -> bool {
     }
 }
 
-#[test]
-fn every_prefix_of_a_recording_is_a_dump_or_has_a_fault(rt: HostRuntime) -> Result<(), Fail> {
-    let text = together(rt.alloc(), &[BUS, BUS_BODY])?;
+/// Whether it is refused for no prefix of a text.
+fn is_no_prefix_short(alloc: Global, text: &[u8]) -> bool {
+    let mut enough = true;
     for end in 0..text.len() {
-        assert!(rt; !is_short_of_memory(rt.alloc(), &text[..end]), "at {end}");
+        enough &= !is_short_of_memory(alloc, &text[..end]);
     }
-    Ok(())
+    enough
+}
+
+/// The recording.
+fn whole_bus(alloc: Global) -> Result<Vec<u8>, AllocError> {
+    together(alloc, BUS.as_bytes(), BUS_BODY.as_bytes(), b"")
+}
+
+/// Whether it is refused for no prefix of the recording.
+fn is_no_prefix_of_bus_short(alloc: Global) -> bool {
+    match whole_bus(alloc) {
+        Ok(text) => is_no_prefix_short(alloc, &text),
+        Err(_) => false,
+    }
 }
 
 #[test]
-fn scopes_stand_in_one_another_to_any_depth(rt: HostRuntime) -> Result<(), Fail> {
-    let mut text = Vec::new(rt.alloc());
+fn every_prefix_of_a_recording_is_a_dump_or_has_a_fault(rt: HostRuntime) {
+    assert!(rt; is_no_prefix_of_bus_short(rt.alloc()));
+}
+
+/// A hundred thousand scopes in one another.
+fn write_scopes(text: &mut Vec<u8>) -> Result<(), AllocError> {
     for _ in 0..100_000 {
         text.extend_from_slice(b"$scope module a $end\n")?;
     }
     text.extend_from_slice(b"$enddefinitions $end")?;
-    let dump = read_vcd(rt.alloc(), &text)?;
-    assert!(rt; dump.variables().is_empty() && dump.instants().is_empty());
     Ok(())
+}
+
+/// Whether a text is a dump that says nothing.
+fn says_nothing(alloc: Global, text: &[u8]) -> bool {
+    match read_vcd(alloc, text) {
+        Ok(dump) => dump.variables().is_empty() && dump.instants().is_empty(),
+        Err(_) => false,
+    }
+}
+
+/// Whether deep scopes are read.
+fn are_deep_scopes_read(alloc: Global) -> bool {
+    let mut text = Vec::new(alloc);
+    write_scopes(&mut text).is_ok() && says_nothing(alloc, &text)
+}
+
+#[test]
+fn scopes_stand_in_one_another_to_any_depth(rt: HostRuntime) {
+    assert!(rt; are_deep_scopes_read(rt.alloc()));
 }
 
 /// A recording in which each growth of memory is met: nested scopes, codes in the table and in the map, references of
@@ -969,18 +1230,18 @@ $enddefinitions $end
 #0 1p 1clock0 0clock1 bx ~~~ #1 0p #2 b1 ~~~ 1p 0clock0
 ";
 
+/// Whether it is read, or want of memory is the fault.
+fn is_read_or_refused(alloc: Global) -> bool {
+    match read_vcd(alloc, GROWING.as_bytes()) {
+        Ok(dump) => dump.instants().len() == 3 && dump.variables().len() == 4,
+        Err(fault) => fault.line == 0 && fault.kind == FaultKind::Memory,
+    }
+}
+
 /// Run with each allocation refused in turn, this shows that the answer is then want of memory.
 #[test]
 fn want_of_memory_is_the_fault(rt: HostRuntime) {
-    match read_vcd(rt.alloc(), GROWING.as_bytes()) {
-        Ok(dump) => assert!(rt; dump.instants().len() == 3 && dump.variables().len() == 4),
-        Err(fault) => {
-            assert!(rt;
-                fault.line == 0 && fault.kind == FaultKind::Memory,
-                "{fault:?}"
-            )
-        }
-    }
+    assert!(rt; is_read_or_refused(rt.alloc()));
 }
 
 /// Definitions with a code that looks like a time.
@@ -1014,40 +1275,85 @@ const BODY_SHOWN: &str = "\
 #12 0=0
 ";
 
-/// What that body says behind these definitions, read in pieces that are joined where they fit, and how many are.
-fn joined_from(alloc: Global, body: &[u8], ends: &[usize]) -> Result<(Vec<u8>, usize), Fail> {
-    let found = shown_by_joining(alloc, FRONT.as_bytes(), body, ends)?;
-    Ok(found.ok_or("no definitions")?)
-}
-
-#[test]
-fn pieces_are_joined_where_they_fit(rt: HostRuntime) -> Result<(), Fail> {
-    let alloc = rt.alloc();
-    let body = BODY.as_bytes();
-    let times = times_of(alloc, body)?;
-    let (found, count) = joined_from(alloc, body, &times)?;
-    assert!(rt;
-        found.as_slice() == BODY_SHOWN.as_bytes() && count == 6,
-        "{count}"
-    );
-    for size in SIZES {
-        let ends = ends_of(alloc, body, size)?;
-        let (found, _) = joined_from(alloc, body, &ends)?;
-        assert!(rt; found.as_slice() == BODY_SHOWN.as_bytes(), "by {size}");
+/// What is told of a body behind these definitions, read in pieces that are joined where they fit, and how many are.
+fn joined_from(
+    alloc: Global,
+    origin: &Pieces<Visits>,
+    body: &[u8],
+    ends: &[usize],
+) -> Result<Option<(Visits, usize)>, VcdFault> {
+    match begun(alloc, FRONT.as_bytes())? {
+        Some((pieces, _)) => Ok(Some(read_joining(alloc, origin, pieces, body, ends)?)),
+        None => Ok(None),
     }
-    Ok(())
+}
+
+/// The same, or no definitions.
+fn read_joined(
+    alloc: Global,
+    body: &[u8],
+    ends: &[usize],
+) -> Result<Option<(Visits, usize)>, VcdFault> {
+    match begun(alloc, FRONT.as_bytes())? {
+        Some((origin, _)) => joined_from(alloc, &origin, body, ends),
+        None => Ok(None),
+    }
+}
+
+/// How many pieces of the body are joined, where it is read so and says what it is to say.
+fn count_joined(alloc: Global, ends: &[usize]) -> Option<usize> {
+    match read_joined(alloc, BODY.as_bytes(), ends) {
+        Ok(Some((told, count))) => {
+            if visits_tell(alloc, told.visits.as_slice(), BODY_SHOWN, 0) {
+                Some(count)
+            } else {
+                None
+            }
+        }
+        Ok(None) | Err(_) => None,
+    }
+}
+
+/// The same for pieces that begin with times.
+fn count_joined_by_times(alloc: Global) -> Option<usize> {
+    match times_of(alloc, BODY.as_bytes()) {
+        Ok(ends) => count_joined(alloc, &ends),
+        Err(_) => None,
+    }
+}
+
+/// Whether the body says what it is to say in pieces of so many bytes at least.
+fn is_joined_by_size(alloc: Global, size: usize) -> bool {
+    match ends_of(alloc, BODY.as_bytes(), size) {
+        Ok(ends) => count_joined(alloc, &ends).is_some(),
+        Err(_) => false,
+    }
 }
 
 #[test]
-fn an_earlier_time_is_a_fault_where_pieces_are_joined(rt: HostRuntime) -> Result<(), Fail> {
-    let alloc = rt.alloc();
-    let body = b"#5 1p\n#3 0p\n#6 1p\n";
-    let ends = times_of(alloc, body)?;
-    let wanted = VcdFault {
-        line: 3,
-        kind: FaultKind::TimeBackwards,
-    };
-    let fault = shown_by_joining(alloc, FRONT.as_bytes(), body, &ends).err();
-    assert!(rt; fault == Some(wanted));
-    Ok(())
+fn pieces_are_joined_where_they_fit(rt: HostRuntime) {
+    assert!(rt; count_joined_by_times(rt.alloc()) == Some(6));
+    for size in SIZES.iter() {
+        assert!(rt; is_joined_by_size(rt.alloc(), *size), "by {size}");
+    }
+}
+
+/// The fault of a body whose pieces are joined, where each begins with a time.
+fn fault_by_joining(alloc: Global, body: &[u8]) -> Option<VcdFault> {
+    match times_of(alloc, body) {
+        Ok(ends) => read_joined(alloc, body, &ends).err(),
+        Err(_) => None,
+    }
+}
+
+#[test]
+fn an_earlier_time_is_a_fault_where_pieces_are_joined(rt: HostRuntime) {
+    let fault = fault_by_joining(rt.alloc(), b"#5 1p\n#3 0p\n#6 1p\n");
+    assert!(rt;
+        fault
+            == Some(VcdFault {
+                line: 3,
+                kind: FaultKind::TimeBackwards,
+            })
+    );
 }

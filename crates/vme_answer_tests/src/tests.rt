@@ -1,8 +1,6 @@
 ghost use Rattle.std.specs.Prelude.{◌≤◌, None};
 
 use std::alloc::{AllocError, Global};
-use std::process::Abort;
-use std::test::Fail;
 use vcd_read::{FaultKind, VcdFault};
 use vme_answer::{
     Input, Refusal, binding_from, binding_in, cannot_write_line, capture_from, captured_in,
@@ -37,7 +35,7 @@ const STRAY: Verdict = Verdict::Broken(Break {
 });
 
 /// The bodies of dumps, and the lines of their verdicts.
-const WORKED: [(&str, &str); 4] = [
+static WORKED: [(&str, &str); 4] = [
     (READ, "conforming\n"),
     ("", "never idle\n"),
     (STRAY_ANSWER, "broken H4 at instant 3 time 20 line DTACK\n"),
@@ -100,26 +98,34 @@ fn judged(alloc: Global, binding: &str, dump: &str, block: u32) -> Result<Verdic
     verdict_on(alloc, &capture, block)
 }
 
-fn expect_verdict<R: Abort>(rt: &R, found: Result<Verdict, Refusal>, line: &str) {
+/// Whether a verdict is told by this line.
+fn has_line(found: Result<Verdict, Refusal>, line: &str) -> bool {
     match found {
-        Ok(verdict) => assert!(rt;
-            verdict_line(&verdict).as_bytes() == line.as_bytes(),
-            "{line}"
-        ),
-        Err(refusal) => assert_eq!(rt; refusal.status(), 0, "{line}"),
+        Ok(verdict) => verdict_line(&verdict).as_bytes() == line.as_bytes(),
+        Err(_) => false,
+    }
+}
+
+/// Whether a dump has this verdict in blocks of one, three and 16,384 steps.
+fn has_verdict(alloc: Global, dump: &str, line: &str) -> bool {
+    has_line(judged(alloc, BINDING, dump, 1), line)
+        && has_line(judged(alloc, BINDING, dump, 3), line)
+        && has_line(judged(alloc, BINDING, dump, 16_384), line)
+}
+
+/// Whether the dump of a body has.
+fn body_has_verdict(alloc: Global, body: &str, line: &str) -> bool {
+    match dump_of(alloc, body) {
+        Ok(dump) => has_verdict(alloc, dump.as_str(), line),
+        Err(_) => false,
     }
 }
 
 #[test]
-fn worked_recordings_have_their_verdicts(rt: HostRuntime) -> Result<(), Fail> {
-    for (body, line) in WORKED {
-        let dump = dump_of(rt.alloc(), body)?;
-        let dump = dump.as_str();
-        expect_verdict(&rt, judged(rt.alloc(), BINDING, dump, 1), line);
-        expect_verdict(&rt, judged(rt.alloc(), BINDING, dump, 3), line);
-        expect_verdict(&rt, judged(rt.alloc(), BINDING, dump, 16_384), line);
+fn worked_recordings_have_their_verdicts(rt: HostRuntime) {
+    for (body, line) in WORKED.iter() {
+        assert!(rt; body_has_verdict(rt.alloc(), body, line), "{line}");
     }
-    Ok(())
 }
 
 /// The verdict on a recording whose inputs are read before it is made.
@@ -138,36 +144,57 @@ fn judged_by_and_by(alloc: Global, dump: &[u8]) -> Result<Verdict, Refusal> {
     }
 }
 
-#[test]
-fn each_way_to_a_recording_gives_the_same(rt: HostRuntime) -> Result<(), Fail> {
-    for (body, line) in WORKED {
-        let dump = dump_of(rt.alloc(), body)?;
-        expect_verdict(&rt, judged_in(rt.alloc(), dump.as_bytes()), line);
-        expect_verdict(&rt, judged_by_and_by(rt.alloc(), dump.as_bytes()), line);
+/// Whether a dump has this verdict in both ways.
+fn has_verdict_each_way(alloc: Global, dump: &[u8], line: &str) -> bool {
+    has_line(judged_in(alloc, dump), line) && has_line(judged_by_and_by(alloc, dump), line)
+}
+
+/// Whether the dump of a body has.
+fn body_has_verdict_each_way(alloc: Global, body: &str, line: &str) -> bool {
+    match dump_of(alloc, body) {
+        Ok(dump) => has_verdict_each_way(alloc, dump.as_bytes(), line),
+        Err(_) => false,
     }
-    Ok(())
 }
 
 #[test]
-fn a_verdict_is_told(rt: HostRuntime) -> Result<(), Fail> {
-    let line = b"broken H4 at instant 3 time 20 line DTACK\n".as_slice();
-    let mut out = Page::new(rt.alloc(), 100);
-    let mut err = Page::new(rt.alloc(), 100);
-    assert_eq!(rt; tell_verdict(&STRAY, &mut out, &mut err), 1);
-    assert!(rt; out.bytes.as_slice() == line && err.bytes.is_empty());
-    assert!(rt; verdict_line(&STRAY).as_bytes() == line);
-    assert_eq!(rt; verdict_status(&Verdict::Conforming), 0);
-    assert_eq!(rt; verdict_status(&Verdict::NeverIdle), 2);
-    let mut full = Page::new(rt.alloc(), 0);
-    assert_eq!(rt; tell_verdict(&STRAY, &mut full, &mut err), 5);
-    assert!(rt; full.bytes.is_empty());
-    assert!(rt; err.bytes.as_slice() == b"vmecheck: cannot write\n".as_slice());
-    assert!(rt; cannot_write_line().as_bytes() == err.bytes.as_slice());
-    Ok(())
+fn each_way_to_a_recording_gives_the_same(rt: HostRuntime) {
+    for (body, line) in WORKED.iter() {
+        assert!(rt; body_has_verdict_each_way(rt.alloc(), body, line), "{line}");
+    }
+}
+
+/// Whether a verdict is told so, with a status, where there is so much room.
+fn tells(alloc: Global, room: usize, text: &[u8], told: &[u8], status: u8) -> bool {
+    let mut out = Page::new(alloc, room);
+    let mut err = Page::new(alloc, 100);
+    let ended = tell_verdict(&STRAY, &mut out, &mut err);
+    out.bytes.as_slice() == text && err.bytes.as_slice() == told && ended == status
 }
 
 #[test]
-fn the_first_reason_is_answered(rt: HostRuntime) -> Result<(), Fail> {
+fn a_verdict_is_told(rt: HostRuntime) {
+    let line = b"broken H4 at instant 3 time 20 line DTACK\n";
+    let full = b"vmecheck: cannot write\n";
+    assert!(rt; tells(rt.alloc(), 100, line, b"", 1));
+    assert!(rt; tells(rt.alloc(), 0, b"", full, 5));
+    assert!(rt; verdict_line(&STRAY).as_bytes() == line.as_slice());
+    assert!(rt; cannot_write_line().as_bytes() == full.as_slice());
+    assert!(rt;
+        verdict_status(&Verdict::Conforming) == 0 && verdict_status(&Verdict::NeverIdle) == 2
+    );
+}
+
+/// Whether inputs are refused for this reason.
+fn is_refused(alloc: Global, binding: &str, dump: &str, wanted: &Refusal) -> bool {
+    match judged(alloc, binding, dump, 16_384) {
+        Ok(_) => false,
+        Err(refusal) => refusal == *wanted,
+    }
+}
+
+#[test]
+fn the_first_reason_is_answered(rt: HostRuntime) {
     let bad_binding = Refusal::BadBinding(BindFault {
         line: 1,
         kind: BindKind::SlotsFirst,
@@ -180,30 +207,35 @@ fn the_first_reason_is_answered(rt: HostRuntime) -> Result<(), Fail> {
         line: 2,
         kind: BindKind::NoSuchPath,
     });
-    for (binding, dump, refusal) in [
-        ("AS = 1\n", "AS\n", bad_binding),
-        (BINDING, "AS\n", bad_dump),
-        (BINDING, "$enddefinitions $end\n#0\n", no_path),
-    ] {
-        assert_eq!(rt;
-            judged(rt.alloc(), binding, dump, 16_384),
-            Err(refusal),
-            "{binding}{dump}"
-        );
-    }
-    Ok(())
+    assert!(rt; is_refused(rt.alloc(), "AS = 1\n", "AS\n", &bad_binding));
+    assert!(rt; is_refused(rt.alloc(), BINDING, "AS\n", &bad_dump));
+    assert!(rt; is_refused(rt.alloc(), BINDING, "$enddefinitions $end\n#0\n", &no_path));
 }
 
-fn expect_told<R: Abort>(rt: &R, refusal: Refusal, text: &str, status: u8) {
-    assert!(rt;
-        refusal_line(&refusal).as_bytes() == text.as_bytes(),
-        "{text}"
-    );
-    assert_eq!(rt; refusal.status(), status, "{text}");
+/// Whether a refusal is told by this line, with this status.
+fn is_told(refusal: Refusal, text: &str, status: u8) -> bool {
+    refusal_line(&refusal).as_bytes() == text.as_bytes() && refusal.status() == status
 }
 
-#[test]
-fn refusals_are_told(rt: HostRuntime) -> Result<(), Fail> {
+/// Whether inputs that can't be read are.
+fn are_inputs_told() -> bool {
+    is_told(
+        Refusal::CannotOpen(Input::Binding),
+        "vmecheck: cannot open binding\n",
+        3,
+    ) && is_told(
+        Refusal::of_input(Input::Dump, InFault::Read),
+        "vmecheck: cannot read dump\n",
+        3,
+    ) && is_told(
+        Refusal::of_input(Input::Listing, InFault::TooLong),
+        "vmecheck: listing too long\n",
+        3,
+    )
+}
+
+/// Whether faults of inputs are.
+fn are_faults_told() -> bool {
     let unbound = BindFault {
         line: 7,
         kind: BindKind::Unbound(Line::DTACK),
@@ -212,49 +244,37 @@ fn refusals_are_told(rt: HostRuntime) -> Result<(), Fail> {
         line: 12,
         kind: FaultKind::TimeBackwards,
     };
-    for (refusal, text, status) in [
-        (
-            Refusal::CannotOpen(Input::Binding),
-            "vmecheck: cannot open binding\n",
-            3,
-        ),
-        (
-            Refusal::of_input(Input::Dump, InFault::Read),
-            "vmecheck: cannot read dump\n",
-            3,
-        ),
-        (
-            Refusal::of_input(Input::Listing, InFault::TooLong),
-            "vmecheck: listing too long\n",
-            3,
-        ),
-        (
-            Refusal::of_binding(unbound),
-            "vmecheck: binding line 7: Unbound DTACK\n",
-            3,
-        ),
-        (
-            Refusal::of_dump(backwards),
-            "vmecheck: dump line 12: TimeBackwards\n",
-            3,
-        ),
-        (
-            Refusal::of_listing(ListFault::BadRow { row: 2 }),
-            "vmecheck: listing row 2: BadRow\n",
-            3,
-        ),
-        (
-            Refusal::of_judging(NoVerdict::TooManyBlocks),
-            "vmecheck: too many blocks\n",
-            3,
-        ),
-        (
-            Refusal::of_listing(ListFault::Memory),
-            "vmecheck: out of memory\n",
-            4,
-        ),
-    ] {
-        expect_told(&rt, refusal, text, status);
-    }
-    Ok(())
+    is_told(
+        Refusal::of_binding(unbound),
+        "vmecheck: binding line 7: Unbound DTACK\n",
+        3,
+    ) && is_told(
+        Refusal::of_dump(backwards),
+        "vmecheck: dump line 12: TimeBackwards\n",
+        3,
+    ) && is_told(
+        Refusal::of_listing(ListFault::BadRow { row: 2 }),
+        "vmecheck: listing row 2: BadRow\n",
+        3,
+    )
+}
+
+/// Whether recordings that aren't judged are.
+fn are_recordings_told() -> bool {
+    is_told(
+        Refusal::of_judging(NoVerdict::TooManyBlocks),
+        "vmecheck: too many blocks\n",
+        3,
+    ) && is_told(
+        Refusal::of_listing(ListFault::Memory),
+        "vmecheck: out of memory\n",
+        4,
+    )
+}
+
+#[test]
+fn refusals_are_told(rt: HostRuntime) {
+    assert!(rt; are_inputs_told());
+    assert!(rt; are_faults_told());
+    assert!(rt; are_recordings_told());
 }

@@ -2,8 +2,6 @@ ghost use Rattle.std.specs.Prelude.{None};
 
 use std::alloc::{AllocError, Global};
 use std::io::{self, Error, ErrorKind, Read};
-use std::process::Abort;
-use std::test::Fail;
 use vme_audit::Allowance;
 use vme_audit_command::{AuditOptions, NamedDump, TestSuite, audit, junit_file};
 use vme_stream::{Bytes, Io};
@@ -56,10 +54,20 @@ const READ: &str = "#0 1a 1p 1q 1d 1e 1i 1w 1r\n#10 0a\n#20 0p\n#30 0d\n#40 1a 1
 /// An answer that nothing asked for, twice: judging starts anew behind the first.
 const ANSWERS: &str = "#0 1a 1p 1q 1d 1e 1i 1w 1r\n#10 0d\n#20 1d\n#30 0e\n#40 1e\n";
 
-/// What is told of the first one of them, with nothing behind it.
-const FIRST: &str = "d: broken H4 at instant 2 time 10 line DTACK\n";
+/// The same, and no item of a dump behind it.
+const FAULTY_ANSWERS: &str =
+    "#0 1a 1p 1q 1d 1e 1i 1w 1r\n#10 0d\n#20 1d\n#30 0e\n#40 1e\nnonsense\n";
 
-const SECOND: &str = "d: broken H4 at instant 4 time 30 line BERR\n";
+/// What is told of both answers.
+const BOTH: &[u8] = b"d: broken H4 at instant 2 time 10 line DTACK
+d: broken H4 at instant 4 time 30 line BERR
+";
+
+/// The same, and the outcome.
+const BOTH_BROKEN: &[u8] = b"d: broken H4 at instant 2 time 10 line DTACK
+d: broken H4 at instant 4 time 30 line BERR
+d: broken
+";
 
 /// How a dump is audited: quietly.
 fn quietly<'a>(allowances: &'a [Allowance]) -> AuditOptions<'a> {
@@ -119,16 +127,21 @@ impl Sink for Page {
     }
 }
 
-/// A reader that gives so many bytes a read, and fails behind the last, if so.
+/// A reader of a text behind another, that gives so many bytes a read at most, and fails behind the last, if so.
 #[derive(Drop)]
 struct PortionReader<'a> {
     left: &'a [u8],
+    behind: &'a [u8],
     portion: usize,
     is_torn: bool,
 }
 
 impl Read for PortionReader<'_> {
     fn read(&mut self, buffer: &mut [u8]) -> io::Result<usize> {
+        if self.left.is_empty() {
+            self.left = self.behind;
+            self.behind = &[];
+        }
         if self.is_torn && self.left.is_empty() {
             return Err(Error::from(ErrorKind::Other));
         }
@@ -151,127 +164,177 @@ const WHOLE: DumpFeed = DumpFeed {
     is_torn: false,
 };
 
+/// A dump that is read so.
+type ReadDump<'a> = NamedDump<'a, Io<PortionReader<'a>>>;
+
+/// The dump of a body behind the definitions.
+fn dump_of<'a>(name: &'a [u8], body: &'a str, feed: DumpFeed) -> ReadDump<'a> {
+    NamedDump {
+        name,
+        dump: Io::new(PortionReader {
+            left: HEAD.as_bytes(),
+            behind: body.as_bytes(),
+            portion: feed.portion,
+            is_torn: feed.is_torn,
+        }),
+    }
+}
+
 /// What is written, and the status.
 #[derive(Clone, Copy)]
-struct WantedAudit {
-    out: &'static str,
-    err: &'static str,
+struct WantedAudit<'a> {
+    out: &'a [u8],
+    err: &'a [u8],
     status: u8,
 }
 
-fn expect_audit<R: Abort + AllocGlobal>(
-    rt: &R,
-    body: &str,
-    reading: DumpFeed,
+/// Whether dumps are audited by a text, with this outcome, where so many bytes can be written.
+fn audits(
+    alloc: Global,
+    binding: &[u8],
+    dumps: &mut [ReadDump<'_>],
     options: AuditOptions<'_>,
-    wanted: WantedAudit,
-) {
-    let text = format!(in rt.alloc(); "{HEAD}{body}").expect(rt, "memory");
-    let mut out = Page::new(rt.alloc(), 10_000);
-    let mut err = Page::new(rt.alloc(), 10_000);
-    let mut suite = TestSuite::new(rt.alloc(), false);
-    let mut dumps = [NamedDump {
-        name: b"d",
-        dump: Io::new(PortionReader {
-            left: text.as_bytes(),
-            portion: reading.portion,
-            is_torn: reading.is_torn,
-        }),
-    }];
+    suite: &mut TestSuite,
+    room: usize,
+    wanted: (bool, WantedAudit<'_>),
+) -> bool {
+    let mut out = Page::new(alloc, room);
+    let mut err = Page::new(alloc, 10_000);
     let (is_audited, status) = audit(
-        rt.alloc(),
-        &mut Bytes::new(BINDING),
-        &mut dumps,
+        alloc,
+        &mut Bytes::new(binding),
+        dumps,
         options,
-        &mut suite,
+        suite,
         &mut out,
         &mut err,
     );
-    assert!(rt; is_audited);
-    assert_eq!(rt;
-        str::from_utf8(&out.bytes),
-        Ok(wanted.out),
-        "{}",
-        reading.portion
-    );
-    assert_eq!(rt; str::from_utf8(&err.bytes), Ok(wanted.err));
-    assert_eq!(rt; status, wanted.status);
+    (is_audited, status) == (wanted.0, wanted.1.status)
+        && out.bytes.as_slice() == wanted.1.out
+        && err.bytes.as_slice() == wanted.1.err
 }
+
+/// Whether the dump of a body has this outcome.
+fn comes_to(
+    alloc: Global,
+    body: &str,
+    feed: DumpFeed,
+    options: AuditOptions<'_>,
+    wanted: WantedAudit<'_>,
+) -> bool {
+    let mut suite = TestSuite::new(alloc, false);
+    let mut dumps = [dump_of(b"d", body, feed)];
+    audits(
+        alloc,
+        BINDING,
+        &mut dumps,
+        options,
+        &mut suite,
+        10_000,
+        (true, wanted),
+    )
+}
+
+/// Whether it has, in portions of each of these sizes.
+fn always_comes_to(
+    alloc: Global,
+    body: &str,
+    portions: &[usize],
+    is_torn: bool,
+    options: AuditOptions<'_>,
+    wanted: WantedAudit<'_>,
+) -> bool {
+    let mut same = true;
+    for portion in portions {
+        let feed = DumpFeed {
+            portion: *portion,
+            is_torn,
+        };
+        same &= comes_to(alloc, body, feed, options, wanted);
+    }
+    same
+}
+
+/// Sizes of portions.
+static THREE: [usize; 3] = [1, 7, 1_000];
+
+static EIGHT: [usize; 8] = [1, 2, 3, 5, 8, 13, 64, 1_000];
 
 #[test]
 fn outcomes_are_told(rt: HostRuntime) {
-    let rt = &rt;
     let conforming = WantedAudit {
-        out: "d: conforming\n",
-        err: "",
+        out: b"d: conforming\n",
+        err: b"",
         status: 0,
     };
     let few = WantedAudit {
-        out: "d: not covered: 1 of 2 transfers answered\n",
-        err: "",
+        out: b"d: not covered: 1 of 2 transfers answered\n",
+        err: b"",
         status: 6,
     };
     let never_idle = WantedAudit {
-        out: "d: not covered: never idle\n",
-        err: "",
+        out: b"d: not covered: never idle\n",
+        err: b"",
         status: 6,
     };
     let two = AuditOptions {
         transfers: 2,
         ..quietly(&[])
     };
-    expect_audit(rt, READ, WHOLE, quietly(&[]), conforming);
-    expect_audit(rt, READ, WHOLE, two, few);
-    expect_audit(rt, "", WHOLE, quietly(&[]), never_idle);
+    assert!(rt; comes_to(rt.alloc(), READ, WHOLE, quietly(&[]), conforming));
+    assert!(rt; comes_to(rt.alloc(), READ, WHOLE, two, few));
+    assert!(rt; comes_to(rt.alloc(), "", WHOLE, quietly(&[]), never_idle));
 }
 
 #[test]
 fn counts_are_told(rt: HostRuntime) {
-    let rt = &rt;
     let told = WantedAudit {
-        out: "d: 0 broken, 0 unreadable, 0 allowed
+        out: b"d: 0 broken, 0 unreadable, 0 allowed
 d: 0 resets, 0 tenures, 1 cycles (1 single, 0 block, 0 free, 0 acknowledge)
 d: 1 transfers (1 read, 0 write; 1 by DTACK, 0 by BERR, 0 pending)
 d: never asked: U4 H3 S3 C1 C2 G1 G2 G3 G4 G5 B1 B2 B4 I1 I2 I3 I4 I5
 d: conforming
 ",
-        err: "",
+        err: b"",
         status: 0,
     };
     let options = AuditOptions {
         is_quiet: false,
         ..quietly(&[])
     };
-    expect_audit(rt, READ, WHOLE, options, told);
+    assert!(rt; comes_to(rt.alloc(), READ, WHOLE, options, told));
 }
+
+/// Both answers are told as breaks.
+const BROKEN: WantedAudit<'static> = WantedAudit {
+    out: BOTH_BROKEN,
+    err: b"",
+    status: 1,
+};
 
 /// Each break is told, in whatever portions the dump comes.
 #[test]
 fn breaks_are_told(rt: HostRuntime) {
-    let rt = &rt;
-    let told = WantedAudit {
-        out: "d: broken H4 at instant 2 time 10 line DTACK
-d: broken H4 at instant 4 time 30 line BERR
-d: broken
-",
-        err: "",
-        status: 1,
-    };
-    for portion in [1, 2, 3, 5, 8, 13, 64, 1_000] {
-        let reading = DumpFeed { portion, ..WHOLE };
-        expect_audit(rt, ANSWERS, reading, quietly(&[]), told);
-    }
+    assert!(rt;
+        always_comes_to(
+            rt.alloc(),
+            ANSWERS,
+            EIGHT.as_slice(),
+            false,
+            quietly(&[]),
+            BROKEN
+        )
+    );
 }
 
 #[test]
 fn breaks_are_allowed(rt: HostRuntime) {
-    let rt = &rt;
     let told = WantedAudit {
-        out: "d: allowed H4 at instant 2 time 10 line DTACK
+        out: b"d: allowed H4 at instant 2 time 10 line DTACK
 d: allowed H4 at instant 4 time 30 line BERR
 d: conforming with 2 allowed
 ",
-        err: "",
+        err: b"",
         status: 0,
     };
     let allowances = [Allowance {
@@ -282,67 +345,67 @@ d: conforming with 2 allowed
         transfers: 0,
         ..quietly(&allowances)
     };
-    expect_audit(rt, ANSWERS, WHOLE, options, told);
+    assert!(rt; comes_to(rt.alloc(), ANSWERS, WHOLE, options, told));
 }
 
 /// No more of a dump is read than to the break that ends its audit: a fault behind it isn't met.
 #[test]
 fn an_audit_is_stopped(rt: HostRuntime) {
-    let rt = &rt;
     let told = WantedAudit {
-        out: "d: broken H4 at instant 2 time 10 line DTACK\nd: broken\n",
-        err: "",
+        out: b"d: broken H4 at instant 2 time 10 line DTACK\nd: broken\n",
+        err: b"",
         status: 1,
     };
     let options = AuditOptions {
         stop: Some(1),
         ..quietly(&[])
     };
-    let faulty = format!(in rt.alloc(); "{ANSWERS}nonsense\n").expect(rt, "memory");
-    for portion in [1, 7, 1_000] {
-        let reading = DumpFeed { portion, ..WHOLE };
-        expect_audit(rt, ANSWERS, reading, options, told);
-        expect_audit(rt, &faulty, reading, options, told);
-    }
+    assert!(rt; always_comes_to(rt.alloc(), ANSWERS, THREE.as_slice(), false, options, told));
+    assert!(rt;
+        always_comes_to(
+            rt.alloc(),
+            FAULTY_ANSWERS,
+            THREE.as_slice(),
+            false,
+            options,
+            told
+        )
+    );
 }
 
 /// The breaks of the instants that a later time follows are told before a fault.
 #[test]
 fn a_fault_is_told(rt: HostRuntime) {
-    let rt = &rt;
     let told = WantedAudit {
-        out: "d: broken H4 at instant 2 time 10 line DTACK
-d: broken H4 at instant 4 time 30 line BERR
-",
-        err: "vmecheck: d: dump line 17: BadToken\n",
+        out: BOTH,
+        err: b"vmecheck: d: dump line 17: BadToken\n",
         status: 3,
     };
-    let faulty = format!(in rt.alloc(); "{ANSWERS}nonsense\n").expect(rt, "memory");
-    for portion in [1, 7, 1_000] {
-        let reading = DumpFeed { portion, ..WHOLE };
-        expect_audit(rt, &faulty, reading, quietly(&[]), told);
-    }
-    let early = WantedAudit {
-        out: "d: broken H4 at instant 2 time 10 line DTACK\n",
-        err: "vmecheck: d: dump line 16: BadToken\n",
-        status: 3,
-    };
-    expect_audit(
-        rt,
-        "#0 1a 1p 1q 1d 1e 1i 1w 1r\n#10 0d\n#20 1d\n#30 0e\nnonsense\n",
-        WHOLE,
-        quietly(&[]),
-        early,
+    assert!(rt;
+        always_comes_to(
+            rt.alloc(),
+            FAULTY_ANSWERS,
+            THREE.as_slice(),
+            false,
+            quietly(&[]),
+            told
+        )
     );
+    let early = WantedAudit {
+        out: b"d: broken H4 at instant 2 time 10 line DTACK\n",
+        err: b"vmecheck: d: dump line 16: BadToken\n",
+        status: 3,
+    };
+    let body = "#0 1a 1p 1q 1d 1e 1i 1w 1r\n#10 0d\n#20 1d\n#30 0e\nnonsense\n";
+    assert!(rt; comes_to(rt.alloc(), body, WHOLE, quietly(&[]), early));
 }
 
 /// Steps within the skew are one, also before a fault.
 #[test]
 fn a_dump_is_settled(rt: HostRuntime) {
-    let rt = &rt;
     let told = WantedAudit {
-        out: "d: not covered: 0 of 1 transfers answered\n",
-        err: "",
+        out: b"d: not covered: 0 of 1 transfers answered\n",
+        err: b"",
         status: 6,
     };
     let options = AuditOptions {
@@ -353,164 +416,103 @@ fn a_dump_is_settled(rt: HostRuntime) {
         skew: 9,
         ..quietly(&[])
     };
-    let breaks = WantedAudit {
-        out: "d: broken H4 at instant 2 time 10 line DTACK
-d: broken H4 at instant 4 time 30 line BERR
-d: broken
-",
-        err: "",
-        status: 1,
-    };
-    for portion in [1, 7, 1_000] {
-        let reading = DumpFeed { portion, ..WHOLE };
-        expect_audit(rt, ANSWERS, reading, options, told);
-        expect_audit(rt, ANSWERS, reading, apart, breaks);
-    }
+    assert!(rt; always_comes_to(rt.alloc(), ANSWERS, THREE.as_slice(), false, options, told));
+    assert!(rt; always_comes_to(rt.alloc(), ANSWERS, THREE.as_slice(), false, apart, BROKEN));
 }
 
 /// A reader that fails: what is complete in what was read is told.
 #[test]
 fn a_dump_that_cannot_be_read_is_told(rt: HostRuntime) {
-    let rt = &rt;
     let told = WantedAudit {
-        out: "d: broken H4 at instant 2 time 10 line DTACK
-d: broken H4 at instant 4 time 30 line BERR
-",
-        err: "vmecheck: d: cannot read\n",
+        out: BOTH,
+        err: b"vmecheck: d: cannot read\n",
         status: 3,
     };
-    for portion in [1, 7, 1_000] {
-        let torn = DumpFeed {
-            portion,
-            is_torn: true,
-        };
-        expect_audit(rt, ANSWERS, torn, quietly(&[]), told);
-    }
-    let nothing = WantedAudit { out: "", ..told };
+    assert!(rt;
+        always_comes_to(
+            rt.alloc(),
+            ANSWERS,
+            THREE.as_slice(),
+            true,
+            quietly(&[]),
+            told
+        )
+    );
+    let nothing = WantedAudit { out: b"", ..told };
     let torn = DumpFeed {
         is_torn: true,
         ..WHOLE
     };
-    expect_audit(rt, "", torn, quietly(&[]), nothing);
+    assert!(rt; comes_to(rt.alloc(), "", torn, quietly(&[]), nothing));
+}
+
+/// Whether the first of what is told is written, where so many bytes can be.
+fn writes_the_first(alloc: Global, room: usize) -> bool {
+    let mut suite = TestSuite::new(alloc, true);
+    let mut dumps = [dump_of(b"d", ANSWERS, WHOLE)];
+    let wanted = WantedAudit {
+        out: BOTH_BROKEN.get(..room).unwrap_or(b""),
+        err: b"vmecheck: cannot write\n",
+        status: 5,
+    };
+    audits(
+        alloc,
+        BINDING,
+        &mut dumps,
+        quietly(&[]),
+        &mut suite,
+        room,
+        (true, wanted),
+    )
 }
 
 /// A write that fails leaves the first of what is told.
 #[test]
 fn a_write_that_fails_ends_the_audit(rt: HostRuntime) {
-    let rt = &rt;
-    let text = format!(in rt.alloc(); "{HEAD}{ANSWERS}").expect(rt, "memory");
-    let whole = format!(in rt.alloc(); "{FIRST}{SECOND}d: broken\n").expect(rt, "memory");
-    for room in 0..whole.len() {
-        let mut out = Page::new(rt.alloc(), room);
-        let mut err = Page::new(rt.alloc(), 10_000);
-        let mut suite = TestSuite::new(rt.alloc(), true);
-        let mut dumps = [NamedDump {
-            name: b"d",
-            dump: Bytes::new(text.as_bytes()),
-        }];
-        let (is_audited, status) = audit(
-            rt.alloc(),
-            &mut Bytes::new(BINDING),
-            &mut dumps,
-            quietly(&[]),
-            &mut suite,
-            &mut out,
-            &mut err,
-        );
-        assert!(rt; is_audited);
-        assert_eq!(rt; &out.bytes[..], &whole.as_bytes()[..room]);
-        assert_eq!(rt; str::from_utf8(&err.bytes), Ok("vmecheck: cannot write\n"));
-        assert_eq!(rt; status, 5);
+    for room in 0..BOTH_BROKEN.len() {
+        assert!(rt; writes_the_first(rt.alloc(), room), "{room}");
     }
+}
+
+/// Whether a text that is no binding is refused.
+fn is_binding_refused(alloc: Global) -> bool {
+    let mut suite = TestSuite::new(alloc, true);
+    let mut dumps = [dump_of(b"d", "", WHOLE)];
+    let wanted = WantedAudit {
+        out: b"",
+        err: b"vmecheck: binding line 1: SlotsFirst\n",
+        status: 3,
+    };
+    audits(
+        alloc,
+        b"AS = b.AS\n",
+        &mut dumps,
+        quietly(&[]),
+        &mut suite,
+        1_000,
+        (false, wanted),
+    )
 }
 
 /// Nothing is audited by a text that is no binding.
 #[test]
 fn a_binding_is_refused(rt: HostRuntime) {
-    let rt = &rt;
-    let mut out = Page::new(rt.alloc(), 1_000);
-    let mut err = Page::new(rt.alloc(), 1_000);
-    let mut suite = TestSuite::new(rt.alloc(), true);
-    let mut dumps = [NamedDump {
-        name: b"d",
-        dump: Bytes::new(HEAD.as_bytes()),
-    }];
-    let (is_audited, status) = audit(
-        rt.alloc(),
-        &mut Bytes::new(b"AS = b.AS\n"),
-        &mut dumps,
-        quietly(&[]),
-        &mut suite,
-        &mut out,
-        &mut err,
-    );
-    assert!(rt; !is_audited);
-    assert_eq!(rt; str::from_utf8(&out.bytes), Ok(""));
-    assert_eq!(rt;
-        str::from_utf8(&err.bytes),
-        Ok("vmecheck: binding line 1: SlotsFirst\n")
-    );
-    assert_eq!(rt; status, 3);
+    assert!(rt; is_binding_refused(rt.alloc()));
 }
 
-/// Dumps are told in their order, and the JUnit file has a test case for each, with names as XML has them.
-#[test]
-fn dumps_are_told_in_their_order(rt: HostRuntime) {
-    let rt = &rt;
-    let read = format!(in rt.alloc(); "{HEAD}{READ}").expect(rt, "memory");
-    let answers = format!(in rt.alloc(); "{HEAD}{ANSWERS}").expect(rt, "memory");
-    let faulty = format!(in rt.alloc(); "{HEAD}nonsense\n").expect(rt, "memory");
-    let mut out = Page::new(rt.alloc(), 10_000);
-    let mut err = Page::new(rt.alloc(), 10_000);
-    let mut suite = TestSuite::new(rt.alloc(), true);
-    let mut dumps = [
-        NamedDump {
-            name: b"a<\"b\">\x01&\t",
-            dump: Bytes::new(read.as_bytes()),
-        },
-        NamedDump {
-            name: b"c",
-            dump: Bytes::new(faulty.as_bytes()),
-        },
-        NamedDump {
-            name: b"d",
-            dump: Bytes::new(answers.as_bytes()),
-        },
-    ];
-    let two = AuditOptions {
-        transfers: 2,
-        ..quietly(&[])
-    };
-    let (is_audited, status) = audit(
-        rt.alloc(),
-        &mut Bytes::new(BINDING),
-        &mut dumps,
-        two,
-        &mut suite,
-        &mut out,
-        &mut err,
-    );
-    assert!(rt; is_audited);
-    assert_eq!(rt;
-        str::from_utf8(&out.bytes),
-        Ok(
-            "a<\"b\">?&?: not covered: 1 of 2 transfers answered
+/// What is told of three dumps.
+const IN_ORDER: WantedAudit<'static> = WantedAudit {
+    out: b"a<\"b\">?&?: not covered: 1 of 2 transfers answered
 d: broken H4 at instant 2 time 10 line DTACK
 d: broken H4 at instant 4 time 30 line BERR
 d: broken
-"
-        )
-    );
-    assert_eq!(rt;
-        str::from_utf8(&err.bytes),
-        Ok("vmecheck: c: dump line 12: BadToken\n")
-    );
-    assert_eq!(rt; status, 3);
-    let text = junit_file(rt.alloc(), &suite).expect(rt, "memory");
-    assert_eq!(rt;
-        str::from_utf8(text.as_bytes()),
-        Ok(
-            "<?xml version=\"1.0\" encoding=\"UTF-8\"?>
+",
+    err: b"vmecheck: c: dump line 12: BadToken\n",
+    status: 3,
+};
+
+/// The JUnit file of these.
+const JUNIT: &str = "<?xml version=\"1.0\" encoding=\"UTF-8\"?>
 <testsuite name=\"vmecheck\">
 <testcase name=\"a&lt;&quot;b&quot;&gt;?&amp;&#9;\">\
 <failure message=\"not covered: 1 of 2 transfers answered\"/><system-out>0 broken, 0 unreadable, 0 allowed
@@ -526,63 +528,104 @@ never asked: U4 H3 S3 C1 C2 G1 G2 G3 G4 G5 B1 B2 B4 I1 I2 I3 I4 I5
 never asked: U2 U3 U4 H1 H2 H3 H6 H7 H8 S1 S2 S3 C1 C2 G1 G2 G3 G4 G5 B1 B2 B3 B4 I1 I2 I3 I4 I5
 </system-out></testcase>
 </testsuite>
-"
-        )
-    );
+";
+
+/// Whether the JUnit file of a suite is this.
+fn has_junit_file(alloc: Global, suite: &TestSuite, wanted: &str) -> bool {
+    match junit_file(alloc, suite) {
+        Ok(text) => text.as_bytes() == wanted.as_bytes(),
+        Err(_) => false,
+    }
 }
 
-/// A dump of this body is told so; or, without memory, the first of it is, and the status is 4.
-fn expect_unless_out_of_memory<R: Abort + AllocGlobal>(rt: &R, body: &str, wanted: WantedAudit) {
-    let Ok(text) = format!(in rt.alloc(); "{HEAD}{body}") else {
-        return;
+/// Whether three dumps are told in their order.
+fn are_told_in_order(alloc: Global, suite: &mut TestSuite) -> bool {
+    let mut dumps = [
+        dump_of(b"a<\"b\">\x01&\t", READ, WHOLE),
+        dump_of(b"c", "nonsense\n", WHOLE),
+        dump_of(b"d", ANSWERS, WHOLE),
+    ];
+    let two = AuditOptions {
+        transfers: 2,
+        ..quietly(&[])
     };
-    let (Ok(mut out), Ok(mut err)) = (
-        Page::with_room(rt.alloc(), 1_000),
-        Page::with_room(rt.alloc(), 1_000),
-    ) else {
-        return;
-    };
-    let mut suite = TestSuite::new(rt.alloc(), true);
-    let mut dumps = [NamedDump {
-        name: b"d",
-        dump: Bytes::new(text.as_bytes()),
-    }];
+    audits(
+        alloc,
+        BINDING,
+        &mut dumps,
+        two,
+        suite,
+        10_000,
+        (true, IN_ORDER),
+    )
+}
+
+/// Whether they are also in the file.
+fn are_in_order(alloc: Global) -> bool {
+    let mut suite = TestSuite::new(alloc, true);
+    are_told_in_order(alloc, &mut suite) && has_junit_file(alloc, &suite, JUNIT)
+}
+
+/// Dumps are told in their order, and the JUnit file has a test case for each, with names as XML has them.
+#[test]
+fn dumps_are_told_in_their_order(rt: HostRuntime) {
+    assert!(rt; are_in_order(rt.alloc()));
+}
+
+/// Whether the outcome is this one, or the first of it and want of memory.
+fn is_outcome_or_short(out: &[u8], err: &[u8], status: u8, wanted: WantedAudit<'_>) -> bool {
+    if status == 4 {
+        return wanted.out.starts_with(out) && err.ends_with(b"out of memory\n");
+    }
+    status == wanted.status && out == wanted.out && err == wanted.err
+}
+
+/// Whether it is that of the dump of a body, written into these.
+fn is_told_or_short_in(
+    alloc: Global,
+    body: &str,
+    out: &mut Page,
+    err: &mut Page,
+    wanted: WantedAudit<'_>,
+) -> bool {
+    let mut suite = TestSuite::new(alloc, false);
+    let mut dumps = [dump_of(b"d", body, WHOLE)];
     let (_is_audited, status) = audit(
-        rt.alloc(),
+        alloc,
         &mut Bytes::new(BINDING),
         &mut dumps,
         quietly(&[]),
         &mut suite,
-        &mut out,
-        &mut err,
+        out,
+        err,
     );
-    assert!(rt; wanted.out.as_bytes().starts_with(&out.bytes));
-    if status == 4 {
-        assert!(rt; err.bytes.ends_with(b"out of memory\n"));
-    } else {
-        assert_eq!(rt; status, wanted.status);
-        assert_eq!(rt; str::from_utf8(&out.bytes), Ok(wanted.out));
-        assert_eq!(rt; str::from_utf8(&err.bytes), Ok(wanted.err));
+    is_outcome_or_short(out.bytes.as_slice(), err.bytes.as_slice(), status, wanted)
+}
+
+/// The same where there is room for what is told.
+fn is_told_or_short_by(alloc: Global, body: &str, out: &mut Page, wanted: WantedAudit<'_>) -> bool {
+    match Page::with_room(alloc, 1_000) {
+        Ok(mut err) => is_told_or_short_in(alloc, body, out, &mut err, wanted),
+        Err(_) => true,
+    }
+}
+
+/// A dump of this body is told so; or, without memory, the first of it is, and the status is 4.
+fn is_told_or_short(alloc: Global, body: &str, wanted: WantedAudit<'_>) -> bool {
+    match Page::with_room(alloc, 1_000) {
+        Ok(mut out) => is_told_or_short_by(alloc, body, &mut out, wanted),
+        Err(_) => true,
     }
 }
 
 /// Want of memory is told, and its status is 4, also where there is none for the line of a refusal.
 #[test]
 fn want_of_memory_is_told(rt: HostRuntime) {
-    let rt = &rt;
-    let broken = WantedAudit {
-        out: "d: broken H4 at instant 2 time 10 line DTACK
-d: broken H4 at instant 4 time 30 line BERR
-d: broken
-",
-        err: "",
-        status: 1,
-    };
     let refused = WantedAudit {
-        out: "",
-        err: "vmecheck: d: dump line 12: BadToken\n",
+        out: b"",
+        err: b"vmecheck: d: dump line 12: BadToken\n",
         status: 3,
     };
-    expect_unless_out_of_memory(rt, ANSWERS, broken);
-    expect_unless_out_of_memory(rt, "nonsense\n", refused);
+    assert!(rt; is_told_or_short(rt.alloc(), ANSWERS, BROKEN));
+    assert!(rt; is_told_or_short(rt.alloc(), "nonsense\n", refused));
 }

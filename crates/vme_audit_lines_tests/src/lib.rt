@@ -1,8 +1,12 @@
-//! Tests of vme_audit_lines: the lines that an audit writes, as the second judge writes them.
+//! Tests of vme_audit_lines and vme_step_auditor.
 //!
-//! `a_line_is_whole_or_there_is_none` is made for `tests/memory/run`, which refuses each of its
-//! allocations in turn.
+//! - `tests`: the lines that an audit writes, as the second judge writes them.
+//!   `a_line_is_whole_or_there_is_none` is made for `tests/memory/run`, which refuses each of its
+//!   allocations in turn.
+//! - `step_tests`: a recording with three breaks, as far as it is read.
 #![tactic(auto)]
 
+#[cfg(test)]
+mod step_tests;
 #[cfg(test)]
 mod tests;

@@ -1,5 +1,4 @@
-use std::process::Abort;
-use std::test::Fail;
+use std::alloc::{AllocError, Global};
 use vcd_read::{FaultKind, VcdFault};
 use vme_answer::{Input, Refusal};
 use vme_audit::{Allowance, Counts, CoverageGap, Outcome};
@@ -50,98 +49,94 @@ const MANY_EVENTS: AskedEvents = AskedEvents {
 };
 
 /// Whether this text was made.
-fn expect_text<R: Abort>(rt: &R, made: &Text, text: &str) {
-    assert!(rt; made.as_bytes() == text.as_bytes(), "{text}");
-}
-
-#[test]
-fn names_are_shown(rt: HostRuntime) -> Result<(), Fail> {
-    let alloc = rt.alloc();
-    expect_text(&rt, &dump_head(alloc, b"-")?, "-: ");
-    expect_text(&rt, &dump_head(alloc, b"a: b\n.vcd")?, "a: b?.vcd: ");
-    expect_text(&rt, &dump_head(alloc, b"\x00\x1F\x20~\x7F")?, "?? ~?: ");
-    let wide = dump_head(alloc, b"\x80\xFF")?;
-    assert!(rt; wide.as_bytes() == b"\x80\xFF: ".as_slice());
-    Ok(())
-}
-
-#[test]
-fn breaks_are_told(rt: HostRuntime) -> Result<(), Fail> {
-    let alloc = rt.alloc();
-    for (category, found, line) in [
-        (
-            BreakCategory::Broken,
-            STRAY,
-            "-: broken H4 at instant 14 time 79 line BERR\n",
-        ),
-        (
-            BreakCategory::Allowed,
-            STRAY,
-            "-: allowed H4 at instant 14 time 79 line BERR\n",
-        ),
-        (
-            BreakCategory::Unreadable,
-            LATE,
-            "-: unreadable U1 at instant 18446744073709551615 time 18446744073709551615 line DTACK\n",
-        ),
-    ] {
-        expect_text(&rt, &break_line(alloc, b"-: ", category, &found)?, line);
+fn is_text(made: Result<Text, AllocError>, text: &[u8]) -> bool {
+    match made {
+        Ok(made) => made.as_bytes() == text,
+        Err(_) => false,
     }
-    Ok(())
 }
 
-/// An allowance of a rule, on one line or on every line.
-fn allowed(rule: Rule, line: Option<Line>) -> Allowance {
-    Allowance { rule, line }
+/// Whether this text was made, or there was no memory.
+fn is_text_or_short(made: Result<Text, AllocError>, text: &[u8]) -> bool {
+    match made {
+        Ok(made) => made.as_bytes() == text,
+        Err(_) => true,
+    }
+}
+
+#[test]
+fn names_are_shown(rt: HostRuntime) {
+    assert!(rt; is_text(dump_head(rt.alloc(), b"-"), b"-: "));
+    assert!(rt; is_text(dump_head(rt.alloc(), b"a: b\n.vcd"), b"a: b?.vcd: "));
+    assert!(rt; is_text(dump_head(rt.alloc(), b"\x00\x1F\x20~\x7F"), b"?? ~?: "));
+    assert!(rt; is_text(dump_head(rt.alloc(), b"\x80\xFF"), b"\x80\xFF: "));
+}
+
+/// Whether a break is told by this line.
+fn is_told(alloc: Global, category: BreakCategory, found: &AuditBreak, line: &str) -> bool {
+    is_text(break_line(alloc, b"-: ", category, found), line.as_bytes())
+}
+
+#[test]
+fn breaks_are_told(rt: HostRuntime) {
+    let broken = "-: broken H4 at instant 14 time 79 line BERR\n";
+    assert!(rt; is_told(rt.alloc(), BreakCategory::Broken, &STRAY, broken));
+    let allowed = "-: allowed H4 at instant 14 time 79 line BERR\n";
+    assert!(rt; is_told(rt.alloc(), BreakCategory::Allowed, &STRAY, allowed));
+    let late =
+        "-: unreadable U1 at instant 18446744073709551615 time 18446744073709551615 line DTACK\n";
+    assert!(rt; is_told(rt.alloc(), BreakCategory::Unreadable, &LATE, late));
+}
+
+/// An allowance of a rule on every line.
+fn anywhere(rule: Rule) -> Allowance {
+    Allowance { rule, line: None }
+}
+
+/// One on DTACK*.
+fn on_dtack(rule: Rule) -> Allowance {
+    Allowance {
+        rule,
+        line: Some(Line::DTACK),
+    }
+}
+
+/// One on BERR*.
+fn on_berr(rule: Rule) -> Allowance {
+    Allowance {
+        rule,
+        line: Some(Line::BERR),
+    }
+}
+
+/// Whether a break is of a category, and is allowed just where that says so.
+fn counts_as(allowances: &[Allowance], found: &AuditBreak, category: BreakCategory) -> bool {
+    BreakCategory::of(allowances, found) == category
+        && is_allowed(allowances, found) == (category == BreakCategory::Allowed)
+}
+
+/// Whether the stray answer is allowed by these.
+fn is_stray_allowed(one: Allowance, other: Allowance) -> bool {
+    counts_as(&[one, other], &STRAY, BreakCategory::Allowed)
+}
+
+/// Whether it is broken by these.
+fn is_stray_broken(one: Allowance, other: Allowance) -> bool {
+    counts_as(&[one, other], &STRAY, BreakCategory::Broken)
 }
 
 #[test]
 fn breaks_count_by_what_is_allowed(rt: HostRuntime) {
-    for (one, other, found, category) in [
-        (
-            allowed(Rule::H5, None),
-            allowed(Rule::H5, None),
-            STRAY,
-            BreakCategory::Broken,
-        ),
-        (
-            allowed(Rule::H4, None),
-            allowed(Rule::H5, None),
-            STRAY,
-            BreakCategory::Allowed,
-        ),
-        (
-            allowed(Rule::H4, Some(Line::DTACK)),
-            allowed(Rule::H5, Some(Line::BERR)),
-            STRAY,
-            BreakCategory::Broken,
-        ),
-        (
-            allowed(Rule::H4, Some(Line::DTACK)),
-            allowed(Rule::H4, Some(Line::BERR)),
-            STRAY,
-            BreakCategory::Allowed,
-        ),
-        (
-            allowed(Rule::H4, None),
-            allowed(Rule::U2, None),
-            LATE,
-            BreakCategory::Unreadable,
-        ),
-        (
-            allowed(Rule::U1, Some(Line::DTACK)),
-            allowed(Rule::H4, None),
-            LATE,
-            BreakCategory::Allowed,
-        ),
-    ] {
-        let allowances = [one, other];
-        assert!(rt; BreakCategory::of(&allowances, &found) == category);
-        let is = is_allowed(&allowances, &found);
-        assert!(rt; is == (category == BreakCategory::Allowed));
-    }
-    assert!(rt; BreakCategory::of(&[], &STRAY) == BreakCategory::Broken);
-    assert!(rt; BreakCategory::of(&[], &LATE) == BreakCategory::Unreadable);
+    assert!(rt; is_stray_broken(anywhere(Rule::H5), anywhere(Rule::H5)));
+    assert!(rt; is_stray_allowed(anywhere(Rule::H4), anywhere(Rule::H5)));
+    assert!(rt; is_stray_broken(on_dtack(Rule::H4), on_berr(Rule::H5)));
+    assert!(rt; is_stray_allowed(on_dtack(Rule::H4), on_berr(Rule::H4)));
+    let others = [anywhere(Rule::H4), anywhere(Rule::U2)];
+    assert!(rt; counts_as(&others, &LATE, BreakCategory::Unreadable));
+    let own = [on_dtack(Rule::U1), anywhere(Rule::H4)];
+    assert!(rt; counts_as(&own, &LATE, BreakCategory::Allowed));
+    assert!(rt; counts_as(&[], &STRAY, BreakCategory::Broken));
+    assert!(rt; counts_as(&[], &LATE, BreakCategory::Unreadable));
 }
 
 /// What an audit found of a recording with these events.
@@ -173,18 +168,24 @@ const BREAKS: BreakCounts = BreakCounts {
     allowed: 0,
 };
 
+/// Whether the counts of a recording are told so.
+fn are_told(alloc: Global, head: &[u8], findings: &AuditFindings, lines: &[u8]) -> bool {
+    is_text(count_lines(alloc, head, BREAKS, findings), lines)
+}
+
+/// What is told of the counts of a recording with many events, with no head.
+const MANY_TOLD: &[u8] = b"4 broken, 2 unreadable, 0 allowed\n\
+3 resets, 5 tenures, 6 cycles (3 single, 2 block, 1 free, 0 acknowledge)\n\
+7 transfers (2 read, 5 write; 5 by DTACK, 1 by BERR, 1 pending)\n\
+never asked: C1 I1 I2 I3 I4 I5\n";
+
 #[test]
-fn counts_are_told(rt: HostRuntime) -> Result<(), Fail> {
-    let alloc = rt.alloc();
-    let lines = count_lines(alloc, b"-: ", BREAKS, &found_with(MANY_EVENTS))?;
-    expect_text(
-        &rt,
-        &lines,
-        "-: 4 broken, 2 unreadable, 0 allowed\n\
+fn counts_are_told(rt: HostRuntime) {
+    let lines = b"-: 4 broken, 2 unreadable, 0 allowed\n\
 -: 3 resets, 5 tenures, 6 cycles (3 single, 2 block, 1 free, 0 acknowledge)\n\
 -: 7 transfers (2 read, 5 write; 5 by DTACK, 1 by BERR, 1 pending)\n\
--: never asked: C1 I1 I2 I3 I4 I5\n",
-    );
+-: never asked: C1 I1 I2 I3 I4 I5\n";
+    assert!(rt; are_told(rt.alloc(), b"-: ", &found_with(MANY_EVENTS), lines));
     let all = AskedEvents {
         single_again: true,
         interrupt: true,
@@ -192,42 +193,58 @@ fn counts_are_told(rt: HostRuntime) -> Result<(), Fail> {
         acknowledge_fall: true,
         ..MANY_EVENTS
     };
-    let lines = count_lines(alloc, b"", BREAKS, &found_with(all))?;
-    expect_text(
-        &rt,
-        &lines,
-        "4 broken, 2 unreadable, 0 allowed\n\
+    let lines = b"4 broken, 2 unreadable, 0 allowed\n\
 3 resets, 5 tenures, 6 cycles (3 single, 2 block, 1 free, 0 acknowledge)\n\
-7 transfers (2 read, 5 write; 5 by DTACK, 1 by BERR, 1 pending)\n",
-    );
-    Ok(())
+7 transfers (2 read, 5 write; 5 by DTACK, 1 by BERR, 1 pending)\n";
+    assert!(rt; are_told(rt.alloc(), b"", &found_with(all), lines));
 }
 
 /// Sums of counts may be longer than a count.
 #[test]
-fn sums_do_not_wrap(rt: HostRuntime) -> Result<(), Fail> {
+fn sums_do_not_wrap(rt: HostRuntime) {
     let most = u64::MAX;
     let mut findings = found_with(MANY_EVENTS);
     findings.counts.single = most;
     findings.counts.block = most;
     findings.counts.reads = most;
     findings.counts.writes = most;
-    let lines = count_lines(rt.alloc(), b"", BREAKS, &findings)?;
-    expect_text(
-        &rt,
-        &lines,
-        "4 broken, 2 unreadable, 0 allowed\n\
+    let lines = b"4 broken, 2 unreadable, 0 allowed\n\
 3 resets, 5 tenures, 36893488147419103231 cycles (18446744073709551615 single, \
 18446744073709551615 block, 1 free, 0 acknowledge)\n\
 36893488147419103230 transfers (18446744073709551615 read, 18446744073709551615 write; 5 by DTACK, \
 1 by BERR, 1 pending)\n\
-never asked: C1 I1 I2 I3 I4 I5\n",
-    );
-    Ok(())
+never asked: C1 I1 I2 I3 I4 I5\n";
+    assert!(rt; are_told(rt.alloc(), b"", &findings, lines));
+}
+
+/// Whether an outcome is told by this line, with this status.
+fn is_outcome_told(alloc: Global, outcome: &Outcome, line: &str, status: u8) -> bool {
+    is_text(outcome_line(alloc, b"-: ", outcome), line.as_bytes())
+        && outcome_status(outcome) == status
+}
+
+/// Whether a gap is told by this line.
+fn is_gap_told(alloc: Global, gap: CoverageGap, line: &str) -> bool {
+    is_outcome_told(alloc, &Outcome::NotCovered { gap }, line, 6)
 }
 
 #[test]
-fn outcomes_are_told(rt: HostRuntime) -> Result<(), Fail> {
+fn outcomes_are_told(rt: HostRuntime) {
+    let alloc = rt.alloc();
+    let (none, one) = (
+        Outcome::Conforming { allowed: 0 },
+        Outcome::Conforming { allowed: 1 },
+    );
+    assert!(rt; is_outcome_told(alloc, &none, "-: conforming\n", 0));
+    assert!(rt; is_outcome_told(alloc, &one, "-: conforming with 1 allowed\n", 0));
+    assert!(rt; is_outcome_told(alloc, &Outcome::Broken, "-: broken\n", 1));
+    assert!(rt; is_outcome_told(alloc, &Outcome::Unreadable, "-: unreadable\n", 2));
+}
+
+#[test]
+fn gaps_are_told(rt: HostRuntime) {
+    let alloc = rt.alloc();
+    let behind = CoverageGap::NeverIdleBehind { instant: 12 };
     let few = CoverageGap::FewAnswers {
         answered: 0,
         wanted: 1,
@@ -236,48 +253,38 @@ fn outcomes_are_told(rt: HostRuntime) -> Result<(), Fail> {
         instant: 9,
         time: 110,
     };
-    for (outcome, line, status) in [
-        (Outcome::Conforming { allowed: 0 }, "-: conforming\n", 0),
-        (
-            Outcome::Conforming { allowed: 1 },
-            "-: conforming with 1 allowed\n",
-            0,
-        ),
-        (
-            Outcome::NotCovered {
-                gap: CoverageGap::NeverIdle,
-            },
-            "-: not covered: never idle\n",
-            6,
-        ),
-        (
-            Outcome::NotCovered {
-                gap: CoverageGap::NeverIdleBehind { instant: 12 },
-            },
-            "-: not covered: never idle behind instant 12\n",
-            6,
-        ),
-        (
-            Outcome::NotCovered { gap: few },
-            "-: not covered: 0 of 1 transfers answered\n",
-            6,
-        ),
-        (
-            Outcome::NotCovered { gap: hang },
-            "-: not covered: transfer at instant 9 time 110 without an answer\n",
-            6,
-        ),
-        (Outcome::Broken, "-: broken\n", 1),
-        (Outcome::Unreadable, "-: unreadable\n", 2),
-    ] {
-        expect_text(&rt, &outcome_line(rt.alloc(), b"-: ", &outcome)?, line);
-        assert_eq!(rt; outcome_status(&outcome), status, "{line}");
-    }
-    Ok(())
+    assert!(rt;
+        is_gap_told(
+            alloc,
+            CoverageGap::NeverIdle,
+            "-: not covered: never idle\n"
+        )
+    );
+    let line = "-: not covered: never idle behind instant 12\n";
+    assert!(rt; is_gap_told(alloc, behind, line));
+    assert!(rt; is_gap_told(alloc, few, "-: not covered: 0 of 1 transfers answered\n"));
+    let line = "-: not covered: transfer at instant 9 time 110 without an answer\n";
+    assert!(rt; is_gap_told(alloc, hang, line));
 }
 
-#[test]
-fn refusals_are_told(rt: HostRuntime) -> Result<(), Fail> {
+/// Whether a refusal is told by this text.
+fn is_refusal_told(alloc: Global, refusal: Refusal, text: &str) -> bool {
+    is_text(refusal_text(alloc, &refusal), text.as_bytes())
+}
+
+/// Whether inputs that can't be read are.
+fn are_inputs_told(alloc: Global) -> bool {
+    is_refusal_told(alloc, Refusal::CannotOpen(Input::Dump), "cannot open\n")
+        && is_refusal_told(alloc, Refusal::CannotRead(Input::Dump), "cannot read\n")
+        && is_refusal_told(
+            alloc,
+            Refusal::CannotOpen(Input::Binding),
+            "cannot open binding\n",
+        )
+}
+
+/// Whether faults of inputs are, and want of memory.
+fn are_faults_told(alloc: Global) -> bool {
     let bad_dump = VcdFault {
         line: 119,
         kind: FaultKind::ScopeUnderflow,
@@ -286,46 +293,35 @@ fn refusals_are_told(rt: HostRuntime) -> Result<(), Fail> {
         line: 5,
         kind: BindKind::NoSuchPath,
     };
-    for (refusal, text) in [
-        (Refusal::CannotOpen(Input::Dump), "cannot open\n"),
-        (Refusal::CannotRead(Input::Dump), "cannot read\n"),
-        (
-            Refusal::BadDump(bad_dump),
-            "dump line 119: ScopeUnderflow\n",
-        ),
-        (Refusal::BadBinding(no_path), "binding line 5: NoSuchPath\n"),
-        (Refusal::CannotOpen(Input::Binding), "cannot open binding\n"),
-        (Refusal::Memory, "out of memory\n"),
-    ] {
-        expect_text(&rt, &refusal_text(rt.alloc(), &refusal)?, text);
-    }
-    Ok(())
+    is_refusal_told(
+        alloc,
+        Refusal::BadDump(bad_dump),
+        "dump line 119: ScopeUnderflow\n",
+    ) && is_refusal_told(
+        alloc,
+        Refusal::BadBinding(no_path),
+        "binding line 5: NoSuchPath\n",
+    ) && is_refusal_told(alloc, Refusal::Memory, "out of memory\n")
+}
+
+#[test]
+fn refusals_are_told(rt: HostRuntime) {
+    assert!(rt; are_inputs_told(rt.alloc()));
+    assert!(rt; are_faults_told(rt.alloc()));
 }
 
 /// Run with each allocation refused in turn, this shows that there is then no line, and else the whole of it.
 #[test]
 fn a_line_is_whole_or_there_is_none(rt: HostRuntime) {
     let alloc = rt.alloc();
-    if let Ok(head) = dump_head(alloc, b"recordings/crate-2/boot.vcd") {
-        expect_text(&rt, &head, "recordings/crate-2/boot.vcd: ");
-    }
-    if let Ok(line) = break_line(alloc, b"-: ", BreakCategory::Broken, &STRAY) {
-        expect_text(&rt, &line, "-: broken H4 at instant 14 time 79 line BERR\n");
-    }
-    if let Ok(lines) = count_lines(alloc, b"", BREAKS, &found_with(MANY_EVENTS)) {
-        expect_text(
-            &rt,
-            &lines,
-            "4 broken, 2 unreadable, 0 allowed\n\
-3 resets, 5 tenures, 6 cycles (3 single, 2 block, 1 free, 0 acknowledge)\n\
-7 transfers (2 read, 5 write; 5 by DTACK, 1 by BERR, 1 pending)\n\
-never asked: C1 I1 I2 I3 I4 I5\n",
-        );
-    }
-    if let Ok(line) = outcome_line(alloc, b"-: ", &Outcome::Conforming { allowed: 12 }) {
-        expect_text(&rt, &line, "-: conforming with 12 allowed\n");
-    }
-    if let Ok(text) = refusal_text(alloc, &Refusal::CannotRead(Input::Dump)) {
-        expect_text(&rt, &text, "cannot read\n");
-    }
+    let head = dump_head(alloc, b"recordings/crate-2/boot.vcd");
+    assert!(rt; is_text_or_short(head, b"recordings/crate-2/boot.vcd: "));
+    let line = break_line(alloc, b"-: ", BreakCategory::Broken, &STRAY);
+    assert!(rt; is_text_or_short(line, b"-: broken H4 at instant 14 time 79 line BERR\n"));
+    let lines = count_lines(alloc, b"", BREAKS, &found_with(MANY_EVENTS));
+    assert!(rt; is_text_or_short(lines, MANY_TOLD));
+    let line = outcome_line(alloc, b"-: ", &Outcome::Conforming { allowed: 12 });
+    assert!(rt; is_text_or_short(line, b"-: conforming with 12 allowed\n"));
+    let text = refusal_text(alloc, &Refusal::CannotRead(Input::Dump));
+    assert!(rt; is_text_or_short(text, b"cannot read\n"));
 }

@@ -17,10 +17,11 @@ pub(crate) struct WorkedRecording {
     pub counts: [u64; 11],
     pub never_asked: &'static str,
     /// What it comes to where every break is allowed, and no answered transfer is wanted, or one is.
-    pub outcomes: [Outcome; 2],
+    pub outcomes: (Outcome, Outcome),
 }
 
-const RECORDINGS: [WorkedRecording; 22] = [
+/// Recordings of each kind of cycle, of breaks and of resets.
+pub(crate) static RECORDINGS: [WorkedRecording; 22] = [
     // nothing is known
     WorkedRecording {
         slots: 3,
@@ -29,14 +30,14 @@ const RECORDINGS: [WorkedRecording; 22] = [
         breaks: &[],
         counts: [0, 0, 0, 0, 0, 0, 0, 0, 0, 0, 0],
         never_asked: "U1 U2 U3 U4 H1 H2 H3 H4 H5 H6 H7 H8 S1 S2 S3 C1 C2 G1 G2 G3 G4 G5 B1 B2 B3 B4 I1 I2 I3 I4 I5",
-        outcomes: [
+        outcomes: (
             Outcome::NotCovered {
                 gap: CoverageGap::NeverIdle,
             },
             Outcome::NotCovered {
                 gap: CoverageGap::NeverIdle,
             },
-        ],
+        ),
     },
     // idle, and nothing else
     WorkedRecording {
@@ -46,7 +47,7 @@ const RECORDINGS: [WorkedRecording; 22] = [
         breaks: &[],
         counts: [0, 0, 0, 0, 0, 0, 0, 0, 0, 0, 0],
         never_asked: "U2 U3 U4 H1 H2 H3 H4 H5 H6 H7 H8 S1 S2 S3 C1 C2 G1 G2 G3 G4 G5 B1 B2 B3 B4 I1 I2 I3 I4 I5",
-        outcomes: [
+        outcomes: (
             Outcome::Conforming { allowed: 0 },
             Outcome::NotCovered {
                 gap: CoverageGap::FewAnswers {
@@ -54,7 +55,7 @@ const RECORDINGS: [WorkedRecording; 22] = [
                     wanted: 1,
                 },
             },
-        ],
+        ),
     },
     // a read in a tenure
     WorkedRecording {
@@ -65,10 +66,10 @@ const RECORDINGS: [WorkedRecording; 22] = [
         breaks: &[],
         counts: [0, 1, 1, 0, 0, 0, 1, 0, 1, 0, 0],
         never_asked: "U4 H3 S3 C1 C2 I1 I2 I3 I4 I5",
-        outcomes: [
+        outcomes: (
             Outcome::Conforming { allowed: 0 },
             Outcome::Conforming { allowed: 0 },
-        ],
+        ),
     },
     // two stray answers, the second before an idle instant and another behind one
     WorkedRecording {
@@ -78,7 +79,7 @@ const RECORDINGS: [WorkedRecording; 22] = [
         breaks: &[(1, 0, Rule::H4, "DTACK"), (5, 40, Rule::H4, "BERR")],
         counts: [0, 0, 0, 0, 0, 0, 0, 0, 0, 0, 0],
         never_asked: "U2 U3 U4 H1 H2 H3 H6 H7 H8 S1 S2 S3 C1 C2 G1 G2 G3 G4 G5 B1 B2 B3 B4 I1 I2 I3 I4 I5",
-        outcomes: [
+        outcomes: (
             Outcome::Conforming { allowed: 2 },
             Outcome::NotCovered {
                 gap: CoverageGap::FewAnswers {
@@ -86,7 +87,7 @@ const RECORDINGS: [WorkedRecording; 22] = [
                     wanted: 1,
                 },
             },
-        ],
+        ),
     },
     // the bus is taken without a grant, and a read follows
     WorkedRecording {
@@ -96,10 +97,10 @@ const RECORDINGS: [WorkedRecording; 22] = [
         breaks: &[(1, 0, Rule::B1, "BBSY")],
         counts: [0, 0, 1, 0, 0, 0, 1, 0, 1, 0, 0],
         never_asked: "U4 H3 S3 C1 C2 G1 G2 G3 G4 G5 I1 I2 I3 I4 I5",
-        outcomes: [
+        outcomes: (
             Outcome::Conforming { allowed: 1 },
             Outcome::Conforming { allowed: 1 },
-        ],
+        ),
     },
     // a lost strobe and a stray answer, then a read with a second answer line
     WorkedRecording {
@@ -113,10 +114,10 @@ const RECORDINGS: [WorkedRecording; 22] = [
         ],
         counts: [0, 0, 1, 0, 0, 0, 1, 0, 0, 1, 0],
         never_asked: "U4 H2 H3 H6 H7 S3 C1 C2 G1 G2 G3 G4 G5 B1 B2 B4 I1 I2 I3 I4 I5",
-        outcomes: [
+        outcomes: (
             Outcome::Conforming { allowed: 3 },
             Outcome::Conforming { allowed: 3 },
-        ],
+        ),
     },
     // a reset amid a write, a break, a reset that is not judged, and one that is
     WorkedRecording {
@@ -131,7 +132,7 @@ const RECORDINGS: [WorkedRecording; 22] = [
         ],
         counts: [2, 0, 1, 0, 0, 0, 0, 1, 0, 0, 1],
         never_asked: "H2 H3 H6 H7 H8 C1 C2 G1 G2 G3 G4 G5 I1 I2 I3 I4 I5",
-        outcomes: [
+        outcomes: (
             Outcome::Conforming { allowed: 3 },
             Outcome::NotCovered {
                 gap: CoverageGap::FewAnswers {
@@ -139,7 +140,7 @@ const RECORDINGS: [WorkedRecording; 22] = [
                     wanted: 1,
                 },
             },
-        ],
+        ),
     },
     // a block transfer that turns, and a write behind it
     WorkedRecording {
@@ -151,10 +152,10 @@ const RECORDINGS: [WorkedRecording; 22] = [
         breaks: &[(12, 110, Rule::C2, "DTACK")],
         counts: [0, 0, 1, 1, 0, 0, 2, 2, 2, 1, 1],
         never_asked: "H3 C1 G1 G2 G3 G4 G5 B1 B2 B4 I1 I2 I3 I4 I5",
-        outcomes: [
+        outcomes: (
             Outcome::Conforming { allowed: 1 },
             Outcome::Conforming { allowed: 1 },
-        ],
+        ),
     },
     // a single cycle that reads and writes, and is answered once more
     WorkedRecording {
@@ -165,10 +166,10 @@ const RECORDINGS: [WorkedRecording; 22] = [
         breaks: &[(13, 120, Rule::C1, "DTACK")],
         counts: [0, 0, 1, 0, 0, 0, 1, 2, 2, 0, 1],
         never_asked: "H3 H7 C2 G1 G2 G3 G4 G5 B1 B2 B4 I1 I2 I3 I4 I5",
-        outcomes: [
+        outcomes: (
             Outcome::Conforming { allowed: 1 },
             Outcome::Conforming { allowed: 1 },
-        ],
+        ),
     },
     // an interrupt is acknowledged through three slots, and answered twice
     WorkedRecording {
@@ -179,10 +180,10 @@ const RECORDINGS: [WorkedRecording; 22] = [
         breaks: &[(10, 90, Rule::I5, "DTACK")],
         counts: [0, 0, 0, 0, 0, 1, 2, 0, 1, 0, 1],
         never_asked: "U4 H3 H7 S3 C1 C2 G1 G2 G3 G4 G5 B1 B2 B4",
-        outcomes: [
+        outcomes: (
             Outcome::Conforming { allowed: 1 },
             Outcome::Conforming { allowed: 1 },
-        ],
+        ),
     },
     // an acknowledge is passed on out of turn
     WorkedRecording {
@@ -192,7 +193,7 @@ const RECORDINGS: [WorkedRecording; 22] = [
         breaks: &[(1, 0, Rule::I1, "IA.2"), (5, 40, Rule::I2, "IA.1")],
         counts: [0, 0, 0, 0, 0, 1, 0, 0, 0, 0, 0],
         never_asked: "U3 U4 H1 H2 H3 H4 H5 H6 H7 H8 S2 S3 C1 C2 G1 G2 G3 G4 G5 B1 B2 B4 I4 I5",
-        outcomes: [
+        outcomes: (
             Outcome::Conforming { allowed: 2 },
             Outcome::NotCovered {
                 gap: CoverageGap::FewAnswers {
@@ -200,7 +201,7 @@ const RECORDINGS: [WorkedRecording; 22] = [
                     wanted: 1,
                 },
             },
-        ],
+        ),
     },
     // a transfer stays without an answer, and another starts
     WorkedRecording {
@@ -210,14 +211,14 @@ const RECORDINGS: [WorkedRecording; 22] = [
         breaks: &[(4, 30, Rule::H2, "DS0")],
         counts: [0, 0, 1, 0, 0, 0, 1, 0, 0, 0, 1],
         never_asked: "U4 H3 H4 H5 H6 H7 H8 S3 C1 C2 G1 G2 G3 G4 G5 B1 B2 B4 I1 I2 I3 I4 I5",
-        outcomes: [
+        outcomes: (
             Outcome::NotCovered {
                 gap: CoverageGap::NeverIdleBehind { instant: 4 },
             },
             Outcome::NotCovered {
                 gap: CoverageGap::NeverIdleBehind { instant: 4 },
             },
-        ],
+        ),
     },
     // a transfer stays without an answer behind a reset
     WorkedRecording {
@@ -227,7 +228,7 @@ const RECORDINGS: [WorkedRecording; 22] = [
         breaks: &[],
         counts: [1, 0, 2, 0, 0, 0, 2, 0, 0, 0, 2],
         never_asked: "U4 H2 H3 H4 H5 H6 H7 H8 S3 C1 C2 G1 G2 G3 G4 G5 B1 B2 B4 I1 I2 I3 I4 I5",
-        outcomes: [
+        outcomes: (
             Outcome::NotCovered {
                 gap: CoverageGap::Hang {
                     instant: 8,
@@ -240,7 +241,7 @@ const RECORDINGS: [WorkedRecording; 22] = [
                     wanted: 1,
                 },
             },
-        ],
+        ),
     },
     // a transfer without a cycle is answered, and one in a cycle
     WorkedRecording {
@@ -250,10 +251,10 @@ const RECORDINGS: [WorkedRecording; 22] = [
         breaks: &[(2, 10, Rule::H8, "DTACK")],
         counts: [0, 0, 1, 0, 0, 0, 2, 0, 1, 0, 1],
         never_asked: "U4 H3 S3 C1 C2 G1 G2 G3 G4 G5 B1 B2 B4 I1 I2 I3 I4 I5",
-        outcomes: [
+        outcomes: (
             Outcome::Conforming { allowed: 1 },
             Outcome::Conforming { allowed: 1 },
-        ],
+        ),
     },
     // a transfer without a cycle waits
     WorkedRecording {
@@ -263,7 +264,7 @@ const RECORDINGS: [WorkedRecording; 22] = [
         breaks: &[],
         counts: [0, 0, 1, 0, 0, 0, 1, 0, 0, 0, 1],
         never_asked: "U4 H2 H3 H4 H5 H6 H7 H8 S3 C1 C2 G1 G2 G3 G4 G5 B1 B2 B4 I1 I2 I3 I4 I5",
-        outcomes: [
+        outcomes: (
             Outcome::NotCovered {
                 gap: CoverageGap::Hang {
                     instant: 1,
@@ -276,7 +277,7 @@ const RECORDINGS: [WorkedRecording; 22] = [
                     wanted: 1,
                 },
             },
-        ],
+        ),
     },
     // grants go on through three slots
     WorkedRecording {
@@ -287,7 +288,7 @@ const RECORDINGS: [WorkedRecording; 22] = [
         breaks: &[(6, 50, Rule::B4, "BBSY")],
         counts: [0, 1, 0, 0, 0, 0, 0, 0, 0, 0, 0],
         never_asked: "U2 U3 U4 H1 H2 H3 H4 H5 H6 H7 H8 S1 S2 S3 C1 C2 B3 I1 I2 I3 I4 I5",
-        outcomes: [
+        outcomes: (
             Outcome::Conforming { allowed: 1 },
             Outcome::NotCovered {
                 gap: CoverageGap::FewAnswers {
@@ -295,7 +296,7 @@ const RECORDINGS: [WorkedRecording; 22] = [
                     wanted: 1,
                 },
             },
-        ],
+        ),
     },
     // a slot grants without a grant, and keeps one
     WorkedRecording {
@@ -305,7 +306,7 @@ const RECORDINGS: [WorkedRecording; 22] = [
         breaks: &[(1, 0, Rule::G1, "BG2.1"), (8, 70, Rule::B1, "BBSY")],
         counts: [0, 0, 0, 0, 0, 0, 0, 0, 0, 0, 0],
         never_asked: "U2 U3 U4 H1 H2 H3 H4 H5 H6 H7 H8 S1 S2 S3 C1 C2 B3 I1 I2 I3 I4 I5",
-        outcomes: [
+        outcomes: (
             Outcome::Conforming { allowed: 2 },
             Outcome::NotCovered {
                 gap: CoverageGap::FewAnswers {
@@ -313,7 +314,7 @@ const RECORDINGS: [WorkedRecording; 22] = [
                     wanted: 1,
                 },
             },
-        ],
+        ),
     },
     // the arbiter grants twice at once, and again in a tenure
     WorkedRecording {
@@ -323,7 +324,7 @@ const RECORDINGS: [WorkedRecording; 22] = [
         breaks: &[(3, 20, Rule::G3, "BG1.0"), (7, 60, Rule::G4, "BG1.0")],
         counts: [0, 0, 0, 0, 0, 0, 0, 0, 0, 0, 0],
         never_asked: "U2 U3 U4 H1 H2 H3 H4 H5 H6 H7 H8 S1 S2 S3 C1 C2 G1 G2 B1 B2 B3 B4 I1 I2 I3 I4 I5",
-        outcomes: [
+        outcomes: (
             Outcome::Conforming { allowed: 2 },
             Outcome::NotCovered {
                 gap: CoverageGap::FewAnswers {
@@ -331,7 +332,7 @@ const RECORDINGS: [WorkedRecording; 22] = [
                     wanted: 1,
                 },
             },
-        ],
+        ),
     },
     // a free code, an address that moves, and data that is not known
     WorkedRecording {
@@ -342,10 +343,10 @@ const RECORDINGS: [WorkedRecording; 22] = [
         breaks: &[(9, 80, Rule::S1, "A05"), (18, 170, Rule::U4, "D01")],
         counts: [0, 0, 3, 0, 1, 0, 2, 0, 2, 0, 0],
         never_asked: "H3 C1 C2 G1 G2 G3 G4 G5 B1 B2 B4 I1 I2 I3 I4 I5",
-        outcomes: [
+        outcomes: (
             Outcome::Conforming { allowed: 2 },
             Outcome::Conforming { allowed: 2 },
-        ],
+        ),
     },
     // a cycle is cut off at its start, and transfers are by breaks
     WorkedRecording {
@@ -359,10 +360,10 @@ const RECORDINGS: [WorkedRecording; 22] = [
         ],
         counts: [0, 0, 2, 0, 0, 0, 2, 0, 1, 0, 1],
         never_asked: "U4 H3 S3 C1 C2 G1 G2 G3 G4 G5 I1 I2 I3 I4 I5",
-        outcomes: [
+        outcomes: (
             Outcome::Conforming { allowed: 3 },
             Outcome::Conforming { allowed: 3 },
-        ],
+        ),
     },
     // a break in the last step
     WorkedRecording {
@@ -372,14 +373,14 @@ const RECORDINGS: [WorkedRecording; 22] = [
         breaks: &[(7, 60, Rule::H4, "BERR")],
         counts: [0, 0, 1, 0, 0, 0, 1, 0, 1, 0, 0],
         never_asked: "U4 H3 S3 C1 C2 G1 G2 G3 G4 G5 B1 B2 B4 I1 I2 I3 I4 I5",
-        outcomes: [
+        outcomes: (
             Outcome::NotCovered {
                 gap: CoverageGap::NeverIdleBehind { instant: 7 },
             },
             Outcome::NotCovered {
                 gap: CoverageGap::NeverIdleBehind { instant: 7 },
             },
-        ],
+        ),
     },
     // both answers at once, and a strobe that falls late
     WorkedRecording {
@@ -390,13 +391,9 @@ const RECORDINGS: [WorkedRecording; 22] = [
         breaks: &[(5, 40, Rule::H3, "DS1"), (11, 100, Rule::H5, "DTACK")],
         counts: [0, 0, 2, 0, 0, 0, 2, 0, 1, 0, 1],
         never_asked: "U4 H2 H6 H7 S3 C1 C2 G1 G2 G3 G4 G5 B1 B2 B4 I1 I2 I3 I4 I5",
-        outcomes: [
+        outcomes: (
             Outcome::Conforming { allowed: 2 },
             Outcome::Conforming { allowed: 2 },
-        ],
+        ),
     },
 ];
-
-pub(crate) fn recordings() -> [WorkedRecording; 22] {
-    RECORDINGS
-}

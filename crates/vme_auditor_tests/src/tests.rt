@@ -1,8 +1,6 @@
-use crate::recordings::{WorkedRecording, recordings};
+use crate::recordings::{RECORDINGS, WorkedRecording};
 use smallvec::SmallVec;
 use std::alloc::Global;
-use std::process::Abort;
-use std::test::Fail;
 use vme_audit::{Counts, CoverageGap, Outcome};
 use vme_auditor::{AuditBreak, AuditFindings, Auditor, BreakCounts, outcome};
 use vme_trace::{Block, Change, Changes, LINE_COUNT, Level, Line, Lines, Rule, Step, Steps};
@@ -22,76 +20,66 @@ fn change_of(word: &str) -> Option<Change> {
 }
 
 /// Adds that each line gets high, but for those of some numbers.
-fn push_high(
-    changes: &mut Vec<Change>,
-    lines: &Lines,
-    first: u8,
-    last: u8,
-) -> Result<(), &'static str> {
+fn push_high(changes: &mut Vec<Change>, lines: &Lines, first: u8, last: u8) -> Option<()> {
     for number in 0..LINE_COUNT {
-        let line = Line::from_number(number).ok_or("no such line")?;
+        let line = Line::from_number(number)?;
         if lines.has(line) && (number < first || last < number) {
-            let change = Change {
-                line,
-                level: Level::High,
-            };
-            changes.push(change).ok().ok_or("no memory")?;
+            let level = Level::High;
+            changes.push(Change { line, level }).ok()?;
         }
     }
-    Ok(())
+    Some(())
 }
 
 /// Adds the changes that a word says.
-fn push_word(changes: &mut Vec<Change>, lines: &Lines, word: &str) -> Result<(), &'static str> {
+fn push_word(changes: &mut Vec<Change>, lines: &Lines, word: &str) -> Option<()> {
     if word == "high" {
         return push_high(changes, lines, LINE_COUNT, LINE_COUNT);
     }
     if word == "quiet" {
         return push_high(changes, lines, 37, 44);
     }
-    let change = change_of(word).ok_or("no change")?;
-    changes.push(change).ok().ok_or("no memory")
+    changes.push(change_of(word)?).ok()
 }
 
 /// The changes that a text says, in the order of lines.
-fn changes_of(alloc: Global, lines: &Lines, text: &str) -> Result<Vec<Change>, &'static str> {
+fn changes_of(alloc: Global, lines: &Lines, text: &str) -> Option<Vec<Change>> {
     let mut changes = Vec::new(alloc);
     for word in text.split_whitespace() {
         push_word(&mut changes, lines, word)?;
     }
-    Ok(changes)
+    Some(changes)
 }
 
-fn opening_of(alloc: Global, worked: &WorkedRecording) -> Result<Lines, &'static str> {
-    let mut opening = Lines::new(worked.slots).ok_or("no such backplane")?;
+fn opening_of(alloc: Global, worked: &WorkedRecording) -> Option<Lines> {
+    let mut opening = Lines::new(worked.slots)?;
     for change in changes_of(alloc, &opening, worked.opening)? {
         if opening.has(change.line) {
             opening.set(change.line, change.level);
         }
     }
-    Ok(opening)
+    Some(opening)
 }
 
-fn step_of(alloc: Global, lines: &Lines, time: u64, text: &str) -> Result<Step, &'static str> {
+fn step_of(alloc: Global, lines: &Lines, time: u64, text: &str) -> Option<Step> {
     let changes = changes_of(alloc, lines, text)?;
-    let list = SmallVec::from_slice(alloc, changes.as_slice());
-    Ok(Step {
+    let list = SmallVec::from_slice(alloc, changes.as_slice()).ok()?;
+    Some(Step {
         time,
-        changes: Changes::new(list.ok().ok_or("no memory")?),
+        changes: Changes::new(list),
     })
 }
 
 /// The steps that a text says, ten units apart.
-fn steps_of(alloc: Global, lines: &Lines, text: &str) -> Result<Vec<Step>, &'static str> {
+fn steps_of(alloc: Global, lines: &Lines, text: &str) -> Option<Vec<Step>> {
     let mut steps = Vec::new(alloc);
     for part in text.split(';') {
         if !part.is_empty() {
             let time = (steps.len() as u64).saturating_mul(10);
-            let step = step_of(alloc, lines, time, part)?;
-            steps.push(step).ok().ok_or("no memory")?;
+            steps.push(step_of(alloc, lines, time, part)?).ok()?;
         }
     }
-    Ok(steps)
+    Some(steps)
 }
 
 /// A break as the second judge tells it.
@@ -134,12 +122,8 @@ fn counts_of(counts: [u64; 11]) -> Counts {
     }
 }
 
-/// The breaks that are found of a recording, and what else is.
-fn audited(
-    rt: &impl Abort,
-    alloc: Global,
-    worked: &WorkedRecording,
-) -> Result<(Vec<AuditBreak>, AuditFindings), Fail> {
+/// The steps of a recording behind its opening, if they are well formed.
+fn block_of(alloc: Global, worked: &WorkedRecording) -> Option<Block> {
     let opening = opening_of(alloc, worked)?;
     let steps = steps_of(alloc, &opening, worked.steps)?;
     let block = Block {
@@ -147,100 +131,114 @@ fn audited(
         opening,
         steps: Steps::new(steps),
     };
-    assert!(rt; block.check().is_ok(), "well formed: {}", worked.steps);
-    let mut auditor = Auditor::new(&opening);
+    match block.check() {
+        Ok(()) => Some(block),
+        Err(_) => None,
+    }
+}
+
+/// The breaks that are found of a recording, and what else is.
+fn audited(alloc: Global, worked: &WorkedRecording) -> Option<(Vec<AuditBreak>, AuditFindings)> {
+    let block = block_of(alloc, worked)?;
+    let mut auditor = Auditor::new(&block.opening);
     let mut breaks = Vec::new(alloc);
     for step in block.steps.as_slice() {
-        if let Some(found) = auditor.step(step).ok().ok_or("too many steps")? {
-            breaks.push(found)?;
+        if let Some(found) = auditor.step(step).ok()? {
+            breaks.push(found).ok()?;
         }
     }
-    Ok((breaks, auditor.audited()))
+    Some((breaks, auditor.audited()))
 }
 
-fn assert_breaks(
-    rt: &impl Abort,
-    breaks: &[AuditBreak],
-    worked: &WorkedRecording,
-) -> Result<(), Fail> {
-    assert_eq!(rt;
-        breaks.len(),
-        worked.breaks.len(),
-        "breaks of {}",
-        worked.steps
-    );
-    for (found, told) in breaks.iter().zip(worked.breaks) {
-        let told = break_of(told).ok_or("no such line")?;
-        assert_eq!(rt; *found, told, "a break of {}", worked.steps);
+/// Whether these are the breaks that are told.
+fn are_breaks(breaks: &[AuditBreak], told: &[(u64, u64, Rule, &'static str)]) -> bool {
+    for (found, told) in breaks.iter().zip(told) {
+        let is_so = match break_of(told) {
+            Some(told) => *found == told,
+            None => false,
+        };
+        if !is_so {
+            return false;
+        }
     }
-    Ok(())
+    breaks.len() == told.len()
 }
 
-/// Exactly the rules are never asked that a text names.
-fn assert_asked(rt: &impl Abort, findings: &AuditFindings, worked: &WorkedRecording) {
+/// Whether a text has a name among its words.
+fn has_name(names: &str, name: &[u8]) -> bool {
+    for word in names.split_whitespace() {
+        if word.as_bytes() == name {
+            return true;
+        }
+    }
+    false
+}
+
+/// Whether exactly the rules are never asked that a text names.
+fn are_never_asked(findings: &AuditFindings, names: &str) -> bool {
     for rule in Rule::ALL {
-        let name = rule.name();
-        let is_never_asked = worked
-            .never_asked
-            .split_whitespace()
-            .any(|never| never.as_bytes() == name.as_bytes());
-        assert!(rt;
-            findings.events.ask(rule) != is_never_asked,
-            "{:?} of {}",
-            rule,
-            worked.steps
-        );
+        if findings.events.ask(rule) == has_name(names, rule.name().as_bytes()) {
+            return false;
+        }
     }
+    true
 }
 
-fn assert_audited(rt: &impl Abort, alloc: Global, worked: &WorkedRecording) -> Result<(), Fail> {
-    let (breaks, findings) = audited(rt, alloc, worked)?;
-    assert_breaks(rt, breaks.as_slice(), worked)?;
-    assert_eq!(rt;
-        findings.counts,
-        counts_of(worked.counts),
-        "counts of {}",
-        worked.steps
-    );
-    assert_asked(rt, &findings, worked);
+/// Whether a recording comes to this where so many breaks are allowed, and no answered transfer is wanted, or one is.
+fn comes_to(findings: &AuditFindings, allowed: u64, outcomes: (Outcome, Outcome)) -> bool {
     let allowed = BreakCounts {
         broken: 0,
         unreadable: 0,
-        allowed: breaks.len() as u64,
+        allowed,
     };
-    let [without, with] = worked.outcomes;
-    assert_eq!(rt;
-        outcome(&findings, allowed, 0),
-        without,
-        "outcome of {}",
-        worked.steps
-    );
-    assert_eq!(rt;
-        outcome(&findings, allowed, 1),
-        with,
-        "outcome of {}",
-        worked.steps
-    );
-    Ok(())
+    outcome(findings, allowed, 0) == outcomes.0 && outcome(findings, allowed, 1) == outcomes.1
 }
 
-#[test]
-fn recordings_are_audited(rt: HostRuntime) -> Result<(), Fail> {
-    for worked in &recordings() {
-        assert_audited(&rt, rt.alloc(), worked)?;
+/// What differs from what the second judge says of a recording, or an empty text.
+fn difference(
+    breaks: &[AuditBreak],
+    findings: &AuditFindings,
+    worked: &WorkedRecording,
+) -> &'static str {
+    if !are_breaks(breaks, worked.breaks) {
+        return "breaks";
     }
-    Ok(())
+    if findings.counts != counts_of(worked.counts) {
+        return "counts";
+    }
+    if !are_never_asked(findings, worked.never_asked) {
+        return "rules";
+    }
+    if !comes_to(findings, breaks.len() as u64, worked.outcomes) {
+        return "outcome";
+    }
+    ""
 }
 
-/// What was found of a recording of which nothing is known.
-fn nothing_found() -> Result<AuditFindings, &'static str> {
-    let opening = Lines::new(1).ok_or("no such backplane")?;
-    Ok(Auditor::new(&opening).audited())
+/// The same of what is audited.
+fn difference_of(alloc: Global, worked: &WorkedRecording) -> &'static str {
+    match audited(alloc, worked) {
+        Some((breaks, findings)) => difference(breaks.as_slice(), &findings, worked),
+        None => "not audited",
+    }
 }
 
 #[test]
-fn a_break_is_told_before_a_gap(rt: HostRuntime) -> Result<(), Fail> {
-    let findings = nothing_found()?;
+fn recordings_are_audited(rt: HostRuntime) {
+    for worked in RECORDINGS.iter() {
+        let differs = difference_of(rt.alloc(), worked);
+        assert!(rt; differs.is_empty(), "{differs} of {}", worked.steps);
+    }
+}
+
+/// What was found of a recording of which nothing is known, where so many breaks were found.
+fn outcome_of(counts: BreakCounts) -> Option<Outcome> {
+    let opening = Lines::new(1)?;
+    Some(outcome(&Auditor::new(&opening).audited(), counts, 1))
+}
+
+#[test]
+fn a_break_is_told_before_a_gap(rt: HostRuntime) {
     let broken = BreakCounts {
         broken: 1,
         unreadable: 1,
@@ -250,12 +248,8 @@ fn a_break_is_told_before_a_gap(rt: HostRuntime) -> Result<(), Fail> {
         broken: 0,
         ..broken
     };
-    assert_eq!(rt; outcome(&findings, broken, 1), Outcome::Broken);
-    assert_eq!(rt; outcome(&findings, unreadable, 1), Outcome::Unreadable);
+    assert!(rt; outcome_of(broken) == Some(Outcome::Broken));
+    assert!(rt; outcome_of(unreadable) == Some(Outcome::Unreadable));
     let gap = CoverageGap::NeverIdle;
-    assert_eq!(rt;
-        outcome(&findings, BreakCounts::default(), 1),
-        Outcome::NotCovered { gap }
-    );
-    Ok(())
+    assert!(rt; outcome_of(BreakCounts::default()) == Some(Outcome::NotCovered { gap }));
 }

@@ -1,8 +1,7 @@
-use std::alloc::Global;
-use std::test::Fail;
+use std::alloc::{AllocError, Global};
 use vme_listing::{
-    AnswerLine, Direction, ListFault, ListedVerdict, Listing, Row, RowReader, Version, Write,
-    data_digits, read_listing, write_listing,
+    AnswerLine, Direction, ListFault, ListedVerdict, Listing, Row, RowReader, Version, data_digits,
+    read_listing, write_listing,
 };
 use vme_trace::{Class, Failed, Lanes, Line, MovedBytes, Rule, Sink};
 
@@ -32,34 +31,39 @@ impl Sink for Page {
     }
 }
 
-/// What goes out of the listing of some rows, into a sink of that size.
-fn written(
-    alloc: Global,
-    version: Version,
-    rows: &[Row],
-    most: usize,
-) -> Result<(Result<(), Write>, Page), Fail> {
-    let listing = Listing::new(version, Vec::from_slice(alloc, rows)?);
-    let mut page = Page {
-        bytes: Vec::with_capacity(alloc, most)?,
+/// A sink of that size.
+fn empty_page(alloc: Global, most: usize) -> Page {
+    Page {
+        bytes: Vec::new(alloc),
         most,
         failures: 0,
-    };
-    let result = write_listing(&listing, &mut page);
-    Ok((result, page))
+    }
 }
 
-/// Whether the rows are written as the header and this text.
-fn is_text(alloc: Global, rows: &[Row], text: &[u8]) -> Result<bool, Fail> {
-    let (result, page) = written(alloc, Version::One, rows, 10000)?;
-    let lines = page.bytes.as_slice().strip_prefix(b"vmecheck listing 1\n");
-    Ok(result == Ok(()) && page.failures == 0 && lines == Some(text))
+/// Whether a listing is written as a header and a text.
+fn is_written_as(alloc: Global, listing: &Listing, header: &[u8], text: &[u8]) -> bool {
+    let mut page = empty_page(alloc, 10000);
+    write_listing(listing, &mut page).is_ok()
+        && page.failures == 0
+        && page.bytes.as_slice().strip_prefix(header) == Some(text)
 }
 
-/// Whether a listing is written as this text.
-fn is_written(alloc: Global, listing: &Listing, text: &[u8]) -> Result<bool, Fail> {
-    let (result, page) = written(alloc, listing.version(), listing.rows(), 10000)?;
-    Ok(result == Ok(()) && page.failures == 0 && page.bytes.as_slice() == text)
+/// The listing of some rows.
+fn listing_of(alloc: Global, version: Version, rows: &[Row]) -> Result<Listing, AllocError> {
+    Ok(Listing::new(version, Vec::from_slice(alloc, rows)?))
+}
+
+/// Whether the rows of a version are written as this header and this text.
+fn is_text_of(alloc: Global, version: Version, rows: &[Row], header: &[u8], text: &[u8]) -> bool {
+    match listing_of(alloc, version, rows) {
+        Ok(listing) => is_written_as(alloc, &listing, header, text),
+        Err(_) => false,
+    }
+}
+
+/// The same of version 1.
+fn is_text(alloc: Global, rows: &[Row], text: &[u8]) -> bool {
+    is_text_of(alloc, Version::One, rows, b"vmecheck listing 1\n", text)
 }
 
 const START: Row = Row::Start { instant: 1 };
@@ -110,9 +114,18 @@ fn write_of(start: u32, lanes: Lanes) -> Row {
     }
 }
 
+/// The lines that a write moves.
+fn lanes(moved: MovedBytes, value: u32, unknown: u8) -> Lanes {
+    Lanes {
+        moved,
+        value,
+        unknown,
+    }
+}
+
 /// Reads in the standard, the short and the extended space.
 #[test]
-fn reads(rt: HostRuntime) -> Result<(), Fail> {
+fn reads(rt: HostRuntime) {
     let alloc = rt.alloc();
     let open = Row::OpenTenure {
         start: 1,
@@ -131,7 +144,7 @@ fn reads(rt: HostRuntime) -> Result<(), Fail> {
             &first,
             b"start 1\ntenure 1 open end -\ncycle 2 S 3D FFFFFE end 5\ntransfer 3 of 2 read DTACK 4 close 5\n\
                 verdict conforming\n"
-        )?
+        )
     );
     let second = [
         START,
@@ -146,7 +159,7 @@ fn reads(rt: HostRuntime) -> Result<(), Fail> {
             &second,
             b"start 1\ntenure 5 level 3 slot 2 end 14\ncycle 9 S 39 FFFFDE end 12\n\
                 transfer 10 of 9 read DTACK 11 close 12\nverdict conforming\n"
-        )?
+        )
     );
     let short = [START, cycle(9, 0x29, 0xFFDE, Some(12)), CONFORMING];
     assert!(rt;
@@ -154,7 +167,7 @@ fn reads(rt: HostRuntime) -> Result<(), Fail> {
             alloc,
             &short,
             b"start 1\ncycle 9 S 29 FFDE end 12\nverdict conforming\n"
-        )?
+        )
     );
     let extended = [START, cycle(9, 0x0D, 0x1E, None), CONFORMING];
     assert!(rt;
@@ -162,14 +175,13 @@ fn reads(rt: HostRuntime) -> Result<(), Fail> {
             alloc,
             &extended,
             b"start 1\ncycle 9 S 0D 0000001E end -\nverdict conforming\n"
-        )?
+        )
     );
-    Ok(())
 }
 
 /// Two cycles, and a read and a write in one.
 #[test]
-fn transfers(rt: HostRuntime) -> Result<(), Fail> {
+fn transfers(rt: HostRuntime) {
     let alloc = rt.alloc();
     let overlapped = [
         cycle(9, 0x39, 0xFFFFDE, Some(12)),
@@ -183,7 +195,7 @@ fn transfers(rt: HostRuntime) -> Result<(), Fail> {
             &overlapped,
             b"cycle 9 S 39 FFFFDE end 12\ntransfer 10 of 9 read DTACK 11 close 15\ncycle 14 S 39 FFFFFE end 19\n\
                 transfer 17 of 14 read DTACK 18 close 19\n"
-        )?
+        )
     );
     let modified = [
         tenure(5, 2, None),
@@ -197,7 +209,7 @@ fn transfers(rt: HostRuntime) -> Result<(), Fail> {
             &modified,
             b"tenure 5 level 3 slot 2 end -\ncycle 9 S 3D FFFFDE end 17\ntransfer 10 of 9 read DTACK 11 close 12\n\
                 transfer 15 of 9 write DTACK 16 close 17\n"
-        )?
+        )
     );
     let interrupt = Row::InterruptCycle {
         start: 9,
@@ -209,7 +221,7 @@ fn transfers(rt: HostRuntime) -> Result<(), Fail> {
             alloc,
             &[interrupt, transfer(10, 9, Direction::Read, 12, 13)],
             b"cycle 9 I 5 end 13\ntransfer 10 of 9 read DTACK 12 close 13\n"
-        )?
+        )
     );
     let free = Row::FreeCycle {
         start: 4294967295,
@@ -225,67 +237,40 @@ fn transfers(rt: HostRuntime) -> Result<(), Fail> {
             alloc,
             &[free, pending],
             b"cycle 4294967295 F 1F end -\ntransfer 10 write pending\n"
-        )?
+        )
     );
-    Ok(())
 }
 
-/// Writes with their data, of each pattern of bytes that are moved.
-#[test]
-fn writes(rt: HostRuntime) -> Result<(), Fail> {
-    let alloc = rt.alloc();
-    let long = Lanes {
-        moved: MovedBytes::LongWord,
-        value: 0x7FFFFFFF,
-        unknown: 0,
-    };
-    let word = Lanes {
-        moved: MovedBytes::Word,
-        value: 0xFFFF,
-        unknown: 0,
-    };
-    let even = Lanes {
-        moved: MovedBytes::EvenByte,
-        value: 0xA00,
-        unknown: 8,
-    };
-    let odd = Lanes {
-        moved: MovedBytes::OddByte,
-        value: 0,
-        unknown: 2,
-    };
-    let nothing = Lanes {
-        moved: MovedBytes::Nothing,
-        value: 0,
-        unknown: 0,
-    };
+/// Whether writes are written with their data, of each pattern of bytes that are moved.
+fn are_writes_written(alloc: Global) -> bool {
     let rows = [
-        write_of(10, long),
-        write_of(11, word),
-        write_of(12, even),
-        write_of(13, odd),
-        write_of(14, nothing),
+        write_of(10, lanes(MovedBytes::LongWord, 0x7FFFFFFF, 0)),
+        write_of(11, lanes(MovedBytes::Word, 0xFFFF, 0)),
+        write_of(12, lanes(MovedBytes::EvenByte, 0xA00, 8)),
+        write_of(13, lanes(MovedBytes::OddByte, 0, 2)),
+        write_of(14, lanes(MovedBytes::Nothing, 0, 0)),
         transfer(15, 9, Direction::Read, 16, 17),
     ];
-    let listing = Listing::new(Version::Two, Vec::from_slice(alloc, &rows)?);
-    assert!(rt;
-        is_written(
-            alloc,
-            &listing,
-            b"vmecheck listing 2\ntransfer 10 of 9 write DTACK 11 close - data 7FFFFFFF\n\
-                transfer 11 of 9 write DTACK 11 close - data ----FFFF\n\
-                transfer 12 of 9 write DTACK 11 close - data ----XA--\n\
-                transfer 13 of 9 write DTACK 11 close - data ------X0\n\
-                transfer 14 of 9 write DTACK 11 close - data --------\ntransfer 15 of 9 read DTACK 16 close 17\n"
-        )?
-    );
-    Ok(())
+    is_text_of(
+        alloc,
+        Version::Two,
+        &rows,
+        b"vmecheck listing 2\n",
+        b"transfer 10 of 9 write DTACK 11 close - data 7FFFFFFF\n\
+            transfer 11 of 9 write DTACK 11 close - data ----FFFF\n\
+            transfer 12 of 9 write DTACK 11 close - data ----XA--\n\
+            transfer 13 of 9 write DTACK 11 close - data ------X0\n\
+            transfer 14 of 9 write DTACK 11 close - data --------\ntransfer 15 of 9 read DTACK 16 close 17\n",
+    )
+}
+
+#[test]
+fn writes(rt: HostRuntime) {
+    assert!(rt; are_writes_written(rt.alloc()));
 }
 
 /// A transfer that a reset cuts off, and what is judged after it.
-#[test]
-fn resets(rt: HostRuntime) -> Result<(), Fail> {
-    let alloc = rt.alloc();
+fn is_reset_written(alloc: Global) -> bool {
     let rows = [
         START,
         cycle(9, 0x39, 0xFFFFDE, None),
@@ -297,84 +282,114 @@ fn resets(rt: HostRuntime) -> Result<(), Fail> {
         Row::Start { instant: 13 },
         CONFORMING,
     ];
-    let listing = Listing::new(Version::Three, Vec::from_slice(alloc, &rows)?);
-    assert!(rt;
-        is_written(
-            alloc,
-            &listing,
-            b"vmecheck listing 3\nstart 1\ncycle 9 S 39 FFFFDE end -\ntransfer 10 read pending\nreset 11\nstart 13\n\
-                verdict conforming\n"
-        )?
-    );
-    Ok(())
+    is_text_of(
+        alloc,
+        Version::Three,
+        &rows,
+        b"vmecheck listing 3\n",
+        b"start 1\ncycle 9 S 39 FFFFDE end -\ntransfer 10 read pending\nreset 11\nstart 13\n\
+            verdict conforming\n",
+    )
+}
+
+#[test]
+fn resets(rt: HostRuntime) {
+    assert!(rt; is_reset_written(rt.alloc()));
 }
 
 /// The rows of a listing of version 3 in each version: without data in version 1 alone.
+fn is_told_with_data(row: &Row) -> (bool, bool, bool) {
+    (
+        row.in_version(Version::One) == *row,
+        row.in_version(Version::Two) == *row,
+        row.in_version(Version::Three) == *row,
+    )
+}
+
+/// Whether a version tells data, and resets.
+fn is_told_by(version: Version) -> (bool, bool) {
+    (version.tells_data(), version.tells_resets())
+}
+
 #[test]
 fn versions(rt: HostRuntime) {
-    let word = Lanes {
-        moved: MovedBytes::Word,
-        value: 0xFFFF,
-        unknown: 0,
-    };
-    let row = write_of(10, word);
-    assert!(rt; row.in_version(Version::Three) == row && row.in_version(Version::Two) == row);
-    assert!(rt; row.in_version(Version::One) != row);
+    let write = write_of(10, lanes(MovedBytes::Word, 0xFFFF, 0));
+    assert!(rt; is_told_with_data(&write) == (false, true, true));
     let reset = Row::Reset { instant: 11 };
-    for version in [Version::One, Version::Two, Version::Three] {
-        assert!(rt; reset.in_version(version) == reset);
-        assert!(rt; version.tells_data() == (version != Version::One));
-        assert!(rt; version.tells_resets() == (version == Version::Three));
-    }
+    assert!(rt; is_told_with_data(&reset) == (true, true, true));
+    assert!(rt; is_told_by(Version::One) == (false, false));
+    assert!(rt; is_told_by(Version::Two) == (true, false));
+    assert!(rt; is_told_by(Version::Three) == (true, true));
 }
 
 /// The digits of the data of a write: those that aren't moved, one of which a line is unknown, and the others.
 #[test]
 fn digits_of_data(rt: HostRuntime) {
-    let word = Lanes {
-        moved: MovedBytes::Word,
-        value: 0x1034,
-        unknown: 4,
-    };
-    assert!(rt; data_digits(word) == *b"----1X34");
-    let nothing = Lanes {
-        moved: MovedBytes::Nothing,
-        value: 0,
-        unknown: 0,
-    };
-    assert!(rt; data_digits(nothing) == *b"--------");
+    assert!(rt; data_digits(lanes(MovedBytes::Word, 0x1034, 4)) == *b"----1X34");
+    assert!(rt; data_digits(lanes(MovedBytes::Nothing, 0, 0)) == *b"--------");
 }
 
 /// The other verdicts.
 #[test]
-fn verdicts(rt: HostRuntime) -> Result<(), Fail> {
+fn verdicts(rt: HostRuntime) {
     let alloc = rt.alloc();
     let answered = Row::Verdict(ListedVerdict::Broken(Rule::H4, 10, Line::DTACK));
-    assert!(rt; is_text(alloc, &[answered], b"verdict broken H4 10 DTACK\n")?);
+    assert!(rt; is_text(alloc, &[answered], b"verdict broken H4 10 DTACK\n"));
     let taken = Row::Verdict(ListedVerdict::Broken(Rule::B2, 8, Line::BBSY));
     assert!(rt;
         is_text(
             alloc,
             &[START, tenure(6, 3, Some(7)), taken],
             b"start 1\ntenure 6 level 3 slot 3 end 7\nverdict broken B2 8 BBSY\n"
-        )?
+        )
     );
     let lost = Row::Verdict(ListedVerdict::Unreadable(Rule::U1, 2, Line::AS));
-    assert!(rt; is_text(alloc, &[lost], b"verdict unreadable U1 2 AS\n")?);
+    assert!(rt; is_text(alloc, &[lost], b"verdict unreadable U1 2 AS\n"));
     assert!(rt;
         is_text(
             alloc,
             &[Row::Verdict(ListedVerdict::NeverIdle)],
             b"verdict never-idle\n"
-        )?
+        )
     );
-    Ok(())
+}
+
+/// Whether a page has all of a hundred rows.
+fn is_whole(page: &Page) -> bool {
+    page.bytes.len() == 19 + 100 * 73
+        && page.bytes.as_slice().ends_with(
+            b"\ntransfer 1000000000 of 1000000000 read DTACK 1000000000 close 1000000000\n",
+        )
+}
+
+/// Whether a page has a front of another, behind which a write failed.
+fn is_front_of(part: &Page, whole: &Page) -> bool {
+    part.failures == 1
+        && part.bytes.len() < 4300
+        && whole.bytes.as_slice().starts_with(part.bytes.as_slice())
+}
+
+/// Whether a listing of a hundred rows goes out whole, and a front of it where a write fails.
+fn goes_out(alloc: Global, listing: &Listing) -> bool {
+    let mut whole = empty_page(alloc, 10000);
+    let mut part = empty_page(alloc, 4200);
+    write_listing(listing, &mut whole).is_ok()
+        && is_whole(&whole)
+        && write_listing(listing, &mut part).is_err()
+        && is_front_of(&part, &whole)
+}
+
+/// Whether one of these rows does.
+fn go_out(alloc: Global, rows: &[Row]) -> bool {
+    match listing_of(alloc, Version::One, rows) {
+        Ok(listing) => goes_out(alloc, &listing),
+        Err(_) => false,
+    }
 }
 
 /// A write that fails ends it, and a front of the text is out. A listing of over 4,096 bytes goes out whole.
 #[test]
-fn pieces(rt: HostRuntime) -> Result<(), Fail> {
-    let alloc = rt.alloc();
+fn pieces(rt: HostRuntime) {
     let rows = [transfer(
         1000000000,
         1000000000,
@@ -382,19 +397,7 @@ fn pieces(rt: HostRuntime) -> Result<(), Fail> {
         1000000000,
         1000000000,
     ); 100];
-    let (result, whole) = written(alloc, Version::One, &rows, 10000)?;
-    assert!(rt; result == Ok(()) && whole.bytes.len() == 19 + 100 * 73);
-    assert!(rt;
-        whole.bytes.as_slice().ends_with(
-            b"\ntransfer 1000000000 of 1000000000 read DTACK 1000000000 close 1000000000\n"
-        )
-    );
-    let (result, part) = written(alloc, Version::One, &rows, 4200)?;
-    assert!(rt; result == Err(Write) && part.failures == 1);
-    assert!(rt;
-        part.bytes.len() < 4300 && whole.bytes.as_slice().starts_with(part.bytes.as_slice())
-    );
-    Ok(())
+    assert!(rt; go_out(rt.alloc(), rows.as_slice()));
 }
 
 /// A listing of five rows: a read in the standard space.
@@ -429,50 +432,60 @@ fn fault_of(alloc: Global, text: &[u8]) -> Option<ListFault> {
     read(alloc, text).err()
 }
 
+/// Whether a text is a listing of a version, and written back as the same bytes.
+fn is_read_back(alloc: Global, text: &[u8], version: Version) -> bool {
+    match read(alloc, text) {
+        Ok(listing) => { listing.version() == version && is_written_as(alloc, &listing, b"", text) }
+        Err(_) => false,
+    }
+}
+
+/// Texts, and the version of each.
+static READ_BACK: [(&[u8], Version); 6] = [
+    (WORKED, Version::One),
+    (WORKED_WRITES, Version::Two),
+    (WORKED_RESET, Version::Three),
+    (b"vmecheck listing 1\nverdict never-idle\n", Version::One),
+    (b"vmecheck listing 2\nverdict never-idle\n", Version::Two),
+    (b"vmecheck listing 3\nverdict never-idle\n", Version::Three),
+];
+
 /// Listings that are read, and written back as the same bytes.
 #[test]
-fn read_back(rt: HostRuntime) -> Result<(), Fail> {
-    let alloc = rt.alloc();
-    let idle = b"vmecheck listing 1\nverdict never-idle\n".as_slice();
-    let second = b"vmecheck listing 2\nverdict never-idle\n".as_slice();
-    let third = b"vmecheck listing 3\nverdict never-idle\n".as_slice();
-    for text in [WORKED, WORKED_WRITES, WORKED_RESET, idle, second, third] {
-        let listing = read(alloc, text).ok().ok_or("no listing")?;
-        assert!(rt; is_written(alloc, &listing, text)?);
+fn read_back(rt: HostRuntime) {
+    for (text, version) in READ_BACK.iter() {
+        assert!(rt; is_read_back(rt.alloc(), text, *version));
     }
-    Ok(())
+}
+
+/// Whether a text is a listing with this row at a place.
+fn has_row(alloc: Global, text: &[u8], place: usize, row: &Row) -> bool {
+    match read(alloc, text) {
+        Ok(listing) => {
+            let rows = listing.into_rows();
+            rows.as_slice().get(place) == Some(row)
+        }
+        Err(_) => false,
+    }
 }
 
 /// The data of a write, as it is read.
 #[test]
-fn read_data(rt: HostRuntime) -> Result<(), Fail> {
-    let alloc = rt.alloc();
-    let one = read(alloc, WORKED).ok().ok_or("no listing")?;
-    assert!(rt; one.version() == Version::One);
-    let two = read(alloc, WORKED_WRITES).ok().ok_or("no listing")?;
-    assert!(rt; two.version() == Version::Two);
-    let rows = two.into_rows();
-    let row = *rows.as_slice().get(5).ok_or("no row")?;
-    assert!(rt;
-        row == Row::Transfer {
-            start: 19,
-            cycle: 9,
-            direction: Direction::Write,
-            line: AnswerLine::Dtack,
-            answer: 20,
-            close: Some(21),
-            lanes: Some(Lanes {
-                moved: MovedBytes::OddByte,
-                value: 0,
-                unknown: 2,
-            }),
-        }
-    );
-    Ok(())
+fn read_data(rt: HostRuntime) {
+    let row = Row::Transfer {
+        start: 19,
+        cycle: 9,
+        direction: Direction::Write,
+        line: AnswerLine::Dtack,
+        answer: 20,
+        close: Some(21),
+        lanes: Some(lanes(MovedBytes::OddByte, 0, 2)),
+    };
+    assert!(rt; has_row(rt.alloc(), WORKED_WRITES, 5, &row));
 }
 
 /// Rows behind the header of version 3 that may stand there.
-const GOOD_RESETS: [&[u8]; 9] = [
+static GOOD_RESETS: [&[u8]; 9] = [
     b"start 1\nverdict conforming\n",
     b"start 1\nreset 2\nverdict conforming\n",
     b"start 1\nreset 2\nstart 3\nreset 4\nstart 5\nverdict conforming\n",
@@ -486,7 +499,7 @@ const GOOD_RESETS: [&[u8]; 9] = [
 ];
 
 /// Rows behind the header of version 3 of which one may not stand there, and the fault.
-const BAD_RESETS: [(&[u8], ListFault); 21] = [
+static BAD_RESETS: [(&[u8], ListFault); 21] = [
     // A reset that nothing goes before, or with neither a start nor a verdict behind it.
     (b"reset 1\n", ListFault::BadRow { row: 1 }),
     (
@@ -565,111 +578,125 @@ const BAD_RESETS: [(&[u8], ListFault); 21] = [
 ];
 
 /// A header and rows.
-fn text_of(alloc: Global, header: &[u8], rows: &[u8]) -> Result<Vec<u8>, Fail> {
+fn text_of(alloc: Global, header: &[u8], rows: &[u8]) -> Result<Vec<u8>, AllocError> {
     let mut text = Vec::from_slice(alloc, header)?;
     text.extend_from_slice(rows)?;
     Ok(text)
 }
 
+/// Whether rows behind a header have this fault, or none.
+fn has_fault(alloc: Global, header: &[u8], rows: &[u8], fault: Option<ListFault>) -> bool {
+    match text_of(alloc, header, rows) {
+        Ok(text) => fault_of(alloc, &text) == fault,
+        Err(_) => false,
+    }
+}
+
+/// Whether rows behind a header are a listing of a version, and written back as the same bytes.
+fn are_read_back(alloc: Global, header: &[u8], rows: &[u8], version: Version) -> bool {
+    match text_of(alloc, header, rows) {
+        Ok(text) => is_read_back(alloc, &text, version),
+        Err(_) => false,
+    }
+}
+
+/// The header of version 3.
+const THIRD: &[u8] = b"vmecheck listing 3\n";
+
 /// Rows of version 3, and where they stand.
 #[test]
-fn placed_resets(rt: HostRuntime) -> Result<(), Fail> {
-    for rows in GOOD_RESETS {
-        let text = text_of(rt.alloc(), b"vmecheck listing 3\n", rows)?;
-        let listing = read(rt.alloc(), text.as_slice()).ok().ok_or("no listing")?;
-        assert!(rt; listing.version() == Version::Three);
-        assert!(rt; is_written(rt.alloc(), &listing, text.as_slice())?);
+fn placed_resets(rt: HostRuntime) {
+    for rows in GOOD_RESETS.iter() {
+        assert!(rt; are_read_back(rt.alloc(), THIRD, rows, Version::Three));
     }
-    for (rows, fault) in BAD_RESETS {
-        let text = text_of(rt.alloc(), b"vmecheck listing 3\n", rows)?;
-        assert!(rt; fault_of(rt.alloc(), text.as_slice()) == Some(fault));
+    for (rows, fault) in BAD_RESETS.iter() {
+        assert!(rt; has_fault(rt.alloc(), THIRD, rows, Some(*fault)));
     }
-    Ok(())
 }
+
+/// The headers of the versions before.
+static OLDER: [&[u8]; 2] = [b"vmecheck listing 1\n", b"vmecheck listing 2\n"];
 
 /// Versions 1 and 2 have no resets and compare nothing with a start, and any version may name SYSRESET*.
 #[test]
-fn older_versions(rt: HostRuntime) -> Result<(), Fail> {
-    for header in [b"vmecheck listing 1\n", b"vmecheck listing 2\n"] {
-        let reset = text_of(
-            rt.alloc(),
-            header,
-            b"start 1\nreset 2\nverdict conforming\n",
-        )?;
-        assert!(rt; fault_of(rt.alloc(), reset.as_slice()) == Some(ListFault::BadRow { row: 2 }));
-        let early = text_of(
-            rt.alloc(),
-            header,
-            b"start 5\ntenure 4 level 3 slot 2 end -\nverdict unreadable U1 11 SYSRESET\n",
-        )?;
-        assert!(rt; fault_of(rt.alloc(), early.as_slice()).is_none());
+fn older_versions(rt: HostRuntime) {
+    let reset = b"start 1\nreset 2\nverdict conforming\n";
+    let early = b"start 5\ntenure 4 level 3 slot 2 end -\nverdict unreadable U1 11 SYSRESET\n";
+    for header in OLDER.iter() {
+        assert!(rt;
+            has_fault(
+                rt.alloc(),
+                header,
+                reset,
+                Some(ListFault::BadRow { row: 2 })
+            )
+        );
+        assert!(rt; has_fault(rt.alloc(), header, early, None));
     }
-    Ok(())
 }
 
 /// Texts with a fault: its kind and its row.
+static FAULTS: [(&[u8], ListFault); 15] = [
+    (b"", ListFault::BadHeader),
+    (b"vmecheck listing 1", ListFault::BadHeader),
+    (
+        b"vmecheck listing 4\nverdict never-idle\n",
+        ListFault::BadHeader,
+    ),
+    (b"vmecheck listing 3\n", ListFault::BadRow { row: 1 }),
+    (b"vmecheck listing 2\n", ListFault::BadRow { row: 1 }),
+    (b"vmecheck listing 1\n", ListFault::BadRow { row: 1 }),
+    (
+        b"vmecheck listing 1\ntenure 5 open end 7\n",
+        ListFault::BadRow { row: 1 },
+    ),
+    (
+        b"vmecheck listing 1\nstart 01\n",
+        ListFault::BadRow { row: 1 },
+    ),
+    (
+        b"vmecheck listing 1\nstart 4294967296\n",
+        ListFault::BadRow { row: 1 },
+    ),
+    (
+        b"vmecheck listing 1\nverdict conforming\n",
+        ListFault::BadRow { row: 1 },
+    ),
+    (
+        b"vmecheck listing 1\nstart 1\nverdict conforming\nverdict conforming\n",
+        ListFault::BadRow { row: 2 },
+    ),
+    (
+        b"vmecheck listing 1\nverdict never-idle\n ",
+        ListFault::BadRow { row: 1 },
+    ),
+    (
+        b"vmecheck listing 1\nstart 1\ntenure 5 level 3 slot 2 end 14\ncycle 9 S 39 FFFFDE end 12\n\
+                transfer 10 of 9 read DTACK 11 close 12\n",
+        ListFault::BadRow { row: 5 },
+    ),
+    (
+        b"vmecheck listing 1\nstart 1\ncycle 9 S 39 FFFFDE end 12\ntenure 5 level 3 slot 2 end 14\n\
+                transfer 10 of 9 read DTACK 11 close 12\nverdict conforming\n",
+        ListFault::Unsorted { row: 3 },
+    ),
+    (
+        b"vmecheck listing 1\nstart 1\ntransfer 9 read pending\ncycle 9 F 1F end -\n",
+        ListFault::Unsorted { row: 3 },
+    ),
+];
+
 #[test]
 fn faults(rt: HostRuntime) {
-    let texts: [(&[u8], ListFault); 16] = [
-        (b"", ListFault::BadHeader),
-        (b"vmecheck listing 1", ListFault::BadHeader),
-        (
-            b"vmecheck listing 4\nverdict never-idle\n",
-            ListFault::BadHeader,
-        ),
-        (b"vmecheck listing 3\n", ListFault::BadRow { row: 1 }),
-        (b"vmecheck listing 2\n", ListFault::BadRow { row: 1 }),
-        (b"vmecheck listing 1\n", ListFault::BadRow { row: 1 }),
-        (
-            b"vmecheck listing 1\ntenure 5 open end 7\n",
-            ListFault::BadRow { row: 1 },
-        ),
-        (
-            b"vmecheck listing 1\nstart 01\n",
-            ListFault::BadRow { row: 1 },
-        ),
-        (
-            b"vmecheck listing 1\nstart 4294967296\n",
-            ListFault::BadRow { row: 1 },
-        ),
-        (
-            WORKED.strip_suffix(b"\n").unwrap_or_default(),
-            ListFault::BadRow { row: 5 },
-        ),
-        (
-            b"vmecheck listing 1\nverdict conforming\n",
-            ListFault::BadRow { row: 1 },
-        ),
-        (
-            b"vmecheck listing 1\nstart 1\nverdict conforming\nverdict conforming\n",
-            ListFault::BadRow { row: 2 },
-        ),
-        (
-            b"vmecheck listing 1\nverdict never-idle\n ",
-            ListFault::BadRow { row: 1 },
-        ),
-        (
-            b"vmecheck listing 1\nstart 1\ntenure 5 level 3 slot 2 end 14\ncycle 9 S 39 FFFFDE end 12\n\
-                transfer 10 of 9 read DTACK 11 close 12\n",
-            ListFault::BadRow { row: 5 },
-        ),
-        (
-            b"vmecheck listing 1\nstart 1\ncycle 9 S 39 FFFFDE end 12\ntenure 5 level 3 slot 2 end 14\n\
-                transfer 10 of 9 read DTACK 11 close 12\nverdict conforming\n",
-            ListFault::Unsorted { row: 3 },
-        ),
-        (
-            b"vmecheck listing 1\nstart 1\ntransfer 9 read pending\ncycle 9 F 1F end -\n",
-            ListFault::Unsorted { row: 3 },
-        ),
-    ];
-    for (text, fault) in texts {
-        assert!(rt; fault_of(rt.alloc(), text) == Some(fault));
+    for (text, fault) in FAULTS.iter() {
+        assert!(rt; fault_of(rt.alloc(), text) == Some(*fault));
     }
+    let open = WORKED.strip_suffix(b"\n").unwrap_or_default();
+    assert!(rt; fault_of(rt.alloc(), open) == Some(ListFault::BadRow { row: 5 }));
 }
 
 /// Lines that are no row behind `start 1`.
-const BAD_LINES: [&[u8]; 26] = [
+static BAD_LINES: [&[u8]; 26] = [
     b"",
     b"start 2",
     b"tenure 05 level 3 slot 2 end 14",
@@ -698,32 +725,37 @@ const BAD_LINES: [&[u8]; 26] = [
     b"transfer 10 read",
 ];
 
-/// The fault of a text with these two lines at its front, or none.
-fn fault_behind(alloc: Global, front: &[u8], line: &[u8]) -> Result<Option<ListFault>, Fail> {
-    let mut text = Vec::from_slice(alloc, front)?;
-    text.extend_from_slice(line)?;
+/// A line behind a front, and a verdict.
+fn with_line(alloc: Global, front: &[u8], line: &[u8]) -> Result<Vec<u8>, AllocError> {
+    let mut text = text_of(alloc, front, line)?;
     text.extend_from_slice(b"\nverdict conforming\n")?;
-    Ok(fault_of(alloc, text.as_slice()))
+    Ok(text)
+}
+
+/// Whether a line behind a front of one row is none.
+fn is_bad_line(alloc: Global, front: &[u8], line: &[u8]) -> bool {
+    match with_line(alloc, front, line) {
+        Ok(text) => fault_of(alloc, &text) == Some(ListFault::BadRow { row: 2 }),
+        Err(_) => false,
+    }
 }
 
 #[test]
-fn bad_lines(rt: HostRuntime) -> Result<(), Fail> {
-    for line in BAD_LINES {
-        let fault = fault_behind(rt.alloc(), b"vmecheck listing 1\nstart 1\n", line)?;
-        assert!(rt; fault == Some(ListFault::BadRow { row: 2 }));
+fn bad_lines(rt: HostRuntime) {
+    for line in BAD_LINES.iter() {
+        assert!(rt; is_bad_line(rt.alloc(), b"vmecheck listing 1\nstart 1\n", line));
     }
-    Ok(())
 }
 
 /// The header of each version, and a start.
-const STARTED: [&[u8]; 3] = [
+static STARTED: [&[u8]; 3] = [
     b"vmecheck listing 1\nstart 1\n",
     b"vmecheck listing 2\nstart 1\n",
     b"vmecheck listing 3\nstart 1\n",
 ];
 
 /// Verdicts that may stand last.
-const GOOD_VERDICTS: [&[u8]; 6] = [
+static GOOD_VERDICTS: [&[u8]; 6] = [
     b"verdict conforming\n",
     b"verdict broken H4 10 D31\n",
     b"verdict broken I5 4294967295 SYSRESET\n",
@@ -733,7 +765,7 @@ const GOOD_VERDICTS: [&[u8]; 6] = [
 ];
 
 /// Lines that are no verdict, and stand last.
-const BAD_VERDICTS: [&[u8]; 15] = [
+static BAD_VERDICTS: [&[u8]; 15] = [
     b"verdict never-idle\n",
     b"verdict broken U1 10 AS\n",
     b"verdict broken U4 10 D00\n",
@@ -753,23 +785,20 @@ const BAD_VERDICTS: [&[u8]; 15] = [
 
 /// Verdicts at the end of a listing, so that a fault is one of their form.
 #[test]
-fn last_verdicts(rt: HostRuntime) -> Result<(), Fail> {
-    for front in STARTED {
-        for line in GOOD_VERDICTS {
-            let text = text_of(rt.alloc(), front, line)?;
-            assert!(rt; fault_of(rt.alloc(), text.as_slice()).is_none());
+fn last_verdicts(rt: HostRuntime) {
+    let fault = Some(ListFault::BadRow { row: 2 });
+    for front in STARTED.iter() {
+        for line in GOOD_VERDICTS.iter() {
+            assert!(rt; has_fault(rt.alloc(), front, line, None));
         }
-        for line in BAD_VERDICTS {
-            let text = text_of(rt.alloc(), front, line)?;
-            let fault = fault_of(rt.alloc(), text.as_slice());
-            assert!(rt; fault == Some(ListFault::BadRow { row: 2 }));
+        for line in BAD_VERDICTS.iter() {
+            assert!(rt; has_fault(rt.alloc(), front, line, fault));
         }
     }
-    Ok(())
 }
 
 /// Two rows of one instant and one kind.
-const ONE_PLACE: [&[u8]; 6] = [
+static ONE_PLACE: [&[u8]; 6] = [
     b"tenure 5 open end -\ntenure 5 open end -\n",
     b"tenure 5 open end -\ntenure 5 level 3 slot 2 end -\n",
     b"tenure 5 level 3 slot 2 end 7\ntenure 5 level 3 slot 2 end 7\n",
@@ -779,7 +808,7 @@ const ONE_PLACE: [&[u8]; 6] = [
 ];
 
 /// Rows that may stand behind `start 1` in each version: of each kind, at one instant and at later ones.
-const GOOD_ROWS: [&[u8]; 9] = [
+static GOOD_ROWS: [&[u8]; 9] = [
     b"tenure 1 open end 4294967295\ncycle 5 K 3B FFFFDE end 12\nverdict conforming\n",
     b"tenure 5 level 0 slot 1 end -\ntenure 6 level 3 slot 21 end 7\nverdict conforming\n",
     b"tenure 5 level 3 slot 2 end -\ncycle 5 F 1F end -\ntransfer 5 read pending\nverdict conforming\n",
@@ -793,50 +822,57 @@ const GOOD_ROWS: [&[u8]; 9] = [
 
 /// Rows of each kind in the versions that have them, and two of one place in each.
 #[test]
-fn placed_rows(rt: HostRuntime) -> Result<(), Fail> {
-    for front in STARTED {
-        for rows in ONE_PLACE {
-            let text = text_of(rt.alloc(), front, rows)?;
-            let fault = fault_of(rt.alloc(), text.as_slice());
-            assert!(rt; fault == Some(ListFault::Unsorted { row: 3 }));
+fn placed_rows(rt: HostRuntime) {
+    let fault = Some(ListFault::Unsorted { row: 3 });
+    for front in STARTED.iter() {
+        for rows in ONE_PLACE.iter() {
+            assert!(rt; has_fault(rt.alloc(), front, rows, fault));
         }
     }
-    for rows in GOOD_ROWS {
-        for header in [
+    for rows in GOOD_ROWS.iter() {
+        let (first, second) = (
             b"vmecheck listing 1\nstart 0\n",
             b"vmecheck listing 2\nstart 0\n",
-        ] {
-            let text = text_of(rt.alloc(), header, rows)?;
-            let listing = read(rt.alloc(), text.as_slice()).ok().ok_or("no listing")?;
-            assert!(rt; is_written(rt.alloc(), &listing, text.as_slice())?);
-        }
+        );
+        assert!(rt; are_read_back(rt.alloc(), first, rows, Version::One));
+        assert!(rt; are_read_back(rt.alloc(), second, rows, Version::Two));
     }
-    Ok(())
+}
+
+/// An answered write without and with its data, and whether it is a row in version 1.
+static WRITES: [(&[u8], bool); 2] = [
+    (
+        b"transfer 5 of 5 write DTACK 6 close 7\nverdict conforming\n",
+        true,
+    ),
+    (
+        b"transfer 5 of 5 write DTACK 6 close 7 data ----1X34\nverdict conforming\n",
+        false,
+    ),
+];
+
+/// Whether rows behind the header of a version and a start are a listing, or else the second row is at fault.
+fn is_row_in(alloc: Global, version: usize, rows: &[u8], is_row: bool) -> bool {
+    let fault = if is_row {
+        None
+    } else {
+        Some(ListFault::BadRow { row: 2 })
+    };
+    has_fault(alloc, STARTED[version % 3], rows, fault)
 }
 
 /// The row of an answered write in each version, and the fault that it is there.
 #[test]
-fn writes_of_versions(rt: HostRuntime) -> Result<(), Fail> {
-    let bare = b"transfer 5 of 5 write DTACK 6 close 7\nverdict conforming\n".as_slice();
-    let told =
-        b"transfer 5 of 5 write DTACK 6 close 7 data ----1X34\nverdict conforming\n".as_slice();
-    for (front, rows, is_row) in [
-        (STARTED[0], bare, true),
-        (STARTED[0], told, false),
-        (STARTED[1], bare, false),
-        (STARTED[1], told, true),
-        (STARTED[2], bare, false),
-        (STARTED[2], told, true),
-    ] {
-        let text = text_of(rt.alloc(), front, rows)?;
-        let fault = fault_of(rt.alloc(), text.as_slice());
-        assert!(rt; fault == (!is_row).then_some(ListFault::BadRow { row: 2 }));
+fn writes_of_versions(rt: HostRuntime) {
+    for (rows, is_first) in WRITES.iter() {
+        assert!(rt; is_row_in(rt.alloc(), 0, rows, *is_first));
+        assert!(rt; is_row_in(rt.alloc(), 1, rows, !*is_first));
+        assert!(rt; is_row_in(rt.alloc(), 2, rows, !*is_first));
     }
-    Ok(())
 }
 
 /// Lines that are no row behind `start 1` in a version that tells data.
-const BAD_WRITES: [&[u8]; 19] = [
+static BAD_WRITES: [&[u8]; 19] = [
     b"transfer 10 of 9 write DTACK 11 close 12",
     b"transfer 10 of 9 write DTACK 11 close 12 data",
     b"transfer 10 of 9 write DTACK 11 close 12 data ",
@@ -859,50 +895,63 @@ const BAD_WRITES: [&[u8]; 19] = [
 ];
 
 #[test]
-fn bad_writes(rt: HostRuntime) -> Result<(), Fail> {
-    for line in BAD_WRITES {
-        for front in [
-            b"vmecheck listing 2\nstart 1\n",
-            b"vmecheck listing 3\nstart 1\n",
-        ] {
-            let fault = fault_behind(rt.alloc(), front, line)?;
-            assert!(rt; fault == Some(ListFault::BadRow { row: 2 }));
-        }
+fn bad_writes(rt: HostRuntime) {
+    for line in BAD_WRITES.iter() {
+        assert!(rt; is_bad_line(rt.alloc(), b"vmecheck listing 2\nstart 1\n", line));
+        assert!(rt; is_bad_line(rt.alloc(), b"vmecheck listing 3\nstart 1\n", line));
     }
-    Ok(())
+}
+
+/// The worked listings.
+static ALL_WORKED: [&[u8]; 3] = [WORKED, WORKED_WRITES, WORKED_RESET];
+
+/// Whether each front of a listing has a fault in its text, or is the listing.
+fn have_fronts_faults(alloc: Global, text: &[u8]) -> bool {
+    let mut same = true;
+    for end in 0..=text.len() {
+        let fault = fault_of(alloc, &text[..end]);
+        same &= fault != Some(ListFault::Memory) && fault.is_none() == (end == text.len());
+    }
+    same
 }
 
 /// Each front of a listing has a fault in its text, or is the listing.
 #[test]
 fn fronts(rt: HostRuntime) {
-    for text in [WORKED, WORKED_WRITES, WORKED_RESET] {
-        for end in 0..=text.len() {
-            let fault = fault_of(rt.alloc(), &text[..end]);
-            assert!(rt; fault != Some(ListFault::Memory) && fault.is_none() == (end == text.len()));
-        }
+    for text in ALL_WORKED.iter() {
+        assert!(rt; have_fronts_faults(rt.alloc(), text));
     }
 }
 
-/// The rows of a text are read one by one, each as long as it may stand there; then nothing is read any more.
+/// Whether the rows of a text are read one by one, each as long as it may stand there; then nothing is read any more.
+fn are_rows_read(mut reader: RowReader<'_>) -> bool {
+    reader.version() == Version::Two
+        && reader.next() == Ok(Some(START))
+        && reader.next() == Ok(Some(cycle(9, 0x39, 0xFFFFDE, Some(12))))
+        && reader.next() == Ok(Some(CONFORMING))
+        && reader.next() == Ok(None)
+        && reader.next() == Ok(None)
+}
+
+/// Whether only version 3 tells resets, and a fault stays.
+fn is_fault_read(mut reader: RowReader<'_>) -> bool {
+    reader.next() == Ok(Some(START))
+        && reader.next() == Err(ListFault::BadRow { row: 2 })
+        && reader.next() == Err(ListFault::BadRow { row: 2 })
+}
+
 #[test]
-fn rows_read(rt: HostRuntime) -> Result<(), Fail> {
+fn rows_read(rt: HostRuntime) {
     let text = b"vmecheck listing 2\nstart 1\ncycle 9 S 39 FFFFDE end 12\nverdict conforming\n";
-    let Some(mut reader) = RowReader::of(text) else {
-        return Err(Fail::new("no header"));
+    let is_read = match RowReader::of(text) {
+        Some(reader) => are_rows_read(reader),
+        None => false,
     };
-    let cycle = cycle(9, 0x39, 0xFFFFDE, Some(12));
-    assert!(rt; reader.version() == Version::Two);
-    assert!(rt; reader.next() == Ok(Some(START)));
-    assert!(rt; reader.next() == Ok(Some(cycle)));
-    assert!(rt; reader.next() == Ok(Some(Row::Verdict(ListedVerdict::Conforming))));
-    assert!(rt; reader.next() == Ok(None) && reader.next() == Ok(None));
-    // only version 3 tells resets, and a fault stays
-    let Some(mut reader) = RowReader::of(b"vmecheck listing 2\nstart 1\nreset 14\n") else {
-        return Err(Fail::new("no header"));
+    assert!(rt; is_read);
+    let is_fault = match RowReader::of(b"vmecheck listing 2\nstart 1\nreset 14\n") {
+        Some(reader) => is_fault_read(reader),
+        None => false,
     };
-    assert!(rt; reader.next() == Ok(Some(START)));
-    assert!(rt; reader.next() == Err(ListFault::BadRow { row: 2 }));
-    assert!(rt; reader.next() == Err(ListFault::BadRow { row: 2 }));
+    assert!(rt; is_fault);
     assert!(rt; RowReader::of(b"vmecheck listing 4\nstart 1\n").is_none());
-    Ok(())
 }

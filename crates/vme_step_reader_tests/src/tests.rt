@@ -1,10 +1,8 @@
 use std::alloc::{AllocError, Global};
-use std::process::Abort;
-use std::test::Fail;
 use vcd_read::{FaultKind, VcdFault};
 use vme_bind::{BindFault, BindKind, Binding, CaptureFault, read_binding};
 use vme_step_reader::{StepReader, StoppedSteps, begin_last_steps, begin_steps};
-use vme_trace::{Level, Line, Step};
+use vme_trace::{Change, Level, Line, Step};
 
 /// A binding of two lines to variables, and of the others to levels.
 const LINES: &str = "\
@@ -43,101 +41,211 @@ const BODY: &str =
 
 const STEPS: &str = "#0 AS=1 DTACK=1\n#10 AS=0\n#30 DTACK=0\n#40 AS=1\n#50 DTACK=1\n";
 
-fn together(alloc: Global, parts: &[&str]) -> Result<Vec<u8>, AllocError> {
-    let mut text = Vec::new(alloc);
-    for part in parts {
-        text.extend_from_slice(part.as_bytes())?;
-    }
+/// A body behind the definitions.
+fn behind_definitions(alloc: Global, body: &str) -> Result<Vec<u8>, AllocError> {
+    let mut text = Vec::from_slice(alloc, DEFINITIONS.as_bytes())?;
+    text.extend_from_slice(body.as_bytes())?;
     Ok(text)
 }
 
-fn bound(alloc: Global, lines: &str) -> Result<Binding, Fail> {
-    Ok(read_binding(alloc, lines.as_bytes())?)
+fn bound(alloc: Global) -> Option<Binding> {
+    read_binding(alloc, LINES.as_bytes()).ok()
 }
 
-/// The steps, a line for each.
-fn written(alloc: Global, steps: &[Step]) -> Result<Vec<u8>, AllocError> {
-    let mut text = Vec::new(alloc);
+fn digit_of(level: Level) -> u8 {
+    match level {
+        Level::Low => b'0',
+        Level::High => b'1',
+        Level::Unknown => b'x',
+    }
+}
+
+fn write_change(text: &mut Vec<u8>, change: &Change) -> Result<(), AllocError> {
+    text.push(b' ')?;
+    text.extend_from_slice(change.line.name().as_bytes())?;
+    text.push(b'=')?;
+    text.push(digit_of(change.level))?;
+    Ok(())
+}
+
+fn write_time(alloc: Global, text: &mut Vec<u8>, time: u64) -> Result<(), AllocError> {
+    text.extend_from_slice(format!(in alloc; "#{time}")?.as_bytes())?;
+    Ok(())
+}
+
+/// Adds the steps, a line for each.
+fn write_steps(alloc: Global, text: &mut Vec<u8>, steps: &[Step]) -> Result<(), AllocError> {
     for step in steps {
-        let time = step.time;
-        text.extend_from_slice(format!(in alloc; "#{time}")?.as_bytes())?;
+        write_time(alloc, text, step.time)?;
         for change in step.changes.as_slice() {
-            text.push(b' ')?;
-            text.extend_from_slice(change.line.name().as_bytes())?;
-            text.push(b'=')?;
-            text.push(match change.level {
-                Level::Low => b'0',
-                Level::High => b'1',
-                Level::Unknown => b'x',
-            })?;
+            write_change(text, change)?;
         }
         text.push(b'\n')?;
     }
-    Ok(text)
+    Ok(())
 }
 
-/// What came of a text: the steps, and why there are no more.
-#[derive(Drop)]
-struct ToldSteps {
-    steps: Vec<u8>,
-    /// The fault, and the last time before it.
-    fault: Option<(VcdFault, u64)>,
-}
+/// The fault at which reading stops, and the last time before it. None is want of memory.
+type StopFault = Option<(VcdFault, u64)>;
 
-fn tell_stopped(
-    alloc: Global,
-    mut told: Vec<u8>,
-    stopped: StoppedSteps,
-) -> Result<ToldSteps, AllocError> {
-    told.extend_from_slice(written(alloc, stopped.steps.as_slice())?.as_slice())?;
-    Ok(ToldSteps {
-        steps: told,
-        fault: Some((stopped.fault, stopped.time)),
-    })
-}
-
-/// Reads a text of which so many bytes more come at once. Those that aren't taken come again, with more.
-fn tell(alloc: Global, binding: &Binding, text: &[u8], size: usize) -> Result<ToldSteps, Fail> {
-    let mut reader = None;
-    let mut steps = Vec::new(alloc);
-    let mut taken = 0;
-    for end in ends_of(alloc, text.len(), size)? {
-        let bytes = text.get(taken..end).unwrap_or(&[]);
-        reader = match reader {
-            None => match begin_steps(alloc, binding, bytes)? {
-                Some((begun, count)) => {
-                    taken = end.saturating_sub(bytes.len().saturating_sub(count));
-                    Some(begun)
-                }
-                None => None,
-            },
-            Some(reader) => {
-                let reader: StepReader = reader;
-                match reader.take(alloc, bytes) {
-                    Ok((reader, more, count)) => {
-                        steps.extend_from_slice(written(alloc, more.as_slice())?.as_slice())?;
-                        taken = end.saturating_sub(bytes.len().saturating_sub(count));
-                        Some(reader)
-                    }
-                    Err(stopped) => return Ok(tell_stopped(alloc, steps, stopped)?),
-                }
-            }
-        };
+/// Adds the steps before a fault.
+fn write_stopped(alloc: Global, text: &mut Vec<u8>, stopped: &StoppedSteps) -> StopFault {
+    match write_steps(alloc, text, stopped.steps.as_slice()) {
+        Ok(()) => Some((stopped.fault, stopped.time)),
+        Err(_) => None,
     }
-    let bytes = text.get(taken..).unwrap_or(&[]);
-    let (reader, bytes) = match reader {
-        Some(reader) => (reader, bytes),
-        None => {
-            let (begun, count) = begin_last_steps(alloc, binding, bytes)?;
-            (begun, &bytes[count..])
-        }
-    };
+}
+
+/// How many bytes were taken up to an end, where so many of the last ones were.
+fn taken_up_to(end: usize, length: usize, count: usize) -> usize {
+    end.saturating_sub(length.saturating_sub(count))
+}
+
+/// Reads more bytes, and adds their steps. The number is how many were taken.
+fn read_more(
+    alloc: Global,
+    reader: StepReader,
+    bytes: &[u8],
+    text: &mut Vec<u8>,
+) -> Result<(StepReader, usize), StopFault> {
+    match reader.take(alloc, bytes) {
+        Ok((reader, more, count)) => match write_steps(alloc, text, more.as_slice()) {
+            Ok(()) => Ok((reader, count)),
+            Err(_) => Err(None),
+        },
+        Err(stopped) => Err(write_stopped(alloc, text, &stopped)),
+    }
+}
+
+/// Reads the last bytes.
+fn read_last(
+    alloc: Global,
+    reader: StepReader,
+    bytes: &[u8],
+    text: &mut Vec<u8>,
+) -> Result<(), StopFault> {
     match reader.finish(alloc, bytes) {
-        Ok(more) => {
-            steps.extend_from_slice(written(alloc, more.as_slice())?.as_slice())?;
-            Ok(ToldSteps { steps, fault: None })
+        Ok(more) => match write_steps(alloc, text, more.as_slice()) {
+            Ok(()) => Ok(()),
+            Err(_) => Err(None),
+        },
+        Err(stopped) => Err(write_stopped(alloc, text, &stopped)),
+    }
+}
+
+/// Reads the rest of a dump of which so many bytes were taken, up to each of these ends. Those that aren't taken come
+/// again, with more.
+fn read_on(
+    alloc: Global,
+    begun: (StepReader, usize),
+    dump: &[u8],
+    ends: &[usize],
+    text: &mut Vec<u8>,
+) -> Result<(), StopFault> {
+    let (mut reader, mut taken) = begun;
+    for end in ends {
+        let bytes = dump.get(taken..*end).unwrap_or(&[]);
+        let (next, count) = read_more(alloc, reader, bytes, text)?;
+        reader = next;
+        taken = taken_up_to(*end, bytes.len(), count);
+    }
+    read_last(alloc, reader, dump.get(taken..).unwrap_or(&[]), text)
+}
+
+/// Reads a dump whose definitions are known to end only where it does.
+fn read_whole(
+    alloc: Global,
+    binding: &Binding,
+    dump: &[u8],
+    text: &mut Vec<u8>,
+) -> Result<(), StopFault> {
+    match begin_last_steps(alloc, binding, dump) {
+        Ok((reader, taken)) => { read_last(alloc, reader, dump.get(taken..).unwrap_or(&[]), text) }
+        Err(_) => Err(None),
+    }
+}
+
+/// Reads a dump up to each of these ends, and adds its steps.
+fn read_up_to(
+    alloc: Global,
+    binding: &Binding,
+    dump: &[u8],
+    ends: &[usize],
+    text: &mut Vec<u8>,
+) -> Result<(), StopFault> {
+    for (count, end) in ends.iter().enumerate() {
+        match begin_steps(alloc, binding, dump.get(..*end).unwrap_or(&[])) {
+            Ok(Some(begun)) => {
+                let behind = ends.get(count + 1..).unwrap_or(&[]);
+                return read_on(alloc, begun, dump, behind, text);
+            }
+            Ok(None) => (),
+            Err(_) => return Err(None),
         }
-        Err(stopped) => Ok(tell_stopped(alloc, steps, stopped)?),
+    }
+    read_whole(alloc, binding, dump, text)
+}
+
+/// Whether reading a dump up to each of these ends tells these steps, and this fault.
+fn tells_up_to(
+    alloc: Global,
+    binding: &Binding,
+    dump: &[u8],
+    ends: &[usize],
+    wanted: &str,
+    fault: StopFault,
+) -> bool {
+    let mut text = Vec::new(alloc);
+    let is_end = match read_up_to(alloc, binding, dump, ends, &mut text) {
+        Ok(()) => fault.is_none(),
+        Err(stop) => stop.is_some() && stop == fault,
+    };
+    is_end && text.as_slice() == wanted.as_bytes()
+}
+
+/// Whether it does where so many bytes more come at once.
+fn tells(
+    alloc: Global,
+    binding: &Binding,
+    dump: &[u8],
+    size: usize,
+    wanted: &str,
+    fault: StopFault,
+) -> bool {
+    match ends_of(alloc, dump.len(), size) {
+        Ok(ends) => tells_up_to(alloc, binding, dump, &ends, wanted, fault),
+        Err(_) => false,
+    }
+}
+
+/// Whether it does by each size.
+fn tells_by_each_size(
+    alloc: Global,
+    binding: &Binding,
+    dump: &[u8],
+    wanted: &str,
+    fault: StopFault,
+) -> bool {
+    let mut same = true;
+    for size in SIZES.iter() {
+        same &= tells(alloc, binding, dump, *size, wanted, fault);
+    }
+    same
+}
+
+/// The same by the binding.
+fn tells_always(alloc: Global, dump: &[u8], wanted: &str, fault: StopFault) -> bool {
+    match bound(alloc) {
+        Some(binding) => tells_by_each_size(alloc, &binding, dump, wanted, fault),
+        None => false,
+    }
+}
+
+/// The same of a body behind the definitions.
+fn body_tells(alloc: Global, body: &str, wanted: &str, fault: StopFault) -> bool {
+    match behind_definitions(alloc, body) {
+        Ok(dump) => tells_always(alloc, &dump, wanted, fault),
+        Err(_) => false,
     }
 }
 
@@ -152,23 +260,15 @@ fn ends_of(alloc: Global, length: usize, size: usize) -> Result<Vec<usize>, Allo
     Ok(ends)
 }
 
-const SIZES: [usize; 7] = [1, 2, 3, 7, 19, 100, 1000];
+static SIZES: [usize; 7] = [1, 2, 3, 7, 19, 100, 1000];
 
 #[test]
-fn the_steps_of_pieces_are_those_of_the_text(rt: HostRuntime) -> Result<(), Fail> {
-    let alloc = rt.alloc();
-    let binding = bound(alloc, LINES)?;
-    let text = together(alloc, &[DEFINITIONS, BODY])?;
-    for size in SIZES {
-        let told = tell(alloc, &binding, text.as_slice(), size)?;
-        assert!(rt; told.steps.as_slice() == STEPS.as_bytes(), "{size}");
-        assert!(rt; told.fault.is_none(), "{size}");
-    }
-    Ok(())
+fn the_steps_of_pieces_are_those_of_the_text(rt: HostRuntime) {
+    assert!(rt; body_tells(rt.alloc(), BODY, STEPS, None));
 }
 
 /// A body, its first fault, the steps of the instants that end before it, and the last time before it.
-const STOPS: [(&str, u64, FaultKind, &str, u64); 5] = [
+static STOPS: [(&str, u64, FaultKind, &str, u64); 5] = [
     ("2p\n", 6, FaultKind::BadToken, "", 0),
     (
         "#0 1p 1s\n#10 0p\n#20 0s 1x\n#30 1p\n",
@@ -201,152 +301,230 @@ const STOPS: [(&str, u64, FaultKind, &str, u64); 5] = [
 ];
 
 #[test]
-fn a_fault_comes_behind_the_steps_before_it(rt: HostRuntime) -> Result<(), Fail> {
-    let alloc = rt.alloc();
-    let binding = bound(alloc, LINES)?;
-    for (body, line, kind, steps, last) in STOPS {
-        let text = together(alloc, &[DEFINITIONS, body])?;
-        for size in SIZES {
-            let told = tell(alloc, &binding, text.as_slice(), size)?;
-            assert!(rt; told.steps.as_slice() == steps.as_bytes(), "{size}: {body}");
-            assert!(rt;
-                told.fault == Some((VcdFault { line, kind }, last)),
-                "{size}: {body}"
-            );
-        }
+fn a_fault_comes_behind_the_steps_before_it(rt: HostRuntime) {
+    for (body, line, kind, steps, last) in STOPS.iter() {
+        let (line, kind) = (*line, *kind);
+        let fault = Some((VcdFault { line, kind }, *last));
+        assert!(rt; body_tells(rt.alloc(), body, steps, fault), "{body}");
     }
-    Ok(())
 }
 
-/// Why no step of a text is told.
-fn refused(alloc: Global, text: &str, size: usize) -> Result<Option<CaptureFault>, Fail> {
-    let binding = bound(alloc, LINES)?;
-    let ends = ends_of(alloc, text.len(), size)?;
+/// Why no step of a dump is told that is read up to each of these ends.
+fn refused_up_to(
+    alloc: Global,
+    binding: &Binding,
+    dump: &[u8],
+    ends: &[usize],
+) -> Option<CaptureFault> {
     for end in ends {
-        let bytes = text.as_bytes().get(..end).unwrap_or(&[]);
-        match begin_steps(alloc, &binding, bytes) {
+        match begin_steps(alloc, binding, dump.get(..*end).unwrap_or(&[])) {
             Ok(None) => (),
-            Ok(Some(_)) => return Ok(None),
-            Err(fault) => return Ok(Some(fault)),
+            Ok(Some(_)) => return None,
+            Err(fault) => return Some(fault),
         }
     }
-    Ok(begin_last_steps(alloc, &binding, text.as_bytes()).err())
+    begin_last_steps(alloc, binding, dump).err()
 }
 
-/// Texts of which no step is told: those whose definitions don't end or have a fault, and those of which the binding
-/// makes no recording, whatever the body has.
-const REFUSED: [(&str, CaptureFault); 4] = [
+/// Why none is where so many bytes more come at once.
+fn refused(alloc: Global, binding: &Binding, dump: &str, size: usize) -> Option<CaptureFault> {
+    match ends_of(alloc, dump.len(), size) {
+        Ok(ends) => refused_up_to(alloc, binding, dump.as_bytes(), &ends),
+        Err(_) => None,
+    }
+}
+
+/// Dumps whose definitions don't end or have a fault, with its line.
+static REFUSED: [(&str, u64, FaultKind); 3] = [
     (
         "$scope module bus $end\n$var wire 1 p AS $end\n",
-        CaptureFault::Dump(VcdFault {
-            line: 3,
-            kind: FaultKind::NoEndDefinitions,
-        }),
+        3,
+        FaultKind::NoEndDefinitions,
     ),
     (
         "$scope module bus $end\n$var wire 1 p AS",
-        CaptureFault::Dump(VcdFault {
-            line: 2,
-            kind: FaultKind::UnfinishedSection,
-        }),
+        2,
+        FaultKind::UnfinishedSection,
     ),
     (
         "$scope module bus $end\n$var wire 1 p $end\n$enddefinitions $end\n#0 1p\n",
-        CaptureFault::Dump(VcdFault {
-            line: 2,
-            kind: FaultKind::BadVar,
-        }),
-    ),
-    (
-        "$scope module bus $end\n$var wire 1 p AS $end\n$enddefinitions $end\n#0 2p\n",
-        CaptureFault::Binding(BindFault {
-            line: 3,
-            kind: BindKind::NoSuchPath,
-        }),
+        2,
+        FaultKind::BadVar,
     ),
 ];
 
-#[test]
-fn a_text_may_have_no_steps(rt: HostRuntime) -> Result<(), Fail> {
-    let alloc = rt.alloc();
-    for (text, wanted) in REFUSED {
-        for size in SIZES {
-            let fault = refused(alloc, text, size)?.ok_or("steps")?;
-            assert!(rt; fault == wanted, "{size}: {text}");
-        }
+/// One of which the binding makes no recording, whatever the body has.
+const UNBOUND: &str =
+    "$scope module bus $end\n$var wire 1 p AS $end\n$enddefinitions $end\n#0 2p\n";
+
+/// Whether no step of a dump is told by any size, for a fault of the dump.
+fn is_dump_refused(alloc: Global, binding: &Binding, dump: &str, wanted: VcdFault) -> bool {
+    let mut same = true;
+    for size in SIZES.iter() {
+        same &= match refused(alloc, binding, dump, *size) {
+            Some(CaptureFault::Dump(fault)) => fault == wanted,
+            Some(CaptureFault::Binding(_)) | None => false,
+        };
     }
-    Ok(())
+    same
+}
+
+/// Whether none of the unbound one is, for a fault of the binding.
+fn is_binding_refused(alloc: Global, binding: &Binding) -> bool {
+    let mut same = true;
+    for size in SIZES.iter() {
+        same &= match refused(alloc, binding, UNBOUND, *size) {
+            Some(CaptureFault::Binding(BindFault { line, kind })) => {
+                line == 3 && kind == BindKind::NoSuchPath
+            }
+            Some(CaptureFault::Dump(_)) | None => false,
+        };
+    }
+    same
+}
+
+/// Whether each is refused so.
+fn are_refused(alloc: Global, binding: &Binding) -> bool {
+    let mut same = is_binding_refused(alloc, binding);
+    for (dump, line, kind) in REFUSED.iter() {
+        let (line, kind) = (*line, *kind);
+        same &= is_dump_refused(alloc, binding, dump, VcdFault { line, kind });
+    }
+    same
+}
+
+/// The same by the binding.
+fn are_all_refused(alloc: Global) -> bool {
+    match bound(alloc) {
+        Some(binding) => are_refused(alloc, &binding),
+        None => false,
+    }
+}
+
+#[test]
+fn a_text_may_have_no_steps(rt: HostRuntime) {
+    assert!(rt; are_all_refused(rt.alloc()));
+}
+
+/// Whether definitions are known to end only where something follows them.
+fn is_unknown(alloc: Global, dump: &[u8]) -> bool {
+    match bound(alloc) {
+        Some(binding) => matches!(begin_steps(alloc, &binding, dump), Ok(None)),
+        None => false,
+    }
 }
 
 /// The last word of the definitions may be the last of the text: only then it is known to end there.
 #[test]
-fn definitions_may_end_as_the_text_does(rt: HostRuntime) -> Result<(), Fail> {
-    let alloc = rt.alloc();
-    let binding = bound(alloc, LINES)?;
-    let text = DEFINITIONS
-        .as_bytes()
-        .strip_suffix(b"\n")
-        .ok_or("no line feed")?;
-    assert!(rt; begin_steps(alloc, &binding, text)?.is_none());
-    for size in SIZES {
-        let told = tell(alloc, &binding, text, size)?;
-        assert!(rt; told.steps.is_empty() && told.fault.is_none(), "{size}");
+fn definitions_may_end_as_the_text_does(rt: HostRuntime) {
+    let dump = DEFINITIONS.as_bytes().strip_suffix(b"\n").unwrap_or(&[]);
+    assert!(rt; is_unknown(rt.alloc(), dump));
+    assert!(rt; tells_always(rt.alloc(), dump, "", None));
+}
+
+/// Pieces of a body, and the last time behind each.
+static TIMES: [(&str, u64); 3] = [
+    ("#10 0p\n", 10),
+    ("#20 $comment #30\n", 20),
+    ("$end #40\n", 40),
+];
+
+/// A reader that has read the definitions.
+fn begun(alloc: Global) -> Option<StepReader> {
+    let front = behind_definitions(alloc, "#0 1p").ok()?;
+    let (reader, count) = begin_steps(alloc, &bound(alloc)?, front.as_slice()).ok()??;
+    if count == DEFINITIONS.len() && reader.time() == 0 {
+        Some(reader)
+    } else {
+        None
     }
-    Ok(())
+}
+
+/// The reader behind a piece, all of which it takes.
+fn behind(alloc: Global, reader: StepReader, piece: &str) -> Option<StepReader> {
+    let (next, _, count) = reader.take(alloc, piece.as_bytes()).ok()?;
+    if count == piece.len() {
+        Some(next)
+    } else {
+        None
+    }
+}
+
+/// The first piece behind which another time is the last, or an empty one. None is a text that isn't read, or another
+/// opening.
+fn first_wrong_time(alloc: Global) -> Option<&'static str> {
+    let mut reader = begun(alloc)?;
+    for (piece, time) in TIMES.iter() {
+        reader = behind(alloc, reader, piece)?;
+        if reader.time() != *time {
+            return Some(*piece);
+        }
+    }
+    let opening = reader.opening();
+    if opening.level(Line::AS) != Level::Unknown || opening.level(Line::DS0) != Level::High {
+        return None;
+    }
+    Some("")
 }
 
 #[test]
-fn the_opening_and_the_last_time_are_known(rt: HostRuntime) -> Result<(), Fail> {
-    let alloc = rt.alloc();
-    let binding = bound(alloc, LINES)?;
-    let front = together(alloc, &[DEFINITIONS, "#0 1p"])?;
-    let (mut reader, count) = begin_steps(alloc, &binding, front.as_slice())?.ok_or(
-        "no definitions",
-    )?;
-    assert!(rt; count == DEFINITIONS.len() && reader.time() == 0);
-    for (piece, time) in [
-        ("#10 0p\n", 10),
-        ("#20 $comment #30\n", 20),
-        ("$end #40\n", 40),
-    ] {
-        let taken = reader.take(alloc, piece.as_bytes());
-        let (next, _, count) = taken.ok().ok_or("a fault")?;
-        reader = next;
-        assert!(rt; count == piece.len() && reader.time() == time, "{piece}");
+fn the_opening_and_the_last_time_are_known(rt: HostRuntime) {
+    let wrong = first_wrong_time(rt.alloc()).unwrap_or("not read");
+    assert!(rt; wrong.is_empty(), "{wrong}");
+}
+
+/// Whether five steps are told in all, or memory is refused.
+fn are_five_or_refused(alloc: Global, reader: StepReader, count: usize) -> bool {
+    match reader.finish(alloc, &[]) {
+        Ok(last) => last.len().checked_add(count) == Some(5),
+        Err(stopped) => stopped.fault.kind == FaultKind::Memory,
     }
-    let opening = reader.opening();
-    assert!(rt;
-        opening.level(Line::AS) == Level::Unknown && opening.level(Line::DS0) == Level::High
-    );
-    Ok(())
+}
+
+/// The same where the body is yet to be taken.
+fn is_taken_or_refused(alloc: Global, reader: StepReader, body: &[u8]) -> bool {
+    match reader.take(alloc, body) {
+        Ok((reader, steps, _)) => are_five_or_refused(alloc, reader, steps.len()),
+        Err(stopped) => stopped.fault.kind == FaultKind::Memory,
+    }
+}
+
+/// Whether a fault is want of memory.
+fn is_refusal(fault: CaptureFault) -> bool {
+    match fault {
+        CaptureFault::Binding(fault) => fault.kind == BindKind::Memory,
+        CaptureFault::Dump(fault) => fault.kind == FaultKind::Memory,
+    }
+}
+
+/// Whether five steps are told of a dump, or memory is refused.
+fn is_told_or_refused(alloc: Global, binding: &Binding, dump: &[u8]) -> bool {
+    match begin_last_steps(alloc, binding, dump) {
+        Ok((reader, count)) => {
+            is_taken_or_refused(alloc, reader, dump.get(count..).unwrap_or(&[]))
+        }
+        Err(fault) => is_refusal(fault),
+    }
+}
+
+/// The same by the binding, where there is memory for it.
+fn is_bound_or_refused(alloc: Global, dump: &[u8]) -> bool {
+    match read_binding(alloc, LINES.as_bytes()) {
+        Ok(binding) => is_told_or_refused(alloc, &binding, dump),
+        Err(fault) => fault.kind == BindKind::Memory,
+    }
+}
+
+/// The same of the body, where there is memory for the text.
+fn is_want_told(alloc: Global) -> bool {
+    match behind_definitions(alloc, BODY) {
+        Ok(dump) => is_bound_or_refused(alloc, &dump),
+        Err(_) => true,
+    }
 }
 
 /// Run with each allocation refused in turn, this shows that the answer is then want of memory.
 #[test]
 fn want_of_memory_is_the_fault(rt: HostRuntime) {
-    let alloc = rt.alloc();
-    let Ok(text) = together(alloc, &[DEFINITIONS, BODY]) else {
-        return;
-    };
-    let Ok(binding) = read_binding(alloc, LINES.as_bytes()) else {
-        return;
-    };
-    let (reader, count) = match begin_last_steps(alloc, &binding, text.as_slice()) {
-        Ok(begun) => begun,
-        Err(CaptureFault::Binding(fault)) => {
-            assert!(rt; fault.kind == BindKind::Memory);
-            return;
-        }
-        Err(CaptureFault::Dump(fault)) => {
-            assert!(rt; fault.kind == FaultKind::Memory);
-            return;
-        }
-    };
-    match reader.take(alloc, &text[count..]) {
-        Ok((reader, steps, _)) => match reader.finish(alloc, &[]) {
-            Ok(last) => assert_eq!(rt; steps.len() + last.len(), 5),
-            Err(stopped) => assert!(rt; stopped.fault.kind == FaultKind::Memory),
-        },
-        Err(stopped) => assert!(rt; stopped.fault.kind == FaultKind::Memory),
-    }
+    assert!(rt; is_want_told(rt.alloc()));
 }

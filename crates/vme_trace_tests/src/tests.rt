@@ -1,6 +1,5 @@
 use smallvec::SmallVec;
 use std::alloc::{AllocError, Global};
-use std::test::Fail;
 use vme_trace::{
     Block, Capture, Change, Changes, Class, CutFault, LINE_COUNT, Level, Line, Lines, NeededLines,
     Rule, Step, Steps, am_class, am_code, is_selected, needed,
@@ -48,7 +47,7 @@ fn step((time, row): Row, alloc: Global) -> Result<Step, AllocError> {
 }
 
 /// The bus becomes idle, and a read follows.
-const READ: [Row; 6] = [
+static READ: [Row; 6] = [
     (
         0,
         &[
@@ -69,52 +68,61 @@ const READ: [Row; 6] = [
 
 fn read_steps(alloc: Global) -> Result<Vec<Step>, AllocError> {
     let mut steps = Vec::new(alloc);
-    for row in READ {
-        steps.push(step(row, alloc)?)?;
+    for row in READ.iter() {
+        steps.push(step(*row, alloc)?)?;
     }
     Ok(steps)
 }
 
-/// One slot: the first six lines unknown, the address modifier 3D, the bus busy, all else high.
-fn dump_lines() -> Result<Lines, Fail> {
-    let mut lines = Lines::new(1).ok_or("no such backplane")?;
-    for number in 6..LINE_COUNT {
-        let line = Line::from_number(number).ok_or("no such line")?;
+/// Puts a line on a level, where it is on the backplane.
+fn put(lines: &mut Lines, number: u8, level: Level) {
+    if let Some(line) = Line::from_number(number) {
         if lines.has(line) {
-            lines.set(line, Level::High);
+            lines.set(line, level);
         }
     }
+}
+
+/// A backplane whose lines from a number on are high.
+fn high_from(first: u8, slots: u8) -> Option<Lines> {
+    let mut lines = Lines::new(slots)?;
+    for number in first..LINE_COUNT {
+        put(&mut lines, number, Level::High);
+    }
+    Some(lines)
+}
+
+/// One slot: the first six lines unknown, the address modifier 3D, the bus busy, all else high.
+fn dump_lines() -> Option<Lines> {
+    let mut lines = high_from(6, 1)?;
     lines.set(Line::address_modifier(1), Level::Low);
     lines.set(Line::BBSY, Level::Low);
-    Ok(lines)
+    Some(lines)
 }
 
 /// Every line of a backplane high.
-fn high_lines(slots: u8) -> Result<Lines, Fail> {
-    let mut lines = Lines::new(slots).ok_or("no such backplane")?;
-    for number in 0..LINE_COUNT {
-        let line = Line::from_number(number).ok_or("no such line")?;
-        if lines.has(line) {
-            lines.set(line, Level::High);
-        }
-    }
-    Ok(lines)
+fn high_lines(slots: u8) -> Option<Lines> {
+    high_from(0, slots)
 }
 
-fn read_capture(alloc: Global) -> Result<Capture, Fail> {
-    let capture = Capture::new(dump_lines()?, read_steps(alloc)?).ok();
-    Ok(capture.ok_or("malformed")?)
+fn read_capture(alloc: Global) -> Option<Capture> {
+    Capture::new(dump_lines()?, read_steps(alloc).ok()?).ok()
 }
 
 /// Whether a line has a number and a name, and is found by both.
 fn is_named(number: u8, name: &[u8]) -> bool {
-    let line = Line::from_number(number);
-    Line::from_name(name) == line
-        && line.is_some_and(|line| line.number() == number && line.name().as_bytes() == name)
+    match Line::from_number(number) {
+        Some(line) => {
+            line.number() == number
+                && line.name().as_bytes() == name
+                && Line::from_name(name) == Some(line)
+        }
+        None => false,
+    }
 }
 
 /// Lines by their numbers.
-const NAMED: [(u8, &str); 22] = [
+static NAMED: [(u8, &str); 22] = [
     (0, "AS"),
     (5, "IACK"),
     (6, "AM0"),
@@ -140,7 +148,7 @@ const NAMED: [(u8, &str); 22] = [
 ];
 
 /// No line has one of these names.
-const UNNAMED: [&str; 21] = [
+static UNNAMED: [&str; 21] = [
     "",
     "A",
     "A00",
@@ -166,31 +174,22 @@ const UNNAMED: [&str; 21] = [
 
 #[test]
 fn line_names(rt: HostRuntime) {
-    for (number, name) in NAMED {
-        assert!(rt; is_named(number, name.as_bytes()), "{name}");
+    for (number, name) in NAMED.iter() {
+        assert!(rt; is_named(*number, name.as_bytes()), "{name}");
     }
-    for name in UNNAMED {
+    for name in UNNAMED.iter() {
         assert!(rt; Line::from_name(name.as_bytes()).is_none(), "{name}");
     }
 }
 
 #[test]
 fn lines_by_place(rt: HostRuntime) {
-    for (line, number) in [
-        (Line::BERR, 4),
-        (Line::address_modifier(5), 11),
-        (Line::LWORD, 12),
-        (Line::WRITE, 13),
-        (Line::address(31), 44),
-        (Line::bus_request(3), 49),
-        (Line::grant(3, 2), 118),
-        (Line::iack(21), 158),
-        (Line::data(0), 159),
-        (Line::data(31), 190),
-        (Line::SYSRESET, 191),
-    ] {
-        assert!(rt; line.number() == number);
-    }
+    assert!(rt; Line::BERR.number() == 4 && Line::LWORD.number() == 12);
+    assert!(rt; Line::WRITE.number() == 13 && Line::SYSRESET.number() == 191);
+    assert!(rt; Line::address_modifier(5).number() == 11 && Line::address(31).number() == 44);
+    assert!(rt; Line::bus_request(3).number() == 49 && Line::grant(3, 2).number() == 118);
+    assert!(rt; Line::data(0).number() == 159 && Line::data(31).number() == 190);
+    assert!(rt; Line::iack(21).number() == 158);
 }
 
 /// Whether a rule of that name is found, has that name, and is one by which a recording can't be read on where its
@@ -204,24 +203,29 @@ fn is_rule(name: &[u8]) -> bool {
     }
 }
 
+/// The names of the rules.
+static RULES: [&str; 31] = [
+    "U1", "U2", "U3", "U4", "H1", "H2", "H3", "H4", "H5", "H6", "H7", "H8", "S1", "S2", "S3", "C1",
+    "C2", "G1", "G2", "G3", "G4", "G5", "B1", "B2", "B3", "B4", "I1", "I2", "I3", "I4", "I5",
+];
+
+/// No rule has one of these names.
+static NO_RULES: [&str; 12] = [
+    "", "U", "U0", "U5", "H9", "S4", "C3", "G6", "B5", "I6", "u1", "U1 ",
+];
+
 #[test]
 fn rule_names(rt: HostRuntime) {
-    for name in [
-        "U1", "U2", "U3", "U4", "H1", "H2", "H3", "H4", "H5", "H6", "H7", "H8", "S1", "S2", "S3",
-        "C1", "C2", "G1", "G2", "G3", "G4", "G5", "B1", "B2", "B3", "B4", "I1", "I2", "I3", "I4",
-        "I5",
-    ] {
+    for name in RULES.iter() {
         assert!(rt; is_rule(name.as_bytes()), "{name}");
     }
-    for name in [
-        "", "U", "U0", "U5", "H9", "S4", "C3", "G6", "B5", "I6", "u1", "U1 ",
-    ] {
+    for name in NO_RULES.iter() {
         assert!(rt; Rule::from_name(name.as_bytes()).is_none(), "{name}");
     }
 }
 
 /// Lines by their numbers, whether they are on a backplane of three slots, and whether they are control lines there.
-const THERE: [(u8, bool, bool); 9] = [
+static THERE: [(u8, bool, bool); 9] = [
     (AS, true, true),
     // LWORD*
     (12, true, false),
@@ -239,67 +243,83 @@ const THERE: [(u8, bool, bool); 9] = [
     (191, true, true),
 ];
 
-#[test]
-fn backplanes(rt: HostRuntime) -> Result<(), Fail> {
-    let lines = Lines::new(3).ok_or("no such backplane")?;
-    for (number, exists, control) in THERE {
-        let line = Line::from_number(number).ok_or("no such line")?;
-        assert!(rt; lines.has(line) == exists && lines.is_control(line) == control);
-    }
-    Ok(())
+/// Whether a line of a backplane of three slots exists, and whether it is a control line there.
+fn there(number: u8) -> Option<(bool, bool)> {
+    let lines = Lines::new(3)?;
+    let line = Line::from_number(number)?;
+    Some((lines.has(line), lines.is_control(line)))
 }
 
 #[test]
-fn lines_of_two_buses_are_compared(rt: HostRuntime) -> Result<(), Fail> {
+fn backplanes(rt: HostRuntime) {
+    for (number, exists, control) in THERE.iter() {
+        assert!(rt; there(*number) == Some((*exists, *control)));
+    }
+}
+
+/// Whether two buses are the same at AS*, and at BBSY*, which is low on one of them.
+fn same_at_both() -> Option<(bool, bool)> {
     let (first, mut second) = (high_lines(2)?, high_lines(2)?);
     second.set(Line::BBSY, Level::Low);
-    assert!(rt; first.is_same_on(&second, Line::AS) && !first.is_same_on(&second, Line::BBSY));
-    Ok(())
+    Some((
+        first.is_same_on(&second, Line::AS),
+        first.is_same_on(&second, Line::BBSY),
+    ))
+}
+
+#[test]
+fn lines_of_two_buses_are_compared(rt: HostRuntime) {
+    assert!(rt; same_at_both() == Some((true, false)));
 }
 
 /// Whether a bus of high lines stays idle where one of them gets a level.
-fn is_idle_with(line: Line, level: Level) -> Result<bool, Fail> {
+fn is_idle_with(number: u8, level: Level) -> Option<bool> {
     let mut lines = high_lines(2)?;
-    if lines.has(line) {
-        lines.set(line, level);
-    }
-    Ok(lines.is_idle())
+    put(&mut lines, number, level);
+    Some(lines.is_idle())
 }
 
+/// Lines by their numbers, and whether the bus stays idle where one is low, and where it is unknown.
+static IDLE: [(u8, bool, bool); 10] = [
+    (AS, false, false),
+    (DS1, false, false),
+    (BERR, false, false),
+    (IACK, true, false),
+    // AM3
+    (9, true, true),
+    // BBSY*
+    (45, true, false),
+    // BR3*
+    (49, true, false),
+    // BG3.2
+    (118, false, false),
+    (IACK_1, false, false),
+    // SYSRESET*
+    (191, false, false),
+];
+
 #[test]
-fn idle_buses(rt: HostRuntime) -> Result<(), Fail> {
-    for (line, low_is_idle, unknown_is_idle) in [
-        (Line::AS, false, false),
-        (Line::DS1, false, false),
-        (Line::BERR, false, false),
-        (Line::IACK, true, false),
-        (Line::address_modifier(3), true, true),
-        (Line::BBSY, true, false),
-        (Line::bus_request(3), true, false),
-        (Line::grant(3, 2), false, false),
-        (Line::iack(1), false, false),
-        (Line::SYSRESET, false, false),
-    ] {
-        assert!(rt; is_idle_with(line, Level::High)?);
-        assert!(rt; is_idle_with(line, Level::Low)? == low_is_idle);
-        assert!(rt; is_idle_with(line, Level::Unknown)? == unknown_is_idle);
+fn idle_buses(rt: HostRuntime) {
+    for (number, low, unknown) in IDLE.iter() {
+        assert!(rt; is_idle_with(*number, Level::High) == Some(true));
+        assert!(rt; is_idle_with(*number, Level::Low) == Some(*low));
+        assert!(rt; is_idle_with(*number, Level::Unknown) == Some(*unknown));
     }
-    Ok(())
 }
 
 /// The levels of LWORD*, A01, DS0* and DS1*, and the numbers of the data lines that a transfer then moves: from the
 /// first up to an end.
-const MOVED: [([Level; 4], u8, u8); 10] = [
-    ([HIGH, HIGH, LOW, HIGH], 159, 167),
-    ([HIGH, HIGH, HIGH, LOW], 167, 175),
-    ([HIGH, LOW, LOW, LOW], 159, 175),
-    ([LOW, LOW, LOW, LOW], 159, 191),
-    ([HIGH, HIGH, HIGH, HIGH], 0, 0),
-    ([LOW, LOW, LOW, HIGH], 0, 0),
-    ([LOW, LOW, HIGH, LOW], 0, 0),
-    ([LOW, HIGH, LOW, LOW], 0, 0),
-    ([LOW, UNKNOWN, LOW, LOW], 0, 0),
-    ([UNKNOWN, LOW, LOW, LOW], 0, 0),
+static MOVED: [(Level, Level, Level, Level, u8, u8); 10] = [
+    (HIGH, HIGH, LOW, HIGH, 159, 167),
+    (HIGH, HIGH, HIGH, LOW, 167, 175),
+    (HIGH, LOW, LOW, LOW, 159, 175),
+    (LOW, LOW, LOW, LOW, 159, 191),
+    (HIGH, HIGH, HIGH, HIGH, 0, 0),
+    (LOW, LOW, LOW, HIGH, 0, 0),
+    (LOW, LOW, HIGH, LOW, 0, 0),
+    (LOW, HIGH, LOW, LOW, 0, 0),
+    (LOW, UNKNOWN, LOW, LOW, 0, 0),
+    (UNKNOWN, LOW, LOW, LOW, 0, 0),
 ];
 
 /// Whether a transfer moves just the lines with these numbers.
@@ -316,28 +336,41 @@ fn moves(lines: &Lines, first: u8, end: u8) -> bool {
     true
 }
 
-#[test]
-fn moved_data_lines(rt: HostRuntime) -> Result<(), Fail> {
-    for (levels, first, end) in MOVED {
-        let mut lines = high_lines(1)?;
-        lines.set(Line::LWORD, levels[0]);
-        lines.set(Line::address(1), levels[1]);
-        lines.set(Line::DS0, levels[2]);
-        lines.set(Line::DS1, levels[3]);
-        assert!(rt; moves(&lines, first, end), "{first}");
+/// All lines of one slot high, but for LWORD*, A01, DS0* and DS1*.
+fn strobed(lword: Level, a01: Level, ds0: Level, ds1: Level) -> Option<Lines> {
+    let mut lines = high_lines(1)?;
+    lines.set(Line::LWORD, lword);
+    lines.set(Line::address(1), a01);
+    lines.set(Line::DS0, ds0);
+    lines.set(Line::DS1, ds1);
+    Some(lines)
+}
+
+/// Whether a transfer with these levels does.
+fn strobed_moves(levels: (Level, Level, Level, Level), first: u8, end: u8) -> bool {
+    match strobed(levels.0, levels.1, levels.2, levels.3) {
+        Some(lines) => moves(&lines, first, end),
+        None => false,
     }
-    Ok(())
+}
+
+#[test]
+fn moved_data_lines(rt: HostRuntime) {
+    for (lword, a01, ds0, ds1, first, end) in MOVED.iter() {
+        let levels = (*lword, *a01, *ds0, *ds1);
+        assert!(rt; strobed_moves(levels, *first, *end), "{first}");
+    }
 }
 
 /// All lines of one slot high, but for the bits of an address modifier code that are 0.
-fn lines_of_code(code: u8) -> Result<Lines, Fail> {
+fn lines_of_code(code: u8) -> Option<Lines> {
     let mut lines = high_lines(1)?;
     for bit in 0..6 {
         if code >> bit & 1 == 0 {
             lines.set(Line::address_modifier(bit), Level::Low);
         }
     }
-    Ok(lines)
+    Some(lines)
 }
 
 /// The highest address line of a set, or 0.
@@ -351,38 +384,60 @@ fn highest_address_of(set: &NeededLines) -> u8 {
     highest
 }
 
-#[test]
-fn classes(rt: HostRuntime) -> Result<(), Fail> {
-    for (code, class, highest) in [
-        (0x09, Class::S, 31),
-        (0x0B, Class::K, 31),
-        (0x10, Class::F, 0),
-        (0x29, Class::S, 15),
-        (0x3D, Class::S, 23),
-        (0x3F, Class::K, 23),
-    ] {
-        let lines = lines_of_code(code)?;
-        assert!(rt; am_code(&lines) == code && am_class(&lines) == class);
-        let set = needed(&lines);
-        assert!(rt; set.has(Line::LWORD) && highest_address_of(&set) == highest);
+/// Codes, the class of each, and the highest address line that is needed by it.
+static CLASSES: [(u8, Class, u8); 6] = [
+    (0x09, Class::S, 31),
+    (0x0B, Class::K, 31),
+    (0x10, Class::F, 0),
+    (0x29, Class::S, 15),
+    (0x3D, Class::S, 23),
+    (0x3F, Class::K, 23),
+];
+
+/// The class of lines, whether LWORD* is needed there, and the highest address line that is.
+fn class_and_needed(lines: &Lines) -> (Class, bool, u8) {
+    let set = needed(lines);
+    (
+        am_class(lines),
+        set.has(Line::LWORD),
+        highest_address_of(&set),
+    )
+}
+
+/// Whether the lines of a code have it, this class, and this highest address line that is needed.
+fn has_class(code: u8, class: Class, highest: u8) -> bool {
+    match lines_of_code(code) {
+        Some(lines) => {
+            am_code(&lines) == code && class_and_needed(&lines) == (class, true, highest)
+        }
+        None => false,
     }
-    Ok(())
 }
 
 #[test]
-fn acknowledge_class(rt: HostRuntime) -> Result<(), Fail> {
+fn classes(rt: HostRuntime) {
+    for (code, class, highest) in CLASSES.iter() {
+        assert!(rt; has_class(*code, *class, *highest));
+    }
+}
+
+/// The class of code 3D with a bit that is unknown where IACK* is on a level, whether LWORD* is needed, and the highest
+/// address line that is.
+fn class_of_unknown_code(iack: Level) -> Option<(Class, bool, u8)> {
     let mut lines = lines_of_code(0x3D)?;
     lines.set(Line::address_modifier(3), Level::Unknown);
-    assert!(rt; am_class(&lines) == Class::F);
-    lines.set(Line::IACK, Level::Low);
-    assert!(rt; am_class(&lines) == Class::I);
-    let set = needed(&lines);
-    assert!(rt; !set.has(Line::LWORD) && highest_address_of(&set) == 3);
-    Ok(())
+    lines.set(Line::IACK, iack);
+    Some(class_and_needed(&lines))
+}
+
+#[test]
+fn acknowledge_class(rt: HostRuntime) {
+    assert!(rt; matches!(class_of_unknown_code(Level::High), Some((Class::F, _, _))));
+    assert!(rt; class_of_unknown_code(Level::Low) == Some((Class::I, false, 3)));
 }
 
 /// The step behind those of the read, and whether it is malformed there.
-const BEHIND: [(Row, bool); 8] = [
+static BEHIND: [(Row, bool); 8] = [
     ((60, &[(AS, LOW)]), false),
     ((50, &[(AS, LOW)]), true),
     ((60, &[]), true),
@@ -414,37 +469,69 @@ fn malformed_in(opening: Lines, steps: Vec<Step>) -> (Option<usize>, Option<usiz
     }
 }
 
-#[test]
-fn malformed_steps(rt: HostRuntime) -> Result<(), Fail> {
-    for (row, is_malformed) in BEHIND {
-        let wrong = if is_malformed { Some(6) } else { None };
-        let steps = read_and(row, rt.alloc())?;
-        assert!(rt; malformed_in(dump_lines()?, steps) == (wrong, wrong));
-    }
-    Ok(())
+/// Which step is named where one stands behind those of the read.
+fn malformed_behind(row: Row, alloc: Global) -> Option<(Option<usize>, Option<usize>)> {
+    Some(malformed_in(dump_lines()?, read_and(row, alloc).ok()?))
 }
 
-/// The number of a block and the time of its first step, for each.
-fn numbers_and_times(alloc: Global, blocks: &[Block]) -> Result<Vec<(u32, u64)>, Fail> {
-    let mut firsts = Vec::new(alloc);
+#[test]
+fn malformed_steps(rt: HostRuntime) {
+    for (row, is_malformed) in BEHIND.iter() {
+        let wrong = if *is_malformed { Some(6) } else { None };
+        assert!(rt; malformed_behind(*row, rt.alloc()) == Some((wrong, wrong)));
+    }
+}
+
+/// Whether blocks have these numbers and times of their first steps.
+fn begin_so(blocks: &[Block], firsts: &[(u32, u64)]) -> bool {
+    for (block, (number, time)) in blocks.iter().zip(firsts.iter()) {
+        let is_so = match block.steps.as_slice().first() {
+            Some(first) => block.number == *number && first.time == *time,
+            None => false,
+        };
+        if !is_so {
+            return false;
+        }
+    }
+    blocks.len() == firsts.len()
+}
+
+/// Whether blocks that memory is there for begin so, and each can be copied.
+fn are_cut_and_copied(
+    alloc: Global,
+    blocks: Result<Vec<Block>, CutFault>,
+    firsts: &[(u32, u64)],
+) -> bool {
+    match blocks {
+        Ok(blocks) => {
+            begin_so(blocks.as_slice(), firsts) && are_copied(alloc, blocks.as_slice())
+        }
+        Err(_) => false,
+    }
+}
+
+/// Whether each block can be copied.
+fn are_copied(alloc: Global, blocks: &[Block]) -> bool {
     for block in blocks {
-        let first = block.steps.as_slice().first().ok_or("no step")?;
-        firsts.push((block.number, first.time))?;
+        if block.copy(alloc).is_err() {
+            return false;
+        }
     }
-    Ok(firsts)
+    true
 }
 
-/// The read is cut into blocks of four steps, each of which can be copied.
+/// Numbers of blocks, and the times of their first steps.
+static FIRSTS: [(u32, u64); 2] = [(0, 0), (1, 40)];
+
+/// Whether the read is cut into blocks of four steps, each of which can be copied.
+fn is_read_cut(alloc: Global) -> Option<bool> {
+    let blocks = read_capture(alloc)?.cut(alloc, 4);
+    Some(are_cut_and_copied(alloc, blocks, FIRSTS.as_slice()))
+}
+
 #[test]
-fn blocks_of_a_read(rt: HostRuntime) -> Result<(), Fail> {
-    let capture = read_capture(rt.alloc())?;
-    let blocks = capture.cut(rt.alloc(), 4)?;
-    for block in blocks.iter() {
-        block.copy(rt.alloc())?;
-    }
-    let firsts = numbers_and_times(rt.alloc(), blocks.as_slice())?;
-    assert!(rt; firsts.as_slice() == [(0, 0), (1, 40)].as_slice());
-    Ok(())
+fn blocks_of_a_read(rt: HostRuntime) {
+    assert!(rt; is_read_cut(rt.alloc()) == Some(true));
 }
 
 /// Whether a cut makes so many blocks, or memory is refused.
@@ -458,28 +545,43 @@ fn is_cut_or_refused(alloc: Global, capture: &Capture, size: u32, count: usize) 
 /// Whether each copy that is made is of a block of one step.
 fn are_copied_or_refused(alloc: Global, blocks: &[Block]) -> bool {
     for block in blocks {
-        if let Ok(copy) = block.copy(alloc) {
-            if copy.steps.as_slice().len() != 1 {
-                return false;
-            }
+        let is_so = match block.copy(alloc) {
+            Ok(copy) => copy.steps.as_slice().len() == 1,
+            Err(_) => true,
+        };
+        if !is_so {
+            return false;
         }
     }
     true
 }
 
+/// Whether a cut into blocks of one step makes six of them, and copies of one step, or memory is refused.
+fn are_singles_or_refused(alloc: Global, capture: &Capture) -> bool {
+    match capture.cut(alloc, 1) {
+        Ok(blocks) => blocks.len() == 6 && are_copied_or_refused(alloc, blocks.as_slice()),
+        Err(fault) => fault == CutFault::Memory,
+    }
+}
+
+/// Whether cuts and copies of the read are right, or memory is refused.
+fn is_cut_right_or_refused(alloc: Global, steps: Vec<Step>) -> bool {
+    let Some(lines) = dump_lines() else {
+        return false;
+    };
+    match Capture::new(lines, steps) {
+        Ok(capture) => {
+            is_cut_or_refused(alloc, &capture, 4, 2) && are_singles_or_refused(alloc, &capture)
+        }
+        Err(_) => false,
+    }
+}
+
 /// Where memory is refused, a cut and a copy say so, and nothing else. (Run with each allocation refused in turn.)
 #[test]
-fn refused_memory(rt: HostRuntime) -> Result<(), Fail> {
+fn refused_memory(rt: HostRuntime) {
     let alloc = rt.alloc();
-    let Ok(steps) = read_steps(alloc) else {
-        return Ok(());
-    };
-    let capture = Capture::new(dump_lines()?, steps).ok();
-    let capture = capture.ok_or("malformed")?;
-    assert!(rt; is_cut_or_refused(alloc, &capture, 4, 2));
-    if let Ok(blocks) = capture.cut(alloc, 1) {
-        assert!(rt; blocks.len() == 6);
-        assert!(rt; are_copied_or_refused(alloc, blocks.as_slice()));
+    if let Ok(steps) = read_steps(alloc) {
+        assert!(rt; is_cut_right_or_refused(alloc, steps));
     }
-    Ok(())
 }
