@@ -25,7 +25,7 @@ pub struct AuditOptions<'a> {
     pub allowances: &'a [Allowance],
     /// How many transfers have to be answered for a recording to be covered.
     pub transfers: u64,
-    /// Behind how many breaks that aren't allowed no more of a dump is read, if so.
+    /// After how many breaks that aren't allowed the rest of a dump isn't read; all of it is, where this is `None`.
     pub stop: Option<u64>,
     /// How far apart probes may tell one moment of the bus, in time units of the dump.
     pub skew: u64,

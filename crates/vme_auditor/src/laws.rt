@@ -27,7 +27,7 @@ use vme_monitor::known::known_over_captures;
 use vme_stability::stability::stability_over_captures;
 
 /// The first break of a recording, step by step, is the one that its verdict names.
-pub(crate) fn first_break_is_found()
+pub fn first_break_is_found()
     ensures { (t : Trace) → malformed_step t ≡ None → t.opening.slots ≤ 21
         → named_break (verdict t) ≡ first_event (memories_at t.opening) t.opening t.steps }
 {
@@ -39,7 +39,7 @@ pub(crate) fn first_break_is_found()
 }
 
 /// The marks of a recording, step by step, are those of which its listing is made.
-pub(crate) fn marks_are_found()
+pub fn marks_are_found()
     ensures { (t : Trace) → malformed_step t ≡ None → t.opening.slots ≤ 21
         → joined_marks (memories_at t.opening) t.opening t.steps ≡ all_marks t }
 {

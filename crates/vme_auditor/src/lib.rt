@@ -5,8 +5,8 @@
 //!
 //! - `auditor`: [`Auditor`] takes one step after the other, returns the break that a step makes,
 //!   and says at any time what was found so far.
-//! - `audit`, `memories`: the state of an audit: the memory of each of the five monitors, which run
-//!   from step to step. At a break all of them start again from the levels that the step leaves, so
+//! - `audit`, `memories`: the state of an audit: the memory of each of the five monitors
+//!   ([`Memories`]), which run from step to step. At a break all of them start again from the levels that the step leaves, so
 //!   the work is that of the steps, however many of them break a rule.
 //! - `tally`, `asked`: what is counted, and which events happened that rules speak of.
 //! - `audit_break`, `findings`: a break with numbers of 64 bits; what was found, and the
@@ -30,6 +30,8 @@
 //!   then conforms, and the counts are those of the listing's rows.
 //! - [`outcome_has_verdict`]: a recording that conforms without an allowed break conforms by its
 //!   verdict, and is never idle exactly where its verdict says so.
+//! - [`first_break_is_found`], [`marks_are_found`]: the first break and the marks of a recording are
+//!   those that [`Memories::go_on`] shows, step by step.
 //! - [`breaks_grow`]: each step breaks one rule at most, at its own instant, and the breaks before
 //!   it stay.
 //!
@@ -63,4 +65,8 @@ pub use audit_break::AuditBreak;
 pub use auditor::{Auditor, TooManySteps};
 pub use findings::{AuditFindings, BreakCounts, outcome};
 pub use growth::breaks_grow;
-pub use laws::{first_break_is_named, outcome_has_verdict, unbroken_is_listed};
+pub use laws::{
+    first_break_is_found, first_break_is_named, marks_are_found, outcome_has_verdict,
+    unbroken_is_listed,
+};
+pub use memories::{AllShown, Memories};

@@ -33,7 +33,7 @@ type AcknowledgeMachine = OverStretches<AcknowledgeRules>;
 
 /// The memory in which each monitor is.
 #[derive(Clone, Copy, Debug, PartialEq, Eq)]
-pub(crate) struct Memories {
+pub struct Memories {
     pub known: StretchPhase<Stateless>,
     pub handshake: StretchPhase<HandshakeMemory>,
     pub stability: StretchPhase<Holding>,
@@ -51,7 +51,7 @@ struct StepOutcome {
 /// What a step shows to all monitors: the first rule that it breaks, and what happens to the stretch, to the tenure,
 /// and to the cycle and the transfer. Held lines and acknowledge outputs show nothing.
 #[derive(Clone, Copy, Debug, PartialEq, Eq)]
-pub(crate) struct AllShown {
+pub struct AllShown {
     pub fault: Option<Fault>,
     pub stretch: StepMarks,
     pub tenure: StepMarks,

@@ -26,7 +26,7 @@ use vme_trace::{Lines, Step};
 pub struct AuditRules<'a> {
     /// The deviations that are allowed.
     pub allowances: &'a [Allowance],
-    /// Behind how many breaks that aren't allowed nothing more is read, if so. 0 is as 1.
+    /// After how many breaks that aren't allowed nothing more is read; all is, where this is `None`. 0 is as 1.
     pub stop: Option<u64>,
 }
 

@@ -290,23 +290,6 @@ audit_known = (
   ),
 )
 
-rules_known : EachKnown rules_rules rules_rules
-unfolding clap_on_literals
-rules_known = (
-  record { own = refl; acts = refl; defaults = refl },
-  (
-    record { own = refl; acts = tt; defaults = refl },
-    tt,
-  ),
-)
-
-faults_known : EachKnown faults_rules faults_rules
-unfolding clap_on_literals
-faults_known = (
-  record { own = refl; acts = refl; defaults = refl },
-  (record { own = refl; acts = tt; defaults = refl }, tt),
-)
-
 variables_known : EachKnown variables_rules variables_rules
 unfolding clap_on_literals
 variables_known = (
@@ -360,13 +343,6 @@ part_known = (
       ),
     ),
   ),
-)
-
-join_known : EachKnown join_rules join_rules
-unfolding clap_on_literals
-join_known = (
-  record { own = refl; acts = refl; defaults = refl },
-  (record { own = refl; acts = tt; defaults = refl }, tt),
 )
 
 tell_known : EachKnown tell_rules tell_rules

@@ -20,13 +20,13 @@ pub const VERSION: &str = "0.1.0, commit (built from a working tree, not a relea
 /// What stands at the top of the program's help.
 const ABOUT: &str = "\
 Judges the recording of a VMEbus backplane, a four-state value change dump, and names the first edge
-at which a board broke the protocol. Without words it judges the dump on standard input by a binding
-of its own.";
+at which a board broke the protocol. Without arguments it judges the dump on standard input, with a
+built-in binding.";
 
 /// What stands at the end of the program's help.
 const EXAMPLES: &str = "\
 Examples:
-  vmecheck bind bus.vcd > bus.bind      a binding for a dump: look it over
+  vmecheck bind bus.vcd > bus.bind      a binding for a dump, for you to check
   vmecheck check bus.bind bus.vcd       the verdict
   vmecheck explain bus.bind bus.vcd     why and where
   vmecheck annotate bus.bind bus.vcd    the dump with its cycles and transfers, for a viewer
@@ -43,7 +43,7 @@ Exit status:
   0  conforming or confirmed, or the text was written
   1  broken, or not confirmed
   2  unreadable, or never idle
-  3  an input is refused, or the words are wrong
+  3  an input is refused, or the command line is wrong
   4  want of memory
   5  standard output or a file can't be written
   6  nothing is broken in an audit, but not enough is covered
@@ -202,7 +202,7 @@ pub(crate) fn faults_command<'a>(alloc: Global) -> Result<Command<'a>, AllocErro
         "One kind by its name, as NoSuchPath or 'cannot open'; all of them, where none is named",
     );
     Command::new(alloc, "faults")
-        .about("Says what each refusal of an input means, and what helps")
+        .about("Says what each refusal of an input means, and what to do")
         .arg(kind)
 }
 
@@ -314,7 +314,7 @@ fn files_option<'a>(alloc: Global) -> Arg<'a>
     Arg::new(alloc, "files")
         .long("files")
         .value_parser(value_parser!(u64).range(1..))
-        .help("How many files the recording has; else it ends with the last that has a part")
+        .help("How many files the recording has; else it ends with the last file that has a part")
 }
 
 fn marks_flag<'a>(alloc: Global) -> Arg<'a>
@@ -351,7 +351,7 @@ fn slots_option<'a>(alloc: Global) -> Arg<'a>
     Arg::new(alloc, "slots")
         .long("slots")
         .value_parser(value_parser!(u32).range(1..=MOST_SLOTS as i64))
-        .help("How many slots the backplane has, 1 to 21; else the daisy chains tell")
+        .help("How many slots the backplane has, 1 to 21; else the daisy chains show it")
 }
 
 fn scope_option<'a>(alloc: Global) -> Arg<'a>
@@ -422,9 +422,7 @@ fn workers_option<'a>(alloc: Global) -> Arg<'a>
         .long("workers")
         .value_parser(value_parser!(u32).range(1..=MOST_WORKERS as i64))
         .default_value("4")
-        .help(
-            "How many workers read and judge, 1 to 64; what is answered is the same for each number",
-        )
+        .help("How many workers read and judge, 1 to 64; the answer doesn't depend on it")
 }
 
 fn skew_option<'a>(alloc: Global) -> Arg<'a>
@@ -436,7 +434,7 @@ fn skew_option<'a>(alloc: Global) -> Arg<'a>
         .value_parser(value_parser!(u64))
         .default_value("0")
         .help(
-            "How far apart probes may tell one moment, 0 to 18446744073709551615 time units of the dump",
+            "How far apart probes may show one moment of the bus, 0 to 18446744073709551615 time units of the dump",
         )
 }
 
@@ -448,7 +446,7 @@ fn transfers_option<'a>(alloc: Global) -> Arg<'a>
         .long("transfers")
         .value_parser(value_parser!(u64))
         .default_value("1")
-        .help("How many transfers have to be answered for a recording to be covered")
+        .help("How many transfers must be answered for a recording to count as covered")
 }
 
 fn allow_option<'a>(alloc: Global) -> Arg<'a>
@@ -459,7 +457,7 @@ fn allow_option<'a>(alloc: Global) -> Arg<'a>
         .long("allow")
         .action(ArgAction::Append)
         .help(
-            "A known deviation: RULE or RULE=LINE, as H4 or H4=DTACK; it may be told several times",
+            "A known deviation: RULE or RULE=LINE, as H4 or H4=DTACK; may be given more than once",
         )
 }
 
@@ -470,7 +468,9 @@ fn stop_option<'a>(alloc: Global) -> Arg<'a>
     Arg::new(alloc, "stop")
         .long("stop")
         .value_parser(value_parser!(u64).range(1..))
-        .help("Behind how many breaks that aren't allowed no more of a dump is read; else all is")
+        .help(
+            "Stop reading a dump after this many breaks that aren't allowed; else all of it is read",
+        )
 }
 
 fn quiet_flag<'a>(alloc: Global) -> Arg<'a>
@@ -480,7 +480,7 @@ fn quiet_flag<'a>(alloc: Global) -> Arg<'a>
     Arg::new(alloc, "quiet")
         .long("quiet")
         .action(ArgAction::SetTrue)
-        .help("Tells the breaks and the outcome, and no counts")
+        .help("Writes the breaks and the outcome, without counts")
 }
 
 fn times_flag<'a>(alloc: Global) -> Arg<'a>
@@ -490,7 +490,7 @@ fn times_flag<'a>(alloc: Global) -> Arg<'a>
     Arg::new(alloc, "times")
         .long("times")
         .action(ArgAction::SetTrue)
-        .help("Tells the time of each instant, too; such a listing isn't confirmed")
+        .help("Writes the time of each instant, too; confirm doesn't take such a listing")
 }
 
 fn junit_option<'a>(alloc: Global) -> Arg<'a>
@@ -498,7 +498,7 @@ fn junit_option<'a>(alloc: Global) -> Arg<'a>
     ensures local { result.global ≡ false }
 {
     Arg::new(alloc, "junit").long("junit").help(
-        "A JUnit file to write at the end, with a test case a dump",
+        "A JUnit file to write at the end, with one test case for each dump",
     )
 }
 

@@ -10,7 +10,7 @@ use std::alloc::AllocError;
 /// Why the words are no order.
 #[derive(Debug, Drop)]
 pub enum OrderFault {
-    /// The words are wrong, or ask for help: the text says which.
+    /// The command line is wrong, or asks for help: the text says which.
     Usage(clap::Error),
     /// There is no memory.
     Memory,
