@@ -6,8 +6,9 @@
 //! - `auditor`: [`Auditor`] takes one step after the other, returns the break that a step makes,
 //!   and says at any time what was found so far.
 //! - `audit`, `memories`: the state of an audit: the memory of each of the five monitors
-//!   ([`Memories`]), which run from step to step. At a break all of them start again from the levels that the step leaves, so
-//!   the work is that of the steps, however many of them break a rule.
+//!   ([`Memories`]), which run from step to step. At a break all of them start again from the
+//!   levels that the step leaves, so the work is that of the steps, however many of them break a
+//!   rule.
 //! - `tally`, `asked`: what is counted, and which events happened that rules speak of.
 //! - `audit_break`, `findings`: a break with numbers of 64 bits; what was found, and the
 //!   [`outcome`] by it.

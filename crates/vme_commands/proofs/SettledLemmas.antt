@@ -72,10 +72,12 @@ captured-stays bound (Ok contents) of =
     (capture-stays bound of.0 contents of.1)
 captured-stays bound (Err r) of = refl
 
--- what a binding makes of a text
-pub text-stays : (bound : BoundLines) (bytes : List ℕ) → settled_or 0 (capture_by bound (or_bad_dump (dump_of bytes)))
-    ≡ capture_by bound (or_bad_dump (dump_of bytes))
-text-stays bound bytes = captured-stays bound (or_bad_dump (dump_of bytes)) (of_dump bytes (dump_of bytes) refl)
+-- what a binding makes of a dump
+pub dump-unsettled : (skew : ℕ) → skew ≡ 0 → (bound : BoundLines) (d : Option (List ℕ))
+    → settled_or skew (capture_by bound (dump_read d)) ≡ capture_by bound (dump_read d)
+dump-unsettled skew none bound d =
+    ap (λ (s : ℕ). settled_or s (capture_by bound (dump_read d))) none
+    ∙ captured-stays bound (dump_read d) (of_text d)
 
 abbrev captured_by : Option (List ℕ) → BoundLines → Result Trace Refusal
 captured_by d bound = capture_by bound (dump_read d)
@@ -98,11 +100,6 @@ recording-stays b d block = ap (λ (r : Result Trace Refusal). r >>= in_blocks b
 
 -- ---- the same, of a skew that is 0
 
-pub text-unsettled : (skew : ℕ) → skew ≡ 0 → (bound : BoundLines) (bytes : List ℕ)
-    → settled_or skew (capture_by bound (or_bad_dump (dump_of bytes))) ≡ capture_by bound (or_bad_dump (dump_of bytes))
-text-unsettled skew none bound bytes =
-    ap (λ (s : ℕ). settled_or s (capture_by bound (or_bad_dump (dump_of bytes)))) none ∙ text-stays bound bytes
-
 pub judgement-unsettled : (skew : ℕ) → skew ≡ 0 → (b d : Option (List ℕ)) (block : ℕ)
     → settled_judgement skew b d block ≡ judgement_of b d block
 judgement-unsettled skew none b d block =
@@ -117,10 +114,6 @@ recording-unsettled skew none b d block =
 
 abbrev GivesTrace : Result Trace Refusal → Result Trace Refusal → Type 0
 GivesTrace found read = AnswerGives (λ (t : Trace). t) found read
-
-pub settled-gives : (skew : ℕ) (read : Result Trace Refusal) (t : Trace) (found : Result Trace Refusal) → read ≡ Ok t
-    → GivesTrace found (Ok (settled skew t)) → GivesTrace found (settled_or skew read)
-settled-gives skew read t found is given = subst (GivesTrace found) (sym (ap (settled_or skew) is)) given
 
 pub settled-refused : (skew : ℕ) (read : Result Trace Refusal) (r : Refusal) → GivesTrace (Err r) read
     → GivesTrace (Err r) (settled_or skew read)

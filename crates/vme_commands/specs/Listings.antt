@@ -1,4 +1,4 @@
--- Listings as a command finds and ends by them.
+-- The listing that a command writes, and its exit status.
 use Rattle.std.specs.Prelude.{◌≡◌, ℕ, [], List, Option, None, Result, Ok, Err}
 use Rattle.std.specs.List.{last_or}
 use Rattle.std.specs.Option.{option_map_or}
@@ -32,8 +32,8 @@ recording_of binding dump block = do
   t ← capture_read binding dump
   in_blocks block t
 
--- The listing is that of the recording that is to be read there, or what is found is why there is none, unless there
--- was no memory.
+-- The listing is the recording's, or the refusal is the reason that there is no recording; or memory ran out, and
+-- nothing is said.
 abbrev pub GivesListing : Result Listed Refusal → Result Trace Refusal → Type 0
 GivesListing (Ok listing) recording = (t : Trace) × (recording ≡ Ok t) × (listing ≡ listing_of t)
 GivesListing (Err Memory) recording = Unit {0}
@@ -47,7 +47,7 @@ outcome_status NeverIdle = 2
 outcome_status (Broken rule instant line) = 1
 outcome_status (Unreadable rule instant line) = 2
 
--- a row that is no verdict says no more than that nothing was judged
+-- a listing whose last row is no verdict has the status of a bus that is never idle
 abbrev pub row_status : Row → ℕ
 row_status (Start instant) = 2
 row_status (Reset instant) = 2
@@ -68,13 +68,13 @@ listing_status listing = rows_status listing.rows
 
 -- ---- the answer
 
--- a listing is told with the status of the verdict
+-- a listing is written with the status of the verdict
 abbrev pub listing_answer_by : Result Trace Refusal → CommandAnswer
 listing_answer_by (Ok t) =
     record { out = text_of (listing_of t); error = []; status = verdict_status (verdict_by rules_in_force t) }
 listing_answer_by (Err refusal) = refusal_answer refusal
 
--- the answer to a binding and a dump that are to be listed by a skew, each by its bytes or unreadable
+-- the answer to a binding and a dump that are to be listed by a skew: the bytes of each, or none where it can't be read
 abbrev pub listing_answer_of : ℕ → Option (List ℕ) → Option (List ℕ) → ℕ → CommandAnswer
 listing_answer_of skew binding dump block = listing_answer_by (settled_recording skew binding dump block)
 
@@ -85,7 +85,7 @@ WritesListing skew binding dump block out err status =
     Does listing_answer_by (λ b d recording. AnswerGives (λ t. t) recording (settled_recording skew b d block))
     binding dump out err status
 
--- what was written is the text of rows that split the judged edges of the recording
+-- what was written is the text of rows that split the judged edges of the recording: each belongs to one of them
 abbrev pub WritesSplit : Trace → Writing × Writing → Type 0
 WritesSplit t out =
     (rows : List Row) × Splits t (verdict t) rows × Writes out.0 out.1 (text_of (in_newest_version rows))

@@ -1,34 +1,39 @@
 //! Why a recording is judged as it is.
 
-ghost use Rattle.std.specs.Prelude.{◌≡◌, ◌++◌, ℕ, List, Option, IfOk, IfSome, Result};
-ghost use Rattle.vcd_read.specs.Meaning.{dump_of};
+ghost use Rattle.std.specs.Prelude.{◌≡◌, ◌++◌, ℕ, List, None, Ok, Option, IfOk, IfSome, Result};
+ghost use Rattle.vme_account.specs.Accounts.{IsAccountOf};
 ghost use Rattle.vme_bind.specs.Binding.{binding_of};
-ghost use Rattle.vme_answer.specs.Answers.{AnswerGives, binding_read, dump_read, or_bad_binding, or_bad_dump};
-ghost use Rattle.vme_answer.specs.Answers.{verdict_in_blocks};
+ghost use Rattle.vme_answer.specs.Answers.{AnswerGives, binding_read, capture_by, dump_read, or_bad_binding};
 ghost use Rattle.vme_answer.specs.Ends.{Ends};
+ghost use Rattle.vme_answer.specs.Texts.{line_of, verdict_text};
+ghost use Rattle.vme_answer.specs.declared.refusal.Refusal.{Refusal as Refused};
 ghost use Rattle.vme_commands.specs.Explained.{Explains, IsExplained, IsExplainedWhole, explained_answer_by};
 ghost use Rattle.vme_commands.specs.Explained.{judged_by};
+ghost use Rattle.vme_commands.specs.ExplainedDumps.{GivesAccount, judged_whole, or_too_long, short_read};
 ghost use Rattle.vme_commands.specs.Refused.{MayHaveMore};
 ghost use Rattle.vme_commands.specs.Settled.{settled_judgement};
-ghost use Rattle.vme_stream.specs.Inputs.{IsReading};
-ghost use Rattle.vme_answer.specs.Texts.{line_of, verdict_text};
 ghost use Rattle.vme_picture.specs.Pictures.{IsPicture};
+ghost use Rattle.vme_skew.specs.Settled.{settled_or};
+ghost use Rattle.vme_stream.specs.Inputs.{IsReading};
+ghost use Rattle.vme_trace.specs.Trace.{Trace};
+ghost use Rattle.vme_trace.specs.Verdict.{verdict};
+ghost use Rattle.vme_trace.specs.WellFormed.{malformed_step};
 
-use crate::built_in::BLOCK;
-use crate::refused::{NamedInput, complain_with, show_binding, show_dump, show_suggestions};
-use crate::settled::settled_in;
+use crate::explained_input::{KeptDump, taken_dump};
+use crate::refused::{NamedInput, complain_with, show_binding, show_seen_dump, show_suggestions};
 use crate::telling::tell_bytes;
 use std::alloc::{AllocError, Global};
-use vcd_read::{Variables, read_definitions};
-use vme_answer::{Input, Refusal, binding_in, verdict_line, verdict_on, verdict_status};
+use std::marker::Brand;
+use vme_account::{Account, AccountVisitor, NoAccount};
+use vme_answer::{Input, Refusal, binding_in, verdict_line, verdict_status};
 use vme_bind::Binding;
 use vme_explain::{Subject, explanation, save_file};
 use vme_picture::picture;
+use vme_skew::{GhostSkew, SettlingVisitor};
 use vme_stream::read_all;
-use vme_summary::listing_by_blocks;
+use vme_summary::NoVerdict;
 use vme_text::Text;
-use vme_trace::{Capture, Sink, Source, Verdict};
-use vme_variables::{time_scale, time_unit};
+use vme_trace::{Sink, Source, Verdict};
 
 /// What the files of the inputs are named.
 #[derive(Clone, Copy)]
@@ -178,59 +183,184 @@ fn explained_by<D: Source>(
         × AnswerGives (λ told. told.verdict) result (judged_by skew bound.now (dump_read bytes)) }
     ensures begins { IsExplained result }
 {
-    match read_all(alloc, dump) {
-        Ok(text) => explained_in(alloc, binding, bound, text.as_slice(), names, skew, shown),
-        Err(fault) => Err(Refusal::of_input(Input::Dump, fault)),
+    let (account, kept) = account_of_dump(alloc, bound, dump, skew);
+    if let Err(refusal) = &account {
+        show_inputs(shown, alloc, refusal, binding, bound, &kept, names);
     }
+    explained_account(alloc, binding, account, &kept, names.dump)
 }
 
-/// The same, of the text of a dump.
-fn explained_in(
+/// Appends what the inputs show where they are refused. Without memory the text ends somewhere in it.
+fn show_inputs(
+    shown: &mut Text,
     alloc: Global,
+    refusal: &Refusal,
     binding: &[u8],
     bound: &Binding,
-    dump: &[u8],
+    kept: &KeptDump,
     names: InputNames<'_>,
-    skew: u64,
-    shown: &mut Text,
-) -> Result<Explained, Refusal>
-    ensures read { AnswerGives (λ told. told.verdict) result
-        (judged_by skew bound.now (or_bad_dump (dump_of dump.now))) }
-    ensures begins { IsExplained result }
-{
-    match settled_in(alloc, bound, dump, skew) {
-        Ok(capture) => explained_of(alloc, binding, &capture, dump, names.dump),
-        Err(refusal) => {
-            show_binding(
-                shown,
-                alloc,
-                &refusal,
-                NamedInput::new(names.binding, binding),
-            );
-            show_suggestions(shown, alloc, &refusal, binding, bound.lines().slots(), dump);
-            show_dump(shown, alloc, &refusal, NamedInput::new(names.dump, dump));
-            Err(refusal)
-        }
+) {
+    show_binding(
+        shown,
+        alloc,
+        refusal,
+        NamedInput::new(names.binding, binding),
+    );
+    show_suggestions(
+        shown,
+        alloc,
+        refusal,
+        binding,
+        bound.lines().slots(),
+        kept.variables.as_slice(),
+    );
+    if let Some(seen) = &kept.seen {
+        show_seen_dump(shown, alloc, refusal, names.dump, seen);
     }
 }
 
-/// The same, of a recording.
-fn explained_of(
+/// The account of the recording that a binding makes of a dump, settled by a skew, or the first reason that there is
+/// none; and what is kept of the dump.
+fn account_of_dump<D: Source>(
+    alloc: Global,
+    bound: &Binding,
+    dump: &mut D,
+    skew: u64,
+) -> (Result<Account, Refusal>, KeptDump)
+    ensures { (bytes : Option (List ℕ))
+        × IsReading (D.reading dump.old) (D.reading dump.new) bytes
+        × GivesAccount result.0 (settled_or skew (capture_by bound.now (dump_read bytes))) }
+{
+    if skew == 0 {
+        unsettled_account(alloc, bound, dump)
+    } else {
+        settled_account::<Brand, D>(alloc, bound, dump, skew)
+    }
+}
+
+/// The same without a skew.
+fn unsettled_account<D: Source>(
+    alloc: Global,
+    bound: &Binding,
+    dump: &mut D,
+) -> (Result<Account, Refusal>, KeptDump)
+    ensures { (bytes : Option (List ℕ))
+        × IsReading (D.reading dump.old) (D.reading dump.new) bytes
+        × GivesAccount result.0 (capture_by bound.now (dump_read bytes)) }
+{
+    let visitor = AccountVisitor::new(alloc, bound.lines());
+    let (taken, kept) = taken_dump(alloc, bound, dump, visitor);
+    (account_of(taken), kept)
+}
+
+/// The same by a skew that types name.
+fn settled_account<K: GhostSkew, D: Source>(
+    alloc: Global,
+    bound: &Binding,
+    dump: &mut D,
+    skew: u64,
+) -> (Result<Account, Refusal>, KeptDump)
+    requires { skew ≡ K.skew }
+    ensures { (bytes : Option (List ℕ))
+        × IsReading (D.reading dump.old) (D.reading dump.new) bytes
+        × GivesAccount result.0 (settled_or K.skew (capture_by bound.now (dump_read bytes))) }
+{
+    let lines = bound.lines();
+    let visitor = AccountVisitor::new(alloc, lines);
+    let settling: SettlingVisitor<K, AccountVisitor> = SettlingVisitor::new(
+        alloc, lines, skew, visitor,
+    );
+    let (taken, kept) = taken_dump(alloc, bound, dump, settling);
+    (account_by_skew(alloc, taken), kept)
+}
+
+/// The account of a recording whose steps were taken, or the reason that they weren't.
+fn account_of(taken: Result<AccountVisitor, Refusal>) -> Result<Account, Refusal>
+    ensures { (read : Result Trace Refused) → AnswerGives (λ v. v) taken read
+        → IfOk taken (λ v. malformed_step v ≡ None) → GivesAccount result (short_read read) }
+{
+    match taken {
+        Ok(visitor) => account_in(visitor),
+        Err(refusal) => Err(refusal),
+    }
+}
+
+/// The account of a recording whose steps came.
+fn account_in(visitor: AccountVisitor) -> Result<Account, Refusal>
+    ensures { malformed_step visitor ≡ None → GivesAccount result (or_too_long visitor) }
+{
+    match visitor.finish() {
+        Ok(account) => Ok(account),
+        Err(NoAccount::TooManySteps) => Err(Refusal::of_judging(NoVerdict::TooManySteps)),
+        Err(NoAccount::TooManyBlocks) => Err(Refusal::TooManyBlocks),
+        Err(NoAccount::Memory) => Err(Refusal::Memory),
+    }
+}
+
+/// The same of one that settles.
+fn account_by_skew<K: GhostSkew>(
+    alloc: Global,
+    taken: Result<SettlingVisitor<K, AccountVisitor>, Refusal>,
+) -> Result<Account, Refusal>
+    ensures { (read : Result Trace Refused) → AnswerGives (λ v. v) taken read
+        → IfOk taken (λ v. malformed_step v ≡ None)
+        → GivesAccount result (settled_or K.skew (short_read read)) }
+{
+    match taken {
+        Ok(settling) => settled_account_in(alloc, settling),
+        Err(refusal) => Err(refusal),
+    }
+}
+
+/// The account of a recording whose last group ends. The limit holds on the steps before they settle.
+fn settled_account_in<K: GhostSkew>(
+    alloc: Global,
+    settling: SettlingVisitor<K, AccountVisitor>,
+) -> Result<Account, Refusal>
+    ensures { malformed_step settling ≡ None → GivesAccount result (settled_or K.skew (or_too_long settling)) }
+{
+    if settling.is_too_long() {
+        return Err(Refusal::of_judging(NoVerdict::TooManySteps));
+    }
+    match settling.finish(alloc) {
+        Ok(visitor) => account_in(visitor),
+        Err(_) => Err(Refusal::Memory),
+    }
+}
+
+/// What is told of a recording by its account, or why there is none.
+fn explained_account(
     alloc: Global,
     binding: &[u8],
-    capture: &Capture,
-    dump: &[u8],
+    account: Result<Account, Refusal>,
+    kept: &KeptDump,
     name: &[u8],
 ) -> Result<Explained, Refusal>
-    ensures read { AnswerGives (λ told. told.verdict) result (verdict_in_blocks 16384 capture.now) }
+    ensures read { (captured : Result Trace Refused) → GivesAccount account captured
+        → AnswerGives (λ told. told.verdict) result (judged_whole captured) }
     ensures begins { IsExplained result }
 {
-    match verdict_on(alloc, capture, BLOCK) {
-        Ok(verdict) => match told_of(alloc, binding, capture, verdict, dump, name) {
-            Ok(told) => Ok(told),
-            Err(_) => Err(Refusal::Memory),
-        },
+    match account {
+        Ok(account) => explained_by_account(alloc, binding, &account, kept, name),
         Err(refusal) => Err(refusal),
+    }
+}
+
+/// What is told of a recording of which this is the account.
+fn explained_by_account(
+    alloc: Global,
+    binding: &[u8],
+    account: &Account,
+    kept: &KeptDump,
+    name: &[u8],
+) -> Result<Explained, Refusal>
+    ensures read { (t : Trace) → IsAccountOf account.now t
+        → AnswerGives (λ told. told.verdict) result (Ok (verdict t)) }
+    ensures begins { IsExplained result }
+{
+    match told_of(alloc, binding, account, account.verdict(), kept, name) {
+        Ok(told) => Ok(told),
+        Err(_) => Err(Refusal::Memory),
     }
 }
 
@@ -238,29 +368,21 @@ fn explained_of(
 fn told_of(
     alloc: Global,
     binding: &[u8],
-    capture: &Capture,
+    account: &Account,
     verdict: Verdict,
-    dump: &[u8],
+    kept: &KeptDump,
     name: &[u8],
 ) -> Result<Explained, AllocError>
     ensures verdict { IfOk result (λ told. told.verdict ≡ verdict) }
     ensures begins { IfOk result IsExplainedWhole }
 {
-    let Ok(listing) = listing_by_blocks(alloc, capture, BLOCK) else {
-        return Err(AllocError);
-    };
-    let Ok((_, variables)) = read_definitions(alloc, dump, Variables::new(alloc)) else {
-        return Err(AllocError);
-    };
-    let scale = time_scale(alloc, dump)?;
     let subject = Subject {
-        capture,
-        rows: listing.rows(),
+        account,
         verdict: &verdict,
         binding,
-        variables: variables.as_slice(),
-        time_unit: time_unit(alloc, dump)?,
-        time_scale: scale.as_bytes(),
+        variables: kept.variables.as_slice(),
+        time_unit: kept.time_unit,
+        time_scale: kept.time_scale.as_bytes(),
     };
     let text = whole_text(alloc, &verdict, &subject)?;
     let viewer = save_file(alloc, &subject, name)?;

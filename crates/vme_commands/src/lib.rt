@@ -12,10 +12,11 @@
 //!   first bytes, and the paths and widths that the dump has instead.
 //! - `surveyed_input`, `seen_dump`: a dump that `bind` surveys as it is read, and what is kept of a
 //!   dump for its refusal.
+//! - `explained_input`: a dump that `explain` reads piece by piece, and what is kept of it.
 //! - `dump_judge`, `judged_dump`, `workers`: a dump that is judged as it is read, in which pieces
 //!   and by how many.
-//! - `ordered_dump`, `judged_settled`: the same by one worker, in order, with a skew; `settled`: a
-//!   recording that is kept, settled by one ([`unsettled`]: by 0 it is itself).
+//! - `ordered_dump`, `judged_settled`: the same by one worker, in order, with a skew; `settled`:
+//!   by a skew of 0 a recording is itself ([`unsettled`]).
 //! - `allowance`, `words`, `built_in`, `telling`, `input_fault`: which breaks the arguments of an
 //!   audit allow; how a call without an order ends; what is used without arguments; how texts and
 //!   faults are written. The audit itself is vme_audit_command's.
@@ -58,6 +59,7 @@ mod built_in;
 pub mod check;
 mod dump_judge;
 pub mod explain;
+mod explained_input;
 mod faults;
 mod input_fault;
 mod judged_dump;

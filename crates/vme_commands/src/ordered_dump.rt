@@ -11,7 +11,7 @@ ghost use Rattle.vme_commands.specs.Wants.{is_want};
 use crate::dump_judge::ReadStage;
 use crate::input_fault::InputFault;
 use std::alloc::{AllocError, Global};
-use vcd_read::whole_tokens;
+use vcd_read::{VcdFault, whole_tokens};
 use vme_bind::{Binding, CaptureFault};
 use vme_stream::ByteConsumer;
 use vme_trace::StepVisitor;
@@ -50,6 +50,17 @@ impl<'b, F: StepVisitor> OrderedDump<'b, F> {
                 Err(fault) => Err(fault),
             },
             ReadStage::Failed(told) => Err(told.fault),
+        }
+    }
+
+    /// The fault of the dump itself, if one was met.
+    pub fn fault(&self) -> Option<VcdFault> {
+        match &self.stage {
+            ReadStage::Failed(told) => match told.fault {
+                CaptureFault::Dump(fault) => Some(fault),
+                CaptureFault::Binding(_) => None,
+            },
+            _ => None,
         }
     }
 

@@ -10,7 +10,7 @@ use crate::seen_dump::SeenDump;
 use crate::suggestions::{FaultySource, push_nearest, push_widths};
 use crate::telling::say;
 use std::alloc::{AllocError, Global};
-use vcd_read::{FaultKind, VcdFault};
+use vcd_read::{FaultKind, Variable, VcdFault};
 use vme_answer::{Refusal, refusal_line};
 use vme_bind::BindKind;
 use vme_faults::{FileKind, Kind, push_page};
@@ -123,7 +123,7 @@ pub(crate) fn show_suggestions(
     refusal: &Refusal,
     binding: &[u8],
     slots: u8,
-    dump: &[u8],
+    variables: &[Variable],
 ) {
     if let Refusal::BadBinding(fault) = refusal {
         let line = line_at(binding, fault.line);
@@ -133,8 +133,8 @@ pub(crate) fn show_suggestions(
             slots,
         };
         let _ = match fault.kind {
-            BindKind::NoSuchPath => push_nearest(shown, alloc, faulty, dump),
-            BindKind::WrongWidth => push_widths(shown, alloc, faulty, dump),
+            BindKind::NoSuchPath => push_nearest(shown, alloc, faulty, variables),
+            BindKind::WrongWidth => push_widths(shown, alloc, faulty, variables),
             _ => Ok(()),
         };
     }

@@ -2,7 +2,7 @@
 //! bits of a vector that fit some lines.
 
 use std::alloc::{AllocError, Global};
-use vcd_read::{Variable, Variables, read_definitions};
+use vcd_read::Variable;
 use vme_faults::nearest;
 use vme_text::{Text, push_shown};
 
@@ -25,18 +25,15 @@ pub(crate) fn push_nearest(
     shown: &mut Text,
     alloc: Global,
     faulty: FaultySource<'_>,
-    dump: &[u8],
+    variables: &[Variable],
 ) -> Result<(), AllocError> {
-    let Ok((_, variables)) = read_definitions(alloc, dump, Variables::new(alloc)) else {
-        return Err(AllocError);
-    };
-    let near = nearest(alloc, path_in(faulty.source), variables.as_slice(), MOST)?;
+    let near = nearest(alloc, path_in(faulty.source), variables, MOST)?;
     if near.is_empty() {
         return Ok(());
     }
     shown.push(b"nearest in the dump:\n")?;
     for found in near.iter() {
-        if let Some(variable) = variables.as_slice().get(found.place) {
+        if let Some(variable) = variables.get(found.place) {
             shown.push(b"    ")?;
             push_variable(shown, alloc, variable)?;
             shown.push(b"\n")?;
@@ -50,13 +47,10 @@ pub(crate) fn push_widths(
     shown: &mut Text,
     alloc: Global,
     faulty: FaultySource<'_>,
-    dump: &[u8],
+    variables: &[Variable],
 ) -> Result<(), AllocError> {
-    let Ok((_, variables)) = read_definitions(alloc, dump, Variables::new(alloc)) else {
-        return Err(AllocError);
-    };
     let path = path_in(faulty.source);
-    for variable in variables.as_slice().iter() {
+    for variable in variables.iter() {
         if variable.path.as_bytes() == path {
             push_width(shown, alloc, faulty, variable)?;
         }

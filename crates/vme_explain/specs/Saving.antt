@@ -1,5 +1,5 @@
 -- Which files are written, and which aren't.
-use Rattle.std.specs.Prelude.{ℕ, Bool, ◌==◌, ◌&&◌, false, if◌then◌else◌, Option, None, Some}
+use Rattle.std.specs.Prelude.{Bool, ◌==◌, ◌&&◌, false, if◌then◌else◌, Option, None, Some}
 use Rattle.vme_explain.specs.declared.saving.FileId.{FileId}
 use Rattle.vme_explain.specs.declared.saving.Present.{Present}
 use Rattle.vme_explain.specs.declared.saving.Present.TheVariants.{Nothing, File, Other}

@@ -1,16 +1,14 @@
 //! What is said of the other events of a break, those that make its edge a break.
 
 use crate::driver::{Driver, driver_of};
-use crate::excerpt::levels_from;
-use crate::page::{Subject, push_instant};
-use crate::related_event::{
-    Occurrence, RelatedEvent, StepEvent, first_related_event, instant_of, second_related_event,
-};
-use crate::rows::{last_start, tenure_at};
+use crate::page::{Subject, push_time};
 use std::alloc::{AllocError, Global};
-use vme_listing::Row;
+use vme_account::{
+    Moment, Occurrence, RelatedEvent, StartedTenure, StepEvent, first_related_event,
+    second_related_event,
+};
 use vme_text::Text;
-use vme_trace::{Break, Capture, Level, Line, Lines, Rule};
+use vme_trace::{Break, Level, Line, Lines, Rule};
 
 /// What is said of an event, before its instant and behind it, and where it didn't happen.
 #[derive(Clone, Copy)]
@@ -121,42 +119,29 @@ pub fn others_of(
     found: &Break,
 ) -> Result<Vec<OtherEvent>, AllocError> {
     let mut events = Vec::new(alloc);
-    let start = last_start(subject.rows).unwrap_or(0);
     if let Some(other) = first_related_event(found.rule, found.line) {
         let words = first_words(found.rule);
-        events.push(other_event(alloc, subject, found, start, &other, &words)?)?;
+        events.push(other_event(alloc, subject, &other, &words)?)?;
     }
     if let Some(other) = second_related_event(found.rule, found.line) {
         let words = second_words(found.rule);
-        events.push(other_event(alloc, subject, found, start, &other, &words)?)?;
+        events.push(other_event(alloc, subject, &other, &words)?)?;
     }
     if found.rule == Rule::B4 {
-        add_passed_on(&mut events, alloc, subject, found, start)?;
+        add_passed_on(&mut events, alloc, subject, found)?;
     }
     Ok(events)
-}
-
-/// The instant of an event, if the break is one of a stretch that is judged.
-fn instant_before(capture: &Capture, other: &RelatedEvent, start: u32, at: u32) -> Option<u32> {
-    if start < at && at < u32::MAX {
-        instant_of(capture, other, start, at)
-    } else {
-        None
-    }
 }
 
 /// An event of which a rule speaks, with what is said of it.
 fn other_event(
     alloc: Global,
     subject: &Subject<'_>,
-    found: &Break,
-    start: u32,
     other: &RelatedEvent,
     words: &EventWords,
 ) -> Result<OtherEvent, AllocError> {
-    let capture = subject.capture;
     let mut text = Text::new(alloc);
-    let Some(instant) = instant_before(capture, other, start, found.instant) else {
+    let Some(moment) = subject.account.moment_of(other) else {
         text.push(words.none.as_bytes())?;
         return Ok(OtherEvent {
             instant: None,
@@ -166,31 +151,37 @@ fn other_event(
     text.push(words.before.as_bytes())?;
     push_line(
         &mut text,
-        alloc,
-        capture,
+        subject,
         &other.event,
-        instant,
+        &moment,
         words.before.is_empty(),
     )?;
     text.push(b" at instant ")?;
-    push_instant(&mut text, alloc, capture, instant)?;
-    if let Some(Row::Tenure { level, slot, .. }) = tenure_taken(subject, &other.event, instant) {
+    push_moment(&mut text, alloc, &moment)?;
+    if let Some(tenure) = tenure_taken(subject, &other.event, moment.instant) {
         text.push(b", by level ")?;
-        text.push_decimal(alloc, u64::from(level))?;
+        text.push_decimal(alloc, u64::from(tenure.level))?;
         text.push(b" in slot ")?;
-        text.push_decimal(alloc, u64::from(slot))?;
+        text.push_decimal(alloc, u64::from(tenure.slot))?;
     }
     text.push(words.behind.as_bytes())?;
     Ok(OtherEvent {
-        instant: Some(instant),
+        instant: Some(moment.instant),
         text,
     })
 }
 
+/// Appends an instant and its time.
+fn push_moment(text: &mut Text, alloc: Global, moment: &Moment) -> Result<(), AllocError> {
+    text.push_decimal(alloc, u64::from(moment.instant))?;
+    push_time(text, alloc, moment.time)
+}
+
 /// The tenure that starts with an event.
-fn tenure_taken(subject: &Subject<'_>, event: &StepEvent, instant: u32) -> Option<Row> {
-    match event {
-        StepEvent::Falls(line) if *line == Line::BBSY => tenure_at(subject.rows, instant),
+fn tenure_taken(subject: &Subject<'_>, event: &StepEvent, instant: u32) -> Option<StartedTenure> {
+    match (event, subject.account.last_tenure()) {
+        (StepEvent::Falls(line), Some(tenure)) if *line == Line::BBSY && tenure.start == instant =>
+            { Some(tenure) }
         _ => None,
     }
 }
@@ -198,26 +189,42 @@ fn tenure_taken(subject: &Subject<'_>, event: &StepEvent, instant: u32) -> Optio
 /// Appends which line an event is of: by itself, as `DTACK fell`, or behind other words, as ` by DTACK`.
 fn push_line(
     text: &mut Text,
-    alloc: Global,
-    capture: &Capture,
+    subject: &Subject<'_>,
     event: &StepEvent,
-    instant: u32,
+    moment: &Moment,
     is_alone: bool,
 ) -> Result<(), AllocError> {
     match event {
         StepEvent::Falls(line) if is_alone => push_edge(text, *line, " fell"),
         StepEvent::Rises(line) if is_alone => push_edge(text, *line, " rose"),
-        StepEvent::AnswerFalls => push_fallen(text, alloc, capture, instant, &ANSWERS),
+        StepEvent::AnswerFalls => push_fallen(
+            text,
+            &[
+                (Line::DTACK, moment.dtack_falls),
+                (Line::BERR, moment.berr_falls),
+            ],
+        ),
         StepEvent::GrantFalls => {
-            let grants = [
-                Line::grant(0, 0),
-                Line::grant(1, 0),
-                Line::grant(2, 0),
-                Line::grant(3, 0),
-            ];
-            push_fallen(text, alloc, capture, instant, &grants)
+            let mut grants = [(Line::grant(0, 0), false); 4];
+            for (level, grant) in grants.iter_mut().enumerate() {
+                let line = Line::grant((level as u8).min(3), 0);
+                *grant = (line, fell_at(subject, line, moment.instant));
+            }
+            push_fallen(text, &grants)
         }
         _ => Ok(()),
+    }
+}
+
+/// Whether a line fell last, before the break, at this instant.
+fn fell_at(subject: &Subject<'_>, line: Line, instant: u32) -> bool {
+    let other = RelatedEvent {
+        event: StepEvent::Falls(line),
+        occurrence: Occurrence::Last,
+    };
+    match subject.account.moment_of(&other) {
+        Some(moment) => moment.instant == instant,
+        None => false,
     }
 }
 
@@ -226,28 +233,11 @@ fn push_edge(text: &mut Text, line: Line, edge: &str) -> Result<(), AllocError> 
     text.push(edge.as_bytes())
 }
 
-const ANSWERS: [Line; 2] = [Line::DTACK, Line::BERR];
-
-/// Appends those of some lines that fall at an instant.
-fn push_fallen(
-    text: &mut Text,
-    alloc: Global,
-    capture: &Capture,
-    instant: u32,
-    lines: &[Line],
-) -> Result<(), AllocError> {
-    let levels = levels_from(
-        alloc,
-        capture,
-        instant.saturating_sub(1) as usize,
-        instant as usize,
-    )?;
-    let (Some(before), Some(after)) = (levels.first(), levels.last()) else {
-        return Ok(());
-    };
+/// Appends those of some lines that fall.
+fn push_fallen(text: &mut Text, lines: &[(Line, bool)]) -> Result<(), AllocError> {
     let mut is_first = true;
-    for line in lines {
-        if shows(before, *line, Level::High) && shows(after, *line, Level::Low) {
+    for (line, falls) in lines {
+        if *falls {
             text.push(if is_first { b" by " } else { b" and " })?;
             text.push(line.name().as_bytes())?;
             is_first = false;
@@ -267,27 +257,26 @@ fn add_passed_on(
     alloc: Global,
     subject: &Subject<'_>,
     found: &Break,
-    start: u32,
 ) -> Result<(), AllocError> {
-    let capture = subject.capture;
+    let account = subject.account;
     let at = found.instant;
-    let levels = levels_from(alloc, capture, at.saturating_sub(1) as usize, at as usize)?;
+    let levels = account.levels_from(alloc, at.saturating_sub(1), at)?;
     let Some(level) = granted_level(levels.as_slice()) else {
         return Ok(());
     };
-    for place in 0..capture.opening().slots() + 1 {
+    for place in 0..account.opening().slots() + 1 {
         let line = Line::grant(level.min(3), place);
         let other = RelatedEvent {
             event: StepEvent::Falls(line),
             occurrence: Occurrence::LastOrNow,
         };
-        if let Some(instant) = instant_before(capture, &other, start, at) {
+        if let Some(moment) = account.moment_of(&other) {
             let mut text = Text::new(alloc);
             push_edge(&mut text, line, " fell at instant ")?;
-            push_instant(&mut text, alloc, capture, instant)?;
+            push_moment(&mut text, alloc, &moment)?;
             push_driver(&mut text, alloc, line)?;
             events.push(OtherEvent {
-                instant: Some(instant),
+                instant: Some(moment.instant),
                 text,
             })?;
         }

@@ -5,8 +5,7 @@ ghost use Rattle.vme_text.specs.Visible.{IsVisible};
 
 use crate::broken::{push_driver, push_others};
 use crate::driver::push_label;
-use crate::excerpt::{levels_from, marks_of, time_at};
-use crate::rows::{Part, open_row};
+use crate::marks::marks_of;
 use crate::scale::time_name;
 use crate::sources::{bound_to, push_variable};
 use crate::summary::{push_never_idle, push_summary};
@@ -15,10 +14,11 @@ use crate::window::excerpt_of;
 use crate::wrapping::{LONGEST, wrapped};
 use std::alloc::{AllocError, Global};
 use vcd_read::Variable;
+use vme_account::{Account, Part};
 use vme_listing::{AnswerLine, Direction, Row, data_digits};
 use vme_rules::push_rule;
 use vme_text::{Text, shown_text};
-use vme_trace::{Break, Capture, Class, Lanes, Line, Lines, Verdict};
+use vme_trace::{Break, Class, Lanes, Line, Lines, Verdict};
 
 /// How many characters the names of rows take at least.
 const NAMES: usize = 8;
@@ -26,10 +26,8 @@ const NAMES: usize = 8;
 /// What is explained.
 #[derive(Clone, Copy)]
 pub struct Subject<'a> {
-    /// The recording.
-    pub capture: &'a Capture,
-    /// The rows of its listing.
-    pub rows: &'a [Row],
+    /// What is known of the recording.
+    pub account: &'a Account,
     /// Its verdict.
     pub verdict: &'a Verdict,
     /// The text of the binding.
@@ -84,8 +82,8 @@ pub fn push_open(text: &mut Text, alloc: Global, subject: &Subject<'_>) -> Resul
         (Part::Transfer, "transfer: "),
     ] {
         text.push(name.as_bytes())?;
-        match open_row(part, subject.rows) {
-            Some(row) => push_open_row(text, alloc, subject.capture, &row)?,
+        match subject.account.open_row(part) {
+            Some(row) => push_open_row(text, alloc, subject.account, &row)?,
             None => text.push(b"none")?,
         }
         text.push(b"\n")?;
@@ -96,13 +94,13 @@ pub fn push_open(text: &mut Text, alloc: Global, subject: &Subject<'_>) -> Resul
 fn push_open_row(
     text: &mut Text,
     alloc: Global,
-    capture: &Capture,
+    account: &Account,
     row: &Row,
 ) -> Result<(), AllocError> {
     match row {
         Row::OpenTenure { start, .. } => {
             text.push(b"open before judging starts")?;
-            push_since(text, alloc, capture, *start)
+            push_since(text, alloc, account, *start)
         }
         Row::Tenure {
             start,
@@ -114,7 +112,7 @@ fn push_open_row(
             text.push_decimal(alloc, u64::from(*level))?;
             text.push(b", slot ")?;
             text.push_decimal(alloc, u64::from(*slot))?;
-            push_since(text, alloc, capture, *start)
+            push_since(text, alloc, account, *start)
         }
         Row::AddressedCycle {
             start,
@@ -124,7 +122,7 @@ fn push_open_row(
             ..
         } => {
             push_addressed(text, *class, *modifier, *address)?;
-            push_since(text, alloc, capture, *start)
+            push_since(text, alloc, account, *start)
         }
         Row::FreeCycle {
             start,
@@ -133,21 +131,21 @@ fn push_open_row(
         } => {
             text.push(b"AM ")?;
             push_hexadecimal(text, u32::from(*modifier), 2)?;
-            push_since(text, alloc, capture, *start)
+            push_since(text, alloc, account, *start)
         }
         Row::InterruptCycle { start, level, .. } => {
             text.push(b"interrupt acknowledge of level ")?;
             text.push_decimal(alloc, u64::from(*level))?;
-            push_since(text, alloc, capture, *start)
+            push_since(text, alloc, account, *start)
         }
-        _ => push_open_transfer(text, alloc, capture, row),
+        _ => push_open_transfer(text, alloc, account, row),
     }
 }
 
 fn push_open_transfer(
     text: &mut Text,
     alloc: Global,
-    capture: &Capture,
+    account: &Account,
     row: &Row,
 ) -> Result<(), AllocError> {
     match row {
@@ -160,17 +158,17 @@ fn push_open_transfer(
             ..
         } => {
             push_direction(text, *direction)?;
-            push_since(text, alloc, capture, *start)?;
+            push_since(text, alloc, account, *start)?;
             match line {
                 AnswerLine::Dtack => text.push(b", answered by DTACK at instant ")?,
                 AnswerLine::Berr => text.push(b", answered by BERR at instant ")?,
             }
-            push_instant(text, alloc, capture, *answer)?;
+            push_instant(text, alloc, account, *answer)?;
             push_data(text, *lanes)
         }
         Row::PendingTransfer { start, direction } => {
             push_direction(text, *direction)?;
-            push_since(text, alloc, capture, *start)?;
+            push_since(text, alloc, account, *start)?;
             text.push(b", not answered")
         }
         _ => Ok(()),
@@ -234,23 +232,36 @@ fn push_hexadecimal(text: &mut Text, number: u32, digits: u32) -> Result<(), All
 fn push_since(
     text: &mut Text,
     alloc: Global,
-    capture: &Capture,
+    account: &Account,
     instant: u32,
 ) -> Result<(), AllocError> {
     text.push(b", since instant ")?;
-    push_instant(text, alloc, capture, instant)
+    push_instant(text, alloc, account, instant)
 }
 
 /// Appends an instant and its time.
 pub(crate) fn push_instant(
     text: &mut Text,
     alloc: Global,
-    capture: &Capture,
+    account: &Account,
     instant: u32,
 ) -> Result<(), AllocError> {
     text.push_decimal(alloc, u64::from(instant))?;
+    match account.time_at(instant) {
+        Some(time) => push_time(text, alloc, time),
+        None => Ok(()),
+    }
+}
+
+/// Appends the time of an instant, behind it.
+pub(crate) fn push_time(text: &mut Text, alloc: Global, time: u64) -> Result<(), AllocError> {
     text.push(b" time ")?;
-    text.push_decimal(alloc, time_at(capture, instant))
+    text.push_decimal(alloc, time)
+}
+
+/// The time of an instant that is shown: those that are shown are kept.
+pub fn shown_time(account: &Account, instant: u32) -> u64 {
+    account.time_at(instant).unwrap_or(0)
 }
 
 /// Appends a line that tells the variable of the line of a break, its levels there, and who drives it, if it is a net.
@@ -263,15 +274,16 @@ pub fn push_line_value(
     text.push(b"line ")?;
     text.push(found.line.name().as_bytes())?;
     text.push(b": ")?;
-    let slots = subject.capture.opening().slots();
+    let slots = subject.account.opening().slots();
     if let Some(bound) = bound_to(subject.binding, found.line, slots) {
         text.push(b"variable ")?;
         push_variable(text, alloc, &bound, subject.variables)?;
         text.push(b", ")?;
     }
-    let last = subject.capture.steps().len();
-    let at = (found.instant as usize).min(last);
-    let levels = levels_from(alloc, subject.capture, at.saturating_sub(1), at)?;
+    let at = found.instant;
+    let levels = subject
+        .account
+        .levels_from(alloc, at.saturating_sub(1), at)?;
     let marks = marks_of(alloc, found.line, levels.as_slice())?;
     if let (Some(before), Some(now)) = (marks.first(), marks.last()) {
         text.push(&[*before])?;
@@ -299,13 +311,13 @@ fn push_excerpt(
     subject: &Subject<'_>,
     found: &Break,
 ) -> Result<(), AllocError> {
-    let capture = subject.capture;
+    let account = subject.account;
     let excerpt = excerpt_of(alloc, subject)?;
     let all = excerpt.levels.as_slice();
     let last = excerpt.last;
     let widths = Widths {
         names: names_width(alloc, subject, excerpt.lines.as_slice())?,
-        column: column_width(alloc, time_at(capture, last), excerpt.values.as_slice())?,
+        column: column_width(alloc, shown_time(account, last), excerpt.values.as_slice())?,
     };
     // as many of the instants as fit a line
     let columns = (LONGEST.saturating_sub(widths.names) / widths.column.max(1)).max(1);
@@ -322,7 +334,7 @@ fn push_excerpt(
     text.push(b"\n")?;
     push_padded(text, time_name(subject.time_scale).as_bytes(), widths.names)?;
     for instant in first..last.saturating_add(1) {
-        push_number(text, alloc, time_at(capture, instant), widths.column)?;
+        push_number(text, alloc, shown_time(account, instant), widths.column)?;
     }
     text.push(b"\n")?;
     for line in &excerpt.lines {

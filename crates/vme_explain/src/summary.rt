@@ -1,14 +1,12 @@
 //! What is told of a recording without a break.
 
-use crate::excerpt::levels_from;
-use crate::idle::{control_line, fit_lines, is_fit_in, moved_lines, rests_high};
+use crate::idle::control_line;
 use crate::page::{Subject, push_instant, push_open};
-use crate::rows::{Part, RowKind, count_of, last_reset, open_row};
 use crate::sources::bound_to;
 use std::alloc::{AllocError, Global};
-use vme_listing::Row;
+use vme_account::{Account, Part, RowKind, rests_high};
 use vme_text::Text;
-use vme_trace::{LINE_COUNT, Line, Lines, MOST_SLOTS};
+use vme_trace::{LINE_COUNT, Line, MOST_SLOTS};
 
 /// What was judged of a conforming recording, and what was pending at its end.
 pub(crate) fn push_summary(
@@ -16,18 +14,19 @@ pub(crate) fn push_summary(
     alloc: Global,
     subject: &Subject<'_>,
 ) -> Result<(), AllocError> {
-    let start = first_instant(subject.rows);
+    let account = subject.account;
+    let start = account.first_start().unwrap_or(0);
     text.push(b"\njudged: from instant ")?;
-    push_instant(text, alloc, subject.capture, start)?;
+    push_instant(text, alloc, account, start)?;
     text.push(b" to instant ")?;
-    push_instant(text, alloc, subject.capture, last_instant(subject))?;
+    push_instant(text, alloc, account, account.last_judged())?;
     text.push(b"\n")?;
     push_resets(text, alloc, subject)?;
     push_tenures(text, alloc, subject)?;
     push_counts(
         text,
         alloc,
-        subject.rows,
+        account,
         "cycles: ",
         &[
             (RowKind::Singles, " single, "),
@@ -39,7 +38,7 @@ pub(crate) fn push_summary(
     push_counts(
         text,
         alloc,
-        subject.rows,
+        account,
         "transfers: ",
         &[
             (RowKind::Reads, " read, "),
@@ -50,52 +49,32 @@ pub(crate) fn push_summary(
         ],
     )?;
     push_pending(text, alloc, subject)?;
-    push_unmoved(text, subject, start)
-}
-
-/// The idle instant from which on was judged.
-fn first_instant(rows: &[Row]) -> u32 {
-    match rows.first() {
-        Some(Row::Start { instant }) => *instant,
-        _ => 0,
-    }
-}
-
-/// The instant up to which was judged: that of the last reset, where the bus was idle at none behind it.
-fn last_instant(subject: &Subject<'_>) -> u32 {
-    let mut last = subject.capture.steps().len() as u32;
-    for row in subject.rows {
-        match row {
-            Row::Reset { instant } => last = *instant,
-            Row::Start { .. } => last = subject.capture.steps().len() as u32,
-            _ => {}
-        }
-    }
-    last
+    push_unmoved(text, subject)
 }
 
 /// Appends how many resets ended what was judged, and the last, where there is one.
 fn push_resets(text: &mut Text, alloc: Global, subject: &Subject<'_>) -> Result<(), AllocError> {
-    let Some(instant) = last_reset(subject.rows) else {
+    let account = subject.account;
+    let Some(instant) = account.last_reset() else {
         return Ok(());
     };
     text.push(b"resets: ")?;
-    text.push_decimal(alloc, count_of(RowKind::Resets, subject.rows) as u64)?;
+    text.push_decimal(alloc, account.count_of(RowKind::Resets))?;
     text.push(b", the last at instant ")?;
-    push_instant(text, alloc, subject.capture, instant)?;
+    push_instant(text, alloc, account, instant)?;
     text.push(b"\n")
 }
 
 fn push_counts(
     text: &mut Text,
     alloc: Global,
-    rows: &[Row],
+    account: &Account,
     name: &str,
     kinds: &[(RowKind, &str)],
 ) -> Result<(), AllocError> {
     text.push(name.as_bytes())?;
     for (kind, behind) in kinds {
-        text.push_decimal(alloc, count_of(*kind, rows) as u64)?;
+        text.push_decimal(alloc, account.count_of(*kind))?;
         text.push(behind.as_bytes())?;
     }
     Ok(())
@@ -103,12 +82,13 @@ fn push_counts(
 
 /// Appends how many tenures there are, by level and slot.
 fn push_tenures(text: &mut Text, alloc: Global, subject: &Subject<'_>) -> Result<(), AllocError> {
+    let account = subject.account;
     text.push(b"tenures: ")?;
-    text.push_decimal(alloc, count_of(RowKind::OpenTenures, subject.rows) as u64)?;
+    text.push_decimal(alloc, account.count_of(RowKind::OpenTenures))?;
     text.push(b" open before judging starts")?;
     for level in 0..4 {
         for slot in 1..MOST_SLOTS + 1 {
-            let count = count_of(RowKind::Tenures { level, slot }, subject.rows) as u64;
+            let count = account.count_of(RowKind::Tenures { level, slot });
             if count > 0 {
                 text.push(b", ")?;
                 text.push_decimal(alloc, count)?;
@@ -126,7 +106,7 @@ fn push_tenures(text: &mut Text, alloc: Global, subject: &Subject<'_>) -> Result
 fn push_pending(text: &mut Text, alloc: Global, subject: &Subject<'_>) -> Result<(), AllocError> {
     let is_any = [Part::Tenure, Part::Cycle, Part::Transfer]
         .iter()
-        .any(|part| open_row(*part, subject.rows).is_some());
+        .any(|part| subject.account.open_row(*part).is_some());
     if !is_any {
         return text.push(b"pending at the end: nothing\n");
     }
@@ -136,17 +116,17 @@ fn push_pending(text: &mut Text, alloc: Global, subject: &Subject<'_>) -> Result
 
 /// Whether the binding says what the level of a line is: it may leave out SYSRESET, which then never moves.
 fn is_bound(subject: &Subject<'_>, line: Line) -> bool {
-    bound_to(subject.binding, line, subject.capture.opening().slots()).is_some()
+    bound_to(subject.binding, line, subject.account.opening().slots()).is_some()
 }
 
 /// Appends the control lines that are bound and never moved where something was judged.
-fn push_unmoved(text: &mut Text, subject: &Subject<'_>, start: u32) -> Result<(), AllocError> {
-    let moved = moved_lines(subject.capture, start);
+fn push_unmoved(text: &mut Text, subject: &Subject<'_>) -> Result<(), AllocError> {
+    let account = subject.account;
     text.push(b"control lines that never moved:")?;
     let mut is_any = false;
     for number in 0..LINE_COUNT {
-        if let Some(line) = control_line(subject.capture.opening(), number) {
-            if !moved.has(line) && (line != Line::SYSRESET || is_bound(subject, line)) {
+        if let Some(line) = control_line(account.opening(), number) {
+            if !account.has_moved(line) && (line != Line::SYSRESET || is_bound(subject, line)) {
                 is_any = true;
                 text.push(b" ")?;
                 text.push(line.name().as_bytes())?;
@@ -178,12 +158,11 @@ pub(crate) fn push_never_idle(
         b"\nJudging starts where every control line is known, and AS, the strobes, the answers, all nets and SYSRESET \
 are High.\n",
     )?;
-    let end = subject.capture.steps().len();
-    let fit = fit_lines(subject.capture);
+    let account = subject.account;
     let mut is_any = false;
     for number in 0..LINE_COUNT {
-        if let Some(line) = control_line(subject.capture.opening(), number) {
-            if !fit.has(line) {
+        if let Some(line) = control_line(account.opening(), number) {
+            if !account.was_fit(line) {
                 is_any = true;
                 text.push(line.name().as_bytes())?;
                 text.push(wanted(line).as_bytes())?;
@@ -195,18 +174,16 @@ are High.\n",
         return Ok(());
     }
     text.push(b"Each line is so at some instant, but not all at once; at the last instant, ")?;
-    push_instant(text, alloc, subject.capture, end as u32)?;
+    push_instant(text, alloc, account, account.end())?;
     text.push(b":\n")?;
-    for lines in &levels_from(alloc, subject.capture, end, end)? {
-        push_unfit(text, lines)?;
-    }
-    Ok(())
+    push_unfit(text, account)
 }
 
-fn push_unfit(text: &mut Text, lines: &Lines) -> Result<(), AllocError> {
+/// Appends the lines that aren't at the end as an idle bus has them.
+fn push_unfit(text: &mut Text, account: &Account) -> Result<(), AllocError> {
     for number in 0..LINE_COUNT {
-        if let Some(line) = control_line(lines, number) {
-            if !is_fit_in(lines, line) {
+        if let Some(line) = control_line(account.opening(), number) {
+            if !account.is_fit(line) {
                 text.push(line.name().as_bytes())?;
                 text.push(wanted(line).as_bytes())?;
                 text.push(b"\n")?;

@@ -4,8 +4,7 @@ ghost use Rattle.std.specs.Prelude.{◌≡◌, ◌++◌, ℕ, IfOk, List, nat_eq
 ghost use Rattle.std.specs.List.{starts_with};
 ghost use Rattle.vme_explain.specs.Marks.{save_file_mark};
 
-use crate::excerpt::time_at;
-use crate::page::Subject;
+use crate::page::{Subject, shown_time};
 use crate::sources::{assignment_in, bits_before, bound_to, path_of, variable_of};
 use std::alloc::{AllocError, Global};
 use vcd_read::Variable;
@@ -125,7 +124,7 @@ fn push_broken(text: &mut Text, alloc: Global, subject: &Subject<'_>) -> Result<
         Verdict::Broken(found) | Verdict::Unreadable(found) => found.line,
         _ => return Ok(()),
     };
-    let Some(bound) = bound_to(subject.binding, line, subject.capture.opening().slots()) else {
+    let Some(bound) = bound_to(subject.binding, line, subject.account.opening().slots()) else {
         return Ok(());
     };
     let (path, _) = path_of(bound.source);
@@ -182,8 +181,7 @@ fn begins_unfit(bytes: &[u8]) -> bool {
 
 /// Appends where the picture begins, its scale, and the marker. The viewer counts them in the unit of the time scale.
 fn push_view(text: &mut Text, alloc: Global, subject: &Subject<'_>) -> Result<(), AllocError> {
-    let capture = subject.capture;
-    let end = capture.steps().len() as u32;
+    let account = subject.account;
     let (first, marker) = match subject.verdict {
         Verdict::Broken(Break { instant, time, .. })
         | Verdict::Unreadable(Break { instant, time, .. }) => {
@@ -191,10 +189,10 @@ fn push_view(text: &mut Text, alloc: Global, subject: &Subject<'_>) -> Result<()
         }
         _ => (0, None),
     };
-    let from = time_at(capture, first.max(1));
+    let from = shown_time(account, first.max(1));
     let to = match marker {
         Some(time) => time,
-        None => time_at(capture, end),
+        None => shown_time(account, account.end()),
     };
     let unit = subject.time_unit;
     let (from, to) = (from.saturating_mul(unit), to.saturating_mul(unit));

@@ -2,11 +2,11 @@
 
 ghost use Rattle.std.specs.Prelude.{◌≤◌};
 
-use crate::excerpt::levels_from;
 use crate::page::Subject;
 use crate::shown::lines_shown;
 use crate::values::{ValueRow, value_rows};
 use std::alloc::{AllocError, Global};
+use vme_account::Account;
 use vme_trace::{Break, Line, Lines, Verdict};
 
 /// How many instants an excerpt shows before and after the break.
@@ -37,26 +37,26 @@ pub fn break_of(verdict: &Verdict) -> Option<&Break> {
     }
 }
 
-/// The first and the last instant that are shown around one, in a recording that ends at this instant.
-fn window(around: u32, end: u32) -> (u32, u32)
+/// The first and the last instant that are shown around one, of those that are kept.
+fn window(account: &Account, around: u32) -> (u32, u32)
     ensures { result.0 ≤ result.1 }
 {
-    let last = around.saturating_add(BEHIND).min(end);
-    (around.saturating_sub(BEFORE).min(last), last)
+    let last = around.saturating_add(BEHIND).min(account.end());
+    let first = around.saturating_sub(BEFORE).max(account.first());
+    (first.min(last), last)
 }
 
 /// What is shown around the break, or at the end of the recording, where there is none.
 pub fn excerpt_of(alloc: Global, subject: &Subject<'_>) -> Result<Excerpt, AllocError> {
-    let capture = subject.capture;
-    let end = capture.steps().len() as u32;
+    let account = subject.account;
     let found = break_of(subject.verdict);
     let around = match found {
         Some(found) => found.instant,
-        None => end.saturating_sub(BEHIND),
+        None => account.end().saturating_sub(BEHIND),
     };
-    let (first, last) = window(around, end);
-    let levels = levels_from(alloc, capture, first as usize, last as usize)?;
-    let slots = capture.opening().slots();
+    let (first, last) = window(account, around);
+    let levels = account.levels_from(alloc, first, last)?;
+    let slots = account.opening().slots();
     let lines = lines_shown(alloc, found, slots, levels.as_slice())?;
     let values = value_rows(alloc, subject.binding, levels.as_slice(), lines.as_slice())?;
     Ok(Excerpt {

@@ -1,74 +1,11 @@
-use smallvec::SmallVec;
-use std::alloc::Global;
 use std::test::Fail;
 use vcd_read::{Variables, read_definitions};
+use vme_account::AccountVisitor;
 use vme_explain::{
-    Driver, FileId, Occurrence, Part, Present, RelatedEvent, RowKind, SaveRefusal, StepEvent,
-    Subject, count_of, driver_of, first_of, first_related_event, instant_of, is_one_file,
-    is_save_file, last_of, open_row, save_file, save_refusal, save_refusal_text,
-    second_related_event, time_name,
+    Driver, FileId, Present, SaveRefusal, Subject, driver_of, is_one_file, is_save_file, save_file,
+    save_refusal, save_refusal_text, time_name,
 };
-use vme_listing::{AnswerLine, Direction, Row};
-use vme_trace::{Break, Capture, Change, Changes, Level, Line, Lines, Rule, Step, Verdict};
-
-/// The rows of a read that closed and of one that didn't, in a tenure of slot 2.
-const ROWS: [Row; 4] = [
-    Row::Start { instant: 1 },
-    Row::Tenure {
-        start: 5,
-        level: 3,
-        slot: 2,
-        end: None,
-    },
-    Row::Transfer {
-        start: 10,
-        cycle: 9,
-        direction: Direction::Read,
-        line: AnswerLine::Dtack,
-        answer: 11,
-        close: Some(12),
-        lanes: None,
-    },
-    Row::PendingTransfer {
-        start: 14,
-        direction: Direction::Write,
-    },
-];
-
-#[test]
-fn rows_are_counted(rt: HostRuntime) -> Result<(), Fail> {
-    assert_eq!(rt; count_of(RowKind::Tenures { level: 3, slot: 2 }, &ROWS), 1);
-    assert_eq!(rt; count_of(RowKind::Tenures { level: 3, slot: 1 }, &ROWS), 0);
-    assert_eq!(rt; count_of(RowKind::Reads, &ROWS), 1);
-    assert_eq!(rt; count_of(RowKind::Writes, &ROWS), 0);
-    assert_eq!(rt; count_of(RowKind::Pending, &ROWS), 1);
-    Ok(())
-}
-
-#[test]
-fn what_was_open_at_a_reset_is_over(rt: HostRuntime) -> Result<(), Fail> {
-    let rows = [
-        ROWS[0],
-        ROWS[1],
-        Row::Reset { instant: 11 },
-        ROWS[0],
-        ROWS[3],
-    ];
-    assert!(rt; open_row(Part::Tenure, &rows).is_none());
-    assert!(rt; open_row(Part::Transfer, &rows) == Some(ROWS[3]));
-    assert!(rt; open_row(Part::Transfer, &rows[..3]).is_none());
-    assert_eq!(rt; count_of(RowKind::Resets, &rows), 1);
-    assert_eq!(rt; count_of(RowKind::Resets, &ROWS), 0);
-    Ok(())
-}
-
-#[test]
-fn open_rows_are_found(rt: HostRuntime) -> Result<(), Fail> {
-    assert!(rt; open_row(Part::Tenure, &ROWS) == Some(ROWS[1]));
-    assert!(rt; open_row(Part::Cycle, &ROWS).is_none());
-    assert!(rt; open_row(Part::Transfer, &ROWS) == Some(ROWS[3]));
-    Ok(())
-}
+use vme_trace::{Break, Line, Lines, Rule, Verdict};
 
 /// The definitions of a dump whose times are tens of nanoseconds, and of a vector without an index.
 const DEFINITIONS: &str = "$timescale 10 ns $end\n$scope module b $end\n$var wire 1 p AS $end\n\
@@ -85,7 +22,7 @@ fn the_viewer_counts_in_units_and_by_bits(rt: HostRuntime) -> Result<(), Fail> {
         assert!(rt; false);
         return Ok(());
     };
-    let Ok(capture) = Capture::new(opening, Vec::new(rt.alloc())) else {
+    let Ok(account) = AccountVisitor::new(rt.alloc(), &opening).finish() else {
         assert!(rt; false);
         return Ok(());
     };
@@ -96,8 +33,7 @@ fn the_viewer_counts_in_units_and_by_bits(rt: HostRuntime) -> Result<(), Fail> {
         line: Line::AS,
     });
     let subject = Subject {
-        capture: &capture,
-        rows: &[],
+        account: &account,
         verdict: &verdict,
         binding: b"slots 1\nAS = b.AS\nAM = b.AM\n",
         variables: variables.as_slice(),
@@ -165,87 +101,5 @@ fn no_input_and_no_file_of_others_is_written_over(rt: HostRuntime) -> Result<(),
     let text = save_refusal_text(rt.alloc(), "a\u{202E}\u{1B}", SaveRefusal::Dump)?;
     let shown = b"vmecheck: nothing is written over a\\xE2\\x80\\xAE\\x1B: it is the dump\n";
     assert_eq!(rt; text.as_bytes(), shown.as_slice());
-    Ok(())
-}
-
-/// A recording of one slot whose lines of the handshake are High, and then change one by one, at each instant one.
-fn recorded(alloc: Global, changes: &[(Line, Level)]) -> Result<Option<Capture>, Fail> {
-    let Some(mut opening) = Lines::new(1) else {
-        return Ok(None);
-    };
-    for line in [Line::AS, Line::DS0, Line::DS1, Line::DTACK, Line::BERR] {
-        if opening.has(line) {
-            opening.set(line, Level::High);
-        }
-    }
-    let mut steps = Vec::new(alloc);
-    for (line, level) in changes {
-        let change = Change {
-            line: *line,
-            level: *level,
-        };
-        let time = (steps.len() as u64).saturating_mul(10);
-        let changes = Changes::new(SmallVec::from_slice(alloc, &[change])?);
-        steps.push(Step { time, changes })?;
-    }
-    Ok(Capture::new(opening, steps).ok())
-}
-
-#[test]
-fn the_other_event_of_a_break_is_found(rt: HostRuntime) -> Result<(), Fail> {
-    let found = recorded(
-        rt.alloc(),
-        &[
-            (Line::AS, Level::Low),
-            (Line::DS0, Level::Low),
-            (Line::DTACK, Level::Low),
-            (Line::DS0, Level::High),
-            (Line::DTACK, Level::High),
-            (Line::DS0, Level::Low),
-            (Line::BERR, Level::Low),
-            (Line::DS1, Level::Low),
-        ],
-    )?;
-    let Some(capture) = found else {
-        assert!(rt; false);
-        return Ok(());
-    };
-    // the strobe that falls at instant 8 is behind the answer at 7, of the transfer that started at 6
-    let Some(answer) = first_related_event(Rule::H3, Line::DS1) else {
-        assert!(rt; false);
-        return Ok(());
-    };
-    assert!(rt; instant_of(&capture, &answer, 0, 8) == Some(7));
-    assert!(rt; instant_of(&capture, &answer, 0, 7).is_none());
-    let start = RelatedEvent {
-        event: StepEvent::TransferStarts,
-        occurrence: Occurrence::Last,
-    };
-    assert!(rt; first_related_event(Rule::H2, Line::DS0) == Some(start));
-    assert!(rt; instant_of(&capture, &start, 0, 8) == Some(6));
-    assert!(rt; instant_of(&capture, &start, 6, 8).is_none());
-    // the first answer of the cycle
-    let Some(first) = first_related_event(Rule::C1, Line::BERR) else {
-        assert!(rt; false);
-        return Ok(());
-    };
-    assert!(rt; instant_of(&capture, &first, 0, 7) == Some(3));
-    assert!(rt;
-        second_related_event(Rule::G5, Line::grant(2, 0))
-            == Some(RelatedEvent {
-                event: StepEvent::Falls(Line::bus_request(2)),
-                occurrence: Occurrence::Last
-            })
-    );
-    assert!(rt; second_related_event(Rule::H1, Line::DTACK).is_none());
-    // an acknowledge may start with its answer
-    let Some(acknowledge) = first_related_event(Rule::I4, Line::DTACK) else {
-        assert!(rt; false);
-        return Ok(());
-    };
-    assert!(rt; instant_of(&capture, &acknowledge, 0, 1) == Some(1));
-    assert!(rt; instant_of(&capture, &acknowledge, 1, 2).is_none());
-    assert!(rt; last_of(&capture, &StepEvent::StrobeRises, 1, 9) == Some(4));
-    assert!(rt; first_of(&capture, &StepEvent::AnswerFalls, 4, 9) == Some(7));
     Ok(())
 }

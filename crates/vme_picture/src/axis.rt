@@ -7,7 +7,7 @@ use crate::drawing::{
 use crate::layout::{CHARACTER, Layout, MARGIN, TOP};
 use crate::markup::Markup;
 use std::alloc::{AllocError, Global};
-use vme_explain::{OtherEvent, Subject, time_at, time_name};
+use vme_explain::{OtherEvent, Subject, shown_time, time_name};
 use vme_text::Text;
 use vme_trace::Break;
 
@@ -39,7 +39,7 @@ pub(crate) fn push_axis(
     for place in 0..layout.columns {
         let x = layout.edge(u64::from(place));
         let instant = layout.instant(place);
-        let time = time_at(subject.capture, instant);
+        let time = shown_time(subject.account, instant);
         push_number(markup, alloc, Point { x, y: INSTANTS }, u64::from(instant))?;
         push_number(markup, alloc, Point { x, y: TIMES }, time)?;
         push_point(&mut grid, alloc, b"M", Point { x, y: TOP })?;

@@ -1,7 +1,7 @@
 //! Where the columns and the rows of a picture stand, in its units: a quarter of a millimetre each.
 
 use std::alloc::{AllocError, Global};
-use vme_explain::{Excerpt, Subject, push_label, time_at, time_name};
+use vme_explain::{Excerpt, Subject, push_label, shown_time, time_name};
 use vme_text::Text;
 
 /// How wide a picture is: 160 mm.
@@ -53,7 +53,7 @@ impl Layout {
         excerpt: &Excerpt,
         broken: Option<u32>,
     ) -> Result<Layout, AllocError> {
-        let time = digits_of(alloc, time_at(subject.capture, excerpt.last))?;
+        let time = digits_of(alloc, shown_time(subject.account, excerpt.last))?;
         let names = names_width(alloc, subject, excerpt)?;
         // a time stands in the middle of where its column begins
         let left = MARGIN

@@ -2,9 +2,10 @@ use smallvec::SmallVec;
 use std::alloc::Global;
 use std::test::Fail;
 use vcd_read::{Variables, read_definitions};
+use vme_account::{Account, AccountVisitor};
 use vme_explain::Subject;
 use vme_picture::{Attribute, Attributes, Markup, Tag, is_picture, picture};
-use vme_trace::{Break, Capture, Change, Changes, Level, Line, Lines, Rule, Step, Verdict};
+use vme_trace::{Break, Change, Changes, Level, Line, Lines, Rule, Step, StepVisitor, Verdict};
 
 #[test]
 fn names_are_escaped_and_elements_are_closed(rt: HostRuntime) -> Result<(), Fail> {
@@ -33,8 +34,9 @@ const DEFINITIONS: &str =
     "$timescale 10 ns $end\n$scope module b $end\n$var wire 1 p <AS>&\"1\" $end\n\
 $upscope $end\n$enddefinitions $end\n";
 
-/// A recording of one slot whose lines of the handshake are High, and then change one by one, at each instant one.
-fn recorded(alloc: Global, changes: &[(Line, Level)]) -> Result<Option<Capture>, Fail> {
+/// The account of a recording of one slot whose lines of the handshake are High, and then change one by one, at each
+/// instant one.
+fn account_of(alloc: Global, changes: &[(Line, Level)]) -> Result<Option<Account>, Fail> {
     let Some(mut opening) = Lines::new(1) else {
         return Ok(None);
     };
@@ -43,17 +45,18 @@ fn recorded(alloc: Global, changes: &[(Line, Level)]) -> Result<Option<Capture>,
             opening.set(line, Level::High);
         }
     }
-    let mut steps = Vec::new(alloc);
+    let mut visitor = AccountVisitor::new(alloc, &opening);
+    let mut time: u64 = 0;
     for (line, level) in changes {
         let change = Change {
             line: *line,
             level: *level,
         };
-        let time = (steps.len() as u64).saturating_mul(10);
         let changes = Changes::new(SmallVec::from_slice(alloc, &[change])?);
-        steps.push(Step { time, changes })?;
+        visitor.step(alloc, Step { time, changes })?;
+        time = time.saturating_add(10);
     }
-    Ok(Capture::new(opening, steps).ok())
+    Ok(visitor.finish().ok())
 }
 
 #[test]
@@ -63,7 +66,7 @@ fn a_break_is_drawn(rt: HostRuntime) -> Result<(), Fail> {
         DEFINITIONS.as_bytes(),
         Variables::new(rt.alloc()),
     );
-    let found = recorded(
+    let found = account_of(
         rt.alloc(),
         &[
             (Line::BBSY, Level::High),
@@ -71,7 +74,7 @@ fn a_break_is_drawn(rt: HostRuntime) -> Result<(), Fail> {
             (Line::AS, Level::High),
         ],
     )?;
-    let (Ok((_, variables)), Some(capture)) = (definitions, found) else {
+    let (Ok((_, variables)), Some(account)) = (definitions, found) else {
         assert!(rt; false);
         return Ok(());
     };
@@ -82,8 +85,7 @@ fn a_break_is_drawn(rt: HostRuntime) -> Result<(), Fail> {
         line: Line::AS,
     });
     let subject = Subject {
-        capture: &capture,
-        rows: &[],
+        account: &account,
         verdict: &verdict,
         binding: b"slots 1\nAS = b.<AS>&\"1\"\n",
         variables: variables.as_slice(),

@@ -1,20 +1,6 @@
-use Rattle.std.proofs.Common.{◌≤◌, length, rules}
-use Rattle.std.proofs.lemmas.List.{places}
-use Rattle.std.specs.Prelude.{Some}
-use Rattle.vme_answer.specs.Answers.{dump_read}
-use Rattle.vme_stream.specs.Inputs.{longest_input}
-use Rattle.vme_answer.proofs.AnswerLemmas.{dump_read-whole, dump_refused}
-use Rattle.vme_commands.proofs.ExplainLemmas.{judged-undumped}
 use Rattle.vme_commands.proofs.explain.explained_by.Goals as goal
 
-pub returns-in-Ok-clause-read : goal.returns-in-Ok-clause-read
-returns-in-Ok-clause-read g c =
-    let given = rw c.as_slice.ensures.value at c.explained_in.ensures.read in
-    let short : length c.in-Ok.text.items ≤ longest_input = search (rules, places) in
-    (Some c.in-Ok.text.items, c.in-Ok.ensures.bytes, rw (dump_read-whole c.in-Ok.text.items short) given)
-
-pub returns-in-Err-clause-read : goal.returns-in-Err-clause-read
-returns-in-Err-clause-read g c =
-    let (bytes, reading, refused) = dump_refused _ _ c.read_all.result c.in-Err.fault c.in-Err.is
-    c.read_all.ensures.read c.read_all.ensures.too_long c.read_all.ensures.memory in
-    rw c.of_input.ensures (bytes, reading, judged-undumped c.args.skew c.args.bound.now (dump_read bytes) _ refused)
+pub returns-clause-read : goal.returns-clause-read
+returns-clause-read g c =
+    let (bytes, reading, given) = c.account_of_dump-account.ensures in
+    (bytes, reading, c.explained_account.ensures.read _ given)

@@ -1,0 +1,224 @@
+-- What is counted row by row is how many rows of each kind there are.
+use Rattle.std.proofs.Common.{◌≡◌, ◌≢◌, ◌+◌, ◌*◌, ◌<◌, ℕ, Bool, true, false, List, [], ◌∷◌, length, get_or, cond}
+use Rattle.std.proofs.Common.{refl, sym, ap, ◌∙◌, arith}
+use Rattle.std.specs.Prelude.{◌&&◌, ◌==◌, nat_lt, count_by}
+use Rattle.std.specs.List.{fold}
+use Rattle.std.proofs.lemmas.Bool.Decides.{nat_tests}
+use Rattle.std.proofs.lemmas.List.{get_or-replicate, get_or-set_same, get_or-set_other, length-set}
+use Rattle.std.proofs.lemmas.List.Sums.{sum_by-cons}
+use Rattle.std.specs.Prelude.{None}
+use Rattle.vme_listing.specs.declared.row.Row.{Row}
+use Rattle.vme_listing.specs.declared.row.Row.TheVariants as row
+use Rattle.vme_monitor.specs.declared.mark.Mark.{Mark}
+use Rattle.vme_summary.specs.MarkedRows.{rows_of}
+use Rattle.vme_account.proofs.KindLemmas.{kind-says-no-end, weight}
+use Rattle.vme_account.proofs.KnownLemmas.{all-knowns}
+use Rattle.vme_account.specs.RowCounts.{count_in, is_counted, is_place, no_rows, one_if, place_of, tenures_of}
+use Rattle.vme_account.specs.RowCounts.{with_one, with_row, with_tenure}
+use Rattle.vme_account.specs.Rows.{is_of}
+use Rattle.vme_account.specs.KnownRows.{knowns_from, pending_rows}
+use Rattle.vme_account.specs.UnendedRows.{nothing_open, opens}
+use Rattle.vme_account.specs.declared.row_counts.RowCounts.{RowCounts}
+use Rattle.vme_account.specs.declared.row_kind.RowKind.{RowKind}
+use Rattle.vme_account.specs.declared.row_kind.RowKind.TheVariants as kind
+
+no_more : (n : ℕ) → n ≡ n + 0
+no_more n = omega arith
+
+-- ---- the places of tenures
+
+both : (a b : Bool) → (a && b) ≡ true → (a ≡ true) × (b ≡ true)
+both true b h = (refl, h)
+both false b h = absurd (cc h)
+
+is_less : (a b : ℕ) → nat_lt a b ≡ true → a < b
+is_less a b h = grind (arith, nat_tests)
+
+is_equal : (a b : ℕ) → (a == b) ≡ true → a ≡ b
+is_equal a b h = grind (arith, nat_tests)
+
+equals : (a b : ℕ) → a ≡ b → (a == b) ≡ true
+equals a b h = grind (arith, nat_tests)
+
+within : (level slot : ℕ) → is_place level slot ≡ true → place_of level slot < 88
+within level slot is =
+    let tests = both (nat_lt level 4) (nat_lt slot 22) is in
+    bound level slot (is_less level 4 tests.0) (is_less slot 22 tests.1)
+  where
+    bound : (level slot : ℕ) → level < 4 → slot < 22 → level * 22 + slot < 88
+    bound level slot l s = omega (arith, l, s)
+
+-- two places that are one are of one level and one slot
+one_place : (level slot granted taken : ℕ) → is_place level slot ≡ true → is_place granted taken ≡ true
+    → (granted == level && taken == slot) ≡ false → place_of level slot ≢ place_of granted taken
+one_place level slot granted taken is other differs same =
+    let these = both (nat_lt level 4) (nat_lt slot 22) is in
+    let those = both (nat_lt granted 4) (nat_lt taken 22) other in
+    let levels : granted ≡ level = one_level level slot granted taken
+    (is_less slot 22 these.1) (is_less taken 22 those.1)
+    same in
+    let slots : taken ≡ slot = one_slot level slot granted taken levels same in
+    let is_one : (granted == level && taken == slot) ≡ true =
+    rw (equals granted level levels, equals taken slot slots) refl in
+    absurd (cc (sym differs ∙ is_one))
+  where
+    one_level : (level slot granted taken : ℕ) → slot < 22 → taken < 22 → level * 22 + slot ≡ granted * 22 + taken
+        → granted ≡ level
+    one_level level slot granted taken s t same = omega (arith, s, t, same)
+
+    one_slot : (level slot granted taken : ℕ) → granted ≡ level → level * 22 + slot ≡ granted * 22 + taken
+        → taken ≡ slot
+    one_slot level slot granted taken l same = omega (arith, l, same)
+
+same_place : (level slot granted taken : ℕ) → (granted == level && taken == slot) ≡ true
+    → (granted ≡ level) × (taken ≡ slot)
+same_place level slot granted taken same =
+    let tests = both (granted == level) (taken == slot) same in
+    (is_equal granted level tests.0, is_equal taken slot tests.1)
+
+module _ (tenures : List ℕ) (long : length tenures ≡ 88) (level slot : ℕ) (is : is_place level slot ≡ true) where
+  abbrev read : List ℕ → ℕ
+  read these = get_or these (place_of level slot) 0
+
+  shown : (these : List ℕ) → tenures_of these level slot ≡ read these
+  shown these = rw is refl
+
+  -- the same tenure once more
+  counted_here : read (with_one tenures (place_of level slot)) ≡ read tenures + 1
+  counted_here = get_or-set_same tenures (place_of level slot) (read tenures + 1) 0 (inside (within level slot is))
+    where
+      inside : place_of level slot < 88 → place_of level slot < length tenures
+      inside less = rw long less
+
+  module _ (granted taken : ℕ) where
+    abbrev is_this : Bool
+    is_this = granted == level && taken == slot
+
+    by_tests : (same placed : Bool) → is_this ≡ same → is_place granted taken ≡ placed
+        → read (cond placed (with_one tenures (place_of granted taken)) tenures) ≡ read tenures + one_if same
+    by_tests true placed e o = of_this (same_place level slot granted taken e)
+      where
+        of_this : (granted ≡ level) × (taken ≡ slot)
+            → read (cond placed (with_one tenures (place_of granted taken)) tenures) ≡ read tenures + 1
+        of_this h = placed_here placed (sym o ∙ (ap (λ (l : ℕ). is_place l taken) h.0 ∙ ap (is_place level) h.1 ∙ is))
+          where
+            placed_here : (p : Bool) → p ≡ true
+                → read (cond p (with_one tenures (place_of granted taken)) tenures) ≡ read tenures + 1
+            placed_here true e = rw (h.0, h.1) counted_here
+            placed_here false e = absurd (cc e)
+    by_tests false true e o =
+        get_or-set_other tenures (place_of granted taken) (place_of level slot)
+        (get_or tenures (place_of granted taken) 0 + 1) 0 (one_place level slot granted taken is o e)
+        ∙ no_more (read tenures)
+    by_tests false false e o = no_more (read tenures)
+
+    counted_there : read (cond (is_place granted taken) (with_one tenures (place_of granted taken)) tenures)
+        ≡ read tenures + one_if is_this
+    counted_there = by_tests is_this (is_place granted taken) refl refl
+
+  one_tenure : (r : Row) → read (with_tenure tenures r) ≡ read tenures + one_if (is_of (kind.Tenures level slot) r)
+  one_tenure (row.Start instant) = no_more (read tenures)
+  one_tenure (row.Reset instant) = no_more (read tenures)
+  one_tenure (row.OpenTenure start end) = no_more (read tenures)
+  one_tenure (row.Tenure start granted taken end) = counted_there granted taken
+  one_tenure (row.AddressedCycle start class modifier address end) = no_more (read tenures)
+  one_tenure (row.FreeCycle start modifier end) = no_more (read tenures)
+  one_tenure (row.InterruptCycle start granted end) = no_more (read tenures)
+  one_tenure (row.Transfer direction line start own answer end lanes) = no_more (read tenures)
+  one_tenure (row.PendingTransfer start direction) = no_more (read tenures)
+  one_tenure (row.Verdict outcome) = no_more (read tenures)
+
+-- as many counts stay
+stays_long : (tenures : List ℕ) (r : Row) → length tenures ≡ 88 → length (with_tenure tenures r) ≡ 88
+stays_long tenures (row.Tenure start level slot end) long = by_test (is_place level slot)
+  where
+    by_test : (placed : Bool) → length (cond placed (with_one tenures (place_of level slot)) tenures) ≡ 88
+    by_test true = length-set tenures (place_of level slot) (get_or tenures (place_of level slot) 0 + 1) ∙ long
+    by_test false = long
+stays_long tenures (row.Start instant) long = long
+stays_long tenures (row.Reset instant) long = long
+stays_long tenures (row.OpenTenure start end) long = long
+stays_long tenures (row.AddressedCycle start class modifier address end) long = long
+stays_long tenures (row.FreeCycle start modifier end) long = long
+stays_long tenures (row.InterruptCycle start granted end) long = long
+stays_long tenures (row.Transfer direction line start own answer end lanes) long = long
+stays_long tenures (row.PendingTransfer start direction) long = long
+stays_long tenures (row.Verdict outcome) long = long
+
+-- ---- one row more
+
+one_more : (c : RowCounts) (r : Row) (k : RowKind) → is_counted k ≡ true → length c.tenures ≡ 88
+    → count_in (with_row c r) k ≡ count_in c k + one_if (is_of k r)
+one_more c r kind.OpenTenures is long = refl
+one_more c r (kind.Tenures level slot) is long =
+    shown c.tenures long level slot is (with_tenure c.tenures r)
+    ∙ one_tenure c.tenures long level slot is r
+    ∙ ap (λ (n : ℕ). n + one_if (is_of (kind.Tenures level slot) r))
+    (sym (shown c.tenures long level slot is c.tenures))
+one_more c r kind.Singles is long = refl
+one_more c r kind.Blocks is long = refl
+one_more c r kind.Frees is long = refl
+one_more c r kind.Acknowledges is long = refl
+one_more c r kind.Reads is long = refl
+one_more c r kind.Writes is long = refl
+one_more c r kind.Done is long = refl
+one_more c r kind.Errors is long = refl
+one_more c r kind.Pending is long = refl
+one_more c r kind.Resets is long = refl
+
+-- some rows more
+pub some-more : (rows : List Row) (c : RowCounts) (k : RowKind) → is_counted k ≡ true → length c.tenures ≡ 88
+    → count_in (fold with_row c rows) k ≡ count_in c k + count_by (is_of k) rows
+some-more [] c k is long = no_more (count_in c k)
+some-more (r ∷ rows) c k is long =
+    let rest : count_in (fold with_row (with_row c r) rows) k
+    ≡ count_in (with_row c r) k + count_by (is_of k) rows =
+    some-more rows (with_row c r) k is (stays_long c.tenures r long) in
+    let first : count_by (is_of k) (r ∷ rows) ≡ one_if (is_of k r) + count_by (is_of k) rows =
+    sum_by-cons (λ (r : Row). one_if (is_of k r)) r rows in
+    let e : count_in (fold with_row (with_row c r) rows) k ≡ count_in c k + count_by (is_of k) (r ∷ rows) =
+    omega (arith, rest, first, one_more c r k is long) in
+    e
+
+none_yet : (k : RowKind) → is_counted k ≡ true → count_in no_rows k ≡ 0
+none_yet kind.OpenTenures is = refl
+none_yet (kind.Tenures level slot) is =
+    rw is (get_or-replicate 88 (place_of level slot) 0 0 (within level slot is))
+none_yet kind.Singles is = refl
+none_yet kind.Blocks is = refl
+none_yet kind.Frees is = refl
+none_yet kind.Acknowledges is = refl
+none_yet kind.Reads is = refl
+none_yet kind.Writes is = refl
+none_yet kind.Done is = refl
+none_yet kind.Errors is = refl
+none_yet kind.Pending is = refl
+none_yet kind.Resets is = refl
+
+-- ---- all rows of some marks
+
+-- what is counted by some marks, and by the end
+abbrev pub counts_of : List Mark → RowCounts
+counts_of ms = fold with_row (fold with_row no_rows (knowns_from nothing_open ms)) (pending_rows (opens ms).waiting)
+
+long_fold : (rows : List Row) (c : RowCounts) → length c.tenures ≡ 88 → length (fold with_row c rows).tenures ≡ 88
+long_fold [] c long = long
+long_fold (r ∷ rows) c long = long_fold rows (with_row c r) (stays_long c.tenures r long)
+
+-- as many are counted of each kind as there are in the listing of these marks
+pub all-counted : (k : RowKind) (ms : List Mark) → is_counted k ≡ true → count_in (counts_of ms) k
+    ≡ count_by (is_of k) (rows_of None ms)
+all-counted k ms is =
+    let knowns = knowns_from nothing_open ms in
+    let last = pending_rows (opens ms).waiting in
+    let none : length (no_rows).tenures ≡ 88 = refl in
+    let before : count_in (fold with_row no_rows knowns) k ≡ count_in no_rows k + count_by (is_of k) knowns =
+    some-more knowns no_rows k is none in
+    let behind : count_in (counts_of ms) k
+    ≡ count_in (fold with_row no_rows knowns) k + count_by (is_of k) last =
+    some-more last (fold with_row no_rows knowns) k is (long_fold knowns no_rows none) in
+    let all : count_by (is_of k) (rows_of None ms) ≡ count_by (is_of k) knowns + count_by (is_of k) last =
+    all-knowns (weight k) (kind-says-no-end k) ms in
+    let e : count_in (counts_of ms) k ≡ count_by (is_of k) (rows_of None ms) =
+    omega (arith, before, behind, none_yet k is, all) in
+    e

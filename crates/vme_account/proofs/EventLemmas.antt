@@ -1,0 +1,159 @@
+-- What happened last, and what first since then, one instant more.
+use Rattle.std.proofs.Common.{◌≡◌, ◌+◌, ◌<◌, ◌≤◌, ◌&&◌, ◌||◌, ℕ, zero, suc, Bool, true, false, cond, inl, inr, refl, ap}
+use Rattle.std.proofs.Common.{◌∙◌, add-one, arith}
+use Rattle.std.specs.Prelude.{Option, None, Some, is_some, nat_le, unwrap_or, if◌then◌else◌}
+use Rattle.std.proofs.lemmas.Bool.Decides.{nat_tests}
+use Rattle.vme_trace.specs.Instants.{any, greatest, least}
+use Rattle.vme_trace.proofs.OpenTransfers.{bool_cases}
+use Rattle.vme_trace.proofs.Ranges.{any-least, least-none}
+
+greatest-step : (p : ℕ → Bool) (f n : ℕ) → greatest p f (n + 1) ≡ (if nat_le f n && p n then Some n else greatest p f n)
+unfolding greatest
+greatest-step p f n = rw add-one refl
+
+least-step : (p : ℕ → Bool) (f n : ℕ) → least p f (n + 1) ≡ (if any p f n then least p f n else if nat_le f n
+    && p n then Some n else None)
+unfolding least
+least-step p f n = rw add-one refl
+
+any-some : (p : ℕ → Bool) (f n : ℕ) → any p f n ≡ is_some (least p f n)
+any-some p f n =
+    elim (bool_cases (any p f n)) [
+      | inl found ↦ let at = any-least p f n found in rw (found, at.1) refl
+      | inr none ↦ rw (none, least-none p f n none) refl
+    ]
+
+-- nothing happened in no instants
+pub greatest-nowhere : (p : ℕ → Bool) (f n : ℕ) → n ≤ f → greatest p f n ≡ None
+unfolding greatest
+greatest-nowhere p f zero le = refl
+greatest-nowhere p f (suc n) le = rw (not_from f n le, greatest-nowhere p f n (omega (arith, le))) refl
+  where
+    not_from : (f n : ℕ) → suc n ≤ f → nat_le f n ≡ false
+    not_from f n le = grind (arith, nat_tests)
+
+pub least-nowhere : (p : ℕ → Bool) (f n : ℕ) → n ≤ f → least p f n ≡ None
+unfolding least any
+least-nowhere p f n le = least-none p f n (none_from n le)
+  where
+    not_from : (f n : ℕ) → suc n ≤ f → nat_le f n ≡ false
+    not_from f n le = grind (arith, nat_tests)
+
+    none_from : (n : ℕ) → n ≤ f → any p f n ≡ false
+    none_from zero le = refl
+    none_from (suc n) le = rw (none_from n (omega (arith, le)), not_from f n le) refl
+
+from_first : (s i : ℕ) → s ≤ i → nat_le (s + 1) (i + 1) ≡ true
+from_first s i le = grind (arith, nat_tests)
+
+-- the last one, where it happens at the next instant, and where it doesn't
+pub last-now : (p : ℕ → Bool) (s i : ℕ) → s ≤ i → p (i + 1) ≡ true → greatest p (s + 1) (i + 1 + 1) ≡ Some (i + 1)
+last-now p s i le now = greatest-step p (s + 1) (i + 1) ∙ rw (from_first s i le, now) refl
+
+pub last-before : (p : ℕ → Bool) (s i : ℕ) → p (i + 1) ≡ false → greatest p (s + 1) (i + 1 + 1)
+    ≡ greatest p (s + 1) (i + 1)
+last-before p s i none = greatest-step p (s + 1) (i + 1) ∙ rw none (by_test (nat_le (s + 1) (i + 1)))
+  where
+    by_test : (b : Bool) → cond (b && false) (Some (i + 1)) (greatest p (s + 1) (i + 1))
+        ≡ greatest p (s + 1) (i + 1)
+    by_test true = refl
+    by_test false = refl
+
+-- ---- the first one since something else
+
+-- the last time that it happened, or else the first instant
+abbrev pub since_last : (ℕ → Bool) → ℕ → ℕ → ℕ
+since_last q s i = unwrap_or (greatest q (s + 1) (i + 1)) (s + 1)
+
+greatest_within : (q : ℕ → Bool) (f n i : ℕ) → greatest q f n ≡ Some i → i < n
+unfolding greatest
+greatest_within q f zero i h = absurd (cc h)
+greatest_within q f (suc n) i h = by_case (nat_le f n && q n) (greatest q f n) (greatest_within q f n i) h
+  where
+    by_case : (b : Bool) (o : Option ℕ) → (o ≡ Some i → i < n) → cond b (Some n) o ≡ Some i → i < suc n
+    by_case true o rest h = let same : n ≡ i = cc h in omega (arith, same)
+    by_case false o rest h = let less = rest h in omega (arith, less)
+
+since_within : (q : ℕ → Bool) (s i : ℕ) → s ≤ i → since_last q s i ≤ i + 1
+since_within q s i le = by_case (greatest q (s + 1) (i + 1)) refl
+  where
+    by_case : (o : Option ℕ) → greatest q (s + 1) (i + 1) ≡ o → unwrap_or o (s + 1) ≤ i + 1
+    by_case None e = omega (arith, le)
+    by_case (Some n) e = let less = greatest_within q (s + 1) (i + 1) n e in omega (arith, less)
+
+module _ (p q : ℕ → Bool) (s i : ℕ) (le : s ≤ i) where
+  abbrev first_since : ℕ → Option ℕ
+  first_since n = least p (since_last q s n) (n + 1)
+
+  -- it is sought anew where the other happens
+  pub since-now : q (i + 1) ≡ true → first_since (i + 1) ≡ (if p (i + 1) then Some (i + 1) else None)
+  since-now now =
+      let here : since_last q s (i + 1) ≡ i + 1 = ap (λ (o : Option ℕ). unwrap_or o (s + 1)) (last-now q s i le now) in
+      ap (λ (f : ℕ). least p f (i + 1 + 1)) here ∙ least-step p (i + 1) (i + 1)
+      ∙ rw (none_before, from_itself (i + 1)) refl
+    where
+      from_itself : (n : ℕ) → nat_le n n ≡ true
+      from_itself n = grind (arith, nat_tests)
+
+      none_before : any p (i + 1) (i + 1) ≡ false
+      none_before = any-some p (i + 1) (i + 1) ∙ ap is_some (least-nowhere p (i + 1) (i + 1) (omega arith))
+
+  -- and else the one that was found stays
+  pub since-before : q (i + 1) ≡ false → first_since (i + 1)
+      ≡ (if is_some (first_since i) then first_since i else if p (i + 1) then Some (i + 1) else None)
+  since-before none =
+      let same : since_last q s (i + 1) ≡ since_last q s i =
+      ap (λ (o : Option ℕ). unwrap_or o (s + 1)) (last-before q s i none) in
+      let f = since_last q s i in
+      ap (λ (f : ℕ). least p f (i + 1 + 1)) same ∙ least-step p f (i + 1)
+      ∙ rw (any-some p f (i + 1), reached f (since_within q s i le)) refl
+    where
+      reached : (f : ℕ) → f ≤ i + 1 → nat_le f (i + 1) ≡ true
+      reached f le = grind (arith, nat_tests)
+
+-- ---- the last of two
+
+-- the later of two instants
+abbrev pub later_instant : Option ℕ → Option ℕ → Option ℕ
+later_instant None o = o
+later_instant (Some a) None = Some a
+later_instant (Some a) (Some b) = if nat_le a b then Some b else Some a
+
+pub greatest-within : (q : ℕ → Bool) (f n i : ℕ) → greatest q f n ≡ Some i → i < n
+greatest-within q f n i h = greatest_within q f n i h
+
+pub greatest-either : (p q : ℕ → Bool) (f n : ℕ) → greatest (λ i. p i || q i) f n
+    ≡ later_instant (greatest p f n) (greatest q f n)
+unfolding greatest
+greatest-either p q f zero = refl
+greatest-either p q f (suc n) =
+    by_tests (nat_le f n) (p n) (q n) (greatest p f n) (greatest q f n) (greatest_within p f n) (greatest_within q f n)
+    (greatest-either p q f n)
+  where
+    not_from : (n b : ℕ) → b < n → nat_le n b ≡ false
+    not_from n b less = grind (arith, nat_tests)
+
+    is_from : (a n : ℕ) → a < n → nat_le a n ≡ true
+    is_from a n less = grind (arith, nat_tests)
+
+    by_itself : (b : Bool) → Some n ≡ cond b (Some n) (Some n)
+    by_itself true = refl
+    by_itself false = refl
+
+    first_later : (y : Option ℕ) → ((i : ℕ) → y ≡ Some i → i < n) → Some n ≡ later_instant (Some n) y
+    first_later None v = refl
+    first_later (Some b) v = rw (not_from n b (v b refl)) refl
+
+    second_later : (x : Option ℕ) → ((i : ℕ) → x ≡ Some i → i < n) → Some n ≡ later_instant x (Some n)
+    second_later None u = refl
+    second_later (Some a) u = rw (is_from a n (u a refl)) refl
+
+    by_tests : (r a b : Bool) (x y : Option ℕ) → ((i : ℕ) → x ≡ Some i → i < n) → ((i : ℕ) → y ≡ Some i → i < n)
+        → greatest (λ i. p i || q i) f n ≡ later_instant x y
+        → cond (r && (a || b)) (Some n) (greatest (λ i. p i || q i) f n)
+        ≡ later_instant (cond (r && a) (Some n) x) (cond (r && b) (Some n) y)
+    by_tests false a b x y u v e = e
+    by_tests true true true x y u v e = by_itself (nat_le n n)
+    by_tests true true false x y u v e = first_later y v
+    by_tests true false true x y u v e = second_later x u
+    by_tests true false false x y u v e = e

@@ -1,0 +1,128 @@
+-- Of which kind a row is doesn't depend on where the row ends.
+use Rattle.std.proofs.Common.{◌≡◌, ℕ, Option, None, Some, refl}
+use Rattle.vme_listing.specs.declared.row.Direction.{Direction}
+use Rattle.vme_listing.specs.declared.row.Row.{Row}
+use Rattle.vme_listing.specs.declared.row.Row.TheVariants as row
+use Rattle.vme_trace.specs.declared.class.Class.{Class}
+use Rattle.vme_trace.specs.declared.class.Class.TheVariants as class
+use Rattle.vme_monitor.specs.declared.mark.TransferAnswer.{TransferAnswer}
+use Rattle.vme_summary.specs.MarkedRows.{marked_answer, marked_cycle, marked_line}
+use Rattle.vme_account.proofs.KnownLemmas.{SaysNoEnd}
+use Rattle.vme_account.specs.RowCounts.{one_if}
+use Rattle.vme_account.specs.Rows.{is_of}
+use Rattle.vme_account.specs.declared.row_kind.RowKind.{RowKind}
+use Rattle.vme_account.specs.declared.row_kind.RowKind.TheVariants as kind
+
+-- one more of a kind
+abbrev pub weight : RowKind → Row → ℕ
+weight k r = one_if (is_of k r)
+
+open_tenure : (k : RowKind) (i : ℕ) (e : Option ℕ) → weight k (row.OpenTenure i e) ≡ weight k (row.OpenTenure i None)
+open_tenure kind.OpenTenures i e = refl
+open_tenure (kind.Tenures level slot) i e = refl
+open_tenure kind.Singles i e = refl
+open_tenure kind.Blocks i e = refl
+open_tenure kind.Frees i e = refl
+open_tenure kind.Acknowledges i e = refl
+open_tenure kind.Reads i e = refl
+open_tenure kind.Writes i e = refl
+open_tenure kind.Done i e = refl
+open_tenure kind.Errors i e = refl
+open_tenure kind.Pending i e = refl
+open_tenure kind.Resets i e = refl
+
+tenure : (k : RowKind) (i granted taken : ℕ) (e : Option ℕ)
+    → weight k (row.Tenure i granted taken e) ≡ weight k (row.Tenure i granted taken None)
+tenure kind.OpenTenures i granted taken e = refl
+tenure (kind.Tenures level slot) i granted taken e = refl
+tenure kind.Singles i granted taken e = refl
+tenure kind.Blocks i granted taken e = refl
+tenure kind.Frees i granted taken e = refl
+tenure kind.Acknowledges i granted taken e = refl
+tenure kind.Reads i granted taken e = refl
+tenure kind.Writes i granted taken e = refl
+tenure kind.Done i granted taken e = refl
+tenure kind.Errors i granted taken e = refl
+tenure kind.Pending i granted taken e = refl
+tenure kind.Resets i granted taken e = refl
+
+addressed : (k : RowKind) (i : ℕ) (c : Class) (modifier address : ℕ) (e : Option ℕ)
+    → weight k (row.AddressedCycle i c modifier address e) ≡ weight k (row.AddressedCycle i c modifier address None)
+addressed kind.OpenTenures i c modifier address e = refl
+addressed (kind.Tenures level slot) i c modifier address e = refl
+addressed kind.Singles i c modifier address e = refl
+addressed kind.Blocks i c modifier address e = refl
+addressed kind.Frees i c modifier address e = refl
+addressed kind.Acknowledges i c modifier address e = refl
+addressed kind.Reads i c modifier address e = refl
+addressed kind.Writes i c modifier address e = refl
+addressed kind.Done i c modifier address e = refl
+addressed kind.Errors i c modifier address e = refl
+addressed kind.Pending i c modifier address e = refl
+addressed kind.Resets i c modifier address e = refl
+
+free : (k : RowKind) (i modifier : ℕ) (e : Option ℕ)
+    → weight k (row.FreeCycle i modifier e) ≡ weight k (row.FreeCycle i modifier None)
+free kind.OpenTenures i modifier e = refl
+free (kind.Tenures level slot) i modifier e = refl
+free kind.Singles i modifier e = refl
+free kind.Blocks i modifier e = refl
+free kind.Frees i modifier e = refl
+free kind.Acknowledges i modifier e = refl
+free kind.Reads i modifier e = refl
+free kind.Writes i modifier e = refl
+free kind.Done i modifier e = refl
+free kind.Errors i modifier e = refl
+free kind.Pending i modifier e = refl
+free kind.Resets i modifier e = refl
+
+interrupt : (k : RowKind) (i asked : ℕ) (e : Option ℕ)
+    → weight k (row.InterruptCycle i asked e) ≡ weight k (row.InterruptCycle i asked None)
+interrupt kind.OpenTenures i asked e = refl
+interrupt (kind.Tenures level slot) i asked e = refl
+interrupt kind.Singles i asked e = refl
+interrupt kind.Blocks i asked e = refl
+interrupt kind.Frees i asked e = refl
+interrupt kind.Acknowledges i asked e = refl
+interrupt kind.Reads i asked e = refl
+interrupt kind.Writes i asked e = refl
+interrupt kind.Done i asked e = refl
+interrupt kind.Errors i asked e = refl
+interrupt kind.Pending i asked e = refl
+interrupt kind.Resets i asked e = refl
+
+transfer : (k : RowKind) (i : ℕ) (d : Direction) (e : Option ℕ) (r cycle : ℕ) (a : TransferAnswer)
+    → weight k (row.Transfer d (marked_line a.line) i cycle r e a.lanes)
+    ≡ weight k (row.Transfer d (marked_line a.line) i cycle r None a.lanes)
+transfer kind.OpenTenures i d e r cycle a = refl
+transfer (kind.Tenures level slot) i d e r cycle a = refl
+transfer kind.Singles i d e r cycle a = refl
+transfer kind.Blocks i d e r cycle a = refl
+transfer kind.Frees i d e r cycle a = refl
+transfer kind.Acknowledges i d e r cycle a = refl
+transfer kind.Reads i d e r cycle a = refl
+transfer kind.Writes i d e r cycle a = refl
+transfer kind.Done i d e r cycle a = refl
+transfer kind.Errors i d e r cycle a = refl
+transfer kind.Pending i d e r cycle a = refl
+transfer kind.Resets i d e r cycle a = refl
+
+pub kind-says-no-end : (k : RowKind) → SaysNoEnd (weight k)
+kind-says-no-end k = record {
+  open_tenure = open_tenure k;
+  tenure = tenure k;
+  cycle = by_class;
+  answer = by_cycle;
+}
+  where
+    by_class : (i modifier address : ℕ) (e : Option ℕ) (c : Class)
+        → weight k (marked_cycle i modifier address e c) ≡ weight k (marked_cycle i modifier address None c)
+    by_class i modifier address e class.S = addressed k i class.S modifier _ e
+    by_class i modifier address e class.K = addressed k i class.K modifier _ e
+    by_class i modifier address e class.F = free k i modifier e
+    by_class i modifier address e class.I = interrupt k i _ e
+
+    by_cycle : (i : ℕ) (d : Direction) (e : Option ℕ) (r : ℕ) (latest : Option ℕ) (a : TransferAnswer)
+        → weight k (marked_answer i d e r latest a) ≡ weight k (marked_answer i d None r latest a)
+    by_cycle i d e r None a = refl
+    by_cycle i d e r (Some cycle) a = transfer k i d e r cycle a

@@ -1,0 +1,202 @@
+-- The rows that are known one by one are those of all marks, but for where they end.
+use Rattle.std.proofs.Common.{◌≡◌, ◌+◌, ℕ, Bool, true, false, List, [], ◌∷◌, ◌++◌, Option, None, Some}
+use Rattle.std.proofs.Common.{refl, ap, arith}
+use Rattle.std.specs.Prelude.{◌||◌, if◌then◌else◌}
+use Rattle.std.specs.List.{fold, sum_by}
+use Rattle.std.specs.Option.{option_map_or}
+use Rattle.std.proofs.lemmas.List.Sums.{sum_by-append, sum_by-cons}
+use Rattle.vme_listing.specs.declared.row.Direction.{Direction}
+use Rattle.vme_listing.specs.declared.row.Row.{Row}
+use Rattle.vme_listing.specs.declared.row.Row.TheVariants as row
+use Rattle.vme_trace.specs.declared.class.Class.{Class}
+use Rattle.vme_monitor.specs.declared.mark.Mark.{Mark}
+use Rattle.vme_monitor.specs.declared.mark.MarkKind.{MarkKind}
+use Rattle.vme_monitor.specs.declared.mark.MarkKind.TheVariants as kind
+use Rattle.vme_monitor.specs.declared.mark.TransferAnswer.{TransferAnswer}
+use Rattle.vme_summary.specs.MarkedRows.{answer_of, cycle_after, first_instant, is_close, is_cycle_end, is_reset}
+use Rattle.vme_summary.specs.MarkedRows.{is_tenure_end, is_transfer, marked_answer, marked_cycle, marked_direction}
+use Rattle.vme_summary.specs.MarkedRows.{marked_transfer, rows_of}
+use Rattle.vme_account.specs.KnownRows.{answered_row, answered_rows, known_at, knowns_from, pending_rows}
+use Rattle.vme_account.specs.UnendedRows.{closed, nothing_open, open_after, open_next, opens, pending_row}
+use Rattle.vme_account.specs.declared.open_rows.UnendedRows.{UnendedRows}
+use Rattle.vme_account.specs.declared.open_rows.Waiting.{Waiting}
+
+abbrev mark : ℕ → MarkKind → Mark
+mark i k = record { instant = i; kind = k }
+
+-- a number for each row that doesn't depend on where the row ends
+pub record SaysNoEnd (f : Row → ℕ) : Type 0 where
+  pub open_tenure : (i : ℕ) (e : Option ℕ) → f (row.OpenTenure i e) ≡ f (row.OpenTenure i None)
+  pub tenure : (i level slot : ℕ) (e : Option ℕ) → f (row.Tenure i level slot e) ≡ f (row.Tenure i level slot None)
+  pub cycle : (i modifier address : ℕ) (e : Option ℕ) (c : Class)
+      → f (marked_cycle i modifier address e c) ≡ f (marked_cycle i modifier address None c)
+  pub answer : (i : ℕ) (d : Direction) (e : Option ℕ) (r : ℕ) (latest : Option ℕ) (a : TransferAnswer)
+      → f (marked_answer i d e r latest a) ≡ f (marked_answer i d None r latest a)
+
+module _ (f : Row → ℕ) (no_end : SaysNoEnd f) where
+  abbrev pub total : List Row → ℕ
+  total rows = sum_by f rows
+
+  one : (r : Row) → total (r ∷ []) ≡ f r
+  one r = let e : total (r ∷ []) ≡ f r + total [] = sum_by-cons f r [] in
+      let n : total [] ≡ 0 = refl in omega (arith, e, n)
+
+  same_close : (i : ℕ) (d : Direction) (e latest : Option ℕ) (ms : List Mark)
+      → f (marked_transfer i d e latest ms) ≡ f (marked_transfer i d None latest ms)
+  same_close i d e latest [] = refl
+  same_close i d e latest (m ∷ ms) = by_answer (same_close i d e (cycle_after latest m) ms) (answer_of m.kind)
+    where
+      by_test : f (marked_transfer i d e (cycle_after latest m) ms)
+          ≡ f (marked_transfer i d None (cycle_after latest m) ms) → (ends : Bool)
+          → f (if ends then row.PendingTransfer i d else marked_transfer i d e (cycle_after latest m) ms)
+          ≡ f (if ends then row.PendingTransfer i d else marked_transfer i d None (cycle_after latest m) ms)
+      by_test rest true = refl
+      by_test rest false = rest
+
+      by_answer : f (marked_transfer i d e (cycle_after latest m) ms)
+          ≡ f (marked_transfer i d None (cycle_after latest m) ms) → (a : Option TransferAnswer)
+          → f (option_map_or (marked_answer i d e m.instant latest) a (if is_transfer m.kind || is_reset m.kind
+          then row.PendingTransfer i d else marked_transfer i d e (cycle_after latest m) ms))
+          ≡ f (option_map_or (marked_answer i d None m.instant latest) a (if is_transfer m.kind || is_reset m.kind
+          then row.PendingTransfer i d else marked_transfer i d None (cycle_after latest m) ms))
+      by_answer rest None = by_test rest (is_transfer m.kind || is_reset m.kind)
+      by_answer rest (Some a) = no_end.answer i d e m.instant latest a
+
+  -- the transfer that waits, by the marks that follow
+  abbrev waiting_row : Option ℕ → List Mark → Waiting → Row
+  waiting_row latest ms w = marked_transfer w.start w.direction None latest ms
+
+  abbrev waiting_rows : Option Waiting → Option ℕ → List Mark → List Row
+  waiting_rows w latest ms = option_map_or (λ w. waiting_row latest ms w ∷ []) w []
+
+  abbrev value : UnendedRows → List Mark → ℕ
+  value o ms = total (waiting_rows o.waiting o.latest ms) + total (rows_of o.latest ms)
+
+  -- a mark that begins a row
+  begins : (r shown : Row) (rows : List Row) → f shown ≡ f r → total (shown ∷ rows) ≡ total (r ∷ []) + total rows
+  begins r shown rows same = omega (arith, sum_by-cons f shown rows, one r, same)
+
+  -- what the others leave as it is
+  waits : (i : ℕ) (k : MarkKind) (w : Option Waiting) (latest next : Option ℕ) (ms : List Mark)
+      → ((w : Waiting) → waiting_row latest (mark i k ∷ ms) w ≡ waiting_row next ms w)
+      → total (waiting_rows w latest (mark i k ∷ ms)) ≡ total (waiting_rows w next ms)
+  waits i k None latest next ms same = refl
+  waits i k (Some w) latest next ms same = ap (λ (r : Row). total (r ∷ [])) (same w)
+
+  left : (i : ℕ) (k : MarkKind) (w : Option Waiting) (latest : Option ℕ) (ms : List Mark)
+      → ((w : Waiting) → waiting_row latest (mark i k ∷ ms) w ≡ pending_row w)
+      → total (waiting_rows w latest (mark i k ∷ ms)) ≡ total (pending_rows w)
+  left i k None latest ms same = refl
+  left i k (Some w) latest ms same = ap (λ (r : Row). total (r ∷ [])) (same w)
+
+  answers : (o : UnendedRows) (i : ℕ) (k : MarkKind) (a : TransferAnswer) (ms : List Mark)
+      → ((w : Waiting) → waiting_row o.latest (mark i k ∷ ms) w ≡ answered_row i a o.latest w)
+      → total (waiting_rows o.waiting o.latest (mark i k ∷ ms)) ≡ total (answered_rows i a o)
+  answers o i k a ms same = by_waiting o.waiting
+    where
+      by_waiting : (w : Option Waiting) → total (waiting_rows w o.latest (mark i k ∷ ms))
+          ≡ total (option_map_or (λ w. answered_row i a o.latest w ∷ []) w [])
+      by_waiting None = refl
+      by_waiting (Some w) = ap (λ (r : Row). total (r ∷ [])) (same w)
+
+  none : total [] ≡ 0
+  none = refl
+
+  step : (o : UnendedRows) (i : ℕ) (k : MarkKind) (ms : List Mark) → value o (mark i k ∷ ms)
+      ≡ total (known_at i k o) + value (open_after i k o) ms
+  step o i kind.Reset ms =
+      let rows : total (rows_of o.latest (mark i kind.Reset ∷ ms)) ≡ f (row.Reset i) + total (rows_of None ms) =
+      sum_by-cons f (row.Reset i) (rows_of None ms) in
+      let known : total (pending_rows o.waiting ++ row.Reset i ∷ []) ≡ total (pending_rows o.waiting)
+      + total (row.Reset i ∷ []) = sum_by-append f (pending_rows o.waiting) (row.Reset i ∷ []) in
+      let e : value o (mark i kind.Reset ∷ ms) ≡ total (pending_rows o.waiting ++ row.Reset i ∷ [])
+      + (total [] + total (rows_of None ms)) =
+      omega (arith, rows, known, one (row.Reset i), none, left i kind.Reset o.waiting o.latest ms (λ w. refl)) in
+      e
+  step o i kind.Start ms =
+      omega (
+        arith,
+        begins (row.Start i) (row.Start i) (rows_of o.latest ms) refl,
+        waits i kind.Start o.waiting o.latest o.latest ms (λ w. refl),
+      )
+  step o i kind.Open ms =
+      omega (
+        arith,
+        begins (row.OpenTenure i None) (row.OpenTenure i (first_instant is_tenure_end ms)) (rows_of o.latest ms)
+            (no_end.open_tenure i (first_instant is_tenure_end ms)),
+        waits i kind.Open o.waiting o.latest o.latest ms (λ w. refl),
+      )
+  step o i (kind.Tenure level slot) ms =
+      omega (
+        arith,
+        begins (row.Tenure i level slot None) (row.Tenure i level slot (first_instant is_tenure_end ms))
+            (rows_of o.latest ms) (no_end.tenure i level slot (first_instant is_tenure_end ms)),
+        waits i (kind.Tenure level slot) o.waiting o.latest o.latest ms (λ w. refl),
+      )
+  step o i kind.TenureEnd ms =
+      omega (arith, none, waits i kind.TenureEnd o.waiting o.latest o.latest ms (λ w. refl))
+  step o i (kind.Cycle c modifier address) ms =
+      omega (
+        arith,
+        begins (marked_cycle i modifier address None c)
+            (marked_cycle i modifier address (first_instant is_cycle_end ms) c) (rows_of (Some i) ms)
+            (no_end.cycle i modifier address (first_instant is_cycle_end ms) c),
+        waits i (kind.Cycle c modifier address) o.waiting o.latest (Some i) ms (λ w. refl),
+      )
+  step o i kind.CycleEnd ms =
+      omega (arith, none, waits i kind.CycleEnd o.waiting o.latest o.latest ms (λ w. refl))
+  step o i (kind.Transfer write) ms =
+      let d : Direction = marked_direction write in
+      let w : Waiting = record { start = i; direction = d; close = None } in
+      let shown : Row = marked_transfer i d (first_instant is_close ms) o.latest ms in
+      let rows : total (rows_of o.latest (mark i (kind.Transfer write) ∷ ms)) ≡ f shown + total (rows_of o.latest ms) =
+      sum_by-cons f shown (rows_of o.latest ms) in
+      let e : value o (mark i (kind.Transfer write) ∷ ms) ≡ total (pending_rows o.waiting)
+      + (total (waiting_row o.latest ms w ∷ []) + total (rows_of o.latest ms)) =
+      omega (
+        arith,
+        rows,
+        same_close i d (first_instant is_close ms) o.latest ms,
+        one (waiting_row o.latest ms w),
+        left i (kind.Transfer write) o.waiting o.latest ms (λ w. refl),
+      ) in
+      e
+  step o i (kind.Answer line) ms =
+      omega (arith, none, answers o i (kind.Answer line) (record { line = line; lanes = None }) ms (λ w. refl))
+  step o i (kind.WriteAnswer line moved unknown written) ms =
+      omega (
+        arith,
+        none,
+        answers o i (kind.WriteAnswer line moved unknown written)
+            (record { line = line; lanes = Some (record { moved = moved; unknown = unknown; value = written }) }) ms
+            (λ w. refl),
+      )
+  step o i kind.Close ms = omega (arith, none, closes o.waiting)
+    where
+      closes : (w : Option Waiting) → total (waiting_rows w o.latest (mark i kind.Close ∷ ms))
+          ≡ total (waiting_rows (closed i w) o.latest ms)
+      closes None = refl
+      closes (Some w) = refl
+
+  last_waiting : (w : Option Waiting) (latest : Option ℕ) → total (waiting_rows w latest []) ≡ total (pending_rows w)
+  last_waiting None latest = refl
+  last_waiting (Some w) latest = refl
+
+  knowns : (o : UnendedRows) (ms : List Mark) → value o ms
+      ≡ total (knowns_from o ms) + total (pending_rows (fold open_next o ms).waiting)
+  knowns o [] = omega (arith, none, last_waiting o.waiting o.latest)
+  knowns o (m ∷ ms) =
+      let o2 : UnendedRows = open_next o m in
+      let all : total (knowns_from o (m ∷ ms)) ≡ total (known_at m.instant m.kind o) + total (knowns_from o2 ms) =
+      sum_by-append f (known_at m.instant m.kind o) (knowns_from o2 ms) in
+      let e : value o (m ∷ ms) ≡ total (knowns_from o (m ∷ ms)) + total (pending_rows (fold open_next o2 ms).waiting) =
+      omega (arith, step o m.instant m.kind ms, knowns o2 ms, all) in
+      e
+
+  -- the rows of all marks
+  pub all-knowns : (ms : List Mark) → total (rows_of None ms)
+      ≡ total (knowns_from nothing_open ms) + total (pending_rows (opens ms).waiting)
+  all-knowns ms =
+      let whole : total [] + total (rows_of None ms)
+      ≡ total (knowns_from nothing_open ms) + total (pending_rows (opens ms).waiting) = knowns nothing_open ms in
+      omega (arith, none, whole)

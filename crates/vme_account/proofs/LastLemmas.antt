@@ -1,0 +1,336 @@
+-- What is noted step by step is what happened last.
+use Rattle.std.proofs.Common.{◌≡◌, ◌≢◌, ◌+◌, ◌-◌, ◌<◌, ◌≤◌, ℕ, zero, suc, Bool, true, false, List, [], ◌∷◌}
+use Rattle.std.proofs.Common.{length, set, get_or}
+use Rattle.std.proofs.Common.{Option, None, Some, refl, sym, subst, ap, ◌∙◌, arith, replicate}
+use Rattle.std.specs.Prelude.{◌&&◌, ◌||◌, ◌==◌, is_some, if◌then◌else◌}
+use Rattle.std.proofs.lemmas.Bool.Decides.{nat_tests}
+use Rattle.std.proofs.lemmas.List.{get_or-set_same, get_or-set_other, length-replicate, length-set}
+use Rattle.vme_trace.specs.Changes.{is_changed}
+use Rattle.vme_trace.specs.Edges.{starts_between}
+use Rattle.vme_trace.specs.Instants.{greatest, least}
+use Rattle.vme_trace.specs.Levels.{Levels, is_high, is_low}
+use Rattle.vme_trace.specs.LineNumbers.{AS, BERR, DTACK, line_count}
+use Rattle.vme_trace.specs.Trace.{Trace, changed, levels_at, time_at}
+use Rattle.vme_trace.specs.declared.level.Level.{Level}
+use Rattle.vme_trace.specs.declared.level.Level.TheVariants.{High, Low, Unknown}
+use Rattle.vme_trace.specs.declared.step.Change.{Change}
+use Rattle.vme_trace.proofs.Changing.{level-kept, slots-kept}
+use Rattle.vme_account.proofs.EventLemmas.{greatest-nowhere, last-before, last-now, least-nowhere}
+use Rattle.vme_account.proofs.EventLemmas.{since-before, since-now}
+use Rattle.vme_account.specs.LastEvents.{AreLast, first_or, handshake_after, last_after, moment, moment_at, no_events}
+use Rattle.vme_account.specs.LastEvents.{noted, now_or, unless}
+use Rattle.vme_account.specs.RelatedEvents.{falls_shown, happens, happens_between, rises_shown, shown_on, since}
+use Rattle.vme_account.specs.declared.last_events.LastEvents.{LastEvents}
+use Rattle.vme_account.specs.declared.last_events.Moment.{Moment}
+use Rattle.vme_account.specs.declared.related_event.StepEvent.{StepEvent}
+use Rattle.vme_account.specs.declared.related_event.StepEvent.TheVariants.{AnswerFalls, Falls, Rises, TransferStarts}
+
+-- ---- an edge is one of a line that changes
+
+same_level_no_fall : (x : Level) → (is_high x && is_low x) ≡ false
+same_level_no_fall Low = refl
+same_level_no_fall High = refl
+same_level_no_fall Unknown = refl
+
+same_level_no_rise : (x : Level) → (is_low x && is_high x) ≡ false
+same_level_no_rise Low = refl
+same_level_no_rise High = refl
+same_level_no_rise Unknown = refl
+
+shown-kept : (v : Levels) (cs : List Change) (l : ℕ) → is_changed cs l ≡ false → shown_on (changed v cs) l
+    ≡ shown_on v l
+shown-kept v cs l h = rw (slots-kept v cs, level-kept v cs l h) refl
+
+no_fall : (v : Levels) (cs : List Change) (l : ℕ) → is_changed cs l ≡ false → falls_shown v (changed v cs) l ≡ false
+no_fall v cs l h = ap (λ (x : Level). is_high (shown_on v l) && is_low x) (shown-kept v cs l h)
+    ∙ same_level_no_fall (shown_on v l)
+
+no_rise : (v : Levels) (cs : List Change) (l : ℕ) → is_changed cs l ≡ false → rises_shown v (changed v cs) l ≡ false
+no_rise v cs l h = ap (λ (x : Level). is_low (shown_on v l) && is_high x) (shown-kept v cs l h)
+    ∙ same_level_no_rise (shown_on v l)
+
+-- ---- the places of the lines
+
+module _ (is : ℕ → Bool) (m : Moment) where
+  abbrev one : List (Option Moment) → Change → List (Option Moment)
+  one table c = if is c.line then set table c.line (Some m) else table
+
+  long_one : (table : List (Option Moment)) (c : Change) → length (one table c) ≡ length table
+  long_one table c = by_test (is c.line)
+    where
+      by_test : (b : Bool) → length (if b then set table c.line (Some m) else table) ≡ length table
+      by_test true = length-set table c.line (Some m)
+      by_test false = refl
+
+  pub noted-long : (cs : List Change) (table : List (Option Moment)) → length (noted is m table cs) ≡ length table
+  noted-long [] table = refl
+  noted-long (c ∷ cs) table = noted-long cs (one table c) ∙ long_one table c
+
+  module _ (l : ℕ) where
+    abbrev at : List (Option Moment) → Option Moment
+    at table = get_or table l None
+
+    -- of another line it stays
+    other_one : is l ≡ false → (table : List (Option Moment)) (c : Change) → at (one table c) ≡ at table
+    other_one none table c = by_tests (is c.line) refl
+      where
+        by_tests : (b : Bool) → is c.line ≡ b → at (if b then set table c.line (Some m) else table) ≡ at table
+        by_tests false e = refl
+        by_tests true e = get_or-set_other table c.line l (Some m) None (differs)
+          where
+            differs : l ≢ c.line
+            differs same = absurd (cc (sym none ∙ ap is same ∙ e))
+
+    pub noted-other : is l ≡ false → (cs : List Change) (table : List (Option Moment)) → at (noted is m table cs)
+        ≡ at table
+    noted-other none [] table = refl
+    noted-other none (c ∷ cs) table = noted-other none cs (one table c) ∙ other_one none table c
+
+    -- once it is noted, it stays so
+    stays_one : (table : List (Option Moment)) (c : Change) → l < length table → at table ≡ Some m
+        → at (one table c) ≡ Some m
+    stays_one table c less here = by_test (is c.line)
+      where
+        by_place : (same : Bool) → (l == c.line) ≡ same → at (set table c.line (Some m)) ≡ Some m
+        by_place true e = get_or-set_here (grind (arith, nat_tests, e))
+          where
+            get_or-set_here : l ≡ c.line → at (set table c.line (Some m)) ≡ Some m
+            get_or-set_here same = ap (λ (i : ℕ). at (set table i (Some m))) (sym same)
+                ∙ get_or-set_same table l (Some m) None less
+        by_place false e = get_or-set_other table c.line l (Some m) None (grind (arith, nat_tests, e)) ∙ here
+
+        by_test : (b : Bool) → at (if b then set table c.line (Some m) else table) ≡ Some m
+        by_test true = by_place (l == c.line) refl
+        by_test false = here
+
+    noted_stays : (cs : List Change) (table : List (Option Moment)) → l < length table → at table ≡ Some m
+        → at (noted is m table cs) ≡ Some m
+    noted_stays [] table less here = here
+    noted_stays (c ∷ cs) table less here =
+        noted_stays cs (one table c) (rw (long_one table c) less) (stays_one table c less here)
+
+    pub noted-same : is l ≡ true → (cs : List Change) (table : List (Option Moment)) → l < length table
+        → is_changed cs l ≡ true → at (noted is m table cs) ≡ Some m
+    noted-same now [] table less h = absurd (cc h)
+    noted-same now (c ∷ cs) table less h =
+        by_place (c.line == l) refl h
+        (noted-same now cs (one table c) (rw (long_one table c) less))
+      where
+        in_table : l < length (one table c)
+        in_table = rw (long_one table c) less
+
+        here : c.line ≡ l → at (one table c) ≡ Some m
+        here same = ap (λ (b : Bool). at (if b then set table c.line (Some m) else table)) (ap is same ∙ now)
+            ∙ (ap (λ (i : ℕ). at (set table i (Some m))) same ∙ get_or-set_same table l (Some m) None less)
+
+        by_place : (same : Bool) → (c.line == l) ≡ same → (same || is_changed cs l) ≡ true
+            → (is_changed cs l ≡ true → at (noted is m (one table c) cs) ≡ Some m)
+            → at (noted is m (one table c) cs) ≡ Some m
+        by_place true e o rest = noted_stays cs (one table c) in_table (here (grind (arith, nat_tests, e)))
+        by_place false e o rest = rest o
+
+-- ---- one instant more
+
+before-next : (i : ℕ) → i + 1 - 1 ≡ i
+before-next i = omega arith
+
+-- what happens in the step
+pub happens-next : (t : Trace) (i : ℕ) (v w : Levels) → v ≡ levels_at t i → w ≡ levels_at t (i + 1) → (e : StepEvent)
+    → happens t e (i + 1) ≡ happens_between v w e
+unfolding happens
+happens-next t i v w is_v is_w e =
+    ap (λ (j : ℕ). happens_between (levels_at t j) (levels_at t (i + 1)) e) (before-next i)
+    ∙ (ap (λ (x : Levels). happens_between x (levels_at t (i + 1)) e) (sym is_v)
+    ∙ ap (λ (x : Levels). happens_between v x e) (sym is_w))
+
+module _ (t : Trace) (s i : ℕ) (le : s ≤ i) where
+  abbrev now : StepEvent → Bool
+  now e = happens t e (i + 1)
+
+  -- the last one
+  last_next : (e : StepEvent) (b : Bool) → now e ≡ b
+      → moment t (greatest (happens t e) (s + 1) (i + 1 + 1))
+      ≡ now_or b (moment_at t (i + 1)) (moment t (greatest (happens t e) (s + 1) (i + 1)))
+  last_next e true is = ap (moment t) (last-now (happens t e) s i le is)
+  last_next e false is = ap (moment t) (last-before (happens t e) s i is)
+
+  -- the first one since another
+  abbrev found : StepEvent → StepEvent → Option ℕ
+  found p q = least (happens t p) (since t q s i) (i + 1)
+
+  first_next : (p q : StepEvent) (now_p now_q : Bool) → now p ≡ now_p → now q ≡ now_q
+      → moment t (least (happens t p) (since t q s (i + 1)) (i + 1 + 1))
+      ≡ first_or now_p (moment_at t (i + 1)) (unless now_q (moment t (least (happens t p) (since t q s i) (i + 1))))
+  first_next p q now_p true is_p is_q =
+      ap (moment t) (since-now (happens t p) (happens t q) s i le is_q)
+      ∙ (ap (λ (b : Bool). moment t (if b then Some (i + 1) else None)) is_p ∙ by_test now_p)
+    where
+      by_test : (b : Bool) → moment t (if b then Some (i + 1) else None)
+          ≡ (if b then Some (moment_at t (i + 1)) else None)
+      by_test true = refl
+      by_test false = refl
+  first_next p q now_p false is_p is_q =
+      ap (moment t) (since-before (happens t p) (happens t q) s i le is_q)
+      ∙ (ap (λ (b : Bool). moment t (if is_some (found p q) then found p q else if b then Some (i + 1) else None)) is_p
+      ∙ by_found (found p q) now_p)
+    where
+      by_found : (o : Option ℕ) (b : Bool) → moment t (if is_some o then o else if b then Some (i + 1) else None)
+          ≡ first_or b (moment_at t (i + 1)) (moment t o)
+      by_found (Some j) b = refl
+      by_found None true = refl
+      by_found None false = refl
+
+-- ---- all of it
+
+module _ (t : Trace) (s i : ℕ) (le : s ≤ i) (v : Levels) (cs : List Change) (is_v : v ≡ levels_at t i)
+    (is_w : changed v cs ≡ levels_at t (i + 1)) (m : Moment) (is_m : m ≡ moment_at t (i + 1)) (e : LastEvents)
+    (last : AreLast t s i e) where
+  abbrev w : Levels
+  w = changed v cs
+
+  between : (k : StepEvent) → happens t k (i + 1) ≡ happens_between v w k
+  between k = happens-next t i v w is_v is_w k
+
+  falls_next : (l : ℕ) → l < line_count → get_or (noted (falls_shown v w) m e.falls cs) l None
+      ≡ moment t (greatest (happens t (Falls l)) (s + 1) (i + 1 + 1))
+  falls_next l less = by_test (falls_shown v w l) refl
+    where
+      by_change : (b : Bool) → is_changed cs l ≡ b → falls_shown v w l ≡ true → is_changed cs l ≡ true
+      by_change true e f = e
+      by_change false e f = absurd (cc (sym (no_fall v cs l e) ∙ f))
+
+      by_test : (b : Bool) → falls_shown v w l ≡ b → get_or (noted (falls_shown v w) m e.falls cs) l None
+          ≡ moment t (greatest (happens t (Falls l)) (s + 1) (i + 1 + 1))
+      by_test true f =
+          noted-same (falls_shown v w) m l f cs e.falls (rw last.all_falls less) (by_change (is_changed cs l) refl f)
+          ∙ (ap (λ (x : Moment). Some x) is_m ∙ sym (last_next t s i le (Falls l) true (between (Falls l) ∙ f)))
+      by_test false f =
+          noted-other (falls_shown v w) m l f cs e.falls ∙ (last.falls l less
+          ∙ sym (last_next t s i le (Falls l) false (between (Falls l) ∙ f)))
+
+  rises_next : (l : ℕ) → l < line_count → get_or (noted (rises_shown v w) m e.rises cs) l None
+      ≡ moment t (greatest (happens t (Rises l)) (s + 1) (i + 1 + 1))
+  rises_next l less = by_test (rises_shown v w l) refl
+    where
+      by_change : (b : Bool) → is_changed cs l ≡ b → rises_shown v w l ≡ true → is_changed cs l ≡ true
+      by_change true e f = e
+      by_change false e f = absurd (cc (sym (no_rise v cs l e) ∙ f))
+
+      by_test : (b : Bool) → rises_shown v w l ≡ b → get_or (noted (rises_shown v w) m e.rises cs) l None
+          ≡ moment t (greatest (happens t (Rises l)) (s + 1) (i + 1 + 1))
+      by_test true f =
+          noted-same (rises_shown v w) m l f cs e.rises (rw last.all_rises less) (by_change (is_changed cs l) refl f)
+          ∙ (ap (λ (x : Moment). Some x) is_m ∙ sym (last_next t s i le (Rises l) true (between (Rises l) ∙ f)))
+      by_test false f =
+          noted-other (rises_shown v w) m l f cs e.rises ∙ (last.rises l less
+          ∙ sym (last_next t s i le (Rises l) false (between (Rises l) ∙ f)))
+
+  first_since : (p q : StepEvent) (found : Option Moment)
+      → found ≡ moment t (least (happens t p) (since t q s i) (i + 1))
+      → first_or (happens_between v w p) m (unless (happens_between v w q) found)
+      ≡ moment t (least (happens t p) (since t q s (i + 1)) (i + 1 + 1))
+  first_since p q found is =
+      ap (λ (o : Option Moment). first_or (happens_between v w p) m (unless (happens_between v w q) o)) is
+      ∙ (ap (λ (x : Moment). first_or (happens_between v w p) x (unless (happens_between v w q)
+      (moment t (least (happens t p) (since t q s i) (i + 1))))) is_m
+      ∙ sym (first_next t s i le p q (happens_between v w p) (happens_between v w q) (between p) (between q)))
+
+  transfer_next : now_or (starts_between v w) m e.transfer
+      ≡ moment t (greatest (happens t TransferStarts) (s + 1) (i + 1 + 1))
+  transfer_next =
+      ap (λ (o : Option Moment). now_or (starts_between v w) m o) last.transfer
+      ∙ (ap (λ (x : Moment). now_or (starts_between v w) x
+      (moment t (greatest (happens t TransferStarts) (s + 1) (i + 1)))) is_m
+      ∙ sym (last_next t s i le TransferStarts (starts_between v w) (between TransferStarts)))
+
+  pub last-next : AreLast t s (i + 1) (last_after v w cs m e)
+  last-next = record {
+    all_falls = noted-long (falls_shown v w) m cs e.falls ∙ last.all_falls;
+    all_rises = noted-long (rises_shown v w) m cs e.rises ∙ last.all_rises;
+    falls = falls_next;
+    rises = rises_next;
+    transfer = transfer_next;
+    answer_in_transfer = first_since AnswerFalls TransferStarts e.answer_in_transfer last.answer_in_transfer;
+    answer_in_cycle = first_since AnswerFalls (Falls AS) e.answer_in_cycle last.answer_in_cycle;
+    dtack_in_cycle = first_since (Falls DTACK) (Falls AS) e.dtack_in_cycle last.dtack_in_cycle;
+  }
+
+-- where nothing of the handshake happens all stays
+abbrev with_firsts : LastEvents → Option Moment → Option Moment → Option Moment → LastEvents
+with_firsts e a b c = record e { answer_in_transfer = a; answer_in_cycle = b; dtack_in_cycle = c }
+
+first-stays : (m : Moment) (o : Option Moment) → o ≡ first_or false m o
+first-stays m None = refl
+first-stays m (Some n) = refl
+
+firsts-stay : (m : Moment) (e : LastEvents) (a b c : Option Moment) → with_firsts e a b c
+    ≡ with_firsts e (first_or false m a) (first_or false m b) (first_or false m c)
+firsts-stay m e a b c =
+    ap (λ (o : Option Moment). with_firsts e o b c) (first-stays m a)
+    ∙ (ap (λ (o : Option Moment). with_firsts e (first_or false m a) o c) (first-stays m b)
+    ∙ ap (λ (o : Option Moment). with_firsts e (first_or false m a) (first_or false m b) o) (first-stays m c))
+
+pub handshake-stays : (starts answers begins by_dtack : Bool) (m : Moment) (e : LastEvents) → starts ≡ false
+    → answers ≡ false → begins ≡ false → by_dtack ≡ false → e ≡ handshake_after starts answers begins by_dtack m e
+handshake-stays true answers begins by_dtack m e p q r s = absurd (cc p)
+handshake-stays false true begins by_dtack m e p q r s = absurd (cc q)
+handshake-stays false false true by_dtack m e p q r s = absurd (cc r)
+handshake-stays false false false true m e p q r s = absurd (cc s)
+handshake-stays false false false false m e p q r s =
+    firsts-stay m e e.answer_in_transfer e.answer_in_cycle e.dtack_in_cycle
+
+-- ---- before any step
+
+abbrev nothing : Option Moment
+nothing = None
+
+none_noted : (l : ℕ) → get_or (replicate line_count nothing) l nothing ≡ nothing
+none_noted l = everywhere line_count l
+  where
+    everywhere : (n l : ℕ) → get_or (replicate n nothing) l nothing ≡ nothing
+    everywhere zero l = refl
+    everywhere (suc n) zero = refl
+    everywhere (suc n) (suc l) = everywhere n l
+
+since_nothing : (t : Trace) (q : StepEvent) (s : ℕ) → since t q s s ≡ s + 1
+since_nothing t q s = rw (greatest-nowhere (happens t q) (s + 1) (s + 1) (omega arith)) refl
+
+pub last-none : (t : Trace) (s : ℕ) → AreLast t s s no_events
+last-none t s = record {
+  all_falls = length-replicate line_count nothing;
+  all_rises = length-replicate line_count nothing;
+  falls = λ l less. none_noted l ∙ sym (nowhere (Falls l));
+  rises = λ l less. none_noted l ∙ sym (nowhere (Rises l));
+  transfer = sym (nowhere TransferStarts);
+  answer_in_transfer = sym (first_nowhere AnswerFalls TransferStarts);
+  answer_in_cycle = sym (first_nowhere AnswerFalls (Falls AS));
+  dtack_in_cycle = sym (first_nowhere (Falls DTACK) (Falls AS));
+}
+  where
+    nowhere : (k : StepEvent) → moment t (greatest (happens t k) (s + 1) (s + 1)) ≡ None
+    nowhere k = ap (moment t) (greatest-nowhere (happens t k) (s + 1) (s + 1) (omega arith))
+
+    first_nowhere : (p q : StepEvent) → moment t (least (happens t p) (since t q s s) (s + 1)) ≡ None
+    first_nowhere p q = ap (λ (f : ℕ). moment t (least (happens t p) f (s + 1))) (since_nothing t q s)
+        ∙ ap (moment t) (least-nowhere (happens t p) (s + 1) (s + 1) (omega arith))
+
+-- ---- a step, as it is taken
+
+same_moment : (m : Moment) (i time : ℕ) (dtack berr : Bool) → m.instant ≡ i → m.time ≡ time → m.dtack_falls ≡ dtack
+    → m.berr_falls ≡ berr → m ≡ record { instant = i; time = time; dtack_falls = dtack; berr_falls = berr }
+same_moment m i time dtack berr p q r s =
+    ap (λ (x : ℕ). record { instant = x; time = m.time; dtack_falls = m.dtack_falls; berr_falls = m.berr_falls }) p
+    ∙ (ap (λ (x : ℕ). record { instant = i; time = x; dtack_falls = m.dtack_falls; berr_falls = m.berr_falls }) q
+    ∙ (ap (λ (x : Bool). record { instant = i; time = time; dtack_falls = x; berr_falls = m.berr_falls }) r
+    ∙ ap (λ (x : Bool). record { instant = i; time = time; dtack_falls = dtack; berr_falls = x }) s))
+
+pub last-taken : (t : Trace) (s i : ℕ) → s ≤ i → (v w : Levels) (cs : List Change) → w ≡ changed v cs
+    → v ≡ levels_at t i → w ≡ levels_at t (i + 1) → (m : Moment) → m.instant ≡ i + 1 → m.time ≡ time_at t (i + 1)
+    → m.dtack_falls ≡ happens_between v w (Falls DTACK) → m.berr_falls ≡ happens_between v w (Falls BERR)
+    → (e : LastEvents) → AreLast t s i e → AreLast t s (i + 1) (last_after v w cs m e)
+last-taken t s i le v w cs is_changed is_v is_w m p q dtack berr e last =
+    subst (λ (x : Levels). AreLast t s (i + 1) (last_after v x cs m e)) (sym is_changed)
+    (last-next t s i le v cs is_v (sym is_changed ∙ is_w) m
+    (same_moment m (i + 1) (time_at t (i + 1)) (happens t (Falls DTACK) (i + 1)) (happens t (Falls BERR) (i + 1)) p q
+    (dtack ∙ sym (happens-next t i v w is_v is_w (Falls DTACK)))
+    (berr ∙ sym (happens-next t i v w is_v is_w (Falls BERR)))) e last)

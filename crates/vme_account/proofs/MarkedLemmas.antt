@@ -1,0 +1,97 @@
+-- What is kept of marks is of their listing.
+use Rattle.std.proofs.Common.{◌≡◌, ℕ, Bool, true, false, List, [], ◌∷◌, ◌++◌, map, None, refl, sym, ap, ◌∙◌}
+use Rattle.std.specs.Prelude.{◌&&◌, count_by, if◌then◌else◌}
+use Rattle.std.specs.List.{fold}
+use Rattle.std.specs.Result.{OnOk}
+use Rattle.std.specs.declared.result.Result.{Result}
+use Rattle.std.specs.declared.result.Result.TheVariants.{Ok, Err}
+use Rattle.std.specs.declared.alloc.AllocError.{AllocError}
+use Rattle.std.proofs.lemmas.List.{map-append}
+use Rattle.std.proofs.lemmas.List.Sums.{fold-append}
+use Rattle.vme_monitor.specs.Run.{mark_at}
+use Rattle.vme_monitor.specs.declared.mark.Mark.{Mark}
+use Rattle.vme_monitor.specs.declared.mark.MarkKind.{MarkKind}
+use Rattle.vme_monitor.specs.declared.mark.MarkKind.TheVariants.{Open, Start}
+use Rattle.vme_summary.specs.MarkedRows.{opening_marks, rows_of}
+use Rattle.vme_trace.specs.Levels.{Levels, is_idle, is_low, level_at}
+use Rattle.vme_trace.specs.LineNumbers.{BBSY}
+use Rattle.vme_account.proofs.CountLemmas.{all-counted}
+use Rattle.vme_account.proofs.UnendedLemmas.{all-open}
+use Rattle.vme_account.specs.KnownRows.{known_at, knowns_from}
+use Rattle.vme_account.specs.Marked.{counts_in, marked, marked_next, nothing_marked}
+use Rattle.vme_account.specs.UnendedRows.{open_in, open_next, open_row}
+use Rattle.vme_account.specs.RowCounts.{count_in, is_counted, with_row}
+use Rattle.vme_account.specs.Rows.{is_of}
+use Rattle.vme_account.specs.declared.marked.Marked.{Marked}
+use Rattle.vme_account.specs.declared.row_kind.Part.{Part}
+use Rattle.vme_account.specs.declared.row_kind.RowKind.{RowKind}
+
+-- both, kept together
+together : (ms : List Mark) (m : Marked) → fold marked_next m ms
+    ≡ record { opened = fold open_next m.opened ms; counts = fold with_row m.counts (knowns_from m.opened ms) }
+together [] m = refl
+together (k ∷ ms) m =
+    together ms (marked_next m k)
+    ∙ ap (λ c. record { opened = fold open_next (open_next m.opened k) ms; counts = c })
+    (sym (fold-append with_row m.counts (known_at k.instant k.kind m.opened) (knowns_from (open_next m.opened k) ms)))
+
+pub marked-open : (m : Marked) (ms : List Mark) (p : Part) → m ≡ marked ms → open_in m.opened p
+    ≡ open_row p (rows_of None ms)
+marked-open m ms p is =
+    ap (λ (m : Marked). open_in m.opened p) (is ∙ together ms nothing_marked) ∙ all-open p ms
+
+pub marked-counted : (m : Marked) (ms : List Mark) (k : RowKind) → m ≡ marked ms → is_counted k ≡ true
+    → count_in (counts_in m) k ≡ count_by (is_of k) (rows_of None ms)
+marked-counted m ms k is counted =
+    ap (λ (m : Marked). count_in (counts_in m) k) (is ∙ together ms nothing_marked) ∙ all-counted k ms counted
+
+pub on-ok : {T E : Type 0} {A B : Type 0} (r : Result T E) → (A → B) → OnOk r A → OnOk r B
+on-ok (Ok t) f h = f h
+on-ok (Err e) f h = tt
+
+-- ---- the kinds that are shown, one after the other
+
+module _ (i : ℕ) where
+  abbrev pub taken_kinds : Marked → List MarkKind → Marked
+  taken_kinds m ks = fold marked_next m (map (mark_at i) ks)
+
+  pub then-kinds : (m p q : Marked) (a b : List MarkKind) → p ≡ taken_kinds m a → q ≡ taken_kinds p b
+      → q ≡ taken_kinds m (a ++ b)
+  then-kinds m p q a b e g =
+      g ∙ (ap (λ (x : Marked). taken_kinds x b) e
+      ∙ (sym (fold-append marked_next m (map (mark_at i) a) (map (mark_at i) b))
+      ∙ ap (λ (ms : List Mark). fold marked_next m ms) (sym (map-append (mark_at i) a b))))
+
+  pub three-kinds : (m p q r : Marked) (a b c : List MarkKind) → p ≡ taken_kinds m a → q ≡ taken_kinds p b
+      → r ≡ taken_kinds q c → r ≡ taken_kinds m (a ++ (b ++ c))
+  three-kinds m p q r a b c e g h = then-kinds m p r a (b ++ c) e (then-kinds p q r b c g h)
+
+  pub ten-kinds : (r : Result (Unit {0}) AllocError) (m0 m1 m2 m3 m4 m5 m6 m7 m8 m9 m10 : Marked)
+      (k1 k2 k3 k4 k5 k6 k7 k8 k9 k10 : List MarkKind)
+      → m1 ≡ taken_kinds m0 k1 → m2 ≡ taken_kinds m1 k2 → m3 ≡ taken_kinds m2 k3 → m4 ≡ taken_kinds m3 k4
+      → m5 ≡ taken_kinds m4 k5 → m6 ≡ taken_kinds m5 k6 → m7 ≡ taken_kinds m6 k7 → m8 ≡ taken_kinds m7 k8
+      → m9 ≡ taken_kinds m8 k9 → OnOk r (m10 ≡ taken_kinds m9 k10)
+      → OnOk r (m10 ≡ taken_kinds m0 (k1 ++ k2 ++ k3 ++ k4 ++ k5 ++ k6 ++ k7 ++ k8 ++ k9 ++ k10))
+  ten-kinds r m0 m1 m2 m3 m4 m5 m6 m7 m8 m9 m10 k1 k2 k3 k4 k5 k6 k7 k8 k9 k10 e1 e2 e3 e4 e5 e6 e7 e8 e9 last =
+      let s2 = then-kinds m0 m1 m2 k1 k2 e1 e2 in
+      let s3 = then-kinds m0 m2 m3 (k1 ++ k2) k3 s2 e3 in
+      let s4 = then-kinds m0 m3 m4 (k1 ++ k2 ++ k3) k4 s3 e4 in
+      let s5 = then-kinds m0 m4 m5 (k1 ++ k2 ++ k3 ++ k4) k5 s4 e5 in
+      let s6 = then-kinds m0 m5 m6 (k1 ++ k2 ++ k3 ++ k4 ++ k5) k6 s5 e6 in
+      let s7 = then-kinds m0 m6 m7 (k1 ++ k2 ++ k3 ++ k4 ++ k5 ++ k6) k7 s6 e7 in
+      let s8 = then-kinds m0 m7 m8 (k1 ++ k2 ++ k3 ++ k4 ++ k5 ++ k6 ++ k7) k8 s7 e8 in
+      let s9 = then-kinds m0 m8 m9 (k1 ++ k2 ++ k3 ++ k4 ++ k5 ++ k6 ++ k7 ++ k8) k9 s8 e9 in
+      on-ok r (λ e. then-kinds m0 m9 m10 (k1 ++ k2 ++ k3 ++ k4 ++ k5 ++ k6 ++ k7 ++ k8 ++ k9) k10 s9 e) last
+
+-- ---- the opening
+
+-- judging starts there where it is idle, and a tenure is open where the bus is busy
+pub opening-marked : (v : Levels) (idle busy : Bool) → is_idle v ≡ idle → is_low (level_at v BBSY) ≡ busy
+    → (if idle && busy then marked (mark_at 0 Start ∷ mark_at 0 Open ∷ []) else nothing_marked)
+    ≡ marked (opening_marks v)
+opening-marked v false busy e g = rw e refl
+opening-marked v true true e g = rw (e, g) refl
+opening-marked v true false e g = rw (e, g) started
+  where
+    started : nothing_marked ≡ marked (mark_at 0 Start ∷ [])
+    started = refl

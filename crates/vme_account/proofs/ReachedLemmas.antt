@@ -1,0 +1,269 @@
+-- What is reached is the first break of the recording, and the marks of which its listing is made.
+use Rattle.std.proofs.Common.{◌≡◌, ◌+◌, ◌≤◌, ℕ, Bool, true, false, List, [], ◌∷◌, ◌++◌, map}
+use Rattle.std.proofs.Common.{Option, None, Some, refl, sym, ap, ◌∙◌, arith}
+use Rattle.std.specs.Prelude.{IfSome, is_some, nat_lt, option_map, if◌then◌else◌}
+use Rattle.std.specs.List.{fold}
+use Rattle.std.proofs.lemmas.Bool.Decides.{nat_tests}
+use Rattle.std.proofs.lemmas.List.{append-nil, append_assoc, map-append}
+use Rattle.vme_trace.specs.Levels.{Levels}
+use Rattle.vme_trace.specs.Trace.{changed}
+use Rattle.vme_trace.specs.declared.step.Step.{Step}
+use Rattle.vme_trace.specs.declared.verdict.Break.{Break}
+use Rattle.vme_monitor.specs.Outcome.{earlier, shifted_break, shifted_mark}
+use Rattle.vme_monitor.specs.Run.{break_at, mark_at}
+use Rattle.vme_monitor.specs.declared.mark.Fault.{Fault}
+use Rattle.vme_monitor.specs.declared.mark.Mark.{Mark}
+use Rattle.vme_monitor.specs.declared.mark.MarkKind.{MarkKind}
+use Rattle.vme_summary.specs.MarkedRows.{marks_before, marks_listed, opening_marks}
+use Rattle.vme_auditor.specs.FirstEvent.{first_event}
+use Rattle.vme_auditor.specs.JoinedMarks.{joined_marks, kinds_shown}
+use Rattle.vme_auditor.specs.Memories.{first_fault_of, memories_at, memories_next}
+use Rattle.vme_auditor.specs.declared.memories.Memories.{Memories}
+use Rattle.vme_account.specs.StepsReached.{StepsReached, judged, passed, reached, reached_at, with_step}
+
+-- ---- one step more
+
+pub reached-more : (o : Levels) (x : List Step) (s : Step) → reached o (x ++ s ∷ []) ≡ with_step (reached o x) s
+unfolding reached
+reached-more o x s = more x (reached_at o)
+  where
+    more : (x : List Step) (r : StepsReached) → fold with_step r (x ++ s ∷ []) ≡ with_step (fold with_step r x) s
+    more [] r = refl
+    more (y ∷ x) r = more x (with_step r y)
+
+-- ---- breaks
+
+fault_moved : (n time : ℕ) (f : Option Fault) → option_map (break_at (n + 1) time) f
+    ≡ option_map (shifted_break n) (option_map (break_at 1 time) f)
+fault_moved n time None = refl
+fault_moved n time (Some f) = ap
+    (λ (i : ℕ). Some (record { instant = i; time = time; rule = f.rule; line = f.line })) (turned n)
+  where
+    turned : (n : ℕ) → n + 1 ≡ 1 + n
+    turned n = omega arith
+
+twice_moved : (n : ℕ) (b : Option Break) → option_map (shifted_break (n + 1)) b
+    ≡ option_map (shifted_break n) (option_map (shifted_break 1) b)
+twice_moved n None = refl
+twice_moved n (Some b) = ap
+    (λ (i : ℕ). Some (record { instant = i; time = b.time; rule = b.rule; line = b.line })) (joined b.instant n)
+  where
+    joined : (i n : ℕ) → i + (n + 1) ≡ i + 1 + n
+    joined i n = omega arith
+
+-- a break is at no opening
+abbrev Behind : Option Break → Type 0
+Behind b = IfSome b (λ b. 1 ≤ b.instant)
+
+first_behind : (x : List Step) (m : Memories) (o : Levels) → Behind (first_event m o x)
+unfolding first_event
+first_behind [] m o = tt
+first_behind (s ∷ x) m o =
+    by_fault (first_fault_of m o (changed o s.changes) s.changes)
+    (first_event (memories_next m o (changed o s.changes) s.changes) (changed o s.changes) x)
+  where
+    by_fault : (f : Option Fault) (rest : Option Break)
+        → Behind (earlier (option_map (break_at 1 s.time) f) (option_map (shifted_break 1) rest))
+    by_fault (Some f) rest = omega arith
+    by_fault None None = tt
+    by_fault None (Some b) = omega arith
+
+-- ---- marks
+
+kinds_moved : (n : ℕ) (ks : List MarkKind) → map (mark_at (n + 1)) ks ≡ map (shifted_mark n) (map (mark_at 1) ks)
+kinds_moved n [] = refl
+kinds_moved n (k ∷ ks) =
+    ap (λ (i : ℕ). mark_at i k ∷ map (mark_at (n + 1)) ks) (turned n)
+    ∙ ap (λ (ms : List Mark). mark_at (1 + n) k ∷ ms) (kinds_moved n ks)
+  where
+    turned : (n : ℕ) → n + 1 ≡ 1 + n
+    turned n = omega arith
+
+marks_moved : (n : ℕ) (ms : List Mark) → map (shifted_mark (n + 1)) ms
+    ≡ map (shifted_mark n) (map (shifted_mark 1) ms)
+marks_moved n [] = refl
+marks_moved n (m ∷ ms) =
+    ap (λ (i : ℕ). mark_at i m.kind ∷ map (shifted_mark (n + 1)) ms) (joined m.instant n)
+    ∙ ap (λ (ms : List Mark). mark_at (m.instant + 1 + n) m.kind ∷ ms) (marks_moved n ms)
+  where
+    joined : (i n : ℕ) → i + (n + 1) ≡ i + 1 + n
+    joined i n = omega arith
+
+-- those before an instant
+
+before_shifted : (n : ℕ) (ms : List Mark) → marks_before (n + 1) (map (shifted_mark 1) ms)
+    ≡ map (shifted_mark 1) (marks_before n ms)
+before_shifted n [] = refl
+before_shifted n (m ∷ ms) =
+    ap (λ (b : Bool). if b then (shifted_mark 1 m ∷ marks_before (n + 1) (map (shifted_mark 1) ms)) else [])
+    (less_next m.instant n) ∙ by_test (before_shifted n ms) (nat_lt m.instant n)
+  where
+    less_next : (i n : ℕ) → nat_lt (i + 1) (n + 1) ≡ nat_lt i n
+    less_next i n = grind (arith, nat_tests)
+
+    by_test : marks_before (n + 1) (map (shifted_mark 1) ms) ≡ map (shifted_mark 1) (marks_before n ms) → (b : Bool)
+        → (if b then (shifted_mark 1 m ∷ marks_before (n + 1) (map (shifted_mark 1) ms)) else [])
+        ≡ map (shifted_mark 1) (if b then (m ∷ marks_before n ms) else [])
+    by_test so_far true = ap (λ (rest : List Mark). shifted_mark 1 m ∷ rest) so_far
+    by_test so_far false = refl
+
+none_before : (ks : List MarkKind) (ms : List Mark)
+    → marks_before 1 (map (mark_at 1) ks ++ map (shifted_mark 1) ms) ≡ []
+none_before (k ∷ ks) ms = refl
+none_before [] [] = refl
+none_before [] (m ∷ ms) =
+    ap (λ (b : Bool). if b then (shifted_mark 1 m ∷ marks_before 1 (map (shifted_mark 1) ms)) else [])
+    (not_before m.instant)
+  where
+    not_before : (i : ℕ) → nat_lt (i + 1) 1 ≡ false
+    not_before i = grind (arith, nat_tests)
+
+kinds_before : (n : ℕ) (ks : List MarkKind) (ms : List Mark) → 1 ≤ n
+    → marks_before (n + 1) (map (mark_at 1) ks ++ ms) ≡ map (mark_at 1) ks ++ marks_before (n + 1) ms
+kinds_before n [] ms le = refl
+kinds_before n (k ∷ ks) ms le =
+    ap (λ (b : Bool). if b then (mark_at 1 k ∷ marks_before (n + 1) (map (mark_at 1) ks ++ ms)) else [])
+    (is_before n le) ∙ ap (λ (rest : List Mark). mark_at 1 k ∷ rest) (kinds_before n ks ms le)
+  where
+    is_before : (n : ℕ) → 1 ≤ n → nat_lt 1 (n + 1) ≡ true
+    is_before n le = grind (arith, nat_tests, le)
+
+-- the marks that are listed, behind a step without a break
+listed_behind : (ks : List MarkKind) (b : Option Break) (ms : List Mark) → Behind b
+    → marks_listed (option_map (shifted_break 1) b) (map (mark_at 1) ks ++ map (shifted_mark 1) ms)
+    ≡ map (mark_at 1) ks ++ map (shifted_mark 1) (marks_listed b ms)
+listed_behind ks None ms behind = refl
+listed_behind ks (Some b) ms behind =
+    kinds_before b.instant ks (map (shifted_mark 1) ms) behind
+    ∙ ap (λ (ms : List Mark). map (mark_at 1) ks ++ ms) (before_shifted b.instant ms)
+
+-- ---- some steps
+
+-- once a break is found, it stays
+pub found_stays : (x : List Step) (r : StepsReached) (b : Break) → r.found ≡ Some b
+    → (fold with_step r x).found ≡ Some b
+found_stays [] r b is = is
+found_stays (s ∷ x) r b is =
+    ap (λ (f : Option Break). (fold with_step (if is_some f then passed r s else judged r s) x).found) is
+    ∙ found_stays x (passed r s) b is
+
+marks_stay : (x : List Step) (r : StepsReached) (b : Break) → r.found ≡ Some b → (fold with_step r x).marks ≡ r.marks
+marks_stay [] r b is = refl
+marks_stay (s ∷ x) r b is =
+    ap (λ (f : Option Break). (fold with_step (if is_some f then passed r s else judged r s) x).marks) is
+    ∙ marks_stay x (passed r s) b is
+
+abbrev pub at : Levels → ℕ → Memories → List Mark → StepsReached
+at o n m ms = record { levels = o; instant = n; memories = m; found = None; marks = ms }
+
+-- a step that finds something, or nothing
+abbrev pub after_fault : Levels → ℕ → Memories → List Mark → List Mark → Option Break → StepsReached
+after_fault o n m ms shown f =
+    record { levels = o; instant = n; memories = m; found = f; marks = if is_some f then ms else ms ++ shown }
+
+-- a step, by what the monitors say of it
+module _ (s : Step) (o : Levels) (m : Memories) where
+  abbrev next : Levels
+  next = changed o s.changes
+
+  abbrev later : Memories
+  later = memories_next m o (changed o s.changes) s.changes
+
+  abbrev kinds : List MarkKind
+  kinds = kinds_shown m o (changed o s.changes) s.changes
+
+  abbrev fault : Option Fault
+  fault = first_fault_of m o (changed o s.changes) s.changes
+
+  abbrev found_then : ℕ → List Mark → Option Break → StepsReached
+  found_then n ms f = after_fault next (n + 1) later ms (map (mark_at (n + 1)) kinds) f
+
+  -- the first break of the step, and of those behind it
+  abbrev first_with : Option Fault → List Step → Option Break
+  first_with f x = earlier (option_map (break_at 1 s.time) f) (option_map (shifted_break 1) (first_event later next x))
+
+  found_by : (x : List Step) (n : ℕ) (ms : List Mark)
+      → (fold with_step (at next (n + 1) later (ms ++ map (mark_at (n + 1)) kinds)) x).found
+      ≡ option_map (shifted_break (n + 1)) (first_event later next x) → (f : Option Fault)
+      → (fold with_step (found_then n ms (option_map (shifted_break n) (option_map (break_at 1 s.time) f))) x).found
+      ≡ option_map (shifted_break n) (first_with f x)
+  found_by x n ms rest (Some f) =
+      found_stays x (found_then n ms (Some (shifted_break n (break_at 1 s.time f))))
+      (shifted_break n (break_at 1 s.time f)) refl
+  found_by x n ms rest None = rest ∙ twice_moved n (first_event later next x)
+
+  marks_by : (x : List Step) (n : ℕ) (ms : List Mark)
+      → (fold with_step (at next (n + 1) later (ms ++ map (mark_at (n + 1)) kinds)) x).marks
+      ≡ (ms ++ map (mark_at (n + 1)) kinds)
+      ++ map (shifted_mark (n + 1)) (marks_listed (first_event later next x) (joined_marks later next x))
+      → (f : Option Fault)
+      → (fold with_step (found_then n ms (option_map (shifted_break n) (option_map (break_at 1 s.time) f))) x).marks
+      ≡ ms ++ map (shifted_mark n) (marks_listed (first_with f x)
+      (map (mark_at 1) kinds ++ map (shifted_mark 1) (joined_marks later next x)))
+  marks_by x n ms rest (Some f) =
+      marks_stay x (found_then n ms (Some (shifted_break n (break_at 1 s.time f))))
+      (shifted_break n (break_at 1 s.time f)) refl
+      ∙ (sym (append-nil ms)
+      ∙ ap (λ (l : List Mark). ms ++ map (shifted_mark n) l) (sym (none_before kinds (joined_marks later next x))))
+  marks_by x n ms rest None =
+      let more : List Mark = marks_listed (first_event later next x) (joined_marks later next x) in
+      rest
+      ∙ (append_assoc ms (map (mark_at (n + 1)) kinds) (map (shifted_mark (n + 1)) more)
+      ∙ (ap (λ (l : List Mark). ms ++ (l ++ map (shifted_mark (n + 1)) more)) (kinds_moved n kinds)
+      ∙ (ap (λ (l : List Mark). ms ++ (map (shifted_mark n) (map (mark_at 1) kinds) ++ l)) (marks_moved n more)
+      ∙ (ap (λ (l : List Mark). ms ++ l)
+      (sym (map-append (shifted_mark n) (map (mark_at 1) kinds) (map (shifted_mark 1) more)))
+      ∙ ap (λ (l : List Mark). ms ++ map (shifted_mark n) l)
+      (sym (listed_behind kinds (first_event later next x) (joined_marks later next x)
+      (first_behind x later next)))))))
+
+pub first-found : (x : List Step) (o : Levels) (n : ℕ) (m : Memories) (ms : List Mark)
+    → (fold with_step (at o n m ms) x).found ≡ option_map (shifted_break n) (first_event m o x)
+unfolding first_event
+first-found [] o n m ms = refl
+first-found (s ∷ x) o n m ms =
+    ap (λ (f : Option Break). (fold with_step (found_then s o m n ms f) x).found)
+    (fault_moved n s.time (fault s o m))
+    ∙ found_by s o m x n ms
+    (first-found x (next s o m) (n + 1) (later s o m) (ms ++ map (mark_at (n + 1)) (kinds s o m))) (fault s o m)
+
+pub marks-found : (x : List Step) (o : Levels) (n : ℕ) (m : Memories) (ms : List Mark)
+    → (fold with_step (at o n m ms) x).marks
+    ≡ ms ++ map (shifted_mark n) (marks_listed (first_event m o x) (joined_marks m o x))
+unfolding first_event joined_marks
+marks-found [] o n m ms = sym (append-nil ms)
+marks-found (s ∷ x) o n m ms =
+    ap (λ (f : Option Break). (fold with_step (found_then s o m n ms f) x).marks)
+    (fault_moved n s.time (fault s o m))
+    ∙ marks_by s o m x n ms
+    (marks-found x (next s o m) (n + 1) (later s o m) (ms ++ map (mark_at (n + 1)) (kinds s o m))) (fault s o m)
+
+-- ---- a whole recording
+
+none_shifted : (b : Option Break) → option_map (shifted_break 0) b ≡ b
+none_shifted None = refl
+none_shifted (Some b) = ap (λ (i : ℕ). Some (record { instant = i; time = b.time; rule = b.rule; line = b.line }))
+    (no_more b.instant)
+  where
+    no_more : (i : ℕ) → i + 0 ≡ i
+    no_more i = omega arith
+
+unmoved : (ms : List Mark) → map (shifted_mark 0) ms ≡ ms
+unmoved [] = refl
+unmoved (m ∷ ms) = ap (λ (i : ℕ). mark_at i m.kind ∷ map (shifted_mark 0) ms) (no_more m.instant)
+    ∙ ap (λ (ms : List Mark). m ∷ ms) (unmoved ms)
+  where
+    no_more : (i : ℕ) → i + 0 ≡ i
+    no_more i = omega arith
+
+pub reached-first : (o : Levels) (x : List Step) → (reached o x).found ≡ first_event (memories_at o) o x
+unfolding reached
+reached-first o x = first-found x o 0 (memories_at o) (opening_marks o)
+    ∙ none_shifted (first_event (memories_at o) o x)
+
+pub reached-marks : (o : Levels) (x : List Step) → (reached o x).marks
+    ≡ opening_marks o ++ marks_listed (first_event (memories_at o) o x) (joined_marks (memories_at o) o x)
+unfolding reached
+reached-marks o x = marks-found x o 0 (memories_at o) (opening_marks o)
+    ∙ ap (λ (ms : List Mark). opening_marks o ++ ms)
+    (unmoved (marks_listed (first_event (memories_at o) o x) (joined_marks (memories_at o) o x)))

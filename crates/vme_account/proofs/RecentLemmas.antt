@@ -1,0 +1,105 @@
+-- The last steps of a recording, one step more.
+use Rattle.std.proofs.Common.{◌≡◌, ◌+◌, ◌-◌, ◌<◌, ◌≤◌, ◌++◌, ◌∷◌, [], ℕ, suc, zero, List, drop, length, refl, sym, ap}
+use Rattle.std.proofs.Common.{◌∙◌, append_assoc, arith, length-append, length-drop}
+use Rattle.std.specs.Prelude.{None, Some, slice_get}
+use Rattle.std.proofs.lemmas.List.{drop_at, take-append-le}
+use Rattle.std.proofs.lemmas.List.FromFn.{map-range_with_len_more}
+use Rattle.vme_trace.specs.Levels.{Levels}
+use Rattle.vme_trace.specs.Trace.{Trace, after, changed, levels_after, levels_at, time_at, time_of}
+use Rattle.vme_trace.specs.declared.step.Step.{Step}
+use Rattle.vme_trace.proofs.CutBlocks.{levels_at-taken}
+use Rattle.vme_trace.proofs.WellFormedSteps.{levels_at-step}
+use Rattle.vme_account.specs.RecentSteps.{levels_of, with_step}
+
+-- ---- the instants so far stay
+
+get_before : (xs ys : List Step) (n : ℕ) → n < length xs → slice_get (xs ++ ys) n ≡ slice_get xs n
+get_before [] ys n lt = absurd (omega (arith, lt))
+get_before (x ∷ xs) ys zero lt = refl
+get_before (x ∷ xs) ys (suc n) lt = get_before xs ys n (omega (arith, lt))
+
+pub levels-stay : (t : Trace) (s : Step) (n : ℕ) → n ≤ length t.steps → levels_at (with_step t s) n ≡ levels_at t n
+levels-stay t s n le =
+    levels_at-taken (with_step t s) n
+    ∙ ap (levels_after t.opening) (take-append-le n t.steps (s ∷ []) le) ∙ sym (levels_at-taken t n)
+
+pub time-stays : (t : Trace) (s : Step) (n : ℕ) → n ≤ length t.steps → time_at (with_step t s) n ≡ time_at t n
+time-stays t s zero le = refl
+time-stays t s (suc n) le = ap time_of (get_before t.steps (s ∷ []) n (omega (arith, le)))
+
+drop_before : (xs ys : List Step) (n : ℕ) → n ≤ length xs → drop n (xs ++ ys) ≡ drop n xs ++ ys
+drop_before xs ys zero le = refl
+drop_before [] ys (suc n) le = absurd (omega (arith, le))
+drop_before (x ∷ xs) ys (suc n) le = drop_before xs ys n (omega (arith, le))
+
+pub kept-more : (t : Trace) (s : Step) (first : ℕ) (older newer : List Step) → older ++ newer ≡ drop first t.steps
+    → first ≤ length t.steps → older ++ (newer ++ s ∷ []) ≡ drop first (t.steps ++ s ∷ [])
+kept-more t s first older newer is le =
+    sym (append_assoc older newer (s ∷ [])) ∙ ap (λ (xs : List Step). xs ++ s ∷ []) is
+    ∙ sym (drop_before t.steps (s ∷ []) first le)
+
+-- ---- what is forgotten
+
+abbrev no_steps : List Step
+no_steps = []
+
+drop_nothing : (k : ℕ) → drop k no_steps ≡ no_steps
+drop_nothing zero = refl
+drop_nothing (suc k) = refl
+
+get_nothing : (k : ℕ) → slice_get no_steps k ≡ None
+get_nothing zero = refl
+get_nothing (suc k) = refl
+
+drop_more : (xs : List Step) (n m : ℕ) → drop (n + m) xs ≡ drop m (drop n xs)
+drop_more xs zero m = ap (λ (k : ℕ). drop k xs) (omega arith)
+drop_more [] (suc n) m = drop_nothing (suc n + m) ∙ sym (drop_nothing m)
+drop_more (x ∷ xs) (suc n) m =
+    let e : suc n + m ≡ suc (n + m) = omega arith in
+    ap (λ (k : ℕ). drop k (x ∷ xs)) e ∙ drop_more xs n m
+
+module _ (t : Trace) (first : ℕ) (older newer : List Step) (kept : older ++ newer ≡ drop first t.steps) where
+  pub newer-behind : newer ≡ drop (first + length older) t.steps
+  newer-behind = sym (drop_more t.steps first (length older) ∙ ap (drop (length older)) (sym kept)
+      ∙ drop_at older newer (length older) refl)
+
+  pub within-behind : first ≤ length t.steps → first + length older ≤ length t.steps
+  within-behind le =
+      let long : length (older ++ newer) ≡ length t.steps - first = ap length kept ∙ length-drop first t.steps in
+      omega (arith, long, length-append older newer, le)
+
+-- ---- the step at a place
+
+pub step-at : (t : Trace) (first n : ℕ) (kept : List Step) → kept ≡ drop first t.steps → first ≤ n
+    → slice_get kept (n - first) ≡ slice_get t.steps n
+step-at t first n kept is le =
+    ap (λ (xs : List Step). slice_get xs (n - first)) is ∙ get_dropped t.steps first (n - first)
+    ∙ ap (slice_get t.steps) (omega (arith, le))
+  where
+    get_dropped : (xs : List Step) (m k : ℕ) → slice_get (drop m xs) k ≡ slice_get xs (m + k)
+    get_dropped xs zero k = ap (slice_get xs) (omega arith)
+    get_dropped [] (suc m) k = get_nothing k ∙ sym (get_nothing (suc m + k))
+    get_dropped (x ∷ xs) (suc m) k =
+        let e : suc m + k ≡ suc (m + k) = omega arith in
+        get_dropped xs m k ∙ sym (ap (slice_get (x ∷ xs)) e)
+
+pub next-some : (t : Trace) (n : ℕ) (v w : Levels) (step : Step) → slice_get t.steps n ≡ Some step → v ≡ levels_at t n
+    → w ≡ changed v step.changes → w ≡ levels_at t (n + 1)
+next-some t n v w step there is made = made ∙ ap (λ (u : Levels). changed u step.changes) is
+    ∙ sym (levels_at-step t n ∙ ap (after (levels_at t n)) there)
+
+pub next-none : (t : Trace) (n : ℕ) (v : Levels) → slice_get t.steps n ≡ None → v ≡ levels_at t n
+    → v ≡ levels_at t (n + 1)
+next-none t n v none is = is ∙ sym (levels_at-step t n ∙ ap (after (levels_at t n)) none)
+
+-- one instant more
+pub levels-more : (t : Trace) (first place : ℕ) (items : List Levels) (v : Levels) → first ≤ place → items
+    ≡ levels_of t first (place - first + 1) → v ≡ levels_at t (place + 1)
+    → items ++ v ∷ [] ≡ levels_of t first (place + 1 - first + 1)
+levels-more t first place items v le is now =
+    let count : place + 1 - first + 1 ≡ (place - first + 1) + 1 = omega arith in
+    let at : first + (place - first + 1) ≡ place + 1 = omega arith in
+    ap (λ (l : List Levels). l ++ v ∷ []) is
+    ∙ ap (λ (u : Levels). levels_of t first (place - first + 1) ++ u ∷ []) (now ∙ ap (levels_at t) (sym at))
+    ∙ sym (ap (levels_of t first) count ∙ map-range_with_len_more (levels_at t) first (place - first + 1)
+    (first + (place - first + 1)) refl)

@@ -1,0 +1,49 @@
+-- What takes the steps keeps up with one step more.
+use Rattle.std.proofs.Common.{◌≡◌, ◌+◌, ◌<◌, ◌≤◌, ℕ, List, [], ◌∷◌, ◌++◌, length, min, Option, None, Some, arith}
+use Rattle.std.proofs.Common.{length-append}
+use Rattle.std.specs.Global.{Box}
+use Rattle.std.specs.Prelude.{Err, IfOk, IfSome, Ok, Result}
+use Rattle.vme_trace.specs.Levels.{Levels}
+use Rattle.vme_trace.specs.WellFormed.{capture_limit}
+use Rattle.vme_trace.specs.declared.step.Step.{Step}
+use Rattle.vme_account.specs.Accounts.{IsRunning, KeepsAccount}
+use Rattle.vme_account.specs.declared.running_account.RunningAccount.{RunningAccount}
+
+-- what holds anyway
+pub if-ok : {A B P : Type 0} → P → (r : Result A B) → IfOk r (λ a. P)
+if-ok p (Ok a) = p
+if-ok p (Err e) = tt
+
+-- before the first step
+pub running-first : (o : Levels) (a : Option (Box RunningAccount)) → IfSome a (λ b. KeepsAccount o [] b.value)
+    → IsRunning o [] a 0
+running-first o a keeps = record { counted = omega arith; kept = λ e. keeps }
+
+-- where there was no memory, nothing is known but the count
+pub running-lost : (o : Levels) (x : List Step) (a : Option (Box RunningAccount)) (count : ℕ) → IsRunning o x a count
+    → IsRunning o x None count
+running-lost o x a count i = record { counted = i.counted; kept = λ e. tt }
+
+module _ (o : Levels) (x : List Step) (s : Step) (a : Option (Box RunningAccount)) (count more : ℕ)
+    (i : IsRunning o x a count) (next : more ≡ min (count + 1) (capture_limit + 1)) where
+  longer : length (x ++ s ∷ []) ≡ length x + 1
+  longer = length-append x (s ∷ [])
+
+  counted : more ≡ min (length (x ++ s ∷ [])) (capture_limit + 1)
+  counted = omega (arith, next, i.counted, longer)
+
+  -- a step is passed over where there are too many, or was no memory
+  pub running-passed : IsRunning o (x ++ s ∷ []) None more
+  running-passed = record { counted = counted; kept = λ few. tt }
+
+  -- a step that is taken
+  module _ (few : more ≤ 67108864) (b : Box RunningAccount) (some : a ≡ Some b) where
+    pub running-keeps : KeepsAccount o x b.value
+    running-keeps = rw some at i.kept (omega (arith, few, next))
+
+    pub running-short : length x < 67108864
+    running-short = omega (arith, few, next, i.counted)
+
+    pub running-taken : (b' : Box RunningAccount) → (KeepsAccount o x b.value → KeepsAccount o (x ++ s ∷ []) b'.value)
+        → IsRunning o (x ++ s ∷ []) (Some b') more
+    running-taken b' takes = record { counted = counted; kept = λ few. takes running-keeps }

@@ -1,0 +1,10 @@
+-- The changes that are left make of the falls what all of them do.
+use Rattle.std.proofs.Common.{◌≡◌, drop}
+use Rattle.vme_account.specs.LastEvents.{noted}
+use Rattle.vme_account.specs.RelatedEvents.{falls_shown}
+use Rattle.vme_account.proofs.last_events.LastEvents.note_falls.Given as goal
+
+abbrev pub invariant-loop-change : goal.invariant-loop-change
+invariant-loop-change l =
+    record l.self { falls = noted (falls_shown l.before l.after) l.moment l.self.falls (drop l.change-index l.changes) }
+    ≡ record l.fn.self { falls = noted (falls_shown l.before l.after) l.moment l.fn.self.falls l.changes }

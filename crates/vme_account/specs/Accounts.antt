@@ -1,0 +1,70 @@
+-- What an account says of a recording.
+use Rattle.std.specs.Prelude.{◌≡◌, ◌+◌, ◌≤◌, ℕ, true, List, length, min, IfSome, None, Option, count_by, is_some}
+use Rattle.std.specs.Global.{Box}
+use Rattle.vme_audit.specs.Parts.{named_break}
+use Rattle.vme_listing.specs.Recorded.{recorded_rows}
+use Rattle.vme_monitor.specs.OverStretches.{has_started}
+use Rattle.vme_monitor.specs.Whole.{has_span}
+use Rattle.vme_trace.specs.Judged.{judged_spans}
+use Rattle.vme_trace.specs.Levels.{Levels}
+use Rattle.vme_trace.specs.Trace.{Trace}
+use Rattle.vme_trace.specs.Verdict.{verdict}
+use Rattle.vme_trace.specs.WellFormed.{capture_limit}
+use Rattle.vme_trace.specs.declared.step.Step.{Step}
+use Rattle.vme_trace.specs.declared.verdict.Break.{Break}
+use Rattle.vme_account.specs.Judging.{FollowsSteps}
+use Rattle.vme_account.specs.StoredSteps.{AreStored}
+use Rattle.vme_account.specs.KnownTimes.{AreTimes}
+use Rattle.vme_account.specs.UnendedRows.{open_in, open_row}
+use Rattle.vme_account.specs.RowCounts.{count_in, is_counted}
+use Rattle.vme_account.specs.Rows.{is_of}
+use Rattle.vme_account.specs.StretchEvents.{AreEvents}
+use Rattle.vme_account.specs.declared.account.Account.{Account}
+use Rattle.vme_account.specs.declared.row_kind.Part.{Part}
+use Rattle.vme_account.specs.declared.row_kind.RowKind.{RowKind}
+use Rattle.vme_account.specs.declared.running_account.RunningAccount.{RunningAccount}
+
+-- ---- how far it has come
+
+-- it follows the steps, and keeps the last of them
+pub record KeepsAccount (o : Levels) (x : List Step) (a : RunningAccount) : Type 0 where
+  pub judged : FollowsSteps o x a.judged
+  pub kept : AreStored o x a.kept
+
+-- it does so unless there was no memory, or there are too many steps; these are counted as far as a recording has them
+pub record IsRunning (o : Levels) (x : List Step) (a : Option (Box RunningAccount)) (count : ℕ) : Type 0 where
+  pub counted : count ≡ min (length x) (capture_limit + 1)
+  pub kept : count ≤ 67108864 → IfSome a (λ b. KeepsAccount o x b.value)
+
+-- ---- where the recording ends
+
+-- the break that is found
+abbrev pub found_break : Account → Option Break
+found_break a = a.running.value.judged.noted.found
+
+-- the instant from which on the last stretch is judged
+abbrev pub judged_from : Account → ℕ
+judged_from a = a.running.value.judged.noted.events.start
+
+-- the first instant whose levels are kept
+abbrev pub first_kept : Account → ℕ
+first_kept a = a.running.value.kept.recent.first
+
+-- and the last one
+abbrev pub last_kept : Account → ℕ
+last_kept a = a.running.value.kept.end
+
+-- It opens with these levels. The break is that of the verdict, and something is judged where it is so. The rows are
+-- those of the listing, those that are open and those of each kind. The steps that are kept, the times and the events
+-- are those of the recording.
+pub record IsAccountOf (a : Account) (t : Trace) : Type 0 where
+  pub opening : a.opening ≡ t.opening
+  pub found : found_break a ≡ named_break (verdict t)
+  pub started : found_break a ≡ None → has_started a.running.value.judged.memories.known ≡ has_span (judged_spans t)
+  pub unended : (p : Part) → open_in a.opened p ≡ open_row p (recorded_rows t)
+  pub counts : (k : RowKind) → is_counted k ≡ true → count_in a.counts k ≡ count_by (is_of k) (recorded_rows t)
+  pub kept : AreStored t.opening t.steps a.running.value.kept
+  pub times : AreTimes t a.running.value.judged.noted.times
+  pub events : AreEvents t a.running.value.judged.noted.events
+  pub broken : IfSome (found_break a) (λ b. (b.instant ≡ a.running.value.judged.noted.events.seen)
+      × (is_some a.running.value.judged.noted.events.before ≡ true))

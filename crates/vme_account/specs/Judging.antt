@@ -1,0 +1,56 @@
+-- How far the judging of a recording has come, and what is noted of its steps up to the first break.
+use Rattle.std.specs.Prelude.{◌≡◌, ◌+◌, ◌++◌, ℕ, List, map, length, true, IfSome, None, is_some, if◌then◌else◌}
+use Rattle.std.specs.List.{fold}
+use Rattle.std.specs.Option.{option_map}
+use Rattle.vme_auditor.specs.declared.memories.AllShown.{AllShown}
+use Rattle.vme_monitor.specs.Run.{break_at, kinds_of, mark_at}
+use Rattle.vme_summary.specs.MarkedRows.{opening_marks}
+use Rattle.vme_trace.specs.Levels.{Levels}
+use Rattle.vme_trace.specs.Trace.{Trace, levels_at, time_at}
+use Rattle.vme_trace.specs.declared.step.Step.{Step}
+use Rattle.vme_account.specs.KnownTimes.{AreTimes}
+use Rattle.vme_account.specs.Marked.{marked, marked_next}
+use Rattle.vme_account.specs.StepsReached.{reached}
+use Rattle.vme_account.specs.StretchEvents.{AreEvents}
+use Rattle.vme_account.specs.declared.followed_steps.FollowedSteps.{FollowedSteps}
+use Rattle.vme_account.specs.declared.noted.Noted.{Noted}
+
+abbrev pub recorded : Levels → List Step → Trace
+recorded o x = record { opening = o; steps = x }
+
+-- ---- what is noted
+
+pub record IsNotedAtOpening (o : Levels) (n : Noted) : Type 0 where
+  pub found : n.found ≡ None
+  pub marked : n.marked ≡ marked (opening_marks o)
+  pub times : (t : Trace) → AreTimes t n.times
+  pub events : (t : Trace) → AreEvents t n.events
+  pub seen : n.events.seen ≡ 0
+
+-- this is noted of a step at an instant and a time, between these levels, that shows this
+pub record AreNoted (v w : Levels) (instant time : ℕ) (shown : AllShown) (old new : Noted) : Type 0 where
+  pub found : new.found ≡ option_map (break_at instant time) shown.fault
+  pub marked : new.marked
+      ≡ (if is_some shown.fault then old.marked
+      else fold marked_next old.marked (map (mark_at instant)
+      (kinds_of shown.stretch ++ (kinds_of shown.tenure ++ kinds_of shown.transfer))))
+  pub times : (t : Trace) → AreTimes t old.times → time ≡ time_at t instant → AreTimes t new.times
+  pub events : (t : Trace) → AreEvents t old.events → instant ≡ old.events.seen + 1 → v ≡ levels_at t old.events.seen
+      → w ≡ levels_at t (old.events.seen + 1) → time ≡ time_at t (old.events.seen + 1) → AreEvents t new.events
+  pub seen : new.events.seen ≡ instant
+  pub broken : IfSome shown.fault (λ f. is_some new.events.before ≡ true)
+
+-- ---- how far it has come
+
+-- Behind some steps the break is found that they have, and the marks before it are taken; the times and the events that
+-- are noted are those of the recording, however it goes on; and up to the break the monitors are where the steps lead.
+pub record FollowsSteps (o : Levels) (x : List Step) (j : FollowedSteps) : Type 0 where
+  pub found : j.noted.found ≡ (reached o x).found
+  pub marked : j.noted.marked ≡ marked (reached o x).marks
+  pub times : (y : List Step) → AreTimes (recorded o (x ++ y)) j.noted.times
+  pub events : (y : List Step) → AreEvents (recorded o (x ++ y)) j.noted.events
+  pub broken : IfSome j.noted.found (λ b. (b.instant ≡ j.noted.events.seen) × (is_some j.noted.events.before ≡ true))
+  pub before : j.noted.found ≡ None → j.view.before ≡ (reached o x).levels
+  pub after : j.noted.found ≡ None → j.view.after ≡ (reached o x).levels
+  pub memories : j.noted.found ≡ None → j.memories ≡ (reached o x).memories
+  pub seen : j.noted.found ≡ None → j.noted.events.seen ≡ length x

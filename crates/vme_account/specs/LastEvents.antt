@@ -1,0 +1,130 @@
+-- What happened last in the stretch that is judged, as far as it has come.
+use Rattle.std.specs.Prelude.{◌≡◌, ◌+◌, ◌<◌, nat_le, ℕ, Bool, List, Option, None, Some, is_some}
+use Rattle.std.specs.Prelude.{if◌then◌else◌, length, replicate}
+use Rattle.std.specs.Prelude.{slice_index_or, slice_set, option_map}
+use Rattle.std.specs.List.{fold}
+use Rattle.vme_trace.specs.Edges.{answer_between, starts_between}
+use Rattle.vme_trace.specs.Instants.{greatest, least}
+use Rattle.vme_trace.specs.Levels.{Levels}
+use Rattle.vme_trace.specs.LineNumbers.{AS, BERR, DS0, DS1, DTACK, grant, line_count}
+use Rattle.vme_trace.specs.Trace.{Trace, time_at}
+use Rattle.vme_trace.specs.declared.step.Change.{Change}
+use Rattle.vme_account.specs.RelatedEvents.{falls_shown, happens, rises_shown, since}
+use Rattle.vme_account.specs.declared.last_events.LastEvents.{LastEvents}
+use Rattle.vme_account.specs.declared.last_events.Moment.{Moment}
+use Rattle.vme_account.specs.declared.related_event.StepEvent.{StepEvent}
+use Rattle.vme_account.specs.declared.related_event.StepEvent.TheVariants.{AnswerFalls, Falls, GrantFalls, Rises}
+use Rattle.vme_account.specs.declared.related_event.StepEvent.TheVariants.{StrobeRises, TransferStarts}
+
+-- ---- one step more
+
+abbrev pub no_events : LastEvents
+no_events =
+    record {
+      falls = replicate line_count None;
+      rises = replicate line_count None;
+      transfer = None;
+      answer_in_transfer = None;
+      answer_in_cycle = None;
+      dtack_in_cycle = None;
+    }
+
+-- a moment in the places of the lines that change and of which this holds
+abbrev pub noted : (ℕ → Bool) → Moment → List (Option Moment) → List Change → List (Option Moment)
+noted is m table cs = fold (λ table c. if is c.line then slice_set table c.line (Some m) else table) table cs
+
+abbrev pub now_or : Bool → Moment → Option Moment → Option Moment
+now_or is m before = if is then Some m else before
+
+abbrev pub unless : Bool → Option Moment → Option Moment
+unless is before = if is then None else before
+
+abbrev pub first_or : Bool → Moment → Option Moment → Option Moment
+first_or is m before = if is_some before then before else if is then Some m else None
+
+-- with a transfer that starts, an answer, a cycle that begins, and an answer by DTACK
+abbrev pub handshake_after : Bool → Bool → Bool → Bool → Moment → LastEvents → LastEvents
+handshake_after starts answers begins by_dtack m e =
+    record e {
+      transfer = now_or starts m e.transfer;
+      answer_in_transfer = first_or answers m (unless starts e.answer_in_transfer);
+      answer_in_cycle = first_or answers m (unless begins e.answer_in_cycle);
+      dtack_in_cycle = first_or by_dtack m (unless begins e.dtack_in_cycle);
+    }
+
+-- what happened last, with a step between these levels
+abbrev pub last_after : Levels → Levels → List Change → Moment → LastEvents → LastEvents
+last_after v w cs m e =
+    record {
+      falls = noted (falls_shown v w) m e.falls cs;
+      rises = noted (rises_shown v w) m e.rises cs;
+      transfer = now_or (starts_between v w) m e.transfer;
+      answer_in_transfer = first_or (answer_between v w) m (unless (starts_between v w) e.answer_in_transfer);
+      answer_in_cycle = first_or (answer_between v w) m (unless (falls_shown v w AS) e.answer_in_cycle);
+      dtack_in_cycle = first_or (falls_shown v w DTACK) m (unless (falls_shown v w AS) e.dtack_in_cycle);
+    }
+
+-- ---- when an event happened last
+
+-- the later of two moments
+abbrev pub later_of : Moment → Option Moment → Option Moment
+later_of m None = Some m
+later_of m (Some n) = if nat_le m.instant n.instant then Some n else Some m
+
+abbrev pub later : Option Moment → Option Moment → Option Moment
+later None other = other
+later (Some m) other = later_of m other
+
+abbrev pub last_fall : LastEvents → ℕ → Option Moment
+last_fall e l = slice_index_or e.falls l None
+
+abbrev pub last_rise : LastEvents → ℕ → Option Moment
+last_rise e l = slice_index_or e.rises l None
+
+-- but for answers
+abbrev pub last_of : LastEvents → StepEvent → Option Moment
+last_of e (Falls l) = last_fall e l
+last_of e (Rises l) = last_rise e l
+last_of e StrobeRises = later (last_rise e DS0) (last_rise e DS1)
+last_of e TransferStarts = e.transfer
+last_of e AnswerFalls = None
+last_of e GrantFalls =
+    later (later (later (last_fall e (grant 0 0)) (last_fall e (grant 1 0))) (last_fall e (grant 2 0)))
+    (last_fall e (grant 3 0))
+
+-- an answer, or else a fall of DTACK, in the cycle
+abbrev pub first_in_cycle : LastEvents → StepEvent → Option Moment
+first_in_cycle e AnswerFalls = e.answer_in_cycle
+first_in_cycle e k = e.dtack_in_cycle
+
+-- ---- in a recording
+
+-- an instant with its time, and whether an answer line falls there
+abbrev pub moment_at : Trace → ℕ → Moment
+moment_at t i =
+    record {
+      instant = i;
+      time = time_at t i;
+      dtack_falls = happens t (Falls DTACK) i;
+      berr_falls = happens t (Falls BERR) i;
+    }
+
+abbrev pub moment : Trace → Option ℕ → Option Moment
+moment t found = option_map (moment_at t) found
+
+-- In the stretch that is judged from instant s on these are the last events up to instant i, and the first answers of
+-- the transfer and of the cycle that are open there.
+pub record AreLast (t : Trace) (s i : ℕ) (e : LastEvents) : Type 0 where
+  pub all_falls : length e.falls ≡ line_count
+  pub all_rises : length e.rises ≡ line_count
+  pub falls : (l : ℕ) → l < line_count
+      → slice_index_or e.falls l None ≡ moment t (greatest (happens t (Falls l)) (s + 1) (i + 1))
+  pub rises : (l : ℕ) → l < line_count
+      → slice_index_or e.rises l None ≡ moment t (greatest (happens t (Rises l)) (s + 1) (i + 1))
+  pub transfer : e.transfer ≡ moment t (greatest (happens t TransferStarts) (s + 1) (i + 1))
+  pub answer_in_transfer : e.answer_in_transfer
+      ≡ moment t (least (happens t AnswerFalls) (since t TransferStarts s i) (i + 1))
+  pub answer_in_cycle : e.answer_in_cycle
+      ≡ moment t (least (happens t AnswerFalls) (since t (Falls AS) s i) (i + 1))
+  pub dtack_in_cycle : e.dtack_in_cycle
+      ≡ moment t (least (happens t (Falls DTACK)) (since t (Falls AS) s i) (i + 1))

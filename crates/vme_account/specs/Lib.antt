@@ -1,0 +1,15 @@
+pub mod Accounts
+pub mod Idle
+pub mod Judging
+pub mod KnownRows
+pub mod KnownTimes
+pub mod LastEvents
+pub mod Marked
+pub mod RecentSteps
+pub mod RelatedEvents
+pub mod RowCounts
+pub mod Rows
+pub mod StepsReached
+pub mod StoredSteps
+pub mod StretchEvents
+pub mod UnendedRows

@@ -1,0 +1,12 @@
+-- The steps of a recording that are kept.
+use Rattle.std.specs.Prelude.{◌≡◌, ◌≤◌, List, length, take}
+use Rattle.vme_trace.specs.Levels.{Levels}
+use Rattle.vme_trace.specs.declared.step.Step.{Step}
+use Rattle.vme_account.specs.RecentSteps.{AreRecent}
+use Rattle.vme_account.specs.declared.stored_steps.StoredSteps.{StoredSteps}
+
+-- so many steps came, and the last of them up to some instant are kept
+pub record AreStored (o : Levels) (x : List Step) (k : StoredSteps) : Type 0 where
+  pub counted : k.steps ≡ length x
+  pub within : k.end ≤ length x
+  pub recent : AreRecent k.recent (record { opening = o; steps = take k.end x })

@@ -1,0 +1,63 @@
+-- What happened last in a stretch, up to its break and before it.
+use Rattle.std.specs.Prelude.{◌-◌, ◌==◌, ◌<◌, ◌≤◌, ℕ, Bool, true, false, nat_lt, Option, None, Some, IfSome}
+use Rattle.std.specs.Prelude.{if◌then◌else◌}
+use Rattle.vme_trace.specs.LineNumbers.{AS, DTACK, line_count}
+use Rattle.vme_trace.specs.Trace.{Trace}
+use Rattle.vme_account.specs.LastEvents.{AreLast, first_in_cycle, last_of}
+use Rattle.vme_account.specs.declared.last_events.LastEvents.{LastEvents}
+use Rattle.vme_account.specs.declared.last_events.Moment.{Moment}
+use Rattle.vme_account.specs.declared.related_event.Occurrence.{Occurrence}
+use Rattle.vme_account.specs.declared.related_event.Occurrence.TheVariants.{Last, LastOrNow, FirstInTransfer}
+use Rattle.vme_account.specs.declared.related_event.Occurrence.TheVariants.{FirstInCycle}
+use Rattle.vme_account.specs.declared.related_event.RelatedEvent.{RelatedEvent}
+use Rattle.vme_account.specs.declared.related_event.StepEvent.{StepEvent}
+use Rattle.vme_account.specs.declared.related_event.StepEvent.TheVariants.{AnswerFalls, Falls, Rises, TransferStarts}
+use Rattle.vme_account.specs.declared.stretch_events.StretchEvents.{StretchEvents}
+
+-- these are the last events of the stretch up to its last instant, and up to the one before, if they are kept
+pub record AreEvents (t : Trace) (e : StretchEvents) : Type 0 where
+  pub start : e.start ≤ e.seen
+  pub last : AreLast t e.start e.seen e.last
+  pub before : IfSome e.before (λ b. (e.start < e.seen) × AreLast t e.start (e.seen - 1) b)
+
+-- ---- which are known, and how
+
+-- it was at this instant
+abbrev pub is_at : Option Moment → ℕ → Bool
+is_at None j = false
+is_at (Some m) j = m.instant == j
+
+abbrev pub is_now : LastEvents → ℕ → StepEvent → Bool
+is_now now j k = is_at (last_of now k) j
+
+-- the one that is meant, by what happened up to an instant, and up to the one before
+abbrev pub moment_before : LastEvents → ℕ → LastEvents → Occurrence → StepEvent → Option Moment
+moment_before now j before Last k = last_of before k
+moment_before now j before LastOrNow k = last_of now k
+moment_before now j before FirstInTransfer k = if is_now now j TransferStarts then None else before.answer_in_transfer
+moment_before now j before FirstInCycle k = if is_now now j (Falls AS) then None else first_in_cycle before k
+
+abbrev pub is_answer : StepEvent → Bool
+is_answer AnswerFalls = true
+is_answer e = false
+
+abbrev pub is_kept_last : StepEvent → Bool
+is_kept_last AnswerFalls = false
+is_kept_last (Falls l) = nat_lt l line_count
+is_kept_last (Rises l) = nat_lt l line_count
+is_kept_last e = true
+
+abbrev pub is_kept_first : StepEvent → Bool
+is_kept_first AnswerFalls = true
+is_kept_first (Falls l) = l == DTACK
+is_kept_first e = false
+
+-- When it happened is known: of answers the first, of the other events the last time.
+abbrev pub is_kept_at : Occurrence → StepEvent → Bool
+is_kept_at Last e = is_kept_last e
+is_kept_at LastOrNow e = is_kept_last e
+is_kept_at FirstInTransfer e = is_answer e
+is_kept_at FirstInCycle e = is_kept_first e
+
+abbrev pub is_kept : RelatedEvent → Bool
+is_kept other = is_kept_at other.occurrence other.event

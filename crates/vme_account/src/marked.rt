@@ -1,0 +1,214 @@
+//! What is kept of the marks of a recording.
+
+ghost use Rattle.std.specs.Prelude.{◌≡◌, ◌∷◌, ◌&&◌, [], if◌then◌else◌, IfOk, List, None, OnOk, count_by, map};
+ghost use Rattle.std.specs.Prelude.{option_map, true};
+ghost use Rattle.std.specs.List.{fold};
+ghost use Rattle.std.specs.Option.{option_to_list};
+ghost use Rattle.vme_monitor.specs.Run.{answered_kind, cycle_kind, kinds_of, mark_at, tenure_kind, when};
+ghost use Rattle.vme_monitor.specs.declared.mark.Mark.{Mark as MarkOf};
+ghost use Rattle.vme_monitor.specs.declared.mark.MarkKind.TheVariants.{Open, Start, Transfer};
+ghost use Rattle.vme_summary.specs.MarkedRows.{opening_marks, rows_of};
+ghost use Rattle.vme_account.specs.Marked.{counts_in, marked, marked_next, nothing_marked};
+ghost use Rattle.vme_account.specs.UnendedRows.{open_in, open_row};
+ghost use Rattle.vme_account.specs.RowCounts.{count_in, is_counted};
+ghost use Rattle.vme_account.specs.Rows.{is_of};
+ghost use Rattle.vme_account.specs.declared.row_kind.Part.{Part as PartOf};
+ghost use Rattle.vme_account.specs.declared.row_kind.RowKind.{RowKind as KindOf};
+
+use crate::open_rows::UnendedRows;
+use crate::row_counts::RowCounts;
+use std::alloc::AllocError;
+use vme_monitor::mark::{BusGrant, CycleStart, Mark, MarkKind, StepMarks, TransferAnswer};
+use vme_trace::{Line, Lines};
+
+/// The rows that are open, and how many there are of each kind.
+#[derive(Clone, Copy, Debug, PartialEq, Eq)]
+pub struct Marked {
+    opened: UnendedRows,
+    /// The counts, but for the transfer that waits.
+    counts: RowCounts,
+}
+
+impl Marked {
+    /// Before any mark.
+    pub fn none() -> Marked
+        ensures { result ≡ nothing_marked }
+    {
+        Marked {
+            opened: UnendedRows::none(),
+            counts: RowCounts::none(),
+        }
+    }
+
+    /// What the opening shows: judging starts there if it is idle, and a tenure is open if the bus is busy.
+    pub fn at_opening(opening: &Lines) -> Marked
+        ensures { result ≡ marked (opening_marks opening.now) }
+    {
+        Marked::opened_by(opening.is_idle(), opening.level(Line::BBSY).is_low())
+    }
+
+    /// The same, by whether the opening is idle, and the bus busy.
+    fn opened_by(is_idle: bool, is_busy: bool) -> Marked
+        ensures { result ≡ (if is_idle && is_busy then marked (mark_at 0 Start ∷ mark_at 0 Open ∷ []) else
+            nothing_marked) }
+    {
+        if is_idle && is_busy {
+            Marked::busy()
+        } else {
+            Marked::none()
+        }
+    }
+
+    /// Judging starts at the opening, where a tenure is open.
+    fn busy() -> Marked
+        ensures { result ≡ marked (mark_at 0 Start ∷ mark_at 0 Open ∷ []) }
+    {
+        let mut opened = UnendedRows::none();
+        opened.take(&Mark {
+            instant: 0,
+            kind: MarkKind::Open,
+        });
+        Marked {
+            opened,
+            counts: RowCounts::with_open_tenure(),
+        }
+    }
+
+    /// Takes what a step shows to one monitor. The only error is want of memory.
+    #[inline(always)]
+    pub fn take_shown(&mut self, instant: u32, shown: &StepMarks) -> Result<(), AllocError>
+        ensures { OnOk result (self.new
+            ≡ fold marked_next self.old (map (mark_at instant) (kinds_of shown.now))) }
+    {
+        if shown.is_nothing() {
+            return Ok(());
+        }
+        self.take_kinds(instant, shown)
+    }
+
+    #[inline(never)]
+    fn take_kinds(&mut self, instant: u32, shown: &StepMarks) -> Result<(), AllocError>
+        ensures { OnOk result (self.new
+            ≡ fold marked_next self.old (map (mark_at instant) (kinds_of shown.now))) }
+    {
+        self.take_kind(instant, kind_if(shown.reset, MarkKind::Reset))?;
+        self.take_kind(instant, kind_if(shown.start, MarkKind::Start))?;
+        self.take_kind(instant, kind_if(shown.opened, MarkKind::Open))?;
+        self.take_kind(instant, granted_tenure(shown.tenure))?;
+        self.take_kind(instant, kind_if(shown.tenure_end, MarkKind::TenureEnd))?;
+        self.take_kind(instant, started_cycle(shown.cycle))?;
+        self.take_kind(instant, kind_if(shown.cycle_end, MarkKind::CycleEnd))?;
+        self.take_kind(instant, started_transfer(shown.transfer))?;
+        self.take_kind(instant, given_answer(shown.answer))?;
+        self.take_kind(instant, kind_if(shown.close, MarkKind::Close))
+    }
+
+    #[inline(always)]
+    fn take_kind(&mut self, instant: u32, kind: Option<MarkKind>) -> Result<(), AllocError>
+        ensures { OnOk result (self.new
+            ≡ fold marked_next self.old (map (mark_at instant) (option_to_list kind))) }
+    {
+        match kind {
+            Some(kind) => self.take(&Mark { instant, kind }),
+            None => Ok(()),
+        }
+    }
+
+    /// Takes a mark. The only error is want of memory.
+    pub fn take(&mut self, mark: &Mark) -> Result<(), AllocError>
+        ensures { OnOk result (self.new ≡ marked_next self.old mark.now) }
+    {
+        self.counts.take(mark, &self.opened)?;
+        self.opened.take(mark);
+        Ok(())
+    }
+
+    /// The last rows that are open: of marks, those of their listing.
+    pub fn opened(&self) -> UnendedRows
+        ensures value { result ≡ self.now.opened }
+        ensures listed { (ms : List MarkOf) (p : PartOf) → self.now ≡ marked ms
+            → open_in result p ≡ open_row p (rows_of None ms) }
+    {
+        self.opened
+    }
+
+    /// How many rows there are of each kind, where no mark follows: of marks, those of their listing.
+    pub fn counts(&self) -> Result<RowCounts, AllocError>
+        ensures value { IfOk result (λ c. c ≡ counts_in self.now) }
+        ensures listed { (ms : List MarkOf) (k : KindOf) → self.now ≡ marked ms → is_counted k ≡ true
+            → IfOk result (λ c. count_in c k ≡ count_by (is_of k) (rows_of None ms)) }
+    {
+        let mut counts = self.counts;
+        counts.leave(&self.opened)?;
+        Ok(counts)
+    }
+}
+
+#[inline(always)]
+fn kind_if(is_shown: bool, kind: MarkKind) -> Option<MarkKind>
+    ensures { result ≡ when is_shown kind }
+{
+    if is_shown { Some(kind) } else { None }
+}
+
+#[inline(always)]
+fn granted_tenure(shown: Option<BusGrant>) -> Option<MarkKind>
+    ensures { result ≡ option_map tenure_kind shown }
+{
+    match shown {
+        Some(grant) => Some(MarkKind::Tenure {
+            level: grant.level,
+            slot: grant.slot,
+        }),
+        None => None,
+    }
+}
+
+#[inline(always)]
+fn started_cycle(shown: Option<CycleStart>) -> Option<MarkKind>
+    ensures { result ≡ option_map cycle_kind shown }
+{
+    match shown {
+        Some(start) => Some(MarkKind::Cycle {
+            class: start.class,
+            am: start.modifier,
+            address: start.address,
+        }),
+        None => None,
+    }
+}
+
+#[inline(always)]
+fn started_transfer(shown: Option<bool>) -> Option<MarkKind>
+    ensures { result ≡ option_map Transfer shown }
+{
+    match shown {
+        Some(write) => Some(MarkKind::Transfer { write }),
+        None => None,
+    }
+}
+
+#[inline(always)]
+fn given_answer(shown: Option<TransferAnswer>) -> Option<MarkKind>
+    ensures { result ≡ option_map answered_kind shown }
+{
+    match shown {
+        Some(answer) => Some(answer_as_kind(&answer)),
+        None => None,
+    }
+}
+
+#[inline(always)]
+fn answer_as_kind(answer: &TransferAnswer) -> MarkKind
+    ensures { result ≡ answered_kind answer.now }
+{
+    match answer.lanes {
+        None => MarkKind::Answer { line: answer.line },
+        Some(lanes) => MarkKind::WriteAnswer {
+            line: answer.line,
+            moved: lanes.moved,
+            unknown: lanes.unknown,
+            value: lanes.value,
+        },
+    }
+}

@@ -1,0 +1,295 @@
+//! Which rows are open where some marks end, as the marks come.
+
+ghost use Rattle.std.specs.Prelude.{◌≡◌, ◌+◌, ◌%◌, ◌^◌, None, Some};
+ghost use Rattle.std.specs.Option.{option_or};
+ghost use Rattle.vme_summary.specs.MarkedRows.{marked_cycle, marked_direction, marked_line};
+ghost use Rattle.vme_trace.specs.Cycle.{highest_address};
+ghost use Rattle.vme_account.specs.UnendedRows.{after_answer, answered_in, closed, nothing_open, open_in, open_next};
+ghost use Rattle.vme_account.specs.UnendedRows.{pending, unless_left};
+
+use crate::row_kind::Part;
+use vme_listing::{AnswerLine, Direction, Row};
+use vme_monitor::mark::{Mark, MarkKind, TransferAnswer};
+use vme_trace::{Class, Lanes, Line, Space};
+
+/// A transfer that waits for its answer.
+#[derive(Clone, Copy, Debug, PartialEq, Eq)]
+pub struct Waiting {
+    /// Its start.
+    pub start: u32,
+    /// Its direction.
+    pub direction: Direction,
+    /// Where the strobes are high again, if they are.
+    pub close: Option<u32>,
+}
+
+/// The last rows that are open, of each part.
+#[derive(Clone, Copy, Debug, PartialEq, Eq)]
+pub struct UnendedRows {
+    tenure: Option<Row>,
+    cycle: Option<Row>,
+    /// The last transfer that stays without an answer.
+    unanswered: Option<Row>,
+    /// The last transfer behind it that is answered and not closed.
+    answered: Option<Row>,
+    /// The transfer behind them that waits.
+    waiting: Option<Waiting>,
+    /// The start of the latest cycle since a reset.
+    latest: Option<u32>,
+}
+
+fn pending(waiting: &Option<Waiting>) -> Option<Row>
+    ensures { result ≡ pending waiting.now }
+{
+    match waiting {
+        Some(w) => Some(Row::PendingTransfer {
+            start: w.start,
+            direction: w.direction,
+        }),
+        None => None,
+    }
+}
+
+fn unless_left(waiting: &Option<Waiting>, other: Option<Row>) -> Option<Row>
+    ensures { result ≡ unless_left waiting.now other }
+{
+    match waiting {
+        Some(_) => None,
+        None => other,
+    }
+}
+
+impl UnendedRows {
+    /// Before any mark.
+    pub fn none() -> UnendedRows
+        ensures { result ≡ nothing_open }
+    {
+        UnendedRows {
+            tenure: None,
+            cycle: None,
+            unanswered: None,
+            answered: None,
+            waiting: None,
+            latest: None,
+        }
+    }
+
+    /// Takes a mark.
+    pub fn take(&mut self, mark: &Mark)
+        ensures { self.new ≡ open_next self.old mark.now }
+    {
+        let i = mark.instant;
+        match mark.kind {
+            MarkKind::Reset => *self = UnendedRows::none(),
+            MarkKind::Start => {}
+            MarkKind::Open => {
+                self.tenure = Some(Row::OpenTenure {
+                    start: i,
+                    end: None,
+                });
+            }
+            MarkKind::Tenure { level, slot } => {
+                self.tenure = Some(Row::Tenure {
+                    start: i,
+                    level,
+                    slot,
+                    end: None,
+                });
+            }
+            MarkKind::TenureEnd => self.tenure = None,
+            MarkKind::Cycle { class, am, address } => {
+                self.cycle = Some(cycle_row(i, class, am, address));
+                self.latest = Some(i);
+            }
+            MarkKind::CycleEnd => self.cycle = None,
+            MarkKind::Transfer { write } => {
+                self.unanswered = pending(&self.waiting).or(self.unanswered);
+                self.answered = unless_left(&self.waiting, self.answered);
+                self.waiting = Some(Waiting {
+                    start: i,
+                    direction: direction_of(write),
+                    close: None,
+                });
+            }
+            MarkKind::Answer { line } => self.answer(i, TransferAnswer { line, lanes: None }),
+            MarkKind::WriteAnswer {
+                line,
+                moved,
+                unknown,
+                value,
+            } => {
+                let lanes = Lanes {
+                    moved,
+                    unknown,
+                    value,
+                };
+                self.answer(
+                    i,
+                    TransferAnswer {
+                        line,
+                        lanes: Some(lanes),
+                    },
+                );
+            }
+            MarkKind::Close => {
+                self.answered = None;
+                self.waiting = closed(i, self.waiting);
+            }
+        }
+    }
+
+    /// The transfer that waits is answered.
+    fn answer(&mut self, instant: u32, answer: TransferAnswer)
+        ensures { self.new ≡ after_answer instant answer self.old }
+    {
+        if let Some(w) = self.waiting {
+            match self.latest {
+                None => {
+                    self.unanswered = pending(&self.waiting);
+                    self.answered = None;
+                }
+                Some(cycle) => {
+                    self.answered = answered_in(instant, answer, cycle, w, self.answered);
+                }
+            }
+            self.waiting = None;
+        }
+    }
+
+    /// The transfer that waits.
+    pub(crate) fn waiting(&self) -> Option<Waiting>
+        ensures { result ≡ self.now.waiting }
+    {
+        self.waiting
+    }
+
+    /// The start of the latest cycle since a reset.
+    pub(crate) fn latest(&self) -> Option<u32>
+        ensures { result ≡ self.now.latest }
+    {
+        self.latest
+    }
+
+    fn transfer(&self) -> Option<Row>
+        ensures { result ≡ open_in self.now Part.Transfer }
+    {
+        match pending(&self.waiting) {
+            Some(row) => Some(row),
+            None => self.settled(),
+        }
+    }
+
+    /// The last transfer that waits no more.
+    fn settled(&self) -> Option<Row>
+        ensures { result ≡ option_or self.now.answered self.now.unanswered }
+    {
+        match self.answered {
+            Some(row) => Some(row),
+            None => self.unanswered,
+        }
+    }
+
+    /// The last row of a part that is open.
+    pub fn of(&self, part: Part) -> Option<Row>
+        ensures { result ≡ open_in self.now part }
+    {
+        match part {
+            Part::Tenure => self.tenure,
+            Part::Cycle => self.cycle,
+            Part::Transfer => self.transfer(),
+        }
+    }
+}
+
+/// The row of a transfer that is answered in a cycle, if it isn't closed, or else another.
+fn answered_in(
+    instant: u32,
+    answer: TransferAnswer,
+    cycle: u32,
+    waiting: Waiting,
+    other: Option<Row>,
+) -> Option<Row>
+    ensures { result ≡ answered_in instant answer cycle waiting waiting.close other }
+{
+    match waiting.close {
+        Some(_) => other,
+        None => Some(Row::Transfer {
+            direction: waiting.direction,
+            line: answer_line(answer.line),
+            start: waiting.start,
+            cycle,
+            answer: instant,
+            close: None,
+            lanes: answer.lanes,
+        }),
+    }
+}
+
+/// The transfer that waits, with where it is closed.
+fn closed(instant: u32, waiting: Option<Waiting>) -> Option<Waiting>
+    ensures { result ≡ closed instant waiting }
+{
+    let mut waiting = waiting?;
+    if waiting.close.is_none() {
+        waiting.close = Some(instant);
+    }
+    Some(waiting)
+}
+
+fn direction_of(write: bool) -> Direction
+    ensures { result ≡ marked_direction write }
+{
+    if write {
+        Direction::Write
+    } else {
+        Direction::Read
+    }
+}
+
+/// The address on the lines that a modifier code makes meaningful.
+fn meaningful_address(modifier: u8, address: u32) -> u32
+    ensures { result ≡ address % 2 ^ (highest_address modifier + 1) }
+{
+    match Space::of(modifier) {
+        Some(Space::Extended) => address,
+        Some(Space::Standard) => address % 0x0100_0000,
+        Some(Space::Short) => address % 0x0001_0000,
+        None => address % 2,
+    }
+}
+
+/// The row of a cycle that hasn't ended.
+pub(crate) fn cycle_row(start: u32, class: Class, modifier: u8, address: u32) -> Row
+    ensures { result ≡ marked_cycle start modifier address None class }
+{
+    match class {
+        Class::S | Class::K => Row::AddressedCycle {
+            start,
+            class,
+            modifier,
+            address: meaningful_address(modifier, address),
+            end: None,
+        },
+        Class::F => Row::FreeCycle {
+            start,
+            modifier,
+            end: None,
+        },
+        Class::I => Row::InterruptCycle {
+            start,
+            level: (address % 16 / 2) as u8,
+            end: None,
+        },
+    }
+}
+
+/// The line of an answer.
+pub(crate) fn answer_line(line: Line) -> AnswerLine
+    ensures { result ≡ marked_line line }
+{
+    if line == Line::DTACK {
+        AnswerLine::Dtack
+    } else {
+        AnswerLine::Berr
+    }
+}

@@ -1,0 +1,140 @@
+//! What else a break speaks of: the edges before it that make its own a break.
+
+ghost use Rattle.std.specs.Prelude.{◌≡◌, None, Some};
+ghost use Rattle.vme_account.specs.RelatedEvents.{first_related_event, happens_between, second_related_event, shown_on};
+
+use vme_trace::edges::{answer_falls, starts_transfer};
+use vme_trace::{Level, Line, Lines, Rule};
+
+/// What happens at an instant.
+#[derive(Clone, Copy, Debug, PartialEq, Eq)]
+pub enum StepEvent {
+    /// The line falls.
+    Falls(Line),
+    /// The line rises.
+    Rises(Line),
+    /// A strobe rises.
+    StrobeRises,
+    /// A transfer starts.
+    TransferStarts,
+    /// An answer line falls.
+    AnswerFalls,
+    /// A level is granted.
+    GrantFalls,
+}
+
+/// Which of the instants before a break is meant, within the stretch that is judged.
+#[derive(Clone, Copy, Debug, PartialEq, Eq)]
+pub enum Occurrence {
+    /// The last one.
+    Last,
+    /// The last one, or that of the break.
+    LastOrNow,
+    /// The first one since the last transfer started.
+    FirstInTransfer,
+    /// The first one since the last cycle started.
+    FirstInCycle,
+}
+
+/// An event of which a rule speaks beside the edge that breaks it.
+#[derive(Clone, Copy, Debug, PartialEq, Eq)]
+pub struct RelatedEvent {
+    /// What happens.
+    pub event: StepEvent,
+    /// At which of the instants.
+    pub occurrence: Occurrence,
+}
+
+/// The level of a line. A line that the backplane lacks has none that is known.
+fn shown_on(lines: &Lines, line: Line) -> Level
+    ensures { result ≡ shown_on lines.now line }
+{
+    if lines.has(line) {
+        lines.level(line)
+    } else {
+        Level::Unknown
+    }
+}
+
+pub(crate) fn falls(before: &Lines, after: &Lines, line: Line) -> bool
+    ensures { result ≡ happens_between before.now after.now (StepEvent.Falls line) }
+{
+    shown_on(before, line).is_high() && shown_on(after, line).is_low()
+}
+
+pub(crate) fn rises(before: &Lines, after: &Lines, line: Line) -> bool
+    ensures { result ≡ happens_between before.now after.now (StepEvent.Rises line) }
+{
+    shown_on(before, line).is_low() && shown_on(after, line).is_high()
+}
+
+fn last(event: StepEvent) -> Option<RelatedEvent>
+    ensures { result ≡ Some (record { event = event; occurrence = Occurrence.Last }) }
+{
+    Some(RelatedEvent {
+        event,
+        occurrence: Occurrence::Last,
+    })
+}
+
+fn last_or_now(event: StepEvent) -> Option<RelatedEvent>
+    ensures { result ≡ Some (record { event = event; occurrence = Occurrence.LastOrNow }) }
+{
+    Some(RelatedEvent {
+        event,
+        occurrence: Occurrence::LastOrNow,
+    })
+}
+
+fn first_in_transfer() -> Option<RelatedEvent>
+    ensures { result ≡ Some (record { event = StepEvent.AnswerFalls; occurrence = Occurrence.FirstInTransfer }) }
+{
+    Some(RelatedEvent {
+        event: StepEvent::AnswerFalls,
+        occurrence: Occurrence::FirstInTransfer,
+    })
+}
+
+fn first_in_cycle(event: StepEvent) -> Option<RelatedEvent>
+    ensures { result ≡ Some (record { event = event; occurrence = Occurrence.FirstInCycle }) }
+{
+    Some(RelatedEvent {
+        event,
+        occurrence: Occurrence::FirstInCycle,
+    })
+}
+
+/// What a rule speaks of beside the edge on this line that breaks it, if it does.
+pub fn first_related_event(rule: Rule, line: Line) -> Option<RelatedEvent>
+    ensures { result ≡ first_related_event rule line }
+{
+    match rule {
+        Rule::H1 | Rule::H6 => last(StepEvent::Falls(line)),
+        Rule::H2 | Rule::H7 | Rule::S2 | Rule::S3 => last(StepEvent::TransferStarts),
+        Rule::H3 | Rule::H5 => first_in_transfer(),
+        Rule::H4 => last(StepEvent::StrobeRises),
+        Rule::H8 => last(StepEvent::Rises(Line::AS)),
+        Rule::S1 => last(StepEvent::Falls(Line::AS)),
+        Rule::I4 => last_or_now(StepEvent::Falls(Line::AS)),
+        Rule::C1 | Rule::C2 | Rule::I5 => first_in_cycle(StepEvent::AnswerFalls),
+        Rule::I3 => first_in_cycle(StepEvent::Falls(Line::DTACK)),
+        Rule::G4 | Rule::B2 => last(StepEvent::Falls(Line::BBSY)),
+        Rule::G5 | Rule::B1 => last(StepEvent::GrantFalls),
+        Rule::B3 => last(StepEvent::Rises(Line::BBSY)),
+        _ => None,
+    }
+}
+
+/// What it speaks of besides that, if it does: of a grant the request, and of a tenure the grant that came last.
+pub fn second_related_event(rule: Rule, line: Line) -> Option<RelatedEvent>
+    ensures { result ≡ second_related_event rule line }
+{
+    match rule {
+        Rule::G5 => match line.grant_place() {
+            Some((level, _)) => last(StepEvent::Falls(Line::bus_request(level))),
+            None => None,
+        },
+        Rule::B2 => last(StepEvent::GrantFalls),
+        _ => None,
+    }
+}

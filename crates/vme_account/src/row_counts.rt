@@ -1,0 +1,239 @@
+//! How many rows of each kind there are, as the rows come.
+
+ghost use Rattle.std.specs.Prelude.{◌≡◌, ◌+◌, IfOk, OnOk};
+ghost use Rattle.std.specs.List.{fold};
+ghost use Rattle.vme_account.specs.KnownRows.{answered_row, answered_rows, known_at, pending_rows};
+ghost use Rattle.vme_account.specs.RowCounts.{count_in, no_rows, one_if, tenures_of, with_row, with_tenure};
+
+use crate::open_rows::{UnendedRows, Waiting, answer_line, cycle_row};
+use crate::row_kind::{RowKind, is_of};
+use std::alloc::AllocError;
+use vme_listing::Row;
+use vme_monitor::mark::{Mark, MarkKind, TransferAnswer};
+use vme_trace::Lanes;
+
+/// How many counts of tenures there are: for each of 4 levels, one for each slot from 0 to 21.
+const TENURE_COUNTS: usize = 88;
+
+/// How many rows there are of each kind.
+#[derive(Clone, Copy, Debug, PartialEq, Eq)]
+pub struct RowCounts {
+    open_tenures: u64,
+    singles: u64,
+    blocks: u64,
+    frees: u64,
+    acknowledges: u64,
+    reads: u64,
+    writes: u64,
+    done: u64,
+    errors: u64,
+    pending: u64,
+    resets: u64,
+    /// The tenures by level and slot.
+    tenures: [u64; TENURE_COUNTS],
+}
+
+/// A count, and one more where it is so. A count beyond 64 bits is told as want of memory.
+#[inline(always)]
+fn counted(count: u64, is_one: bool) -> Result<u64, AllocError>
+    ensures { IfOk result (λ more. more ≡ count + one_if is_one) }
+{
+    if is_one {
+        match count.checked_add(1) {
+            Some(more) => Ok(more),
+            None => Err(AllocError),
+        }
+    } else {
+        Ok(count)
+    }
+}
+
+impl RowCounts {
+    /// No row.
+    pub fn none() -> RowCounts
+        ensures { result ≡ no_rows }
+    {
+        RowCounts {
+            open_tenures: 0,
+            singles: 0,
+            blocks: 0,
+            frees: 0,
+            acknowledges: 0,
+            reads: 0,
+            writes: 0,
+            done: 0,
+            errors: 0,
+            pending: 0,
+            resets: 0,
+            tenures: [0; TENURE_COUNTS],
+        }
+    }
+
+    /// One tenure that was open at the start.
+    pub(crate) fn with_open_tenure() -> RowCounts
+        ensures { result ≡ record no_rows { open_tenures = 1 } }
+    {
+        let mut counts = RowCounts::none();
+        counts.open_tenures = 1;
+        counts
+    }
+
+    /// Counts the rows whose kind is known by a mark, where these are open before it.
+    pub fn take(&mut self, mark: &Mark, open: &UnendedRows) -> Result<(), AllocError>
+        ensures { OnOk result (self.new ≡ fold with_row self.old (known_at mark.now.instant mark.now.kind open.now)) }
+    {
+        let i = mark.instant;
+        match mark.kind {
+            MarkKind::Reset => {
+                self.leave(open)?;
+                self.count(&Row::Reset { instant: i })
+            }
+            MarkKind::Start => self.count(&Row::Start { instant: i }),
+            MarkKind::Open => self.count(&Row::OpenTenure {
+                start: i,
+                end: None,
+            }),
+            MarkKind::Tenure { level, slot } => self.count(&Row::Tenure {
+                start: i,
+                level,
+                slot,
+                end: None,
+            }),
+            MarkKind::Cycle { class, am, address } => {
+                self.count(&cycle_row(i, class, am, address))
+            }
+            MarkKind::Transfer { .. } => self.leave(open),
+            MarkKind::Answer { line } => self.answer(i, TransferAnswer { line, lanes: None }, open),
+            MarkKind::WriteAnswer {
+                line,
+                moved,
+                unknown,
+                value,
+            } => {
+                let lanes = Lanes {
+                    moved,
+                    unknown,
+                    value,
+                };
+                let answer = TransferAnswer {
+                    line,
+                    lanes: Some(lanes),
+                };
+                self.answer(i, answer, open)
+            }
+            MarkKind::TenureEnd | MarkKind::CycleEnd | MarkKind::Close => Ok(()),
+        }
+    }
+
+    /// The transfer that waits stays without an answer: so it is where no mark follows.
+    pub fn leave(&mut self, open: &UnendedRows) -> Result<(), AllocError>
+        ensures { OnOk result (self.new ≡ fold with_row self.old (pending_rows open.now.waiting)) }
+    {
+        match open.waiting() {
+            Some(waiting) => self.count(&Row::PendingTransfer {
+                start: waiting.start,
+                direction: waiting.direction,
+            }),
+            None => Ok(()),
+        }
+    }
+
+    /// The transfer that waits is answered.
+    fn answer(
+        &mut self,
+        instant: u32,
+        answer: TransferAnswer,
+        open: &UnendedRows,
+    ) -> Result<(), AllocError>
+        ensures { OnOk result (self.new ≡ fold with_row self.old (answered_rows instant answer open.now)) }
+    {
+        match open.waiting() {
+            Some(waiting) => self.count(&answered_row(instant, answer, open.latest(), &waiting)),
+            None => Ok(()),
+        }
+    }
+
+    /// Counts a row.
+    fn count(&mut self, row: &Row) -> Result<(), AllocError>
+        ensures { OnOk result (self.new ≡ with_row self.old row.now) }
+    {
+        self.take_tenure(row)?;
+        self.open_tenures = counted(self.open_tenures, is_of(RowKind::OpenTenures, row))?;
+        self.singles = counted(self.singles, is_of(RowKind::Singles, row))?;
+        self.blocks = counted(self.blocks, is_of(RowKind::Blocks, row))?;
+        self.frees = counted(self.frees, is_of(RowKind::Frees, row))?;
+        self.acknowledges = counted(self.acknowledges, is_of(RowKind::Acknowledges, row))?;
+        self.reads = counted(self.reads, is_of(RowKind::Reads, row))?;
+        self.writes = counted(self.writes, is_of(RowKind::Writes, row))?;
+        self.done = counted(self.done, is_of(RowKind::Done, row))?;
+        self.errors = counted(self.errors, is_of(RowKind::Errors, row))?;
+        self.pending = counted(self.pending, is_of(RowKind::Pending, row))?;
+        self.resets = counted(self.resets, is_of(RowKind::Resets, row))?;
+        Ok(())
+    }
+
+    /// Counts a tenure by its level and slot.
+    fn take_tenure(&mut self, row: &Row) -> Result<(), AllocError>
+        ensures { OnOk result (self.new ≡ record self.old { tenures = with_tenure self.old.tenures row.now }) }
+    {
+        match row {
+            Row::Tenure { level, slot, .. } if *level < 4 && *slot < 22 => {
+                let place = usize::from(*level) * 22 + usize::from(*slot);
+                self.tenures[place] = counted(self.tenures[place], true)?;
+                Ok(())
+            }
+            _ => Ok(()),
+        }
+    }
+
+    fn tenures_of(&self, level: u8, slot: u8) -> u64
+        ensures { result ≡ tenures_of self.now.tenures level slot }
+    {
+        if level < 4 && slot < 22 {
+            self.tenures[usize::from(level) * 22 + usize::from(slot)]
+        } else {
+            0
+        }
+    }
+
+    /// How many rows there are of a kind. Tenures of a level above 3 or a slot above 21 aren't counted.
+    pub fn of(&self, kind: RowKind) -> u64
+        ensures { result ≡ count_in self.now kind }
+    {
+        match kind {
+            RowKind::OpenTenures => self.open_tenures,
+            RowKind::Tenures { level, slot } => self.tenures_of(level, slot),
+            RowKind::Singles => self.singles,
+            RowKind::Blocks => self.blocks,
+            RowKind::Frees => self.frees,
+            RowKind::Acknowledges => self.acknowledges,
+            RowKind::Reads => self.reads,
+            RowKind::Writes => self.writes,
+            RowKind::Done => self.done,
+            RowKind::Errors => self.errors,
+            RowKind::Pending => self.pending,
+            RowKind::Resets => self.resets,
+        }
+    }
+}
+
+/// The row of a transfer that is answered: without a cycle it counts as one that isn't.
+fn answered_row(instant: u32, answer: TransferAnswer, latest: Option<u32>, waiting: &Waiting) -> Row
+    ensures { result ≡ answered_row instant answer latest waiting.now }
+{
+    match latest {
+        Some(cycle) => Row::Transfer {
+            direction: waiting.direction,
+            line: answer_line(answer.line),
+            start: waiting.start,
+            cycle,
+            answer: instant,
+            close: None,
+            lanes: answer.lanes,
+        },
+        None => Row::PendingTransfer {
+            start: waiting.start,
+            direction: waiting.direction,
+        },
+    }
+}

@@ -1,0 +1,120 @@
+//! Of which kind a row is, and which are open where a listing ends.
+
+ghost use Rattle.std.specs.Prelude.{◌≡◌};
+ghost use Rattle.vme_account.specs.Rows.{is_answered_by, is_cycle_of, is_of, is_reset, is_tenure_of};
+ghost use Rattle.vme_account.specs.Rows.{is_transfer_in};
+
+use vme_listing::{AnswerLine, Direction, Row};
+use vme_trace::Class;
+
+/// A kind of rows that are counted.
+#[derive(Clone, Copy, Debug, PartialEq, Eq)]
+pub enum RowKind {
+    /// A tenure of the bus that was open at the start.
+    OpenTenures,
+    /// A tenure by the grant of a level, 0 to 3, in a slot, 1 to 21.
+    Tenures {
+        /// The level.
+        level: u8,
+        /// The slot.
+        slot: u8,
+    },
+    /// A cycle of single transfers.
+    Singles,
+    /// A cycle of a block transfer.
+    Blocks,
+    /// A cycle whose address modifier code is free.
+    Frees,
+    /// An interrupt acknowledge cycle.
+    Acknowledges,
+    /// An answered read.
+    Reads,
+    /// An answered write.
+    Writes,
+    /// A transfer that DTACK answered.
+    Done,
+    /// A transfer that BERR answered.
+    Errors,
+    /// A transfer without an answer.
+    Pending,
+    /// A reset of the bus that ended what was judged.
+    Resets,
+}
+
+/// What can be open where a listing ends.
+#[derive(Clone, Copy, Debug, PartialEq, Eq)]
+pub enum Part {
+    /// A tenure of the bus.
+    Tenure,
+    /// A cycle.
+    Cycle,
+    /// A transfer: not answered, or not closed.
+    Transfer,
+}
+
+/// Whether a row is of a kind.
+#[inline(always)]
+pub(crate) fn is_of(kind: RowKind, row: &Row) -> bool
+    ensures { result ≡ is_of kind row.now }
+{
+    match kind {
+        RowKind::OpenTenures => matches!(row, Row::OpenTenure { .. }),
+        RowKind::Tenures { level, slot } => is_tenure_of(row, level, slot),
+        RowKind::Singles => is_cycle_of(row, Class::S),
+        RowKind::Blocks => is_cycle_of(row, Class::K),
+        RowKind::Frees => matches!(row, Row::FreeCycle { .. }),
+        RowKind::Acknowledges => matches!(row, Row::InterruptCycle { .. }),
+        RowKind::Reads => is_transfer_in(row, Direction::Read),
+        RowKind::Writes => is_transfer_in(row, Direction::Write),
+        RowKind::Done => is_answered_by(row, AnswerLine::Dtack),
+        RowKind::Errors => is_answered_by(row, AnswerLine::Berr),
+        RowKind::Pending => matches!(row, Row::PendingTransfer { .. }),
+        RowKind::Resets => is_reset(row),
+    }
+}
+
+fn is_reset(row: &Row) -> bool
+    ensures { result ≡ is_reset row.now }
+{
+    matches!(row, Row::Reset { .. })
+}
+
+fn is_tenure_of(row: &Row, level: u8, slot: u8) -> bool
+    ensures { result ≡ is_tenure_of level slot row.now }
+{
+    match row {
+        Row::Tenure {
+            level: granted,
+            slot: taken,
+            ..
+        } => *granted == level && *taken == slot,
+        _ => false,
+    }
+}
+
+fn is_cycle_of(row: &Row, class: Class) -> bool
+    ensures { result ≡ is_cycle_of class row.now }
+{
+    match row {
+        Row::AddressedCycle { class: own, .. } => *own == class,
+        _ => false,
+    }
+}
+
+fn is_transfer_in(row: &Row, direction: Direction) -> bool
+    ensures { result ≡ is_transfer_in direction row.now }
+{
+    match row {
+        Row::Transfer { direction: own, .. } => *own == direction,
+        _ => false,
+    }
+}
+
+fn is_answered_by(row: &Row, line: AnswerLine) -> bool
+    ensures { result ≡ is_answered_by line row.now }
+{
+    match row {
+        Row::Transfer { line: own, .. } => *own == line,
+        _ => false,
+    }
+}

@@ -1,0 +1,92 @@
+//! How far an account has come.
+
+ghost use Rattle.std.specs.Prelude.{◌≡◌, ◌+◌, ◌∷◌, ◌++◌, ◌<◌, [], List, IfOk, IfSome, None, OnOk, length};
+ghost use Rattle.vme_trace.specs.Levels.{Levels};
+ghost use Rattle.vme_trace.specs.Trace.{Trace};
+ghost use Rattle.vme_trace.specs.WellFormed.{malformed_step};
+ghost use Rattle.vme_trace.specs.declared.step.Step.{Step as StepOf};
+ghost use Rattle.vme_account.specs.Accounts.{IsAccountOf, KeepsAccount};
+
+use crate::account::Account;
+use crate::followed_steps::FollowedSteps;
+use crate::stored_steps::StoredSteps;
+use std::alloc::{AllocError, Global};
+use vme_auditor::{first_break_is_found, marks_are_found};
+use vme_monitor::known::known_over_captures;
+use vme_trace::{Lines, Step};
+
+/// How many steps behind a break are kept.
+const BEHIND: u32 = 3;
+
+/// What is known of the steps so far.
+#[derive(Drop)]
+pub(crate) struct RunningAccount {
+    pub judged: FollowedSteps,
+    /// The last steps up to the end, or three instants behind the break.
+    pub kept: StoredSteps,
+}
+
+impl RunningAccount {
+    /// Before the first step. It has large tables, so it stands in a box, and isn't moved.
+    pub fn boxed(alloc: Global, opening: &Lines) -> Option<Box<RunningAccount>>
+        ensures { IfSome result (λ running. KeepsAccount opening.now [] running.value) }
+    {
+        let running = RunningAccount {
+            judged: FollowedSteps::at_opening(opening),
+            kept: StoredSteps::new(alloc, opening),
+        };
+        match Box::new(alloc, running) {
+            Ok(running) => Some(running),
+            Err(_) => None,
+        }
+    }
+
+    /// How many steps came.
+    pub fn steps(&self) -> u32
+        ensures { result ≡ self.now.kept.steps }
+    {
+        self.kept.steps()
+    }
+
+    /// Takes the step that follows. The only error is want of memory.
+    pub fn take(&mut self, step: Step) -> Result<(), AllocError>
+        requires { (o : Levels) × (x : List StepOf) × KeepsAccount o x self.old × (length x < 67108864) }
+        ensures { OnOk result ((o : Levels) (x : List StepOf) → KeepsAccount o x self.old
+            → KeepsAccount o (x ++ step ∷ []) self.new) }
+    {
+        self.judged.take(&step, self.kept.steps() + 1)?;
+        let is_wanted = self.wants_more();
+        self.kept.take(step, is_wanted)
+    }
+
+    /// Whether the next step is wanted: at most three are behind the break.
+    fn wants_more(&self) -> bool {
+        match self.judged.noted.found {
+            Some(found) => self.kept.steps() < found.instant.saturating_add(BEHIND),
+            None => true,
+        }
+    }
+}
+
+/// The account of a recording that ends here. The only error is want of memory.
+pub(crate) fn account_of(
+    running: Box<RunningAccount>,
+    opening: Lines,
+) -> Result<Account, AllocError>
+    ensures { (t : Trace) → KeepsAccount t.opening t.steps running.value → opening ≡ t.opening
+        → malformed_step t ≡ None → IfOk result (λ account. IsAccountOf account t) }
+{
+    prove!(opening.slots() <= 21);
+    first_break_is_found();
+    marks_are_found();
+    known_over_captures();
+    let marked = running.judged.noted.marked;
+    let counts = marked.counts()?;
+    let opened = marked.opened();
+    Ok(Account {
+        opening,
+        running,
+        counts,
+        opened,
+    })
+}

@@ -1,0 +1,209 @@
+use smallvec::SmallVec;
+use std::alloc::Global;
+use std::test::Fail;
+use vme_account::{
+    Account, AccountVisitor, NoAccount, Occurrence, Part, RelatedEvent, RowKind, StepEvent,
+    first_related_event, rests_high, second_related_event,
+};
+use vme_listing::{AnswerLine, Direction, Row};
+use vme_trace::{
+    Break, Change, Changes, LINE_COUNT, Level, Line, Lines, Rule, Step, StepVisitor, Verdict,
+};
+
+/// The account of a recording of one slot whose lines are High but for BBSY, and then change one by one, at each
+/// instant one, 10 units of time apart.
+fn account_of(alloc: Global, changes: &[(Line, Level)]) -> Result<Option<Account>, Fail> {
+    let Some(mut opening) = Lines::new(1) else {
+        return Ok(None);
+    };
+    for number in 0..LINE_COUNT {
+        if let Some(line) = Line::from_number(number) {
+            if opening.has(line) {
+                opening.set(line, Level::High);
+            }
+        }
+    }
+    opening.set(Line::BBSY, Level::Low);
+    let mut visitor = AccountVisitor::new(alloc, &opening);
+    let mut time: u64 = 0;
+    for (line, level) in changes {
+        let change = Change {
+            line: *line,
+            level: *level,
+        };
+        time = time.saturating_add(10);
+        let changes = Changes::new(SmallVec::from_slice(alloc, &[change])?);
+        visitor.step(alloc, Step { time, changes })?;
+    }
+    match visitor.finish() {
+        Ok(account) => Ok(Some(account)),
+        Err(NoAccount::Memory | NoAccount::TooManyBlocks | NoAccount::TooManySteps) => Ok(None),
+    }
+}
+
+/// A cycle with a read.
+const READ: [(Line, Level); 6] = [
+    (Line::AS, Level::Low),
+    (Line::DS0, Level::Low),
+    (Line::DTACK, Level::Low),
+    (Line::DS0, Level::High),
+    (Line::DTACK, Level::High),
+    (Line::AS, Level::High),
+];
+
+#[test]
+fn rows_are_counted(rt: HostRuntime) -> Result<(), Fail> {
+    let Some(account) = account_of(rt.alloc(), &READ)? else {
+        assert!(rt; false);
+        return Ok(());
+    };
+    assert!(rt; account.verdict() == Verdict::Conforming);
+    for (kind, count) in [
+        (RowKind::OpenTenures, 1),
+        (RowKind::Tenures { level: 3, slot: 1 }, 0),
+        (RowKind::Blocks, 1),
+        (RowKind::Singles, 0),
+        (RowKind::Reads, 1),
+        (RowKind::Writes, 0),
+        (RowKind::Done, 1),
+        (RowKind::Errors, 0),
+        (RowKind::Pending, 0),
+        (RowKind::Resets, 0),
+    ] {
+        assert_eq!(rt; account.count_of(kind), count);
+    }
+    assert!(rt; account.first_start() == Some(0) && account.last_reset().is_none());
+    assert!(rt; account.last_judged() == 6 && account.last_tenure().is_none());
+    assert!(rt; account.has_moved(Line::AS) && !account.has_moved(Line::BERR));
+    Ok(())
+}
+
+#[test]
+fn open_rows_are_found(rt: HostRuntime) -> Result<(), Fail> {
+    let tenure = Row::OpenTenure {
+        start: 0,
+        end: None,
+    };
+    let Some(account) = account_of(rt.alloc(), &READ[..3])? else {
+        assert!(rt; false);
+        return Ok(());
+    };
+    assert!(rt; account.open_row(Part::Tenure) == Some(tenure));
+    assert!(rt;
+        matches!(
+            account.open_row(Part::Cycle),
+            Some(Row::AddressedCycle { start: 1, .. })
+        )
+    );
+    let transfer = Row::Transfer {
+        start: 2,
+        cycle: 1,
+        direction: Direction::Read,
+        line: AnswerLine::Dtack,
+        answer: 3,
+        close: None,
+        lanes: None,
+    };
+    assert!(rt; account.open_row(Part::Transfer) == Some(transfer));
+    let Some(account) = account_of(rt.alloc(), &READ[..2])? else {
+        assert!(rt; false);
+        return Ok(());
+    };
+    let pending = Row::PendingTransfer {
+        start: 2,
+        direction: Direction::Read,
+    };
+    assert!(rt; account.open_row(Part::Transfer) == Some(pending));
+    assert_eq!(rt; account.count_of(RowKind::Pending), 1);
+    Ok(())
+}
+
+#[test]
+fn what_was_open_at_a_reset_is_over(rt: HostRuntime) -> Result<(), Fail> {
+    let Some(account) = account_of(
+        rt.alloc(),
+        &[
+            READ[0],
+            READ[1],
+            (Line::SYSRESET, Level::Low),
+            (Line::SYSRESET, Level::High),
+        ],
+    )?
+    else {
+        assert!(rt; false);
+        return Ok(());
+    };
+    for part in [Part::Tenure, Part::Cycle, Part::Transfer] {
+        assert!(rt; account.open_row(part).is_none());
+    }
+    assert_eq!(rt; account.count_of(RowKind::Resets), 1);
+    assert!(rt; account.last_reset() == Some(3) && account.last_judged() == 3);
+    assert!(rt; account.time_at(3) == Some(30));
+    Ok(())
+}
+
+#[test]
+fn a_break_is_told_with_its_events(rt: HostRuntime) -> Result<(), Fail> {
+    let Some(account) = account_of(
+        rt.alloc(),
+        &[
+            READ[0],
+            READ[1],
+            READ[2],
+            READ[3],
+            READ[4],
+            (Line::DS0, Level::Low),
+            (Line::BERR, Level::Low),
+            (Line::DS1, Level::Low),
+            (Line::DS1, Level::High),
+        ],
+    )?
+    else {
+        assert!(rt; false);
+        return Ok(());
+    };
+    let found = Break {
+        instant: 8,
+        time: 80,
+        rule: Rule::H3,
+        line: Line::DS1,
+    };
+    assert!(rt; account.verdict() == Verdict::Broken(found));
+    let instant_of = |event, occurrence| {
+        let moment = account.moment_of(&RelatedEvent { event, occurrence });
+        moment.map(|moment| moment.instant)
+    };
+    // the strobe that falls at instant 8 is behind the answer at 7, of the transfer that started at 6
+    assert!(rt; instant_of(StepEvent::AnswerFalls, Occurrence::FirstInTransfer) == Some(7));
+    assert!(rt; instant_of(StepEvent::TransferStarts, Occurrence::Last) == Some(6));
+    // the first answer of the cycle, and the first by DTACK
+    assert!(rt; instant_of(StepEvent::AnswerFalls, Occurrence::FirstInCycle) == Some(3));
+    assert!(rt; instant_of(StepEvent::Falls(Line::DTACK), Occurrence::FirstInCycle) == Some(3));
+    assert!(rt; instant_of(StepEvent::StrobeRises, Occurrence::Last) == Some(4));
+    assert!(rt; instant_of(StepEvent::Falls(Line::DS1), Occurrence::Last).is_none());
+    assert!(rt; instant_of(StepEvent::Falls(Line::DS1), Occurrence::LastOrNow) == Some(8));
+    assert!(rt; instant_of(StepEvent::GrantFalls, Occurrence::Last).is_none());
+    // the levels around it
+    assert!(rt; account.first() == 0 && account.end() == 9);
+    let levels = account.levels_from(rt.alloc(), 7, 8)?;
+    let strobes = levels.iter().map(|lines| lines.level(Line::DS1));
+    assert!(rt; strobes.eq([Level::High, Level::Low].iter().copied()));
+    assert!(rt; account.time_at(8) == Some(80) && account.time_at(0) == Some(0));
+    Ok(())
+}
+
+#[test]
+fn rules_speak_of_events(rt: HostRuntime) -> Result<(), Fail> {
+    let last = |event| {
+        Some(RelatedEvent {
+            event,
+            occurrence: Occurrence::Last,
+        })
+    };
+    assert!(rt; first_related_event(Rule::H2, Line::DS0) == last(StepEvent::TransferStarts));
+    let request = last(StepEvent::Falls(Line::bus_request(2)));
+    assert!(rt; second_related_event(Rule::G5, Line::grant(2, 0)) == request);
+    assert!(rt; second_related_event(Rule::H1, Line::DTACK).is_none());
+    assert!(rt; rests_high(Line::AS) && !rests_high(Line::BBSY));
+    Ok(())
+}

@@ -1,2 +1,0 @@
-pub mod ExcerptLemmas
-pub mod RelatedEventLemmas
