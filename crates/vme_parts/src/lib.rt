@@ -4,9 +4,8 @@
 //! # Parts of this crate
 //!
 //! - `file`: [`steps_of_file`] says which steps of a dump are those of the file, and with which
-//!   levels it opens. `made`: [`part_of_steps`] judges them, whatever stood before; `one_walk`: by
-//!   all monitors at once; `pieces`: with marks. `fits`: [`can_write`] says whether that is a part
-//!   that can be written.
+//!   levels it opens. `made`: [`part_of_steps`] judges them, whatever stood before; `pieces`: with
+//!   marks. `fits`: [`can_write`] says whether that is a part that can be written.
 //! - `join`: [`join_parts`] makes one part of any parts, in any order; `same`: whether segments of
 //!   the same files say the same; `gather`: segments, of which buddies are joined (`buddies`);
 //!   `compact`: whether their tables have few nodes; `meets`: whether files follow one another, and
@@ -49,7 +48,6 @@ mod join_refusal;
 mod judged_segments;
 mod made;
 mod meets;
-mod one_walk;
 mod part_refusal;
 mod pieces;
 mod same;

@@ -14,7 +14,6 @@ ghost use Rattle.vme_parts.specs.Files.{IsPartOfFile};
 ghost use Rattle.vme_parts.specs.Meeting.{ends_at, starts_at};
 ghost use Rattle.vme_parts.specs.Stands.{SegmentStandsFor};
 
-use crate::one_walk::summarise_monitors;
 use crate::part_refusal::PartRefusal;
 use crate::pieces::{lines_behind, table_with_marks};
 use std::alloc::{AllocError, Global};
@@ -28,6 +27,7 @@ use vme_monitor::without_marks::BreakMonitor;
 use vme_part_format::{OutcomeTable, Part, Segment, SegmentTimes, TableEntry};
 use vme_part_tables::widened;
 use vme_stability::stability::{Stability, StabilityRules};
+use vme_summary::each_monitor::summarise_monitors;
 use vme_trace::{Block, Lines, Step};
 
 /// The table without marks of what a monitor's summary says.

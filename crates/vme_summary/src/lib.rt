@@ -8,7 +8,8 @@
 //! - `joining`: [`join`] makes one span of two whose blocks follow one another; [`append`] does it
 //!   with spans that are given away.
 //! - `monitors`: the only place that knows which monitors there are; their tables stand beside one
-//!   another in `MonitorSummaries`. `monitor_states`: what they have come to from the opening on.
+//!   another in `MonitorSummaries`. `each_monitor`: [`each_monitor::summarise_monitors`] leads five
+//!   of them along the steps at once. `monitor_states`: what they have come to from the opening on.
 //! - `rows`: the rows that marks make.
 //! - `chunk_judge`, `chunk_summary`, `verdict_state`, `listing_state`: what judges a recording in
 //!   order, some steps at once, without marks for a verdict and with them for a listing.
@@ -56,6 +57,7 @@ pub mod chunk_judge;
 mod chunk_summary;
 mod cut;
 mod discard_steps;
+pub mod each_monitor;
 mod extent;
 mod ghost_steps;
 mod joining;

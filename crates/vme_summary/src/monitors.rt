@@ -1,11 +1,10 @@
 //! Summaries of steps by all monitors. This is the only place that knows which monitors there are.
 
-ghost use Rattle.std.specs.Prelude.{◌≡◌, ◌+◌, ◌^◌, ◌<◌, ◌≤◌, ◌∷◌, ◌++◌, List, [], length, IfOk, OnOk};
+ghost use Rattle.std.specs.Prelude.{◌≡◌, ◌+◌, ◌^◌, ◌<◌, ◌≤◌, ◌∷◌, ◌++◌, List, [], length, IfOk};
 ghost use Rattle.vme_trace.specs.Levels.{Levels};
 ghost use Rattle.vme_trace.specs.Judged.{judged_spans};
 ghost use Rattle.vme_trace.specs.Trace.{Trace, levels_after};
 ghost use Rattle.vme_trace.specs.declared.step.Step.{Step};
-ghost use Rattle.vme_monitor.specs.Outcome.{StandsFor};
 ghost use Rattle.vme_monitor.specs.StepRuns.{seen_in};
 ghost use Rattle.vme_monitor.specs.Whole.{has_span};
 ghost use Rattle.vme_summary.specs.AllShown.{all_marks};
@@ -15,6 +14,7 @@ ghost use Rattle.vme_summary.specs.Progressed.{FoundAfter, HasFound, HasFoundAll
 ghost use Rattle.vme_summary.specs.Summaries.{first_break as first_break_of, StandAlike, StandsForAll, SummaryFindsFor};
 ghost use Rattle.vme_summary.specs.Summaries.{SummaryStandsFor, SummaryStandsForBoth, summary_steps};
 
+use crate::each_monitor::summarise_monitors;
 use crate::monitor_states::{MonitorState, MonitorStates, advance};
 use crate::summary::{MonitorSummaries, Room};
 use std::alloc::{AllocError, Global};
@@ -25,114 +25,11 @@ use vme_monitor::both::{least, marks_together};
 use vme_monitor::known::{Known, KnownRules, known_over_captures};
 use vme_monitor::mark::Mark;
 use vme_monitor::monitor::Monitor;
-use vme_monitor::stepping::Stepping;
 use vme_monitor::table::Table;
 use vme_monitor::view::StepView;
 use vme_monitor::without_marks::BreakMonitor;
 use vme_stability::stability::{Stability, StabilityRules, stability_over_captures};
 use vme_trace::{Break, Lines, Step};
-
-/// Something of each of five monitors.
-#[derive(Drop)]
-struct PerMonitor<A: Drop, B: Drop, C: Drop, D: Drop, E: Drop> {
-    known: A,
-    handshake: B,
-    stability: C,
-    grant: D,
-    acknowledge: E,
-}
-
-/// What five monitors know of no steps.
-fn begin_monitors<A: Stepping, B: Stepping, C: Stepping, D: Stepping, E: Stepping>(
-    alloc: Global,
-) -> Result<PerMonitor<A::Progress, B::Progress, C::Progress, D::Progress, E::Progress>, AllocError>
-    ensures known { IfOk result (λ all. (o : Levels) → A.tells_of all.known o []) }
-    ensures handshake { IfOk result (λ all. (o : Levels) → B.tells_of all.handshake o []) }
-    ensures stability { IfOk result (λ all. (o : Levels) → C.tells_of all.stability o []) }
-    ensures grant { IfOk result (λ all. (o : Levels) → D.tells_of all.grant o []) }
-    ensures acknowledge { IfOk result (λ all. (o : Levels) → E.tells_of all.acknowledge o []) }
-{
-    Ok(PerMonitor {
-        known: A::begin(alloc)?,
-        handshake: B::begin(alloc)?,
-        stability: C::begin(alloc)?,
-        grant: D::begin(alloc)?,
-        acknowledge: E::begin(alloc)?,
-    })
-}
-
-/// Advances five monitors past a step, at its instant after the opening.
-#[inline(always)]
-fn step_monitors<A: Stepping, B: Stepping, C: Stepping, D: Stepping, E: Stepping>(
-    alloc: Global,
-    all: &mut PerMonitor<A::Progress, B::Progress, C::Progress, D::Progress, E::Progress>,
-    view: &StepView,
-    step: &Step,
-    instant: u32,
-) -> Result<(), AllocError>
-    requires { view.now ≡ seen_in view.now.before step.now.changes }
-    ensures known { OnOk result ((o : Levels) (x : List Step) → IsAdvancedTo o x view.now.before instant
-        → A.tells_of all.old.known o x → A.tells_of all.new.known o (x ++ step.now ∷ [])) }
-    ensures handshake { OnOk result ((o : Levels) (x : List Step) → IsAdvancedTo o x view.now.before instant
-        → B.tells_of all.old.handshake o x → B.tells_of all.new.handshake o (x ++ step.now ∷ [])) }
-    ensures stability { OnOk result ((o : Levels) (x : List Step) → IsAdvancedTo o x view.now.before instant
-        → C.tells_of all.old.stability o x → C.tells_of all.new.stability o (x ++ step.now ∷ [])) }
-    ensures grant { OnOk result ((o : Levels) (x : List Step) → IsAdvancedTo o x view.now.before instant
-        → D.tells_of all.old.grant o x → D.tells_of all.new.grant o (x ++ step.now ∷ [])) }
-    ensures acknowledge { OnOk result ((o : Levels) (x : List Step) → IsAdvancedTo o x view.now.before instant
-        → E.tells_of all.old.acknowledge o x → E.tells_of all.new.acknowledge o (x ++ step.now ∷ [])) }
-{
-    A::go_on(alloc, &mut all.known, view, step, instant)?;
-    B::go_on(alloc, &mut all.handshake, view, step, instant)?;
-    C::go_on(alloc, &mut all.stability, view, step, instant)?;
-    D::go_on(alloc, &mut all.grant, view, step, instant)?;
-    E::go_on(alloc, &mut all.acknowledge, view, step, instant)
-}
-
-/// Advances five monitors along the steps after an opening at once: the summary of each, and the lines that the last
-/// step leaves.
-fn summarise_monitors<A: Stepping, B: Stepping, C: Stepping, D: Stepping, E: Stepping>(
-    alloc: Global,
-    opening: &Lines,
-    steps: &[Step],
-) -> Result<
-    (
-        A::Summary,
-        B::Summary,
-        C::Summary,
-        D::Summary,
-        E::Summary,
-        Lines,
-    ),
-    AllocError,
->
-    requires few { length steps.now ≤ 268435456 }
-    ensures known { IfOk result (λ all. StandsFor A.run (A.outcome all.0) (A.count all.0) opening.now steps.now) }
-    ensures handshake { IfOk result (λ all. StandsFor B.run (B.outcome all.1) (B.count all.1) opening.now steps.now) }
-    ensures stability { IfOk result (λ all. StandsFor C.run (C.outcome all.2) (C.count all.2) opening.now steps.now) }
-    ensures grant { IfOk result (λ all. StandsFor D.run (D.outcome all.3) (D.count all.3) opening.now steps.now) }
-    ensures acknowledge { IfOk result (λ all. StandsFor E.run (E.outcome all.4) (E.count all.4) opening.now steps.now) }
-    ensures left { IfOk result (λ all. all.5 ≡ levels_after opening.now steps.now) }
-{
-    let mut all = begin_monitors::<A, B, C, D, E>(alloc)?;
-    let mut view = StepView::new(opening);
-    let mut instant = 0;
-    for step in steps {
-        let changes = step.changes.as_slice();
-        view.go_to(changes);
-        instant += 1;
-        step_monitors::<A, B, C, D, E>(alloc, &mut all, &view, step, instant)?;
-        view.go_past(changes);
-    }
-    Ok((
-        A::finish(all.known, instant),
-        B::finish(all.handshake, instant),
-        C::finish(all.stability, instant),
-        D::finish(all.grant, instant),
-        E::finish(all.acknowledge, instant),
-        view.before,
-    ))
-}
 
 impl MonitorSummaries {
     /// The summary of steps after an opening, and the lines that the last one leaves.
@@ -145,20 +42,16 @@ impl MonitorSummaries {
         ensures stands { IfOk result (λ made. SummaryStandsFor made.0 opening.now steps.now) }
         ensures left { IfOk result (λ made. made.1 ≡ levels_after opening.now steps.now) }
     {
-        let (known, handshake, stability, grant, acknowledge, left) = summarise_monitors::<
-            Known,
-            Dtb,
-            Stability,
-            Grant,
-            Iack,
-        >(alloc, opening, steps)?;
+        let (summaries, left) = summarise_monitors::<Known, Dtb, Stability, Grant, Iack>(
+            alloc, opening, steps,
+        )?;
         Ok((
             MonitorSummaries {
-                known,
-                handshake,
-                stability,
-                grant,
-                acknowledge,
+                known: summaries.known,
+                handshake: summaries.handshake,
+                stability: summaries.stability,
+                grant: summaries.grant,
+                acknowledge: summaries.acknowledge,
             },
             left,
         ))
@@ -174,7 +67,7 @@ impl MonitorSummaries {
         ensures finds { IfOk result (λ made. SummaryFindsFor made.0 opening.now steps.now) }
         ensures left { IfOk result (λ made. made.1 ≡ levels_after opening.now steps.now) }
     {
-        let (known, handshake, stability, grant, acknowledge, left) = summarise_monitors::<
+        let (summaries, left) = summarise_monitors::<
             BreakMonitor<KnownRules>,
             BreakMonitor<HandshakeRules>,
             BreakMonitor<StabilityRules>,
@@ -183,11 +76,11 @@ impl MonitorSummaries {
         >(alloc, opening, steps)?;
         Ok((
             MonitorSummaries {
-                known,
-                handshake,
-                stability,
-                grant,
-                acknowledge,
+                known: summaries.known,
+                handshake: summaries.handshake,
+                stability: summaries.stability,
+                grant: summaries.grant,
+                acknowledge: summaries.acknowledge,
             },
             left,
         ))

@@ -6,9 +6,9 @@ pub returns-clause-stands : goal.returns-clause-stands
 unfolding known_run handshake_run stability_run grant_run acknowledge_run
 returns-clause-stands c =
     record {
-      known = c.in_ok-known.ensures.known;
-      handshake = c.in_ok-known.ensures.handshake;
-      stability = c.in_ok-known.ensures.stability;
-      grant = c.in_ok-known.ensures.grant;
-      acknowledge = c.in_ok-known.ensures.acknowledge;
+      known = c.in_ok-summaries.ensures.known;
+      handshake = c.in_ok-summaries.ensures.handshake;
+      stability = c.in_ok-summaries.ensures.stability;
+      grant = c.in_ok-summaries.ensures.grant;
+      acknowledge = c.in_ok-summaries.ensures.acknowledge;
     }

@@ -16,7 +16,7 @@ use Rattle.vme_summary.proofs.summary.MonitorSummaries.without_marks.Goals as go
 pub returns-clause-finds : goal.returns-clause-finds
 unfolding known_run handshake_run stability_run grant_run acknowledge_run
 returns-clause-finds c =
-    let all = c.in_ok-known.ensures in
+    let all = c.in_ok-summaries.ensures in
     record {
       known = unmarked_finds (observed known_observation)
           (phase_step known_begin known_opens known_resets known_ends known_next) _ _

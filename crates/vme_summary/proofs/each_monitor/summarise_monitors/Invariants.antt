@@ -1,6 +1,6 @@
 use Rattle.std.proofs.Common.{◌≡◌, take}
 use Rattle.vme_trace.specs.Trace.{levels_after}
-use Rattle.vme_summary.proofs.monitors.summarise_monitors.Given as goal
+use Rattle.vme_summary.proofs.each_monitor.summarise_monitors.Given as goal
 
 abbrev pub invariant-loop-step : goal.invariant-loop-step
 invariant-loop-step g l =

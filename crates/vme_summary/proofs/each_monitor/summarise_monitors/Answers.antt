@@ -3,7 +3,7 @@ use Rattle.std.proofs.lemmas.List.{length-take, take_more}
 use Rattle.vme_trace.specs.Trace.{changed, levels_after}
 use Rattle.vme_monitor.specs.Runs.{levels_after-append}
 use Rattle.vme_monitor.specs.declared.view.StepView.{StepView}
-use Rattle.vme_summary.proofs.monitors.summarise_monitors.Goals as goal
+use Rattle.vme_summary.proofs.each_monitor.summarise_monitors.Goals as goal
 
 pub loop-step-preserved : goal.loop-step-preserved
 loop-step-preserved g c =

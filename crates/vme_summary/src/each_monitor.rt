@@ -13,14 +13,19 @@ use vme_monitor::stepping::Stepping;
 use vme_monitor::view::StepView;
 use vme_trace::{Lines, Step};
 
-/// Something of each of five monitors.
+/// Something of each of the five monitors.
 #[derive(Drop)]
-pub(crate) struct EachMonitor<A: Drop, B: Drop, C: Drop, D: Drop, E: Drop> {
-    pub(crate) known: A,
-    pub(crate) handshake: B,
-    pub(crate) stability: C,
-    pub(crate) grant: D,
-    pub(crate) acknowledge: E,
+pub struct EachMonitor<A: Drop, B: Drop, C: Drop, D: Drop, E: Drop> {
+    /// Of the one that reads levels.
+    pub known: A,
+    /// Of the one of strobes and answers.
+    pub handshake: B,
+    /// Of the one of levels that have to stay.
+    pub stability: C,
+    /// Of the one of bus grants.
+    pub grant: D,
+    /// Of the one of interrupts that are acknowledged.
+    pub acknowledge: E,
 }
 
 /// What five monitors know of no steps.
@@ -73,8 +78,9 @@ fn step_monitors<A: Stepping, B: Stepping, C: Stepping, D: Stepping, E: Stepping
     E::go_on(alloc, &mut all.acknowledge, view, step, instant)
 }
 
-/// The summary of each of five monitors of the steps after an opening, and the lines that the last step leaves.
-pub(crate) fn summarise_monitors<A: Stepping, B: Stepping, C: Stepping, D: Stepping, E: Stepping>(
+/// The summary of each of five monitors of the steps after an opening, and the lines that the last step leaves. All of
+/// them are led along the steps at once. The only error is want of memory.
+pub fn summarise_monitors<A: Stepping, B: Stepping, C: Stepping, D: Stepping, E: Stepping>(
     alloc: Global,
     opening: &Lines,
     steps: &[Step],
