@@ -25,8 +25,8 @@ const U1: Guide = Guide {
     sentence: "a control line is Unknown, at the end of judging",
     line: "that control line",
     section: "profile",
-    causes: "two boards drive the line against each other; a net of a daisy chain that its board lets go once the bus \
-             was idle; a driver that becomes unknown where a state that isn't reset is used; $dumpoff",
+    causes: "two boards drive the line against each other; a net of a daisy chain that its board releases once the \
+             bus was idle; a driver that becomes unknown where a state that isn't reset is used; $dumpoff",
 };
 
 const U2: Guide = Guide {
@@ -60,8 +60,8 @@ const H1: Guide = Guide {
     sentence: "a transfer starts, and DTACK, or BERR, isn't High near",
     line: "the answer line that isn't High",
     section: "chapter 2, Data Transfer Bus",
-    causes: "the master doesn't wait until the answer of its last transfer is gone; a slave or the bus timer that lets \
-             its answer go late, or never",
+    causes: "the master doesn't wait until the answer of its last transfer is gone; a slave or the bus timer that \
+             releases its answer late, or never",
 };
 
 const H2: Guide = Guide {
@@ -69,7 +69,7 @@ const H2: Guide = Guide {
     sentence: "a strobe rises inside a transfer, after its start, that has no answer so far",
     line: "the strobe that rises",
     section: "chapter 2, Data Transfer Bus",
-    causes: "the master lets its strobes go by a clock or a timer of its own, and not by the answer; a glitch on a \
+    causes: "the master releases its strobes by a clock or a timer of its own, and not by the answer; a glitch on a \
              strobe; a reset in the middle of a transfer, where SYSRESET is not bound",
 };
 
@@ -106,8 +106,8 @@ const H6: Guide = Guide {
                included",
     line: "the answer line that rises",
     section: "chapter 2, Data Transfer Bus",
-    causes: "the slave lets its answer go by a clock or a timer of its own, and not by the strobes; two slaves answer \
-             and the first lets go",
+    causes: "the slave releases its answer by a clock or a timer of its own, and not by the strobes; two slaves \
+             answer and the first releases its line",
 };
 
 const H7: Guide = Guide {
@@ -143,8 +143,8 @@ const S2: Guide = Guide {
     sentence: "WRITE has an edge after a transfer's start, before a strobe rises in it",
     line: "WRITE",
     section: "chapter 2, Data Transfer Bus",
-    causes: "the master turns WRITE for its next access before the strobes are High; WRITE is let go together with the \
-             address, at the answer",
+    causes: "the master changes WRITE for its next access before the strobes are High; WRITE is released together \
+             with the address, at the answer",
 };
 
 const S3: Guide = Guide {
@@ -189,7 +189,7 @@ const G2: Guide = Guide {
     sentence: "a slot's grant output rises and its input isn't High near",
     line: "the net",
     section: "chapter 3, Data Transfer Bus Arbitration",
-    causes: "a board lets its grant output go when its own request changes; a board that takes a grant that it has \
+    causes: "a board releases its grant output when its own request changes; a board that takes a grant that it has \
              passed on; a reset in the middle of a grant, where SYSRESET is not bound",
 };
 
@@ -244,8 +244,8 @@ const B3: Guide = Guide {
     sentence: "AS falls and BBSY isn't Low near",
     line: "AS",
     section: "chapter 2, Data Transfer Bus",
-    causes: "a master that drives AS before it has the bus, or after it has let BBSY go; BBSY wasn't recorded and is \
-             bound to 1",
+    causes: "a master that drives AS before it has the bus, or after it has released BBSY; BBSY wasn't recorded and \
+             is bound to 1",
 };
 
 const B4: Guide = Guide {

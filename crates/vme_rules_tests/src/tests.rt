@@ -7,7 +7,7 @@ use vme_trace::Rule;
 const OF_B3: &str = "B3: AS falls and BBSY isn't Low near
   line: AS
   section: chapter 2, Data Transfer Bus
-  usually: a master that drives AS before it has the bus, or after it has let BBSY go; BBSY wasn't recorded and is \
+  usually: a master that drives AS before it has the bus, or after it has released BBSY; BBSY wasn't recorded and is \
 bound to 1
 ";
 
