@@ -22,7 +22,8 @@ use Rattle.vme_audit_command.specs.declared.told.NoOutcome.{NoOutcome}
 use Rattle.vme_audit_command.specs.declared.told.NoOutcome.TheVariants.{CannotRead, Refused, Untold}
 use Rattle.vme_audit_command.specs.declared.told.TellFault.TheVariants.{Memory, CannotWrite}
 
--- how a dump is audited
+-- How a dump is audited: which breaks are allowed, how many transfers have to be answered, at which of the breaks that
+-- aren't allowed the audit ends, within which time edges are one moment, and whether counts are left out.
 pub record DumpRules : Type 0 where
   pub allowances : List Allowance
   pub transfers : ℕ
@@ -35,32 +36,32 @@ pub record DumpAnswer : Type 0 where
   pub out : List ℕ
   pub ended : Result ℕ Refusal
 
+-- before each line stands the head: the name of the dump's file, or nothing
 module _ (rules : DumpRules) (head : List ℕ) where
   abbrev pub dump_outcome : Trace → Outcome
   dump_outcome a = outcome rules.allowances rules.transfers a
 
-  -- the lines behind those of the breaks
+  -- the lines after those of the breaks
   abbrev pub last_lines : Trace → List ℕ
   last_lines a = counts_unless rules.is_quiet rules.allowances head a ++ outcome_line_of head (dump_outcome a)
 
-  -- behind the lines of the breaks, by the recording as far as it is audited; or why there is no outcome
+  -- after the lines of the breaks, by the recording as far as it is audited; or why there is no outcome
   abbrev pub answer_by : List ℕ → Result Trace Refusal → DumpAnswer
   answer_by lines (Ok a) = record { out = lines ++ last_lines a; ended = Ok (outcome_status (dump_outcome a)) }
   answer_by lines (Err refusal) = record { out = lines; ended = Err refusal }
 
-  -- the answer to what a dump comes to
+  -- the answer to what reading a dump gives
   abbrev pub reading_answer : TextReading → DumpAnswer
   reading_answer reading = answer_by (break_lines rules.allowances rules.stop head reading.recorded)
       (ended_at rules.allowances rules.stop reading.recorded reading.fault)
 
-  -- the answer to a dump by what reading it comes to, settled by the skew
+  -- the answer to a dump by what reading it gives, settled by the skew
   abbrev pub dump_answer : Result TextReading CaptureFault → DumpAnswer
   dump_answer (Ok reading) = reading_answer (settled_by (skew_of rules.skew) reading)
   dump_answer (Err fault) = record { out = []; ended = Err (capture_refusal fault) }
 
--- how the audit of a dump ended: it has an outcome, or none; or the dump couldn't be read to its end, a write
--- failed, or
--- there was no memory, and then the first of the text was written
+-- how the audit of a dump ended: it has an outcome, or none; or the dump couldn't be read to its end, a write failed,
+-- or memory ran out, and then a prefix of the text was written
 abbrev pub EndsAs : DumpAnswer → Writing → Writing → Result ℕ NoOutcome → Type 0
 EndsAs answer old new (Ok status) = Writes old new answer.out × (answer.ended ≡ Ok status)
 EndsAs answer old new (Err (Refused refusal)) = Writes old new answer.out × (answer.ended ≡ Err refusal)
@@ -68,14 +69,14 @@ EndsAs answer old new (Err CannotRead) = WritesSome old new answer.out
 EndsAs answer old new (Err (Untold CannotWrite)) = FailsToWrite old new answer.out
 EndsAs answer old new (Err (Untold Memory)) = WritesSome old new answer.out
 
--- a dump was audited behind its definitions
+-- the body of a dump was audited, of which some bytes were held, and more may have come from its source
 abbrev pub AuditsBehind : DumpRules → List ℕ → StepReading → List ℕ → Bool → Reading → Writing → Writing
     → Result ℕ NoOutcome → Type 0
 AuditsBehind rules head r held is_more source old new result =
     (whole : List ℕ) × IsWholeBody is_more source held whole
     × EndsAs (dump_answer rules head (Ok (whole_reading r whole))) old new result
 
--- a dump was audited, whose bytes its source tells
+-- a dump was audited, whose bytes are those that its source gives
 abbrev pub AuditsDump : DumpRules → List ℕ → BoundLines → Reading → Writing → Writing → Result ℕ NoOutcome → Type 0
 AuditsDump rules head bound source old new result =
     (text : List ℕ) × AreAll source text
