@@ -14,9 +14,9 @@ use Rattle.std.proofs.lemmas.Slice.Eq.{bytes_eq-Decides}
 use Rattle.vcd_read.specs.declared.code_index.CodeIndex.{CodeIndex}
 use Rattle.vcd_read.specs.Header.{Net, has_code, net_of, size_of}
 use Rattle.vcd_read.specs.CodeIndexes.{net_at}
-use Rattle.vcd_read.specs.declared.lone_codes.LoneCodes.{LoneCodes}
-use Rattle.vcd_read.specs.declared.lone_codes.SizedNet.{SizedNet}
-use Rattle.vcd_read.specs.LoneCodes.{AreLone, lone_at, sized_net, sized_net_of}
+use Rattle.vcd_read.specs.declared.one_byte_codes.OneByteCodes.{OneByteCodes}
+use Rattle.vcd_read.specs.declared.one_byte_codes.SizedNet.{SizedNet}
+use Rattle.vcd_read.specs.OneByteCodes.{HasOneByteCodes, one_byte_net_at, sized_net, sized_net_of}
 use Rattle.vcd_read.specs.Nets.{AreIndexed}
 
 pub size_of-at : (nets : List Net) (i : ℕ) (n : Net) → i < length nets → n ≡ get_or nets i n → size_of nets i ≡ n.size
@@ -117,12 +117,12 @@ sized-push nets code size none other =
     go false = sized-before nets n (net_of nets other) (net_within nets other)
 
 -- one more net
-pub lone_push : (nets : List Net) (old new : LoneCodes) (code : List ℕ) (size : ℕ) (net : SizedNet) → AreLone nets old
-    → net_of nets code ≡ None → net ≡ record { number = length nets; size = size }
-    → ((byte : ℕ) → byte < 256 → lone_at new byte
-    ≡ (if bytes_eq code (byte ∷ []) then Some net else lone_at old byte))
-    → AreLone (nets ++ record { code = code; size = size } ∷ []) new
-lone_push nets old new code size net was none is changed = λ byte lt.
+pub one_byte_push : (nets : List Net) (old new : OneByteCodes) (code : List ℕ) (size : ℕ) (net : SizedNet)
+    → HasOneByteCodes nets old → net_of nets code ≡ None → net ≡ record { number = length nets; size = size }
+    → ((byte : ℕ) → byte < 256 → one_byte_net_at new byte
+    ≡ (if bytes_eq code (byte ∷ []) then Some net else one_byte_net_at old byte))
+    → HasOneByteCodes (nets ++ record { code = code; size = size } ∷ []) new
+one_byte_push nets old new code size net was none is changed = λ byte lt.
     changed byte lt
     ∙ ap (λ (o : Option SizedNet). cond (bytes_eq code (byte ∷ [])) (Some net) o) (was byte lt)
     ∙ ap (λ (n : SizedNet). cond (bytes_eq code (byte ∷ [])) (Some n) (sized_net_of nets (byte ∷ []))) is

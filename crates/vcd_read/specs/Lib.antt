@@ -10,7 +10,7 @@ pub mod DumpProgress
 pub mod Taking
 pub mod Collected
 pub mod Touched
-pub mod LoneCodes
+pub mod OneByteCodes
 pub mod Nets
 pub mod CodeNumbers
 pub mod CodeIndexes

@@ -2,10 +2,10 @@
 
 ghost use Rattle.std.specs.Prelude.{◌≡◌, ◌<◌, ◌++◌, ◌∷◌, [], None, length, IfOk, OnOk, OnErr};
 ghost use Rattle.vcd_read.specs.Header.{net_of, size_of};
-ghost use Rattle.vcd_read.specs.LoneCodes.{sized_net_of};
+ghost use Rattle.vcd_read.specs.OneByteCodes.{sized_net_of};
 
 use crate::code_index::CodeIndex;
-use crate::lone_codes::{LoneCodes, SizedNet};
+use crate::one_byte_codes::{OneByteCodes, SizedNet};
 use std::alloc::{AllocError, Global};
 use std::marker::Model;
 
@@ -23,13 +23,13 @@ pub(crate) struct Codes {
     /// The net of each code.
     index: CodeIndex,
     /// The net of each code of one byte.
-    lone: LoneCodes,
+    one_byte: OneByteCodes,
 }
 
 impl Model for Codes {
     ghost use Rattle.std.specs.Prelude.{List, map};
     ghost use Rattle.vcd_read.specs.Header.{Net};
-    ghost use Rattle.vcd_read.specs.LoneCodes.{AreLone};
+    ghost use Rattle.vcd_read.specs.OneByteCodes.{HasOneByteCodes};
     ghost use Rattle.vcd_read.specs.Nets.{net_code, AreIndexed};
 
     ghost Value = { List Net };
@@ -37,7 +37,7 @@ impl Model for Codes {
     ghost view = { λ c. map net_code c.nets.items };
 
     ghost invariant = { λ c. AreIndexed (map net_code c.nets.items) c.index
-        × AreLone (map net_code c.nets.items) c.lone };
+        × HasOneByteCodes (map net_code c.nets.items) c.one_byte };
 }
 
 impl Codes {
@@ -48,7 +48,7 @@ impl Codes {
         Ok(Codes {
             nets: Vec::new(alloc),
             index: CodeIndex::new(alloc),
-            lone: LoneCodes::new(alloc)?,
+            one_byte: OneByteCodes::new(alloc)?,
         })
     }
 
@@ -73,7 +73,7 @@ impl Codes {
         ensures { result ≡ sized_net_of self.now code.now }
     {
         if let [byte] = code {
-            return self.lone.get(*byte);
+            return self.one_byte.get(*byte);
         }
         let number = self.net(code)?;
         let size = self.size(number);
@@ -106,7 +106,7 @@ impl Codes {
         self.nets.reserve(1)?;
         self.index.insert(alloc, code, net)?;
         self.nets.push_reserved(NetCode { code: bytes, size });
-        self.lone.insert(code, SizedNet { number: net, size });
+        self.one_byte.insert(code, SizedNet { number: net, size });
         Ok(net)
     }
 }

@@ -7,7 +7,7 @@
 //!   values at its instants; the first fault, with its line.
 //! - `token`, `runs`, `shape`, `number`, `bits`: the tokens of a text; where runs of bytes end;
 //!   what a token of the body is; decimal numbers; digits as the bits of a value.
-//! - `header`, `reference`, `scopes`, `variables`, `codes`, `code_index`, `lone_codes`,
+//! - `header`, `reference`, `scopes`, `variables`, `codes`, `code_index`, `one_byte_codes`,
 //!   `declaration_visitor`: the definitions, and what takes them.
 //! - `body`, `body_state`, `body_piece`, `open_item`, `change_visitor`, `timed_visitor`,
 //!   `instant_collector`: the changes, and what takes them.
@@ -63,8 +63,8 @@ mod head;
 mod header;
 mod instant_collector;
 mod lines;
-mod lone_codes;
 mod number;
+mod one_byte_codes;
 mod open_item;
 mod pieces;
 mod read;

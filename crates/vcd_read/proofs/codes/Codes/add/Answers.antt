@@ -2,9 +2,9 @@ use Rattle.std.proofs.Common.{sym, ap, ◌∙◌, ◌≡◌, ◌++◌, ◌∷◌
 use Rattle.std.proofs.lemmas.List.{map_push, length-map}
 use Rattle.vcd_read.specs.declared.codes.NetCode.{NetCode}
 use Rattle.vcd_read.specs.Header.{Net, net_of}
-use Rattle.vcd_read.specs.LoneCodes.{AreLone}
+use Rattle.vcd_read.specs.OneByteCodes.{HasOneByteCodes}
 use Rattle.vcd_read.specs.Nets.{net_code, AreIndexed}
-use Rattle.vcd_read.proofs.CodesLemmas.{indexed_push, lone_push}
+use Rattle.vcd_read.proofs.CodesLemmas.{indexed_push, one_byte_push}
 use Rattle.vcd_read.proofs.codes.Codes.add.Goals as goal
 
 pub invariant_of-self-2 : goal.invariant_of-self-2
@@ -23,9 +23,9 @@ invariant_of-self-2 c =
     c.self.invariant.0 none (simp length-map (omega (arith, c.len-net.ensures))) (omega (arith, c.if-net.false))
     c.in_ok-insert.ensures.ok in
     let number : c.len-net.result ≡ length nets = simp length-map (omega (arith, c.len-net.ensures)) in
-    let lone = lone_push nets c.self.inside.lone c.insert-2.new.self c.args.code.now c.args.size
+    let one_byte = one_byte_push nets c.self.inside.one_byte c.insert-2.new.self c.args.code.now c.args.size
     (record { number = c.len-net.result; size = c.args.size }) c.self.invariant.1 none
     (ap (λ (n : ℕ). record { number = n; size = c.args.size }) number) c.insert-2.ensures in (
       subst (λ (nets : List Net). AreIndexed nets c.insert.new.self) (sym more) indexed,
-      subst (λ (nets : List Net). AreLone nets c.insert-2.new.self) (sym more) lone,
+      subst (λ (nets : List Net). HasOneByteCodes nets c.insert-2.new.self) (sym more) one_byte,
     )

@@ -16,36 +16,36 @@ pub(crate) struct SizedNet {
 
 /// The net of each code of one byte that has one. A small dump has few other codes, and one look-up tells the net.
 #[derive(Drop)]
-pub(crate) struct LoneCodes {
+pub(crate) struct OneByteCodes {
     /// By that byte.
     nets: Vec<Option<SizedNet>>,
     ghost all: { length nets.items ≡ 256 },
 }
 
-impl LoneCodes {
-    ghost use Rattle.vcd_read.specs.LoneCodes.{lone_at};
+impl OneByteCodes {
+    ghost use Rattle.vcd_read.specs.OneByteCodes.{one_byte_net_at};
 
     /// No code has a net.
-    pub fn new(alloc: Global) -> Result<LoneCodes, AllocError>
-        ensures { IfOk result (λ lone. (byte : ℕ) → lone_at lone byte ≡ None) }
+    pub fn new(alloc: Global) -> Result<OneByteCodes, AllocError>
+        ensures { IfOk result (λ table. (byte : ℕ) → one_byte_net_at table byte ≡ None) }
     {
         let mut nets = Vec::new(alloc);
         nets.resize(BYTES, None)?;
-        Ok(LoneCodes { nets })
+        Ok(OneByteCodes { nets })
     }
 
     /// The net of the code that is this byte, where it has one.
     #[inline(always)]
     pub fn get(&self, byte: u8) -> Option<SizedNet>
-        ensures { result ≡ lone_at self.now byte }
+        ensures { result ≡ one_byte_net_at self.now byte }
     {
         self.nets[byte as usize]
     }
 
     /// Gives a code a net, where it has one byte.
     pub fn insert(&mut self, code: &[u8], net: SizedNet)
-        ensures { (byte : ℕ) → byte < 256 → lone_at self.new byte
-            ≡ (if bytes_eq code.now (byte ∷ []) then Some net else lone_at self.old byte) }
+        ensures { (byte : ℕ) → byte < 256 → one_byte_net_at self.new byte
+            ≡ (if bytes_eq code.now (byte ∷ []) then Some net else one_byte_net_at self.old byte) }
     {
         if let [byte] = code {
             self.nets[*byte as usize] = Some(net);
