@@ -27,7 +27,7 @@ use Rattle.vme_chains.specs.GrantMemory.{is_in, union}
 use Rattle.vme_chains.specs.GrantSpec.{grant_rules, nets_fault, seen_between, grant_begin, grant_opens, grant_ends}
 use Rattle.vme_chains.specs.GrantSpec.{grant_observation, grant_next}
 use Rattle.vme_chains.specs.GrantMarks.{tenure_at, tenures_shown}
-use Rattle.vme_chains.specs.declared.grant.Arbitrated.{Arbitrated}
+use Rattle.vme_chains.specs.declared.grant.GrantObservation.{GrantObservation}
 use Rattle.vme_chains.specs.declared.grant_memory.Arbitration.{Arbitration}
 use Rattle.vme_chains.specs.declared.grant_memory.LevelSet.{LevelSet}
 use Rattle.vme_chains.proofs.GrantLines.{request_exists}
@@ -89,7 +89,7 @@ module _ (t : Trace) (span : Stretch) (few : t.opening.slots ≤ 21) where
     abbrev new : Levels
     new = levels_at t (suc n)
 
-    abbrev seen : Arbitrated
+    abbrev seen : GrantObservation
     seen = seen_between old new cs
 
     -- after a step that was looked at

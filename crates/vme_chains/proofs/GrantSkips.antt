@@ -80,14 +80,14 @@ pub fault-none : (v w : Levels) (requests now : LevelSet) (granted : Bool) (nets
     (grants takes ungranted ends unowned : Bool) (taken : Option BusGrant)
     → nets ≡ None → grants ≡ false → takes ≡ false → unowned ≡ false
     → step_fault v w requests granted (record {
-      nets = nets;
+      net_fault = nets;
       requests = now;
       grants = grants;
-      takes = takes;
+      busy_falls = takes;
       ungranted
           = takes && ungranted;
       tenure = cond takes taken None;
-      ends = ends;
-      unowned = unowned;
+      busy_rises = ends;
+      cycle_unowned = unowned;
     }) ≡ None
 fault-none v w requests now granted nets grants takes ungranted ends unowned taken a b c d = rw (a, b, c, d) refl

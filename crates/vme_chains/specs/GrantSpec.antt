@@ -18,7 +18,7 @@ use Rattle.vme_chains.specs.GrantLevels.{falls_between, rises_between, is_low_in
 use Rattle.vme_chains.specs.GrantLevels.{grant_begins, requested_in, taken_between, is_ungranted, touches_arbitration}
 use Rattle.vme_chains.specs.GrantLevels.{is_cycle_unowned}
 use Rattle.vme_chains.specs.GrantMemory.{is_in, union}
-use Rattle.vme_chains.specs.declared.grant.Arbitrated.{Arbitrated}
+use Rattle.vme_chains.specs.declared.grant.GrantObservation.{GrantObservation}
 use Rattle.vme_chains.specs.declared.grant_memory.Arbitration.{Arbitration}
 use Rattle.vme_chains.specs.declared.grant_memory.LevelSet.{LevelSet}
 
@@ -44,30 +44,30 @@ nets_fault v w cs =
 abbrev pub unrequested : Levels → Levels → LevelSet → Option ℕ
 unrequested v w requests = least (λ n. falls_between v w (grant n 0) && not (is_in requests n)) 0 4
 
-abbrev pub seen_between : Levels → Levels → List Change → Arbitrated
+abbrev pub seen_between : Levels → Levels → List Change → GrantObservation
 seen_between v w cs =
     record {
-      nets = nets_fault v w cs;
+      net_fault = nets_fault v w cs;
       requests = requested_in w;
       grants = grant_begins v w;
-      takes = falls_between v w BBSY;
+      busy_falls = falls_between v w BBSY;
       ungranted = falls_between v w BBSY && is_ungranted v w;
       tenure = (if falls_between v w BBSY then taken_between v w else None);
-      ends = rises_between v w BBSY;
-      unowned = is_cycle_unowned v w;
+      busy_rises = rises_between v w BBSY;
+      cycle_unowned = is_cycle_unowned v w;
     }
 
 abbrev pub slot_of : Option BusGrant → Option ℕ
 slot_of o = option_map (λ x. x.slot) o
 
 -- what a step breaks, after these requests since the last grant, and with or without a grant since the bus became busy
-abbrev pub step_fault : Levels → Levels → LevelSet → Bool → Arbitrated → Option Fault
+abbrev pub step_fault : Levels → Levels → LevelSet → Bool → GrantObservation → Option Fault
 step_fault v w requests granted seen =
-    option_or seen.nets
+    option_or seen.net_fault
     (option_or (fault_on G5 (if seen.grants then option_map (λ n. grant n 0) (unrequested v w requests) else None))
     (option_or (fault_on B1 (line_if seen.ungranted BBSY))
-    (option_or (fault_on B2 (line_if (seen.takes && not granted) BBSY))
-    (option_or (fault_on B3 (line_if seen.unowned AS))
+    (option_or (fault_on B2 (line_if (seen.busy_falls && not granted) BBSY))
+    (option_or (fault_on B3 (line_if seen.cycle_unowned AS))
     (fault_on B4 (line_if (is_option_equal (slot_of seen.tenure) (w.slots + 1)) BBSY))))))
 
 abbrev pub grant_begin : Levels → Arbitration
@@ -79,16 +79,16 @@ grant_opens v = record nothing { opened = is_low_in v BBSY }
 abbrev pub grant_ends : ℕ → Option Fault
 grant_ends l = None
 
-abbrev pub grant_observation : Levels → Levels → List Change → Option Arbitrated
+abbrev pub grant_observation : Levels → Levels → List Change → Option GrantObservation
 grant_observation v w cs = if touches_arbitration cs || is_cycle_unowned v w then Some (seen_between v w cs) else None
 
-abbrev pub grant_next : Arbitration → Levels → Levels → Arbitrated → Next Arbitration
+abbrev pub grant_next : Arbitration → Levels → Levels → GrantObservation → Next Arbitration
 grant_next m v w seen =
     record {
       memory = record {
         requests = (if seen.grants then seen.requests else union m.requests seen.requests);
-        granted = not seen.takes && (m.granted || seen.grants);
+        granted = not seen.busy_falls && (m.granted || seen.grants);
       };
       fault = step_fault v w (union m.requests seen.requests) (m.granted || seen.grants) seen;
-      shown = record nothing { tenure = seen.tenure; tenure_end = seen.ends };
+      shown = record nothing { tenure = seen.tenure; tenure_end = seen.busy_rises };
     }

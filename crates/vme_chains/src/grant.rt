@@ -22,23 +22,23 @@ use vme_trace::{Change, Line, Lines, Rule};
 
 /// What a step shows of grants and tenures, whatever is remembered.
 #[derive(Drop)]
-pub struct Arbitrated {
+pub struct GrantObservation {
     /// What the changes break of the rules G1 to G4.
-    pub nets: Option<Fault>,
-    /// The levels that are requested after it.
+    pub net_fault: Option<Fault>,
+    /// The levels that are requested after the step.
     pub requests: LevelSet,
     /// The arbiter begins to grant some level.
     pub grants: bool,
     /// BBSY* falls.
-    pub takes: bool,
+    pub busy_falls: bool,
     /// BBSY* falls, and no level is granted before the step or after it.
     pub ungranted: bool,
     /// The grant that the fall of BBSY* takes.
     pub tenure: Option<BusGrant>,
     /// BBSY* rises.
-    pub ends: bool,
+    pub busy_rises: bool,
     /// A cycle starts while the bus isn't busy.
-    pub unowned: bool,
+    pub cycle_unowned: bool,
 }
 
 /// The rule is broken on the line, if there is one.
@@ -64,11 +64,11 @@ fn nets_fault(before: &Lines, after: &Lines, changes: &[Change]) -> Option<Fault
     if !touches_nets(changes) {
         return None;
     }
-    let extended = fault_on(Rule::G1, first_broken(Rule::G1, before, after, changes));
-    let ended = fault_on(Rule::G2, first_broken(Rule::G2, before, after, changes));
-    let doubled = fault_on(Rule::G3, first_broken(Rule::G3, before, after, changes));
-    let busy = fault_on(Rule::G4, first_broken(Rule::G4, before, after, changes));
-    extended.or(ended.or(doubled.or(busy)))
+    let g1 = fault_on(Rule::G1, first_broken(Rule::G1, before, after, changes));
+    let g2 = fault_on(Rule::G2, first_broken(Rule::G2, before, after, changes));
+    let g3 = fault_on(Rule::G3, first_broken(Rule::G3, before, after, changes));
+    let g4 = fault_on(Rule::G4, first_broken(Rule::G4, before, after, changes));
+    g1.or(g2.or(g3.or(g4)))
 }
 
 /// The first level that is granted without being requested.
@@ -87,29 +87,29 @@ fn unrequested(before: &Lines, after: &Lines, requests: LevelSet) -> Option<Line
 
 /// What a step shows of grants and tenures.
 #[inline(always)]
-fn seen_between(before: &Lines, after: &Lines, changes: &[Change]) -> Arbitrated
+fn seen_between(before: &Lines, after: &Lines, changes: &[Change]) -> GrantObservation
     ensures { result ≡ seen_between_of before.now after.now changes.now }
 {
-    let takes = falls(before, after, Line::BBSY);
-    Arbitrated {
-        nets: nets_fault(before, after, changes),
+    let busy_falls = falls(before, after, Line::BBSY);
+    GrantObservation {
+        net_fault: nets_fault(before, after, changes),
         requests: requested(after),
         grants: grant_begins(before, after),
-        takes,
-        ungranted: takes && is_ungranted(before, after),
-        tenure: if takes {
+        busy_falls,
+        ungranted: busy_falls && is_ungranted(before, after),
+        tenure: if busy_falls {
             taken_between(before, after)
         } else {
             None
         },
-        ends: rises(before, after, Line::BBSY),
-        unowned: is_cycle_unowned(before, after),
+        busy_rises: rises(before, after, Line::BBSY),
+        cycle_unowned: is_cycle_unowned(before, after),
     }
 }
 
-impl Arbitrated {
+impl GrantObservation {
     /// Whether the grant that is taken has gone past the last slot.
-    fn is_past(&self, slots: u8) -> bool
+    fn is_past_last_slot(&self, slots: u8) -> bool
         requires { slots ≤ 21 }
         ensures { result ≡ is_option_equal (slot_of self.now.tenure) (slots + 1) }
     {
@@ -131,18 +131,18 @@ impl Arbitrated {
     ) -> Option<Fault>
         ensures { result ≡ step_fault_of before.now after.now requests granted self.now }
     {
-        let unasked = if self.grants {
+        let g5_line = if self.grants {
             unrequested(before, after, requests)
         } else {
             None
         };
-        let ungranted = line_if(self.ungranted, Line::BBSY);
-        let twice = line_if(self.takes && !granted, Line::BBSY);
-        let unowned = line_if(self.unowned, Line::AS);
-        let past = line_if(self.is_past(after.slots()), Line::BBSY);
-        let last = fault_on(Rule::B3, unowned).or(fault_on(Rule::B4, past));
-        let taking = fault_on(Rule::B1, ungranted).or(fault_on(Rule::B2, twice).or(last));
-        self.nets.or(fault_on(Rule::G5, unasked).or(taking))
+        let b1_line = line_if(self.ungranted, Line::BBSY);
+        let b2_line = line_if(self.busy_falls && !granted, Line::BBSY);
+        let b3_line = line_if(self.cycle_unowned, Line::AS);
+        let b4_line = line_if(self.is_past_last_slot(after.slots()), Line::BBSY);
+        let b3_or_b4 = fault_on(Rule::B3, b3_line).or(fault_on(Rule::B4, b4_line));
+        let b1_to_b4 = fault_on(Rule::B1, b1_line).or(fault_on(Rule::B2, b2_line).or(b3_or_b4));
+        self.net_fault.or(fault_on(Rule::G5, g5_line).or(b1_to_b4))
     }
 }
 
@@ -158,7 +158,7 @@ impl Rules for GrantRules {
 
     type Memory = Arbitration;
 
-    type Observation = Arbitrated;
+    type Observation = GrantObservation;
 
     ghost begin = { grant_begin };
 
@@ -195,7 +195,7 @@ impl Rules for GrantRules {
     }
 
     #[inline(always)]
-    fn observe(before: &Lines, after: &Lines, changes: &[Change]) -> Option<Arbitrated> {
+    fn observe(before: &Lines, after: &Lines, changes: &[Change]) -> Option<GrantObservation> {
         if touches_arbitration(changes) || is_cycle_unowned(before, after) {
             Some(seen_between(before, after, changes))
         } else {
@@ -208,19 +208,19 @@ impl Rules for GrantRules {
         memory: Arbitration,
         before: &Lines,
         after: &Lines,
-        seen: &Arbitrated,
+        seen: &GrantObservation,
     ) -> Next<Arbitration> {
         let requests = memory.requests.union(seen.requests);
         let granted = memory.granted || seen.grants;
         Next {
             memory: Arbitration {
                 requests: if seen.grants { seen.requests } else { requests },
-                granted: !seen.takes && granted,
+                granted: !seen.busy_falls && granted,
             },
             fault: seen.fault(before, after, requests, granted),
             shown: StepMarks {
                 tenure: seen.tenure,
-                tenure_end: seen.ends,
+                tenure_end: seen.busy_rises,
                 ..NOTHING
             },
         }
@@ -230,8 +230,8 @@ impl Rules for GrantRules {
 /// The monitor of grants and tenures.
 pub type Grant = RuleMonitor<GrantRules>;
 
-/// Over a whole capture, the event is the least break of the rules G1 to G5 and B1 to B4, and the marks are the
-/// tenures: an open one at the start, each start with its level and slot, and each end.
+/// Over every recording, the event is the least break of the rules G1 to G5 and B1 to B4, and the marks are the
+/// tenures: one that is open at the start, each start with its level and slot, and each end.
 pub fn grants_over_captures()
     ensures event { FindsLeast ⟦<Grant as Monitor>⟧.run ⟦<Grant as Monitor>⟧.begin grant_rules }
     ensures marks { ShowsAll ⟦<Grant as Monitor>⟧.run ⟦<Grant as Monitor>⟧.begin nothing tenures_shown }
