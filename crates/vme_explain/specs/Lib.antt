@@ -1,3 +1,4 @@
 pub mod Drivers
-pub mod Marks
+pub mod LevelCharacters
+pub mod SaveFile
 pub mod Saving

@@ -8,15 +8,15 @@
 //! - `page`: [`explanation`], what is said after the line of a verdict.
 //! - `broken`: what is said of a break, and of the other events of which its rule speaks.
 //! - `summary`, `idle`: what is said of a recording without a break; what is asked of an idle bus.
-//! - `window`, `shown`, `values`, `marks`: what an excerpt shows around an instant; which lines are
-//!   shown, several lines as one value, and levels as characters.
+//! - `window`, `shown`, `values`, `level_characters`: what an excerpt shows around an instant; which
+//!   lines are shown, several lines as one value, and levels as characters.
 //! - `driver`, `scale`: which board drives a net of a chain; what the times of a dump are called.
 //! - `sources`, `wrapping`: what lines are bound to; lines that fit a page.
 //! - `viewer`, `saving`: the save file, and whether it may be written where something stands.
 //!
 //! # What is proved
 //!
-//! [`marks_of`] gives the characters of levels. [`driver_of`] says who drives a net.
+//! [`line_characters`] gives the characters of levels. [`driver_of`] says who drives a net.
 //! [`save_refusal`] refuses to write over an input and over what this program didn't write;
 //! [`is_save_file`] knows what [`save_file`] writes. An [`explanation`] has visible characters,
 //! spaces and line feeds alone, whatever the names are. The counts, the rows that are open, the
@@ -36,7 +36,7 @@
 mod broken;
 mod driver;
 mod idle;
-mod marks;
+mod level_characters;
 mod page;
 mod saving;
 mod scale;
@@ -50,11 +50,11 @@ mod wrapping;
 
 pub use broken::{OtherEvent, others_of};
 pub use driver::{Driver, driver_of, push_label};
-pub use marks::marks_of;
+pub use level_characters::line_characters;
 pub use page::{Subject, explanation, push_line_value, push_open, shown_time};
 pub use saving::{FileId, Present, SaveRefusal, is_one_file, save_refusal, save_refusal_text};
 pub use scale::time_name;
-pub use values::{MOST_MARKS, ValueRow};
+pub use values::{MOST_DIGITS, ValueRow};
 pub use viewer::{is_save_file, save_file};
 pub use window::{Excerpt, break_of, excerpt_of};
 pub use wrapping::wrapped;

@@ -5,7 +5,7 @@ ghost use Rattle.vme_text.specs.Visible.{IsVisible};
 
 use crate::broken::{push_driver, push_others};
 use crate::driver::push_label;
-use crate::marks::marks_of;
+use crate::level_characters::line_characters;
 use crate::scale::time_name;
 use crate::sources::{bound_to, push_variable};
 use crate::summary::{push_never_idle, push_summary};
@@ -284,8 +284,8 @@ pub fn push_line_value(
     let levels = subject
         .account
         .levels_from(alloc, at.saturating_sub(1), at)?;
-    let marks = marks_of(alloc, found.line, levels.as_slice())?;
-    if let (Some(before), Some(now)) = (marks.first(), marks.last()) {
+    let characters = line_characters(alloc, found.line, levels.as_slice())?;
+    if let (Some(before), Some(now)) = (characters.first(), characters.last()) {
         text.push(&[*before])?;
         text.push(b" before and ")?;
         text.push(&[*now])?;
@@ -410,9 +410,9 @@ fn push_levels(
     let mut label = Text::new(alloc);
     push_label(&mut label, alloc, line)?;
     push_padded(text, label.as_bytes(), widths.names)?;
-    for mark in &marks_of(alloc, line, levels)? {
+    for character in &line_characters(alloc, line, levels)? {
         text.push_spaces(widths.column.saturating_sub(1))?;
-        text.push(&[*mark])?;
+        text.push(&[*character])?;
     }
     text.push(b"\n")
 }

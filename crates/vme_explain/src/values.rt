@@ -6,7 +6,7 @@ use vme_text::Text;
 use vme_trace::{Level, Line, Lines, MOST_SLOTS};
 
 /// The most digits of a value in an excerpt.
-pub const MOST_MARKS: usize = 8;
+pub const MOST_DIGITS: usize = 8;
 
 /// Lines whose levels are shown as one value, the leftmost first.
 #[derive(Drop)]
@@ -14,8 +14,8 @@ pub struct ValueRow {
     /// What the row is called.
     pub name: &'static str,
     /// The values at the instants.
-    pub values: Vec<[u8; MOST_MARKS]>,
-    /// How many marks each value has.
+    pub values: Vec<[u8; MOST_DIGITS]>,
+    /// How many digits each value has.
     pub width: usize,
 }
 
@@ -122,19 +122,19 @@ fn bus_bit(lines: &Lines, bus: ValueBus, number: u8) -> Option<u8> {
 }
 
 /// The last digits of what a bus says.
-fn digits(lines: &Lines, bus: ValueBus, count: usize) -> [u8; MOST_MARKS] {
-    let mut marks = [b' '; MOST_MARKS];
-    let count = count.min(MOST_MARKS);
+fn digits(lines: &Lines, bus: ValueBus, count: usize) -> [u8; MOST_DIGITS] {
+    let mut text = [b' '; MOST_DIGITS];
+    let count = count.min(MOST_DIGITS);
     for place in 0..count {
         let low = (4 * (count - 1 - place)) as u8;
-        marks[place] = digit([
+        text[place] = digit([
             bus_bit(lines, bus, low + 3),
             bus_bit(lines, bus, low + 2),
             bus_bit(lines, bus, low + 1),
             bus_bit(lines, bus, low),
         ]);
     }
-    marks
+    text
 }
 
 fn row_of(
@@ -241,5 +241,5 @@ pub(crate) fn push_value(
         return Ok(());
     };
     text.push_spaces(width.saturating_sub(row.width))?;
-    text.push(&value[..row.width.min(MOST_MARKS)])
+    text.push(&value[..row.width.min(MOST_DIGITS)])
 }

@@ -2,7 +2,7 @@
 
 ghost use Rattle.std.specs.Prelude.{◌≡◌, ◌++◌, ℕ, IfOk, List, nat_eq};
 ghost use Rattle.std.specs.List.{starts_with};
-ghost use Rattle.vme_explain.specs.Marks.{save_file_mark};
+ghost use Rattle.vme_explain.specs.SaveFile.{save_file_first_line};
 
 use crate::page::{Subject, shown_time};
 use crate::sources::{assignment_in, bits_before, bound_to, path_of, variable_of};
@@ -18,26 +18,26 @@ const BEFORE: u32 = 8;
 /// of 200 points each. The names take 300 points, so that it is in view in a window 1,000 points wide.
 const HALF_DIVISIONS: u64 = 3;
 
-/// How a save file of this program begins.
-fn mark() -> &'static [u8]
-    ensures { result.now ≡ save_file_mark }
+/// The first line of a save file of this program.
+fn first_line() -> &'static [u8]
+    ensures { result.now ≡ save_file_first_line }
 {
     b"[*] written by vmecheck explain\n"
 }
 
 /// Whether a file begins as a save file of this program.
 pub fn is_save_file(begin: &[u8]) -> bool
-    ensures { result ≡ starts_with nat_eq begin.now save_file_mark }
+    ensures { result ≡ starts_with nat_eq begin.now save_file_first_line }
 {
-    begin.starts_with(mark())
+    begin.starts_with(first_line())
 }
 
 /// The save file for a dump of this name: the bound variables, each once, and where a rule is broken a marker there.
 pub fn save_file(alloc: Global, subject: &Subject<'_>, dump: &[u8]) -> Result<Text, AllocError>
-    ensures { IfOk result (λ text. (rest : List ℕ) × (text ≡ save_file_mark ++ rest)) }
+    ensures { IfOk result (λ text. (rest : List ℕ) × (text ≡ save_file_first_line ++ rest)) }
 {
     let mut text = Text::new(alloc);
-    text.push(mark())?;
+    text.push(first_line())?;
     let rest = view_and_traces(alloc, subject, dump)?;
     text.push(rest.as_bytes())?;
     Ok(text)
@@ -88,7 +88,7 @@ fn group_of(name: &[u8]) -> Option<usize> {
     found
 }
 
-/// What a save file has behind its mark: the variable of the broken line, and then all, by kinds, each once.
+/// What a save file has after its first line: the variable of the broken line, and then all, by kinds, each once.
 fn view_and_traces(alloc: Global, subject: &Subject<'_>, dump: &[u8]) -> Result<Text, AllocError> {
     let mut text = Text::new(alloc);
     push_dump(&mut text, dump)?;

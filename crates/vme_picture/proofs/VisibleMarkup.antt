@@ -10,7 +10,7 @@ use Rattle.vme_text.specs.Visible.{IsVisible, is_visible, shown_byte}
 use Rattle.vme_picture.specs.Markup.{AreAttributes, IsMarkup, MarkupTree, nothing, characters, end_of_line, element}
 use Rattle.vme_picture.specs.Markup.{attribute_name, attribute_text, element_text, escaped, escaped_byte, markup_text}
 use Rattle.vme_picture.specs.Markup.{tag_name}
-use Rattle.vme_picture.specs.Pictures.{picture_mark}
+use Rattle.vme_picture.specs.Pictures.{picture_first_line}
 use Rattle.vme_picture.specs.declared.markup.Attribute.{Attribute}
 use Rattle.vme_picture.specs.declared.markup.Attribute.TheVariants as attribute
 use Rattle.vme_picture.specs.declared.markup.Tag.{Tag}
@@ -121,12 +121,13 @@ visible_tree (element name attributes inner rest) =
 
 -- a picture, by its parts
 pub picture_is_visible : (attributes inner : List ℕ) → AreAttributes attributes → IsMarkup inner
-    → IsVisible (picture_mark ++ element_text tag.Svg attributes inner ++ 10 ∷ [])
+    → IsVisible (picture_first_line ++ element_text tag.Svg attributes inner ++ 10 ∷ [])
 picture_is_visible attributes inner a i =
     let of_attributes : IsVisible attributes = subst IsVisible (sym a.1) (visible_attributes a.0) in
     let of_inner : IsVisible inner = subst IsVisible (sym i.1) (visible_tree i.0) in
     let of_element : IsVisible (element_text tag.Svg attributes inner) = visible_element tag.Svg attributes inner
     of_attributes of_inner in
-    let marked : List ℕ = picture_mark ++ element_text tag.Svg attributes inner in
-    let of_marked : IsVisible marked = both picture_mark (element_text tag.Svg attributes inner) refl of_element in
+    let marked : List ℕ = picture_first_line ++ element_text tag.Svg attributes inner in
+    let of_marked : IsVisible marked =
+    both picture_first_line (element_text tag.Svg attributes inner) refl of_element in
     both marked (10 ∷ []) of_marked refl

@@ -3,12 +3,12 @@ use Rattle.std.specs.Prelude.{◌≡◌, ℕ, ◌++◌, ◌∷◌, [], List, cod
 use Rattle.vme_picture.specs.Markup.{AreAttributes, IsMarkup, element_text}
 use Rattle.vme_picture.specs.declared.markup.Tag.TheVariants.{Svg}
 
--- how a picture begins
-abbrev pub picture_mark : List ℕ
-picture_mark = codes "<!-- written by vmecheck explain -->" ++ 10 ∷ []
+-- how a picture begins: with a comment
+abbrev pub picture_first_line : List ℕ
+picture_first_line = codes "<!-- written by vmecheck explain -->" ++ 10 ∷ []
 
 -- after that stands one element
 abbrev pub IsPicture : List ℕ → Type 0
 IsPicture text =
     (attributes inner : List ℕ) × AreAttributes attributes × IsMarkup inner
-    × (text ≡ picture_mark ++ element_text Svg attributes inner ++ 10 ∷ [])
+    × (text ≡ picture_first_line ++ element_text Svg attributes inner ++ 10 ∷ [])

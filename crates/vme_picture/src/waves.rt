@@ -7,7 +7,7 @@ use crate::drawing::{
 use crate::layout::{Layout, MARGIN, ROW, SLOPE};
 use crate::markup::Markup;
 use std::alloc::{AllocError, Global};
-use vme_explain::{Excerpt, marks_of, push_label};
+use vme_explain::{Excerpt, line_characters, push_label};
 use vme_text::Text;
 use vme_trace::Line;
 
@@ -17,7 +17,7 @@ const INSET: u64 = 3;
 /// How far below the top of its row a name stands.
 pub(crate) const BASE: u64 = 12;
 
-/// The mark of a level that isn't known.
+/// The character of a level that isn't known.
 const UNKNOWN: u8 = b'x';
 
 /// Adds a row for each line of an excerpt that is shown by itself; that of the break in bold.
@@ -35,8 +35,8 @@ pub(crate) fn push_waves(
             None => false,
         };
         push_name(markup, alloc, *line, is_broken, y)?;
-        let marks = marks_of(alloc, *line, excerpt.levels.as_slice())?;
-        let shown = &marks.as_slice()[marks.len().min(layout.left_out as usize)..];
+        let levels = line_characters(alloc, *line, excerpt.levels.as_slice())?;
+        let shown = &levels.as_slice()[levels.len().min(layout.left_out as usize)..];
         let shown = &shown[..shown.len().min(layout.columns as usize)];
         push_unknown(markup, alloc, shown, y, layout)?;
         push_known(markup, alloc, shown, is_broken, y, layout)?;
@@ -65,9 +65,9 @@ fn push_name(
     push_words(markup, alloc, at, style, label.as_bytes())
 }
 
-/// Where a line of this mark stands in the row that begins at y, if its level is known.
-fn height_of(mark: u8, y: u64) -> Option<u64> {
-    match mark {
+/// Where a line of this level stands in the row that begins at y, if its level is known.
+fn height_of(level: u8, y: u64) -> Option<u64> {
+    match level {
         b'1' => Some(y.saturating_add(INSET)),
         b'0' => Some(y.saturating_add(ROW - INSET)),
         _ => None,
@@ -78,22 +78,22 @@ fn height_of(mark: u8, y: u64) -> Option<u64> {
 fn push_known(
     markup: &mut Markup,
     alloc: Global,
-    marks: &[u8],
+    levels: &[u8],
     is_broken: bool,
     y: u64,
     layout: &Layout,
 ) -> Result<(), AllocError> {
     let mut points = Text::new(alloc);
     let mut before: Option<u64> = None;
-    for (place, mark) in marks.iter().enumerate() {
-        let now = height_of(*mark, y);
+    for (place, level) in levels.iter().enumerate() {
+        let now = height_of(*level, y);
         if now != before {
             push_edge(&mut points, alloc, before, now, layout.edge(place as u64))?;
             before = now;
         }
     }
     if before.is_some() {
-        push_straight(&mut points, alloc, b"H", layout.edge(marks.len() as u64))?;
+        push_straight(&mut points, alloc, b"H", layout.edge(levels.len() as u64))?;
     }
     let kind = if is_broken {
         PathKind::BrokenWave
@@ -128,9 +128,9 @@ fn push_edge(
 }
 
 /// Whether the level at a place isn't known.
-fn is_unknown(marks: &[u8], place: usize) -> bool {
-    match marks.get(place) {
-        Some(mark) => *mark == UNKNOWN,
+fn is_unknown(levels: &[u8], place: usize) -> bool {
+    match levels.get(place) {
+        Some(level) => *level == UNKNOWN,
         None => false,
     }
 }
@@ -139,16 +139,16 @@ fn is_unknown(marks: &[u8], place: usize) -> bool {
 fn push_unknown(
     markup: &mut Markup,
     alloc: Global,
-    marks: &[u8],
+    levels: &[u8],
     y: u64,
     layout: &Layout,
 ) -> Result<(), AllocError> {
     let mut begin: usize = 0;
-    for (place, mark) in marks.iter().enumerate() {
+    for (place, level) in levels.iter().enumerate() {
         let next = place.saturating_add(1);
-        if *mark != UNKNOWN {
+        if *level != UNKNOWN {
             begin = next;
-        } else if !is_unknown(marks, next) {
+        } else if !is_unknown(levels, next) {
             let x = layout.edge(begin as u64);
             let area = Area {
                 corner: Point {

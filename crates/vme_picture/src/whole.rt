@@ -2,7 +2,7 @@
 
 ghost use Rattle.std.specs.Prelude.{◌≡◌, IfOk, nat_eq};
 ghost use Rattle.std.specs.List.{starts_with};
-ghost use Rattle.vme_picture.specs.Pictures.{IsPicture, picture_mark};
+ghost use Rattle.vme_picture.specs.Pictures.{IsPicture, picture_first_line};
 ghost use Rattle.vme_text.specs.Visible.{IsVisible};
 
 use crate::axis::{push_axis, push_events};
@@ -18,18 +18,18 @@ use std::alloc::{AllocError, Global};
 use vme_explain::{Subject, break_of, excerpt_of, others_of};
 use vme_text::Text;
 
-/// How a picture begins.
-fn mark() -> &'static [u8]
-    ensures { result.now ≡ picture_mark }
+/// The first line of a picture, a comment.
+fn comment_line() -> &'static [u8]
+    ensures { result.now ≡ picture_first_line }
 {
     b"<!-- written by vmecheck explain -->\n"
 }
 
 /// Whether a file begins as a picture of this program.
 pub fn is_picture(begin: &[u8]) -> bool
-    ensures { result ≡ starts_with nat_eq begin.now picture_mark }
+    ensures { result ≡ starts_with nat_eq begin.now picture_first_line }
 {
-    begin.starts_with(mark())
+    begin.starts_with(comment_line())
 }
 
 /// The picture of an explanation, under this title: the levels around the break, or at the end of the recording, where
@@ -46,7 +46,7 @@ pub fn picture(alloc: Global, subject: &Subject<'_>, title: &[u8]) -> Result<Tex
         parts.inner.as_bytes(),
     )?;
     let mut text = Text::new(alloc);
-    text.push(mark())?;
+    text.push(comment_line())?;
     text.push(whole.as_bytes())?;
     text.push(b"\n")?;
     Ok(text)

@@ -1,7 +1,7 @@
 use Rattle.std.proofs.Common.{rules, ◌≡◌, ◌++◌, ◌∷◌, [], List, ℕ, subst, sym}
 use Rattle.vme_picture.proofs.VisibleMarkup.{picture_is_visible}
 use Rattle.vme_picture.specs.Markup.{element_text}
-use Rattle.vme_picture.specs.Pictures.{picture_mark}
+use Rattle.vme_picture.specs.Pictures.{picture_first_line}
 use Rattle.vme_picture.specs.declared.markup.Tag.TheVariants.{Svg}
 use Rattle.vme_text.specs.Visible.{IsVisible}
 use Rattle.vme_picture.proofs.whole.picture.Goals as goal
@@ -10,7 +10,7 @@ pub returns-clause-visible : goal.returns-clause-visible
 returns-clause-visible c =
     let attributes : List ℕ = c.as_bytes.result.now in
     let inner : List ℕ = c.as_bytes-2.result.now in
-    let is : c.push-3.new.self ≡ picture_mark ++ element_text Svg attributes inner ++ 10 ∷ [] = search rules in
+    let is : c.push-3.new.self ≡ picture_first_line ++ element_text Svg attributes inner ++ 10 ∷ [] = search rules in
     subst IsVisible (sym is)
     (picture_is_visible attributes inner (rw c.as_bytes.ensures.bytes c.as_bytes.ensures.written)
     (rw c.as_bytes-2.ensures.bytes c.as_bytes-2.ensures.nested))

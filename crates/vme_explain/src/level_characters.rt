@@ -1,14 +1,14 @@
 //! The levels of lines, as characters.
 
 ghost use Rattle.std.specs.Prelude.{◌≡◌, IfOk, map};
-ghost use Rattle.vme_explain.specs.Marks.{mark_of, mark_on};
+ghost use Rattle.vme_explain.specs.LevelCharacters.{level_character, line_character};
 
 use std::alloc::{AllocError, Global};
 use vme_trace::{Level, Line, Lines};
 
 /// The character of a level.
-fn mark_of(level: Level) -> u8
-    ensures { result ≡ mark_of level }
+fn level_character(level: Level) -> u8
+    ensures { result ≡ level_character level }
 {
     match level {
         Level::Low => b'0',
@@ -18,11 +18,11 @@ fn mark_of(level: Level) -> u8
 }
 
 /// The character of a line's level: 0 is Low, 1 High and x unknown. A line that the backplane lacks has a space.
-fn mark_on(line: Line, lines: &Lines) -> u8
-    ensures { result ≡ mark_on line lines.now }
+fn line_character(line: Line, lines: &Lines) -> u8
+    ensures { result ≡ line_character line lines.now }
 {
     if lines.has(line) {
-        mark_of(lines.level(line))
+        level_character(lines.level(line))
     } else {
         b' '
     }
@@ -30,11 +30,11 @@ fn mark_on(line: Line, lines: &Lines) -> u8
 
 /// The characters of a line's levels, in their order: 0 is Low, 1 High and x unknown. A line that the backplane lacks
 /// has spaces.
-pub fn marks_of(alloc: Global, line: Line, levels: &[Lines]) -> Result<Vec<u8>, AllocError>
-    ensures { IfOk result (λ marks. marks.items ≡ map (mark_on line) levels.now) }
+pub fn line_characters(alloc: Global, line: Line, levels: &[Lines]) -> Result<Vec<u8>, AllocError>
+    ensures { IfOk result (λ text. text.items ≡ map (line_character line) levels.now) }
 {
     levels
         .iter()
-        .map(|lines| mark_on(line, lines))
+        .map(|lines| line_character(line, lines))
         .collect(alloc)
 }
