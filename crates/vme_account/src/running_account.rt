@@ -12,7 +12,7 @@ use crate::followed_steps::FollowedSteps;
 use crate::stored_steps::StoredSteps;
 use std::alloc::{AllocError, Global};
 use vme_auditor::{first_break_is_found, marks_are_found};
-use vme_monitor::known::known_over_captures;
+use vme_monitor::known::known_over_recordings;
 use vme_trace::{Lines, Step};
 
 /// How many steps behind a break are kept.
@@ -79,7 +79,7 @@ pub(crate) fn account_of(
     prove!(opening.slots() <= 21);
     first_break_is_found();
     marks_are_found();
-    known_over_captures();
+    known_over_recordings();
     let marked = running.judged.noted.marked;
     let counts = marked.counts()?;
     let opened = marked.opened();

@@ -15,7 +15,7 @@ use crate::findings::AuditFindings;
 use crate::laws::{first_break_is_found, marks_are_found};
 use crate::tally::StartedTransfer;
 use std::marker::Model;
-use vme_monitor::known::known_over_captures;
+use vme_monitor::known::known_over_recordings;
 use vme_monitor::view::StepView;
 use vme_summary::GhostSteps;
 use vme_trace::{Lines, Step};
@@ -103,7 +103,7 @@ impl Auditor {
         prove!(self.steps <= u64::MAX);
         first_break_is_found();
         marks_are_found();
-        known_over_captures();
+        known_over_recordings();
         AuditFindings {
             counts: self.audit.tally.counts(),
             events: self.audit.events,

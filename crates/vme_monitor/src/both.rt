@@ -284,9 +284,9 @@ impl<M: Monitor, N: Monitor> Monitor for Both<M, N> {
     }
 }
 
-/// Over a whole capture, the event of both monitors is the least break of the rules of both, and their marks are what
+/// Over a whole recording, the event of both monitors is the least break of the rules of both, and their marks are what
 /// both show.
-pub fn both_over_captures<M: Monitor, N: Monitor>()
+pub fn both_over_recordings<M: Monitor, N: Monitor>()
     ensures event { (rs qs all : List Rule) → AreJoined rs qs all → FindsLeast M.run M.begin rs
         → FindsLeast N.run N.begin qs → FindsLeast ⟦<Both<M, N> as Monitor>⟧.run ⟦<Both<M, N> as Monitor>⟧.begin all }
     ensures marks { (a b : StepMarks) (f g : Trace → Stretch → ℕ → StepMarks) → AreApart a b

@@ -252,10 +252,10 @@ impl<R: Rules> Machine for OverStretches<R> {
 /// The monitor of some rules.
 pub type RuleMonitor<R> = TableMonitor<OverStretches<R>>;
 
-/// Over a whole capture, the event is the least break of the rules, and the marks are what happens in the spans and at
-/// the resets that end them, for rules that meet what is owed of each span (`Judges`, `Shows`). Within a span the
+/// Over a whole recording, the event is the least break of the rules, and the marks are what happens in the spans and
+/// at the resets that end them, for rules that meet what is owed of each span (`Judges`, `Shows`). Within a span the
 /// memory is the inner machine's.
-pub fn rules_over_captures<R: Rules>()
+pub fn rules_over_recordings<R: Rules>()
     ensures event { (t : Trace) (rules : List Rule) → malformed_step t ≡ None → t.opening.slots ≤ 21
         → ((span : Stretch) → IsSpanOf t span
         → Judges (machine_step R.observation R.next) (R.begin (levels_at t span.start)) R.ends t span rules)

@@ -18,17 +18,17 @@ ghost use Rattle.vme_part_listing.specs.Listings.{ListsOfWhole};
 
 use crate::answers::ListingAnswer;
 use std::alloc::{AllocError, Global};
-use vme_chains::acknowledge::{Iack, acknowledge_over_captures};
-use vme_chains::grant::{Grant, grants_over_captures};
-use vme_dtb::handshake::{Dtb, handshake_over_captures};
+use vme_chains::acknowledge::{Iack, acknowledge_over_recordings};
+use vme_chains::grant::{Grant, grants_over_recordings};
+use vme_dtb::handshake::{Dtb, handshake_over_recordings};
 use vme_monitor::both::marks_together;
 use vme_monitor::finite::Finite;
-use vme_monitor::known::{Known, known_over_captures};
+use vme_monitor::known::{Known, known_over_recordings};
 use vme_monitor::mark::Mark;
 use vme_part_format::{OutcomeTable, Part, Segment, WideBreak, WideMark};
 use vme_part_tables::{follow, put_marks_on_way};
 use vme_parts::{JudgedSegments, judged};
-use vme_stability::stability::{Stability, stability_over_captures};
+use vme_stability::stability::{Stability, stability_over_recordings};
 use vme_summary::listing_by;
 use vme_trace::{Break, Lines};
 
@@ -200,11 +200,11 @@ fn marks_from(
     ensures { IfOk result (λ found. IfSome found
         (λ v. ShowsFiles first.now.opening (segment_value first.now ∷ map segment_value rest.now) v.items)) }
 {
-    known_over_captures();
-    handshake_over_captures();
-    stability_over_captures();
-    grants_over_captures();
-    acknowledge_over_captures();
+    known_over_recordings();
+    handshake_over_recordings();
+    stability_over_recordings();
+    grants_over_recordings();
+    acknowledge_over_recordings();
     let mut judging = JudgedSegments::of(first);
     let mut ways = Ways::at(alloc, &first.opening);
     ways.go_past(first, 0)?;

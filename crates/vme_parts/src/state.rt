@@ -18,14 +18,14 @@ ghost use Rattle.vme_parts.specs.Progress.{FitStates, FoundAll, HasStates, Tells
 ghost use Rattle.vme_parts.specs.Telling.{verdict_of as verdict_is};
 
 use crate::answers::WideVerdict;
-use vme_chains::acknowledge::{Iack, acknowledge_over_captures};
-use vme_chains::grant::{Grant, grants_over_captures};
-use vme_dtb::handshake::{Dtb, handshake_over_captures};
+use vme_chains::acknowledge::{Iack, acknowledge_over_recordings};
+use vme_chains::grant::{Grant, grants_over_recordings};
+use vme_dtb::handshake::{Dtb, handshake_over_recordings};
 use vme_monitor::finite::Finite;
-use vme_monitor::known::{Known, known_over_captures};
+use vme_monitor::known::{Known, known_over_recordings};
 use vme_part_format::{OutcomeTable, Segment, WideBreak};
 use vme_part_tables::{follow, later_break};
-use vme_stability::stability::{Stability, stability_over_captures};
+use vme_stability::stability::{Stability, stability_over_recordings};
 use vme_trace::Lines;
 
 /// What a monitor has come to: the memory that it is in, and the first break.
@@ -156,7 +156,7 @@ impl States {
         requires { FitStates self.now }
         ensures { (t : Trace) → FoundAll self.now t → result ≡ has_span (judged_spans t) }
     {
-        known_over_captures();
+        known_over_recordings();
         Known::started(Known::nth(self.known.memory as usize))
     }
 
@@ -164,11 +164,11 @@ impl States {
     pub fn first_break(&self) -> Option<WideBreak>
         ensures { (t : Trace) → FoundAll self.now t → option_map break_of result ≡ first_break_of t }
     {
-        known_over_captures();
-        handshake_over_captures();
-        stability_over_captures();
-        grants_over_captures();
-        acknowledge_over_captures();
+        known_over_recordings();
+        handshake_over_recordings();
+        stability_over_recordings();
+        grants_over_recordings();
+        acknowledge_over_recordings();
         let chains = least(self.grant.event, self.acknowledge.event);
         let held = least(self.stability.event, chains);
         let started = least(self.handshake.event, held);

@@ -11,9 +11,9 @@
 //!
 //! # What is proved
 //!
-//! [`stability::stability_over_captures`]: over every recording, also where other rules are broken,
-//! the monitor's event is the least break of these six rules (`event`), and it shows no marks
-//! (`marks`).
+//! [`stability::stability_over_recordings`]: over every recording, also where other rules are
+//! broken, the monitor's event is the least break of these six rules (`event`), and it shows no
+//! marks (`marks`).
 //!
 //! # What isn't proved
 //!

@@ -18,17 +18,17 @@ use crate::each_monitor::summarise_monitors;
 use crate::monitor_states::{MonitorState, MonitorStates, advance};
 use crate::summary::{MonitorSummaries, Room};
 use std::alloc::{AllocError, Global};
-use vme_chains::acknowledge::{AcknowledgeRules, Iack, acknowledge_over_captures};
-use vme_chains::grant::{Grant, GrantRules, grants_over_captures};
-use vme_dtb::handshake::{Dtb, HandshakeRules, handshake_over_captures};
+use vme_chains::acknowledge::{AcknowledgeRules, Iack, acknowledge_over_recordings};
+use vme_chains::grant::{Grant, GrantRules, grants_over_recordings};
+use vme_dtb::handshake::{Dtb, HandshakeRules, handshake_over_recordings};
 use vme_monitor::both::{least, marks_together};
-use vme_monitor::known::{Known, KnownRules, known_over_captures};
+use vme_monitor::known::{Known, KnownRules, known_over_recordings};
 use vme_monitor::mark::Mark;
 use vme_monitor::monitor::Monitor;
 use vme_monitor::table::Table;
 use vme_monitor::view::StepView;
 use vme_monitor::without_marks::BreakMonitor;
-use vme_stability::stability::{Stability, StabilityRules, stability_over_captures};
+use vme_stability::stability::{Stability, StabilityRules, stability_over_recordings};
 use vme_trace::{Break, Lines, Step};
 
 impl MonitorSummaries {
@@ -186,11 +186,11 @@ impl MonitorSummaries {
     pub(crate) fn marks(&self, alloc: Global, opening: &Lines) -> Result<Vec<Mark>, AllocError>
         ensures { IfOk result (λ marks. (t : Trace) → StandsForAll self.now opening.now t → marks.items ≡ all_marks t) }
     {
-        known_over_captures();
-        handshake_over_captures();
-        stability_over_captures();
-        grants_over_captures();
-        acknowledge_over_captures();
+        known_over_recordings();
+        handshake_over_recordings();
+        stability_over_recordings();
+        grants_over_recordings();
+        acknowledge_over_recordings();
         let known = self.known.marks(alloc, Known::start(opening))?;
         let handshake = self.handshake.marks(alloc, Dtb::start(opening))?;
         let stability = self.stability.marks(alloc, Stability::start(opening))?;
@@ -237,7 +237,7 @@ impl MonitorStates {
     pub(crate) fn has_judged(&self) -> bool
         ensures { (t : Trace) → HasFoundAll self.now t → result ≡ has_span (judged_spans t) }
     {
-        known_over_captures();
+        known_over_recordings();
         Known::started(self.known.memory)
     }
 
@@ -245,11 +245,11 @@ impl MonitorStates {
     pub(crate) fn first_break(&self) -> Option<Break>
         ensures { (t : Trace) → HasFoundAll self.now t → result ≡ first_break_of t }
     {
-        known_over_captures();
-        handshake_over_captures();
-        stability_over_captures();
-        grants_over_captures();
-        acknowledge_over_captures();
+        known_over_recordings();
+        handshake_over_recordings();
+        stability_over_recordings();
+        grants_over_recordings();
+        acknowledge_over_recordings();
         let chains = least(self.grant.event, self.acknowledge.event);
         let held = least(self.stability.event, chains);
         let started = least(self.handshake.event, held);

@@ -26,7 +26,8 @@ returns c = λ t keeps opens ok.
       found = j.found ∙ found-named finds shows t ok few;
       started = λ none.
           ap (λ (m : Memories). has_started m.known) (j.memories none)
-          ∙ started-reached (λ t ok few. c.known_over_captures.ensures.started t ok few) t ok few (sym j.found ∙ none);
+          ∙ started-reached (λ t ok few. c.known_over_recordings.ensures.started t ok few) t ok few
+          (sym j.found ∙ none);
       unended = λ p. c.opened-opened.ensures.listed (reached t.opening t.steps).marks p is_marked
           ∙ open-listed finds shows t ok few p;
       counts = λ k is. c.in_ok-counts.ensures.listed (reached t.opening t.steps).marks k is_marked is

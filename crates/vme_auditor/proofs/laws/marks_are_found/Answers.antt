@@ -11,6 +11,6 @@ unfolding known_run handshake_run stability_run grant_run acknowledge_run
 returns c =
     λ t ok few.
     sym (runs_joined t.steps (memories_at t.opening) t.opening)
-    ∙ marks_of_all t _ _ _ _ _ (c.known_over_captures.ensures.marks t ok few)
-    (c.handshake_over_captures.ensures.marks t ok few) (c.stability_over_captures.ensures.marks t ok few)
-    (c.grants_over_captures.ensures.marks t ok few) (c.acknowledge_over_captures.ensures.marks t ok few)
+    ∙ marks_of_all t _ _ _ _ _ (c.known_over_recordings.ensures.marks t ok few)
+    (c.handshake_over_recordings.ensures.marks t ok few) (c.stability_over_recordings.ensures.marks t ok few)
+    (c.grants_over_recordings.ensures.marks t ok few) (c.acknowledge_over_recordings.ensures.marks t ok few)

@@ -55,11 +55,11 @@ returns c =
     let whole = marks_whole c.loop-segment.judging c.loop-segment.ways s c.args.rest.now c.loop-segment.segment-index
     (omega (arith, c.loop-segment-test.false))
     (λ t sound few has.
-    marks_of_all t _ _ _ _ _ (has.known.marks ∙ c.known_over_captures.ensures.marks t sound few)
-    (has.handshake.marks ∙ c.handshake_over_captures.ensures.marks t sound few)
-    (has.stability.marks ∙ c.stability_over_captures.ensures.marks t sound few)
-    (has.grant.marks ∙ c.grants_over_captures.ensures.marks t sound few)
-    (has.acknowledge.marks ∙ c.acknowledge_over_captures.ensures.marks t sound few))
+    marks_of_all t _ _ _ _ _ (has.known.marks ∙ c.known_over_recordings.ensures.marks t sound few)
+    (has.handshake.marks ∙ c.handshake_over_recordings.ensures.marks t sound few)
+    (has.stability.marks ∙ c.stability_over_recordings.ensures.marks t sound few)
+    (has.grant.marks ∙ c.grants_over_recordings.ensures.marks t sound few)
+    (has.acknowledge.marks ∙ c.acknowledge_over_recordings.ensures.marks t sound few))
     c.loop-segment.invariant.come in
     IfOk-weaker c.together.result _ _
     (λ found given. IfSome_then found given

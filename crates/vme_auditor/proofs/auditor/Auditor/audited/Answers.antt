@@ -31,11 +31,11 @@ returns c =
           ∙ finds_counts finds i.opening i.taken.items i.steps i.view i.audit c.self.invariant ok few
           c.marks_are_found.ensures fits;
       asked = λ r. finds_asked finds i.opening i.taken.items i.steps i.view i.audit c.self.invariant ok few
-          (λ t ok few. c.known_over_captures.ensures.started t ok few) r;
+          (λ t ok few. c.known_over_recordings.ensures.started t ok few) r;
       judged =
           c.have_started.ensures
           ∙ finds_judged finds i.opening i.taken.items i.steps i.view i.audit c.self.invariant ok few
-          (λ t ok few. c.known_over_captures.ensures.started t ok few);
+          (λ t ok few. c.known_over_recordings.ensures.started t ok few);
       behind = finds_behind finds i.opening i.taken.items i.steps i.view i.audit c.self.invariant ok few;
       hang =
           c.start_of.ensures

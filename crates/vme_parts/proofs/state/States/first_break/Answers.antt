@@ -17,8 +17,8 @@ returns c =
     ∙ (ap (least (option_map break_of s.known.event)) (c.least-started.ensures
     ∙ ap (least (option_map break_of s.handshake.event)) (c.least-held.ensures
     ∙ ap (least (option_map break_of s.stability.event)) c.least-chains.ensures))
-    ∙ least_of_all t _ _ _ _ _ (found.known.event ∙ c.known_over_captures.ensures.event t all.sound all.few)
-    (found.handshake.event ∙ c.handshake_over_captures.ensures.event t all.sound all.few)
-    (found.stability.event ∙ c.stability_over_captures.ensures.event t all.sound all.few)
-    (found.grant.event ∙ c.grants_over_captures.ensures.event t all.sound all.few)
-    (found.acknowledge.event ∙ c.acknowledge_over_captures.ensures.event t all.sound all.few))
+    ∙ least_of_all t _ _ _ _ _ (found.known.event ∙ c.known_over_recordings.ensures.event t all.sound all.few)
+    (found.handshake.event ∙ c.handshake_over_recordings.ensures.event t all.sound all.few)
+    (found.stability.event ∙ c.stability_over_recordings.ensures.event t all.sound all.few)
+    (found.grant.event ∙ c.grants_over_recordings.ensures.event t all.sound all.few)
+    (found.acknowledge.event ∙ c.acknowledge_over_recordings.ensures.event t all.sound all.few))

@@ -14,4 +14,4 @@ returns c =
     c.started.ensures
     ∙ (ap has_started
     (c.nth.ensures ∙ (ap (phase_nth nil_nth) all.found.known.leaving ∙ phase_found nil_place nil_nth nil_found left))
-    ∙ c.known_over_captures.ensures.started t all.sound all.few)
+    ∙ c.known_over_recordings.ensures.started t all.sound all.few)

@@ -7,4 +7,4 @@ use Rattle.vme_summary.proofs.monitor_states.MonitorStates.has_judged.Goals as g
 pub returns : goal.returns
 unfolding known_run
 returns c = λ t all. c.started.ensures ∙ ap has_started all.found_there.known.memory
-    ∙ c.known_over_captures.ensures.started t all.sound all.few
+    ∙ c.known_over_recordings.ensures.started t all.sound all.few

@@ -25,25 +25,25 @@ returns c =
     let of_known =
     c.in_ok-known.ensures ∙ ap (λ (o : Outcome _). o.marks) (from_start (known_outcome s) s.known.steps
     (start_in known_begin) c.start.result opening t.opening t.steps c.start.ensures all.opens all.stands.known)
-    ∙ c.known_over_captures.ensures.marks t all.sound all.few in
+    ∙ c.known_over_recordings.ensures.marks t all.sound all.few in
     let of_handshake =
     c.in_ok-handshake.ensures ∙ ap (λ (o : Outcome _). o.marks) (from_start (handshake_outcome s) s.handshake.steps
     (start_in dtb_begin) c.start-2.result opening t.opening t.steps c.start-2.ensures all.opens all.stands.handshake)
-    ∙ c.handshake_over_captures.ensures.marks t all.sound all.few in
+    ∙ c.handshake_over_recordings.ensures.marks t all.sound all.few in
     let of_stability =
     c.in_ok-stability.ensures ∙ ap (λ (o : Outcome _). o.marks) (from_start (stability_outcome s) s.stability.steps
     (start_in stability_begin) c.start-3.result opening t.opening t.steps c.start-3.ensures all.opens
     all.stands.stability)
-    ∙ c.stability_over_captures.ensures.marks t all.sound all.few in
+    ∙ c.stability_over_recordings.ensures.marks t all.sound all.few in
     let of_grant =
     c.in_ok-grant.ensures ∙ ap (λ (o : Outcome _). o.marks) (from_start (grant_outcome s) s.grant.steps
     (start_in grant_begin) c.start-4.result opening t.opening t.steps c.start-4.ensures all.opens all.stands.grant)
-    ∙ c.grants_over_captures.ensures.marks t all.sound all.few in
+    ∙ c.grants_over_recordings.ensures.marks t all.sound all.few in
     let of_acknowledge =
     c.in_ok-acknowledge.ensures ∙ ap (λ (o : Outcome _). o.marks) (from_start (acknowledge_outcome s)
     s.acknowledge.steps (start_in acknowledge_begin) c.start-5.result opening t.opening t.steps c.start-5.ensures
     all.opens all.stands.acknowledge)
-    ∙ c.acknowledge_over_captures.ensures.marks t all.sound all.few in
+    ∙ c.acknowledge_over_recordings.ensures.marks t all.sound all.few in
     e
     ∙ ap (merged c.in_ok-known.known.items) (c.in_ok-started.ensures ∙ ap (merged c.in_ok-handshake.handshake.items)
     (c.in_ok-held.ensures ∙ ap (merged c.in_ok-stability.stability.items) c.in_ok-chains.ensures))

@@ -1,5 +1,5 @@
 use Rattle.vme_chains.proofs.GrantJudges.{grant_event, grant_marks}
-use Rattle.vme_chains.proofs.grant.grants_over_captures.Goals as goal
+use Rattle.vme_chains.proofs.grant.grants_over_recordings.Goals as goal
 
 pub returns-clause-event : goal.returns-clause-event
 returns-clause-event c = grant_event

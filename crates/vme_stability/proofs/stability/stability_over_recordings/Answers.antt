@@ -1,5 +1,5 @@
 use Rattle.vme_stability.proofs.StabilityJudges.{stability_event, stability_marks}
-use Rattle.vme_stability.proofs.stability.stability_over_captures.Goals as goal
+use Rattle.vme_stability.proofs.stability.stability_over_recordings.Goals as goal
 
 pub returns-clause-event : goal.returns-clause-event
 returns-clause-event c = stability_event

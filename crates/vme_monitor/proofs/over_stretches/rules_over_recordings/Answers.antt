@@ -1,5 +1,5 @@
 use Rattle.vme_monitor.proofs.Spans.{event_over, marks_over_spans, started_over, memory_of_span}
-use Rattle.vme_monitor.proofs.over_stretches.rules_over_captures.Goals as goal
+use Rattle.vme_monitor.proofs.over_stretches.rules_over_recordings.Goals as goal
 
 pub returns-clause-event : goal.returns-clause-event
 returns-clause-event g c = λ t rules ok few owed. event_over g.R.Rules.begin g.R.Rules.opens g.R.Rules.resets

@@ -1,5 +1,5 @@
 use Rattle.vme_dtb.proofs.Judging.{dtb_event, dtb_marks}
-use Rattle.vme_dtb.proofs.handshake.handshake_over_captures.Goals as goal
+use Rattle.vme_dtb.proofs.handshake.handshake_over_recordings.Goals as goal
 
 pub returns-clause-event : goal.returns-clause-event
 returns-clause-event c = dtb_event
