@@ -26,17 +26,17 @@ use Rattle.vme_audit_command.specs.Bodies.{AuditsRest, EndsBehind, HasGiven, IsL
 use Rattle.vme_dump_steps.specs.SettledReadings.{settled_by, skew_of}
 use Rattle.vme_dump_steps.specs.SettledSteps.{ComesOut, IsSettlerFor}
 use Rattle.vme_audit_command.specs.Definitions.{IsBodyBegun, ReadsDefinitions}
-use Rattle.vme_audit_command.specs.DumpAnswers.{AuditsBehind, AuditsDump, DumpAnswer, DumpRules, EndsAs, answer_by}
+use Rattle.vme_audit_command.specs.DumpAnswers.{AuditOptions, AuditsBehind, AuditsDump, DumpAnswer, EndsAs, answer_by}
 use Rattle.vme_audit_command.specs.DumpAnswers.{reading_answer, dump_answer, last_lines}
-use Rattle.vme_audit_command.specs.DumpAudits.{WritesSome, break_lines, line_of_break, lines_of}
+use Rattle.vme_audit_command.specs.DumpAudits.{WritesPrefix, break_lines, line_of_break, lines_of}
 use Rattle.vme_audit_command.specs.LastLines.{TellsOutcome, counts_unless, outcome_line_of}
 use Rattle.vme_audit_command.specs.declared.told.NoOutcome.{NoOutcome}
-use Rattle.vme_audit_command.specs.declared.told.NoOutcome.TheVariants.{CannotRead, Refused, Untold}
+use Rattle.vme_audit_command.specs.declared.told.NoOutcome.TheVariants.{CannotRead, NotWritten, Refused}
 use Rattle.vme_audit_command.specs.declared.told.TellFault.{TellFault}
 use Rattle.vme_audit_command.specs.declared.told.TellFault.TheVariants.{Memory, CannotWrite}
-use Rattle.vme_audit_command.proofs.LastLemmas.{some-of}
+use Rattle.vme_audit_command.proofs.LastLemmas.{prefix-of}
 use Rattle.vme_audit_command.proofs.BodyPieces.{all-left, left_of}
-use Rattle.vme_audit_command.proofs.WriteLemmas.{fails-after, fails-longer, some-after, some-longer, writes-both}
+use Rattle.vme_audit_command.proofs.WriteLemmas.{fails-after, fails-longer, prefix-after, prefix-longer, writes-both}
 use Rattle.vme_audit_command.proofs.WriteLemmas.{writes-nothing}
 
 -- before the first step there are no lines
@@ -45,15 +45,15 @@ unfolding break_lines
 no-lines head audit none = ap (flat_map (line_of_break audit.allowances audit.stop head)) none
 
 -- what is told of an audit with these allowances, this stop, this skew
-abbrev pub rules_by : List Allowance → Option ℕ → ℕ → ℕ → Bool → DumpRules
-rules_by allowances stop skew transfers is_quiet =
+abbrev pub options_by : List Allowance → Option ℕ → ℕ → ℕ → Bool → AuditOptions
+options_by allowances stop skew transfers is_quiet =
     record { allowances = allowances; transfers = transfers; stop = stop; skew = skew; is_quiet = is_quiet }
 
 -- the first of an answer are the lines of its breaks
-lines-first : (rules : DumpRules) (head lines : List ℕ) (ended : Result Trace Refusal)
-    → (more : List ℕ) × ((answer_by rules head lines ended).out ≡ lines ++ more)
-lines-first rules head lines (Ok a) = (last_lines rules head a, refl)
-lines-first rules head lines (Err refusal) = ([], sym (append-nil lines))
+lines-first : (options : AuditOptions) (head lines : List ℕ) (ended : Result Trace Refusal)
+    → (more : List ℕ) × ((answer_by options head lines ended).out ≡ lines ++ more)
+lines-first options head lines (Ok a) = (last_lines options head a, refl)
+lines-first options head lines (Err refusal) = ([], sym (append-nil lines))
 
 -- the lines of all breaks are those that were told from the first on
 all-told : (all before text : List ℕ) → before ≡ [] → all ≡ before ++ text → all ≡ text
@@ -65,45 +65,45 @@ module _ (skew transfers : ℕ) (is_quiet : Bool) (head : List ℕ) (first later
   -- a body without an outcome
   pub ends-without : (why : NoOutcome)
       → EndsBehind {A = Unit {0}} head first (lines_of head first) reading later.recording u v (Err why)
-      → EndsAs (reading_answer (rules_by first.allowances first.stop skew transfers is_quiet) head reading) u v
+      → EndsAs (reading_answer (options_by first.allowances first.stop skew transfers is_quiet) head reading) u v
       (Err why)
   ends-without (Refused refusal) ends =
-      let rules = rules_by first.allowances first.stop skew transfers is_quiet in
+      let options = options_by first.allowances first.stop skew transfers is_quiet in
       let (text, same, (writes, ended)) = ends in
       let lines = break_lines first.allowances first.stop head reading.recorded in
       let is = all-told lines (lines_of head first) text none same in
-      let answer : reading_answer rules head reading ≡ record { out = text; ended = Err refusal } =
-      ap (λ (l : List ℕ). answer_by rules head l (ended_at first.allowances first.stop reading.recorded
+      let answer : reading_answer options head reading ≡ record { out = text; ended = Err refusal } =
+      ap (λ (l : List ℕ). answer_by options head l (ended_at first.allowances first.stop reading.recorded
       reading.fault)) is
-      ∙ ap (answer_by rules head text) ended in
+      ∙ ap (answer_by options head text) ended in
       subst (λ (a : DumpAnswer). EndsAs a u v (Err (Refused refusal))) (sym answer) (writes, refl)
   ends-without CannotRead ends =
-      let rules = rules_by first.allowances first.stop skew transfers is_quiet in
+      let options = options_by first.allowances first.stop skew transfers is_quiet in
       let (text, same, some) = ends in
       let lines = break_lines first.allowances first.stop head reading.recorded in
-      let (more, is) = lines-first rules head lines (ended_at first.allowances first.stop reading.recorded
+      let (more, is) = lines-first options head lines (ended_at first.allowances first.stop reading.recorded
       reading.fault)
       in
       let all = is ∙ ap (λ (l : List ℕ). l ++ more) (all-told lines (lines_of head first) text none same) in
-      subst (λ (l : List ℕ). WritesSome u v l) (sym all) (some-longer u v text more some)
-  ends-without (Untold CannotWrite) ends =
-      let rules = rules_by first.allowances first.stop skew transfers is_quiet in
+      subst (λ (l : List ℕ). WritesPrefix u v l) (sym all) (prefix-longer u v text more some)
+  ends-without (NotWritten CannotWrite) ends =
+      let options = options_by first.allowances first.stop skew transfers is_quiet in
       let (text, same, fails) = ends in
       let lines = break_lines first.allowances first.stop head reading.recorded in
-      let (more, is) = lines-first rules head lines (ended_at first.allowances first.stop reading.recorded
+      let (more, is) = lines-first options head lines (ended_at first.allowances first.stop reading.recorded
       reading.fault)
       in
       let all = is ∙ ap (λ (l : List ℕ). l ++ more) (all-told lines (lines_of head first) text none same) in
       subst (λ (l : List ℕ). FailsToWrite u v l) (sym all) (fails-longer u v text more fails)
-  ends-without (Untold Memory) ends =
-      let rules = rules_by first.allowances first.stop skew transfers is_quiet in
+  ends-without (NotWritten Memory) ends =
+      let options = options_by first.allowances first.stop skew transfers is_quiet in
       let (text, same, some) = ends in
       let lines = break_lines first.allowances first.stop head reading.recorded in
-      let (more, is) = lines-first rules head lines (ended_at first.allowances first.stop reading.recorded
+      let (more, is) = lines-first options head lines (ended_at first.allowances first.stop reading.recorded
       reading.fault)
       in
       let all = is ∙ ap (λ (l : List ℕ). l ++ more) (all-told lines (lines_of head first) text none same) in
-      subst (λ (l : List ℕ). WritesSome u v l) (sym all) (some-longer u v text more some)
+      subst (λ (l : List ℕ). WritesPrefix u v l) (sym all) (prefix-longer u v text more some)
 
   -- behind the lines of its breaks the last lines are told
   module _ (w : Writing) (kept : IsLater first later)
@@ -119,23 +119,23 @@ module _ (skew transfers : ℕ) (is_quiet : Bool) (head : List ℕ) (first later
     tells-ours result tells = subst (λ (a : GivenSteps). TellsLast a result) kept.same tells
 
     answer-is : (text : List ℕ)
-        × (reading_answer (rules_by first.allowances first.stop skew transfers is_quiet) head reading
-        ≡ answer_by (rules_by first.allowances first.stop skew transfers is_quiet) head text
+        × (reading_answer (options_by first.allowances first.stop skew transfers is_quiet) head reading
+        ≡ answer_by (options_by first.allowances first.stop skew transfers is_quiet) head text
         (Ok (read_by first.allowances first.stop later.recording)))
         × Writes u v text
     answer-is =
-        let rules = rules_by first.allowances first.stop skew transfers is_quiet in
+        let options = options_by first.allowances first.stop skew transfers is_quiet in
         let (text, same, (writes, ended)) = ends in
         let lines = break_lines first.allowances first.stop head reading.recorded in
         let is = all-told lines (lines_of head first) text none same in (
           text,
-          ap (λ (l : List ℕ). answer_by rules head l (ended_at first.allowances first.stop reading.recorded
-              reading.fault)) is ∙ ap (answer_by rules head text) ended,
+          ap (λ (l : List ℕ). answer_by options head l (ended_at first.allowances first.stop reading.recorded
+              reading.fault)) is ∙ ap (answer_by options head text) ended,
           writes,
         )
 
     pub ends-with : (status : ℕ) → TellsLast later (Ok status)
-        → EndsAs (reading_answer (rules_by first.allowances first.stop skew transfers is_quiet) head reading) u w
+        → EndsAs (reading_answer (options_by first.allowances first.stop skew transfers is_quiet) head reading) u w
         (Ok status)
     ends-with status tells =
         let (text, answer, writes) = answer-is in
@@ -143,17 +143,17 @@ module _ (skew transfers : ℕ) (is_quiet : Bool) (head : List ℕ) (first later
         subst (λ (a : DumpAnswer). EndsAs a u w (Ok status)) (sym answer)
         (writes-both u v w text _ writes last, ap Ok (sym is))
 
-    pub ends-untold : (fault : TellFault) → TellsLast later (Err fault)
-        → EndsAs (reading_answer (rules_by first.allowances first.stop skew transfers is_quiet) head reading) u w
-        (Err (Untold fault))
-    ends-untold CannotWrite tells =
+    pub ends-unwritten : (fault : TellFault) → TellsLast later (Err fault)
+        → EndsAs (reading_answer (options_by first.allowances first.stop skew transfers is_quiet) head reading) u w
+        (Err (NotWritten fault))
+    ends-unwritten CannotWrite tells =
         let (text, answer, writes) = answer-is in
-        subst (λ (a : DumpAnswer). EndsAs a u w (Err (Untold CannotWrite))) (sym answer)
+        subst (λ (a : DumpAnswer). EndsAs a u w (Err (NotWritten CannotWrite))) (sym answer)
         (fails-after u v w text _ writes (tells-ours (Err CannotWrite) tells))
-    ends-untold Memory tells =
+    ends-unwritten Memory tells =
         let (text, answer, writes) = answer-is in
-        subst (λ (a : DumpAnswer). EndsAs a u w (Err (Untold Memory))) (sym answer)
-        (some-after u v w text _ writes (tells-ours (Err Memory) tells))
+        subst (λ (a : DumpAnswer). EndsAs a u w (Err (NotWritten Memory))) (sym answer)
+        (prefix-after u v w text _ writes (tells-ours (Err Memory) tells))
 
 -- ---- behind the definitions
 
@@ -163,20 +163,19 @@ module _ (allowances : List Allowance) (stop : Option ℕ) (skew transfers : ℕ
     (u : Writing) where
   -- by the rules that the audit has
   behind-by : (w : Writing) (result : Result ℕ NoOutcome)
-      → AuditsBehind (rules_by first.allowances first.stop skew transfers is_quiet) head r held is_more source u w
+      → AuditsBehind (options_by first.allowances first.stop skew transfers is_quiet) head r held is_more source u w
       result
-      → AuditsBehind (rules_by allowances stop skew transfers is_quiet) head r held is_more source u w result
+      → AuditsBehind (options_by allowances stop skew transfers is_quiet) head r held is_more source u w result
   behind-by w result behind =
-      subst (λ (s : Option ℕ). AuditsBehind (rules_by allowances s skew transfers is_quiet) head r held is_more source u
-      w
-      result) stops
-      (subst (λ (a : List Allowance). AuditsBehind (rules_by a first.stop skew transfers is_quiet) head r held is_more
+      subst (λ (s : Option ℕ). AuditsBehind (options_by allowances s skew transfers is_quiet) head r held is_more source
+      u w result) stops
+      (subst (λ (a : List Allowance). AuditsBehind (options_by a first.stop skew transfers is_quiet) head r held is_more
       source
       u w result) fits behind)
 
   pub behind-without : (v : Writing) (why : NoOutcome)
       → AuditsRest {A = Unit {0}} (skew_of skew) head first later r held is_more source u v (Err why)
-      → AuditsBehind (rules_by allowances stop skew transfers is_quiet) head r held is_more source u v (Err why)
+      → AuditsBehind (options_by allowances stop skew transfers is_quiet) head r held is_more source u v (Err why)
   behind-without v why rest =
       let (whole, body, ends) = rest in
       behind-by v (Err why) (
@@ -191,7 +190,7 @@ module _ (allowances : List Allowance) (stop : Option ℕ) (skew transfers : ℕ
       → TellsOutcome (counts_unless is_quiet later.allowances head (read_of later)
       ++ outcome_line_of head (outcome_of later.allowances transfers (read_of later)))
       (outcome_of later.allowances transfers (read_of later)) v w (Ok status)
-      → AuditsBehind (rules_by allowances stop skew transfers is_quiet) head r held is_more source u w (Ok status)
+      → AuditsBehind (options_by allowances stop skew transfers is_quiet) head r held is_more source u w (Ok status)
   behind-with v w status kept rest tells =
       let (whole, body, ends) = rest in
       behind-by w (Ok status) (
@@ -201,20 +200,20 @@ module _ (allowances : List Allowance) (stop : Option ℕ) (skew transfers : ℕ
             w kept ends status tells,
       )
 
-  pub behind-untold : (v w : Writing) (fault : TellFault) → IsLater first later
+  pub behind-unwritten : (v w : Writing) (fault : TellFault) → IsLater first later
       → AuditsRest {A = Unit {0}} (skew_of skew) head first later r held is_more source u v (Ok tt)
       → TellsOutcome (counts_unless is_quiet later.allowances head (read_of later)
       ++ outcome_line_of head (outcome_of later.allowances transfers (read_of later)))
       (outcome_of later.allowances transfers (read_of later)) v w (Err fault)
-      → AuditsBehind (rules_by allowances stop skew transfers is_quiet) head r held is_more source u w
-      (Err (Untold fault))
-  behind-untold v w fault kept rest tells =
+      → AuditsBehind (options_by allowances stop skew transfers is_quiet) head r held is_more source u w
+      (Err (NotWritten fault))
+  behind-unwritten v w fault kept rest tells =
       let (whole, body, ends) = rest in
-      behind-by w (Err (Untold fault)) (
+      behind-by w (Err (NotWritten fault)) (
         whole,
         body,
-        ends-untold skew transfers is_quiet head first later none (settled_by (skew_of skew) (whole_reading r whole)) u
-            v w kept ends fault tells,
+        ends-unwritten skew transfers is_quiet head first later none (settled_by (skew_of skew) (whole_reading r whole))
+            u v w kept ends fault tells,
       )
 
 -- ---- a whole dump
@@ -237,35 +236,35 @@ all-behind None b done more read all = tt
 all-behind (Some x) None done more read all = absurd read
 all-behind (Some x) (Some y) done more read all = ap (λ (l : List ℕ). done ++ l) all ∙ sym read
 
-module _ (rules : DumpRules) (head : List ℕ) (bound : BoundLines) (source : Reading) (u : Writing) where
+module _ (options : AuditOptions) (head : List ℕ) (bound : BoundLines) (source : Reading) (u : Writing) where
   -- nothing is read of a dump
-  pub unread-answers : AuditsDump rules head bound source u u (Err (Untold Memory))
-  unread-answers = (left_of source.left, all-left source.left, some-of u _)
+  pub unread-answers : AuditsDump options head bound source u u (Err (NotWritten Memory))
+  unread-answers = (left_of source.left, all-left source.left, prefix-of u _)
 
   pub unbegun-answers : (new : Reading) (left : List ℕ) (why : NoOutcome)
-      → ReadsDefinitions bound source new left (Err why) → AuditsDump rules head bound source u u (Err why)
+      → ReadsDefinitions bound source new left (Err why) → AuditsDump options head bound source u u (Err why)
   unbegun-answers new left (Refused refusal) reads =
       let (text, all, (fault, is, same)) = reads in (
         text,
         all,
-        subst (λ (x : Result TextReading CaptureFault). EndsAs (dump_answer rules head x) u u (Err (Refused refusal)))
+        subst (λ (x : Result TextReading CaptureFault). EndsAs (dump_answer options head x) u u (Err (Refused refusal)))
             (sym is) (writes-nothing u, ap Err same),
       )
-  unbegun-answers new left CannotRead reads = (left_of source.left, all-left source.left, some-of u _)
-  unbegun-answers new left (Untold CannotWrite) reads = absurd reads.2
-  unbegun-answers new left (Untold Memory) reads = (left_of source.left, all-left source.left, some-of u _)
+  unbegun-answers new left CannotRead reads = (left_of source.left, all-left source.left, prefix-of u _)
+  unbegun-answers new left (NotWritten CannotWrite) reads = absurd reads.2
+  unbegun-answers new left (NotWritten Memory) reads = (left_of source.left, all-left source.left, prefix-of u _)
 
   -- all of it
   pub dump-answers : (new : Reading) (left : List ℕ) (r : StepReading) (is_more : Bool) (w : Writing)
       (result : Result ℕ NoOutcome) → ReadsDefinitions bound source new left (Ok (r, is_more))
-      → (IsBodyBegun r → AuditsBehind rules head r left is_more new u w result)
-      → AuditsDump rules head bound source u w result
+      → (IsBodyBegun r → AuditsBehind options head r left is_more new u w result)
+      → AuditsDump options head bound source u w result
   dump-answers new left r true w result reads behind =
       let (begun, (done, read, whole)) = reads in
       let (all, (more, are, is), ends) = behind begun in (
         done ++ more,
         all-behind source.left new.left done more read are,
-        subst (λ (x : Result TextReading CaptureFault). EndsAs (dump_answer rules head x) u w result)
+        subst (λ (x : Result TextReading CaptureFault). EndsAs (dump_answer options head x) u w result)
             (ap (λ (l : List ℕ). Ok (whole_reading r l)) is ∙ sym (whole more)) ends,
       )
   dump-answers new left r false w result reads behind =
@@ -273,6 +272,6 @@ module _ (rules : DumpRules) (head : List ℕ) (bound : BoundLines) (source : Re
       let (body, is, ends) = behind begun in (
         text,
         all,
-        subst (λ (x : Result TextReading CaptureFault). EndsAs (dump_answer rules head x) u w result)
+        subst (λ (x : Result TextReading CaptureFault). EndsAs (dump_answer options head x) u w result)
             (ap (λ (l : List ℕ). Ok (whole_reading r l)) is ∙ sym whole) ends,
       )

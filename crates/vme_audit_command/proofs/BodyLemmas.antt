@@ -19,8 +19,8 @@ use Rattle.vme_audit_command.specs.DumpAudits.{line_of_break, lines_of}
 use Rattle.vme_step_auditor.specs.ReadBy.{BreaksGoOn, GivenSteps, read_by, read_of}
 use Rattle.vme_audit_command.specs.declared.told.TellFault.{TellFault}
 use Rattle.vme_audit_command.specs.declared.told.TellFault.TheVariants.{Memory, CannotWrite}
-use Rattle.vme_audit_command.proofs.WriteLemmas.{fails-after, fails-longer, some-after, some-longer, writes-as-some}
-use Rattle.vme_audit_command.proofs.WriteLemmas.{writes-both, writes-nothing}
+use Rattle.vme_audit_command.proofs.WriteLemmas.{fails-after, fails-longer, prefix-after, prefix-longer}
+use Rattle.vme_audit_command.proofs.WriteLemmas.{writes-as-prefix, writes-both, writes-nothing}
 
 -- the breaks stay where a recording goes on
 abbrev pub ReadGoesOn : Type 0
@@ -50,7 +50,7 @@ pub no-memory : (A : Type 0) → ReadGoesOn → (head : List ℕ) (audit : Given
     → AuditGoesOn {A = A} head audit steps w w (Err Memory)
 no-memory A law head audit steps w formed few =
     let (text, same) = lines-go-on law head audit.allowances audit.stop audit.recording steps formed few in
-    (text, same, some-longer w w [] text (writes-as-some w w [] (writes-nothing w)))
+    (text, same, prefix-longer w w [] text (writes-as-prefix w w [] (writes-nothing w)))
 
 -- ---- a step
 
@@ -109,7 +109,7 @@ goes-after before middle after u v w (Err Memory) one two =
     let (second, more, told) = two in (
       first ++ second,
       more ∙ ap (λ (l : List ℕ). l ++ second) is ∙ append_assoc before first second,
-      some-after u v w first second writes told,
+      prefix-after u v w first second writes told,
     )
 
 -- an early end leaves lines that weren't told
@@ -128,7 +128,7 @@ goes-further A B before after all u v Memory goes more =
     let (later, same) = more in (
       text ++ later,
       same ∙ ap (λ (l : List ℕ). l ++ later) is ∙ append_assoc before text later,
-      some-longer u v text later some,
+      prefix-longer u v text later some,
     )
 
 -- ---- steps one by one
@@ -181,14 +181,14 @@ lines-next head first audit later step u v w is one two =
     )
 
 -- the rest of the steps wasn't audited
-pub rest-untold : (A B : Type 0) → ReadGoesOn → (head : List ℕ) (first audit : GivenSteps) (steps : List Step) (i : ℕ)
-    (step : Step) (u v w : Writing) (fault : TellFault) → audit ≡ given_too first (take i steps) → i < length steps
-    → step ≡ get_or steps i step → malformed_step (with_steps first.recording steps) ≡ None
+pub rest-unwritten : (A B : Type 0) → ReadGoesOn → (head : List ℕ) (first audit : GivenSteps) (steps : List Step)
+    (i : ℕ) (step : Step) (u v w : Writing) (fault : TellFault) → audit ≡ given_too first (take i steps)
+    → i < length steps → step ≡ get_or steps i step → malformed_step (with_steps first.recording steps) ≡ None
     → first.recording.opening.slots ≤ 21
     → (text : List ℕ) × (lines_of head audit ≡ lines_of head first ++ text) × Writes u v text
     → AuditGoesOn {A = A} head audit (step ∷ []) v w (Err fault)
     → AuditGoesOn {A = B} head first steps u w (Err fault)
-rest-untold A B law head first audit steps i step u v w fault so_far lt is formed few one two =
+rest-unwritten A B law head first audit steps i step u v w fault so_far lt is formed few one two =
     let t = first.recording in
     let front = take (i + 1) steps in
     let here : malformed_step (with_steps (with_steps t front) (drop (i + 1) steps)) ≡ None =

@@ -17,7 +17,7 @@ use Rattle.vme_skew.specs.Settling.{Settling}
 use Rattle.vme_step_auditor.specs.ReadBy.{GivenSteps}
 use Rattle.vme_step_reader.specs.StepReading.{StepReading, whole_reading}
 use Rattle.vme_audit_command.specs.declared.told.NoOutcome.{NoOutcome}
-use Rattle.vme_audit_command.specs.declared.told.NoOutcome.TheVariants.{CannotRead, Untold}
+use Rattle.vme_audit_command.specs.declared.told.NoOutcome.TheVariants.{CannotRead, NotWritten}
 use Rattle.vme_audit_command.specs.declared.told.TellFault.TheVariants.{Memory}
 use Rattle.vme_audit_command.proofs.BodyLemmas.{ReadGoesOn}
 use Rattle.vme_dump_steps.proofs.ReadSteps.{StepsFollow, TimeGoesOn}
@@ -176,7 +176,7 @@ module _ (law : ReadGoesOn) (front : GivenIsPrefix) (follows : StepsFollow) (on 
     (h : HasGiven skew settler audit r) (w : Writing) where
   pub unheld-ends : (A : Type 0) (t : Trace) (rest : List ℕ)
       → EndsBehind {A = A} head audit (lines_of head audit) (settled_by skew (whole_reading r rest)) t w w
-      (Err (Untold Memory))
+      (Err (NotWritten Memory))
   unheld-ends A t rest =
       memory-ends A law head audit (settled_by skew (whole_reading r rest)) t w
       (given-on front follows on skew r rest settler audit h)

@@ -6,11 +6,11 @@ use Rattle.vme_trace.specs.Streams.{Reading}
 use Rattle.vme_bind.specs.Binding.{BoundLines}
 use Rattle.vme_bind.specs.TextReading.{reading_of_text}
 use Rattle.vme_step_reader.specs.StepReading.{StepReading}
-use Rattle.vme_audit_command.specs.Definitions.{AreAll, BeginsBody, NotBegun, ReadsDefinitions, unread}
+use Rattle.vme_audit_command.specs.Definitions.{AreAllBytesOf, BeginsBody, NotBegun, ReadsDefinitions, unread}
 use Rattle.vme_audit_command.specs.declared.dump_input.ReadFault.{ReadFault}
 use Rattle.vme_audit_command.specs.declared.dump_input.ReadFault.TheVariants as read
 use Rattle.vme_audit_command.specs.declared.told.NoOutcome.{NoOutcome}
-use Rattle.vme_audit_command.specs.declared.told.NoOutcome.TheVariants.{CannotRead, Refused, Untold}
+use Rattle.vme_audit_command.specs.declared.told.NoOutcome.TheVariants.{CannotRead, NotWritten, Refused}
 use Rattle.vme_audit_command.proofs.BodyPieces.{all-at-end, all-left, all-of, left_of}
 
 -- all that was read is held
@@ -20,11 +20,11 @@ all-held a b c held more now one two is = subst (Consumes a c) (sym is) (Consume
 
 module _ (bound : BoundLines) (old new : Reading) (left : List ℕ) where
   -- a text isn't read to its body
-  not-begun : (text : List ℕ) (why : NoOutcome) → AreAll old text → NotBegun (reading_of_text bound text) why
+  not-begun : (text : List ℕ) (why : NoOutcome) → AreAllBytesOf old text → NotBegun (reading_of_text bound text) why
       → ReadsDefinitions bound old new left (Err why)
   not-begun text (Refused refusal) all not = (text, all, not)
   not-begun text CannotRead all not = tt
-  not-begun text (Untold fault) all not = (text, all, not)
+  not-begun text (NotWritten fault) all not = (text, all, not)
 
   pub not-begun-here : (held : List ℕ) (why : NoOutcome) → Consumes old.left new.left held
       → ((rest : List ℕ) → NotBegun (reading_of_text bound (held ++ rest)) why)

@@ -17,15 +17,16 @@ use Rattle.vme_audit.specs.declared.outcome.Outcome.{Outcome}
 use Rattle.vme_audit.specs.declared.outcome.Outcome.TheVariants as outcome
 use Rattle.vme_audit_lines.specs.AuditLines.{head_of, outcome_status}
 use Rattle.vme_audit_command.specs.Bodies.{ended_at}
-use Rattle.vme_audit_command.specs.Definitions.{AreAll}
+use Rattle.vme_audit_command.specs.Definitions.{AreAllBytesOf}
 use Rattle.vme_audit_command.specs.DumpAudits.{break_lines}
 use Rattle.vme_dump_steps.specs.SettledReadings.{settled_by, skew_of}
-use Rattle.vme_audit_command.specs.DumpAnswers.{AuditsDump, DumpAnswer, DumpRules, answer_by, dump_answer, dump_outcome}
+use Rattle.vme_audit_command.specs.DumpAnswers.{AuditOptions, AuditsDump, DumpAnswer, answer_by, dump_answer}
+use Rattle.vme_audit_command.specs.DumpAnswers.{dump_outcome}
 use Rattle.vme_audit_command.specs.DumpEnds.{AuditsNamed, EndsWith, RefusesAs, TellsEnd}
 use Rattle.vme_audit_command.specs.SeveralDumps.{IsEndOf, IsErrorLine, IsTextPrefix, NamedReading}
 use Rattle.vme_audit_command.specs.SeveralDumps.{TriesEach, answer_to, end_by, memory_line, refusal_line_of}
 use Rattle.vme_audit_command.specs.declared.told.NoOutcome.{NoOutcome}
-use Rattle.vme_audit_command.specs.declared.told.NoOutcome.TheVariants.{CannotRead, Refused, Untold}
+use Rattle.vme_audit_command.specs.declared.told.NoOutcome.TheVariants.{CannotRead, NotWritten, Refused}
 use Rattle.vme_audit_command.specs.declared.told.TellFault.TheVariants.{Memory, CannotWrite}
 use Rattle.vme_audit_command.proofs.SeveralLemmas.{not-five}
 
@@ -45,19 +46,19 @@ abbrev status_or_zero : Result ℕ Refusal → ℕ
 status_or_zero (Ok status) = status
 status_or_zero (Err why) = 0
 
-ended-by : (rules : DumpRules) (head lines : List ℕ) (ended : Result Trace Refusal) (status : ℕ)
-    → (answer_by rules head lines ended).ended ≡ Ok status → status ≡ 5 → ⊥
-ended-by rules head lines (Ok a) status is five =
-    outcome-other (dump_outcome rules head a) (ap status_or_zero is ∙ five)
-ended-by rules head lines (Err why) status is five = not-five 0 refl (ap status_or_zero is ∙ five)
+ended-by : (options : AuditOptions) (head lines : List ℕ) (ended : Result Trace Refusal) (status : ℕ)
+    → (answer_by options head lines ended).ended ≡ Ok status → status ≡ 5 → ⊥
+ended-by options head lines (Ok a) status is five =
+    outcome-other (dump_outcome options head a) (ap status_or_zero is ∙ five)
+ended-by options head lines (Err why) status is five = not-five 0 refl (ap status_or_zero is ∙ five)
 
-ended-other : (rules : DumpRules) (head : List ℕ) (reading : Result TextReading CaptureFault) (status : ℕ)
-    → (dump_answer rules head reading).ended ≡ Ok status → status ≡ 5 → ⊥
-ended-other rules head (Ok reading) status is five =
-    let settled = settled_by (skew_of rules.skew) reading in
-    ended-by rules head (break_lines rules.allowances rules.stop head settled.recorded)
-    (ended_at rules.allowances rules.stop settled.recorded settled.fault) status is five
-ended-other rules head (Err fault) status is five = not-five 0 refl (ap status_or_zero is ∙ five)
+ended-other : (options : AuditOptions) (head : List ℕ) (reading : Result TextReading CaptureFault) (status : ℕ)
+    → (dump_answer options head reading).ended ≡ Ok status → status ≡ 5 → ⊥
+ended-other options head (Ok reading) status is five =
+    let settled = settled_by (skew_of options.skew) reading in
+    ended-by options head (break_lines options.allowances options.stop head settled.recorded)
+    (ended_at options.allowances options.stop settled.recorded settled.fault) status is five
+ended-other options head (Err fault) status is five = not-five 0 refl (ap status_or_zero is ∙ five)
 
 -- ---- what is told of a dump without an outcome
 
@@ -140,11 +141,11 @@ module _ (name : List ℕ) (answer : DumpAnswer) (out : List ℕ) (is_front : Is
 
 -- ---- a dump
 
-module _ (rules : DumpRules) (bound : BoundLines) (named : NamedReading) (u v e p : Writing) (status : ℕ) where
-  ends-so : (bytes : List ℕ) → AreAll named.dump bytes → (out : List ℕ) → Writes u v out
-      → (is_front : IsTextPrefix out (answer_to rules bound named.name bytes).out)
-      → EndsSo named.name (answer_to rules bound named.name bytes) out is_front e p status
-      → AuditsNamed rules bound named (u, v) (e, p) status
+module _ (options : AuditOptions) (bound : BoundLines) (named : NamedReading) (u v e p : Writing) (status : ℕ) where
+  ends-so : (bytes : List ℕ) → AreAllBytesOf named.dump bytes → (out : List ℕ) → Writes u v out
+      → (is_front : IsTextPrefix out (answer_to options bound named.name bytes).out)
+      → EndsSo named.name (answer_to options bound named.name bytes) out is_front e p status
+      → AuditsNamed options bound named (u, v) (e, p) status
   ends-so bytes all out writes is_front (errors, is, tries, other) = inl (record {
     end = record { out = out; errors = errors; status = status };
     may = (bytes, all, is);
@@ -155,31 +156,31 @@ module _ (rules : DumpRules) (bound : BoundLines) (named : NamedReading) (u v e 
   })
 
   pub audits-named : (ended : Result ℕ NoOutcome)
-      → AuditsDump rules (head_of named.name) bound named.dump u v ended → TellsEnd named.name ended e p status
-      → AuditsNamed rules bound named (u, v) (e, p) status
+      → AuditsDump options (head_of named.name) bound named.dump u v ended → TellsEnd named.name ended e p status
+      → AuditsNamed options bound named (u, v) (e, p) status
   audits-named (Ok n) (bytes, all, (writes, is)) tells =
-      let answer = answer_to rules bound named.name bytes in
+      let answer = answer_to options bound named.name bytes in
       ends-so bytes all answer.out writes (whole-is-front answer.out)
       (kept-so named.name answer answer.out (whole-is-front answer.out) e p n status
       (inl (ap (end_by named.name answer.out) (sym is)))
-      (ended-other rules (head_of named.name) (reading_of_text bound bytes) n is) tells)
+      (ended-other options (head_of named.name) (reading_of_text bound bytes) n is) tells)
   audits-named (Err (Refused why)) (bytes, all, (writes, is)) tells =
-      let answer = answer_to rules bound named.name bytes in
+      let answer = answer_to options bound named.name bytes in
       ends-so bytes all answer.out writes (whole-is-front answer.out)
       (refused-so named.name answer answer.out (whole-is-front answer.out) why e p status
       (inl (ap (end_by named.name answer.out) (sym is))) tells)
   audits-named (Err CannotRead) (bytes, all, ((n, appends), same)) tells =
-      let answer = answer_to rules bound named.name bytes in
+      let answer = answer_to options bound named.name bytes in
       let front = take n answer.out in
       ends-so bytes all front (appends, same) (n, refl)
       (refused-so named.name answer front (n, refl) (refusal.CannotRead Dump) e p status
       (inr (inl (front, (n, refl), refl))) tells)
-  audits-named (Err (Untold Memory)) (bytes, all, ((n, appends), same)) tells =
-      let answer = answer_to rules bound named.name bytes in
+  audits-named (Err (NotWritten Memory)) (bytes, all, ((n, appends), same)) tells =
+      let answer = answer_to options bound named.name bytes in
       let front = take n answer.out in
       ends-so bytes all front (appends, same) (n, refl)
       (refused-so named.name answer front (n, refl) refusal.Memory e p status
       (lacks named.name answer front (n, refl) [] (refusal_line_of named.name refusal.Memory) 4
       (All-nil (IsErrorLine named.name)) (inr refl) refl (refusal_line_of named.name refusal.Memory ∷ []) refl) tells)
-  audits-named (Err (Untold CannotWrite)) (bytes, all, fails) (tries, is) =
+  audits-named (Err (NotWritten CannotWrite)) (bytes, all, fails) (tries, is) =
       inr (record { bytes = bytes; all = all; out_is = fails; err_is = tries; status_is = is })

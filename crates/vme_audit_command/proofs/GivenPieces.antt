@@ -16,7 +16,7 @@ use Rattle.vme_dump_steps.specs.SettledReadings.{settled_by, settled_so_far}
 use Rattle.vme_dump_steps.specs.SettledSteps.{ComesOut, GoOnTo}
 use Rattle.vme_step_auditor.specs.ReadBy.{GivenSteps, has_stopped}
 use Rattle.vme_step_reader.specs.StepReading.{StepReading, whole_reading}
-use Rattle.vme_audit_command.specs.declared.told.NoOutcome.TheVariants.{Untold}
+use Rattle.vme_audit_command.specs.declared.told.NoOutcome.TheVariants.{NotWritten}
 use Rattle.vme_audit_command.specs.declared.told.TellFault.{TellFault}
 use Rattle.vme_audit_command.proofs.BodyLemmas.{ReadGoesOn}
 use Rattle.vme_dump_steps.proofs.ReadSteps.{StepsFollow, StepsWithin, TimeGoesOn, so-far-formed}
@@ -65,7 +65,7 @@ module _ (front : GivenIsPrefix) (follows : StepsFollow) (within : StepsWithin) 
   pub piece-cut : ReadGoesOn → (head : List ℕ) (u v : Writing) (fault : TellFault) (t : Trace) (rest : List ℕ)
       → AuditGoesTo {A = Unit {0}} head audit so_far u v (Err fault)
       → EndsBehind {A = Unit {0}} head audit (lines_of head audit) (settled_by skew (whole_reading r (bytes ++ rest)))
-      t u v (Err (Untold fault))
+      t u v (Err (NotWritten fault))
   piece-cut law head u v fault t rest goes =
       cut-ends (Unit {0}) (Unit {0}) law head audit (settled_by skew (whole_reading r (bytes ++ rest))) so_far u v fault
       t (piece-onward rest) goes

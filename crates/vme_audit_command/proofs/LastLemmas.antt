@@ -10,12 +10,12 @@ use Rattle.vme_auditor.specs.declared.findings.AuditFindings.{AuditFindings}
 use Rattle.vme_auditor.specs.declared.findings.BreakCounts.{BreakCounts}
 use Rattle.vme_audit_lines.specs.AuditLines.{count_lines, outcome_status, unasked}
 use Rattle.vme_stream.specs.Outputs.{Writes}
-use Rattle.vme_audit_command.specs.DumpAudits.{TellsText, WritesSome}
+use Rattle.vme_audit_command.specs.DumpAudits.{TellsText, WritesPrefix}
 use Rattle.vme_audit_command.specs.LastLines.{TellsOutcome, count_lines_of}
 use Rattle.vme_audit_command.specs.declared.told.TellFault.{TellFault}
 use Rattle.vme_audit_command.specs.declared.told.TellFault.TheVariants.{Memory, CannotWrite}
-use Rattle.vme_audit_command.proofs.WriteLemmas.{fails-after, fails-longer, some-after, some-longer, writes-as-some}
-use Rattle.vme_audit_command.proofs.WriteLemmas.{writes-both, writes-nothing}
+use Rattle.vme_audit_command.proofs.WriteLemmas.{fails-after, fails-longer, prefix-after, prefix-longer}
+use Rattle.vme_audit_command.proofs.WriteLemmas.{writes-as-prefix, writes-both, writes-nothing}
 
 -- what was counted is what the recording has
 pub counts-are : (allowances : List Allowance) (head : List ℕ) (a : Trace) (c : BreakCounts) (f : AuditFindings)
@@ -25,8 +25,8 @@ counts-are allowances head a c f counted found asked =
     rw (counted.broken, counted.unreadable, counted.allowed, found.counts, asked) refl
 
 -- nothing of a text was told
-pub some-of : (w : Writing) (text : List ℕ) → WritesSome w w text
-some-of w text = some-longer w w [] text (writes-as-some w w [] (writes-nothing w))
+pub prefix-of : (w : Writing) (text : List ℕ) → WritesPrefix w w text
+prefix-of w text = prefix-longer w w [] text (writes-as-prefix w w [] (writes-nothing w))
 
 -- an outcome is kept once it was told
 pub outcome-told : (o : Outcome) (u v : Writing) (text : List ℕ) (result : Result ℕ TellFault)
@@ -37,23 +37,23 @@ outcome-told o u v text (Err CannotWrite) writes ok err = absurd (differ err)
   where
     differ : CannotWrite ≡ Memory → ⊥
     differ same = cc
-outcome-told o u v text (Err Memory) writes ok err = writes-as-some u v text writes
+outcome-told o u v text (Err Memory) writes ok err = writes-as-prefix u v text writes
 
 -- an outcome that isn't told
-pub outcome-untold : (A : Type 0) (o : Outcome) (u v : Writing) (text : List ℕ) (fault : TellFault)
+pub outcome-unwritten : (A : Type 0) (o : Outcome) (u v : Writing) (text : List ℕ) (fault : TellFault)
     → TellsText {A = A} u v (Err fault) text → TellsOutcome text o u v (Err fault)
-outcome-untold A o u v text CannotWrite tells = tells
-outcome-untold A o u v text Memory tells = tells
+outcome-unwritten A o u v text CannotWrite tells = tells
+outcome-unwritten A o u v text Memory tells = tells
 
 -- a text before it
 pub outcome-after : (o : Outcome) (u v w : Writing) (text more : List ℕ) (result : Result ℕ TellFault)
     → Writes u v text → TellsOutcome more o v w result → TellsOutcome (text ++ more) o u w result
 outcome-after o u v w text more (Ok status) one two = (writes-both u v w text more one two.0, two.1)
 outcome-after o u v w text more (Err CannotWrite) one two = fails-after u v w text more one two
-outcome-after o u v w text more (Err Memory) one two = some-after u v w text more one two
+outcome-after o u v w text more (Err Memory) one two = prefix-after u v w text more one two
 
 -- a text before it that isn't told
 pub outcome-unreached : (A : Type 0) (o : Outcome) (u v : Writing) (text more : List ℕ) (fault : TellFault)
     → TellsText {A = A} u v (Err fault) text → TellsOutcome (text ++ more) o u v (Err fault)
 outcome-unreached A o u v text more CannotWrite tells = fails-longer u v text more tells
-outcome-unreached A o u v text more Memory tells = some-longer u v text more tells
+outcome-unreached A o u v text more Memory tells = prefix-longer u v text more tells

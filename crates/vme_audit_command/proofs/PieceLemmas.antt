@@ -23,13 +23,13 @@ use Rattle.vme_audit_command.specs.DumpAudits.{AuditGoesOn, AuditGoesTo, GoesOn,
 use Rattle.vme_audit_command.specs.DumpAudits.{line_of_break, lines_of}
 use Rattle.vme_step_auditor.specs.ReadBy.{GivenSteps, is_stopped, read_by}
 use Rattle.vme_audit_command.specs.declared.told.NoOutcome.{NoOutcome}
-use Rattle.vme_audit_command.specs.declared.told.NoOutcome.TheVariants.{CannotRead, Refused, Untold}
+use Rattle.vme_audit_command.specs.declared.told.NoOutcome.TheVariants.{CannotRead, NotWritten, Refused}
 use Rattle.vme_audit_command.specs.declared.told.TellFault.{TellFault}
 use Rattle.vme_audit_command.specs.declared.told.TellFault.TheVariants.{CannotWrite, Memory}
 use Rattle.vme_audit_command.proofs.BodyLemmas.{ReadGoesOn, lines-go-on, no-memory}
 use Rattle.vme_audit_command.proofs.Onward.{GoesOnWith}
-use Rattle.vme_audit_command.proofs.WriteLemmas.{fails-after, fails-longer, some-after, some-longer, writes-as-some}
-use Rattle.vme_audit_command.proofs.WriteLemmas.{writes-both, writes-nothing}
+use Rattle.vme_audit_command.proofs.WriteLemmas.{fails-after, fails-longer, prefix-after, prefix-longer}
+use Rattle.vme_audit_command.proofs.WriteLemmas.{writes-as-prefix, writes-both, writes-nothing}
 
 -- ---- one body after another
 
@@ -39,9 +39,9 @@ pub until-after : {A : Type 0} (ended : Result Trace Refusal) (a : Trace) (u v w
     → WritesUntil ended a u w (x ++ y) result
 until-after ended a u v w x y (Ok _) one two = (writes-both u v w x y one two.0, two.1)
 until-after ended a u v w x y (Err (Refused refusal)) one two = (writes-both u v w x y one two.0, two.1)
-until-after ended a u v w x y (Err CannotRead) one two = some-after u v w x y one two
-until-after ended a u v w x y (Err (Untold CannotWrite)) one two = fails-after u v w x y one two
-until-after ended a u v w x y (Err (Untold Memory)) one two = some-after u v w x y one two
+until-after ended a u v w x y (Err CannotRead) one two = prefix-after u v w x y one two
+until-after ended a u v w x y (Err (NotWritten CannotWrite)) one two = fails-after u v w x y one two
+until-after ended a u v w x y (Err (NotWritten Memory)) one two = prefix-after u v w x y one two
 
 pub ends-after : {A : Type 0} (head : List ℕ) (audit : GivenSteps) (told more : List ℕ) (reading : TextReading)
     (t : Trace) (u v w : Writing) (result : Result A NoOutcome) → Writes u v more
@@ -53,32 +53,32 @@ ends-after head audit told more reading t u v w result one two =
 -- ---- steps before the end of a body
 
 -- not all steps could be told: some of all lines were written
-pub untold-ends : (A B : Type 0) (ended : Result Trace Refusal) (a : Trace) (before after all later : List ℕ)
+pub unwritten-ends : (A B : Type 0) (ended : Result Trace Refusal) (a : Trace) (before after all later : List ℕ)
     (u v : Writing) (fault : TellFault) → GoesOn {A = A} before after u v (Err fault) → all ≡ after ++ later
-    → (text : List ℕ) × (all ≡ before ++ text) × WritesUntil {A = B} ended a u v text (Err (Untold fault))
-untold-ends A B ended a before after all later u v CannotWrite goes more =
+    → (text : List ℕ) × (all ≡ before ++ text) × WritesUntil {A = B} ended a u v text (Err (NotWritten fault))
+unwritten-ends A B ended a before after all later u v CannotWrite goes more =
     let (text, same, fails) = goes in (
       text ++ later,
       more ∙ ap (λ (l : List ℕ). l ++ later) same ∙ append_assoc before text later,
       fails-longer u v text later fails,
     )
-untold-ends A B ended a before after all later u v Memory goes more =
+unwritten-ends A B ended a before after all later u v Memory goes more =
     let (text, same, some) = goes in (
       text ++ later,
       more ∙ ap (λ (l : List ℕ). l ++ later) same ∙ append_assoc before text later,
-      some-longer u v text later some,
+      prefix-longer u v text later some,
     )
 
 -- no memory before the end of a body
 pub memory-ends : (A : Type 0) → ReadGoesOn → (head : List ℕ) (audit : GivenSteps) (reading : TextReading) (t : Trace)
     (w : Writing) → GoesOnWith audit.recording reading.recorded
-    → EndsBehind {A = A} head audit (lines_of head audit) reading t w w (Err (Untold Memory))
+    → EndsBehind {A = A} head audit (lines_of head audit) reading t w w (Err (NotWritten Memory))
 memory-ends A law head audit reading t w on =
     let here : malformed_step (with_steps audit.recording on.more) ≡ None = sym (ap malformed_step on.is) ∙ on.formed in
     let (text, same) = lines-go-on law head audit.allowances audit.stop audit.recording on.more here on.few in (
       text,
       ap (break_lines audit.allowances audit.stop head) on.is ∙ same,
-      some-longer w w [] text (writes-as-some w w [] (writes-nothing w)),
+      prefix-longer w w [] text (writes-as-prefix w w [] (writes-nothing w)),
     )
 
 -- ---- steps that come out
@@ -100,12 +100,12 @@ memory-goes A law head audit t w on =
 pub cut-ends : (A B : Type 0) → ReadGoesOn → (head : List ℕ) (audit : GivenSteps) (reading : TextReading) (t : Trace)
     (u v : Writing) (fault : TellFault) (x : Trace) → GoesOnWith t reading.recorded
     → AuditGoesTo {A = A} head audit t u v (Err fault)
-    → EndsBehind {A = B} head audit (lines_of head audit) reading x u v (Err (Untold fault))
+    → EndsBehind {A = B} head audit (lines_of head audit) reading x u v (Err (NotWritten fault))
 cut-ends A B law head audit reading t u v fault x on goes =
     let here : malformed_step (with_steps t on.more) ≡ None = sym (ap malformed_step on.is) ∙ on.formed in
     let (later, grown) = lines-go-on law head audit.allowances audit.stop t on.more here on.few in
     let all = ap (break_lines audit.allowances audit.stop head) on.is ∙ grown in
-    untold-ends A B (ended_at audit.allowances audit.stop reading.recorded reading.fault)
+    unwritten-ends A B (ended_at audit.allowances audit.stop reading.recorded reading.fault)
     (read_by audit.allowances audit.stop x) (lines_of head audit) (lines_of head (given_all audit t))
     (break_lines audit.allowances audit.stop head reading.recorded) later u v fault goes all
 

@@ -10,7 +10,7 @@ use Rattle.std.proofs.lemmas.List.Folds.{list_any-append}
 use Rattle.vme_trace.specs.Streams.{Writing}
 use Rattle.vme_bind.specs.Binding.{BoundLines}
 use Rattle.vme_stream.specs.Outputs.{TriesToWrite, Writes}
-use Rattle.vme_audit_command.specs.DumpAnswers.{DumpRules}
+use Rattle.vme_audit_command.specs.DumpAnswers.{AuditOptions}
 use Rattle.vme_audit_command.specs.DumpEnds.{CannotTellDump, TellsDump}
 use Rattle.vme_audit_command.specs.SeveralDumps.{AuditsDumps, CannotTell, DumpEnd, MayEnd, NamedReading, TellsDumps}
 use Rattle.vme_audit_command.specs.SeveralDumps.{TriesEach, audit_status, cannot_write_line, first_occurred}
@@ -108,8 +108,8 @@ not-five n other is = differ (sym (eq-eqb n 5 is) ∙ other)
     differ : true ≡ false → ⊥
     differ same = cc
 
-module _ (rules : DumpRules) (bound : BoundLines) where
-  pub tells-none : (out err : Writing) → TellsDumps rules bound [] (out, out) (err, err) 0
+module _ (options : AuditOptions) (bound : BoundLines) where
+  pub tells-none : (out err : Writing) → TellsDumps options bound [] (out, out) (err, err) 0
   tells-none out err = record {
     ends = [];
     each = tt;
@@ -119,13 +119,13 @@ module _ (rules : DumpRules) (bound : BoundLines) where
   }
 
   module _ (dumps : List NamedReading) (named : NamedReading) (a b c e p h : Writing) (so_far ended : ℕ)
-      (before : TellsDumps rules bound dumps (a, b) (e, p) so_far) where
+      (before : TellsDumps options bound dumps (a, b) (e, p) so_far) where
     -- a dump more
-    tells-then : TellsDump rules bound named (b, c) (p, h) ended
-        → TellsDumps rules bound (dumps ++ named ∷ []) (a, c) (e, h) (audit_status (so_far ∷ ended ∷ []))
+    tells-then : TellsDump options bound named (b, c) (p, h) ended
+        → TellsDumps options bound (dumps ++ named ∷ []) (a, c) (e, h) (audit_status (so_far ∷ ended ∷ []))
     tells-then one = record {
       ends = before.ends ++ one.end ∷ [];
-      each = zip-then (MayEnd rules bound) dumps before.ends named one.end before.each one.may;
+      each = zip-then (MayEnd options bound) dumps before.ends named one.end before.each one.may;
       out_is = subst (Writes a c) (flat-then (λ (x : DumpEnd). x.out) before.ends one.end)
           (writes-both a b c _ one.end.out before.out_is one.out_is);
       err_is = subst (TriesEach e h) (flat-then (λ (x : DumpEnd). x.errors) before.ends one.end)
@@ -138,8 +138,8 @@ module _ (rules : DumpRules) (bound : BoundLines) where
     }
 
     -- a dump whose text can't be written
-    cannot-then : (others : List NamedReading) → CannotTellDump rules bound named (b, c) (p, h) ended
-        → CannotTell rules bound (dumps ++ named ∷ others) (a, c) (e, h) 5
+    cannot-then : (others : List NamedReading) → CannotTellDump options bound named (b, c) (p, h) ended
+        → CannotTell options bound (dumps ++ named ∷ others) (a, c) (e, h) 5
     cannot-then others one = record {
       before = dumps;
       named = named;
@@ -169,20 +169,21 @@ module _ (rules : DumpRules) (bound : BoundLines) where
         ∙ sym (take_more dumps i x (subst (λ (n : ℕ). i < n) same within)))
 
     module _ (a b c e p h : Writing) (so_far ended : ℕ)
-        (before : TellsDumps rules bound (map f (take i dumps)) (a, b) (e, p) so_far) where
+        (before : TellsDumps options bound (map f (take i dumps)) (a, b) (e, p) so_far) where
       -- the audit of the dump that stands there
       abbrev Audits : A → Type 0
-      Audits d = TellsDump rules bound (f d) (b, c) (p, h) ended ⊎ CannotTellDump rules bound (f d) (b, c) (p, h) ended
+      Audits d = TellsDump options bound (f d) (b, c) (p, h) ended
+          ⊎ CannotTellDump options bound (f d) (b, c) (p, h) ended
 
       tells-this : (ended ≡ 5 → ⊥) → Audits x
-          → TellsDumps rules bound (map f (take (i + 1) dumps)) (a, c) (e, h) (audit_status (so_far ∷ ended ∷ []))
+          → TellsDumps options bound (map f (take (i + 1) dumps)) (a, c) (e, h) (audit_status (so_far ∷ ended ∷ []))
       tells-this other (inl one) =
-          subst (λ (l : List NamedReading). TellsDumps rules bound l (a, c) (e, h)
+          subst (λ (l : List NamedReading). TellsDumps options bound l (a, c) (e, h)
           (audit_status (so_far ∷ ended ∷ []))) one-more
           (tells-then (map f (take i dumps)) (f x) a b c e p h so_far ended before one)
       tells-this other (inr one) = absurd (other one.status_is)
 
-      cannot-this : ended ≡ 5 → Audits x → AuditsDumps rules bound (map f dumps) (a, c) (e, h) 5
+      cannot-this : ended ≡ 5 → Audits x → AuditsDumps options bound (map f dumps) (a, c) (e, h) 5
       cannot-this five (inl one) = absurd (one.other five)
       cannot-this five (inr one) =
           let later = drop (i + 1) dumps in
@@ -190,19 +191,20 @@ module _ (rules : DumpRules) (bound : BoundLines) where
           ap (map f) (sym (take-append-drop (i + 1) dumps)) ∙ map-append f (take (i + 1) dumps) later
           ∙ ap (λ (l : List NamedReading). l ++ map f later) (sym one-more)
           ∙ append_assoc (map f (take i dumps)) (f x ∷ []) (map f later) in
-          inr (subst (λ (l : List NamedReading). CannotTell rules bound l (a, c) (e, h) 5) (sym split)
+          inr (subst (λ (l : List NamedReading). CannotTell options bound l (a, c) (e, h) 5) (sym split)
           (cannot-then (map f (take i dumps)) (f x) a b c e p h so_far ended before (map f later) one))
 
       pub tells-on : (ended ≡ 5 → ⊥) → Audits (get_or now i x)
-          → TellsDumps rules bound (map f (take (i + 1) dumps)) (a, c) (e, h) (audit_status (so_far ∷ ended ∷ []))
+          → TellsDumps options bound (map f (take (i + 1) dumps)) (a, c) (e, h) (audit_status (so_far ∷ ended ∷ []))
       tells-on other audits = tells-this other (subst Audits (sym is) audits)
 
-      pub cannot-on : ended ≡ 5 → Audits (get_or now i x) → AuditsDumps rules bound (map f dumps) (a, c) (e, h) 5
+      pub cannot-on : ended ≡ 5 → Audits (get_or now i x) → AuditsDumps options bound (map f dumps) (a, c) (e, h) 5
       cannot-on five audits = cannot-this five (subst Audits (sym is) audits)
 
   -- all of them
   pub tells-all : {A : Type 0} (f : A → NamedReading) (dumps : List A) (i : ℕ) → length dumps ≤ i
-      → (status : ℕ) (a b e p : Writing) → TellsDumps rules bound (map f (take i dumps)) (a, b) (e, p) status
-      → AuditsDumps rules bound (map f dumps) (a, b) (e, p) status
+      → (status : ℕ) (a b e p : Writing) → TellsDumps options bound (map f (take i dumps)) (a, b) (e, p) status
+      → AuditsDumps options bound (map f dumps) (a, b) (e, p) status
   tells-all {A} f dumps i within status a b e p each =
-      inl (subst (λ (l : List A). TellsDumps rules bound (map f l) (a, b) (e, p) status) (take_all i dumps within) each)
+      inl (subst (λ (l : List A). TellsDumps options bound (map f l) (a, b) (e, p) status) (take_all i dumps within)
+      each)

@@ -6,7 +6,7 @@ use Rattle.std.specs.Io.KnownBytes.{Appends}
 use Rattle.std.proofs.KnownBytes.{Appends-trans, Appends-nil}
 use Rattle.vme_trace.specs.Streams.{Writing}
 use Rattle.vme_stream.specs.Outputs.{Writes, FailsToWrite}
-use Rattle.vme_audit_command.specs.DumpAudits.{WritesSome}
+use Rattle.vme_audit_command.specs.DumpAudits.{WritesPrefix}
 
 -- the first of a text are the first of a longer one
 pub front_of : (x y : List ℕ) (n : ℕ) → take n x ≡ take (length (take n x)) (x ++ y)
@@ -21,11 +21,11 @@ writes-nothing w = (Appends-nil w.taken, refl)
 pub writes-both : (a b c : Writing) (x y : List ℕ) → Writes a b x → Writes b c y → Writes a c (x ++ y)
 writes-both a b c x y one two = (Appends-trans a.taken b.taken c.taken x y one.0 two.0, two.1 ∙ one.1)
 
-pub writes-as-some : (a b : Writing) (x : List ℕ) → Writes a b x → WritesSome a b x
-writes-as-some a b x one = ((length x, subst (Appends a.taken b.taken) (sym (take-length x)) one.0), one.1)
+pub writes-as-prefix : (a b : Writing) (x : List ℕ) → Writes a b x → WritesPrefix a b x
+writes-as-prefix a b x one = ((length x, subst (Appends a.taken b.taken) (sym (take-length x)) one.0), one.1)
 
-pub some-longer : (a b : Writing) (x y : List ℕ) → WritesSome a b x → WritesSome a b (x ++ y)
-some-longer a b x y one =
+pub prefix-longer : (a b : Writing) (x y : List ℕ) → WritesPrefix a b x → WritesPrefix a b (x ++ y)
+prefix-longer a b x y one =
     let ((n, appends), same) = one in
     ((length (take n x), subst (Appends a.taken b.taken) (front_of x y n) appends), same)
 
@@ -34,8 +34,8 @@ fails-longer a b x y one =
     let ((n, appends), more) = one in
     ((length (take n x), subst (Appends a.taken b.taken) (front_of x y n) appends), more)
 
-pub some-after : (a b c : Writing) (x y : List ℕ) → Writes a b x → WritesSome b c y → WritesSome a c (x ++ y)
-some-after a b c x y one two =
+pub prefix-after : (a b c : Writing) (x y : List ℕ) → Writes a b x → WritesPrefix b c y → WritesPrefix a c (x ++ y)
+prefix-after a b c x y one two =
     let ((n, appends), same) = two in
     let both = Appends-trans a.taken b.taken c.taken x (take n y) one.0 appends in
     ((length x + n, subst (Appends a.taken c.taken) (sym (take-append-add x y n)) both), same ∙ one.1)

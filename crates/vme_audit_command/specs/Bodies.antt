@@ -10,8 +10,8 @@ use Rattle.vme_trace.specs.WellFormed.{malformed_step}
 use Rattle.vme_bind.specs.TextReading.{TextReading}
 use Rattle.vme_stream.specs.Outputs.{Writes, FailsToWrite}
 use Rattle.vme_answer.specs.declared.refusal.Refusal.{Refusal}
-use Rattle.vme_audit_command.specs.Definitions.{AreAll, IsFormed}
-use Rattle.vme_audit_command.specs.DumpAudits.{WritesSome, break_lines, given_all, lines_of}
+use Rattle.vme_audit_command.specs.Definitions.{AreAllBytesOf, IsFormed}
+use Rattle.vme_audit_command.specs.DumpAudits.{WritesPrefix, break_lines, given_all, lines_of}
 use Rattle.vme_dump_steps.specs.SettledReadings.{settled_by}
 use Rattle.vme_dump_steps.specs.SettledSteps.{ComesOut}
 use Rattle.vme_skew.specs.Settling.{Settling}
@@ -19,7 +19,7 @@ use Rattle.vme_trace.specs.LineNumbers.{line_count}
 use Rattle.vme_step_auditor.specs.ReadBy.{GivenSteps, is_stopped, read_by}
 use Rattle.vme_step_reader.specs.StepReading.{StepReading, whole_reading}
 use Rattle.vme_audit_command.specs.declared.told.NoOutcome.{NoOutcome}
-use Rattle.vme_audit_command.specs.declared.told.NoOutcome.TheVariants.{CannotRead, Refused, Untold}
+use Rattle.vme_audit_command.specs.declared.told.NoOutcome.TheVariants.{CannotRead, NotWritten, Refused}
 use Rattle.vme_audit_command.specs.declared.told.TellFault.TheVariants.{Memory, CannotWrite}
 
 module _ (allowances : List Allowance) (stop : Option ℕ) where
@@ -43,9 +43,9 @@ abbrev pub WritesUntil : {A : Type 0} → Result Trace Refusal → Trace → Wri
     → Result A NoOutcome → Type 0
 WritesUntil ended a old new text (Ok _) = Writes old new text × (ended ≡ Ok a)
 WritesUntil ended a old new text (Err (Refused refusal)) = Writes old new text × (ended ≡ Err refusal)
-WritesUntil ended a old new text (Err CannotRead) = WritesSome old new text
-WritesUntil ended a old new text (Err (Untold CannotWrite)) = FailsToWrite old new text
-WritesUntil ended a old new text (Err (Untold Memory)) = WritesSome old new text
+WritesUntil ended a old new text (Err CannotRead) = WritesPrefix old new text
+WritesUntil ended a old new text (Err (NotWritten CannotWrite)) = FailsToWrite old new text
+WritesUntil ended a old new text (Err (NotWritten Memory)) = WritesPrefix old new text
 
 -- These lines were told, and the others of what is recorded were until its end.
 abbrev pub EndsBehind : {A : Type 0} → List ℕ → GivenSteps → List ℕ → TextReading → Trace → Writing → Writing
@@ -77,13 +77,13 @@ TakesPiece skew head audit later settler r bytes old new (Err why) =
 abbrev pub AuditsBody : {A : Type 0} → Option ℕ → List ℕ → GivenSteps → GivenSteps → StepReading → List ℕ → Reading
     → Writing → Writing → Result A NoOutcome → Type 0
 AuditsBody skew head audit later r held source old new result =
-    (more : List ℕ) × AreAll source more
+    (more : List ℕ) × AreAllBytesOf source more
     × EndsBehind head audit (lines_of head audit) (settled_by skew (whole_reading r (held ++ more))) later.recording old
     new result
 
 -- these are all bytes of a body whose first are held, and of which a source may tell more
 abbrev pub IsWholeBody : Bool → Reading → List ℕ → List ℕ → Type 0
-IsWholeBody true source held whole = (more : List ℕ) × AreAll source more × (whole ≡ held ++ more)
+IsWholeBody true source held whole = (more : List ℕ) × AreAllBytesOf source more × (whole ≡ held ++ more)
 IsWholeBody false source held whole = whole ≡ held
 
 -- a body whose first bytes are held was audited until it ends

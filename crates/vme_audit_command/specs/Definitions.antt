@@ -14,7 +14,7 @@ use Rattle.vme_step_reader.specs.StepReading.{StepReading, whole_reading}
 use Rattle.vme_audit_command.specs.declared.dump_input.ReadFault.{ReadFault}
 use Rattle.vme_audit_command.specs.declared.dump_input.ReadFault.TheVariants as read
 use Rattle.vme_audit_command.specs.declared.told.NoOutcome.{NoOutcome}
-use Rattle.vme_audit_command.specs.declared.told.NoOutcome.TheVariants.{CannotRead, Refused, Untold}
+use Rattle.vme_audit_command.specs.declared.told.NoOutcome.TheVariants.{CannotRead, NotWritten, Refused}
 use Rattle.vme_audit_command.specs.declared.told.TellFault.TheVariants.{Memory, CannotWrite}
 
 -- what is given is a front of what is recorded, whatever follows
@@ -38,14 +38,14 @@ IsRefused reading refusal = (fault : CaptureFault) × (reading ≡ Err fault) ×
 -- a read gave no bytes, or they couldn't be held
 abbrev pub unread : ReadFault → NoOutcome
 unread read.Failed = CannotRead
-unread read.Memory = Untold Memory
+unread read.Memory = NotWritten Memory
 
 -- a text that isn't read to its body has this fault; nothing is said where there is no memory
 abbrev pub NotBegun : Result TextReading CaptureFault → NoOutcome → Type 0
 NotBegun reading (Refused refusal) = IsRefused reading refusal
 NotBegun reading CannotRead = ⊥
-NotBegun reading (Untold CannotWrite) = ⊥
-NotBegun reading (Untold Memory) = Unit {0}
+NotBegun reading (NotWritten CannotWrite) = ⊥
+NotBegun reading (NotWritten Memory) = Unit {0}
 
 -- The definitions of a dump end in what is held, of which this is left then; or they don't, or there is a fault.
 abbrev pub BeginsBody : BoundLines → List ℕ → List ℕ → Result (Option StepReading) NoOutcome → Type 0
@@ -59,9 +59,9 @@ abbrev pub BeginsLast : BoundLines → List ℕ → List ℕ → Result StepRead
 BeginsLast bound held left (Ok r) = IsBodyBegun r × (reading_of_text bound held ≡ Ok (whole_reading r left))
 BeginsLast bound held left (Err why) = NotBegun (reading_of_text bound held) why
 
--- these are all bytes that a source told
-abbrev pub AreAll : Reading → List ℕ → Type 0
-AreAll old text = IfSome old.left (λ told. text ≡ told)
+-- these are all bytes that a source gives
+abbrev pub AreAllBytesOf : Reading → List ℕ → Type 0
+AreAllBytesOf old text = IfSome old.left (λ told. text ≡ told)
 
 -- The definitions of a dump were read. Where there may be more of it, whatever follows is the rest of a body.
 abbrev pub ReadsDefinitions : BoundLines → Reading → Reading → List ℕ → Result (StepReading × Bool) NoOutcome → Type 0
@@ -69,7 +69,8 @@ ReadsDefinitions bound old new left (Ok (r, true)) =
     IsBodyBegun r × ((done : List ℕ) × Consumes old.left new.left done
     × ((rest : List ℕ) → reading_of_text bound (done ++ rest) ≡ Ok (whole_reading r (left ++ rest))))
 ReadsDefinitions bound old new left (Ok (r, false)) =
-    IsBodyBegun r × ((text : List ℕ) × AreAll old text × (reading_of_text bound text ≡ Ok (whole_reading r left)))
+    IsBodyBegun r
+    × ((text : List ℕ) × AreAllBytesOf old text × (reading_of_text bound text ≡ Ok (whole_reading r left)))
 ReadsDefinitions bound old new left (Err CannotRead) = Unit {0}
 ReadsDefinitions bound old new left (Err why) =
-    (text : List ℕ) × AreAll old text × NotBegun (reading_of_text bound text) why
+    (text : List ℕ) × AreAllBytesOf old text × NotBegun (reading_of_text bound text) why

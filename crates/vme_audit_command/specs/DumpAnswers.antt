@@ -14,17 +14,17 @@ use Rattle.vme_audit.specs.declared.outcome.Outcome.{Outcome}
 use Rattle.vme_audit_lines.specs.AuditLines.{outcome_status}
 use Rattle.vme_step_reader.specs.StepReading.{StepReading, whole_reading}
 use Rattle.vme_audit_command.specs.Bodies.{IsWholeBody, ended_at}
-use Rattle.vme_audit_command.specs.Definitions.{AreAll}
-use Rattle.vme_audit_command.specs.DumpAudits.{WritesSome, break_lines}
+use Rattle.vme_audit_command.specs.Definitions.{AreAllBytesOf}
+use Rattle.vme_audit_command.specs.DumpAudits.{WritesPrefix, break_lines}
 use Rattle.vme_audit_command.specs.LastLines.{counts_unless, outcome_line_of}
 use Rattle.vme_dump_steps.specs.SettledReadings.{settled_by, skew_of}
 use Rattle.vme_audit_command.specs.declared.told.NoOutcome.{NoOutcome}
-use Rattle.vme_audit_command.specs.declared.told.NoOutcome.TheVariants.{CannotRead, Refused, Untold}
+use Rattle.vme_audit_command.specs.declared.told.NoOutcome.TheVariants.{CannotRead, NotWritten, Refused}
 use Rattle.vme_audit_command.specs.declared.told.TellFault.TheVariants.{Memory, CannotWrite}
 
 -- How a dump is audited: which breaks are allowed, how many transfers have to be answered, at which of the breaks that
 -- aren't allowed the audit ends, within which time edges are one moment, and whether counts are left out.
-pub record DumpRules : Type 0 where
+pub record AuditOptions : Type 0 where
   pub allowances : List Allowance
   pub transfers : ℕ
   pub stop : Option ℕ
@@ -37,13 +37,13 @@ pub record DumpAnswer : Type 0 where
   pub ended : Result ℕ Refusal
 
 -- before each line stands the head: the name of the dump's file, or nothing
-module _ (rules : DumpRules) (head : List ℕ) where
+module _ (options : AuditOptions) (head : List ℕ) where
   abbrev pub dump_outcome : Trace → Outcome
-  dump_outcome a = outcome rules.allowances rules.transfers a
+  dump_outcome a = outcome options.allowances options.transfers a
 
   -- the lines after those of the breaks
   abbrev pub last_lines : Trace → List ℕ
-  last_lines a = counts_unless rules.is_quiet rules.allowances head a ++ outcome_line_of head (dump_outcome a)
+  last_lines a = counts_unless options.is_quiet options.allowances head a ++ outcome_line_of head (dump_outcome a)
 
   -- after the lines of the breaks, by the recording as far as it is audited; or why there is no outcome
   abbrev pub answer_by : List ℕ → Result Trace Refusal → DumpAnswer
@@ -52,12 +52,12 @@ module _ (rules : DumpRules) (head : List ℕ) where
 
   -- the answer to what reading a dump gives
   abbrev pub reading_answer : TextReading → DumpAnswer
-  reading_answer reading = answer_by (break_lines rules.allowances rules.stop head reading.recorded)
-      (ended_at rules.allowances rules.stop reading.recorded reading.fault)
+  reading_answer reading = answer_by (break_lines options.allowances options.stop head reading.recorded)
+      (ended_at options.allowances options.stop reading.recorded reading.fault)
 
   -- the answer to a dump by what reading it gives, settled by the skew
   abbrev pub dump_answer : Result TextReading CaptureFault → DumpAnswer
-  dump_answer (Ok reading) = reading_answer (settled_by (skew_of rules.skew) reading)
+  dump_answer (Ok reading) = reading_answer (settled_by (skew_of options.skew) reading)
   dump_answer (Err fault) = record { out = []; ended = Err (capture_refusal fault) }
 
 -- how the audit of a dump ended: it has an outcome, or none; or the dump couldn't be read to its end, a write failed,
@@ -65,19 +65,19 @@ module _ (rules : DumpRules) (head : List ℕ) where
 abbrev pub EndsAs : DumpAnswer → Writing → Writing → Result ℕ NoOutcome → Type 0
 EndsAs answer old new (Ok status) = Writes old new answer.out × (answer.ended ≡ Ok status)
 EndsAs answer old new (Err (Refused refusal)) = Writes old new answer.out × (answer.ended ≡ Err refusal)
-EndsAs answer old new (Err CannotRead) = WritesSome old new answer.out
-EndsAs answer old new (Err (Untold CannotWrite)) = FailsToWrite old new answer.out
-EndsAs answer old new (Err (Untold Memory)) = WritesSome old new answer.out
+EndsAs answer old new (Err CannotRead) = WritesPrefix old new answer.out
+EndsAs answer old new (Err (NotWritten CannotWrite)) = FailsToWrite old new answer.out
+EndsAs answer old new (Err (NotWritten Memory)) = WritesPrefix old new answer.out
 
 -- the body of a dump was audited, of which some bytes were held, and more may have come from its source
-abbrev pub AuditsBehind : DumpRules → List ℕ → StepReading → List ℕ → Bool → Reading → Writing → Writing
+abbrev pub AuditsBehind : AuditOptions → List ℕ → StepReading → List ℕ → Bool → Reading → Writing → Writing
     → Result ℕ NoOutcome → Type 0
-AuditsBehind rules head r held is_more source old new result =
+AuditsBehind options head r held is_more source old new result =
     (whole : List ℕ) × IsWholeBody is_more source held whole
-    × EndsAs (dump_answer rules head (Ok (whole_reading r whole))) old new result
+    × EndsAs (dump_answer options head (Ok (whole_reading r whole))) old new result
 
 -- a dump was audited, whose bytes are those that its source gives
-abbrev pub AuditsDump : DumpRules → List ℕ → BoundLines → Reading → Writing → Writing → Result ℕ NoOutcome → Type 0
-AuditsDump rules head bound source old new result =
-    (text : List ℕ) × AreAll source text
-    × EndsAs (dump_answer rules head (reading_of_text bound text)) old new result
+abbrev pub AuditsDump : AuditOptions → List ℕ → BoundLines → Reading → Writing → Writing → Result ℕ NoOutcome → Type 0
+AuditsDump options head bound source old new result =
+    (text : List ℕ) × AreAllBytesOf source text
+    × EndsAs (dump_answer options head (reading_of_text bound text)) old new result

@@ -24,22 +24,22 @@ module _ (allowances : List Allowance) (stop : Option ℕ) (head : List ℕ) whe
   unfoldable pub break_lines : Trace → List ℕ
   break_lines t = flat_map line_of_break (breaks (read_by allowances stop t))
 
--- some of the first of a text was taken, and no write failed
-abbrev pub WritesSome : Writing → Writing → List ℕ → Type 0
-WritesSome old new text = ((n : ℕ) × Appends old.taken new.taken (take n text)) × (new.failures ≡ old.failures)
+-- a prefix of a text was taken, and no write failed
+abbrev pub WritesPrefix : Writing → Writing → List ℕ → Type 0
+WritesPrefix old new text = ((n : ℕ) × Appends old.taken new.taken (take n text)) × (new.failures ≡ old.failures)
 
 -- a text was told, or a write of it failed, or there was no memory for all of it
 abbrev pub TellsText : {A : Type 0} → Writing → Writing → Result A TellFault → List ℕ → Type 0
 TellsText old new (Ok _) text = Writes old new text
 TellsText old new (Err CannotWrite) text = FailsToWrite old new text
-TellsText old new (Err Memory) text = WritesSome old new text
+TellsText old new (Err Memory) text = WritesPrefix old new text
 
 -- the lines of the breaks are told that more steps make
 abbrev pub GoesOn : {A : Type 0} → List ℕ → List ℕ → Writing → Writing → Result A TellFault → Type 0
 GoesOn before after old new (Ok _) = (text : List ℕ) × (after ≡ before ++ text) × Writes old new text
 GoesOn before after old new (Err CannotWrite) =
     (text : List ℕ) × (after ≡ before ++ text) × FailsToWrite old new text
-GoesOn before after old new (Err Memory) = (text : List ℕ) × (after ≡ before ++ text) × WritesSome old new text
+GoesOn before after old new (Err Memory) = (text : List ℕ) × (after ≡ before ++ text) × WritesPrefix old new text
 
 -- the lines of the breaks that an audit has found
 abbrev pub lines_of : List ℕ → GivenSteps → List ℕ

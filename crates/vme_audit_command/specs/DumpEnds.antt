@@ -7,12 +7,12 @@ use Rattle.vme_answer.specs.Texts.{refusal_status}
 use Rattle.vme_answer.specs.declared.refusal.Input.TheVariants.{Dump}
 use Rattle.vme_answer.specs.declared.refusal.Refusal.{Refusal}
 use Rattle.vme_answer.specs.declared.refusal.Refusal.TheVariants as refusal
-use Rattle.vme_audit_command.specs.Definitions.{AreAll}
-use Rattle.vme_audit_command.specs.DumpAnswers.{DumpRules}
+use Rattle.vme_audit_command.specs.Definitions.{AreAllBytesOf}
+use Rattle.vme_audit_command.specs.DumpAnswers.{AuditOptions}
 use Rattle.vme_audit_command.specs.SeveralDumps.{DumpEnd, MayEnd, NamedReading, TriesEach, answer_to, cannot_write_line}
 use Rattle.vme_audit_command.specs.SeveralDumps.{memory_line, refusal_line_of}
 use Rattle.vme_audit_command.specs.declared.told.NoOutcome.{NoOutcome}
-use Rattle.vme_audit_command.specs.declared.told.NoOutcome.TheVariants.{CannotRead, Refused, Untold}
+use Rattle.vme_audit_command.specs.declared.told.NoOutcome.TheVariants.{CannotRead, NotWritten, Refused}
 use Rattle.vme_audit_command.specs.declared.told.TellFault.TheVariants.{Memory, CannotWrite}
 
 -- want of memory is told, and is the status
@@ -38,16 +38,16 @@ abbrev pub TellsEnd : List ℕ → Result ℕ NoOutcome → Writing → Writing 
 TellsEnd name (Ok ended) old new status = EndsWith ended old new status
 TellsEnd name (Err (Refused why)) old new status = RefusesAs name why old new status
 TellsEnd name (Err CannotRead) old new status = RefusesAs name (refusal.CannotRead Dump) old new status
-TellsEnd name (Err (Untold Memory)) old new status = RefusesAs name refusal.Memory old new status
-TellsEnd name (Err (Untold CannotWrite)) old new status =
+TellsEnd name (Err (NotWritten Memory)) old new status = RefusesAs name refusal.Memory old new status
+TellsEnd name (Err (NotWritten CannotWrite)) old new status =
     TriesToWrite old new cannot_write_line × (status ≡ 5)
 
-module _ (rules : DumpRules) (bound : BoundLines) (named : NamedReading) (out err : Writing × Writing)
+module _ (options : AuditOptions) (bound : BoundLines) (named : NamedReading) (out err : Writing × Writing)
     (status : ℕ) where
   -- a dump is told as it ends
   pub record TellsDump : Type 0 where
     pub end : DumpEnd
-    pub may : MayEnd rules bound named end
+    pub may : MayEnd options bound named end
     pub out_is : Writes out.0 out.1 end.out
     pub err_is : TriesEach err.0 err.1 end.errors
     pub status_is : status ≡ end.status
@@ -56,8 +56,8 @@ module _ (rules : DumpRules) (bound : BoundLines) (named : NamedReading) (out er
   -- a write of its text fails
   pub record CannotTellDump : Type 0 where
     pub bytes : List ℕ
-    pub all : AreAll named.dump bytes
-    pub out_is : FailsToWrite out.0 out.1 (answer_to rules bound named.name bytes).out
+    pub all : AreAllBytesOf named.dump bytes
+    pub out_is : FailsToWrite out.0 out.1 (answer_to options bound named.name bytes).out
     pub err_is : TriesToWrite err.0 err.1 cannot_write_line
     pub status_is : status ≡ 5
 

@@ -14,7 +14,7 @@ use Rattle.vme_audit.specs.declared.outcome.Outcome.{Outcome}
 use Rattle.vme_auditor.specs.declared.findings.BreakCounts.{BreakCounts}
 use Rattle.vme_audit_lines.specs.AuditLines.{break_counts_text, cycle_counts_text, outcome_status, outcome_text}
 use Rattle.vme_audit_lines.specs.AuditLines.{transfer_counts_text, unasked_line}
-use Rattle.vme_audit_command.specs.DumpAudits.{WritesSome}
+use Rattle.vme_audit_command.specs.DumpAudits.{WritesPrefix}
 use Rattle.vme_audit_command.specs.declared.told.TellFault.{TellFault}
 use Rattle.vme_audit_command.specs.declared.told.TellFault.TheVariants.{Memory, CannotWrite}
 
@@ -45,4 +45,4 @@ outcome_line_of head o = head ++ line_of (outcome_text o)
 abbrev pub TellsOutcome : List ℕ → Outcome → Writing → Writing → Result ℕ TellFault → Type 0
 TellsOutcome text o old new (Ok status) = Writes old new text × (status ≡ outcome_status o)
 TellsOutcome text o old new (Err CannotWrite) = FailsToWrite old new text
-TellsOutcome text o old new (Err Memory) = WritesSome old new text
+TellsOutcome text o old new (Err Memory) = WritesPrefix old new text

@@ -13,8 +13,8 @@ use Rattle.vme_answer.specs.declared.refusal.Input.TheVariants.{Dump}
 use Rattle.vme_answer.specs.declared.refusal.Refusal.{Refusal}
 use Rattle.vme_answer.specs.declared.refusal.Refusal.TheVariants.{CannotRead, Memory}
 use Rattle.vme_audit_lines.specs.AuditLines.{head_of, refusal_behind}
-use Rattle.vme_audit_command.specs.Definitions.{AreAll}
-use Rattle.vme_audit_command.specs.DumpAnswers.{DumpAnswer, DumpRules, dump_answer}
+use Rattle.vme_audit_command.specs.Definitions.{AreAllBytesOf}
+use Rattle.vme_audit_command.specs.DumpAnswers.{AuditOptions, DumpAnswer, dump_answer}
 
 -- ---- the status
 
@@ -97,15 +97,15 @@ pub record EndsWithoutMemory (name : List ℕ) (answer : DumpAnswer) (end : Dump
 abbrev pub IsEndOf : List ℕ → DumpAnswer → DumpEnd → Type 0
 IsEndOf name answer end = IsTold name answer end ⊎ (IsUnread name answer end ⊎ EndsWithoutMemory name answer end)
 
-module _ (rules : DumpRules) (bound : BoundLines) where
+module _ (options : AuditOptions) (bound : BoundLines) where
   -- what there is to tell of the bytes of a dump
   abbrev pub answer_to : List ℕ → List ℕ → DumpAnswer
-  answer_to name bytes = dump_answer rules (head_of name) (reading_of_text bound bytes)
+  answer_to name bytes = dump_answer options (head_of name) (reading_of_text bound bytes)
 
   -- how a dump may end whose bytes its source tells
   abbrev pub MayEnd : NamedReading → DumpEnd → Type 0
   MayEnd named end =
-      (bytes : List ℕ) × AreAll named.dump bytes × IsEndOf named.name (answer_to named.name bytes) end
+      (bytes : List ℕ) × AreAllBytesOf named.dump bytes × IsEndOf named.name (answer_to named.name bytes) end
 
   -- ---- all of them
 
@@ -127,7 +127,7 @@ module _ (rules : DumpRules) (bound : BoundLines) where
     pub ends : List DumpEnd
     pub each : AllZip MayEnd before ends
     pub bytes : List ℕ
-    pub all : AreAll named.dump bytes
+    pub all : AreAllBytesOf named.dump bytes
     pub out_is : FailsToWrite out.0 out.1 (flat_map (λ (e : DumpEnd). e.out) ends ++ (answer_to named.name bytes).out)
     pub err_is : TriesEach err.0 err.1 (flat_map (λ (e : DumpEnd). e.errors) ends ++ cannot_write_line ∷ [])
     pub status_is : status ≡ 5
@@ -136,10 +136,10 @@ module _ (rules : DumpRules) (bound : BoundLines) where
   AuditsDumps dumps out err status = TellsDumps dumps out err status ⊎ CannotTell dumps out err status
 
 -- the bytes of the binding were read, and are a binding, and the dumps were audited by it
-pub record AuditsByBinding (rules : DumpRules) (binding : Reading × Reading) (dumps : List NamedReading)
+pub record AuditsByBinding (options : AuditOptions) (binding : Reading × Reading) (dumps : List NamedReading)
     (out err : Writing × Writing) (status : ℕ) : Type 0 where
   pub bytes : Option (List ℕ)
   pub bound : BoundLines
   pub read : IsReading binding.0 binding.1 bytes
   pub is : binding_read bytes ≡ Ok bound
-  pub audits : AuditsDumps rules bound dumps out err status
+  pub audits : AuditsDumps options bound dumps out err status

@@ -96,7 +96,7 @@ fn audit_faulty<O: Sink>(
     let StoppedSteps { steps, fault, time } = stopped;
     match audit_settled(alloc, auditor, settler, steps, time, head, case, out) {
         Ok(()) => at_fault(auditor, fault),
-        Err(fault) => Err(NoOutcome::Untold(fault)),
+        Err(fault) => Err(NoOutcome::NotWritten(fault)),
     }
 }
 
@@ -121,7 +121,7 @@ fn audit_stopped<O: Sink>(
     given_is_a_prefix();
     times_go_on();
     match stopped.fault.kind {
-        FaultKind::Memory => Err(NoOutcome::Untold(TellFault::Memory)),
+        FaultKind::Memory => Err(NoOutcome::NotWritten(TellFault::Memory)),
         _ => audit_faulty(alloc, auditor, settler, stopped, head, case, out),
     }
 }
@@ -171,7 +171,7 @@ fn audit_piece<O: Sink>(
             let time = reader.time();
             match audit_settled(alloc, auditor, settler, steps, time, head, case, out) {
                 Ok(()) => Ok(going_on(auditor, reader, count)),
-                Err(fault) => Err(NoOutcome::Untold(fault)),
+                Err(fault) => Err(NoOutcome::NotWritten(fault)),
             }
         }
         Err(stopped) => {
@@ -207,7 +207,7 @@ pub(crate) fn audit_last<O: Sink>(
     match reader.finish(alloc, bytes) {
         Ok(steps) => match audit_ended(alloc, auditor, settler, steps, head, case, out) {
             Ok(()) => Ok(()),
-            Err(fault) => Err(NoOutcome::Untold(fault)),
+            Err(fault) => Err(NoOutcome::NotWritten(fault)),
         },
         Err(stopped) => audit_stopped(alloc, auditor, settler, stopped, head, case, out),
     }

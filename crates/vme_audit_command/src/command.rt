@@ -174,10 +174,10 @@ fn tell_end<E: Sink>(
             let refusal = Refusal::CannotRead(Input::Dump);
             refuse(alloc, name, case, refusal, suite, err)
         }
-        Err(NoOutcome::Untold(TellFault::Memory)) => {
+        Err(NoOutcome::NotWritten(TellFault::Memory)) => {
             refuse(alloc, name, case, Refusal::Memory, suite, err)
         }
-        Err(NoOutcome::Untold(TellFault::CannotWrite)) => {
+        Err(NoOutcome::NotWritten(TellFault::CannotWrite)) => {
             complain(err, cannot_write_line());
             5
         }

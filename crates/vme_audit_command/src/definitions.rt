@@ -21,7 +21,7 @@ fn no_outcome(fault: CaptureFault) -> NoOutcome
     ensures { (reading : Result TextReading CaptureFault) → CaptureFailsBy fault reading → NotBegun reading result }
 {
     match Refusal::of_capture(fault) {
-        Refusal::Memory => NoOutcome::Untold(TellFault::Memory),
+        Refusal::Memory => NoOutcome::NotWritten(TellFault::Memory),
         refusal => NoOutcome::Refused(refusal),
     }
 }
@@ -32,7 +32,7 @@ pub(crate) fn not_read(fault: ReadFault) -> NoOutcome
 {
     match fault {
         ReadFault::Failed => NoOutcome::CannotRead,
-        ReadFault::Memory => NoOutcome::Untold(TellFault::Memory),
+        ReadFault::Memory => NoOutcome::NotWritten(TellFault::Memory),
     }
 }
 

@@ -219,7 +219,7 @@ fn audit_behind<D: Source, O: Sink>(
     ) {
         Ok(()) => match tell_outcome(alloc, &auditor, options, head, case, out) {
             Ok(status) => Ok(status),
-            Err(fault) => Err(NoOutcome::Untold(fault)),
+            Err(fault) => Err(NoOutcome::NotWritten(fault)),
         },
         Err(why) => Err(why),
     }
@@ -245,7 +245,7 @@ pub(crate) fn audit_dump<D: Source, O: Sink>(
         (head_of name.now) bound.now (D.reading dump.old) (O.writing out.old) (O.writing out.new) result }
 {
     let (Ok(head), Ok(mut input)) = (dump_head(alloc, name), DumpInput::new(alloc)) else {
-        return Err(NoOutcome::Untold(TellFault::Memory));
+        return Err(NoOutcome::NotWritten(TellFault::Memory));
     };
     match read_definitions(alloc, bound, dump, &mut input) {
         Ok((reader, is_more)) => audit_behind(

@@ -38,7 +38,7 @@ impl From<AllocError> for TellFault {
 pub(crate) enum NoOutcome {
     Refused(Refusal),
     CannotRead,
-    Untold(TellFault),
+    NotWritten(TellFault),
 }
 
 /// Tells some bytes.

@@ -10,7 +10,7 @@ use Rattle.vme_answer.specs.declared.refusal.Input.TheVariants.{Binding}
 use Rattle.vme_answer.specs.declared.refusal.Refusal.TheVariants.{CannotOpen, Memory}
 use Rattle.vme_audit.specs.declared.allowance.Allowance.{Allowance}
 use Rattle.vme_audit_command.specs.Audits.{RefusesBinding}
-use Rattle.vme_audit_command.specs.DumpAnswers.{DumpRules}
+use Rattle.vme_audit_command.specs.DumpAnswers.{AuditOptions}
 use Rattle.vme_audit_command.specs.SeveralDumps.{AuditsByBinding, NamedReading}
 use Rattle.vme_audit_lines.specs.AuditLines.{head_of}
 use Rattle.vme_commands.specs.AllowanceTexts.{allowance_text}
@@ -38,8 +38,8 @@ abbrev pub AreAllowed : AuditOrder → List Allowance → Type 0
 AreAllowed order allowances = map allowance_text allowances ≡ map string_bytes order.allowed.items
 
 -- how the dumps of an order are audited
-abbrev pub rules_of : AuditOrder → List Allowance → DumpRules
-rules_of order allowances = record {
+abbrev pub audit_options_of : AuditOrder → List Allowance → AuditOptions
+audit_options_of order allowances = record {
   allowances = allowances;
   transfers = order.transfers;
   stop = order.stop;
@@ -134,7 +134,7 @@ module _ {S R : Type 0} (outside : Environment S R) (s : S) where
     abbrev pub AuditsBy : Reading × Reading → List NamedReading → Writing × Writing → Writing × Writing → ℕ → Type 0
     AuditsBy binding dumps out err status =
         RefusesBinding binding out err status
-        ⊎ AuditsByBinding (rules_of order allowances) binding dumps out err status
+        ⊎ AuditsByBinding (audit_options_of order allowances) binding dumps out err status
 
     -- the same, and behind an audit test cases are written
     abbrev pub AuditsThenSaves : List ℕ → Reading × Reading → List NamedReading
@@ -142,7 +142,7 @@ module _ {S R : Type 0} (outside : Environment S R) (s : S) where
     AuditsThenSaves path binding dumps out err status =
         RefusesBinding binding out err status
         ⊎ ((said : Writing) × (first : ℕ)
-        × AuditsByBinding (rules_of order allowances) binding dumps out (err.0, said) first
+        × AuditsByBinding (audit_options_of order allowances) binding dumps out (err.0, said) first
         × SavesCases path first (said, err.1) status)
 
     -- unless they would be written over an input, or it can't be told which file the binding is: then nothing is read

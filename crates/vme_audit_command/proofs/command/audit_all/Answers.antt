@@ -1,6 +1,6 @@
 use Rattle.std.proofs.Common.{rules}
 use Rattle.vme_bind.proofs.PathSearchLemmas.{stepped_rest}
-use Rattle.vme_audit_command.proofs.AnswerLemmas.{rules_by}
+use Rattle.vme_audit_command.proofs.AnswerLemmas.{options_by}
 use Rattle.vme_audit_command.proofs.SeveralLemmas.{cannot-on, tells-all, tells-on}
 use Rattle.vme_audit_command.proofs.command.audit_all.Goals as goal
 
@@ -9,7 +9,7 @@ loop-named-preserved g c = record {
   rest = stepped_rest c.loop-named.dumps c.args.dumps.now c.loop-named.named-index c.audit_named-ended.new.named
       c.loop-named.invariant.rest;
   told = rw c.worse-status.ensures
-      (tells-on (rules_by c.args.options.allowances.now c.args.options.stop c.args.options.skew
+      (tells-on (options_by c.args.options.allowances.now c.args.options.stop c.args.options.skew
       c.args.options.transfers c.args.options.is_quiet) c.args.bound.now
       (λ d. record { name = d.name.now; dump = g.D.Source.reading d.dump }) c.loop-named.dumps
       c.args.dumps.now c.loop-named.named-index c.named-item.result (search rules) (search rules) c.named-item.is
@@ -24,7 +24,7 @@ loop-named-preserved g c = record {
 
 pub returns-then-ended-eq5 : goal.returns-then-ended-eq5
 returns-then-ended-eq5 g c =
-    cannot-on (rules_by c.args.options.allowances.now c.args.options.stop c.args.options.skew
+    cannot-on (options_by c.args.options.allowances.now c.args.options.stop c.args.options.skew
     c.args.options.transfers c.args.options.is_quiet) c.args.bound.now
     (λ d. record { name = d.name.now; dump = g.D.Source.reading d.dump }) c.loop-named.dumps
     c.args.dumps.now c.loop-named.named-index c.named-item.result (search rules) (search rules) c.named-item.is
@@ -38,7 +38,7 @@ returns-then-ended-eq5 g c =
 
 pub returns : goal.returns
 returns g c =
-    tells-all (rules_by c.args.options.allowances.now c.args.options.stop c.args.options.skew
+    tells-all (options_by c.args.options.allowances.now c.args.options.stop c.args.options.skew
     c.args.options.transfers c.args.options.is_quiet) c.args.bound.now
     (λ d. record { name = d.name.now; dump = g.D.Source.reading d.dump })
     c.args.dumps.now

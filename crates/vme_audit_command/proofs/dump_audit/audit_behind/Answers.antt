@@ -2,7 +2,7 @@ use Rattle.std.proofs.Common.{[], sym}
 use Rattle.vme_step_reader.specs.StepReading.{whole_reading}
 use Rattle.vme_dump_steps.specs.SettledReadings.{skew_of}
 use Rattle.vme_dump_steps.proofs.FirstSteps.{comes-first}
-use Rattle.vme_audit_command.proofs.AnswerLemmas.{behind-untold, behind-with, behind-without, given-first}
+use Rattle.vme_audit_command.proofs.AnswerLemmas.{behind-unwritten, behind-with, behind-without, given-first}
 use Rattle.vme_audit_command.proofs.AnswerLemmas.{no-lines}
 use Rattle.vme_audit_command.proofs.dump_audit.audit_behind.Goals as goal
 
@@ -39,7 +39,7 @@ returns-in-Ok g c = λ begun.
     (c.first_audit-auditor.ensures.given begun.nothing) c.first_audit-auditor.ensures.few
     c.first_audit-auditor.ensures.whole begun in
     let kept = c.in-Ok.ensures.kept skew h in
-    behind-untold c.args.options.allowances.now c.args.options.stop c.args.options.skew c.args.options.transfers
+    behind-unwritten c.args.options.allowances.now c.args.options.stop c.args.options.skew c.args.options.transfers
     c.args.options.is_quiet
     head first
     later c.first_audit-auditor.ensures.allowances c.first_audit-auditor.ensures.stop

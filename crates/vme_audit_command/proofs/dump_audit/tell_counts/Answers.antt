@@ -1,7 +1,7 @@
 use Rattle.std.proofs.Common.{subst, ◌∙◌}
 use Rattle.vme_step_auditor.specs.ReadBy.{read_of}
 use Rattle.vme_audit_command.specs.DumpAudits.{TellsText}
-use Rattle.vme_audit_command.proofs.LastLemmas.{counts-are, some-of}
+use Rattle.vme_audit_command.proofs.LastLemmas.{counts-are, prefix-of}
 use Rattle.vme_audit_command.proofs.WriteLemmas.{writes-nothing}
 use Rattle.vme_audit_command.proofs.dump_audit.tell_counts.Goals as goal
 
@@ -20,4 +20,4 @@ returns-in-Ok g c = λ formed.
     (c.as_bytes.ensures ∙ c.in-Ok.ensures ∙ is) c.tell.ensures)
 
 pub returns-in-Err : goal.returns-in-Err
-returns-in-Err g c = λ formed. some-of (g.O.Sink.writing c.args.out.now) _
+returns-in-Err g c = λ formed. prefix-of (g.O.Sink.writing c.args.out.now) _

@@ -1,6 +1,6 @@
 use Rattle.std.proofs.Common.{Err, subst}
 use Rattle.vme_audit_command.specs.LastLines.{TellsOutcome, outcome_line_of}
-use Rattle.vme_audit_command.proofs.LastLemmas.{outcome-told, outcome-untold}
+use Rattle.vme_audit_command.proofs.LastLemmas.{outcome-told, outcome-unwritten}
 use Rattle.vme_audit_command.proofs.dump_audit.tell_end.Goals as goal
 
 pub returns-in-Ok : goal.returns-in-Ok
@@ -20,4 +20,4 @@ returns-in-Err g c = λ formed.
     let head = c.args.head.now in
     let o = c.outcome-outcome.result in
     subst (λ p. TellsOutcome (outcome_line_of head p) p old new (Err c.in-Err.fault)) (c.outcome-outcome.ensures formed)
-    (outcome-untold (Unit {0}) o old new (outcome_line_of head o) c.in-Err.fault c.in-Err.ensures)
+    (outcome-unwritten (Unit {0}) o old new (outcome_line_of head o) c.in-Err.fault c.in-Err.ensures)

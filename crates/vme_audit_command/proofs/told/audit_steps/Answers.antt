@@ -1,5 +1,5 @@
 use Rattle.std.proofs.Common.{◌≤◌, subst, sym}
-use Rattle.vme_audit_command.proofs.BodyLemmas.{lines-next, next-formed, one-more, rest-untold}
+use Rattle.vme_audit_command.proofs.BodyLemmas.{lines-next, next-formed, one-more, rest-unwritten}
 use Rattle.vme_audit_command.proofs.told.audit_steps.Goals as goal
 
 pub loop-step-preserved : goal.loop-step-preserved
@@ -35,7 +35,7 @@ returns-in-Err-clause-told g c =
     let here = next-formed first audit c.audit_step.new.auditor steps i step so_far c.loop-step-test.true c.step-item.is
     formed in
     let small : audit.recording.opening.slots ≤ 21 = subst (λ a. a.recording.opening.slots ≤ 21) (sym so_far) few in
-    rest-untold (Unit {0}) (Unit {0}) c.reading_goes_on.ensures.breaks c.args.head.now first audit steps i step
+    rest-unwritten (Unit {0}) (Unit {0}) c.reading_goes_on.ensures.breaks c.args.head.now first audit steps i step
     (g.O.Sink.writing c.args.out.now) (g.O.Sink.writing c.loop-step.out) (g.O.Sink.writing c.audit_step.new.out)
     c.in-Err.fault so_far c.loop-step-test.true c.step-item.is formed few (c.loop-step.invariant.told formed few)
     (c.in-Err.ensures.told here small)
