@@ -5,7 +5,7 @@ ghost use Rattle.vcd_read.specs.Meaning.{dump_of};
 ghost use Rattle.vme_bind.specs.Capture.{limited};
 ghost use Rattle.vme_trace.specs.WellFormed.{malformed_step};
 ghost use Rattle.vme_answer.specs.Answers.{or_bad_binding, or_bad_dump};
-ghost use Rattle.vme_commands.specs.Listings.{listing_status, outcome_status, row_status};
+ghost use Rattle.vme_commands.specs.Listings.{listing_status, row_status, verdict_row_status};
 ghost use Rattle.vme_annotate.specs.TimedListings.{GivesTimed, listed_in, settled_in_blocks};
 
 use crate::step_times::StepTimes;
@@ -76,13 +76,13 @@ fn row_status(row: &Row) -> u8
     ensures { result ≡ row_status row.now }
 {
     match row {
-        Row::Verdict(outcome) => outcome_status(*outcome),
+        Row::Verdict(outcome) => verdict_row_status(*outcome),
         _ => 2,
     }
 }
 
-fn outcome_status(outcome: ListedVerdict) -> u8
-    ensures { result ≡ outcome_status outcome }
+fn verdict_row_status(outcome: ListedVerdict) -> u8
+    ensures { result ≡ verdict_row_status outcome }
 {
     match outcome {
         ListedVerdict::Conforming => 0,

@@ -32,7 +32,8 @@ use Rattle.vme_trace.specs.Streams.{Reading, Writing}
 use Rattle.vme_stream.proofs.OutputLemmas.{front_is}
 use Rattle.vme_commands.specs.Judged.{in_blocks, limited_in_blocks}
 use Rattle.vme_commands.specs.Listings.{GivesListing, WritesListing, listing_answer_by, listing_answer_of}
-use Rattle.vme_commands.specs.Listings.{listing_status, outcome_status, recording_of, row_status, rows_status}
+use Rattle.vme_commands.specs.Listings.{listing_status, recording_in_blocks, row_status, rows_status}
+use Rattle.vme_commands.specs.Listings.{verdict_row_status}
 use Rattle.vme_commands.specs.Settled.{settled_recording}
 
 -- ---- the status
@@ -54,13 +55,13 @@ last_of [] = refl
 last_of (row ∷ rows) = last_or-get None row rows ∙ ap (slice_get (row ∷ rows)) (less_one (length rows))
 
 status_by : (b : Break) (unreadable : Bool)
-    → outcome_status (if unreadable then outcome.Unreadable b.rule b.instant b.line else outcome.Broken b.rule b.instant
-    b.line)
+    → verdict_row_status (if unreadable then outcome.Unreadable b.rule b.instant b.line
+    else outcome.Broken b.rule b.instant b.line)
     ≡ verdict_status (if unreadable then verdict.Unreadable b else verdict.Broken b)
 status_by b true = refl
 status_by b false = refl
 
-status_on : (found : Option Break) → outcome_status (outcome_of found) ≡ verdict_status (verdict_on found)
+status_on : (found : Option Break) → verdict_row_status (outcome_of found) ≡ verdict_status (verdict_on found)
 status_on None = refl
 status_on (Some b) = status_by b (is_unreadable b.rule)
 
@@ -83,18 +84,18 @@ listing_status-is t = status_over t (judged_spans t)
 
 -- ---- what is given
 
-pub recording_of-refused : (binding dump : Option (List ℕ)) (block : ℕ) (r : Refusal) → AnswerGives (λ (t : Trace). t)
-    (Err r) (capture_read binding dump)
-    → GivesListing (Err r) (recording_of binding dump block)
-unfolding recording_of
-recording_of-refused binding dump block Memory is = tt
-recording_of-refused binding dump block r is = ap (λ (w : Result Trace Refusal). w >>= in_blocks block) is
+pub recording_in_blocks-refused : (binding dump : Option (List ℕ)) (block : ℕ) (r : Refusal)
+    → AnswerGives (λ (t : Trace). t) (Err r) (capture_read binding dump)
+    → GivesListing (Err r) (recording_in_blocks binding dump block)
+unfolding recording_in_blocks
+recording_in_blocks-refused binding dump block Memory is = tt
+recording_in_blocks-refused binding dump block r is = ap (λ (w : Result Trace Refusal). w >>= in_blocks block) is
 
-pub recording_of-recorded : (binding dump : Option (List ℕ)) (block : ℕ) (t : Trace) → recording_read binding dump
-    ≡ Ok t
-    → recording_of binding dump block ≡ limited_in_blocks block t
-unfolding recording_of
-recording_of-recorded binding dump block t is = ap (λ (w : Result Trace Refusal). w >>= in_blocks block)
+pub recording_in_blocks-recorded : (binding dump : Option (List ℕ)) (block : ℕ) (t : Trace)
+    → recording_read binding dump ≡ Ok t
+    → recording_in_blocks binding dump block ≡ limited_in_blocks block t
+unfolding recording_in_blocks
+recording_in_blocks-recorded binding dump block t is = ap (λ (w : Result Trace Refusal). w >>= in_blocks block)
     (capture_read-recorded binding dump t is)
 
 pub refused_listing : (r : Refusal) (recording : Result Trace Refusal) → AnswerGives (λ (t : Trace). t) (Err r)

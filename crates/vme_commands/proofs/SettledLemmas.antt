@@ -31,7 +31,7 @@ use Rattle.vme_answer.specs.declared.refusal.Refusal.TheVariants.{Memory, TooLon
 use Rattle.vme_answer.proofs.AnswerLemmas.{capture_read-recorded, passes_through}
 use Rattle.vme_summary.specs.declared.stream_judge.NoVerdict.TheVariants as NoVerdict
 use Rattle.vme_commands.specs.Judged.{in_blocks}
-use Rattle.vme_commands.specs.Listings.{recording_of as listed_recording}
+use Rattle.vme_commands.specs.Listings.{recording_in_blocks}
 use Rattle.vme_commands.specs.Settled.{settled_judgement, settled_read, settled_recording}
 
 -- ---- by 0 all stays
@@ -94,8 +94,9 @@ pub judgement-stays : (b d : Option (List ℕ)) (block : ℕ) → settled_judgem
 unfolding settled_judgement judgement_of
 judgement-stays b d block = ap (λ (r : Result Trace Refusal). r >>= verdict_in_blocks block) (read-stays b d)
 
-pub recording-stays : (b d : Option (List ℕ)) (block : ℕ) → settled_recording 0 b d block ≡ listed_recording b d block
-unfolding settled_recording listed_recording
+pub recording-stays : (b d : Option (List ℕ)) (block : ℕ)
+    → settled_recording 0 b d block ≡ recording_in_blocks b d block
+unfolding settled_recording recording_in_blocks
 recording-stays b d block = ap (λ (r : Result Trace Refusal). r >>= in_blocks block) (read-stays b d)
 
 -- ---- the same, of a skew that is 0
@@ -106,7 +107,7 @@ judgement-unsettled skew none b d block =
     ap (λ (s : ℕ). settled_judgement s b d block) none ∙ judgement-stays b d block
 
 pub recording-unsettled : (skew : ℕ) → skew ≡ 0 → (b d : Option (List ℕ)) (block : ℕ)
-    → settled_recording skew b d block ≡ listed_recording b d block
+    → settled_recording skew b d block ≡ recording_in_blocks b d block
 recording-unsettled skew none b d block =
     ap (λ (s : ℕ). settled_recording s b d block) none ∙ recording-stays b d block
 

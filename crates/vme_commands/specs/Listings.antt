@@ -27,8 +27,8 @@ use Rattle.vme_listing.specs.declared.row.Row.TheVariants.{Verdict}
 
 -- the recording that a binding makes of a dump, if it is cut into at most 4,096 blocks of so many steps, or the first
 -- reason that there is none
-unfoldable pub recording_of : Option (List ℕ) → Option (List ℕ) → ℕ → Result Trace Refusal
-recording_of binding dump block = do
+unfoldable pub recording_in_blocks : Option (List ℕ) → Option (List ℕ) → ℕ → Result Trace Refusal
+recording_in_blocks binding dump block = do
   t ← capture_read binding dump
   in_blocks block t
 
@@ -41,11 +41,11 @@ GivesListing (Err refusal) recording = recording ≡ Err refusal
 
 -- ---- the exit status that a listing has by its last row
 
-abbrev pub outcome_status : ListedVerdict → ℕ
-outcome_status Conforming = 0
-outcome_status NeverIdle = 2
-outcome_status (Broken rule instant line) = 1
-outcome_status (Unreadable rule instant line) = 2
+abbrev pub verdict_row_status : ListedVerdict → ℕ
+verdict_row_status Conforming = 0
+verdict_row_status NeverIdle = 2
+verdict_row_status (Broken rule instant line) = 1
+verdict_row_status (Unreadable rule instant line) = 2
 
 -- a listing whose last row is no verdict has the status of a bus that is never idle
 abbrev pub row_status : Row → ℕ
@@ -58,7 +58,7 @@ row_status (FreeCycle start modifier end) = 2
 row_status (InterruptCycle start level end) = 2
 row_status (Transfer direction line start cycle answer close lanes) = 2
 row_status (PendingTransfer start direction) = 2
-row_status (Verdict outcome) = outcome_status outcome
+row_status (Verdict outcome) = verdict_row_status outcome
 
 abbrev pub rows_status : List Row → ℕ
 rows_status rows = option_map_or row_status (last_or None rows) 2

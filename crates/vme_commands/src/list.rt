@@ -8,8 +8,8 @@ ghost use Rattle.vme_answer.specs.Ends.{Ends, Tells};
 ghost use Rattle.vme_stream.specs.Inputs.{IsReading, TellsWhole, longest_input};
 ghost use Rattle.vme_commands.specs.Judged.{limited_in_blocks};
 ghost use Rattle.vme_commands.specs.Listings.{GivesListing, WritesListing, listing_answer_by, listing_answer_of};
-ghost use Rattle.vme_commands.specs.Listings.{recording_of};
-ghost use Rattle.vme_commands.specs.Listings.{listing_status, outcome_status, row_status, WritesSplit};
+ghost use Rattle.vme_commands.specs.Listings.{recording_in_blocks};
+ghost use Rattle.vme_commands.specs.Listings.{listing_status, verdict_row_status, row_status, WritesSplit};
 ghost use Rattle.vme_commands.specs.Settled.{settled_recording};
 
 use crate::judged_dump::judged_dump;
@@ -135,7 +135,7 @@ fn row_code(row: &Row) -> u8
 }
 
 fn outcome_code(outcome: ListedVerdict) -> u8
-    ensures { result ≡ outcome_status outcome }
+    ensures { result ≡ verdict_row_status outcome }
 {
     match outcome {
         ListedVerdict::Conforming => 0,
@@ -203,7 +203,7 @@ fn listing<R: Threads + Sync, B: Source, D: Source>(
     ensures { (binding_bytes dump_bytes : Option (List ℕ))
         × IsReading (B.reading binding.old) (B.reading binding.new) binding_bytes
         × IsReading (D.reading dump.old) (D.reading dump.new) dump_bytes
-        × GivesListing result (recording_of binding_bytes dump_bytes block) }
+        × GivesListing result (recording_in_blocks binding_bytes dump_bytes block) }
 {
     match judged_dump(alloc, workers, binding, dump) {
         Ok(lister) => listing_of_steps(alloc, lister, block),

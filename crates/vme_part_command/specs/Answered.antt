@@ -91,11 +91,11 @@ told_answer (told.Verdict v) =
     record { out = line_of (verdict_text (verdict_of v)); error = []; status = verdict_status (verdict_of v) }
 
 -- the exit status of a listing: that of its last row, the verdict
-abbrev pub outcome_status : ListedVerdict → ℕ
-outcome_status Conforming = 0
-outcome_status NeverIdle = 2
-outcome_status (Broken rule instant line) = 1
-outcome_status (Unreadable rule instant line) = 2
+abbrev pub verdict_row_status : ListedVerdict → ℕ
+verdict_row_status Conforming = 0
+verdict_row_status NeverIdle = 2
+verdict_row_status (Broken rule instant line) = 1
+verdict_row_status (Unreadable rule instant line) = 2
 
 abbrev pub row_status : Row → ℕ
 row_status (Start instant) = 2
@@ -107,7 +107,7 @@ row_status (FreeCycle start modifier end) = 2
 row_status (InterruptCycle start level end) = 2
 row_status (Transfer direction line start cycle answer close lanes) = 2
 row_status (PendingTransfer start direction) = 2
-row_status (Verdict outcome) = outcome_status outcome
+row_status (Verdict outcome) = verdict_row_status outcome
 
 abbrev pub rows_status : List Row → ℕ
 rows_status rows = option_map_or row_status (last_or None rows) 2

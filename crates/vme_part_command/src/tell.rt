@@ -6,7 +6,7 @@ ghost use Rattle.vme_part_format.specs.Bounds.{FitsPart};
 ghost use Rattle.vme_part_format.specs.Tables.{part_value};
 ghost use Rattle.vme_part_command.specs.Answered.{ListsPart};
 ghost use Rattle.vme_part_command.specs.Answered.{ListsRecording, TellsRecording};
-ghost use Rattle.vme_part_command.specs.Answered.{listed_answer, listed_status, outcome_status};
+ghost use Rattle.vme_part_command.specs.Answered.{listed_answer, listed_status, verdict_row_status};
 ghost use Rattle.vme_part_command.specs.Answered.{row_status, told_answer};
 ghost use Rattle.vme_part_listing.specs.declared.answers.ListingAnswer.TheVariants as listed;
 ghost use Rattle.vme_parts.specs.declared.answers.RecordingAnswer.TheVariants as told;
@@ -91,7 +91,7 @@ fn status_of_row(row: &Row) -> u8
 }
 
 fn status_of_outcome(outcome: ListedVerdict) -> u8
-    ensures { result ≡ outcome_status outcome }
+    ensures { result ≡ verdict_row_status outcome }
 {
     match outcome {
         ListedVerdict::Conforming => 0,

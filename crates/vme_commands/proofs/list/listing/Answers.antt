@@ -1,5 +1,5 @@
 use Rattle.vme_answer.proofs.AnswerLemmas.{capture_read-unrecorded}
-use Rattle.vme_commands.proofs.ListLemmas.{recording_of-refused, recording_of-recorded}
+use Rattle.vme_commands.proofs.ListLemmas.{recording_in_blocks-refused, recording_in_blocks-recorded}
 use Rattle.vme_commands.proofs.list.listing.Goals as goal
 
 pub returns-in-Ok : goal.returns-in-Ok
@@ -9,7 +9,7 @@ returns-in-Ok g c =
       bytes,
       bound_reading,
       reading,
-      rw (recording_of-recorded bound bytes c.args.block _ recorded)
+      rw (recording_in_blocks-recorded bound bytes c.args.block _ recorded)
           (c.listing_of_steps.ensures c.in-Ok.ensures.formed),
     )
 
@@ -20,6 +20,6 @@ returns-in-Err g c =
       bytes,
       bound_reading,
       reading,
-      recording_of-refused bound bytes c.args.block c.in-Err.refusal
+      recording_in_blocks-refused bound bytes c.args.block c.in-Err.refusal
           (capture_read-unrecorded bound bytes c.in-Err.refusal refused),
     )
