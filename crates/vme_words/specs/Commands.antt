@@ -1,4 +1,4 @@
--- The command line of the program, as a parse reads it.
+-- The command line of the program: its subcommands and their options, as the parser is told them.
 use Rattle.std.specs.Prelude.{◌≡◌, ℕ, pos, true, false, List, ◌∷◌, [], Some, codes, Result, IfOk}
 use Rattle.clap.specs.Lexer.{usize_max}
 use Rattle.clap.specs.Words.{App, Rule, Text, app_of, new_app, new_rule, with_rule, with_subcommand}
@@ -8,7 +8,7 @@ use Rattle.clap.specs.declared.builder.command.Command.TheViews.{out-Command}
 use Rattle.clap.specs.declared.builder.value_parser.ValueParser.TheVariants.{Signed, Unsigned}
 use Rattle.vme_words.specs.declared.limits.TheConstants.{MOST_SLOTS, MOST_STEPS, MOST_WORKERS}
 
--- `--NAME N`, N any number of 32 bits from the least to the greatest, with what it has by default
+-- `--NAME N`, N a number from the least to the greatest, with what it has by default
 abbrev pub number_rule : Text → ℕ → ℕ → List Text → Rule
 number_rule name least greatest defaults = record (new_rule name) {
   long = Some name;
@@ -24,7 +24,7 @@ block_rule = number_rule (codes "block") 1 MOST_STEPS (codes "16384" ∷ [])
 abbrev pub workers_rule : Rule
 workers_rule = number_rule (codes "workers") 1 MOST_WORKERS (codes "4" ∷ [])
 
--- `--slots N`, which need not be there
+-- `--slots N`, optional
 abbrev pub slots_rule : Rule
 slots_rule = number_rule (codes "slots") 1 MOST_SLOTS []
 
@@ -66,11 +66,11 @@ skew_rule = unsigned_rule (codes "skew") 0 (codes "0" ∷ [])
 abbrev pub transfers_rule : Rule
 transfers_rule = unsigned_rule (codes "transfers") 0 (codes "1" ∷ [])
 
--- `--stop N`, N a number of 64 bits from 1 on, which need not be there
+-- `--stop N`, N a number of 64 bits from 1 on, optional
 abbrev pub stop_rule : Rule
 stop_rule = unsigned_rule (codes "stop") 1 []
 
--- `--NAME`, which need not be there
+-- `--NAME`, optional
 abbrev pub flag_rule : Text → Rule
 flag_rule name = record (new_rule name) { long = Some name; action = Some SetTrue }
 
@@ -97,7 +97,7 @@ confirm_app =
     with_rule (with_rule (with_rule (with_rule (new_app (codes "confirm")) skew_rule) (file_rule (codes "BINDING")))
     (file_rule (codes "DUMP"))) (file_rule (codes "LISTING"))
 
--- `--NAME WORD`, which need not be there
+-- `--NAME WORD`, optional
 abbrev pub word_rule : Text → Rule
 word_rule name = record (new_rule name) { long = Some name }
 
@@ -159,7 +159,7 @@ annotate_app =
     with_rule (with_rule (with_rule (new_app (codes "annotate")) skew_rule) (file_rule (codes "BINDING")))
     (file_rule (codes "DUMP"))
 
--- `--files N`, N a number of 64 bits from 1 on, which need not be there
+-- `--files N`, N a number of 64 bits from 1 on, optional
 abbrev pub file_count_rule : Rule
 file_count_rule = unsigned_rule (codes "files") 1 []
 
@@ -179,22 +179,22 @@ tell_app =
     with_rule (with_rule (with_rule (new_app (codes "tell")) (flag_rule (codes "list"))) file_count_rule)
     (files_rule (codes "PART"))
 
--- the program, with the subcommands that judge recordings by a binding and nothing more
-abbrev pub recordings_app : App
-recordings_app =
+-- the program, with its subcommands up to `audit`
+abbrev pub app_through_audit : App
+app_through_audit =
     let check = recording_app (codes "check") in
     let two = with_subcommand (with_subcommand (new_app (codes "vmecheck")) check.top) list_app.top in
     with_subcommand (with_subcommand two confirm_app.top) audit_app.top
 
--- the program, with these, and with those that tell of rules, of faults and of variables
-abbrev pub telling_app : App
-telling_app =
-    with_subcommand (with_subcommand (with_subcommand recordings_app rules_app.top) faults_app.top) variables_app.top
+-- the program, with its subcommands up to `variables`
+abbrev pub app_through_variables : App
+app_through_variables =
+    with_subcommand (with_subcommand (with_subcommand app_through_audit rules_app.top) faults_app.top) variables_app.top
 
 -- the program, with a subcommand for each task, one of which has to be there, and a version
 abbrev pub vmecheck_app : App
 vmecheck_app =
-    let a = with_subcommand (with_subcommand telling_app bind_app.top) explain_app.top in
+    let a = with_subcommand (with_subcommand app_through_variables bind_app.top) explain_app.top in
     let a = with_subcommand (with_subcommand a annotate_app.top) part_app.top in
     let a = with_subcommand (with_subcommand a join_app.top) tell_app.top in
     record a { top = record a.top { subcommand_required = true; has_version = true } }

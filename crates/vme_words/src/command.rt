@@ -2,12 +2,13 @@
 
 ghost use Rattle.std.specs.Prelude.{◌≡◌, IfOk, Some, codes, false};
 ghost use Rattle.clap.specs.Words.{App, Rule, app_of, new_app, rule_of, with_rule, with_subcommand};
-ghost use Rattle.vme_words.specs.Commands.{Makes, allow_rule, annotate_app, audit_app, bind_app, block_rule};
-ghost use Rattle.vme_words.specs.Commands.{confirm_app, explain_app, faults_app, file_count_rule, file_number_rule};
+ghost use Rattle.vme_words.specs.Commands.{Makes, allow_rule, annotate_app, app_through_audit};
+ghost use Rattle.vme_words.specs.Commands.{app_through_variables, audit_app, bind_app, block_rule, confirm_app};
+ghost use Rattle.vme_words.specs.Commands.{explain_app, faults_app, file_count_rule, file_number_rule};
 ghost use Rattle.vme_words.specs.Commands.{file_rule, files_rule, flag_rule, join_app, list_app, part_app};
-ghost use Rattle.vme_words.specs.Commands.{recording_app, recordings_app, rules_app, skew_rule, slots_rule};
-ghost use Rattle.vme_words.specs.Commands.{stop_rule, tell_app, telling_app, transfers_rule, variables_app};
-ghost use Rattle.vme_words.specs.Commands.{vmecheck_app, word_rule, workers_rule};
+ghost use Rattle.vme_words.specs.Commands.{recording_app, rules_app, skew_rule, slots_rule, stop_rule};
+ghost use Rattle.vme_words.specs.Commands.{tell_app, transfers_rule, variables_app, vmecheck_app, word_rule};
+ghost use Rattle.vme_words.specs.Commands.{workers_rule};
 
 use crate::limits::{MOST_SLOTS, MOST_STEPS, MOST_WORKERS};
 use clap::{Arg, ArgAction, Command, value_parser};
@@ -53,7 +54,7 @@ Exit status:
 pub fn vmecheck_command<'a>(alloc: Global) -> Result<Command<'a>, AllocError>
     ensures { IfOk result (λ command. app_of command ≡ vmecheck_app) }
 {
-    let command = with_task(telling_commands(alloc), bind_command(alloc));
+    let command = with_task(commands_through_variables(alloc), bind_command(alloc));
     let command = with_task(command, explain_command(alloc));
     let command = with_task(command, annotate_command(alloc));
     let command = with_task(command, part_command(alloc));
@@ -63,18 +64,18 @@ pub fn vmecheck_command<'a>(alloc: Global) -> Result<Command<'a>, AllocError>
     Ok(command.subcommand_required(true).version(VERSION))
 }
 
-/// The program, with the subcommands on recordings, and those that tell of rules, of faults and of variables.
-fn telling_commands<'a>(alloc: Global) -> Result<Command<'a>, AllocError>
-    ensures { Makes telling_app result }
+/// The program, with its subcommands up to `variables`.
+fn commands_through_variables<'a>(alloc: Global) -> Result<Command<'a>, AllocError>
+    ensures { Makes app_through_variables result }
 {
-    let command = with_task(recording_commands(alloc), rules_command(alloc));
+    let command = with_task(commands_through_audit(alloc), rules_command(alloc));
     let command = with_task(command, faults_command(alloc));
     with_task(command, variables_command(alloc))
 }
 
-/// The program, with the subcommands that judge recordings by a binding and nothing more.
-fn recording_commands<'a>(alloc: Global) -> Result<Command<'a>, AllocError>
-    ensures { Makes recordings_app result }
+/// The program, with its subcommands up to `audit`.
+fn commands_through_audit<'a>(alloc: Global) -> Result<Command<'a>, AllocError>
+    ensures { Makes app_through_audit result }
 {
     let command = Ok(Command::new(alloc, "vmecheck"));
     let command = with_task(command, check_command(alloc));

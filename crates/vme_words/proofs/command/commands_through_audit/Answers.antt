@@ -1,7 +1,7 @@
 use Rattle.std.specs.Prelude.{codes}
 use Rattle.clap.specs.Words.{new_app}
 use Rattle.vme_words.specs.Commands.{audit_app, confirm_app, list_app, recording_app}
-use Rattle.vme_words.proofs.command.recording_commands.Goals as goal
+use Rattle.vme_words.proofs.command.commands_through_audit.Goals as goal
 
 pub returns : goal.returns
 returns c =
