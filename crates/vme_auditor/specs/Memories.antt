@@ -15,8 +15,8 @@ use Rattle.vme_monitor.specs.declared.mark.Next.{Next}
 use Rattle.vme_monitor.specs.declared.over_stretches.StretchPhase.{StretchPhase}
 use Rattle.vme_dtb.specs.Machine.{dtb_begin, dtb_ends, dtb_opens, dtb_observation, dtb_step}
 use Rattle.vme_dtb.specs.declared.memory.HandshakeMemory.{HandshakeMemory}
-use Rattle.vme_stability.specs.StabilitySpec.{stability_begin, stability_ends, stability_next, stability_opens}
-use Rattle.vme_stability.specs.StabilitySpec.{stability_observation}
+use Rattle.vme_stability.specs.StabilityRules.{stability_begin, stability_ends, stability_next, stability_opens}
+use Rattle.vme_stability.specs.StabilityRules.{stability_observation}
 use Rattle.vme_stability.specs.declared.holding.Holding.{Holding}
 use Rattle.vme_chains.specs.GrantSpec.{grant_begin, grant_ends, grant_next, grant_opens, grant_observation}
 use Rattle.vme_chains.specs.declared.grant_memory.Arbitration.{Arbitration}

@@ -17,7 +17,7 @@ use Rattle.vme_trace.specs.Rules.{breaks, is_broken}
 use Rattle.vme_trace.specs.declared.rule.Rule.TheVariants.{U2, U3}
 use Rattle.vme_trace.proofs.OpenTransfers.{ReadsStrobes}
 use Rattle.vme_trace.proofs.Ranges.{fails-any, least-alike, least-is, least-none}
-use Rattle.vme_stability.specs.StabilitySpec.{lacks, unknown_address, unknown_direction}
+use Rattle.vme_stability.specs.StabilityRules.{lacks, unknown_address, unknown_direction}
 use Rattle.vme_stability.proofs.Holds.{judged, cycle_starts_is, transfer_starts_is}
 use Rattle.vme_stability.proofs.Needed.{bused_line, needed_below}
 

@@ -15,7 +15,7 @@ use Rattle.vme_trace.specs.declared.level.Level.TheVariants.{Low, High, Unknown}
 use Rattle.vme_trace.specs.declared.step.Change.{Change}
 use Rattle.vme_trace.proofs.Changing.{level-kept}
 use Rattle.vme_trace.proofs.Ranges.{fails-any, least-is, least-none}
-use Rattle.vme_stability.specs.StabilitySpec.{first_among}
+use Rattle.vme_stability.specs.StabilityRules.{first_among}
 
 pub and_true : (a b : Bool) → (a && b) ≡ true → (a ≡ true) × (b ≡ true)
 and_true true b h = (refl, h)

@@ -26,7 +26,7 @@ use Rattle.vme_trace.proofs.OpenTransfers.{suc-sub-one, is_judged-holds}
 use Rattle.vme_trace.proofs.Ranges.{any-alike, any-fails, any-holds, any-least, fails-any, least-found, least-none}
 use Rattle.vme_trace.proofs.Ranges.{least-none-any}
 use Rattle.vme_monitor.proofs.SpanFacts.{IsSpan}
-use Rattle.vme_stability.specs.StabilitySpec.{address_moved, moved_fault, observation_of, stability_rules}
+use Rattle.vme_stability.specs.StabilityRules.{address_moved, moved_fault, observation_of, stability_rules}
 use Rattle.vme_stability.specs.declared.holding.Holding.{Holding}
 use Rattle.vme_stability.proofs.Edges.{and_true, edge_is, false_of_not, first_least, same_itself}
 use Rattle.vme_stability.proofs.Needed.{bused_line, needed_below, needs_same}

@@ -28,9 +28,9 @@ use Rattle.vme_monitor.specs.Tracking.{entered, is_writing}
 use Rattle.vme_monitor.specs.declared.tracking.Pending.{Pending}
 use Rattle.vme_monitor.specs.declared.tracking.Pending.TheVariants.{Closed, Reading, Writing, Answered}
 use Rattle.vme_monitor.proofs.TrackedTransfers.{IsIn, Enters, entered_is}
-use Rattle.vme_stability.specs.HoldingPlaces.{has_risen, writes_of}
-use Rattle.vme_stability.specs.StabilitySpec.{is_shifted, is_undriven, keeps_data, kept, may_write, shifted_fault}
-use Rattle.vme_stability.specs.StabilitySpec.{observation_of, stability_rules, undriven_fault, writes_now}
+use Rattle.vme_stability.specs.HoldingNumbers.{has_risen, writes_of}
+use Rattle.vme_stability.specs.StabilityRules.{is_shifted, is_undriven, keeps_data, kept, may_write, shifted_fault}
+use Rattle.vme_stability.specs.StabilityRules.{observation_of, stability_rules, undriven_fault, writes_now}
 use Rattle.vme_stability.specs.declared.holding.Holding.{Holding}
 use Rattle.vme_stability.proofs.AskedLines.{least_and}
 use Rattle.vme_stability.proofs.Edges.{and_true, first_least, same_itself}

@@ -12,7 +12,7 @@ use Rattle.vme_trace.specs.Rules.{breaks, is_broken}
 use Rattle.vme_trace.specs.declared.rule.Rule.TheVariants.{S2}
 use Rattle.vme_trace.specs.declared.step.Change.{Change}
 use Rattle.vme_trace.proofs.OpenTransfers.{ReadsStrobes, suc-sub-one}
-use Rattle.vme_stability.specs.StabilitySpec.{direction_turned, keeps_direction, observation_of, turned_fault}
+use Rattle.vme_stability.specs.StabilityRules.{direction_turned, keeps_direction, observation_of, turned_fault}
 use Rattle.vme_stability.specs.declared.holding.Holding.{Holding}
 use Rattle.vme_stability.proofs.AskedLines.{least_write}
 use Rattle.vme_stability.proofs.Holds.{Holds, holds_direction, judged, keeps_direction_is}

@@ -5,8 +5,8 @@ use Rattle.std.specs.Option.{is_some, option_or}
 use Rattle.vme_trace.specs.LineNumbers.{WRITE}
 use Rattle.vme_trace.specs.Levels.{Levels}
 use Rattle.vme_trace.specs.declared.rule.Rule.TheVariants.{S1, S2}
-use Rattle.vme_stability.specs.StabilitySpec.{fault_on, held_fault, keeps_address, keeps_direction, moved_fault}
-use Rattle.vme_stability.specs.StabilitySpec.{turned_fault}
+use Rattle.vme_stability.specs.StabilityRules.{fault_on, held_fault, keeps_address, keeps_direction, moved_fault}
+use Rattle.vme_stability.specs.StabilityRules.{turned_fault}
 use Rattle.vme_stability.specs.declared.holding.Holding.{Holding}
 use Rattle.vme_stability.specs.declared.observation.HoldingObservation.{HoldingObservation}
 

@@ -24,10 +24,11 @@ use Rattle.vme_monitor.specs.Tracking.{answered_by, is_unanswered, is_writing, t
 use Rattle.vme_monitor.specs.declared.tracking.Pending.{Pending}
 use Rattle.vme_monitor.specs.declared.tracking.Pending.TheVariants.{Closed, Reading, Writing, Answered}
 use Rattle.vme_monitor.proofs.TrackedTransfers.{says_start, tracked_is, is_answer_is}
-use Rattle.vme_stability.specs.StabilitySpec.{answers_in, awaits_answer, holds_direction as holds_direction_of}
-use Rattle.vme_stability.specs.StabilitySpec.{keeps_address, keeps_direction, stability_begin, stability_rules, stepped}
+use Rattle.vme_stability.specs.StabilityRules.{answers_in, awaits_answer, holds_direction as holds_direction_of}
+use Rattle.vme_stability.specs.StabilityRules.{keeps_address, keeps_direction, stability_begin, stability_rules}
+use Rattle.vme_stability.specs.StabilityRules.{stepped}
 use Rattle.vme_stability.specs.declared.holding.Holding.{Holding}
-use Rattle.vme_stability.specs.HoldingPlaces.{has_risen, was_answered, writes_of}
+use Rattle.vme_stability.specs.HoldingNumbers.{has_risen, was_answered, writes_of}
 use Rattle.vme_stability.proofs.Progressing.{directed_by, fresh_here, fresh_more, is_answered_state, is_closed}
 use Rattle.vme_stability.proofs.Progressing.{risen_passed, was_passed}
 use Rattle.vme_stability.proofs.Edges.{and_true, or_false}

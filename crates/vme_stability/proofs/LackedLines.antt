@@ -7,7 +7,7 @@ use Rattle.vme_trace.specs.Cycle.{Needs, is_needed, is_within, needs_of}
 use Rattle.vme_trace.specs.Levels.{Levels, is_known_on}
 use Rattle.vme_trace.proofs.Counting.{least-outside}
 use Rattle.vme_trace.proofs.Ranges.{any-fails, any-step, fails-any, least-is, least-none}
-use Rattle.vme_stability.specs.StabilitySpec.{lacks, unknown_need}
+use Rattle.vme_stability.specs.StabilityRules.{lacks, unknown_need}
 use Rattle.vme_stability.proofs.Needed.{needed_above, needed_below}
 
 first_false : (a b : Bool) → (a ≡ true → ⊥) → (a && b) ≡ false

@@ -6,7 +6,7 @@ use Rattle.std.proofs.lemmas.Bool.Decides.{nat_tests}
 use Rattle.vme_trace.specs.LineNumbers.{is_data}
 use Rattle.vme_trace.specs.Levels.{Levels}
 use Rattle.vme_trace.specs.declared.step.Change.{Change}
-use Rattle.vme_stability.specs.StabilitySpec.{first_among, is_shifted}
+use Rattle.vme_stability.specs.StabilityRules.{first_among, is_shifted}
 use Rattle.vme_stability.proofs.Edges.{and_true}
 use Rattle.vme_stability.proofs.HeldData.{selected_from, selected_to}
 

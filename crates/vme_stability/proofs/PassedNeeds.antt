@@ -4,7 +4,7 @@ use Rattle.std.proofs.Common.{drop, refl, ap, sym, ◌∙◌, arith}
 use Rattle.std.proofs.lemmas.List.{drop_more}
 use Rattle.vme_trace.specs.Cycle.{Needs, is_within}
 use Rattle.vme_trace.specs.declared.step.Change.{Change}
-use Rattle.vme_stability.specs.StabilitySpec.{first_needed}
+use Rattle.vme_stability.specs.StabilityRules.{first_needed}
 
 no_modifier : (b : Bool) → ((b && false) || false) ≡ false
 no_modifier true = refl

@@ -1,6 +1,6 @@
 -- Where neither an answer comes nor a strobe rises, no more has come of an open transfer than before.
 use Rattle.std.proofs.Common.{◌≡◌, Bool, false, ◌||◌, refl}
-use Rattle.vme_stability.specs.HoldingPlaces.{has_risen, passed, was_answered, writes_of}
+use Rattle.vme_stability.specs.HoldingNumbers.{has_risen, passed, was_answered, writes_of}
 use Rattle.vme_stability.specs.declared.holding.TransferState.{TransferState}
 use Rattle.vme_stability.specs.declared.holding.TransferState.TheVariants.{Fresh, RisenInRead, RisenInWrite, Answered}
 use Rattle.vme_stability.specs.declared.holding.TransferState.TheVariants.{Over}

@@ -5,8 +5,8 @@ use Rattle.vme_trace.proofs.Ranges.{clash}
 use Rattle.vme_monitor.specs.Tracking.{answered_by, is_writing}
 use Rattle.vme_monitor.specs.declared.tracking.Pending.{Pending}
 use Rattle.vme_monitor.specs.declared.tracking.Pending.TheVariants as pending
-use Rattle.vme_stability.specs.HoldingPlaces.{has_risen, passed, was_answered, writes_of}
-use Rattle.vme_stability.specs.StabilitySpec.{kept}
+use Rattle.vme_stability.specs.HoldingNumbers.{has_risen, passed, was_answered, writes_of}
+use Rattle.vme_stability.specs.StabilityRules.{kept}
 use Rattle.vme_stability.specs.declared.holding.TransferState.{TransferState}
 use Rattle.vme_stability.specs.declared.holding.TransferState.TheVariants.{Fresh, RisenInRead, RisenInWrite, Answered}
 use Rattle.vme_stability.specs.declared.holding.TransferState.TheVariants.{Over}

@@ -23,11 +23,11 @@ use Rattle.vme_monitor.specs.declared.mark.Next.{Next}
 use Rattle.vme_monitor.proofs.OwnRules.{own_event, own_marks}
 use Rattle.vme_monitor.proofs.SpanFacts.{IsSpan}
 use Rattle.vme_monitor.proofs.Alongside.{changes_fit, levels_step, memory_early}
-use Rattle.vme_stability.specs.StabilitySpec.{fault_on, is_observed, shifted_fault, undriven_fault, keeps_direction}
-use Rattle.vme_stability.specs.StabilitySpec.{direction_turned, moved_fault, observation_of, stability_begin}
-use Rattle.vme_stability.specs.StabilitySpec.{stability_ends}
-use Rattle.vme_stability.specs.StabilitySpec.{stability_next, stability_opens, stability_rules, stability_shown}
-use Rattle.vme_stability.specs.StabilitySpec.{stability_observation, turned_fault, unknown_address, unknown_direction}
+use Rattle.vme_stability.specs.StabilityRules.{fault_on, is_observed, shifted_fault, undriven_fault, keeps_direction}
+use Rattle.vme_stability.specs.StabilityRules.{direction_turned, moved_fault, observation_of, stability_begin}
+use Rattle.vme_stability.specs.StabilityRules.{stability_ends}
+use Rattle.vme_stability.specs.StabilityRules.{stability_next, stability_opens, stability_rules, stability_shown}
+use Rattle.vme_stability.specs.StabilityRules.{stability_observation, turned_fault, unknown_address, unknown_direction}
 use Rattle.vme_stability.specs.declared.holding.Holding.{Holding}
 use Rattle.vme_stability.specs.declared.observation.HoldingObservation.{HoldingObservation}
 use Rattle.vme_stability.proofs.AskedLines.{address_least, direction_least}

@@ -7,7 +7,7 @@ use Rattle.vme_trace.specs.Data.{is_selected}
 use Rattle.vme_trace.specs.Levels.{Levels, is_known_on}
 use Rattle.vme_trace.proofs.Counting.{least-outside}
 use Rattle.vme_trace.proofs.Ranges.{any-fails, any-step, fails-any, least-is, least-none}
-use Rattle.vme_stability.specs.StabilitySpec.{is_undriven}
+use Rattle.vme_stability.specs.StabilityRules.{is_undriven}
 use Rattle.vme_stability.proofs.HeldData.{selected_from, selected_to}
 use Rattle.vme_stability.proofs.LackedLines.{unknown_one}
 

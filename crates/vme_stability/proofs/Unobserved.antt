@@ -17,11 +17,11 @@ use Rattle.vme_monitor.specs.Run.{quiet}
 use Rattle.vme_monitor.specs.declared.tracking.Pending.{Pending}
 use Rattle.vme_monitor.specs.declared.tracking.Pending.TheVariants.{Closed, Reading, Writing, Answered}
 use Rattle.vme_monitor.proofs.SpanFacts.{IsSpan}
-use Rattle.vme_stability.specs.StabilitySpec.{address_moved, changes_holding, direction_turned, fault_on}
-use Rattle.vme_stability.specs.StabilitySpec.{faults_unknown, held_fault, is_observed, keeps_address, keeps_direction}
-use Rattle.vme_stability.specs.StabilitySpec.{observation_of, shifted_line, stability_next, stepped, undriven_line}
+use Rattle.vme_stability.specs.StabilityRules.{address_moved, changes_holding, direction_turned, fault_on}
+use Rattle.vme_stability.specs.StabilityRules.{faults_unknown, held_fault, is_observed, keeps_address, keeps_direction}
+use Rattle.vme_stability.specs.StabilityRules.{observation_of, shifted_line, stability_next, stepped, undriven_line}
 use Rattle.vme_stability.specs.declared.holding.Holding.{Holding}
-use Rattle.vme_stability.specs.HoldingPlaces.{has_risen, was_answered}
+use Rattle.vme_stability.specs.HoldingNumbers.{has_risen, was_answered}
 use Rattle.vme_stability.proofs.Edges.{or_false}
 use Rattle.vme_stability.proofs.Holds.{Holds, high_before, high_is}
 use Rattle.vme_stability.proofs.Progressing.{is_answered_state, is_closed, passed_same}

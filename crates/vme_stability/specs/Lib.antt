@@ -1,2 +1,2 @@
-pub mod HoldingPlaces
-pub mod StabilitySpec
+pub mod HoldingNumbers
+pub mod StabilityRules

@@ -1,8 +1,8 @@
 //! What is being held.
 
 ghost use Rattle.std.specs.Prelude.{◌≡◌};
-ghost use Rattle.vme_stability.specs.HoldingPlaces.{has_risen as risen_of, passed, progress_nth, progress_place};
-ghost use Rattle.vme_stability.specs.HoldingPlaces.{was_answered as answered_of, writes_of};
+ghost use Rattle.vme_stability.specs.HoldingNumbers.{has_risen as risen_of, passed, progress_nth, progress_place};
+ghost use Rattle.vme_stability.specs.HoldingNumbers.{was_answered as answered_of, writes_of};
 
 use vme_monitor::machine::{Enumerable, Small};
 
@@ -98,7 +98,7 @@ pub struct Holding {
 }
 
 impl Enumerable for Holding {
-    ghost use Rattle.vme_stability.specs.HoldingPlaces.{holding_nth, holding_place, holding_found, holding_placed};
+    ghost use Rattle.vme_stability.specs.HoldingNumbers.{holding_nth, holding_place, holding_found, holding_placed};
 
     ghost COUNT = { 10 };
 

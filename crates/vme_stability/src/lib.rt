@@ -23,7 +23,7 @@
 //! # Limits
 //!
 //! There are 10 memories of what is held, and 13 of the monitor. Start reading at `stability`, with
-//! `specs/StabilitySpec`.
+//! `specs/StabilityRules`.
 #![tactic(auto)]
 
 pub mod holding;

@@ -5,13 +5,13 @@ ghost use Rattle.vme_trace.specs.Cycle.{Needs};
 ghost use Rattle.vme_trace.specs.Instants.{least};
 ghost use Rattle.vme_trace.specs.Levels.{Levels};
 ghost use Rattle.vme_trace.specs.LineNumbers.{line_count};
-ghost use Rattle.vme_stability.specs.StabilitySpec.{address_moved, changes_holding as changes_holding_of};
-ghost use Rattle.vme_stability.specs.StabilitySpec.{fault_on as fault_on_line, faults_unknown};
-ghost use Rattle.vme_stability.specs.StabilitySpec.{first_among, first_needed as first_needed_of, is_shifted};
-ghost use Rattle.vme_stability.specs.StabilitySpec.{is_undriven, may_write as may_write_of};
-ghost use Rattle.vme_stability.specs.StabilitySpec.{shifted_line as shifted_line_of};
-ghost use Rattle.vme_stability.specs.StabilitySpec.{undriven_line as undriven_line_of};
-ghost use Rattle.vme_stability.specs.StabilitySpec.{unknown_direction as unknown_direction_of, unknown_need};
+ghost use Rattle.vme_stability.specs.StabilityRules.{address_moved, changes_holding as changes_holding_of};
+ghost use Rattle.vme_stability.specs.StabilityRules.{fault_on as fault_on_line, faults_unknown};
+ghost use Rattle.vme_stability.specs.StabilityRules.{first_among, first_needed as first_needed_of, is_shifted};
+ghost use Rattle.vme_stability.specs.StabilityRules.{is_undriven, may_write as may_write_of};
+ghost use Rattle.vme_stability.specs.StabilityRules.{shifted_line as shifted_line_of};
+ghost use Rattle.vme_stability.specs.StabilityRules.{undriven_line as undriven_line_of};
+ghost use Rattle.vme_stability.specs.StabilityRules.{unknown_direction as unknown_direction_of, unknown_need};
 
 use vme_monitor::mark::Fault;
 use vme_trace::edges::{
@@ -219,7 +219,7 @@ fn changes_holding(before: &Lines, after: &Lines) -> bool
 }
 
 impl HoldingObservation {
-    ghost use Rattle.vme_stability.specs.StabilitySpec.{stability_observation};
+    ghost use Rattle.vme_stability.specs.StabilityRules.{stability_observation};
 
     /// What a step shows, if it shows anything.
     #[inline(always)]

@@ -4,9 +4,9 @@ ghost use Rattle.std.specs.Prelude.{◌≡◌, ◌&&◌};
 ghost use Rattle.vme_monitor.specs.Run.{nothing};
 ghost use Rattle.vme_monitor.specs.Whole.{FindsLeast, ShowsAll};
 ghost use Rattle.vme_trace.specs.declared.rule.Rule.TheVariants.{S3, U4};
-ghost use Rattle.vme_stability.specs.StabilitySpec.{answers_in, fault_in, fault_on as fault_on_line, held_fault};
-ghost use Rattle.vme_stability.specs.StabilitySpec.{keeps_data as keeps_data_in, shifted_fault, stability_rules};
-ghost use Rattle.vme_stability.specs.StabilitySpec.{passed_in, stability_shown, stepped, undriven_fault, writes_now};
+ghost use Rattle.vme_stability.specs.StabilityRules.{answers_in, fault_in, fault_on as fault_on_line, held_fault};
+ghost use Rattle.vme_stability.specs.StabilityRules.{keeps_data as keeps_data_in, shifted_fault, stability_rules};
+ghost use Rattle.vme_stability.specs.StabilityRules.{passed_in, stability_shown, stepped, undriven_fault, writes_now};
 
 use crate::holding::{Holding, TransferState};
 use crate::observation::{HoldingObservation, fault_on};
@@ -20,7 +20,7 @@ use vme_trace::{Change, Line, Lines, Rule};
 pub struct StabilityRules;
 
 impl Holding {
-    ghost use Rattle.vme_stability.specs.StabilitySpec.{awaits_answer, keeps_address, keeps_direction};
+    ghost use Rattle.vme_stability.specs.StabilityRules.{awaits_answer, keeps_address, keeps_direction};
 
     /// Whether the answer of a transfer comes.
     #[inline(always)]
@@ -197,8 +197,8 @@ impl Holding {
 
 impl Rules for StabilityRules {
     ghost use Rattle.vme_monitor.specs.Run.{nothing};
-    ghost use Rattle.vme_stability.specs.StabilitySpec.{stability_begin, stability_ends, stability_next};
-    ghost use Rattle.vme_stability.specs.StabilitySpec.{stability_opens, stability_observation};
+    ghost use Rattle.vme_stability.specs.StabilityRules.{stability_begin, stability_ends, stability_next};
+    ghost use Rattle.vme_stability.specs.StabilityRules.{stability_opens, stability_observation};
 
     type Memory = Holding;
 

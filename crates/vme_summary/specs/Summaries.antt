@@ -16,7 +16,7 @@ use Rattle.vme_monitor.specs.declared.known.Stateless.{Stateless}
 use Rattle.vme_monitor.specs.declared.over_stretches.StretchPhase.{StretchPhase}
 use Rattle.vme_dtb.specs.MemoryPlaces.{memory_place}
 use Rattle.vme_dtb.specs.declared.memory.HandshakeMemory.{HandshakeMemory}
-use Rattle.vme_stability.specs.HoldingPlaces.{holding_place}
+use Rattle.vme_stability.specs.HoldingNumbers.{holding_place}
 use Rattle.vme_stability.specs.declared.holding.Holding.{Holding}
 use Rattle.vme_chains.specs.GrantMemory.{arbitration_place}
 use Rattle.vme_chains.specs.declared.grant_memory.Arbitration.{Arbitration}

@@ -5,9 +5,9 @@ use Rattle.vme_monitor.specs.KnownSpec.{known_begin, known_ends, known_next, kno
 use Rattle.vme_monitor.specs.KnownSpec.{known_observation, nil_place}
 use Rattle.vme_dtb.specs.Machine.{dtb_begin, dtb_ends, dtb_opens, dtb_observation, dtb_step}
 use Rattle.vme_dtb.specs.MemoryPlaces.{memory_place}
-use Rattle.vme_stability.specs.HoldingPlaces.{holding_place}
-use Rattle.vme_stability.specs.StabilitySpec.{stability_begin, stability_ends, stability_next, stability_opens}
-use Rattle.vme_stability.specs.StabilitySpec.{stability_observation}
+use Rattle.vme_stability.specs.HoldingNumbers.{holding_place}
+use Rattle.vme_stability.specs.StabilityRules.{stability_begin, stability_ends, stability_next, stability_opens}
+use Rattle.vme_stability.specs.StabilityRules.{stability_observation}
 use Rattle.vme_chains.specs.GrantMemory.{arbitration_place}
 use Rattle.vme_chains.specs.GrantSpec.{grant_begin, grant_ends, grant_next, grant_opens, grant_observation}
 use Rattle.vme_chains.specs.AcknowledgeSpec.{acknowledge_begin, acknowledge_ends, acknowledge_next, acknowledge_opens}

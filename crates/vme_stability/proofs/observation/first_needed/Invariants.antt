@@ -1,5 +1,5 @@
 use Rattle.std.proofs.Common.{◌≡◌, drop}
-use Rattle.vme_stability.specs.StabilitySpec.{first_needed}
+use Rattle.vme_stability.specs.StabilityRules.{first_needed}
 use Rattle.vme_stability.proofs.observation.first_needed.Given as goal
 
 abbrev pub invariant-loop-change : goal.invariant-loop-change

@@ -1,5 +1,5 @@
 use Rattle.std.proofs.Common.{◌≡◌, drop}
-use Rattle.vme_stability.specs.StabilitySpec.{first_among, is_shifted}
+use Rattle.vme_stability.specs.StabilityRules.{first_among, is_shifted}
 use Rattle.vme_stability.proofs.observation.first_shifted.Given as goal
 
 abbrev pub invariant-loop-change : goal.invariant-loop-change

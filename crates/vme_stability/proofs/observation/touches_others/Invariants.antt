@@ -1,7 +1,7 @@
 use Rattle.std.proofs.Common.{◌≡◌, drop}
 use Rattle.vme_trace.specs.Cycle.{Needs}
 use Rattle.vme_trace.specs.Levels.{Levels}
-use Rattle.vme_stability.specs.StabilitySpec.{first_among, first_needed, is_shifted}
+use Rattle.vme_stability.specs.StabilityRules.{first_among, first_needed, is_shifted}
 use Rattle.vme_stability.proofs.observation.touches_others.Given as goal
 
 abbrev pub invariant-loop-change : goal.invariant-loop-change

@@ -1,6 +1,6 @@
 use Rattle.std.proofs.Common.{◌≡◌, false}
 use Rattle.vme_trace.specs.Instants.{any}
-use Rattle.vme_stability.specs.StabilitySpec.{lacks}
+use Rattle.vme_stability.specs.StabilityRules.{lacks}
 use Rattle.vme_stability.proofs.observation.unknown_needed.Given as goal
 
 abbrev pub invariant-loop-number : goal.invariant-loop-number

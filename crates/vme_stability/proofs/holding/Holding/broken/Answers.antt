@@ -1,7 +1,7 @@
 use Rattle.std.proofs.Common.{◌≡◌, ◌∙◌, ap, sym}
 use Rattle.std.specs.Prelude.{None}
 use Rattle.vme_trace.specs.declared.rule.Rule.TheVariants.{S2}
-use Rattle.vme_stability.specs.StabilitySpec.{fault_on, moved_fault, turned_fault}
+use Rattle.vme_stability.specs.StabilityRules.{fault_on, moved_fault, turned_fault}
 use Rattle.vme_stability.proofs.HeldFaults.{held-direction, turned, undirected, unkept, unmoved, unturned}
 use Rattle.vme_stability.proofs.holding.Holding.broken.Goals as goal
 use Rattle.vme_stability.proofs.holding.Holding.broken.Goals.{else-is_some-via-then-is_some+else-keeps_address}

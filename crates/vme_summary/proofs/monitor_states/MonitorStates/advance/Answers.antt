@@ -4,8 +4,8 @@ use Rattle.vme_monitor.specs.OverStretches.{observed, phase_step, start_in}
 use Rattle.vme_monitor.specs.KnownSpec.{known_begin, known_ends, known_next, known_opens, known_resets}
 use Rattle.vme_monitor.specs.KnownSpec.{known_observation}
 use Rattle.vme_dtb.specs.Machine.{dtb_begin, dtb_ends, dtb_opens, dtb_observation, dtb_step}
-use Rattle.vme_stability.specs.StabilitySpec.{stability_begin, stability_ends, stability_next, stability_opens}
-use Rattle.vme_stability.specs.StabilitySpec.{stability_observation}
+use Rattle.vme_stability.specs.StabilityRules.{stability_begin, stability_ends, stability_next, stability_opens}
+use Rattle.vme_stability.specs.StabilityRules.{stability_observation}
 use Rattle.vme_chains.specs.GrantSpec.{grant_begin, grant_ends, grant_next, grant_opens, grant_observation}
 use Rattle.vme_chains.specs.AcknowledgeSpec.{acknowledge_begin, acknowledge_ends, acknowledge_next, acknowledge_opens}
 use Rattle.vme_chains.specs.AcknowledgeSpec.{acknowledge_observation}

@@ -17,7 +17,7 @@ use Rattle.vme_monitor.specs.Run.{nothing}
 use Rattle.vme_monitor.specs.declared.mark.Fault.{Fault}
 use Rattle.vme_monitor.specs.declared.mark.StepMarks.{StepMarks}
 use Rattle.vme_monitor.specs.declared.mark.Next.{Next}
-use Rattle.vme_stability.specs.HoldingPlaces.{has_risen, passed, was_answered, writes_of}
+use Rattle.vme_stability.specs.HoldingNumbers.{has_risen, passed, was_answered, writes_of}
 use Rattle.vme_stability.specs.declared.holding.Holding.{Holding}
 use Rattle.vme_stability.specs.declared.holding.TransferState.{TransferState}
 use Rattle.vme_stability.specs.declared.holding.TransferState.TheVariants.{Fresh}

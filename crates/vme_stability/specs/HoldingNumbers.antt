@@ -1,4 +1,4 @@
--- What has come of a transfer, and the places of what is being held.
+-- What has come of a transfer; and the number of each value of what is remembered of lines that are held.
 use Rattle.std.proofs.Common.{◌≡◌, refl, ℕ, ◌+◌, ◌<◌, Bool, true, false, lit<}
 use Rattle.std.specs.Prelude.{◌/◌, ◌%◌, ◌==◌, if◌then◌else◌}
 use Rattle.vme_stability.specs.declared.holding.Holding.{Holding}
