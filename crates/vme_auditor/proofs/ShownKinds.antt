@@ -29,9 +29,9 @@ use Rattle.vme_monitor.specs.declared.view.End.TheVariants as end
 use Rattle.vme_dtb.specs.Machine.{dtb_begin, dtb_ends, dtb_opens, dtb_observation, dtb_step}
 use Rattle.vme_stability.specs.StabilityRules.{stability_begin, stability_ends, stability_next, stability_opens}
 use Rattle.vme_stability.specs.StabilityRules.{stability_observation}
-use Rattle.vme_chains.specs.GrantSpec.{grant_begin, grant_ends, grant_next, grant_opens, grant_observation}
-use Rattle.vme_chains.specs.AcknowledgeSpec.{acknowledge_begin, acknowledge_ends, acknowledge_next, acknowledge_opens}
-use Rattle.vme_chains.specs.AcknowledgeSpec.{acknowledge_observation}
+use Rattle.vme_chains.specs.GrantRules.{grant_begin, grant_ends, grant_next, grant_opens, grant_observation}
+use Rattle.vme_chains.specs.AcknowledgeRules.{acknowledge_begin, acknowledge_ends, acknowledge_next, acknowledge_opens}
+use Rattle.vme_chains.specs.AcknowledgeRules.{acknowledge_observation}
 use Rattle.vme_auditor.specs.Memories.{acknowledge_at, grant_at, handshake_at, known_at, stability_at}
 use Rattle.vme_auditor.specs.declared.memories.Memories.{Memories}
 

@@ -18,10 +18,10 @@ use Rattle.vme_dtb.specs.declared.memory.HandshakeMemory.{HandshakeMemory}
 use Rattle.vme_stability.specs.StabilityRules.{stability_begin, stability_ends, stability_next, stability_opens}
 use Rattle.vme_stability.specs.StabilityRules.{stability_observation}
 use Rattle.vme_stability.specs.declared.holding.Holding.{Holding}
-use Rattle.vme_chains.specs.GrantSpec.{grant_begin, grant_ends, grant_next, grant_opens, grant_observation}
+use Rattle.vme_chains.specs.GrantRules.{grant_begin, grant_ends, grant_next, grant_opens, grant_observation}
 use Rattle.vme_chains.specs.declared.grant_memory.Arbitration.{Arbitration}
-use Rattle.vme_chains.specs.AcknowledgeSpec.{acknowledge_begin, acknowledge_ends, acknowledge_next, acknowledge_opens}
-use Rattle.vme_chains.specs.AcknowledgeSpec.{acknowledge_observation}
+use Rattle.vme_chains.specs.AcknowledgeRules.{acknowledge_begin, acknowledge_ends, acknowledge_next, acknowledge_opens}
+use Rattle.vme_chains.specs.AcknowledgeRules.{acknowledge_observation}
 use Rattle.vme_chains.specs.declared.acknowledge.Acknowledgement.{Acknowledgement}
 use Rattle.vme_auditor.specs.declared.memories.AllShown.{AllShown}
 use Rattle.vme_auditor.specs.declared.memories.Memories.{Memories}

@@ -14,7 +14,7 @@ use Rattle.vme_trace.specs.declared.rule.Rule.TheVariants.{I1, I2, I3}
 use Rattle.vme_trace.proofs.Ranges.{least-alike}
 use Rattle.vme_trace.proofs.OpenTransfers.{is_judged-holds, suc-sub-one}
 use Rattle.vme_trace.proofs.SpanEnds.{slots_at}
-use Rattle.vme_chains.specs.AcknowledgeSpec.{passes_on, passes_unasked, is_strobed, is_addressed}
+use Rattle.vme_chains.specs.AcknowledgeRules.{passes_on, passes_unasked, is_strobed, is_addressed}
 use Rattle.vme_chains.specs.declared.acknowledge.Acknowledgement.{Acknowledgement}
 use Rattle.vme_chains.proofs.AcknowledgeChanges.{least-when}
 use Rattle.vme_chains.proofs.AcknowledgeMemory.{acknowledges, Holds, in_cycle_is}

@@ -22,10 +22,10 @@ use Rattle.vme_monitor.specs.declared.mark.Next.{Next}
 use Rattle.vme_monitor.proofs.OwnRules.{own_event, own_marks}
 use Rattle.vme_monitor.proofs.SpanFacts.{IsSpan}
 use Rattle.vme_monitor.proofs.Alongside.{levels_step, changes_fit, memory_early}
-use Rattle.vme_chains.specs.AcknowledgeSpec.{acknowledge_begin, acknowledge_ends, acknowledge_next, acknowledge_opens}
-use Rattle.vme_chains.specs.AcknowledgeSpec.{acknowledge_rules, acknowledge_shown, acknowledge_observation, fault_among}
-use Rattle.vme_chains.specs.AcknowledgeSpec.{fault_on, changes_memory, first_changed, memory_after, passes_on}
-use Rattle.vme_chains.specs.AcknowledgeSpec.{passes_unasked, is_strobed, is_addressed}
+use Rattle.vme_chains.specs.AcknowledgeRules.{acknowledge_begin, acknowledge_ends, acknowledge_next, acknowledge_opens}
+use Rattle.vme_chains.specs.AcknowledgeRules.{acknowledge_rules, acknowledge_shown, acknowledge_observation}
+use Rattle.vme_chains.specs.AcknowledgeRules.{fault_among, fault_on, changes_memory, first_changed, memory_after}
+use Rattle.vme_chains.specs.AcknowledgeRules.{passes_on, passes_unasked, is_strobed, is_addressed}
 use Rattle.vme_chains.specs.declared.acknowledge.Acknowledgement.{Acknowledgement}
 use Rattle.vme_chains.specs.declared.acknowledge.PassingSlots.{PassingSlots}
 use Rattle.vme_chains.proofs.AcknowledgeBreaks.{least_input, least_strobes, least_answer}

@@ -22,8 +22,8 @@ use Rattle.vme_monitor.specs.declared.tracking.Pending.{Pending}
 use Rattle.vme_monitor.specs.declared.tracking.Pending.TheVariants.{Closed, Reading, Writing, Answered}
 use Rattle.vme_monitor.proofs.SpanFacts.{IsSpan}
 use Rattle.vme_monitor.proofs.TrackedTransfers.{says_start, tracked_is, is_answer_is}
-use Rattle.vme_chains.specs.AcknowledgeSpec.{acknowledge_begin, acknowledged_after, changes_memory, changes_strobes}
-use Rattle.vme_chains.specs.AcknowledgeSpec.{is_acknowledged, memory_after}
+use Rattle.vme_chains.specs.AcknowledgeRules.{acknowledge_begin, acknowledged_after, changes_memory, changes_strobes}
+use Rattle.vme_chains.specs.AcknowledgeRules.{is_acknowledged, memory_after}
 use Rattle.vme_chains.specs.declared.acknowledge.Acknowledgement.{Acknowledgement}
 use Rattle.vme_chains.proofs.AcknowledgeChanges.{or_false}
 

@@ -16,7 +16,7 @@ use Rattle.vme_trace.proofs.Ranges.{least-none-any}
 use Rattle.vme_trace.proofs.OpenTransfers.{is_judged-holds}
 use Rattle.vme_chains.specs.GrantLevels.{falls_between, requested_in, grant_begins}
 use Rattle.vme_chains.specs.GrantMemory.{is_in, union}
-use Rattle.vme_chains.specs.GrantSpec.{unrequested}
+use Rattle.vme_chains.specs.GrantRules.{unrequested}
 use Rattle.vme_chains.specs.declared.grant_memory.Arbitration.{Arbitration}
 use Rattle.vme_chains.specs.declared.grant_memory.LevelSet.{LevelSet}
 use Rattle.vme_chains.proofs.GrantLines.{net_exists}

@@ -19,7 +19,7 @@ use Rattle.vme_monitor.specs.Run.{break_at}
 use Rattle.vme_chains.specs.GrantLevels.{falls_between, first_changed, is_net_broken, grant_begins, requested_in}
 use Rattle.vme_chains.specs.GrantLevels.{taken_between, is_ungranted, is_cycle_unowned}
 use Rattle.vme_chains.specs.GrantMemory.{union}
-use Rattle.vme_chains.specs.GrantSpec.{grant_rules, fault_on, line_if, unrequested, seen_between, slot_of, step_fault}
+use Rattle.vme_chains.specs.GrantRules.{grant_rules, fault_on, line_if, unrequested, seen_between, slot_of, step_fault}
 use Rattle.vme_chains.specs.declared.grant_memory.Arbitration.{Arbitration}
 use Rattle.vme_chains.proofs.GrantMeaning.{Holds}
 use Rattle.vme_chains.proofs.GrantNets.{g1-is, g2-is, g3-is, g4-is}

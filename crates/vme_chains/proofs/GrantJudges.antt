@@ -24,8 +24,8 @@ use Rattle.vme_monitor.proofs.Alongside.{levels_step, changes_fit, memory_early}
 use Rattle.vme_chains.specs.GrantLevels.{falls_between, rises_between, is_low_in, grant_begins, requested_in}
 use Rattle.vme_chains.specs.GrantLevels.{taken_between, touches_arbitration, is_cycle_unowned, is_ungranted}
 use Rattle.vme_chains.specs.GrantMemory.{is_in, union}
-use Rattle.vme_chains.specs.GrantSpec.{grant_rules, nets_fault, seen_between, grant_begin, grant_opens, grant_ends}
-use Rattle.vme_chains.specs.GrantSpec.{grant_observation, grant_next}
+use Rattle.vme_chains.specs.GrantRules.{grant_rules, nets_fault, seen_between, grant_begin, grant_opens, grant_ends}
+use Rattle.vme_chains.specs.GrantRules.{grant_observation, grant_next}
 use Rattle.vme_chains.specs.GrantMarks.{tenure_at, tenures_shown}
 use Rattle.vme_chains.specs.declared.grant.GrantObservation.{GrantObservation}
 use Rattle.vme_chains.specs.declared.grant_memory.Arbitration.{Arbitration}

@@ -16,7 +16,7 @@ use Rattle.vme_monitor.specs.declared.mark.Fault.{Fault}
 use Rattle.vme_monitor.specs.declared.mark.BusGrant.{BusGrant}
 use Rattle.vme_chains.specs.GrantLevels.{is_arbitration, touches_arbitration, first_changed, is_net_broken}
 use Rattle.vme_chains.specs.GrantLevels.{grant_begins, falls_between, rises_between}
-use Rattle.vme_chains.specs.GrantSpec.{nets_fault, step_fault}
+use Rattle.vme_chains.specs.GrantRules.{nets_fault, step_fault}
 use Rattle.vme_chains.specs.declared.grant_memory.LevelSet.{LevelSet}
 use Rattle.vme_chains.proofs.GrantNets.{falls-kept, rises-kept}
 use Rattle.vme_chains.proofs.GrantTests.{or_false, equal, first_false}

@@ -18,7 +18,7 @@ use Rattle.vme_trace.proofs.SpanEnds.{slots_at}
 use Rattle.vme_monitor.specs.declared.mark.BusGrant.{BusGrant}
 use Rattle.vme_chains.specs.GrantLevels.{falls_between, low_near, grant_begins, taken_at, taken_between, is_ungranted}
 use Rattle.vme_chains.specs.GrantLevels.{is_cycle_unowned}
-use Rattle.vme_chains.specs.GrantSpec.{line_if, slot_of}
+use Rattle.vme_chains.specs.GrantRules.{line_if, slot_of}
 use Rattle.vme_chains.specs.declared.grant_memory.Arbitration.{Arbitration}
 use Rattle.vme_chains.proofs.GrantEdges.{falls-is, low_near-is, grant_begins-is, is_ungranted-is, taken_between-is}
 use Rattle.vme_chains.proofs.GrantMeaning.{Holds, granted-more}

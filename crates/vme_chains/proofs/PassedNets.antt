@@ -7,7 +7,7 @@ use Rattle.vme_trace.specs.Levels.{Levels}
 use Rattle.vme_trace.specs.declared.rule.Rule.TheVariants.{G1, G2, G3, G4}
 use Rattle.vme_trace.specs.declared.step.Change.{Change}
 use Rattle.vme_chains.specs.GrantLevels.{first_changed, is_net_broken}
-use Rattle.vme_chains.specs.GrantSpec.{nets_fault}
+use Rattle.vme_chains.specs.GrantRules.{nets_fault}
 use Rattle.vme_chains.proofs.GrantSkips.{net_off}
 use Rattle.vme_chains.proofs.GrantTests.{first_false}
 

@@ -1,5 +1,5 @@
 pub mod GrantMemory
 pub mod GrantLevels
-pub mod GrantSpec
+pub mod GrantRules
 pub mod GrantMarks
-pub mod AcknowledgeSpec
+pub mod AcknowledgeRules

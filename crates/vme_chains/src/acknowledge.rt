@@ -6,12 +6,12 @@ ghost use Rattle.vme_trace.specs.Edges.{falls_between};
 ghost use Rattle.vme_trace.specs.LineNumbers.{has_line, input_of as input_line, is_slot_iack};
 ghost use Rattle.vme_monitor.specs.Run.{nothing};
 ghost use Rattle.vme_monitor.specs.Whole.{FindsLeast, ShowsAll};
-ghost use Rattle.vme_chains.specs.AcknowledgeSpec.{acknowledge_rules, acknowledge_shown};
-ghost use Rattle.vme_chains.specs.AcknowledgeSpec.{changes_memory as changes_memory_of};
-ghost use Rattle.vme_chains.specs.AcknowledgeSpec.{changes_strobes as changes_strobes_of, fault_among, first_changed};
-ghost use Rattle.vme_chains.specs.AcknowledgeSpec.{is_acknowledged, is_addressed as addressed_near};
-ghost use Rattle.vme_chains.specs.AcknowledgeSpec.{is_strobed as strobed_near, memory_after};
-ghost use Rattle.vme_chains.specs.AcknowledgeSpec.{passes_on as passes, passes_unasked, pending_nth, pending_place};
+ghost use Rattle.vme_chains.specs.AcknowledgeRules.{acknowledge_rules, acknowledge_shown};
+ghost use Rattle.vme_chains.specs.AcknowledgeRules.{changes_memory as changes_memory_of};
+ghost use Rattle.vme_chains.specs.AcknowledgeRules.{changes_strobes as changes_strobes_of, fault_among, first_changed};
+ghost use Rattle.vme_chains.specs.AcknowledgeRules.{is_acknowledged, is_addressed as addressed_near};
+ghost use Rattle.vme_chains.specs.AcknowledgeRules.{is_strobed as strobed_near, memory_after};
+ghost use Rattle.vme_chains.specs.AcknowledgeRules.{passes_on as passes, passes_unasked, pending_nth, pending_place};
 
 use vme_monitor::machine::{Enumerable, Small};
 use vme_monitor::mark::{Fault, NOTHING, Next, StepMarks};
@@ -55,8 +55,8 @@ fn nth_transfer(k: usize) -> Pending
 }
 
 impl Enumerable for Acknowledgement {
-    ghost use Rattle.vme_chains.specs.AcknowledgeSpec.{acknowledgement_found, acknowledgement_nth};
-    ghost use Rattle.vme_chains.specs.AcknowledgeSpec.{acknowledgement_place, acknowledgement_placed};
+    ghost use Rattle.vme_chains.specs.AcknowledgeRules.{acknowledgement_found, acknowledgement_nth};
+    ghost use Rattle.vme_chains.specs.AcknowledgeRules.{acknowledgement_place, acknowledgement_placed};
 
     ghost COUNT = { 8 };
 
@@ -282,8 +282,8 @@ pub struct AcknowledgeRules;
 
 impl Rules for AcknowledgeRules {
     ghost use Rattle.vme_monitor.specs.Run.{nothing};
-    ghost use Rattle.vme_chains.specs.AcknowledgeSpec.{acknowledge_begin, acknowledge_ends, acknowledge_next};
-    ghost use Rattle.vme_chains.specs.AcknowledgeSpec.{acknowledge_opens, acknowledge_observation};
+    ghost use Rattle.vme_chains.specs.AcknowledgeRules.{acknowledge_begin, acknowledge_ends, acknowledge_next};
+    ghost use Rattle.vme_chains.specs.AcknowledgeRules.{acknowledge_opens, acknowledge_observation};
 
     type Memory = Acknowledgement;
 

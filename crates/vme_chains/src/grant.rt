@@ -6,9 +6,9 @@ ghost use Rattle.vme_trace.specs.Rules.{is_option_equal};
 ghost use Rattle.vme_monitor.specs.Run.{nothing};
 ghost use Rattle.vme_monitor.specs.Whole.{FindsLeast, ShowsAll};
 ghost use Rattle.vme_chains.specs.GrantMarks.{tenures_shown};
-ghost use Rattle.vme_chains.specs.GrantSpec.{grant_rules, seen_between as seen_between_of, fault_on as fault_on_of};
-ghost use Rattle.vme_chains.specs.GrantSpec.{line_if as line_if_of, nets_fault as nets_fault_of, slot_of};
-ghost use Rattle.vme_chains.specs.GrantSpec.{step_fault as step_fault_of, unrequested as unrequested_of};
+ghost use Rattle.vme_chains.specs.GrantRules.{grant_rules, seen_between as seen_between_of, fault_on as fault_on_of};
+ghost use Rattle.vme_chains.specs.GrantRules.{line_if as line_if_of, nets_fault as nets_fault_of, slot_of};
+ghost use Rattle.vme_chains.specs.GrantRules.{step_fault as step_fault_of, unrequested as unrequested_of};
 
 use crate::grant_levels::{
     falls, first_broken, grant_begins, is_cycle_unowned, is_low, is_ungranted, requested, rises,
@@ -154,7 +154,7 @@ pub struct GrantRules;
 
 impl Rules for GrantRules {
     ghost use Rattle.vme_monitor.specs.Run.{nothing};
-    ghost use Rattle.vme_chains.specs.GrantSpec.{grant_begin, grant_ends, grant_next, grant_opens, grant_observation};
+    ghost use Rattle.vme_chains.specs.GrantRules.{grant_begin, grant_ends, grant_next, grant_opens, grant_observation};
 
     type Memory = Arbitration;
 

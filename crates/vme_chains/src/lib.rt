@@ -28,7 +28,7 @@
 //! # Limits
 //!
 //! There are 4 levels and 1 to 21 slots. `Grant` has 35 memories, and `Iack` 11. Start reading at
-//! `grant`, with `specs/GrantSpec`.
+//! `grant`, with `specs/GrantRules`.
 #![tactic(auto)]
 
 pub mod acknowledge;

@@ -19,7 +19,7 @@ use Rattle.vme_monitor.specs.Runs.{levels_after-append}
 use Rattle.vme_dtb.specs.MemoryPlaces.{memory_place}
 use Rattle.vme_stability.specs.HoldingNumbers.{holding_place}
 use Rattle.vme_chains.specs.GrantMemory.{arbitration_place}
-use Rattle.vme_chains.specs.AcknowledgeSpec.{acknowledgement_place}
+use Rattle.vme_chains.specs.AcknowledgeRules.{acknowledgement_place}
 use Rattle.vme_summary.specs.Joins.{block_of, first_time, last_time}
 use Rattle.vme_summary.specs.Runs.{known_run, handshake_run, stability_run, grant_run, acknowledge_run}
 use Rattle.vme_summary.proofs.Sound.{sound_apart}

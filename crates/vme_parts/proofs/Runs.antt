@@ -13,9 +13,9 @@ use Rattle.vme_monitor.specs.Runs.{run_joined}
 use Rattle.vme_dtb.specs.Machine.{dtb_begin, dtb_ends, dtb_opens, dtb_observation, dtb_step}
 use Rattle.vme_stability.specs.StabilityRules.{stability_begin, stability_ends, stability_next, stability_opens}
 use Rattle.vme_stability.specs.StabilityRules.{stability_observation}
-use Rattle.vme_chains.specs.GrantSpec.{grant_begin, grant_ends, grant_next, grant_opens, grant_observation}
-use Rattle.vme_chains.specs.AcknowledgeSpec.{acknowledge_begin, acknowledge_ends, acknowledge_next, acknowledge_opens}
-use Rattle.vme_chains.specs.AcknowledgeSpec.{acknowledge_observation}
+use Rattle.vme_chains.specs.GrantRules.{grant_begin, grant_ends, grant_next, grant_opens, grant_observation}
+use Rattle.vme_chains.specs.AcknowledgeRules.{acknowledge_begin, acknowledge_ends, acknowledge_next, acknowledge_opens}
+use Rattle.vme_chains.specs.AcknowledgeRules.{acknowledge_observation}
 use Rattle.vme_summary.specs.Runs.{known_run, handshake_run, stability_run, grant_run, acknowledge_run}
 use Rattle.vme_part_format.specs.Tables.{TableValue}
 use Rattle.vme_part_tables.specs.Runs.{SaysBoth, TellsRuns}

@@ -1,5 +1,5 @@
 use Rattle.std.proofs.Common.{◌≡◌, drop}
-use Rattle.vme_chains.specs.AcknowledgeSpec.{first_changed, passes_on}
+use Rattle.vme_chains.specs.AcknowledgeRules.{first_changed, passes_on}
 use Rattle.vme_chains.proofs.acknowledge.first_passing.Given as goal
 
 abbrev pub invariant-loop-change : goal.invariant-loop-change

@@ -7,8 +7,8 @@ use Rattle.vme_dtb.specs.MemoryPlaces.{memory_place}
 use Rattle.vme_stability.specs.HoldingNumbers.{holding_place}
 use Rattle.vme_stability.specs.StabilityRules.{stability_begin}
 use Rattle.vme_chains.specs.GrantMemory.{arbitration_place}
-use Rattle.vme_chains.specs.GrantSpec.{grant_begin}
-use Rattle.vme_chains.specs.AcknowledgeSpec.{acknowledge_begin, acknowledgement_place}
+use Rattle.vme_chains.specs.GrantRules.{grant_begin}
+use Rattle.vme_chains.specs.AcknowledgeRules.{acknowledge_begin, acknowledgement_place}
 use Rattle.vme_summary.specs.Runs.{known_run, handshake_run, stability_run, grant_run, acknowledge_run}
 use Rattle.vme_part_format.specs.Tables.{table_value}
 use Rattle.vme_parts.proofs.Runs.{acknowledge_is_run, grant_is_run, handshake_is_run, known_is_run, stability_is_run}

@@ -7,8 +7,8 @@ use Rattle.vme_monitor.specs.OverStretches.{start_in}
 use Rattle.vme_monitor.specs.KnownSpec.{known_begin}
 use Rattle.vme_dtb.specs.Machine.{dtb_begin}
 use Rattle.vme_stability.specs.StabilityRules.{stability_begin}
-use Rattle.vme_chains.specs.GrantSpec.{grant_begin}
-use Rattle.vme_chains.specs.AcknowledgeSpec.{acknowledge_begin}
+use Rattle.vme_chains.specs.GrantRules.{grant_begin}
+use Rattle.vme_chains.specs.AcknowledgeRules.{acknowledge_begin}
 use Rattle.vme_summary.specs.Runs.{known_run, handshake_run, stability_run, grant_run, acknowledge_run}
 use Rattle.vme_summary.specs.Summaries.{known_outcome, handshake_outcome, stability_outcome, grant_outcome}
 use Rattle.vme_summary.specs.Summaries.{acknowledge_outcome}
