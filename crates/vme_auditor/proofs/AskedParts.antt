@@ -21,7 +21,7 @@ use Rattle.vme_trace.specs.declared.step.Step.{Step}
 use Rattle.vme_trace.specs.declared.verdict.Break.{Break}
 use Rattle.vme_monitor.specs.Along.{changes_of, memory_from}
 use Rattle.vme_monitor.specs.Ends.{end_among}
-use Rattle.vme_monitor.specs.KnownSpec.{known_begin}
+use Rattle.vme_monitor.specs.KnownRules.{known_begin}
 use Rattle.vme_monitor.specs.Outcome.{EventWithin, earlier, shifted_break}
 use Rattle.vme_monitor.specs.OverStretches.{has_started, start_in}
 use Rattle.vme_monitor.specs.Run.{break_at}

@@ -20,7 +20,7 @@ use Rattle.vme_trace.proofs.JudgedSpans.{spans_kept, spans_more}
 use Rattle.vme_trace.proofs.Ranges.{fails-any}
 use Rattle.vme_monitor.specs.Along.{changes_of, memory_from, next_at}
 use Rattle.vme_monitor.specs.Ends.{end_among}
-use Rattle.vme_monitor.specs.KnownSpec.{known_begin, known_ends, known_next, known_opens, known_resets}
+use Rattle.vme_monitor.specs.KnownRules.{known_begin, known_ends, known_next, known_opens, known_resets}
 use Rattle.vme_monitor.specs.OverStretches.{has_started, judging, phase_step, start_in}
 use Rattle.vme_monitor.specs.Run.{nothing, quiet}
 use Rattle.vme_monitor.specs.declared.known.Stateless.{Stateless}

@@ -10,7 +10,7 @@ use Rattle.vme_trace.specs.Verdict.{judge, least_of, verdict, verdict_by, verdic
 use Rattle.vme_trace.specs.declared.step.Step.{Step}
 use Rattle.vme_trace.specs.declared.verdict.Break.{Break}
 use Rattle.vme_trace.specs.declared.verdict.Verdict.TheVariants.{Broken, Unreadable}
-use Rattle.vme_monitor.specs.BothSpec.{least, least_joined, sooner}
+use Rattle.vme_monitor.specs.BothMonitors.{least, least_joined, sooner}
 use Rattle.vme_monitor.specs.Outcome.{EventWithin, earlier, shifted_break}
 use Rattle.vme_monitor.specs.RuleMonitors.{run_within}
 use Rattle.vme_monitor.specs.Run.{break_at}

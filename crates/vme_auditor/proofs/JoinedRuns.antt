@@ -6,8 +6,8 @@ use Rattle.std.proofs.lemmas.List.{map-append}
 use Rattle.vme_trace.specs.Levels.{Levels}
 use Rattle.vme_trace.specs.Trace.{changed}
 use Rattle.vme_trace.specs.declared.step.Step.{Step}
-use Rattle.vme_monitor.specs.BothSpec.{both_within, front, kind_number, merged, merged_joined}
-use Rattle.vme_monitor.specs.BothSpec.{rest}
+use Rattle.vme_monitor.specs.BothMonitors.{both_within, front, kind_number, merged, merged_joined}
+use Rattle.vme_monitor.specs.BothMonitors.{rest}
 use Rattle.vme_monitor.specs.Outcome.{MarksWithin, shifted_mark}
 use Rattle.vme_monitor.specs.RuleMonitors.{run_within}
 use Rattle.vme_monitor.specs.Run.{kinds_of, mark_at}

@@ -6,13 +6,13 @@ use Rattle.vme_trace.specs.Changes.{touches_control}
 use Rattle.vme_trace.specs.Levels.{Levels, is_idle}
 use Rattle.vme_trace.specs.declared.data.Lanes.{Lanes}
 use Rattle.vme_trace.specs.declared.step.Change.{Change}
-use Rattle.vme_monitor.specs.BothSpec.{kind_number}
+use Rattle.vme_monitor.specs.BothMonitors.{kind_number}
 use Rattle.vme_monitor.specs.Ends.{end_among}
 use Rattle.vme_monitor.specs.OverStretches.{judging, observed, phase_step}
 use Rattle.vme_monitor.specs.Run.{answer_kind, answered_kind, cycle_kind, kinds_of, machine_step, nothing, quiet}
 use Rattle.vme_monitor.specs.Run.{when}
-use Rattle.vme_monitor.specs.KnownSpec.{known_begin, known_ends, known_next, known_opens, known_resets}
-use Rattle.vme_monitor.specs.KnownSpec.{known_observation}
+use Rattle.vme_monitor.specs.KnownRules.{known_begin, known_ends, known_next, known_opens, known_resets}
+use Rattle.vme_monitor.specs.KnownRules.{known_observation}
 use Rattle.vme_monitor.specs.declared.mark.BusGrant.{BusGrant}
 use Rattle.vme_monitor.specs.declared.mark.CycleStart.{CycleStart}
 use Rattle.vme_monitor.specs.declared.mark.Fault.{Fault}

@@ -7,8 +7,8 @@ use Rattle.vme_trace.specs.Names.{rule_number}
 use Rattle.vme_trace.specs.declared.verdict.Break.{Break}
 use Rattle.vme_monitor.specs.OverStretches.{observed, phase_step, start_in}
 use Rattle.vme_monitor.specs.Run.{break_at, nothing, machine_step}
-use Rattle.vme_monitor.specs.KnownSpec.{known_begin, known_ends, known_next, known_opens, known_resets}
-use Rattle.vme_monitor.specs.KnownSpec.{known_observation}
+use Rattle.vme_monitor.specs.KnownRules.{known_begin, known_ends, known_next, known_opens, known_resets}
+use Rattle.vme_monitor.specs.KnownRules.{known_observation}
 use Rattle.vme_monitor.specs.declared.known.Stateless.{Stateless}
 use Rattle.vme_monitor.specs.declared.mark.Fault.{Fault}
 use Rattle.vme_monitor.specs.declared.mark.Next.{Next}

@@ -1,5 +1,5 @@
 pub mod CycleState
-pub mod MemoryPlaces
+pub mod MemoryNumbers
 pub mod Edge
 pub mod UsualSteps
 pub mod Machine

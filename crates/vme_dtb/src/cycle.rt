@@ -3,7 +3,7 @@
 ghost use Rattle.std.specs.Prelude.{◌≡◌, ◌<◌};
 ghost use Rattle.vme_dtb.specs.CycleState.{after_answer, cycle_entered, is_acknowledge, is_acknowledged};
 ghost use Rattle.vme_dtb.specs.CycleState.{is_pair_spoiled, is_turned, unanswered_of};
-ghost use Rattle.vme_dtb.specs.MemoryPlaces.{cycle_nth, cycle_place};
+ghost use Rattle.vme_dtb.specs.MemoryNumbers.{cycle_nth, cycle_place};
 
 use vme_monitor::mark::CycleStart;
 use vme_trace::Class;

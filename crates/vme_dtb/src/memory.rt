@@ -1,7 +1,7 @@
 //! What is remembered from one step to the next.
 
 ghost use Rattle.std.specs.Prelude.{◌≡◌, ◌<◌};
-ghost use Rattle.vme_dtb.specs.MemoryPlaces.{bit, pending_nth, pending_place};
+ghost use Rattle.vme_dtb.specs.MemoryNumbers.{bit, pending_nth, pending_place};
 
 use crate::cycle::Cycle;
 use vme_monitor::machine::{Enumerable, Small};
@@ -54,7 +54,7 @@ fn bit_of(truth: bool) -> usize
 }
 
 impl Enumerable for HandshakeMemory {
-    ghost use Rattle.vme_dtb.specs.MemoryPlaces.{memory_found, memory_nth, memory_place, memory_placed};
+    ghost use Rattle.vme_dtb.specs.MemoryNumbers.{memory_found, memory_nth, memory_place, memory_placed};
 
     ghost COUNT = { 144 };
 
@@ -86,7 +86,7 @@ impl Enumerable for HandshakeMemory {
 }
 
 impl Small for HandshakeMemory {
-    ghost use Rattle.vme_dtb.specs.MemoryPlaces.{memories_few};
+    ghost use Rattle.vme_dtb.specs.MemoryNumbers.{memories_few};
 
     ghost small = { memories_few };
 }

@@ -8,9 +8,9 @@ ghost use Rattle.vme_monitor.specs.Joined.{AreApart, AreJoined, together};
 ghost use Rattle.vme_monitor.specs.declared.mark.StepMarks.{StepMarks};
 ghost use Rattle.vme_monitor.specs.Whole.{FindsLeast, ShowsAll};
 ghost use Rattle.std.specs.Option.{option_map_or};
-ghost use Rattle.vme_monitor.specs.BothSpec.{breaks_before as fault_before, front, rest};
-ghost use Rattle.vme_monitor.specs.BothSpec.{kind_number as kind_place, least as least_of, mark_lt as mark_before};
-ghost use Rattle.vme_monitor.specs.BothSpec.{merged, sooner as sooner_than};
+ghost use Rattle.vme_monitor.specs.BothMonitors.{breaks_before as fault_before, front, rest};
+ghost use Rattle.vme_monitor.specs.BothMonitors.{kind_number as kind_place, least as least_of, mark_lt as mark_before};
+ghost use Rattle.vme_monitor.specs.BothMonitors.{merged, sooner as sooner_than};
 
 use crate::mark::{Mark, MarkKind};
 use crate::monitor::Monitor;
@@ -191,7 +191,7 @@ pub struct Both<M, N> {
 
 impl<M: Monitor, N: Monitor> Monitor for Both<M, N> {
     ghost use Rattle.std.specs.Prelude.{◌+◌, [], length};
-    ghost use Rattle.vme_monitor.specs.BothSpec.{both, both_nothing, both_runs, both_within, within_same};
+    ghost use Rattle.vme_monitor.specs.BothMonitors.{both, both_nothing, both_runs, both_within, within_same};
 
     type Memory = (M::Memory, N::Memory);
 

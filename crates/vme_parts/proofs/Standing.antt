@@ -8,9 +8,9 @@ use Rattle.std.proofs.lemmas.Nat.{pow-add, pow_pos}
 use Rattle.vme_trace.specs.Blocks.{joined_steps}
 use Rattle.vme_trace.specs.Trace.{levels_after}
 use Rattle.vme_trace.specs.declared.block.Block.{Block}
-use Rattle.vme_monitor.specs.KnownSpec.{nil_place}
+use Rattle.vme_monitor.specs.KnownRules.{nil_place}
 use Rattle.vme_monitor.specs.OverStretches.{phase_place}
-use Rattle.vme_dtb.specs.MemoryPlaces.{memory_place}
+use Rattle.vme_dtb.specs.MemoryNumbers.{memory_place}
 use Rattle.vme_stability.specs.HoldingNumbers.{holding_place}
 use Rattle.vme_chains.specs.GrantMemory.{arbitration_place}
 use Rattle.vme_chains.specs.AcknowledgeRules.{acknowledgement_place}

@@ -3,9 +3,9 @@ use Rattle.std.specs.Prelude.{◌≡◌, Bool, List}
 use Rattle.vme_trace.specs.Levels.{Levels}
 use Rattle.vme_trace.specs.Trace.{levels_after}
 use Rattle.vme_trace.specs.declared.step.Step.{Step}
-use Rattle.vme_monitor.specs.KnownSpec.{nil_place}
+use Rattle.vme_monitor.specs.KnownRules.{nil_place}
 use Rattle.vme_monitor.specs.OverStretches.{phase_place}
-use Rattle.vme_dtb.specs.MemoryPlaces.{memory_place}
+use Rattle.vme_dtb.specs.MemoryNumbers.{memory_place}
 use Rattle.vme_stability.specs.HoldingNumbers.{holding_place}
 use Rattle.vme_chains.specs.GrantMemory.{arbitration_place}
 use Rattle.vme_chains.specs.AcknowledgeRules.{acknowledgement_place}

@@ -8,9 +8,9 @@ use Rattle.vme_trace.specs.declared.block.Block.{Block}
 use Rattle.vme_trace.specs.declared.step.Step.{Step}
 use Rattle.vme_monitor.specs.Outcome.{Outcome}
 use Rattle.vme_monitor.specs.OverStretches.{phase_place, start_in}
-use Rattle.vme_monitor.specs.KnownSpec.{known_begin, nil_place}
+use Rattle.vme_monitor.specs.KnownRules.{known_begin, nil_place}
 use Rattle.vme_dtb.specs.Machine.{dtb_begin}
-use Rattle.vme_dtb.specs.MemoryPlaces.{memory_place}
+use Rattle.vme_dtb.specs.MemoryNumbers.{memory_place}
 use Rattle.vme_stability.specs.HoldingNumbers.{holding_place}
 use Rattle.vme_stability.specs.StabilityRules.{stability_begin}
 use Rattle.vme_chains.specs.GrantMemory.{arbitration_place}

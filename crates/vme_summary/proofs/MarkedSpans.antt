@@ -18,7 +18,7 @@ use Rattle.vme_monitor.specs.declared.mark.MarkKind.TheVariants as kind
 use Rattle.vme_monitor.specs.declared.mark.StepMarks.{StepMarks}
 use Rattle.vme_monitor.specs.declared.mark.Mark.{Mark}
 use Rattle.vme_dtb.proofs.Searches.{greatest_before, le_holds, lt_holds}
-use Rattle.vme_monitor.specs.KnownSpec.{known_resets}
+use Rattle.vme_monitor.specs.KnownRules.{known_resets}
 use Rattle.vme_summary.specs.AllShown.{all_over, all_shown}
 use Rattle.vme_summary.specs.MarkedRows.{first_instant, is_cycle_end, is_tenure_end, opening_marks, rows_of}
 use Rattle.vme_summary.proofs.InstantMarks.{all_put, all_put_is, after_cycle, after_open, after_tenure, after_transfer}

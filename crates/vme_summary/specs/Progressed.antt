@@ -8,7 +8,7 @@ use Rattle.vme_trace.specs.declared.block.Block.{Block}
 use Rattle.vme_trace.specs.declared.step.Step.{Step}
 use Rattle.vme_monitor.specs.Outcome.{Outcome}
 use Rattle.vme_monitor.specs.OverStretches.{start_in}
-use Rattle.vme_monitor.specs.KnownSpec.{known_begin}
+use Rattle.vme_monitor.specs.KnownRules.{known_begin}
 use Rattle.vme_dtb.specs.Machine.{dtb_begin}
 use Rattle.vme_stability.specs.StabilityRules.{stability_begin}
 use Rattle.vme_chains.specs.GrantRules.{grant_begin}

@@ -11,10 +11,10 @@ use Rattle.vme_monitor.specs.Outcome.{Outcome, StandsFor}
 use Rattle.vme_monitor.specs.WithoutMarks.{FindsFor, stands_finds}
 use Rattle.vme_monitor.specs.Tables.{outcome}
 use Rattle.vme_monitor.specs.OverStretches.{phase_place}
-use Rattle.vme_monitor.specs.KnownSpec.{nil_place}
+use Rattle.vme_monitor.specs.KnownRules.{nil_place}
 use Rattle.vme_monitor.specs.declared.known.Stateless.{Stateless}
 use Rattle.vme_monitor.specs.declared.over_stretches.StretchPhase.{StretchPhase}
-use Rattle.vme_dtb.specs.MemoryPlaces.{memory_place}
+use Rattle.vme_dtb.specs.MemoryNumbers.{memory_place}
 use Rattle.vme_dtb.specs.declared.memory.HandshakeMemory.{HandshakeMemory}
 use Rattle.vme_stability.specs.HoldingNumbers.{holding_place}
 use Rattle.vme_stability.specs.declared.holding.Holding.{Holding}

@@ -1,5 +1,5 @@
 use Rattle.std.proofs.Common.{rules, ◌≡◌, ◌<◌, ◌++◌, ◌∙◌, true, ap, arith, get_or, length, take}
-use Rattle.vme_monitor.specs.BothSpec.{mark_lt}
+use Rattle.vme_monitor.specs.BothMonitors.{mark_lt}
 use Rattle.vme_monitor.proofs.MergingMarks.{put_there}
 use Rattle.vme_monitor.proofs.both.count_until.Goals as goal
 

@@ -1,5 +1,5 @@
 use Rattle.std.proofs.Common.{◌≡◌, [], ◌∷◌, ◌++◌, drop, take}
-use Rattle.vme_monitor.specs.BothSpec.{merged}
+use Rattle.vme_monitor.specs.BothMonitors.{merged}
 use Rattle.vme_monitor.proofs.both.count_until.Given as goal
 
 abbrev pub invariant-loop-count : goal.invariant-loop-count

@@ -1,10 +1,10 @@
 -- The tables are of the runs without marks.
 use Rattle.vme_monitor.specs.OverStretches.{observed, phase_place, phase_step}
 use Rattle.vme_monitor.specs.Run.{nothing}
-use Rattle.vme_monitor.specs.KnownSpec.{known_begin, known_ends, known_next, known_opens, known_resets}
-use Rattle.vme_monitor.specs.KnownSpec.{known_observation, nil_place}
+use Rattle.vme_monitor.specs.KnownRules.{known_begin, known_ends, known_next, known_opens, known_resets}
+use Rattle.vme_monitor.specs.KnownRules.{known_observation, nil_place}
 use Rattle.vme_dtb.specs.Machine.{dtb_begin, dtb_ends, dtb_opens, dtb_observation, dtb_step}
-use Rattle.vme_dtb.specs.MemoryPlaces.{memory_place}
+use Rattle.vme_dtb.specs.MemoryNumbers.{memory_place}
 use Rattle.vme_stability.specs.HoldingNumbers.{holding_place}
 use Rattle.vme_stability.specs.StabilityRules.{stability_begin, stability_ends, stability_next, stability_opens}
 use Rattle.vme_stability.specs.StabilityRules.{stability_observation}

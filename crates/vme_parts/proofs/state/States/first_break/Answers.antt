@@ -1,7 +1,7 @@
 -- Each monitor finds its least break.
 use Rattle.std.proofs.Common.{◌∙◌, ap}
 use Rattle.std.specs.Option.{option_map}
-use Rattle.vme_monitor.specs.BothSpec.{least}
+use Rattle.vme_monitor.specs.BothMonitors.{least}
 use Rattle.vme_part_tables.specs.Runs.{break_of}
 use Rattle.vme_summary.specs.Runs.{known_run, handshake_run, stability_run, grant_run, acknowledge_run}
 use Rattle.vme_summary.proofs.Together.{least_of_all}

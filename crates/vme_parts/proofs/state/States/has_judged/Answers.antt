@@ -1,6 +1,6 @@
 -- The memory that is left has started exactly where something is judged.
 use Rattle.std.proofs.Common.{◌∙◌, ap}
-use Rattle.vme_monitor.specs.KnownSpec.{known_begin, nil_found, nil_nth, nil_place}
+use Rattle.vme_monitor.specs.KnownRules.{known_begin, nil_found, nil_nth, nil_place}
 use Rattle.vme_monitor.specs.OverStretches.{has_started, phase_nth, start_in}
 use Rattle.vme_monitor.specs.OverStretchesLaws.{phase_found}
 use Rattle.vme_summary.specs.Runs.{known_run}

@@ -1,8 +1,8 @@
 -- Each table is one of the steps of both.
 use Rattle.vme_monitor.specs.Run.{nothing, machine_step}
 use Rattle.vme_monitor.specs.OverStretches.{observed, phase_step}
-use Rattle.vme_monitor.specs.KnownSpec.{known_begin, known_ends, known_next, known_opens, known_resets}
-use Rattle.vme_monitor.specs.KnownSpec.{known_observation}
+use Rattle.vme_monitor.specs.KnownRules.{known_begin, known_ends, known_next, known_opens, known_resets}
+use Rattle.vme_monitor.specs.KnownRules.{known_observation}
 use Rattle.vme_dtb.specs.Machine.{dtb_begin, dtb_ends, dtb_opens, dtb_observation, dtb_step}
 use Rattle.vme_stability.specs.StabilityRules.{stability_begin, stability_ends, stability_next, stability_opens}
 use Rattle.vme_stability.specs.StabilityRules.{stability_observation}

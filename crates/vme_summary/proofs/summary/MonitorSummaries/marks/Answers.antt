@@ -1,10 +1,10 @@
 -- Each monitor has its marks.
 use Rattle.std.proofs.Common.{◌∙◌, ap}
 use Rattle.std.proofs.lemmas.Result.{IfOk-weaker}
-use Rattle.vme_monitor.specs.BothSpec.{merged}
+use Rattle.vme_monitor.specs.BothMonitors.{merged}
 use Rattle.vme_monitor.specs.Outcome.{Outcome}
 use Rattle.vme_monitor.specs.OverStretches.{start_in}
-use Rattle.vme_monitor.specs.KnownSpec.{known_begin}
+use Rattle.vme_monitor.specs.KnownRules.{known_begin}
 use Rattle.vme_dtb.specs.Machine.{dtb_begin}
 use Rattle.vme_stability.specs.StabilityRules.{stability_begin}
 use Rattle.vme_chains.specs.GrantRules.{grant_begin}

@@ -1,4 +1,4 @@
--- Where each memory stands among all of them.
+-- The number of each memory.
 use Rattle.std.proofs.Common.{◌≡◌, ℕ, ◌+◌, ◌*◌, ◌/◌, ◌%◌, ◌<◌, ◌≤◌, Bool, true, false, refl, ap, ◌∙◌, arith}
 use Rattle.std.specs.Prelude.{◌==◌, if◌then◌else◌}
 use Rattle.vme_monitor.specs.declared.tracking.Pending.{Pending}
