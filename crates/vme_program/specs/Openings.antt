@@ -8,19 +8,19 @@ use Rattle.vme_answer.specs.declared.refusal.Input.TheVariants.{Binding, Dump, L
 use Rattle.vme_answer.specs.declared.refusal.Refusal.TheVariants.{CannotOpen}
 use Rattle.vme_words.specs.declared.order.RecordingFiles.{RecordingFiles}
 
--- what is done with an input that was opened: a relation of its states before and after, of those of standard output
--- and of standard error, and of the exit status
-abbrev pub Doing : Type 1
-Doing = Reading × Reading → Writing × Writing → Writing × Writing → ℕ → Type 0
+-- what a command does with an input that was opened: a relation of its states before and after, of those of standard
+-- output and of standard error, and of the exit status
+abbrev pub CommandRelation : Type 1
+CommandRelation = Reading × Reading → Writing × Writing → Writing × Writing → ℕ → Type 0
 
 -- opening the file of a name gives the state of what is read there, or nothing where that failed
 module _ (opens : List ℕ → Option Reading → Type 0) where
   -- the file of this name is opened for an input, and this is done with it; or it can't be opened, that is written, and
   -- nothing else is done
-  abbrev pub WithInput : List ℕ → Input → Doing → Writing × Writing → Writing × Writing → ℕ → Type 0
-  WithInput name input Does out err status =
+  abbrev pub WithInput : List ℕ → Input → CommandRelation → Writing × Writing → Writing × Writing → ℕ → Type 0
+  WithInput name input Command out err status =
       (opens name None × Tells (refusal_answer (CannotOpen input)) out err status)
-      ⊎ ((told : Reading × Reading) × opens name (Some told.0) × Does told out err status)
+      ⊎ ((states : Reading × Reading) × opens name (Some states.0) × Command states out err status)
 
   -- this is the first file of a recording that can't be opened: the binding is tried before the dump, and there is no
   -- listing
@@ -32,10 +32,10 @@ module _ (opens : List ℕ → Option Reading → Type 0) where
 
   -- the files of a recording are opened, and this is done with the binding and the dump; or it is written which is the
   -- first that can't be opened, and nothing else is done
-  abbrev pub WithRecording : RecordingFiles → (Reading × Reading → Doing) → Writing × Writing → Writing × Writing → ℕ
-      → Type 0
-  WithRecording files Does out err status =
+  abbrev pub WithRecording : RecordingFiles → (Reading × Reading → CommandRelation) → Writing × Writing
+      → Writing × Writing → ℕ → Type 0
+  WithRecording files Command out err status =
       ((input : Input) × IsFirstUnopenedInput files input × Tells (refusal_answer (CannotOpen input)) out err status)
       ⊎ ((binding dump : Reading × Reading)
       × opens (string_bytes files.binding) (Some binding.0) × opens (string_bytes files.dump) (Some dump.0)
-      × Does binding dump out err status)
+      × Command binding dump out err status)

@@ -22,9 +22,9 @@ abbrev pub TellsParts : Bool → Option ℕ → List (List ℕ) → List Reading
 TellsParts true files names parts = ListsRecording names parts files
 TellsParts false files names parts = TellsRecording names parts files
 
--- what is done with parts that were opened, by what they tell before and after
-abbrev pub DoingParts : Type 1
-DoingParts = List Reading × List Reading → Writing × Writing → Writing × Writing → ℕ → Type 0
+-- the same relation for a command on parts: of their states before and after
+abbrev pub PartsCommandRelation : Type 1
+PartsCommandRelation = List Reading × List Reading → Writing × Writing → Writing × Writing → ℕ → Type 0
 
 module _ (opens : List ℕ → Option Reading → Type 0) where
   -- the files of these names were opened, in this order
@@ -38,12 +38,12 @@ module _ (opens : List ℕ → Option Reading → Type 0) where
       × (slice_get names n ≡ Some name) × AreOpened (take n names) before × opens name None
 
   -- each is opened, and this is done with them; the first that can't be is told, and nothing is read
-  abbrev pub WithParts : List (List ℕ) → DoingParts → Writing × Writing → Writing × Writing → ℕ → Type 0
-  WithParts names Does out err status =
+  abbrev pub WithParts : List (List ℕ) → PartsCommandRelation → Writing × Writing → Writing × Writing → ℕ → Type 0
+  WithParts names Command out err status =
       EndsForMemory out err status
       ⊎ (((name : List ℕ) × IsFirstUnopenedPart names name
       × (out.1 ≡ out.0) × RefusesFile name (codes "cannot open") 3 err status)
-      ⊎ ((parts : List Reading × List Reading) × AreOpened names parts.0 × Does parts out err status))
+      ⊎ ((parts : List Reading × List Reading) × AreOpened names parts.0 × Command parts out err status))
 
   -- the part of a file: the binding is opened, and then the dump
   abbrev pub WritesPartOfFiles : PartOrder → Writing × Writing → Writing × Writing → ℕ → Type 0
