@@ -19,10 +19,10 @@ use Rattle.vme_cert.specs.Comparing.{Decides}
 use Rattle.vme_cert.specs.declared.compare.Answer.{Answer}
 use Rattle.vme_step_reader.specs.StepReading.{StepReading, whole_reading}
 use Rattle.vme_dump_steps.specs.SettledReadings.{settled_whole, skew_of}
-use Rattle.vme_dump_input.specs.DumpReadings.{IsReadDump, IsSound}
+use Rattle.vme_dump_input.specs.DumpBeginnings.{IsReadDump, IsSound}
 use Rattle.vme_confirm_command.specs.DumpChecks.{FindsOf}
 use Rattle.vme_confirm_command.specs.DumpChecks.{IsChecked}
-use Rattle.vme_dump_input.specs.PieceReadings.{IsAtEnd}
+use Rattle.vme_dump_input.specs.BodyPieces.{IsAtEnd}
 use Rattle.vme_confirm_command.specs.StepChecks.{Finds, HasStepped}
 use Rattle.vme_confirm_command.specs.declared.step_check.StepCheck.{StepCheck}
 use Rattle.vme_dump_input.proofs.BodyLemmas.{sound-next}

@@ -24,12 +24,12 @@ use Rattle.vme_answer.specs.declared.refusal.Refusal.{Refusal}
 use Rattle.vme_answer.specs.declared.refusal.Refusal.TheVariants.{BadBinding, Memory}
 use Rattle.vme_skew.specs.Settled.{settled_or}
 use Rattle.vme_confirm_command.specs.Confirmations.{GivesConfirmation, GivesRows, compared_settled}
-use Rattle.vme_dump_input.specs.DumpReadings.{BeginsDump, IsDumpRefused, IsReadDump}
+use Rattle.vme_dump_input.specs.DumpBeginnings.{BeginsDump, IsDumpRefused, IsReadDump}
 use Rattle.vme_confirm_command.specs.DumpChecks.{Compares, FindsOf}
-use Rattle.vme_dump_input.specs.HeldInputs.{InputSoFar}
+use Rattle.vme_dump_input.specs.BufferedInputs.{InputSoFar}
 use Rattle.vme_dump_input.specs.declared.definitions.Begun.{Begun}
 use Rattle.vme_dump_input.specs.declared.definitions.Begun.TheVariants.{Body, Unusable}
-use Rattle.vme_dump_input.proofs.HeldLemmas.{some-reading}
+use Rattle.vme_dump_input.proofs.BufferedLemmas.{some-reading}
 use Rattle.vme_confirm_command.specs.FoundRows.{DecidesSo, EndsFound, FindsRows, IsAnswerTo}
 use Rattle.vme_confirm_command.specs.RowsOfListing.{EndsRows, rows_refusal}
 use Rattle.vme_confirm_command.proofs.ConfirmLemmas.{text-fits}

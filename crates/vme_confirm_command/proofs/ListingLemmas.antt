@@ -9,13 +9,13 @@ use Rattle.vme_listing.specs.declared.row.Row.{Row}
 use Rattle.vme_listing.specs.declared.row.Version.{Version}
 use Rattle.vme_stream.specs.declared.input.InFault.{InFault}
 use Rattle.vme_confirm_command.specs.Confirmations.{longest_listing}
-use Rattle.vme_dump_input.specs.HeldInputs.{FailsAs, InputSoFar, IsAllOf}
+use Rattle.vme_dump_input.specs.BufferedInputs.{FailsAs, InputSoFar, IsAllOf}
 use Rattle.vme_confirm_command.specs.RowsOfListing.{AreRead, EndsAt, EndsRows, GaveRows, HasTextFault, IsOver}
 use Rattle.vme_confirm_command.specs.RowsOfListing.{IsWholeText}
 use Rattle.vme_confirm_command.specs.RowsOfListing.{ReadsRow}
 use Rattle.vme_confirm_command.specs.declared.rows_fault.RowsFault.{RowsFault}
 use Rattle.vme_confirm_command.specs.declared.rows_fault.RowsFault.TheVariants.{Input, Text}
-use Rattle.vme_dump_input.proofs.HeldLemmas.{all-read}
+use Rattle.vme_dump_input.proofs.BufferedLemmas.{all-read}
 use Rattle.vme_confirm_command.proofs.RowLemmas.{ends-whole, input-refused, text-refused, whole-text}
 
 -- ---- one row more

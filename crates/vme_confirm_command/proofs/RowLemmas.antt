@@ -17,13 +17,13 @@ use Rattle.vme_answer.specs.Refusals.{listing_refusal}
 use Rattle.vme_answer.specs.declared.refusal.Input.TheVariants.{Listing}
 use Rattle.vme_answer.specs.declared.refusal.Refusal.TheVariants.{TooLong}
 use Rattle.vme_confirm_command.specs.Confirmations.{GivesRows, listing_text, longest_listing}
-use Rattle.vme_dump_input.specs.HeldInputs.{FailsAs, InputSoFar, IsReadTo}
+use Rattle.vme_dump_input.specs.BufferedInputs.{FailsAs, InputSoFar, IsReadTo}
 use Rattle.vme_confirm_command.specs.RowsOfListing.{AreCounted, GaveRows, IsSomeReading, rows_refusal}
 use Rattle.vme_confirm_command.specs.declared.rows_fault.RowsFault.{RowsFault}
 use Rattle.vme_confirm_command.specs.declared.rows_fault.RowsFault.TheVariants.{Input, Text}
 use Rattle.vme_confirm_command.proofs.ConfirmLemmas.{listing_fault, text-fits, text-long}
 use Rattle.vme_confirm_command.specs.RowsOfListing.{AreRead, HasReadRows, IsCounted, HoldsMore, IsWholeText}
-use Rattle.vme_dump_input.proofs.HeldLemmas.{some-reading, split-at, taken-first}
+use Rattle.vme_dump_input.proofs.BufferedLemmas.{some-reading, split-at, taken-first}
 
 -- ---- more bytes are held
 

@@ -14,7 +14,7 @@ use Rattle.vme_skew.specs.Settled.{settled_or}
 use Rattle.vme_cert.specs.Comparing.{Decides}
 use Rattle.vme_cert.specs.declared.compare.Answer.{Answer}
 use Rattle.vme_step_reader.specs.StepReading.{StepReading, whole_reading}
-use Rattle.vme_dump_input.specs.DumpReadings.{IsDumpRefused, IsReadDump, IsSound}
+use Rattle.vme_dump_input.specs.DumpBeginnings.{IsDumpRefused, IsReadDump, IsSound}
 use Rattle.vme_confirm_command.specs.StepChecks.{HasStepped}
 use Rattle.vme_confirm_command.specs.declared.step_check.StepCheck.{StepCheck}
 

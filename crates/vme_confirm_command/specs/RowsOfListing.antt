@@ -14,7 +14,7 @@ use Rattle.vme_answer.specs.Refusals.{listing_refusal, refused}
 use Rattle.vme_answer.specs.declared.refusal.Input.TheVariants.{Listing}
 use Rattle.vme_answer.specs.declared.refusal.Refusal.{Refusal}
 use Rattle.vme_confirm_command.specs.Confirmations.{GivesRows, listing_text, longest_listing}
-use Rattle.vme_dump_input.specs.HeldInputs.{FailsAs, InputSoFar, IsReadTo}
+use Rattle.vme_dump_input.specs.BufferedInputs.{FailsAs, InputSoFar, IsReadTo}
 use Rattle.vme_confirm_command.specs.declared.rows_fault.RowsFault.{RowsFault}
 use Rattle.vme_confirm_command.specs.declared.rows_fault.RowsFault.TheVariants.{Input, Text}
 

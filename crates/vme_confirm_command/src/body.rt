@@ -8,10 +8,10 @@ ghost use Rattle.vme_listing.specs.declared.row.Version.{Version};
 ghost use Rattle.vme_stream.specs.Inputs.{longest_input};
 ghost use Rattle.vme_cert.specs.Checking.{HasCompared};
 ghost use Rattle.vme_dump_steps.specs.SettledReadings.{skew_of};
-ghost use Rattle.vme_dump_input.specs.DumpReadings.{IsAtBody, IsBodyUnread};
+ghost use Rattle.vme_dump_input.specs.DumpBeginnings.{IsAtBody, IsBodyUnread};
 ghost use Rattle.vme_confirm_command.specs.DumpChecks.{Compares, IsChecked};
-ghost use Rattle.vme_dump_input.specs.DumpReadings.{MayBeRead, BeginsDump};
-ghost use Rattle.vme_dump_input.specs.PieceReadings.{IsAtEnd, ReadsPiece};
+ghost use Rattle.vme_dump_input.specs.DumpBeginnings.{MayBeRead, BeginsDump};
+ghost use Rattle.vme_dump_input.specs.BodyPieces.{IsAtEnd, ReadsPiece};
 ghost use Rattle.vme_confirm_command.specs.PieceChecks.{ChecksOn};
 ghost use Rattle.vme_confirm_command.specs.StepChecks.{IsComparing};
 
@@ -21,7 +21,7 @@ use vcd_read::VcdFault;
 use vme_answer::Refusal;
 use vme_bind::BindFault;
 use vme_cert::{Answer, RowSource};
-use vme_dump_input::{Begun, HeldInput, fault_of, opening_of, refused_in_body, unread};
+use vme_dump_input::{Begun, BufferedInput, fault_of, opening_of, refused_in_body, unread};
 use vme_listing::Version;
 use vme_step_reader::{StepReader, given_is_a_prefix, times_go_on};
 use vme_trace::Source;
@@ -31,7 +31,7 @@ use vme_trace::Source;
 fn check_piece<S: RowSource>(
     alloc: Global,
     reader: StepReader,
-    input: &mut HeldInput,
+    input: &mut BufferedInput,
     check: &mut StepCheck<S>,
 ) -> Result<StepReader, Option<VcdFault>>
     requires { (skew : Option ℕ) × (t : Trace) × IsChecked skew reader t check.old }
@@ -95,7 +95,7 @@ fn check_last<S: RowSource>(
 fn compare_body<D: Source, S: RowSource>(
     alloc: Global,
     dump: &mut D,
-    input: &mut HeldInput,
+    input: &mut BufferedInput,
     reader: StepReader,
     check: StepCheck<S>,
 ) -> (Result<Result<Answer, BindFault>, Refusal>, S)
@@ -144,7 +144,7 @@ fn first_check<S: RowSource>(
 pub(crate) fn compare_begun<D: Source, S: RowSource>(
     alloc: Global,
     dump: &mut D,
-    input: &mut HeldInput,
+    input: &mut BufferedInput,
     begun: Begun,
     skew: u64,
     version: Version,

@@ -14,7 +14,7 @@ ghost use Rattle.vme_bind.specs.Binding.{BoundLines};
 ghost use Rattle.vme_bind.specs.declared.fault.BindFault.{BindFault};
 ghost use Rattle.vme_listing.specs.declared.row.Row.{Row};
 ghost use Rattle.vme_listing.specs.declared.row.Version.{Version};
-ghost use Rattle.vme_dump_input.specs.DumpReadings.{MayBeRead, BeginsDump};
+ghost use Rattle.vme_dump_input.specs.DumpBeginnings.{MayBeRead, BeginsDump};
 ghost use Rattle.vme_confirm_command.specs.FoundRows.{EndsFound, FindsRows};
 ghost use Rattle.vme_confirm_command.specs.RowsOfListing.{GaveRows, IsOver};
 ghost use Rattle.vme_answer.specs.declared.refusal.Refusal.{Refusal};
@@ -25,7 +25,7 @@ use std::alloc::Global;
 use vme_answer::{Refusal, binding_from, cannot_write_line, refusal_line};
 use vme_bind::{BindFault, Binding};
 use vme_cert::Answer;
-use vme_dump_input::{Begun, HeldInput, dump_input, read_definitions};
+use vme_dump_input::{Begun, BufferedInput, dump_input, read_definitions};
 use vme_stream::{Message, complain, write_message};
 use vme_trace::{Sink, Source};
 
@@ -164,7 +164,7 @@ fn comparison_bound<D: Source, L: Source + Drop>(
 fn comparison_begun<D: Source, L: Source + Drop>(
     alloc: Global,
     dump: &mut D,
-    input: &mut HeldInput,
+    input: &mut BufferedInput,
     begun: Begun,
     listing: L,
     skew: u64,

@@ -5,7 +5,7 @@ ghost use Rattle.vme_listing.specs.Reading.{RowsSoFar};
 ghost use Rattle.vme_trace.specs.Streams.{Reading};
 ghost use Rattle.vme_listing.specs.declared.row.Row.{Row};
 ghost use Rattle.vme_listing.specs.declared.row.Version.{Version};
-ghost use Rattle.vme_dump_input.specs.HeldInputs.{not_read};
+ghost use Rattle.vme_dump_input.specs.BufferedInputs.{not_read};
 ghost use Rattle.vme_confirm_command.specs.RowsOfListing.{AreCounted, EndsAt, EndsRows, GaveRows, IsOver};
 ghost use Rattle.vme_confirm_command.specs.RowsOfListing.{IsSomeReading, rows_left};
 
@@ -13,7 +13,7 @@ use crate::row_reading::{begin_rows, next_row};
 use crate::rows_fault::RowsFault;
 use std::alloc::{AllocError, Global};
 use vme_cert::RowSource;
-use vme_dump_input::HeldInput;
+use vme_dump_input::BufferedInput;
 use vme_listing::{ListingPieces, Row, Version};
 use vme_trace::Source;
 
@@ -28,7 +28,7 @@ pub(crate) const LISTING_ROOM: usize = 2_097_152;
 #[derive(Drop)]
 pub(crate) struct ListingRows<L: Source + Drop> {
     source: L,
-    input: HeldInput,
+    input: BufferedInput,
     /// How far the rows are read, unless there is a fault.
     pieces: Option<ListingPieces>,
     fault: Option<RowsFault>,
@@ -36,15 +36,15 @@ pub(crate) struct ListingRows<L: Source + Drop> {
 }
 
 /// What a listing is read to.
-pub(crate) fn listing_input(alloc: Global) -> Result<HeldInput, AllocError>
+pub(crate) fn listing_input(alloc: Global) -> Result<BufferedInput, AllocError>
     ensures { IfOk result (λ input. input ≡ not_read LONGEST_LISTING LISTING_ROOM) }
 {
-    HeldInput::new(alloc, LONGEST_LISTING, LISTING_ROOM)
+    BufferedInput::new(alloc, LONGEST_LISTING, LISTING_ROOM)
 }
 
 impl<L: Source + Drop> ListingRows<L> {
     /// Begins behind the header, if there is one.
-    pub fn begin(source: L, input: HeldInput) -> ListingRows<L>
+    pub fn begin(source: L, input: BufferedInput) -> ListingRows<L>
         requires { input ≡ not_read LONGEST_LISTING LISTING_ROOM }
         ensures gave { (version : Version) → IfSome result.pieces (λ so_far. so_far.version ≡ version)
             → GaveRows (L.reading source) version (L.reading result.source) result.input result.pieces result.fault [] }
@@ -145,7 +145,7 @@ impl<L: Source + Drop> ListingRows<L> {
 /// Reads on behind a fault, to the end: that the listing can't be had at all comes before one of its text.
 fn read_on<L: Source + Drop>(
     source: L,
-    input: HeldInput,
+    input: BufferedInput,
     fault: RowsFault,
 ) -> (Result<(), RowsFault>, L)
     ensures { (old : Reading) (version : Version) (rows : List Row) (pieces : Option RowsSoFar)

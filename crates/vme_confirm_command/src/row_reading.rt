@@ -6,17 +6,17 @@ ghost use Rattle.vme_trace.specs.Streams.{Reading};
 ghost use Rattle.vme_listing.specs.Places.{ends_listing};
 ghost use Rattle.vme_listing.specs.declared.row.Row.{Row};
 ghost use Rattle.vme_confirm_command.specs.Confirmations.{longest_listing};
-ghost use Rattle.vme_dump_input.specs.HeldInputs.{FailsAs, IsReadTo};
+ghost use Rattle.vme_dump_input.specs.BufferedInputs.{FailsAs, IsReadTo};
 ghost use Rattle.vme_confirm_command.specs.RowsOfListing.{AreRead, HoldsMore, IsCounted, ReadsRow, rows_left};
 
 use crate::rows_fault::RowsFault;
-use vme_dump_input::HeldInput;
+use vme_dump_input::BufferedInput;
 use vme_listing::{LONGEST_LINE, ListFault, ListingPieces, Row};
 use vme_stream::InFault;
 use vme_trace::Source;
 
 /// Reads until there are more bytes than a line has, or the input ends.
-fn fill<L: Source>(source: &mut L, input: &mut HeldInput) -> Result<(), InFault>
+fn fill<L: Source>(source: &mut L, input: &mut BufferedInput) -> Result<(), InFault>
     ensures read { (old : Reading) (done : List ℕ) → IsReadTo old (L.reading source.old) done input.old
         → OnOk result (IsReadTo old (L.reading source.new) done input.new) }
     ensures filled { OnOk result (HoldsMore input.old input.new) }
@@ -38,7 +38,7 @@ fn fill<L: Source>(source: &mut L, input: &mut HeldInput) -> Result<(), InFault>
 /// Begins behind the header of a listing, of which nothing is read.
 pub(crate) fn begin_rows<L: Source>(
     source: &mut L,
-    input: &mut HeldInput,
+    input: &mut BufferedInput,
 ) -> Result<ListingPieces, RowsFault>
     requires small { input.old.read < 2 ^ 62 }
     requires held { length input.old.held ≤ input.old.read }
@@ -62,7 +62,7 @@ pub(crate) fn begin_rows<L: Source>(
 /// The next row, or none where the listing is whole.
 pub(crate) fn next_row<L: Source>(
     source: &mut L,
-    input: &mut HeldInput,
+    input: &mut BufferedInput,
     pieces: &mut ListingPieces,
 ) -> Result<Option<Row>, RowsFault>
     requires counted { IsCounted pieces.old input.old }

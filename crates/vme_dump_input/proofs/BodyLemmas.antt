@@ -15,12 +15,12 @@ use Rattle.vme_stream.specs.Inputs.{longest_input}
 use Rattle.vme_step_reader.specs.StepReading.{StepReading, whole_reading}
 use Rattle.vme_dump_steps.specs.SettledSteps.{GoOnFrom, GoOnTo}
 use Rattle.vme_dump_steps.proofs.ReadSteps.{GivenIsPrefix, StepsFollow, StepsWithin, TimeGoesOn, steps-from, steps-to}
-use Rattle.vme_dump_input.specs.DumpReadings.{HasFault, HasFaultBefore, IsAtBody, IsSound}
-use Rattle.vme_dump_input.specs.HeldInputs.{InputSoFar, IsAllOf, IsGrown, IsReadTo}
-use Rattle.vme_dump_input.specs.PieceReadings.{IsAtEnd}
+use Rattle.vme_dump_input.specs.DumpBeginnings.{HasFault, HasFaultBefore, IsAtBody, IsSound}
+use Rattle.vme_dump_input.specs.BufferedInputs.{InputSoFar, IsAllOf, IsGrown, IsReadTo}
+use Rattle.vme_dump_input.specs.BodyPieces.{IsAtEnd}
 use Rattle.vme_dump_input.proofs.DumpTexts.{agree}
-use Rattle.vme_dump_input.proofs.HeldLemmas.{all-read, taken-first}
-use Rattle.vme_dump_input.proofs.HeldLemmas.{split-at}
+use Rattle.vme_dump_input.proofs.BufferedLemmas.{all-read, taken-first}
+use Rattle.vme_dump_input.proofs.BufferedLemmas.{split-at}
 
 -- ---- a fault
 

@@ -15,11 +15,11 @@ use Rattle.vme_bind.specs.declared.fault.CaptureFault.{CaptureFault}
 use Rattle.vme_bind.specs.declared.fault.CaptureFault.TheVariants.{Dump}
 use Rattle.vme_listing.specs.Reading.{IsFollowedBy}
 use Rattle.vme_step_reader.specs.StepReading.{StepReading, whole_reading}
-use Rattle.vme_dump_input.specs.DumpReadings.{HasFault, HasFaultBefore, IsAtBody, IsBodyUnread, IsSound}
-use Rattle.vme_dump_input.specs.HeldInputs.{InputSoFar, IsReadTo}
+use Rattle.vme_dump_input.specs.DumpBeginnings.{HasFault, HasFaultBefore, IsAtBody, IsBodyUnread, IsSound}
+use Rattle.vme_dump_input.specs.BufferedInputs.{InputSoFar, IsReadTo}
 use Rattle.vme_dump_input.proofs.DumpTexts.{agree}
-use Rattle.vme_dump_input.proofs.HeldLemmas.{taken-first}
-use Rattle.vme_dump_input.proofs.HeldLemmas.{split-at}
+use Rattle.vme_dump_input.proofs.BufferedLemmas.{taken-first}
+use Rattle.vme_dump_input.proofs.BufferedLemmas.{split-at}
 
 -- ---- a fault of the dump
 

@@ -21,8 +21,8 @@ use Rattle.vme_answer.specs.declared.refusal.Input.TheVariants.{Dump}
 use Rattle.vme_answer.specs.declared.refusal.Refusal.{Refusal}
 use Rattle.vme_answer.specs.declared.refusal.Refusal.TheVariants.{BadBinding, BadDump, Memory}
 use Rattle.vme_answer.proofs.AnswerLemmas.{too_long_is, whole_is}
-use Rattle.vme_dump_input.specs.DumpReadings.{BeginsDump, HasFault, IsReadDump, IsDumpRefused}
-use Rattle.vme_dump_input.specs.HeldInputs.{FailsAs, InputSoFar, IsAllOf}
+use Rattle.vme_dump_input.specs.DumpBeginnings.{BeginsDump, HasFault, IsReadDump, IsDumpRefused}
+use Rattle.vme_dump_input.specs.BufferedInputs.{FailsAs, InputSoFar, IsAllOf}
 use Rattle.vme_dump_input.specs.declared.definitions.Begun.{Begun}
 use Rattle.vme_dump_input.specs.declared.definitions.Begun.TheVariants.{Unusable}
 

@@ -1,4 +1,4 @@
-pub mod HeldLemmas
+pub mod BufferedLemmas
 pub mod DumpTexts
 pub mod DumpRefusals
 pub mod DefinitionLemmas

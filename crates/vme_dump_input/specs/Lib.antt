@@ -1,3 +1,3 @@
-pub mod HeldInputs
-pub mod DumpReadings
-pub mod PieceReadings
+pub mod BufferedInputs
+pub mod DumpBeginnings
+pub mod BodyPieces

@@ -3,11 +3,11 @@
 ghost use Rattle.std.specs.Prelude.{◌≡◌, ◌≤◌};
 ghost use Rattle.vme_trace.specs.Streams.{Reading};
 ghost use Rattle.vme_stream.specs.Inputs.{longest_input};
-ghost use Rattle.vme_dump_input.specs.DumpReadings.{IsDumpRefused};
-ghost use Rattle.vme_dump_input.specs.PieceReadings.{FailsPiece};
+ghost use Rattle.vme_dump_input.specs.DumpBeginnings.{IsDumpRefused};
+ghost use Rattle.vme_dump_input.specs.BodyPieces.{FailsPiece};
 
+use crate::buffered_input::BufferedInput;
 use crate::definitions::refused_for;
-use crate::held_input::HeldInput;
 use vcd_read::VcdFault;
 use vme_answer::Refusal;
 use vme_step_reader::{StepReader, StoppedSteps};
@@ -28,7 +28,7 @@ pub fn fault_of(stopped: StoppedSteps) -> VcdFault
 /// Why a body isn't read on: for a fault of the dump, or for want of memory.
 pub fn refused_in_body<D: Source>(
     dump: &mut D,
-    input: &mut HeldInput,
+    input: &mut BufferedInput,
     fault: Option<VcdFault>,
 ) -> Refusal
     ensures { (old : Reading) → input.old.limit ≡ longest_input

@@ -11,12 +11,12 @@ ghost use Rattle.vme_answer.specs.declared.refusal.Input.TheVariants.{Dump};
 ghost use Rattle.vme_answer.specs.declared.refusal.Refusal.TheVariants.{BadBinding};
 ghost use Rattle.vme_bind.specs.declared.fault.BindFault.{BindFault};
 ghost use Rattle.vme_dump_input.specs.declared.definitions.Begun.TheVariants.{Body, Unusable};
-ghost use Rattle.vme_dump_input.specs.HeldInputs.{IsReadTo, not_read};
-ghost use Rattle.vme_dump_input.specs.DumpReadings.{HasFaultBefore, IsDumpRefused, MayBeRead, MayBeReadIf};
-ghost use Rattle.vme_dump_input.specs.DumpReadings.{MayBegin};
-ghost use Rattle.vme_dump_input.specs.DumpReadings.{BeginsDump};
+ghost use Rattle.vme_dump_input.specs.BufferedInputs.{IsReadTo, not_read};
+ghost use Rattle.vme_dump_input.specs.DumpBeginnings.{HasFaultBefore, IsDumpRefused, MayBeRead, MayBeReadIf};
+ghost use Rattle.vme_dump_input.specs.DumpBeginnings.{MayBegin};
+ghost use Rattle.vme_dump_input.specs.DumpBeginnings.{BeginsDump};
 
-use crate::held_input::HeldInput;
+use crate::buffered_input::BufferedInput;
 use std::alloc::{AllocError, Global};
 use vcd_read::{VcdFault, whole_tokens};
 use vme_answer::{Input, Refusal, captured_in};
@@ -33,10 +33,10 @@ const LONGEST_DUMP: u64 = 268_435_456;
 const DUMP_ROOM: usize = 65_536;
 
 /// What a dump is read to.
-pub fn dump_input(alloc: Global) -> Result<HeldInput, AllocError>
+pub fn dump_input(alloc: Global) -> Result<BufferedInput, AllocError>
     ensures { IfOk result (λ input. input ≡ not_read longest_input DUMP_ROOM) }
 {
-    HeldInput::new(alloc, LONGEST_DUMP, DUMP_ROOM)
+    BufferedInput::new(alloc, LONGEST_DUMP, DUMP_ROOM)
 }
 
 /// The definitions of a dump were read.
@@ -56,7 +56,7 @@ pub fn unread(fault: InFault) -> Refusal
 }
 
 /// What a fault of a dump is to the answer: that it can't be had at all comes before.
-pub fn refused_for<D: Source>(dump: &mut D, input: &mut HeldInput, fault: VcdFault) -> Refusal
+pub fn refused_for<D: Source>(dump: &mut D, input: &mut BufferedInput, fault: VcdFault) -> Refusal
     ensures refused { (old : Reading) (done : List ℕ) → IsReadTo old (D.reading dump.old) done input.old
         → input.old.limit ≡ longest_input → HasFaultBefore done input.old fault
         → IsDumpRefused old (D.reading dump.new) result }
@@ -87,7 +87,7 @@ fn unusable<D: Source>(
     alloc: Global,
     bound: &Binding,
     dump: &mut D,
-    input: &mut HeldInput,
+    input: &mut BufferedInput,
 ) -> Result<Begun, Refusal>
     ensures begun { IfOk result MayBeRead }
     ensures unusable { IfOk result (λ begun. (fault : BindFault) × (begun ≡ Unusable fault)) }
@@ -111,7 +111,7 @@ pub fn not_begun<D: Source>(
     alloc: Global,
     bound: &Binding,
     dump: &mut D,
-    input: &mut HeldInput,
+    input: &mut BufferedInput,
     fault: CaptureFault,
 ) -> Result<Begun, Refusal>
     ensures begun { IfOk result MayBeRead }
@@ -133,7 +133,7 @@ fn begin_last<D: Source>(
     alloc: Global,
     bound: &Binding,
     dump: &mut D,
-    input: &mut HeldInput,
+    input: &mut BufferedInput,
 ) -> Result<Begun, Refusal>
     requires { input.old.is_whole ≡ true }
     ensures begun { IfOk result MayBeRead }
@@ -151,7 +151,7 @@ fn begin_last<D: Source>(
 }
 
 /// Takes the definitions away, which have so many bytes: the body is left.
-fn body_behind(input: &mut HeldInput, found: (StepReader, usize)) -> Begun
+fn body_behind(input: &mut BufferedInput, found: (StepReader, usize)) -> Begun
     requires { found.1 ≤ length input.old.held }
     ensures body { result ≡ Body found.0 }
     ensures input { input.new ≡ record input.old { held = drop found.1 input.old.held } }
@@ -166,7 +166,7 @@ fn begin<D: Source>(
     alloc: Global,
     bound: &Binding,
     dump: &mut D,
-    input: &mut HeldInput,
+    input: &mut BufferedInput,
 ) -> Result<Option<Begun>, Refusal>
     ensures begun { IfOk result MayBeReadIf }
     ensures read { (old : Reading) → IsReadTo old (D.reading dump.old) [] input.old → input.old.limit ≡ longest_input
@@ -189,7 +189,7 @@ pub fn read_definitions<D: Source>(
     alloc: Global,
     bound: &Binding,
     dump: &mut D,
-    input: &mut HeldInput,
+    input: &mut BufferedInput,
 ) -> Result<Begun, Refusal>
     ensures begun { IfOk result MayBeRead }
     ensures read { (old : Reading) → IsReadTo old (D.reading dump.old) [] input.old → input.old.limit ≡ longest_input

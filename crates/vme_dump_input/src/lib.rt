@@ -3,7 +3,8 @@
 //!
 //! # Parts
 //!
-//! - `held_input`: [`HeldInput`], the bytes of an input that were read and not taken, up to a limit.
+//! - `buffered_input`: [`BufferedInput`], the bytes of an input that were read and not taken, up to
+//!   a limit.
 //! - `definitions`: [`read_definitions`] reads the definitions of a dump, up to its body.
 //!   [`refused_for`] and [`not_begun`] say what a fault is that is met in them.
 //! - `body`: what a fault is that is met in the body.
@@ -26,13 +27,13 @@
 //!
 //! A dump has at most 268,435,456 bytes.
 //!
-//! Start reading at `specs/HeldInputs`, then `specs/DumpReadings`.
+//! Start reading at `specs/BufferedInputs`, then `specs/DumpBeginnings`.
 #![tactic(auto)]
 
 mod body;
+mod buffered_input;
 mod definitions;
-mod held_input;
 
 pub use body::{fault_of, opening_of, refused_in_body};
+pub use buffered_input::BufferedInput;
 pub use definitions::{Begun, dump_input, not_begun, read_definitions, refused_for, unread};
-pub use held_input::HeldInput;

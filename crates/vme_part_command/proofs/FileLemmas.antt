@@ -11,9 +11,9 @@ use Rattle.vme_bind.specs.TextReading.{TextReading, reading_of_text}
 use Rattle.vme_listing.specs.Reading.{IsFollowedBy}
 use Rattle.vme_stream.specs.Inputs.{longest_input}
 use Rattle.vme_step_reader.specs.StepReading.{StepReading, whole_reading}
-use Rattle.vme_dump_input.specs.DumpReadings.{IsAtBody}
-use Rattle.vme_dump_input.specs.HeldInputs.{InputSoFar, IsAllOf, IsGrown, IsReadTo}
-use Rattle.vme_dump_input.proofs.HeldLemmas.{all-read, split-at, taken-first}
+use Rattle.vme_dump_input.specs.DumpBeginnings.{IsAtBody}
+use Rattle.vme_dump_input.specs.BufferedInputs.{InputSoFar, IsAllOf, IsGrown, IsReadTo}
+use Rattle.vme_dump_input.proofs.BufferedLemmas.{all-read, split-at, taken-first}
 use Rattle.vme_part_command.specs.FileReadings.{IsAtFile, IsAtFileEnd, IsStartFor, TellsStartFor}
 
 ends_not : (flag : Bool) → flag ≡ false → flag ≡ true → ⊥

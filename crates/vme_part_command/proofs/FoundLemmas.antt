@@ -23,7 +23,7 @@ use Rattle.vme_part_format.proofs.SizeLaws.{part_is_small}
 use Rattle.vme_parts.specs.Files.{IsPartOfFile}
 use Rattle.vme_file_part.specs.FileOf.{file_of}
 use Rattle.vme_step_reader.specs.StepReading.{StepReading, whole_reading}
-use Rattle.vme_dump_input.specs.DumpReadings.{IsDumpRefused, IsReadDump}
+use Rattle.vme_dump_input.specs.DumpBeginnings.{IsDumpRefused, IsReadDump}
 use Rattle.vme_dump_input.proofs.DumpRefusals.{dump-is}
 use Rattle.vme_dump_input.proofs.DumpTexts.{agree, captured-is}
 use Rattle.vme_part_command.specs.Backplane.{backplane_of}

@@ -15,7 +15,7 @@ use Rattle.vme_file_part.specs.Growing.{IsFileSoFar}
 use Rattle.vme_file_part.specs.FileOf.{file_of}
 use Rattle.vme_file_part.specs.declared.file_so_far.FileSoFar.{FileSoFar}
 use Rattle.vme_step_reader.specs.StepReading.{StepReading}
-use Rattle.vme_dump_input.specs.DumpReadings.{IsSound}
+use Rattle.vme_dump_input.specs.DumpBeginnings.{IsSound}
 use Rattle.vme_part_command.specs.declared.file_check.FileCheck.{FileCheck}
 use Rattle.vme_part_command.specs.declared.no_part.NoPart.{NoPart}
 use Rattle.vme_part_command.specs.declared.no_part.NoPart.TheVariants as none

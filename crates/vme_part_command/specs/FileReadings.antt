@@ -15,9 +15,9 @@ use Rattle.vme_listing.specs.Reading.{IsFollowedBy}
 use Rattle.vme_answer.specs.declared.refusal.Refusal.{Refusal}
 use Rattle.vme_stream.specs.Inputs.{longest_input}
 use Rattle.vme_step_reader.specs.StepReading.{StepReading, whole_reading}
-use Rattle.vme_dump_input.specs.DumpReadings.{IsBodyUnread, IsDumpRefused, IsReadDump}
-use Rattle.vme_dump_input.specs.HeldInputs.{InputSoFar, IsAllOf, IsReadTo}
-use Rattle.vme_dump_input.specs.PieceReadings.{FailsPiece}
+use Rattle.vme_dump_input.specs.DumpBeginnings.{IsBodyUnread, IsDumpRefused, IsReadDump}
+use Rattle.vme_dump_input.specs.BufferedInputs.{InputSoFar, IsAllOf, IsReadTo}
+use Rattle.vme_dump_input.specs.BodyPieces.{FailsPiece}
 use Rattle.vme_part_command.specs.declared.file_check.FileCheck.{FileCheck}
 use Rattle.vme_part_command.specs.declared.file_definitions.BegunFile.{BegunFile}
 use Rattle.vme_part_command.specs.declared.file_definitions.BegunFile.TheVariants.{Body, Unusable}

@@ -4,7 +4,7 @@ ghost use Rattle.std.specs.Prelude.{◌≡◌, ℕ, Bool, IfOk, Ok, Option};
 ghost use Rattle.vme_trace.specs.Streams.{Reading};
 ghost use Rattle.vme_bind.specs.Binding.{BoundLines};
 ghost use Rattle.vme_stream.specs.Inputs.{longest_input};
-ghost use Rattle.vme_dump_input.specs.DumpReadings.{IsBodyUnread};
+ghost use Rattle.vme_dump_input.specs.DumpBeginnings.{IsBodyUnread};
 ghost use Rattle.vme_part_command.specs.Backplane.{backplane_of};
 ghost use Rattle.vme_part_command.specs.FileChecks.{IsFileJudged};
 ghost use Rattle.vme_part_command.specs.FileReadings.{BeginsFile, IsAtFile, IsAtFileEnd, MayBeBegun, ReadsFile};
@@ -19,7 +19,7 @@ use crate::part::PartOptions;
 use std::alloc::Global;
 use vcd_read::VcdFault;
 use vme_answer::Refusal;
-use vme_dump_input::{HeldInput, fault_of, opening_of, refused_in_body, unread};
+use vme_dump_input::{BufferedInput, fault_of, opening_of, refused_in_body, unread};
 use vme_part_format::Part;
 use vme_step_reader::StepReader;
 use vme_trace::Source;
@@ -29,7 +29,7 @@ use vme_trace::Source;
 fn judge_piece(
     alloc: Global,
     reader: StepReader,
-    input: &mut HeldInput,
+    input: &mut BufferedInput,
     check: FileCheck,
 ) -> Result<(StepReader, FileCheck), Option<VcdFault>>
     requires { (number : ℕ) × (listing : Bool) × (start : Option ℕ) × IsFileJudged number listing start reader check }
@@ -78,7 +78,7 @@ fn judge_last(
 fn judge_body<D: Source>(
     alloc: Global,
     dump: &mut D,
-    input: &mut HeldInput,
+    input: &mut BufferedInput,
     reader: StepReader,
     check: FileCheck,
     backplane: u64,
@@ -111,7 +111,7 @@ fn part_of_body<D: Source>(
     alloc: Global,
     options: PartOptions,
     dump: &mut D,
-    input: &mut HeldInput,
+    input: &mut BufferedInput,
     reader: StepReader,
     start: Option<u64>,
 ) -> Result<Part, NoPart>
@@ -133,7 +133,7 @@ pub(crate) fn part_of_begun<D: Source>(
     alloc: Global,
     options: PartOptions,
     dump: &mut D,
-    input: &mut HeldInput,
+    input: &mut BufferedInput,
     begun: BegunFile,
 ) -> Result<Part, NoPart>
     requires { MayBeBegun begun }

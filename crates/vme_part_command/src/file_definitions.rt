@@ -4,7 +4,7 @@ ghost use Rattle.std.specs.Prelude.{◌≡◌, ◌≤◌, ◌++◌, ℕ, List, [
 ghost use Rattle.vme_trace.specs.Streams.{Reading};
 ghost use Rattle.vme_bind.specs.declared.fault.BindFault.{BindFault};
 ghost use Rattle.vme_stream.specs.Inputs.{longest_input};
-ghost use Rattle.vme_dump_input.specs.HeldInputs.{IsReadTo};
+ghost use Rattle.vme_dump_input.specs.BufferedInputs.{IsReadTo};
 ghost use Rattle.vme_part_command.specs.FileReadings.{BeginsFile, MayBeBegun, MayBeBegunIf, MayBeginFile};
 ghost use Rattle.vme_part_command.specs.FileReadings.{TellsStartFor};
 ghost use Rattle.vme_part_command.specs.FileReadings.{FailsBefore, IsStartFor};
@@ -16,7 +16,7 @@ use vcd_read::whole_tokens;
 use vcd_start::{Start, start_in, start_of_text};
 use vme_answer::Refusal;
 use vme_bind::{BindFault, Binding, CaptureFault};
-use vme_dump_input::{Begun, HeldInput, not_begun, unread};
+use vme_dump_input::{Begun, BufferedInput, not_begun, unread};
 use vme_dump_steps::DefinitionsEnd;
 use vme_step_reader::{StepReader, begin_last_steps, begin_steps};
 use vme_trace::Source;
@@ -102,7 +102,7 @@ fn no_body<D: Source>(
     alloc: Global,
     bound: &Binding,
     dump: &mut D,
-    input: &mut HeldInput,
+    input: &mut BufferedInput,
     fault: CaptureFault,
 ) -> Result<BegunFile, Refusal>
     ensures begun { IfOk result MayBeBegun }
@@ -122,7 +122,7 @@ fn begin_last_at<D: Source>(
     alloc: Global,
     bound: &Binding,
     dump: &mut D,
-    input: &mut HeldInput,
+    input: &mut BufferedInput,
     start: Option<u64>,
 ) -> Result<BegunFile, Refusal>
     requires { input.old.is_whole ≡ true }
@@ -146,7 +146,7 @@ fn begin_last<D: Source>(
     alloc: Global,
     bound: &Binding,
     dump: &mut D,
-    input: &mut HeldInput,
+    input: &mut BufferedInput,
     number: u32,
 ) -> Result<BegunFile, Refusal>
     requires { input.old.is_whole ≡ true }
@@ -162,7 +162,11 @@ fn begin_last<D: Source>(
 }
 
 /// Takes the definitions away, which have so many bytes: the body is left.
-fn body_behind(input: &mut HeldInput, found: (StepReader, usize), start: Option<u64>) -> BegunFile
+fn body_behind(
+    input: &mut BufferedInput,
+    found: (StepReader, usize),
+    start: Option<u64>,
+) -> BegunFile
     requires { found.1 ≤ length input.old.held }
     ensures body { result ≡ Body found.0 start }
     ensures input { input.new ≡ record input.old { held = drop found.1 input.old.held } }
@@ -177,7 +181,7 @@ fn begin_at<D: Source>(
     alloc: Global,
     bound: &Binding,
     dump: &mut D,
-    input: &mut HeldInput,
+    input: &mut BufferedInput,
     start: Option<u64>,
 ) -> Result<Option<BegunFile>, Refusal>
     ensures begun { IfOk result MayBeBegunIf }
@@ -202,7 +206,7 @@ fn begin<D: Source>(
     alloc: Global,
     bound: &Binding,
     dump: &mut D,
-    input: &mut HeldInput,
+    input: &mut BufferedInput,
     number: u32,
 ) -> Result<Option<BegunFile>, Refusal>
     ensures begun { IfOk result MayBeBegunIf }
@@ -223,7 +227,7 @@ pub(crate) fn read_definitions<D: Source>(
     alloc: Global,
     bound: &Binding,
     dump: &mut D,
-    input: &mut HeldInput,
+    input: &mut BufferedInput,
     number: u32,
 ) -> Result<BegunFile, Refusal>
     ensures begun { IfOk result MayBeBegun }

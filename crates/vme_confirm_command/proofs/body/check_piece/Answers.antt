@@ -4,12 +4,12 @@ use Rattle.vcd_read.specs.declared.fault.VcdFault.{VcdFault}
 use Rattle.vme_trace.specs.Followed.{with_steps}
 use Rattle.vme_step_reader.specs.StepReading.{whole_reading}
 use Rattle.vme_step_reader.specs.Stops.{StopsBehind}
-use Rattle.vme_dump_input.specs.DumpReadings.{IsAtBody}
-use Rattle.vme_dump_input.specs.HeldInputs.{InputSoFar}
-use Rattle.vme_dump_input.specs.PieceReadings.{FailsPiece}
+use Rattle.vme_dump_input.specs.DumpBeginnings.{IsAtBody}
+use Rattle.vme_dump_input.specs.BufferedInputs.{InputSoFar}
+use Rattle.vme_dump_input.specs.BodyPieces.{FailsPiece}
 use Rattle.vme_dump_input.proofs.BodyLemmas.{body-stops, body-taken, piece-goes}
 use Rattle.vme_confirm_command.proofs.BodyLemmas.{checked-next}
-use Rattle.vme_dump_input.proofs.HeldLemmas.{some-reading}
+use Rattle.vme_dump_input.proofs.BufferedLemmas.{some-reading}
 use Rattle.vme_confirm_command.proofs.body.check_piece.Goals as goal
 
 pub take-requires-in-Ok : goal.take-requires-in-Ok

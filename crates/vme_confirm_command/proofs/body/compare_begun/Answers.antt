@@ -1,7 +1,7 @@
 -- The body is compared, or the binding can't be used on the dump.
 use Rattle.std.proofs.Common.{[], subst}
 use Rattle.std.specs.Prelude.{Ok}
-use Rattle.vme_dump_input.specs.DumpReadings.{BeginsDump}
+use Rattle.vme_dump_input.specs.DumpBeginnings.{BeginsDump}
 use Rattle.vme_dump_input.specs.declared.definitions.Begun.{Begun}
 use Rattle.vme_dump_steps.specs.SettledReadings.{skew_of}
 use Rattle.vme_confirm_command.proofs.body.compare_begun.Goals as goal

@@ -1,8 +1,8 @@
 -- The steps of each piece are compared.
 use Rattle.std.proofs.Common.{ℕ, List, refl, subst, sym, ◌∙◌}
 use Rattle.vme_dump_steps.specs.SettledReadings.{skew_of}
-use Rattle.vme_dump_input.specs.HeldInputs.{FailsAs}
-use Rattle.vme_dump_input.specs.PieceReadings.{IsAtEnd}
+use Rattle.vme_dump_input.specs.BufferedInputs.{FailsAs}
+use Rattle.vme_dump_input.specs.BodyPieces.{IsAtEnd}
 use Rattle.vme_dump_input.proofs.BodyLemmas.{body-ends, body-grown}
 use Rattle.vme_dump_input.proofs.DumpRefusals.{unread-is}
 use Rattle.vme_confirm_command.proofs.body.compare_body.Goals as goal

@@ -3,9 +3,9 @@ use Rattle.std.proofs.Common.{◌≡◌, ℕ, Option}
 use Rattle.vme_trace.specs.Streams.{Reading}
 use Rattle.vme_trace.specs.Trace.{Trace}
 use Rattle.vme_bind.specs.Binding.{BoundLines}
-use Rattle.vme_dump_input.specs.DumpReadings.{IsAtBody}
+use Rattle.vme_dump_input.specs.DumpBeginnings.{IsAtBody}
 use Rattle.vme_confirm_command.specs.DumpChecks.{IsChecked}
-use Rattle.vme_dump_input.specs.HeldInputs.{reads_left}
+use Rattle.vme_dump_input.specs.BufferedInputs.{reads_left}
 use Rattle.vme_confirm_command.specs.PieceChecks.{ChecksOn}
 use Rattle.vme_confirm_command.proofs.body.compare_body.Given as goal
 

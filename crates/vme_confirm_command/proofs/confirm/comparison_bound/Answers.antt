@@ -3,9 +3,9 @@ use Rattle.std.specs.Prelude.{Err}
 use Rattle.vme_answer.specs.declared.refusal.Refusal.TheVariants.{Memory}
 use Rattle.vme_stream.proofs.InputLemmas.{unread}
 use Rattle.vme_stream.specs.Inputs.{longest_input}
-use Rattle.vme_dump_input.specs.HeldInputs.{InputSoFar, IsReadTo}
+use Rattle.vme_dump_input.specs.BufferedInputs.{InputSoFar, IsReadTo}
 use Rattle.vme_confirm_command.proofs.FoundLemmas.{confirms-refused}
-use Rattle.vme_dump_input.proofs.HeldLemmas.{first-read}
+use Rattle.vme_dump_input.proofs.BufferedLemmas.{first-read}
 use Rattle.vme_confirm_command.proofs.confirm.comparison_bound.Goals as goal
 
 pub returns-in_default : goal.returns-in_default

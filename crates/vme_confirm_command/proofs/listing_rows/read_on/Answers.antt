@@ -1,6 +1,6 @@
 -- The fault is told, unless the listing can't be had at all.
 use Rattle.std.proofs.Common.{◌++◌, Some, subst}
-use Rattle.vme_dump_input.specs.HeldInputs.{FailsAs, IsAllOf}
+use Rattle.vme_dump_input.specs.BufferedInputs.{FailsAs, IsAllOf}
 use Rattle.vme_confirm_command.specs.RowsOfListing.{GaveRows}
 use Rattle.vme_confirm_command.specs.declared.rows_fault.RowsFault.{RowsFault}
 use Rattle.vme_confirm_command.proofs.ListingLemmas.{input-ends, text-ends}

@@ -3,7 +3,7 @@ use Rattle.std.proofs.Common.{◌≤◌, ℕ, Bool, List, [], ◌++◌, drop, le
 use Rattle.std.specs.Prelude.{Ok}
 use Rattle.vme_listing.specs.Reading.{HasNoListing, HasRead, IsFirstFault, IsFollowedBy, behind_rows}
 use Rattle.vme_listing.specs.declared.fault.ListFault.TheVariants.{BadHeader}
-use Rattle.vme_dump_input.specs.HeldInputs.{FailsAs, InputSoFar}
+use Rattle.vme_dump_input.specs.BufferedInputs.{FailsAs, InputSoFar}
 use Rattle.vme_confirm_command.specs.RowsOfListing.{AreRead, IsCounted}
 use Rattle.vme_confirm_command.proofs.RowLemmas.{counted-first, rows-taken}
 use Rattle.vme_confirm_command.proofs.row_reading.begin_rows.Goals as goal

@@ -1,6 +1,6 @@
 -- More bytes are held.
 use Rattle.std.proofs.Common.{arith, refl, subst, sym, ◌∙◌}
-use Rattle.vme_dump_input.specs.HeldInputs.{FailsAs}
+use Rattle.vme_dump_input.specs.BufferedInputs.{FailsAs}
 use Rattle.vme_confirm_command.proofs.RowLemmas.{fill-more, fill-none}
 use Rattle.vme_confirm_command.proofs.row_reading.fill.Goals as goal
 

@@ -1,7 +1,7 @@
 -- What was held is at the front of what is.
 use Rattle.std.proofs.Common.{◌≡◌, ℕ, ◌+◌, ◌^◌, ◌<◌, List, length}
 use Rattle.vme_trace.specs.Streams.{Reading}
-use Rattle.vme_dump_input.specs.HeldInputs.{IsReadTo, reads_left}
+use Rattle.vme_dump_input.specs.BufferedInputs.{IsReadTo, reads_left}
 use Rattle.vme_confirm_command.specs.RowsOfListing.{HoldsMore}
 use Rattle.vme_confirm_command.proofs.row_reading.fill.Given as goal
 

@@ -4,7 +4,7 @@ use Rattle.std.specs.Prelude.{IfSome, Ok}
 use Rattle.vme_listing.specs.Reading.{HasRead, IsFollowedBy, IsTextOfListing, RowsSoFar, behind_rows, listed}
 use Rattle.vme_listing.specs.declared.row.Version.{Version}
 use Rattle.vme_listing.specs.declared.row.Row.{Row}
-use Rattle.vme_dump_input.specs.HeldInputs.{FailsAs, InputSoFar}
+use Rattle.vme_dump_input.specs.BufferedInputs.{FailsAs, InputSoFar}
 use Rattle.vme_confirm_command.specs.RowsOfListing.{AreRead}
 use Rattle.vme_confirm_command.proofs.RowLemmas.{rows-filled, rows-taken}
 use Rattle.vme_confirm_command.proofs.row_reading.next_row.Goals as goal

@@ -1,7 +1,7 @@
 -- The dump is read to its end, unless there was no memory.
 use Rattle.std.proofs.Common.{Option, subst}
 use Rattle.vcd_read.specs.declared.fault.VcdFault.{VcdFault}
-use Rattle.vme_dump_input.specs.PieceReadings.{FailsPiece}
+use Rattle.vme_dump_input.specs.BodyPieces.{FailsPiece}
 use Rattle.vme_dump_input.proofs.body.refused_in_body.Goals as goal
 
 pub returns-in-Some : goal.returns-in-Some

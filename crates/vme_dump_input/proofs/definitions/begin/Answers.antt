@@ -4,8 +4,8 @@ use Rattle.std.specs.Prelude.{IfSome, Ok}
 use Rattle.vme_bind.specs.TextCapture.{CaptureFailsBy}
 use Rattle.vme_bind.specs.TextReading.{reading_of_text}
 use Rattle.vme_step_reader.specs.StepReading.{StepReading, whole_reading}
-use Rattle.vme_dump_input.specs.DumpReadings.{BeginsDump, IsAtBody}
-use Rattle.vme_dump_input.specs.HeldInputs.{InputSoFar}
+use Rattle.vme_dump_input.specs.DumpBeginnings.{BeginsDump, IsAtBody}
+use Rattle.vme_dump_input.specs.BufferedInputs.{InputSoFar}
 use Rattle.vme_dump_input.specs.declared.definitions.Begun.{Begun}
 use Rattle.vme_dump_input.specs.declared.definitions.Begun.TheVariants.{Body}
 use Rattle.vme_dump_input.proofs.DefinitionLemmas.{begun-body}

@@ -4,8 +4,8 @@ use Rattle.std.specs.Prelude.{Ok}
 use Rattle.vme_bind.specs.TextCapture.{CaptureFailsBy}
 use Rattle.vme_bind.specs.TextReading.{reading_of_text}
 use Rattle.vme_step_reader.specs.StepReading.{whole_reading}
-use Rattle.vme_dump_input.specs.DumpReadings.{IsAtBody}
-use Rattle.vme_dump_input.specs.HeldInputs.{InputSoFar}
+use Rattle.vme_dump_input.specs.DumpBeginnings.{IsAtBody}
+use Rattle.vme_dump_input.specs.BufferedInputs.{InputSoFar}
 use Rattle.vme_dump_input.proofs.DefinitionLemmas.{begun-last, fails-last}
 use Rattle.vme_dump_input.proofs.definitions.begin_last.Goals as goal
 

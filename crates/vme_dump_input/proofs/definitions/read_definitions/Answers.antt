@@ -1,8 +1,8 @@
 -- The definitions are read on until they end.
 use Rattle.std.proofs.Common.{◌<◌, [], Option, ap, subst, sym, ◌∙◌}
 use Rattle.std.specs.Prelude.{Ok}
-use Rattle.vme_dump_input.specs.DumpReadings.{MayBegin}
-use Rattle.vme_dump_input.specs.HeldInputs.{FailsAs, InputSoFar, reads_left}
+use Rattle.vme_dump_input.specs.DumpBeginnings.{MayBegin}
+use Rattle.vme_dump_input.specs.BufferedInputs.{FailsAs, InputSoFar, reads_left}
 use Rattle.vme_dump_input.specs.declared.definitions.Begun.{Begun}
 use Rattle.vme_dump_input.proofs.DumpRefusals.{unread-is}
 use Rattle.vme_dump_input.proofs.definitions.read_definitions.Goals as goal

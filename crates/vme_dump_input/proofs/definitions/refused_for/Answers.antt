@@ -1,6 +1,6 @@
 -- The rest of the dump is read, or it can't be had.
 use Rattle.std.proofs.Common.{◌++◌, subst}
-use Rattle.vme_dump_input.specs.HeldInputs.{FailsAs, IsAllOf}
+use Rattle.vme_dump_input.specs.BufferedInputs.{FailsAs, IsAllOf}
 use Rattle.vme_dump_input.proofs.DumpRefusals.{faulty-is, unread-is}
 use Rattle.vme_dump_input.proofs.definitions.refused_for.Goals as goal
 

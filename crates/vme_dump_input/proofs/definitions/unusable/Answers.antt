@@ -5,9 +5,9 @@ use Rattle.std.proofs.lemmas.Result.{IfOk-weaker}
 use Rattle.vme_trace.specs.Trace.{Trace}
 use Rattle.vme_answer.specs.Answers.{AnswerGives, capture_by, or_bad_dump}
 use Rattle.vcd_read.specs.Meaning.{dump_of}
-use Rattle.vme_dump_input.specs.HeldInputs.{FailsAs, IsAllOf}
+use Rattle.vme_dump_input.specs.BufferedInputs.{FailsAs, IsAllOf}
 use Rattle.vme_dump_input.proofs.DumpRefusals.{ends-unusable, unread-is}
-use Rattle.vme_dump_input.proofs.HeldLemmas.{all-read, some-reading}
+use Rattle.vme_dump_input.proofs.BufferedLemmas.{all-read, some-reading}
 use Rattle.vme_dump_input.proofs.definitions.unusable.Goals as goal
 
 pub loop-input-init : goal.loop-input-init

@@ -1,7 +1,7 @@
 -- Nothing was taken of the dump.
 use Rattle.std.proofs.Common.{◌≡◌, []}
 use Rattle.vme_trace.specs.Streams.{Reading}
-use Rattle.vme_dump_input.specs.HeldInputs.{IsReadTo, reads_left}
+use Rattle.vme_dump_input.specs.BufferedInputs.{IsReadTo, reads_left}
 use Rattle.vme_dump_input.proofs.definitions.unusable.Given as goal
 
 abbrev pub invariant-loop-input : goal.invariant-loop-input

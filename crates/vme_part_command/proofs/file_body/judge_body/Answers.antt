@@ -1,6 +1,6 @@
 -- The steps of each piece are judged.
 use Rattle.std.proofs.Common.{ℕ, List, ap, refl, subst, sym, ◌∙◌}
-use Rattle.vme_dump_input.specs.HeldInputs.{FailsAs}
+use Rattle.vme_dump_input.specs.BufferedInputs.{FailsAs}
 use Rattle.vme_dump_input.proofs.DumpRefusals.{unread-is}
 use Rattle.vme_part_command.specs.Backplane.{backplane_of}
 use Rattle.vme_part_command.specs.FileReadings.{IsAtFileEnd}

@@ -2,7 +2,7 @@
 use Rattle.std.proofs.Common.{◌≡◌, ℕ, Bool, Option}
 use Rattle.vme_trace.specs.Streams.{Reading}
 use Rattle.vme_bind.specs.Binding.{BoundLines}
-use Rattle.vme_dump_input.specs.HeldInputs.{reads_left}
+use Rattle.vme_dump_input.specs.BufferedInputs.{reads_left}
 use Rattle.vme_part_command.specs.FileChecks.{IsFileJudged}
 use Rattle.vme_part_command.specs.FileReadings.{IsAtFile}
 use Rattle.vme_part_command.proofs.file_body.judge_body.Given as goal

@@ -7,10 +7,10 @@ use Rattle.vme_trace.specs.Trace.{Trace}
 use Rattle.vme_trace.specs.WellFormed.{malformed_step}
 use Rattle.vme_step_reader.specs.StepReading.{whole_reading}
 use Rattle.vme_step_reader.specs.Stops.{StopsBehind}
-use Rattle.vme_dump_input.specs.HeldInputs.{InputSoFar}
-use Rattle.vme_dump_input.specs.PieceReadings.{FailsPiece}
+use Rattle.vme_dump_input.specs.BufferedInputs.{InputSoFar}
+use Rattle.vme_dump_input.specs.BodyPieces.{FailsPiece}
 use Rattle.vme_dump_input.proofs.BodyLemmas.{body-stops, sound-next}
-use Rattle.vme_dump_input.proofs.HeldLemmas.{some-reading}
+use Rattle.vme_dump_input.proofs.BufferedLemmas.{some-reading}
 use Rattle.vme_part_command.specs.FileChecks.{HasTakenSteps}
 use Rattle.vme_part_command.specs.FileReadings.{IsAtFile}
 use Rattle.vme_part_command.proofs.FileLemmas.{body_at, file-taken}

@@ -3,7 +3,7 @@ use Rattle.std.proofs.Common.{[], ap, length, subst, sym, ◌∙◌}
 use Rattle.vme_trace.specs.Levels.{Levels}
 use Rattle.vme_trace.specs.Trace.{Trace}
 use Rattle.vme_dump_input.proofs.DefinitionLemmas.{unread-given, unread-sound}
-use Rattle.vme_dump_input.proofs.HeldLemmas.{some-reading}
+use Rattle.vme_dump_input.proofs.BufferedLemmas.{some-reading}
 use Rattle.vme_part_command.specs.Backplane.{backplane_of}
 use Rattle.vme_part_command.specs.FileChecks.{HasTakenSteps, IsFileJudged}
 use Rattle.vme_part_command.proofs.file_body.part_of_body.Goals as goal

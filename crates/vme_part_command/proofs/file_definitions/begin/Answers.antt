@@ -1,5 +1,5 @@
 use Rattle.std.proofs.Common.{ℕ, List, [], ◌++◌, refl, subst}
-use Rattle.vme_dump_input.proofs.HeldLemmas.{some-reading}
+use Rattle.vme_dump_input.proofs.BufferedLemmas.{some-reading}
 use Rattle.vme_part_command.specs.FileReadings.{IsStartFor}
 use Rattle.vme_part_command.proofs.file_definitions.begin.Goals as goal
 

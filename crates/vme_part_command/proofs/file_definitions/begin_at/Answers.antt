@@ -4,7 +4,7 @@ use Rattle.std.specs.Prelude.{IfSome, Ok}
 use Rattle.vme_bind.specs.TextCapture.{CaptureFailsBy}
 use Rattle.vme_bind.specs.TextReading.{reading_of_text}
 use Rattle.vme_step_reader.specs.StepReading.{StepReading, whole_reading}
-use Rattle.vme_dump_input.specs.HeldInputs.{InputSoFar}
+use Rattle.vme_dump_input.specs.BufferedInputs.{InputSoFar}
 use Rattle.vme_part_command.specs.FileReadings.{BeginsFile, IsAtFile}
 use Rattle.vme_part_command.specs.declared.file_definitions.BegunFile.{BegunFile}
 use Rattle.vme_part_command.specs.declared.file_definitions.BegunFile.TheVariants.{Body}

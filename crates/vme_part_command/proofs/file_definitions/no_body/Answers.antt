@@ -1,7 +1,7 @@
 -- The binding can't be used on the dump, or this is refused.
 use Rattle.std.proofs.Common.{subst, sym}
 use Rattle.std.specs.Prelude.{Ok}
-use Rattle.vme_dump_input.specs.DumpReadings.{BeginsDump}
+use Rattle.vme_dump_input.specs.DumpBeginnings.{BeginsDump}
 use Rattle.vme_dump_input.specs.declared.definitions.Begun.{Begun}
 use Rattle.vme_part_command.specs.FileReadings.{BeginsFile, MayBeBegun}
 use Rattle.vme_part_command.specs.declared.file_definitions.BegunFile.{BegunFile}

@@ -2,7 +2,7 @@
 use Rattle.std.proofs.Common.{◌<◌, [], Option, ap, subst, sym, ◌∙◌}
 use Rattle.std.specs.Prelude.{Ok}
 use Rattle.vme_part_command.specs.FileReadings.{MayBeginFile}
-use Rattle.vme_dump_input.specs.HeldInputs.{FailsAs, InputSoFar, reads_left}
+use Rattle.vme_dump_input.specs.BufferedInputs.{FailsAs, InputSoFar, reads_left}
 use Rattle.vme_part_command.specs.declared.file_definitions.BegunFile.{BegunFile}
 use Rattle.vme_dump_input.proofs.DumpRefusals.{unread-is}
 use Rattle.vme_part_command.proofs.file_definitions.read_definitions.Goals as goal

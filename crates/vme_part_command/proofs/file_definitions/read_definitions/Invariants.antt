@@ -2,7 +2,7 @@
 use Rattle.std.proofs.Common.{◌≡◌, []}
 use Rattle.vme_trace.specs.Streams.{Reading}
 use Rattle.vme_stream.specs.Inputs.{longest_input}
-use Rattle.vme_dump_input.specs.HeldInputs.{IsReadTo, reads_left}
+use Rattle.vme_dump_input.specs.BufferedInputs.{IsReadTo, reads_left}
 use Rattle.vme_part_command.proofs.file_definitions.read_definitions.Given as goal
 
 abbrev pub invariant-loop-search : goal.invariant-loop-search

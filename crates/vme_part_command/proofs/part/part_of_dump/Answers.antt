@@ -1,8 +1,8 @@
 use Rattle.std.proofs.Common.{[], ap, subst, sym, arith}
 use Rattle.vme_stream.proofs.InputLemmas.{unread}
 use Rattle.vme_stream.specs.Inputs.{longest_input}
-use Rattle.vme_dump_input.specs.HeldInputs.{InputSoFar, IsReadTo}
-use Rattle.vme_dump_input.proofs.HeldLemmas.{first-read}
+use Rattle.vme_dump_input.specs.BufferedInputs.{InputSoFar, IsReadTo}
+use Rattle.vme_dump_input.proofs.BufferedLemmas.{first-read}
 use Rattle.vme_part_command.proofs.FoundLemmas.{dump-refused}
 use Rattle.vme_part_command.proofs.part.part_of_dump.Goals as goal
 

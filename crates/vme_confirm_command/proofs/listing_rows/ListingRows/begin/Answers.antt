@@ -1,8 +1,8 @@
 -- The rows begin behind the header, or there is a fault.
 use Rattle.std.proofs.Common.{[], ap, arith, subst, sym, ◌∙◌}
 use Rattle.vme_confirm_command.specs.Confirmations.{longest_listing}
-use Rattle.vme_dump_input.specs.HeldInputs.{InputSoFar, IsReadTo}
-use Rattle.vme_dump_input.proofs.HeldLemmas.{first-read}
+use Rattle.vme_dump_input.specs.BufferedInputs.{InputSoFar, IsReadTo}
+use Rattle.vme_dump_input.proofs.BufferedLemmas.{first-read}
 use Rattle.vme_confirm_command.proofs.listing_rows.ListingRows.begin.Goals as goal
 
 pub returns : goal.returns

@@ -2,9 +2,9 @@
 use Rattle.std.proofs.Common.{◌≤◌, ℕ, List, [], ◌++◌, append_assoc, append-nil, length, refl, sym, ap, subst, take, ◌∙◌}
 use Rattle.std.proofs.Common.{arith}
 use Rattle.std.proofs.lemmas.Bool.{true≢false}
-use Rattle.vme_dump_input.specs.HeldInputs.{FailsAs, InputSoFar, IsAllOf, IsReadTo}
-use Rattle.vme_dump_input.proofs.HeldLemmas.{all-read, rest-same, taken-first}
-use Rattle.vme_dump_input.proofs.held_input.HeldInput.read_rest.Goals as goal
+use Rattle.vme_dump_input.specs.BufferedInputs.{FailsAs, InputSoFar, IsAllOf, IsReadTo}
+use Rattle.vme_dump_input.proofs.BufferedLemmas.{all-read, rest-same, taken-first}
+use Rattle.vme_dump_input.proofs.buffered_input.BufferedInput.read_rest.Goals as goal
 
 pub loop-self-init : goal.loop-self-init
 loop-self-init g c = record {

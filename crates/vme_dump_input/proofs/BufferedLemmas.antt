@@ -13,8 +13,8 @@ use Rattle.vme_stream.proofs.InputLemmas.{gives_more, in_time, read_to_end, read
 use Rattle.vme_stream.specs.InFaults.{InputFailsBy}
 use Rattle.vme_stream.specs.declared.input.InFault.{InFault}
 use Rattle.vme_stream.specs.declared.input.InFault.TheVariants as failed
-use Rattle.vme_dump_input.specs.HeldInputs.{FailsAs, InputSoFar, IsAllOf, IsReadTo, IsToldWhole, MayLimit}
-use Rattle.vme_dump_input.specs.HeldInputs.{not_read}
+use Rattle.vme_dump_input.specs.BufferedInputs.{FailsAs, InputSoFar, IsAllOf, IsReadTo, IsToldWhole, MayLimit}
+use Rattle.vme_dump_input.specs.BufferedInputs.{not_read}
 
 module _ (old now : Reading) (done : List ℕ) (input : InputSoFar) (h : IsReadTo old now done input) where
   -- some of what is held is taken

@@ -1,9 +1,9 @@
 -- Some bytes are read, or the end; or reading is given up.
 use Rattle.std.proofs.Common.{◌<◌, ◌+◌, ◌++◌, true, drop, refl, sym, ap, subst, ◌∙◌, arith}
 use Rattle.std.specs.Prelude.{vec_len}
-use Rattle.vme_dump_input.specs.HeldInputs.{InputSoFar, IsReadTo}
-use Rattle.vme_dump_input.proofs.HeldLemmas.{fails-by, gives-up, read-none, read-some, too-long}
-use Rattle.vme_dump_input.proofs.held_input.HeldInput.read.Goals as goal
+use Rattle.vme_dump_input.specs.BufferedInputs.{InputSoFar, IsReadTo}
+use Rattle.vme_dump_input.proofs.BufferedLemmas.{fails-by, gives-up, read-none, read-some, too-long}
+use Rattle.vme_dump_input.proofs.buffered_input.BufferedInput.read.Goals as goal
 
 pub returns-then-self-eq-MOST_READS-clause-fails : goal.returns-then-self-eq-MOST_READS-clause-fails
 returns-then-self-eq-MOST_READS-clause-fails g c old done h =

@@ -1,8 +1,8 @@
 -- What was held, and what was read behind it, is gone.
 use Rattle.std.proofs.Common.{◌≡◌, ℕ, List, [], ◌++◌, true}
 use Rattle.vme_trace.specs.Streams.{Reading}
-use Rattle.vme_dump_input.specs.HeldInputs.{IsReadTo, reads_left}
-use Rattle.vme_dump_input.proofs.held_input.HeldInput.read_rest.Given as goal
+use Rattle.vme_dump_input.specs.BufferedInputs.{IsReadTo, reads_left}
+use Rattle.vme_dump_input.proofs.buffered_input.BufferedInput.read_rest.Given as goal
 
 abbrev pub invariant-loop-self : goal.invariant-loop-self
 invariant-loop-self g l =

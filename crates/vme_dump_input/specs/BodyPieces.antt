@@ -6,8 +6,8 @@ use Rattle.vme_bind.specs.Binding.{BoundLines}
 use Rattle.vme_bind.specs.TextReading.{reading_of_text}
 use Rattle.vme_stream.specs.Inputs.{IsReading, longest_input}
 use Rattle.vme_step_reader.specs.StepReading.{StepReading, whole_reading}
-use Rattle.vme_dump_input.specs.DumpReadings.{HasFaultBefore, IsAtBody}
-use Rattle.vme_dump_input.specs.HeldInputs.{InputSoFar, IsAllOf, IsReadTo}
+use Rattle.vme_dump_input.specs.DumpBeginnings.{HasFaultBefore, IsAtBody}
+use Rattle.vme_dump_input.specs.BufferedInputs.{InputSoFar, IsAllOf, IsReadTo}
 
 -- a body isn't read on for a fault of the dump, or there was no memory
 abbrev pub FailsPiece : Reading → Reading → InputSoFar → Option VcdFault → Type 0

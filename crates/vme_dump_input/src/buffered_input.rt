@@ -7,8 +7,8 @@ ghost use Rattle.vme_stream.specs.InFaults.{InputFailsBy};
 ghost use Rattle.vme_trace.specs.Streams.{CountsRead, CountsShortRead, Reading};
 ghost use Rattle.vme_listing.specs.Reading.{IsFollowedBy};
 ghost use Rattle.vme_stream.specs.declared.input.InFault.{InFault};
-ghost use Rattle.vme_dump_input.specs.HeldInputs.{FailsAs, IsAllOf, IsGrown, IsReadTo, MayLimit, not_read};
-ghost use Rattle.vme_dump_input.specs.HeldInputs.{reads_left};
+ghost use Rattle.vme_dump_input.specs.BufferedInputs.{FailsAs, IsAllOf, IsGrown, IsReadTo, MayLimit, not_read};
+ghost use Rattle.vme_dump_input.specs.BufferedInputs.{reads_left};
 
 use std::alloc::{AllocError, Global};
 use std::marker::Model;
@@ -20,7 +20,7 @@ const MOST_READS: u32 = 16_777_216;
 
 /// An input as it is read: the bytes that were read and not taken, and how much was read.
 #[derive(Drop)]
-pub struct HeldInput {
+pub struct BufferedInput {
     held: Vec<u8>,
     /// How many of these were taken.
     start: usize,
@@ -35,10 +35,10 @@ pub struct HeldInput {
     is_whole: bool,
 }
 
-impl Model for HeldInput {
+impl Model for BufferedInput {
     ghost use Rattle.std.specs.Prelude.{◌+◌, ◌≤◌, ◌<◌, ◌^◌, drop, vec_len};
     ghost use Rattle.vme_stream.specs.Inputs.{most_reads};
-    ghost use Rattle.vme_dump_input.specs.HeldInputs.{InputSoFar, MayLimit};
+    ghost use Rattle.vme_dump_input.specs.BufferedInputs.{InputSoFar, MayLimit};
 
     ghost Value = { InputSoFar };
 
@@ -93,14 +93,14 @@ fn read_behind<R: Source>(
     Ok(count)
 }
 
-impl HeldInput {
+impl BufferedInput {
     /// Before the first read, each of which has room for so many bytes.
-    pub fn new(alloc: Global, limit: u64, room: usize) -> Result<HeldInput, AllocError>
+    pub fn new(alloc: Global, limit: u64, room: usize) -> Result<BufferedInput, AllocError>
         requires { MayLimit limit room }
         ensures { IfOk result (λ input. input ≡ not_read limit room) }
     {
         let room = Vec::from_elem(alloc, 0, room)?;
-        Ok(HeldInput {
+        Ok(BufferedInput {
             held: Vec::new(alloc),
             start: 0,
             room,

@@ -17,7 +17,7 @@ use Rattle.vme_answer.specs.Answers.{dump_read}
 use Rattle.vme_answer.specs.declared.refusal.Refusal.{Refusal}
 use Rattle.vme_answer.specs.declared.refusal.Refusal.TheVariants.{Memory}
 use Rattle.vme_step_reader.specs.StepReading.{StepReading, whole_reading}
-use Rattle.vme_dump_input.specs.HeldInputs.{InputSoFar, IsReadTo}
+use Rattle.vme_dump_input.specs.BufferedInputs.{InputSoFar, IsReadTo}
 use Rattle.vme_dump_input.specs.declared.definitions.Begun.{Begun}
 use Rattle.vme_dump_input.specs.declared.definitions.Begun.TheVariants.{Body, Unusable}
 
