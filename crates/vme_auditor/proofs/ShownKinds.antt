@@ -11,7 +11,7 @@ use Rattle.vme_monitor.specs.Ends.{end_among}
 use Rattle.vme_monitor.specs.OverStretches.{judging, observed, phase_step}
 use Rattle.vme_monitor.specs.Run.{answer_kind, answered_kind, cycle_kind, kinds_of, machine_step, nothing, quiet}
 use Rattle.vme_monitor.specs.Run.{when}
-use Rattle.vme_monitor.specs.KnownRules.{known_begin, known_ends, known_next, known_opens, known_resets}
+use Rattle.vme_monitor.specs.KnownRules.{known_begin, known_end_fault, known_next, known_start_marks, known_reset_marks}
 use Rattle.vme_monitor.specs.KnownRules.{known_observation}
 use Rattle.vme_monitor.specs.declared.mark.BusGrant.{BusGrant}
 use Rattle.vme_monitor.specs.declared.mark.CycleStart.{CycleStart}
@@ -26,12 +26,12 @@ use Rattle.vme_monitor.specs.declared.over_stretches.StretchPhase.{StretchPhase}
 use Rattle.vme_monitor.specs.declared.over_stretches.StretchPhase.TheVariants as phase
 use Rattle.vme_monitor.specs.declared.view.End.{End}
 use Rattle.vme_monitor.specs.declared.view.End.TheVariants as end
-use Rattle.vme_dtb.specs.Machine.{dtb_begin, dtb_ends, dtb_opens, dtb_observation, dtb_step}
-use Rattle.vme_stability.specs.StabilityRules.{stability_begin, stability_ends, stability_next, stability_opens}
-use Rattle.vme_stability.specs.StabilityRules.{stability_observation}
-use Rattle.vme_chains.specs.GrantRules.{grant_begin, grant_ends, grant_next, grant_opens, grant_observation}
-use Rattle.vme_chains.specs.AcknowledgeRules.{acknowledge_begin, acknowledge_ends, acknowledge_next, acknowledge_opens}
-use Rattle.vme_chains.specs.AcknowledgeRules.{acknowledge_observation}
+use Rattle.vme_dtb.specs.Machine.{dtb_begin, dtb_end_fault, dtb_start_marks, dtb_observation, dtb_step}
+use Rattle.vme_stability.specs.StabilityRules.{stability_begin, stability_end_fault, stability_next}
+use Rattle.vme_stability.specs.StabilityRules.{stability_start_marks, stability_observation}
+use Rattle.vme_chains.specs.GrantRules.{grant_begin, grant_end_fault, grant_next, grant_start_marks, grant_observation}
+use Rattle.vme_chains.specs.AcknowledgeRules.{acknowledge_begin, acknowledge_end_fault, acknowledge_next}
+use Rattle.vme_chains.specs.AcknowledgeRules.{acknowledge_start_marks, acknowledge_observation}
 use Rattle.vme_auditor.specs.Memories.{acknowledge_at, grant_at, handshake_at, known_at, stability_at}
 use Rattle.vme_auditor.specs.declared.memories.Memories.{Memories}
 
@@ -96,28 +96,28 @@ IsNothing k = k ≡ nothing
 module _ (m : Memories) (v w : Levels) (cs : List Change) where
   pub known_own : OfStretch (known_at m.known v w cs).shown
   known_own =
-      shown_own known_begin known_opens known_resets known_ends known_next OfStretch refl (λ v. refl) refl
-      (λ p v w s. refl) known_observation v w cs m.known
+      shown_own known_begin known_start_marks known_reset_marks known_end_fault known_next OfStretch refl (λ v. refl)
+      refl (λ p v w s. refl) known_observation v w cs m.known
 
   pub grant_own : OfTenure (grant_at m.grant v w cs).shown
   grant_own =
-      shown_own grant_begin grant_opens nothing grant_ends grant_next OfTenure refl (λ v. refl) refl (λ p v w s. refl)
-      grant_observation v w cs m.grant
+      shown_own grant_begin grant_start_marks nothing grant_end_fault grant_next OfTenure refl (λ v. refl) refl
+      (λ p v w s. refl) grant_observation v w cs m.grant
 
   pub handshake_own : OfTransfer (handshake_at m.handshake v w cs).shown
   handshake_own =
-      shown_own dtb_begin dtb_opens nothing dtb_ends dtb_step OfTransfer refl (λ v. refl) refl (λ p v w s. refl)
-      dtb_observation v w cs m.handshake
+      shown_own dtb_begin dtb_start_marks nothing dtb_end_fault dtb_step OfTransfer refl (λ v. refl) refl
+      (λ p v w s. refl) dtb_observation v w cs m.handshake
 
   pub stability_own : IsNothing (stability_at m.stability v w cs).shown
   stability_own =
-      shown_own stability_begin stability_opens nothing stability_ends stability_next IsNothing refl (λ v. refl) refl
-      (λ p v w s. refl) stability_observation v w cs m.stability
+      shown_own stability_begin stability_start_marks nothing stability_end_fault stability_next IsNothing refl
+      (λ v. refl) refl (λ p v w s. refl) stability_observation v w cs m.stability
 
   pub acknowledge_own : IsNothing (acknowledge_at m.acknowledge v w cs).shown
   acknowledge_own =
-      shown_own acknowledge_begin acknowledge_opens nothing acknowledge_ends acknowledge_next IsNothing refl (λ v. refl)
-      refl (λ p v w s. refl) acknowledge_observation v w cs m.acknowledge
+      shown_own acknowledge_begin acknowledge_start_marks nothing acknowledge_end_fault acknowledge_next IsNothing refl
+      (λ v. refl) refl (λ p v w s. refl) acknowledge_observation v w cs m.acknowledge
 
 -- numbers of kinds below a bound, and from one on
 abbrev pub AllBelow : ℕ → List MarkKind → Type 0

@@ -7,21 +7,21 @@ use Rattle.vme_trace.specs.Names.{rule_number}
 use Rattle.vme_trace.specs.declared.verdict.Break.{Break}
 use Rattle.vme_monitor.specs.OverStretches.{observed, phase_step, start_in}
 use Rattle.vme_monitor.specs.Run.{break_at, nothing, machine_step}
-use Rattle.vme_monitor.specs.KnownRules.{known_begin, known_ends, known_next, known_opens, known_resets}
+use Rattle.vme_monitor.specs.KnownRules.{known_begin, known_end_fault, known_next, known_start_marks, known_reset_marks}
 use Rattle.vme_monitor.specs.KnownRules.{known_observation}
 use Rattle.vme_monitor.specs.declared.known.Stateless.{Stateless}
 use Rattle.vme_monitor.specs.declared.mark.Fault.{Fault}
 use Rattle.vme_monitor.specs.declared.mark.Next.{Next}
 use Rattle.vme_monitor.specs.declared.over_stretches.StretchPhase.{StretchPhase}
-use Rattle.vme_dtb.specs.Machine.{dtb_begin, dtb_ends, dtb_opens, dtb_observation, dtb_step}
+use Rattle.vme_dtb.specs.Machine.{dtb_begin, dtb_end_fault, dtb_start_marks, dtb_observation, dtb_step}
 use Rattle.vme_dtb.specs.declared.memory.HandshakeMemory.{HandshakeMemory}
-use Rattle.vme_stability.specs.StabilityRules.{stability_begin, stability_ends, stability_next, stability_opens}
-use Rattle.vme_stability.specs.StabilityRules.{stability_observation}
+use Rattle.vme_stability.specs.StabilityRules.{stability_begin, stability_end_fault, stability_next}
+use Rattle.vme_stability.specs.StabilityRules.{stability_start_marks, stability_observation}
 use Rattle.vme_stability.specs.declared.holding.Holding.{Holding}
-use Rattle.vme_chains.specs.GrantRules.{grant_begin, grant_ends, grant_next, grant_opens, grant_observation}
+use Rattle.vme_chains.specs.GrantRules.{grant_begin, grant_end_fault, grant_next, grant_start_marks, grant_observation}
 use Rattle.vme_chains.specs.declared.grant_memory.Arbitration.{Arbitration}
-use Rattle.vme_chains.specs.AcknowledgeRules.{acknowledge_begin, acknowledge_ends, acknowledge_next, acknowledge_opens}
-use Rattle.vme_chains.specs.AcknowledgeRules.{acknowledge_observation}
+use Rattle.vme_chains.specs.AcknowledgeRules.{acknowledge_begin, acknowledge_end_fault, acknowledge_next}
+use Rattle.vme_chains.specs.AcknowledgeRules.{acknowledge_start_marks, acknowledge_observation}
 use Rattle.vme_chains.specs.declared.acknowledge.Acknowledgement.{Acknowledgement}
 use Rattle.vme_auditor.specs.declared.memories.AllShown.{AllShown}
 use Rattle.vme_auditor.specs.declared.memories.Memories.{Memories}
@@ -29,25 +29,27 @@ use Rattle.vme_auditor.specs.declared.memories.Memories.{Memories}
 -- what a step is to each monitor
 abbrev pub known_at : StretchPhase Stateless → Levels → Levels → List Change → Next (StretchPhase Stateless)
 known_at = machine_step (observed known_observation)
-    (phase_step known_begin known_opens known_resets known_ends known_next)
+    (phase_step known_begin known_start_marks known_reset_marks known_end_fault known_next)
 
 abbrev pub handshake_at : StretchPhase HandshakeMemory → Levels → Levels → List Change
     → Next (StretchPhase HandshakeMemory)
-handshake_at = machine_step (observed dtb_observation) (phase_step dtb_begin dtb_opens nothing dtb_ends dtb_step)
+handshake_at = machine_step (observed dtb_observation) (phase_step dtb_begin dtb_start_marks nothing dtb_end_fault
+    dtb_step)
 
 abbrev pub stability_at : StretchPhase Holding → Levels → Levels → List Change → Next (StretchPhase Holding)
 stability_at =
     machine_step (observed stability_observation)
-    (phase_step stability_begin stability_opens nothing stability_ends stability_next)
+    (phase_step stability_begin stability_start_marks nothing stability_end_fault stability_next)
 
 abbrev pub grant_at : StretchPhase Arbitration → Levels → Levels → List Change → Next (StretchPhase Arbitration)
-grant_at = machine_step (observed grant_observation) (phase_step grant_begin grant_opens nothing grant_ends grant_next)
+grant_at = machine_step (observed grant_observation) (phase_step grant_begin grant_start_marks nothing grant_end_fault
+    grant_next)
 
 abbrev pub acknowledge_at : StretchPhase Acknowledgement → Levels → Levels → List Change
     → Next (StretchPhase Acknowledgement)
 acknowledge_at =
     machine_step (observed acknowledge_observation)
-    (phase_step acknowledge_begin acknowledge_opens nothing acknowledge_ends acknowledge_next)
+    (phase_step acknowledge_begin acknowledge_start_marks nothing acknowledge_end_fault acknowledge_next)
 
 -- where the monitors begin
 abbrev pub memories_at : Levels → Memories

@@ -22,10 +22,11 @@ use Rattle.vme_monitor.specs.declared.mark.Next.{Next}
 use Rattle.vme_monitor.proofs.OwnRules.{own_event, own_marks}
 use Rattle.vme_monitor.proofs.SpanFacts.{IsSpan}
 use Rattle.vme_monitor.proofs.Alongside.{levels_step, changes_fit, memory_early}
-use Rattle.vme_chains.specs.AcknowledgeRules.{acknowledge_begin, acknowledge_ends, acknowledge_next, acknowledge_opens}
-use Rattle.vme_chains.specs.AcknowledgeRules.{acknowledge_rules, acknowledge_shown, acknowledge_observation}
-use Rattle.vme_chains.specs.AcknowledgeRules.{fault_among, fault_on, changes_memory, first_changed, memory_after}
-use Rattle.vme_chains.specs.AcknowledgeRules.{passes_on, passes_unasked, is_strobed, is_addressed}
+use Rattle.vme_chains.specs.AcknowledgeRules.{acknowledge_begin, acknowledge_end_fault, acknowledge_next}
+use Rattle.vme_chains.specs.AcknowledgeRules.{acknowledge_start_marks, acknowledge_rules, acknowledge_shown}
+use Rattle.vme_chains.specs.AcknowledgeRules.{acknowledge_observation, fault_among, fault_on, changes_memory}
+use Rattle.vme_chains.specs.AcknowledgeRules.{first_changed, memory_after, passes_on, passes_unasked, is_strobed}
+use Rattle.vme_chains.specs.AcknowledgeRules.{is_addressed}
 use Rattle.vme_chains.specs.declared.acknowledge.Acknowledgement.{Acknowledgement}
 use Rattle.vme_chains.specs.declared.acknowledge.PassingSlots.{PassingSlots}
 use Rattle.vme_chains.proofs.AcknowledgeBreaks.{least_input, least_strobes, least_answer}
@@ -181,20 +182,20 @@ module _ (t : Trace) (span : Stretch) (ok : malformed_step t ≡ None) (few : t.
       (holds_at n from (omega arith) (omega arith))
 
 pub acknowledge_event : FindsLeast
-    (run_of (machine_step (observed acknowledge_observation) (phase_step acknowledge_begin acknowledge_opens nothing
-    (λ l. None)
+    (run_of (machine_step (observed acknowledge_observation) (phase_step acknowledge_begin acknowledge_start_marks
+    nothing (λ l. None)
     acknowledge_next))) (start_in acknowledge_begin) acknowledge_rules
-acknowledge_event = own_event acknowledge_begin acknowledge_opens acknowledge_observation acknowledge_next
+acknowledge_event = own_event acknowledge_begin acknowledge_start_marks acknowledge_observation acknowledge_next
     acknowledge_rules
     refl (λ t span ok few facts n from before within unbroken. acknowledge_inside t span ok few facts n from before
     within)
 
 pub acknowledge_marks : ShowsAll
     (run_of (machine_step (observed acknowledge_observation)
-    (phase_step acknowledge_begin acknowledge_opens nothing acknowledge_ends
+    (phase_step acknowledge_begin acknowledge_start_marks nothing acknowledge_end_fault
     acknowledge_next))) (start_in acknowledge_begin) nothing acknowledge_shown
 acknowledge_marks =
-    own_marks acknowledge_begin acknowledge_opens acknowledge_observation acknowledge_next acknowledge_ends
+    own_marks acknowledge_begin acknowledge_start_marks acknowledge_observation acknowledge_next acknowledge_end_fault
     acknowledge_shown
     (λ t span ok few facts. record {
       at_start = refl;

@@ -24,8 +24,8 @@ use Rattle.vme_monitor.proofs.Alongside.{levels_step, changes_fit, memory_early}
 use Rattle.vme_chains.specs.GrantLevels.{falls_between, rises_between, is_low_in, grant_begins, requested_in}
 use Rattle.vme_chains.specs.GrantLevels.{taken_between, touches_arbitration, is_cycle_unowned, is_ungranted}
 use Rattle.vme_chains.specs.GrantMemory.{is_in, union}
-use Rattle.vme_chains.specs.GrantRules.{grant_rules, nets_fault, seen_between, grant_begin, grant_opens, grant_ends}
-use Rattle.vme_chains.specs.GrantRules.{grant_observation, grant_next}
+use Rattle.vme_chains.specs.GrantRules.{grant_rules, nets_fault, seen_between, grant_begin, grant_start_marks}
+use Rattle.vme_chains.specs.GrantRules.{grant_end_fault, grant_observation, grant_next}
 use Rattle.vme_chains.specs.GrantMarks.{tenure_at, tenures_shown}
 use Rattle.vme_chains.specs.declared.grant.GrantObservation.{GrantObservation}
 use Rattle.vme_chains.specs.declared.grant_memory.Arbitration.{Arbitration}
@@ -232,7 +232,7 @@ module _ (t : Trace) (span : Stretch) (few : t.opening.slots ≤ 21) where
     grant_shows n from before within = kinds_here n from before (changes_of (slice_get t.steps n))
         (levels_step t n within) (changes_fit t n ok within) (memory n)
 
-  open_at : grant_opens (levels_at t span.start) ≡ tenures_shown t span span.start
+  open_at : grant_start_marks (levels_at t span.start) ≡ tenures_shown t span span.start
   unfolding tenure_starts
   open_at =
       alike _ _ (is_low_in (levels_at t span.start) BBSY) (low t BBSY span.start) _ _ _ (at_start span.start)
@@ -254,17 +254,17 @@ module _ (t : Trace) (span : Stretch) (few : t.opening.slots ≤ 21) where
 
 pub grant_event : FindsLeast
     (run_of (machine_step (observed grant_observation)
-    (phase_step grant_begin grant_opens nothing (λ l. None) grant_next)))
+    (phase_step grant_begin grant_start_marks nothing (λ l. None) grant_next)))
     (start_in grant_begin) grant_rules
-grant_event = own_event grant_begin grant_opens grant_observation grant_next grant_rules refl
+grant_event = own_event grant_begin grant_start_marks grant_observation grant_next grant_rules refl
     (λ t span ok few facts n from before within unbroken. grant_inside t span few ok n from before within)
 
 pub grant_marks : ShowsAll
     (run_of (machine_step (observed grant_observation)
-    (phase_step grant_begin grant_opens nothing grant_ends grant_next)))
+    (phase_step grant_begin grant_start_marks nothing grant_end_fault grant_next)))
     (start_in grant_begin) nothing tenures_shown
 grant_marks =
-    own_marks grant_begin grant_opens grant_observation grant_next grant_ends tenures_shown
+    own_marks grant_begin grant_start_marks grant_observation grant_next grant_end_fault tenures_shown
     (λ t span ok few facts. record {
       at_start = open_at t span few;
       inside = λ n from before within. grant_shows t span few ok n from before within;

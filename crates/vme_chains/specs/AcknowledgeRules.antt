@@ -101,11 +101,11 @@ fault_among m v w None first = fault_of_first m v w first
 abbrev pub acknowledge_begin : Levels → Acknowledgement
 acknowledge_begin v = record { transfer = Closed; acknowledged = false }
 
-abbrev pub acknowledge_opens : Levels → StepMarks
-acknowledge_opens v = nothing
+abbrev pub acknowledge_start_marks : Levels → StepMarks
+acknowledge_start_marks v = nothing
 
-abbrev pub acknowledge_ends : ℕ → Option Fault
-acknowledge_ends l = None
+abbrev pub acknowledge_end_fault : ℕ → Option Fault
+acknowledge_end_fault l = None
 
 abbrev pub acknowledge_observation : Levels → Levels → List Change → Option PassingSlots
 acknowledge_observation v w cs =

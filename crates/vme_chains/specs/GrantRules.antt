@@ -73,11 +73,11 @@ step_fault v w requests granted seen =
 abbrev pub grant_begin : Levels → Arbitration
 grant_begin v = record { requests = requested_in v; granted = false }
 
-abbrev pub grant_opens : Levels → StepMarks
-grant_opens v = record nothing { opened = is_low_in v BBSY }
+abbrev pub grant_start_marks : Levels → StepMarks
+grant_start_marks v = record nothing { opened = is_low_in v BBSY }
 
-abbrev pub grant_ends : ℕ → Option Fault
-grant_ends l = None
+abbrev pub grant_end_fault : ℕ → Option Fault
+grant_end_fault l = None
 
 abbrev pub grant_observation : Levels → Levels → List Change → Option GrantObservation
 grant_observation v w cs = if touches_arbitration cs || is_cycle_unowned v w then Some (seen_between v w cs) else None

@@ -282,8 +282,8 @@ pub struct AcknowledgeRules;
 
 impl Rules for AcknowledgeRules {
     ghost use Rattle.vme_monitor.specs.Run.{nothing};
-    ghost use Rattle.vme_chains.specs.AcknowledgeRules.{acknowledge_begin, acknowledge_ends, acknowledge_next};
-    ghost use Rattle.vme_chains.specs.AcknowledgeRules.{acknowledge_opens, acknowledge_observation};
+    ghost use Rattle.vme_chains.specs.AcknowledgeRules.{acknowledge_begin, acknowledge_end_fault, acknowledge_next};
+    ghost use Rattle.vme_chains.specs.AcknowledgeRules.{acknowledge_start_marks, acknowledge_observation};
 
     type Memory = Acknowledgement;
 
@@ -291,11 +291,11 @@ impl Rules for AcknowledgeRules {
 
     ghost begin = { acknowledge_begin };
 
-    ghost opens = { acknowledge_opens };
+    ghost start_marks = { acknowledge_start_marks };
 
-    ghost resets = { nothing };
+    ghost reset_marks = { nothing };
 
-    ghost ends = { acknowledge_ends };
+    ghost end_fault = { acknowledge_end_fault };
 
     ghost observation = { acknowledge_observation };
 

@@ -154,7 +154,8 @@ pub struct GrantRules;
 
 impl Rules for GrantRules {
     ghost use Rattle.vme_monitor.specs.Run.{nothing};
-    ghost use Rattle.vme_chains.specs.GrantRules.{grant_begin, grant_ends, grant_next, grant_opens, grant_observation};
+    ghost use Rattle.vme_chains.specs.GrantRules.{grant_begin, grant_end_fault, grant_next, grant_start_marks};
+    ghost use Rattle.vme_chains.specs.GrantRules.{grant_observation};
 
     type Memory = Arbitration;
 
@@ -162,11 +163,11 @@ impl Rules for GrantRules {
 
     ghost begin = { grant_begin };
 
-    ghost opens = { grant_opens };
+    ghost start_marks = { grant_start_marks };
 
-    ghost resets = { nothing };
+    ghost reset_marks = { nothing };
 
-    ghost ends = { grant_ends };
+    ghost end_fault = { grant_end_fault };
 
     ghost observation = { grant_observation };
 

@@ -35,8 +35,8 @@ use Rattle.vme_monitor.proofs.LeastLines.{least_answer}
 use Rattle.vme_monitor.proofs.OwnRules.{own_event, own_marks}
 use Rattle.vme_monitor.proofs.SpanFacts.{IsSpan}
 use Rattle.vme_dtb.specs.Edge.{cycle_start_of, edges_between}
-use Rattle.vme_dtb.specs.Machine.{answer_in, answered_in, cycle_faults, cycle_rules, dtb_begin, dtb_ends, dtb_next}
-use Rattle.vme_dtb.specs.Machine.{dtb_opens, dtb_observation, dtb_step, fault_in, handshake_rules, strobe_faults}
+use Rattle.vme_dtb.specs.Machine.{answer_in, answered_in, cycle_faults, cycle_rules, dtb_begin, dtb_end_fault, dtb_next}
+use Rattle.vme_dtb.specs.Machine.{dtb_start_marks, dtb_observation, dtb_step, fault_in, handshake_rules, strobe_faults}
 use Rattle.vme_dtb.specs.Machine.{strobe_rules}
 use Rattle.vme_dtb.specs.declared.cycle.Cycle.{Cycle}
 use Rattle.vme_dtb.specs.CycleState.{cycle_entered}
@@ -192,19 +192,19 @@ module _ (t : Trace) (span : Stretch) where
   ) refl
 
 pub dtb_event : FindsLeast
-    (run_of (machine_step (observed dtb_observation) (phase_step dtb_begin dtb_opens nothing (λ l. None) dtb_step)))
-    (start_in dtb_begin)
+    (run_of (machine_step (observed dtb_observation) (phase_step dtb_begin dtb_start_marks nothing (λ l. None)
+    dtb_step))) (start_in dtb_begin)
     handshake_rules
 dtb_event =
-    own_event dtb_begin dtb_opens dtb_observation dtb_step handshake_rules refl
+    own_event dtb_begin dtb_start_marks dtb_observation dtb_step handshake_rules refl
     (λ t span ok few facts n from before within unbroken. dtb_inside t span facts n from before
     (memory_at t span facts n) (holds_at t span facts n from (omega (arith, before))))
 
 pub dtb_marks : ShowsAll
-    (run_of (machine_step (observed dtb_observation) (phase_step dtb_begin dtb_opens nothing dtb_ends dtb_step)))
-    (start_in dtb_begin) nothing handshake_shown
+    (run_of (machine_step (observed dtb_observation) (phase_step dtb_begin dtb_start_marks nothing dtb_end_fault
+    dtb_step))) (start_in dtb_begin) nothing handshake_shown
 dtb_marks =
-    own_marks dtb_begin dtb_opens dtb_observation dtb_step dtb_ends handshake_shown
+    own_marks dtb_begin dtb_start_marks dtb_observation dtb_step dtb_end_fault handshake_shown
     (λ t span ok few facts. record {
       at_start = shown_start t span;
       inside = λ n from before within. dtb_kinds t span facts n from before (memory_at t span facts n)

@@ -129,11 +129,11 @@ fault_in m v w s =
 abbrev pub dtb_begin : Levels → HandshakeMemory
 dtb_begin v = record { pending = Closed; cycle = Free; dtack_may_rise = false; berr_may_rise = false }
 
-abbrev pub dtb_opens : Levels → StepMarks
-dtb_opens v = nothing
+abbrev pub dtb_start_marks : Levels → StepMarks
+dtb_start_marks v = nothing
 
-abbrev pub dtb_ends : ℕ → Option Fault
-dtb_ends l = None
+abbrev pub dtb_end_fault : ℕ → Option Fault
+dtb_end_fault l = None
 
 abbrev pub dtb_observation : Levels → Levels → List Change → Option HandshakeEdge
 dtb_observation v w cs = if is_still v w then None else Some (record {})

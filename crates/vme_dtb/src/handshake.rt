@@ -370,7 +370,7 @@ impl HandshakeMemory {
 
 impl Rules for HandshakeRules {
     ghost use Rattle.vme_monitor.specs.Run.{nothing};
-    ghost use Rattle.vme_dtb.specs.Machine.{dtb_begin, dtb_ends, dtb_opens, dtb_observation, dtb_step};
+    ghost use Rattle.vme_dtb.specs.Machine.{dtb_begin, dtb_end_fault, dtb_start_marks, dtb_observation, dtb_step};
 
     type Memory = HandshakeMemory;
 
@@ -378,11 +378,11 @@ impl Rules for HandshakeRules {
 
     ghost begin = { dtb_begin };
 
-    ghost opens = { dtb_opens };
+    ghost start_marks = { dtb_start_marks };
 
-    ghost resets = { nothing };
+    ghost reset_marks = { nothing };
 
-    ghost ends = { dtb_ends };
+    ghost end_fault = { dtb_end_fault };
 
     ghost observation = { dtb_observation };
 

@@ -36,11 +36,11 @@ pub trait Rules {
 
     ghost begin: { Levels → Self.Memory };
 
-    ghost opens: { Levels → StepMarks };
+    ghost start_marks: { Levels → StepMarks };
 
-    ghost resets: { StepMarks };
+    ghost reset_marks: { StepMarks };
 
-    ghost ends: { ℕ → Option Fault };
+    ghost end_fault: { ℕ → Option Fault };
 
     ghost observation: { Levels → Levels → List Change → Option Self.Observation };
 
@@ -51,15 +51,15 @@ pub trait Rules {
         ensures { result ≡ begin lines.now };
 
     fn shown_at_start(lines: &Lines) -> StepMarks
-        ensures { result ≡ opens lines.now };
+        ensures { result ≡ start_marks lines.now };
 
     /// What is shown where a span ends because the bus is reset.
     fn shown_at_reset() -> StepMarks
-        ensures { result ≡ resets };
+        ensures { result ≡ reset_marks };
 
     /// What is broken where a control line is lost.
     fn fault_at_end(lost: Line) -> Option<Fault>
-        ensures { result ≡ ends lost };
+        ensures { result ≡ end_fault lost };
 
     fn observe(before: &Lines, after: &Lines, changes: &[Change]) -> Option<Self::Observation>
         ensures { result ≡ observation before.now after.now changes.now };
@@ -150,15 +150,15 @@ impl<R: Rules> Machine for OverStretches<R> {
 
     ghost observation = { observed R.observation };
 
-    ghost next = { phase_step R.begin R.opens R.resets R.ends R.next };
+    ghost next = { phase_step R.begin R.start_marks R.reset_marks R.end_fault R.next };
 
     ghost sensitivity_of = { phase_sensitivity };
 
     ghost threshold_of = { stretch_threshold };
 
-    ghost below_threshold = { phase_step_unchanged R.begin R.opens R.resets R.ends R.next };
+    ghost below_threshold = { phase_step_unchanged R.begin R.start_marks R.reset_marks R.end_fault R.next };
 
-    ghost never_more_sensitive = { phase_step_sensitivity R.begin R.opens R.resets R.ends R.next };
+    ghost never_more_sensitive = { phase_step_sensitivity R.begin R.start_marks R.reset_marks R.end_fault R.next };
 
     ghost few = { phases_few R.Memory.COUNT R.Memory.small };
 
@@ -258,14 +258,15 @@ pub type RuleMonitor<R> = TableMonitor<OverStretches<R>>;
 pub fn rules_over_recordings<R: Rules>()
     ensures event { (t : Trace) (rules : List Rule) → malformed_step t ≡ None → t.opening.slots ≤ 21
         → ((span : Stretch) → IsSpanOf t span
-        → Judges (machine_step R.observation R.next) (R.begin (levels_at t span.start)) R.ends t span rules)
+        → Judges (machine_step R.observation R.next) (R.begin (levels_at t span.start)) R.end_fault t span rules)
         → (run_whole ⟦<RuleMonitor<R> as Monitor>⟧.run ⟦<RuleMonitor<R> as Monitor>⟧.begin t).event
         ≡ least_of rules t (judged_spans t) }
     ensures marks { (t : Trace) (shown : Stretch → ℕ → StepMarks) → malformed_step t ≡ None → t.opening.slots ≤ 21
         → ((span : Stretch) → IsSpanOf t span
-        → Shows (machine_step R.observation R.next) (R.begin (levels_at t span.start)) R.opens t span (shown span))
+        → Shows (machine_step R.observation R.next) (R.begin (levels_at t span.start)) R.start_marks t span
+        (shown span))
         → (run_whole ⟦<RuleMonitor<R> as Monitor>⟧.run ⟦<RuleMonitor<R> as Monitor>⟧.begin t).marks
-        ≡ marks_over (λ span. over_span t span R.resets (shown span)) t (judged_spans t) }
+        ≡ marks_over (λ span. over_span t span R.reset_marks (shown span)) t (judged_spans t) }
     ensures started { (t : Trace) → malformed_step t ≡ None → t.opening.slots ≤ 21
         → has_started (run_whole ⟦<RuleMonitor<R> as Monitor>⟧.run ⟦<RuleMonitor<R> as Monitor>⟧.begin t).leaving
         ≡ has_span (judged_spans t) }

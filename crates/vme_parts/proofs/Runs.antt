@@ -3,19 +3,19 @@ use Rattle.std.proofs.Common.{◌≡◌, ℕ, ◌+◌, ◌<◌, ◌^◌, Bool, L
 use Rattle.vme_trace.specs.Levels.{Levels}
 use Rattle.vme_trace.specs.Trace.{levels_after}
 use Rattle.vme_trace.specs.declared.step.Step.{Step}
-use Rattle.vme_monitor.specs.KnownRules.{known_begin, known_ends, known_next, known_opens, known_resets}
+use Rattle.vme_monitor.specs.KnownRules.{known_begin, known_end_fault, known_next, known_start_marks, known_reset_marks}
 use Rattle.vme_monitor.specs.KnownRules.{known_observation}
 use Rattle.vme_monitor.specs.Outcome.{IsWithin, Outcome, followed}
 use Rattle.vme_monitor.specs.OverStretches.{observed, phase_step}
 use Rattle.vme_monitor.specs.Run.{nothing, machine_step}
 use Rattle.vme_monitor.specs.RuleMonitors.{run_within}
 use Rattle.vme_monitor.specs.Runs.{run_joined}
-use Rattle.vme_dtb.specs.Machine.{dtb_begin, dtb_ends, dtb_opens, dtb_observation, dtb_step}
-use Rattle.vme_stability.specs.StabilityRules.{stability_begin, stability_ends, stability_next, stability_opens}
-use Rattle.vme_stability.specs.StabilityRules.{stability_observation}
-use Rattle.vme_chains.specs.GrantRules.{grant_begin, grant_ends, grant_next, grant_opens, grant_observation}
-use Rattle.vme_chains.specs.AcknowledgeRules.{acknowledge_begin, acknowledge_ends, acknowledge_next, acknowledge_opens}
-use Rattle.vme_chains.specs.AcknowledgeRules.{acknowledge_observation}
+use Rattle.vme_dtb.specs.Machine.{dtb_begin, dtb_end_fault, dtb_start_marks, dtb_observation, dtb_step}
+use Rattle.vme_stability.specs.StabilityRules.{stability_begin, stability_end_fault, stability_next}
+use Rattle.vme_stability.specs.StabilityRules.{stability_start_marks, stability_observation}
+use Rattle.vme_chains.specs.GrantRules.{grant_begin, grant_end_fault, grant_next, grant_start_marks, grant_observation}
+use Rattle.vme_chains.specs.AcknowledgeRules.{acknowledge_begin, acknowledge_end_fault, acknowledge_next}
+use Rattle.vme_chains.specs.AcknowledgeRules.{acknowledge_start_marks, acknowledge_observation}
 use Rattle.vme_summary.specs.Runs.{known_run, handshake_run, stability_run, grant_run, acknowledge_run}
 use Rattle.vme_part_format.specs.Tables.{TableValue}
 use Rattle.vme_part_tables.specs.Runs.{SaysBoth, TellsRuns}
@@ -31,34 +31,35 @@ pub known_is_run : IsRun known_run
 unfolding known_run
 known_is_run =
     let next = machine_step (observed known_observation)
-    (phase_step known_begin known_opens known_resets known_ends known_next) in
+    (phase_step known_begin known_start_marks known_reset_marks known_end_fault known_next) in
     record { joined = λ p o x y. run_joined next x y p o; within = λ p o x. run_within next x p o }
 
 pub handshake_is_run : IsRun handshake_run
 unfolding handshake_run
 handshake_is_run =
-    let next = machine_step (observed dtb_observation) (phase_step dtb_begin dtb_opens nothing dtb_ends dtb_step) in
+    let next = machine_step (observed dtb_observation) (phase_step dtb_begin dtb_start_marks nothing dtb_end_fault
+    dtb_step) in
     record { joined = λ p o x y. run_joined next x y p o; within = λ p o x. run_within next x p o }
 
 pub stability_is_run : IsRun stability_run
 unfolding stability_run
 stability_is_run =
     let next = machine_step (observed stability_observation)
-    (phase_step stability_begin stability_opens nothing stability_ends stability_next) in
+    (phase_step stability_begin stability_start_marks nothing stability_end_fault stability_next) in
     record { joined = λ p o x y. run_joined next x y p o; within = λ p o x. run_within next x p o }
 
 pub grant_is_run : IsRun grant_run
 unfolding grant_run
 grant_is_run =
     let next = machine_step (observed grant_observation)
-    (phase_step grant_begin grant_opens nothing grant_ends grant_next) in
+    (phase_step grant_begin grant_start_marks nothing grant_end_fault grant_next) in
     record { joined = λ p o x y. run_joined next x y p o; within = λ p o x. run_within next x p o }
 
 pub acknowledge_is_run : IsRun acknowledge_run
 unfolding acknowledge_run
 acknowledge_is_run =
     let next = machine_step (observed acknowledge_observation)
-    (phase_step acknowledge_begin acknowledge_opens nothing acknowledge_ends acknowledge_next) in
+    (phase_step acknowledge_begin acknowledge_start_marks nothing acknowledge_end_fault acknowledge_next) in
     record { joined = λ p o x y. run_joined next x y p o; within = λ p o x. run_within next x p o }
 
 pub tables_of_both : {P : Type 0} (run : P → Levels → List Step → Outcome P) → IsRun run → (place : P → ℕ)

@@ -25,8 +25,8 @@ use Rattle.vme_monitor.proofs.SpanFacts.{IsSpan}
 use Rattle.vme_monitor.proofs.Alongside.{changes_fit, levels_step, memory_early}
 use Rattle.vme_stability.specs.StabilityRules.{fault_on, is_observed, shifted_fault, undriven_fault, keeps_direction}
 use Rattle.vme_stability.specs.StabilityRules.{direction_turned, moved_fault, observation_of, stability_begin}
-use Rattle.vme_stability.specs.StabilityRules.{stability_ends}
-use Rattle.vme_stability.specs.StabilityRules.{stability_next, stability_opens, stability_rules, stability_shown}
+use Rattle.vme_stability.specs.StabilityRules.{stability_end_fault}
+use Rattle.vme_stability.specs.StabilityRules.{stability_next, stability_start_marks, stability_rules, stability_shown}
 use Rattle.vme_stability.specs.StabilityRules.{stability_observation, turned_fault, unknown_address, unknown_direction}
 use Rattle.vme_stability.specs.declared.holding.Holding.{Holding}
 use Rattle.vme_stability.specs.declared.observation.HoldingObservation.{HoldingObservation}
@@ -192,19 +192,20 @@ module _ (t : Trace) (span : Stretch) (ok : malformed_step t ≡ None) (facts : 
       rw (next_is n from before within (memory_at n) holds) (fault_is n from before within (memory_at n) holds unbroken)
 
 pub stability_event : FindsLeast
-    (run_of (machine_step (observed stability_observation) (phase_step stability_begin stability_opens nothing
+    (run_of (machine_step (observed stability_observation) (phase_step stability_begin stability_start_marks nothing
     (λ l. None)
     stability_next))) (start_in stability_begin) stability_rules
-stability_event = own_event stability_begin stability_opens stability_observation stability_next stability_rules refl
+stability_event = own_event stability_begin stability_start_marks stability_observation stability_next stability_rules
+    refl
     (λ t span ok few facts n from before within unbroken. judges_inside t span ok facts n from before within unbroken)
 
 pub stability_marks : ShowsAll
     (run_of (machine_step (observed stability_observation)
-    (phase_step stability_begin stability_opens nothing stability_ends
+    (phase_step stability_begin stability_start_marks nothing stability_end_fault
     stability_next))) (start_in stability_begin) nothing stability_shown
 stability_marks =
-    own_marks stability_begin stability_opens stability_observation stability_next stability_ends stability_shown
-    (λ t span ok few facts. record {
+    own_marks stability_begin stability_start_marks stability_observation stability_next stability_end_fault
+    stability_shown (λ t span ok few facts. record {
       at_start = refl;
       inside = λ n from before within. by_observation (stability_observation (levels_at t n) (levels_at t (suc n))
           (changes_of (slice_get t.steps n))) (memory_from step t (stability_begin (levels_at t span.start)) span.start

@@ -182,11 +182,11 @@ fault_in m v w seen =
 abbrev pub stability_begin : Levels → Holding
 stability_begin v = record { transfer = Fresh; cycle_answered = false }
 
-abbrev pub stability_opens : Levels → StepMarks
-stability_opens v = nothing
+abbrev pub stability_start_marks : Levels → StepMarks
+stability_start_marks v = nothing
 
-abbrev pub stability_ends : ℕ → Option Fault
-stability_ends l = None
+abbrev pub stability_end_fault : ℕ → Option Fault
+stability_end_fault l = None
 
 abbrev pub stability_next : Holding → Levels → Levels → HoldingObservation → Next Holding
 stability_next m v w seen = record { memory = stepped m v w; fault = fault_in m v w seen; shown = nothing }

@@ -197,8 +197,8 @@ impl Holding {
 
 impl Rules for StabilityRules {
     ghost use Rattle.vme_monitor.specs.Run.{nothing};
-    ghost use Rattle.vme_stability.specs.StabilityRules.{stability_begin, stability_ends, stability_next};
-    ghost use Rattle.vme_stability.specs.StabilityRules.{stability_opens, stability_observation};
+    ghost use Rattle.vme_stability.specs.StabilityRules.{stability_begin, stability_end_fault, stability_next};
+    ghost use Rattle.vme_stability.specs.StabilityRules.{stability_start_marks, stability_observation};
 
     type Memory = Holding;
 
@@ -206,11 +206,11 @@ impl Rules for StabilityRules {
 
     ghost begin = { stability_begin };
 
-    ghost opens = { stability_opens };
+    ghost start_marks = { stability_start_marks };
 
-    ghost resets = { nothing };
+    ghost reset_marks = { nothing };
 
-    ghost ends = { stability_ends };
+    ghost end_fault = { stability_end_fault };
 
     ghost observation = { stability_observation };
 

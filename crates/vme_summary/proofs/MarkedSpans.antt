@@ -18,7 +18,7 @@ use Rattle.vme_monitor.specs.declared.mark.MarkKind.TheVariants as kind
 use Rattle.vme_monitor.specs.declared.mark.StepMarks.{StepMarks}
 use Rattle.vme_monitor.specs.declared.mark.Mark.{Mark}
 use Rattle.vme_dtb.proofs.Searches.{greatest_before, le_holds, lt_holds}
-use Rattle.vme_monitor.specs.KnownRules.{known_resets}
+use Rattle.vme_monitor.specs.KnownRules.{known_reset_marks}
 use Rattle.vme_summary.specs.AllShown.{all_over, all_shown}
 use Rattle.vme_summary.specs.MarkedRows.{first_instant, is_cycle_end, is_tenure_end, opening_marks, rows_of}
 use Rattle.vme_summary.proofs.InstantMarks.{all_put, all_put_is, after_cycle, after_open, after_tenure, after_transfer}
@@ -118,7 +118,7 @@ module _ (t : Trace) (span : Stretch) where
 
   -- before the end of the span each instant shows what is plainly there
   over_is : (j : ℕ) → j < span.end → all_over t span j ≡ plainly t span j
-  over_is j h = ap (λ b. cond b (all_shown t span j) (cond (is_reset_at t j) known_resets nothing))
+  over_is j h = ap (λ b. cond b (all_shown t span j) (cond (is_reset_at t j) known_reset_marks nothing))
       (lt_holds j span.end h) ∙ plainly_is t span j
 
   module _ (end : ℕ) (within : end ≤ span.end) where

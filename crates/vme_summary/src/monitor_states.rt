@@ -77,7 +77,7 @@ fn next_judging<R: Rules>(
     requires view { view.now ≡ seen_in view.now.before changes.now }
     requires goes_on { view.now.end ≡ None }
     ensures { unwrap_or result (quiet_next (Judging memory)) ≡ unmarked_next
-        (machine_step (observed R.observation) (phase_step R.begin R.opens R.resets R.ends R.next)
+        (machine_step (observed R.observation) (phase_step R.begin R.start_marks R.reset_marks R.end_fault R.next)
         (Judging memory) view.now.before view.now.after changes.now) }
 {
     let Some(seen) = R::observe(&view.before, &view.after, changes) else {
@@ -101,7 +101,7 @@ fn next_in<R: Rules>(
 ) -> Option<Next<StretchPhase<R::Memory>>>
     requires { view.now ≡ seen_in view.now.before changes.now }
     ensures { unwrap_or result (quiet_next memory) ≡ unmarked_next
-        (machine_step (observed R.observation) (phase_step R.begin R.opens R.resets R.ends R.next)
+        (machine_step (observed R.observation) (phase_step R.begin R.start_marks R.reset_marks R.end_fault R.next)
         memory view.now.before view.now.after changes.now) }
 {
     match memory {
@@ -138,10 +138,10 @@ pub(crate) fn advance<R: Rules>(
 )
     requires { view.now ≡ seen_in view.now.before changes.now }
     ensures memory { state.new.memory
-        ≡ (machine_step (observed R.observation) (phase_step R.begin R.opens R.resets R.ends R.next)
+        ≡ (machine_step (observed R.observation) (phase_step R.begin R.start_marks R.reset_marks R.end_fault R.next)
         state.old.memory view.now.before view.now.after changes.now).memory }
     ensures event { state.new.event ≡ earlier state.old.event (option_map (break_at instant time)
-        (machine_step (observed R.observation) (phase_step R.begin R.opens R.resets R.ends R.next)
+        (machine_step (observed R.observation) (phase_step R.begin R.start_marks R.reset_marks R.end_fault R.next)
         state.old.memory view.now.before view.now.after changes.now).fault) }
 {
     let Some(next) = next_in::<R>(state.memory, view, changes) else {

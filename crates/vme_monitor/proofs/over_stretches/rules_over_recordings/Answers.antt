@@ -2,17 +2,17 @@ use Rattle.vme_monitor.proofs.Spans.{event_over, marks_over_spans, started_over,
 use Rattle.vme_monitor.proofs.over_stretches.rules_over_recordings.Goals as goal
 
 pub returns-clause-event : goal.returns-clause-event
-returns-clause-event g c = λ t rules ok few owed. event_over g.R.Rules.begin g.R.Rules.opens g.R.Rules.resets
-    g.R.Rules.ends g.R.Rules.observation g.R.Rules.next t few ok rules owed
+returns-clause-event g c = λ t rules ok few owed. event_over g.R.Rules.begin g.R.Rules.start_marks g.R.Rules.reset_marks
+    g.R.Rules.end_fault g.R.Rules.observation g.R.Rules.next t few ok rules owed
 
 pub returns-clause-marks : goal.returns-clause-marks
-returns-clause-marks g c = λ t shown ok few owed. marks_over_spans g.R.Rules.begin g.R.Rules.opens g.R.Rules.resets
-    g.R.Rules.ends g.R.Rules.observation g.R.Rules.next t few ok shown owed
+returns-clause-marks g c = λ t shown ok few owed. marks_over_spans g.R.Rules.begin g.R.Rules.start_marks
+    g.R.Rules.reset_marks g.R.Rules.end_fault g.R.Rules.observation g.R.Rules.next t few ok shown owed
 
 pub returns-clause-started : goal.returns-clause-started
-returns-clause-started g c = λ t ok few. started_over g.R.Rules.begin g.R.Rules.opens g.R.Rules.resets g.R.Rules.ends
-    g.R.Rules.observation g.R.Rules.next t few ok
+returns-clause-started g c = λ t ok few. started_over g.R.Rules.begin g.R.Rules.start_marks g.R.Rules.reset_marks
+    g.R.Rules.end_fault g.R.Rules.observation g.R.Rules.next t few ok
 
 pub returns-clause-memory : goal.returns-clause-memory
-returns-clause-memory g c = λ t span n ok few. memory_of_span g.R.Rules.begin g.R.Rules.opens g.R.Rules.resets
-    g.R.Rules.ends g.R.Rules.observation g.R.Rules.next t few ok span n
+returns-clause-memory g c = λ t span n ok few. memory_of_span g.R.Rules.begin g.R.Rules.start_marks
+    g.R.Rules.reset_marks g.R.Rules.end_fault g.R.Rules.observation g.R.Rules.next t few ok span n

@@ -1,17 +1,17 @@
 -- The tables are of the runs without marks.
 use Rattle.vme_monitor.specs.OverStretches.{observed, phase_place, phase_step}
 use Rattle.vme_monitor.specs.Run.{nothing}
-use Rattle.vme_monitor.specs.KnownRules.{known_begin, known_ends, known_next, known_opens, known_resets}
+use Rattle.vme_monitor.specs.KnownRules.{known_begin, known_end_fault, known_next, known_start_marks, known_reset_marks}
 use Rattle.vme_monitor.specs.KnownRules.{known_observation, nil_place}
-use Rattle.vme_dtb.specs.Machine.{dtb_begin, dtb_ends, dtb_opens, dtb_observation, dtb_step}
+use Rattle.vme_dtb.specs.Machine.{dtb_begin, dtb_end_fault, dtb_start_marks, dtb_observation, dtb_step}
 use Rattle.vme_dtb.specs.MemoryNumbers.{memory_place}
 use Rattle.vme_stability.specs.HoldingNumbers.{holding_place}
-use Rattle.vme_stability.specs.StabilityRules.{stability_begin, stability_ends, stability_next, stability_opens}
-use Rattle.vme_stability.specs.StabilityRules.{stability_observation}
+use Rattle.vme_stability.specs.StabilityRules.{stability_begin, stability_end_fault, stability_next}
+use Rattle.vme_stability.specs.StabilityRules.{stability_start_marks, stability_observation}
 use Rattle.vme_chains.specs.GrantMemory.{arbitration_place}
-use Rattle.vme_chains.specs.GrantRules.{grant_begin, grant_ends, grant_next, grant_opens, grant_observation}
-use Rattle.vme_chains.specs.AcknowledgeRules.{acknowledge_begin, acknowledge_ends, acknowledge_next, acknowledge_opens}
-use Rattle.vme_chains.specs.AcknowledgeRules.{acknowledge_observation, acknowledgement_place}
+use Rattle.vme_chains.specs.GrantRules.{grant_begin, grant_end_fault, grant_next, grant_start_marks, grant_observation}
+use Rattle.vme_chains.specs.AcknowledgeRules.{acknowledge_begin, acknowledge_end_fault, acknowledge_next}
+use Rattle.vme_chains.specs.AcknowledgeRules.{acknowledge_start_marks, acknowledge_observation, acknowledgement_place}
 use Rattle.vme_summary.specs.Runs.{known_run, handshake_run, stability_run, grant_run, acknowledge_run}
 use Rattle.vme_parts.proofs.Unmarked.{summary_tells}
 use Rattle.vme_parts.proofs.made.bare_tables.Goals as goal
@@ -24,19 +24,19 @@ returns c =
     let all = c.in_ok-summaries.ensures in
     record {
       known = summary_tells (observed known_observation)
-          (phase_step known_begin known_opens known_resets known_ends known_next) 4 (phase_place nil_place) _ _ o x
-          all.known.outcomes c.in_ok-known.ensures;
+          (phase_step known_begin known_start_marks known_reset_marks known_end_fault known_next) 4
+          (phase_place nil_place) _ _ o x all.known.outcomes c.in_ok-known.ensures;
       handshake = summary_tells (observed dtb_observation)
-          (phase_step dtb_begin dtb_opens nothing dtb_ends dtb_step) 147 (phase_place memory_place) _ _ o x
+          (phase_step dtb_begin dtb_start_marks nothing dtb_end_fault dtb_step) 147 (phase_place memory_place) _ _ o x
           all.handshake.outcomes c.in_ok-handshake.ensures;
       stability = summary_tells (observed stability_observation)
-          (phase_step stability_begin stability_opens nothing stability_ends stability_next) 13
+          (phase_step stability_begin stability_start_marks nothing stability_end_fault stability_next) 13
           (phase_place holding_place) _ _ o x all.stability.outcomes c.in_ok-stability.ensures;
       grant = summary_tells (observed grant_observation)
-          (phase_step grant_begin grant_opens nothing grant_ends grant_next) 35 (phase_place arbitration_place) _ _ o x
-          all.grant.outcomes c.in_ok-grant.ensures;
+          (phase_step grant_begin grant_start_marks nothing grant_end_fault grant_next) 35
+          (phase_place arbitration_place) _ _ o x all.grant.outcomes c.in_ok-grant.ensures;
       acknowledge = summary_tells (observed acknowledge_observation)
-          (phase_step acknowledge_begin acknowledge_opens nothing acknowledge_ends acknowledge_next) 11
+          (phase_step acknowledge_begin acknowledge_start_marks nothing acknowledge_end_fault acknowledge_next) 11
           (phase_place acknowledgement_place) _ _ o x all.acknowledge.outcomes c.in_ok-acknowledge.ensures;
       left = all.left;
     }

@@ -1,14 +1,14 @@
 -- Each table is one of the steps of both.
 use Rattle.vme_monitor.specs.Run.{nothing, machine_step}
 use Rattle.vme_monitor.specs.OverStretches.{observed, phase_step}
-use Rattle.vme_monitor.specs.KnownRules.{known_begin, known_ends, known_next, known_opens, known_resets}
+use Rattle.vme_monitor.specs.KnownRules.{known_begin, known_end_fault, known_next, known_start_marks, known_reset_marks}
 use Rattle.vme_monitor.specs.KnownRules.{known_observation}
-use Rattle.vme_dtb.specs.Machine.{dtb_begin, dtb_ends, dtb_opens, dtb_observation, dtb_step}
-use Rattle.vme_stability.specs.StabilityRules.{stability_begin, stability_ends, stability_next, stability_opens}
-use Rattle.vme_stability.specs.StabilityRules.{stability_observation}
-use Rattle.vme_chains.specs.GrantRules.{grant_begin, grant_ends, grant_next, grant_opens, grant_observation}
-use Rattle.vme_chains.specs.AcknowledgeRules.{acknowledge_begin, acknowledge_ends, acknowledge_next, acknowledge_opens}
-use Rattle.vme_chains.specs.AcknowledgeRules.{acknowledge_observation}
+use Rattle.vme_dtb.specs.Machine.{dtb_begin, dtb_end_fault, dtb_start_marks, dtb_observation, dtb_step}
+use Rattle.vme_stability.specs.StabilityRules.{stability_begin, stability_end_fault, stability_next}
+use Rattle.vme_stability.specs.StabilityRules.{stability_start_marks, stability_observation}
+use Rattle.vme_chains.specs.GrantRules.{grant_begin, grant_end_fault, grant_next, grant_start_marks, grant_observation}
+use Rattle.vme_chains.specs.AcknowledgeRules.{acknowledge_begin, acknowledge_end_fault, acknowledge_next}
+use Rattle.vme_chains.specs.AcknowledgeRules.{acknowledge_start_marks, acknowledge_observation}
 use Rattle.vme_summary.specs.Runs.{known_run, handshake_run, stability_run, grant_run, acknowledge_run}
 use Rattle.vme_summary.proofs.Turns.{in_turn}
 use Rattle.vme_summary.proofs.summary.MonitorSummaries.compose.Goals as goal
@@ -19,21 +19,21 @@ returns-clause-stands c =
     λ o x y p q.
     record {
       known = in_turn (machine_step (observed known_observation)
-          (phase_step known_begin known_opens known_resets known_ends known_next))
+          (phase_step known_begin known_start_marks known_reset_marks known_end_fault known_next))
           _ _ _ _ _ _ c.in_ok-known.ensures.outcomes c.in_ok-known.ensures.counted o x y p.known q.known;
       handshake = in_turn (machine_step (observed dtb_observation)
-          (phase_step dtb_begin dtb_opens nothing dtb_ends dtb_step)) _ _ _ _ _
+          (phase_step dtb_begin dtb_start_marks nothing dtb_end_fault dtb_step)) _ _ _ _ _
           _ c.in_ok-handshake.ensures.outcomes c.in_ok-handshake.ensures.counted o x y p.handshake q.handshake;
       stability = in_turn (machine_step (observed stability_observation)
-          (phase_step stability_begin stability_opens nothing
-          stability_ends stability_next)) _ _ _ _ _ _ c.in_ok-stability.ensures.outcomes
+          (phase_step stability_begin stability_start_marks nothing
+          stability_end_fault stability_next)) _ _ _ _ _ _ c.in_ok-stability.ensures.outcomes
           c.in_ok-stability.ensures.counted
           o x y p.stability q.stability;
       grant = in_turn (machine_step (observed grant_observation)
-          (phase_step grant_begin grant_opens nothing grant_ends grant_next)) _ _
+          (phase_step grant_begin grant_start_marks nothing grant_end_fault grant_next)) _ _
           _ _ _ _ c.in_ok-grant.ensures.outcomes c.in_ok-grant.ensures.counted o x y p.grant q.grant;
       acknowledge = in_turn (machine_step (observed acknowledge_observation)
-          (phase_step acknowledge_begin acknowledge_opens nothing
-          acknowledge_ends acknowledge_next)) _ _ _ _ _ _ c.in_ok-acknowledge.ensures.outcomes
+          (phase_step acknowledge_begin acknowledge_start_marks nothing
+          acknowledge_end_fault acknowledge_next)) _ _ _ _ _ _ c.in_ok-acknowledge.ensures.outcomes
           c.in_ok-acknowledge.ensures.counted o x y p.acknowledge q.acknowledge;
     }

@@ -1,14 +1,14 @@
 -- Each monitor goes on from its memory.
 use Rattle.vme_monitor.specs.Run.{nothing, machine_step}
 use Rattle.vme_monitor.specs.OverStretches.{observed, phase_step, start_in}
-use Rattle.vme_monitor.specs.KnownRules.{known_begin, known_ends, known_next, known_opens, known_resets}
+use Rattle.vme_monitor.specs.KnownRules.{known_begin, known_end_fault, known_next, known_start_marks, known_reset_marks}
 use Rattle.vme_monitor.specs.KnownRules.{known_observation}
-use Rattle.vme_dtb.specs.Machine.{dtb_begin, dtb_ends, dtb_opens, dtb_observation, dtb_step}
-use Rattle.vme_stability.specs.StabilityRules.{stability_begin, stability_ends, stability_next, stability_opens}
-use Rattle.vme_stability.specs.StabilityRules.{stability_observation}
-use Rattle.vme_chains.specs.GrantRules.{grant_begin, grant_ends, grant_next, grant_opens, grant_observation}
-use Rattle.vme_chains.specs.AcknowledgeRules.{acknowledge_begin, acknowledge_ends, acknowledge_next, acknowledge_opens}
-use Rattle.vme_chains.specs.AcknowledgeRules.{acknowledge_observation}
+use Rattle.vme_dtb.specs.Machine.{dtb_begin, dtb_end_fault, dtb_start_marks, dtb_observation, dtb_step}
+use Rattle.vme_stability.specs.StabilityRules.{stability_begin, stability_end_fault, stability_next}
+use Rattle.vme_stability.specs.StabilityRules.{stability_start_marks, stability_observation}
+use Rattle.vme_chains.specs.GrantRules.{grant_begin, grant_end_fault, grant_next, grant_start_marks, grant_observation}
+use Rattle.vme_chains.specs.AcknowledgeRules.{acknowledge_begin, acknowledge_end_fault, acknowledge_next}
+use Rattle.vme_chains.specs.AcknowledgeRules.{acknowledge_start_marks, acknowledge_observation}
 use Rattle.vme_summary.specs.Runs.{known_run, handshake_run, stability_run, grant_run, acknowledge_run}
 use Rattle.vme_summary.proofs.Progressing.{seen_after}
 use Rattle.vme_summary.proofs.summary.MonitorSummaries.found_after.Goals as goal
@@ -19,23 +19,24 @@ returns c =
     λ o x y long f says.
     record {
       known = seen_after (machine_step (observed known_observation)
-          (phase_step known_begin known_opens known_resets known_ends
+          (phase_step known_begin known_start_marks known_reset_marks known_end_fault
           known_next)) (start_in known_begin) _ _ _ _ _ o x y c.after.ensures.memory c.after.ensures.event long f.known
           says.known;
       handshake = seen_after
-          (machine_step (observed dtb_observation) (phase_step dtb_begin dtb_opens nothing dtb_ends dtb_step))
+          (machine_step (observed dtb_observation) (phase_step dtb_begin dtb_start_marks nothing dtb_end_fault
+          dtb_step))
           (start_in dtb_begin) _ _ _ _ _ o x y c.after-2.ensures.memory c.after-2.ensures.event long f.handshake
           says.handshake;
       stability = seen_after
-          (machine_step (observed stability_observation) (phase_step stability_begin stability_opens nothing
-          stability_ends stability_next)) (start_in stability_begin) _ _ _ _ _ o x y c.after-3.ensures.memory
+          (machine_step (observed stability_observation) (phase_step stability_begin stability_start_marks nothing
+          stability_end_fault stability_next)) (start_in stability_begin) _ _ _ _ _ o x y c.after-3.ensures.memory
           c.after-3.ensures.event long f.stability says.stability;
       grant = seen_after (machine_step (observed grant_observation)
-          (phase_step grant_begin grant_opens nothing grant_ends grant_next))
+          (phase_step grant_begin grant_start_marks nothing grant_end_fault grant_next))
           (start_in grant_begin) _ _ _ _ _ o x y c.after-4.ensures.memory c.after-4.ensures.event long f.grant
           says.grant;
       acknowledge = seen_after (machine_step (observed acknowledge_observation)
-          (phase_step acknowledge_begin acknowledge_opens nothing
-          acknowledge_ends acknowledge_next)) (start_in acknowledge_begin) _ _ _ _ _ o x y c.after-5.ensures.memory
+          (phase_step acknowledge_begin acknowledge_start_marks nothing
+          acknowledge_end_fault acknowledge_next)) (start_in acknowledge_begin) _ _ _ _ _ o x y c.after-5.ensures.memory
           c.after-5.ensures.event long f.acknowledge says.acknowledge;
     }
