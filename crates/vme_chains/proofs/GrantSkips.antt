@@ -84,8 +84,7 @@ pub fault-none : (v w : Levels) (requests now : LevelSet) (granted : Bool) (nets
       requests = now;
       grants = grants;
       busy_falls = takes;
-      ungranted
-          = takes && ungranted;
+      busy_ungranted = takes && ungranted;
       tenure = cond takes taken None;
       busy_rises = ends;
       cycle_unowned = unowned;

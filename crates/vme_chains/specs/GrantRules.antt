@@ -51,7 +51,7 @@ seen_between v w cs =
       requests = requested_in w;
       grants = grant_begins v w;
       busy_falls = falls_between v w BBSY;
-      ungranted = falls_between v w BBSY && is_ungranted v w;
+      busy_ungranted = falls_between v w BBSY && is_ungranted v w;
       tenure = (if falls_between v w BBSY then taken_between v w else None);
       busy_rises = rises_between v w BBSY;
       cycle_unowned = is_cycle_unowned v w;
@@ -65,7 +65,7 @@ abbrev pub step_fault : Levels → Levels → LevelSet → Bool → GrantObserva
 step_fault v w requests granted seen =
     option_or seen.net_fault
     (option_or (fault_on G5 (if seen.grants then option_map (λ n. grant n 0) (unrequested v w requests) else None))
-    (option_or (fault_on B1 (line_if seen.ungranted BBSY))
+    (option_or (fault_on B1 (line_if seen.busy_ungranted BBSY))
     (option_or (fault_on B2 (line_if (seen.busy_falls && not granted) BBSY))
     (option_or (fault_on B3 (line_if seen.cycle_unowned AS))
     (fault_on B4 (line_if (is_option_equal (slot_of seen.tenure) (w.slots + 1)) BBSY))))))

@@ -32,7 +32,7 @@ pub struct GrantObservation {
     /// BBSY* falls.
     pub busy_falls: bool,
     /// BBSY* falls, and no level is granted before the step or after it.
-    pub ungranted: bool,
+    pub busy_ungranted: bool,
     /// The grant that the fall of BBSY* takes.
     pub tenure: Option<BusGrant>,
     /// BBSY* rises.
@@ -96,7 +96,7 @@ fn seen_between(before: &Lines, after: &Lines, changes: &[Change]) -> GrantObser
         requests: requested(after),
         grants: grant_begins(before, after),
         busy_falls,
-        ungranted: busy_falls && is_ungranted(before, after),
+        busy_ungranted: busy_falls && is_ungranted(before, after),
         tenure: if busy_falls {
             taken_between(before, after)
         } else {
@@ -136,7 +136,7 @@ impl GrantObservation {
         } else {
             None
         };
-        let b1_line = line_if(self.ungranted, Line::BBSY);
+        let b1_line = line_if(self.busy_ungranted, Line::BBSY);
         let b2_line = line_if(self.busy_falls && !granted, Line::BBSY);
         let b3_line = line_if(self.cycle_unowned, Line::AS);
         let b4_line = line_if(self.is_past_last_slot(after.slots()), Line::BBSY);
