@@ -461,10 +461,7 @@ fn read_back(rt: HostRuntime) {
 /// Whether a text is a listing with this row at a place.
 fn has_row(alloc: Global, text: &[u8], place: usize, row: &Row) -> bool {
     match read(alloc, text) {
-        Ok(listing) => {
-            let rows = listing.into_rows();
-            rows.as_slice().get(place) == Some(row)
-        }
+        Ok(listing) => listing.rows().get(place) == Some(row),
         Err(_) => false,
     }
 }

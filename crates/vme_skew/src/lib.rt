@@ -10,17 +10,14 @@
 //! # Parts
 //!
 //! - `specs/Settled`: the definition.
-//! - `settling`, `group`: [`settle`], which makes the settled recording in one pass, and the group
-//!   at hand.
-//! - `step_settler`: [`StepSettler`], which settles steps as they come and keeps none of them;
-//!   `specs/Settling` has its state.
+//! - `step_settler`, `group`: [`StepSettler`], which settles steps as they come and keeps none of
+//!   them, and the group at hand; `specs/Settling` has its state.
 //! - `settling_visitor`: [`SettlingVisitor`], which does so for another visitor; `specs/GivenOn`
 //!   says what it has passed on. Its skew is a parameter of its type, [`GhostSkew`].
 //! - The functions of this file: laws of the definition, whose contracts are what they say.
 //!
 //! # What is proved
 //!
-//! [`settle`] makes exactly the settled recording (`settled`); the only error is lack of memory.
 //! With a skew of 0 a recording is itself ([`settled_by_zero`]). What is settled is a recording,
 //! and has no more steps than there were ([`settled_is_recording`]). The levels after each group
 //! are those of the recording ([`levels_are_kept`]). [`worked_recordings`] computes recordings at
@@ -37,9 +34,9 @@
 //!
 //! # What isn't proved
 //!
-//! How much work [`settle`] takes, a [`StepSettler`], and a [`SettlingVisitor`]. Which skew fits a
-//! probe is for its user to know: two edges of the bus that lie within the skew become one instant,
-//! and their order is lost.
+//! How much work a [`StepSettler`] takes, and a [`SettlingVisitor`]. Which skew fits a probe is for
+//! its user to know: two edges of the bus that lie within the skew become one instant, and their
+//! order is lost.
 //!
 //! # Limits
 //!
@@ -54,11 +51,9 @@ ghost use Rattle.vme_skew.specs.Settled.{IsRecording, settled, settled_until, st
 ghost use Rattle.vme_skew.specs.Worked.{AllComplete, AllSettle, worked, worked_times};
 
 mod group;
-mod settling;
 mod settling_visitor;
 mod step_settler;
 
-pub use settling::settle;
 pub use settling_visitor::{GhostSkew, SettlingVisitor};
 pub use step_settler::StepSettler;
 

@@ -4,8 +4,8 @@ use smallvec::SmallVec;
 use std::alloc::{AllocError, Global};
 use std::marker::Brand;
 use vme_bind::StepCollector;
-use vme_skew::{GhostSkew, SettlingVisitor, StepSettler, settle};
-use vme_trace::{Capture, Change, Changes, LINE_COUNT, Level, Line, Lines, Step, StepVisitor};
+use vme_skew::{GhostSkew, SettlingVisitor, StepSettler};
+use vme_trace::{Change, Changes, LINE_COUNT, Level, Line, Lines, Step, StepVisitor};
 
 /// The numbers of the lines that change at a time, with their new levels.
 type Row = (u64, &'static [(u8, Level)]);
@@ -216,15 +216,6 @@ fn high_lines() -> Option<Lines> {
     Some(lines)
 }
 
-/// The recording of these steps behind such lines.
-fn recorded(alloc: Global, rows: &[Row]) -> Option<Capture> {
-    let mut steps = Vec::new(alloc);
-    for row in rows {
-        steps.push(step(*row, alloc).ok()?).ok()?;
-    }
-    Capture::new(high_lines()?, steps).ok()
-}
-
 /// Whether the changes of a step are these.
 fn has_changes(step: &Step, row: &[(u8, Level)]) -> bool {
     let changes = step.changes.as_slice();
@@ -250,11 +241,6 @@ fn are_steps(steps: &[Step], rows: &[Row]) -> bool {
         }
     }
     true
-}
-
-/// Whether a recording has this opening and these steps.
-fn is_recorded(capture: &Capture, opening: &Lines, rows: &[Row]) -> bool {
-    *capture.opening() == *opening && are_steps(capture.steps(), rows)
 }
 
 /// Keeps a step that came out of a settler, if one did.
@@ -349,22 +335,6 @@ fn given_on(
     given_on_by::<Brand>(alloc, opening, rows, skew)
 }
 
-/// Whether a recording settles to these steps, and stays as it is.
-fn settles(alloc: Global, rows: &[Row], skew: u64, settled: &[Row]) -> Option<bool> {
-    let opening = high_lines()?;
-    let capture = recorded(alloc, rows)?;
-    let made = settle(alloc, &capture, skew).ok()?;
-    Some(is_recorded(&made, &opening, settled) && is_recorded(&capture, &opening, rows))
-}
-
-#[test]
-fn worked_recordings_settle(rt: HostRuntime) {
-    for (rows, skew, settled) in WORKED.iter() {
-        let is_so = settles(rt.alloc(), rows, *skew, settled).unwrap_or(false);
-        assert!(rt; is_so, "{skew} {}", rows.len());
-    }
-}
-
 /// Whether these steps settle so as they come.
 fn settles_as_they_come(alloc: Global, rows: &[Row], skew: u64, settled: &[Row]) -> Option<bool> {
     let out = settled_as_they_come(alloc, high_lines()?, rows, skew).ok()?;
@@ -408,34 +378,16 @@ fn times_end_groups(rt: HostRuntime) {
     }
 }
 
-/// Whether a recording that settles to these steps by 4 settles to them by 4 again.
-fn stays(alloc: Global, rows: &[Row], settled: &[Row]) -> Option<bool> {
-    let capture = recorded(alloc, rows)?;
-    let once = settle(alloc, &capture, 4).ok()?;
-    let twice = settle(alloc, &once, 4).ok()?;
-    Some(is_recorded(&twice, &high_lines()?, settled))
-}
-
 /// What is settled settles to itself where its steps lie more than the skew apart.
 #[test]
 fn what_is_settled_stays(rt: HostRuntime) {
     for (rows, settled) in LARGE.iter() {
-        assert!(rt; stays(rt.alloc(), rows, settled).unwrap_or(false));
+        assert!(rt; settles_as_they_come(rt.alloc(), rows, 4, settled).unwrap_or(false));
+        assert!(rt; settles_as_they_come(rt.alloc(), settled, 4, settled).unwrap_or(false));
     }
 }
 
-/// Whether a recording settles to these steps by 4, or memory is refused.
-fn settles_if_at_all(alloc: Global, rows: &[Row], settled: &[Row]) -> bool {
-    let (Some(capture), Some(opening)) = (recorded(alloc, rows), high_lines()) else {
-        return true;
-    };
-    match settle(alloc, &capture, 4) {
-        Ok(made) => is_recorded(&made, &opening, settled),
-        Err(_) => true,
-    }
-}
-
-/// The same of steps as they come, and as they are given on.
+/// Whether these steps settle so by 4 as they come, and as they are given on, or memory is refused.
 fn comes_if_at_all(alloc: Global, rows: &[Row], settled: &[Row]) -> bool {
     let Some(opening) = high_lines() else {
         return true;
@@ -455,7 +407,6 @@ fn comes_if_at_all(alloc: Global, rows: &[Row], settled: &[Row]) -> bool {
 #[test]
 fn want_of_memory_is_the_error(rt: HostRuntime) {
     for (rows, settled) in LARGE.iter() {
-        assert!(rt; settles_if_at_all(rt.alloc(), rows, settled));
         assert!(rt; comes_if_at_all(rt.alloc(), rows, settled));
     }
 }
