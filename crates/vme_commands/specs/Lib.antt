@@ -1,10 +1,6 @@
 pub mod AllowanceTexts
-pub mod Explained
-pub mod ExplainedDumps
 pub mod Judged
 pub mod Listings
-pub mod Refused
 pub mod Settled
-pub mod TextAnswers
 pub mod DumpJudge
 pub mod Wants

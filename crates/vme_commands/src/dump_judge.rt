@@ -21,9 +21,10 @@ use vme_trace::StepVisitor;
 
 /// How far a dump is read.
 #[derive(Drop)]
-pub(crate) enum ReadStage<F: StepVisitor> {
+pub enum ReadStage<F: StepVisitor> {
     /// Its definitions don't end in what was seen, of which nothing was taken.
     Definitions(F),
+    /// Its body is read so far.
     Body(TextPieces<F>),
     /// It has a fault.
     Failed(InputFault),

@@ -8,7 +8,8 @@ use vme_bind::{BindKind, CaptureFault};
 
 /// Why a dump has no recording: no want of memory.
 #[derive(Drop)]
-pub(crate) struct InputFault {
+pub struct InputFault {
+    /// The fault.
     pub fault: CaptureFault,
     ghost told: { is_want fault ≡ false },
 }

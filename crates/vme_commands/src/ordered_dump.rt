@@ -1,10 +1,11 @@
 //! A dump whose steps are taken as it is read, in order.
 
-ghost use Rattle.std.specs.Prelude.{◌≡◌, ◌≤◌, ℕ, List, length, take, false, Result, Err, IfOk};
+ghost use Rattle.std.specs.Prelude.{◌≡◌, ◌≤◌, ℕ, List, length, take, false, Result, Err, IfOk, IfSome};
 ghost use Rattle.vme_trace.specs.Trace.{Trace};
 ghost use Rattle.vme_stream.specs.ByteConsumers.{ContinuesAs};
 ghost use Rattle.vme_bind.specs.TextCapture.{GivesBy, recording_of_text};
 ghost use Rattle.vme_bind.specs.declared.fault.CaptureFault.{CaptureFault};
+ghost use Rattle.vme_bind.specs.declared.fault.CaptureFault.TheVariants.{Dump};
 ghost use Rattle.vme_commands.specs.DumpJudge.{ahead_of};
 ghost use Rattle.vme_commands.specs.Wants.{is_want};
 
@@ -18,9 +19,11 @@ use vme_trace::StepVisitor;
 
 /// A dump whose recording by a binding is given to what takes it as it is read, one piece after the other.
 #[derive(Drop)]
-pub(crate) struct OrderedDump<'b, F: StepVisitor> {
-    bound: &'b Binding,
-    stage: ReadStage<F>,
+pub struct OrderedDump<'b, F: StepVisitor> {
+    /// The binding.
+    pub bound: &'b Binding,
+    /// How far the dump is read.
+    pub stage: ReadStage<F>,
 }
 
 impl<'b, F: StepVisitor> OrderedDump<'b, F> {
@@ -54,7 +57,10 @@ impl<'b, F: StepVisitor> OrderedDump<'b, F> {
     }
 
     /// The fault of the dump itself, if one was met.
-    pub fn fault(&self) -> Option<VcdFault> {
+    pub fn fault(&self) -> Option<VcdFault>
+        ensures { IfSome result (λ fault. (rest : List ℕ) → ahead_of self.now.bound.now self.now.stage rest
+            ≡ Err (Dump fault)) }
+    {
         match &self.stage {
             ReadStage::Failed(told) => match told.fault {
                 CaptureFault::Dump(fault) => Some(fault),

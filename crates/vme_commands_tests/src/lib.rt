@@ -1,5 +1,5 @@
-//! Tests of vme_commands: what its commands write and answer, by inputs whose answers stand beside
-//! them.
+//! Tests of vme_commands and vme_text_commands: what the commands write and answer, by inputs whose
+//! answers stand beside them.
 //!
 //! - `tests`: verdicts, listings, faults of each input, bindings, explanations, what an audit
 //!   allows. `want_of_memory_is_told` is made for `tests/memory/run`, which refuses each of its

@@ -4,13 +4,14 @@ use std::alloc::{AllocError, Global};
 use std::process::Abort;
 use std::test::Fail;
 use std::thread::Threads;
-use vme_commands::bind::bind;
 use vme_commands::check::check;
-use vme_commands::explain::{InputNames, explain};
 use vme_commands::list::list;
-use vme_commands::{BLOCK, BUILT_IN, allowance_of, allowances_of, tell_faults, tell_variables};
+use vme_commands::{BLOCK, BUILT_IN, allowance_of, allowances_of};
 use vme_faults::Kind;
 use vme_stream::Bytes;
+use vme_text_commands::bind::bind;
+use vme_text_commands::explain::{InputNames, explain};
+use vme_text_commands::{tell_faults, tell_variables};
 use vme_trace::{Failed, Line, Rule, Sink};
 
 pub(crate) const HEAD: &str = "$timescale 1 ns $end\n$scope module bus $end\n\

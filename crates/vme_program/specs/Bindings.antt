@@ -4,8 +4,8 @@ use Rattle.vme_trace.specs.Streams.{Reading, Writing}
 use Rattle.vme_answer.specs.Answers.{dump_read}
 use Rattle.vme_answer.specs.Ends.{Ends}
 use Rattle.vme_answer.specs.declared.refusal.Input.TheVariants.{Dump}
-use Rattle.vme_commands.specs.TextAnswers.{IsBindingFor, TellsMore, binding_answer}
-use Rattle.vme_commands.specs.declared.bind.NoBinding.{NoBinding}
+use Rattle.vme_text_commands.specs.TextAnswers.{IsBindingFor, TellsMore, binding_answer}
+use Rattle.vme_text_commands.specs.declared.bind.NoBinding.{NoBinding}
 use Rattle.vme_find.specs.declared.writing.FoundBinding.{FoundBinding}
 use Rattle.vme_stream.specs.Inputs.{IsReading}
 use Rattle.vme_words.specs.declared.order.BindOrder.{BindOrder}

@@ -7,7 +7,7 @@ use Rattle.vme_answer.specs.Ends.{Tells}
 use Rattle.vme_answer.specs.declared.refusal.Input.{Input}
 use Rattle.vme_answer.specs.declared.refusal.Input.TheVariants.{Binding, Dump}
 use Rattle.vme_answer.specs.declared.refusal.Refusal.TheVariants.{CannotOpen}
-use Rattle.vme_commands.specs.Explained.{Explains}
+use Rattle.vme_text_commands.specs.Explained.{Explains}
 use Rattle.vme_explain.specs.Saving.{is_one_file}
 use Rattle.vme_explain.specs.declared.saving.FileId.{FileId}
 use Rattle.vme_explain.specs.declared.saving.Present.{Present}

@@ -7,8 +7,8 @@ use Rattle.vme_answer.specs.Answers.{dump_read}
 use Rattle.vme_answer.specs.Ends.{Ends}
 use Rattle.vme_answer.specs.declared.refusal.Input.TheVariants.{Dump}
 use Rattle.vme_answer.specs.declared.refusal.Refusal.{Refusal}
-use Rattle.vme_commands.specs.Refused.{MayHaveMore}
-use Rattle.vme_commands.specs.TextAnswers.{ArePages, IsText, IsTextOf, text_answer_by, text_answer_with}
+use Rattle.vme_text_commands.specs.Refused.{MayHaveMore}
+use Rattle.vme_text_commands.specs.TextAnswers.{ArePages, IsText, IsTextOf, text_answer_by, text_answer_with}
 use Rattle.vme_faults.specs.Kinds.{kind_named}
 use Rattle.vme_faults.specs.declared.kind.Kind.{Kind}
 use Rattle.vme_stream.specs.Inputs.{IsReading}

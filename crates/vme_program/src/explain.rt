@@ -12,7 +12,7 @@ use crate::opening::{open_recording, refuse_input};
 use crate::save::{InputIds, refusal_at, refuse_place, save};
 use std::alloc::Global;
 use vme_answer::Input;
-use vme_commands::explain::{ExplainedFiles, InputNames, explain};
+use vme_text_commands::explain::{ExplainedFiles, InputNames, explain};
 use vme_explain::{SaveRefusal, is_one_file};
 use vme_trace::{Sink, Source};
 use vme_words::ExplainOrder;

@@ -42,8 +42,8 @@
 //! # What isn't proved
 //!
 //! That `rules RULE` is about that rule, that `--gtkw` writes a file for that dump's name, and what
-//! the picture of `--svg` shows: the contracts of vme_commands don't say what these texts have; what
-//! the file of test cases has, and that an audit reads standard input once. Tests try these.
+//! the picture of `--svg` shows: the contracts of vme_text_commands don't say what these texts have;
+//! what the file of test cases has, and that an audit reads standard input once. Tests try these.
 //!
 //! What an [`Environment`] answers is what its ghost members say, and no more: that a file of that
 //! name has those bytes is a matter of who implements it.

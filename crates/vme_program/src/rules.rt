@@ -5,7 +5,7 @@ ghost use Rattle.vme_program.specs.Texts.{IsRuleOf, NamesNoRule, TellsRules};
 ghost use Rattle.vme_words.specs.OrderFaults.{IsOfWords};
 
 use std::alloc::Global;
-use vme_commands::tell_rules;
+use vme_text_commands::tell_rules;
 use vme_trace::{Rule, Sink};
 use vme_words::{OrderFault, RulesOrder, Task, task_fault};
 

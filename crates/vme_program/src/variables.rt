@@ -6,7 +6,7 @@ use crate::environment::Environment;
 use crate::opening::refuse_input;
 use std::alloc::Global;
 use vme_answer::Input;
-use vme_commands::tell_variables;
+use vme_text_commands::tell_variables;
 use vme_trace::Sink;
 use vme_words::VariablesOrder;
 

@@ -25,7 +25,7 @@
 //!
 //! Invalid arguments have status 3, and help and version 0 or 5 (`explain_words`). Which file is
 //! opened for each argument and passed to which command is proved of vme_program; what is written
-//! for the bytes of the inputs is proved of vme_commands.
+//! for the bytes of the inputs is proved of the crates of the commands.
 //!
 //! # What isn't proved
 //!

@@ -1,4 +1,0 @@
-use Rattle.vme_commands.proofs.explain.account_of_dump.Given as goal
-
-abbrev pub ghosts-settled_account : goal.ghosts-settled_account
-ghosts-settled_account g a = record { skew = a.skew }

@@ -1,0 +1,91 @@
+-- What a command writes of a dump that is refused, and what a binding that is written for one is.
+use Rattle.std.proofs.Common.{◌≡◌, ℕ, List, sym, ap, true, ◌∙◌}
+use Rattle.std.specs.Prelude.{Option, Some, None, IfSome, Result, Ok, Err}
+use Rattle.vcd_read.specs.Contents.{Contents}
+use Rattle.vcd_read.specs.Meaning.{ReadFails, ReadFailsAs, dump_of}
+use Rattle.vcd_read.specs.declared.dump.Variable.{Variable}
+use Rattle.vcd_read.specs.declared.fault.FaultKind.{FaultKind}
+use Rattle.vcd_read.specs.declared.fault.FaultKind.TheVariants.{Memory as Want}
+use Rattle.vcd_read.specs.declared.fault.VcdFault.{VcdFault}
+use Rattle.vme_answer.proofs.AnswerLemmas.{capture_by-recorded, text_recorded-ok}
+use Rattle.vme_answer.specs.Answers.{AnswerGives, or_bad_dump}
+use Rattle.vme_answer.specs.Refusals.{dump_refusal}
+use Rattle.vme_answer.specs.declared.refusal.Refusal.{Refusal}
+use Rattle.vme_answer.specs.declared.refusal.Refusal.TheVariants.{Memory}
+use Rattle.vme_bind.specs.Binding.{BoundLines, binding_of}
+use Rattle.vme_bind.specs.declared.fault.BindFault.{BindFault}
+use Rattle.vme_text_commands.specs.TextAnswers.{BindsDump, IsBindingFor, IsTextOf, ScopeIs}
+use Rattle.vme_text_commands.specs.declared.bind.NoBinding.TheVariants.{Refused}
+use Rattle.vme_declarations.specs.Scopes.{HasScope, has_scope}
+use Rattle.vme_declarations.specs.Surveys.{IsSurveyOf, Survey}
+use Rattle.vme_find.specs.Recordings.{HasSlots, MakesRecording, MakesRecordings}
+use denote.Ref.{Bor}
+
+pub text_refused : (read : Result Contents Refusal) (r : Refusal) → AnswerGives (λ (d : Contents). d) (Err r) read
+    → IsTextOf read (Err r)
+text_refused read Memory gives = gives
+text_refused read r gives = gives
+
+pub binding_refused : (read : Result Contents Refusal) (slots : Option ℕ) (scope : Option (Bor (List ℕ))) (r : Refusal)
+    → AnswerGives (λ (d : Contents). d) (Err r) read → IsBindingFor read slots scope (Err (Refused r))
+binding_refused read slots scope Memory gives = gives
+binding_refused read slots scope r gives = gives
+
+-- ---- a binding that is written
+
+same_bound : (b c : BoundLines) (r : Result BoundLines BindFault) → r ≡ Ok b → r ≡ Ok c → b ≡ c
+same_bound b c r is too = let same : Ok b ≡ Ok c = sym is ∙ too in cc
+
+slots_told : (text : List ℕ) (b : BoundLines) (slots : Option ℕ) → binding_of text ≡ Ok b
+    → IfSome slots (λ n. HasSlots n text) → IfSome slots (λ n. b.slots ≡ n)
+slots_told text b None is has = tt
+slots_told text b (Some n) is (c, is_too, slots) = ap (λ (x : BoundLines). x.slots)
+    (same_bound b c (binding_of text) is is_too) ∙ slots
+
+scope_told : (dump : List ℕ) (scope : Option (Bor (List ℕ))) → IfSome scope (λ path. HasScope path.now dump)
+    → IfSome scope (λ path. ScopeIs true (or_bad_dump (dump_of dump)) path.now)
+scope_told dump None has = tt
+scope_told dump (Some path) (contents, is, has) = (contents, ap or_bad_dump is, has)
+
+pub binds_dump : (dump text : List ℕ) (slots : Option ℕ) (scope : Option (Bor (List ℕ))) → MakesRecording text dump
+    → IfSome slots (λ n. HasSlots n text) → IfSome scope (λ path. HasScope path.now dump)
+    → BindsDump (or_bad_dump (dump_of dump)) slots scope text
+binds_dump dump text slots scope made slots_are scope_is = record {
+  bound = made.bound;
+  recording = made.recording;
+  is_binding = made.is_binding;
+  records = capture_by-recorded made.bound (or_bad_dump (dump_of dump)) (Ok made.recording)
+      (text_recorded-ok made.bound dump made.recording made.records);
+  slots_are = slots_told text made.bound slots made.is_binding slots_are;
+  scope_is = scope_told dump scope scope_is;
+}
+
+-- ---- of what was surveyed
+
+scope_surveyed : (dump : List ℕ) (scope : Option (Bor (List ℕ))) (survey : Survey) → IsSurveyOf survey dump
+    → IfSome scope (λ path. has_scope path.now survey.variables ≡ true) → IfSome scope (λ path. HasScope path.now dump)
+scope_surveyed dump None survey surveyed has = tt
+scope_surveyed dump (Some path) survey (contents, is, declared, count) has = (
+  contents,
+  is,
+  ap (λ (vs : List Variable). has_scope path.now vs) declared ∙ has,
+)
+
+pub binds_surveyed : (dump text : List ℕ) (slots : Option ℕ) (scope : Option (Bor (List ℕ))) (survey : Survey)
+    → IsSurveyOf survey dump → MakesRecordings text survey → IfSome slots (λ n. HasSlots n text)
+    → IfSome scope (λ path. has_scope path.now survey.variables ≡ true)
+    → BindsDump (or_bad_dump (dump_of dump)) slots scope text
+binds_surveyed dump text slots scope survey surveyed made slots_are scope_is =
+    binds_dump dump text slots scope (made dump surveyed) slots_are
+    (scope_surveyed dump scope survey surveyed scope_is)
+
+pub fault_refused : (dump : List ℕ) (slots : Option ℕ) (scope : Option (Bor (List ℕ))) (fault : VcdFault)
+    → ReadFails fault (dump_of dump)
+    → IsBindingFor (or_bad_dump (dump_of dump)) slots scope (Err (Refused (dump_refusal fault)))
+fault_refused dump slots scope fault fails = by_kind fault.line fault.kind fails
+  where
+    by_kind : (line : ℕ) (kind : FaultKind) → ReadFailsAs line kind (dump_of dump)
+        → IsBindingFor (or_bad_dump (dump_of dump)) slots scope
+        (Err (Refused (dump_refusal (record { line = line; kind = kind }))))
+    by_kind line Want fails = tt
+    by_kind line kind fails = ap or_bad_dump fails

@@ -1,0 +1,26 @@
+use Rattle.std.proofs.Common.{◌≡◌, Result, Ok, ap, subst, sym}
+use Rattle.std.specs.Prelude.{IfOk, None}
+use Rattle.vcd_read.specs.Header.{◌>>=◌}
+use Rattle.vme_answer.specs.Answers.{AnswerGives}
+use Rattle.vme_answer.specs.declared.refusal.Refusal.{Refusal}
+use Rattle.vme_skew.specs.Settled.{settled_or}
+use Rattle.vme_trace.specs.Trace.{Trace}
+use Rattle.vme_trace.specs.WellFormed.{malformed_step}
+use Rattle.vme_text_commands.specs.ExplainedDumps.{GivesAccount, or_too_long}
+use Rattle.vme_text_commands.proofs.ExplainLemmas.{account-unsettled}
+use Rattle.vme_text_commands.proofs.explain.account_by_skew.Goals as goal
+
+pub returns-in-Ok : goal.returns-in-Ok
+returns-in-Ok g c = λ read gives formed.
+    let is : read ≡ Ok c.in-Ok.settling =
+    subst (λ (r : Result Trace Refusal). AnswerGives (λ (t : Trace). t) r read) c.in-Ok.is gives in
+    let ok : malformed_step c.in-Ok.settling ≡ None =
+    subst (λ (r : Result Trace Refusal). IfOk r (λ t. malformed_step t ≡ None)) c.in-Ok.is formed in
+    subst (GivesAccount c.settled_account_in.result)
+    (sym (ap (λ (r : Result Trace Refusal). settled_or g.K.GhostSkew.skew (r >>= or_too_long)) is))
+    (c.settled_account_in.ensures ok)
+
+pub returns-in-Err : goal.returns-in-Err
+returns-in-Err g c = λ read gives formed.
+    account-unsettled g.K.GhostSkew.skew c.in-Err.refusal read
+    (subst (λ (r : Result Trace Refusal). AnswerGives (λ (t : Trace). t) r read) c.in-Err.is gives)

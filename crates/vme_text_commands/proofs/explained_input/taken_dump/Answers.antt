@@ -1,0 +1,22 @@
+use Rattle.std.proofs.Common.{◌∙◌, sym}
+use Rattle.std.specs.Prelude.{Some}
+use Rattle.vme_answer.specs.Answers.{dump_read}
+use Rattle.vme_answer.proofs.AnswerLemmas.{dump_read-whole, dump_refused, recording_by-refused}
+use Rattle.vme_text_commands.proofs.explained_input.taken_dump.Goals as goal
+
+pub returns-in-Ok : goal.returns-in-Ok
+returns-in-Ok g c =
+    let (bytes, short, reading, same) = c.in-Ok.ensures.bytes in
+    let ahead = sym (c.new-input.ensures bytes) ∙ same in
+    let given = rw c.as_slice.ensures.value at c.taken_input.ensures.gives in
+    let formed = rw c.as_slice.ensures.value at c.taken_input.ensures.formed in
+    record {
+      gives = (Some bytes, reading, rw (dump_read-whole bytes short) (given c.args.bound.now bytes ahead));
+      formed = formed c.args.bound.now bytes ahead;
+    }
+
+pub returns-in-Err-clause-gives : goal.returns-in-Err-clause-gives
+returns-in-Err-clause-gives g c =
+    let (bytes, reading, refused) = dump_refused _ _ c.read_by.result c.in-Err.fault c.in-Err.is c.read_by.ensures.read
+    c.read_by.ensures.too_long c.read_by.ensures.memory in
+    rw c.of_input.ensures (bytes, reading, recording_by-refused c.args.bound.now (dump_read bytes) _ refused)

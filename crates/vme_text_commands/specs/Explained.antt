@@ -1,0 +1,54 @@
+-- A verdict with what is told of it.
+use Rattle.std.specs.Prelude.{◌≡◌, ℕ, ◌++◌, List, Option, Result, Ok, Err}
+use Rattle.vcd_read.specs.Contents.{Contents}
+use Rattle.vcd_read.specs.Header.{◌>>=◌}
+use Rattle.vme_bind.specs.Binding.{BoundLines}
+use Rattle.vme_trace.specs.Streams.{Reading, Writing}
+use Rattle.vme_trace.specs.declared.verdict.Verdict.{Verdict}
+use Rattle.vme_text_commands.specs.declared.explain.Explained.{Explained}
+use Rattle.vme_answer.specs.declared.refusal.Refusal.{Refusal}
+use Rattle.vme_answer.specs.Answers.{CommandAnswer, AnswerGives, capture_by}
+use Rattle.vme_answer.specs.Answers.{verdict_in_blocks}
+use Rattle.vme_answer.specs.Ends.{Ends}
+use Rattle.vme_picture.specs.Pictures.{IsPicture}
+use Rattle.vme_stream.specs.Inputs.{IsReading}
+use Rattle.vme_answer.specs.Texts.{line_of, verdict_status, verdict_text}
+use Rattle.vme_commands.specs.Settled.{settled_judgement}
+use Rattle.vme_skew.specs.Settled.{settled_or}
+use Rattle.vme_text_commands.specs.Refused.{MayHaveMore, refusal_with}
+use Rattle.vme_text_commands.specs.TextAnswers.{text_answer}
+
+-- the verdict on the recording that a binding makes of what reading the dump gave, settled by a skew
+abbrev pub judged_by : ℕ → BoundLines → Result Contents Refusal → Result Verdict Refusal
+judged_by skew bound dump = do
+  t ← settled_or skew (capture_by bound dump)
+  verdict_in_blocks 16384 t
+
+-- the text begins with the line of the verdict, as a check writes it
+abbrev pub BeginsWithLine : Explained → Type 0
+BeginsWithLine told = (rest : List ℕ) × (told.text ≡ line_of (verdict_text told.verdict) ++ rest)
+
+-- and beside it there is a picture
+abbrev pub IsExplainedWhole : Explained → Type 0
+IsExplainedWhole told = BeginsWithLine told × IsPicture told.files.picture
+
+abbrev pub IsExplained : Result Explained Refusal → Type 0
+IsExplained (Ok told) = IsExplainedWhole told
+IsExplained (Err refusal) = Unit {0}
+
+abbrev pub explained_answer_by : List ℕ → Result Explained Refusal → CommandAnswer
+explained_answer_by more (Ok told) = text_answer (verdict_status told.verdict) told.text
+explained_answer_by more (Err refusal) = refusal_with more refusal
+
+-- The binding and the dump are read, or can't be; the verdict is that of a check by the skew, unless there was no
+-- memory; what is told begins with its line, and has its status, unless a write of it fails. Behind the line of a
+-- refusal stands more.
+abbrev pub Explains : ℕ → Reading × Reading → Reading × Reading → Writing × Writing → Writing × Writing → ℕ → Type 0
+Explains skew binding dump out err status =
+    (binding_bytes dump_bytes : Option (List ℕ)) × (told : Result Explained Refusal) × (more : List ℕ)
+    × IsReading binding.0 binding.1 binding_bytes
+    × IsReading dump.0 dump.1 dump_bytes
+    × AnswerGives (λ (e : Explained). e.verdict) told (settled_judgement skew binding_bytes dump_bytes 16384)
+    × IsExplained told
+    × MayHaveMore told more
+    × Ends (explained_answer_by more told) out err status

@@ -1,0 +1,4 @@
+pub mod Explained
+pub mod ExplainedDumps
+pub mod Refused
+pub mod TextAnswers

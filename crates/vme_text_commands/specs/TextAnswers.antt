@@ -1,0 +1,104 @@
+-- Texts that a command writes.
+use Rattle.std.specs.Prelude.{◌≡◌, ◌++◌, ℕ, Bool, true, false, [], List, Option, Some, None, IfSome, Result, Ok, Err}
+use Rattle.std.specs.Prelude.{IfErr, codes, if◌then◌else◌}
+use Rattle.vcd_read.specs.Contents.{Contents}
+use Rattle.vme_bind.specs.Binding.{BoundLines, binding_of}
+use Rattle.vme_declarations.specs.Scopes.{has_scope}
+use Rattle.vme_find.specs.declared.writing.FoundBinding.{FoundBinding}
+use Rattle.vme_trace.specs.Trace.{Trace}
+use Rattle.vme_answer.specs.Answers.{CommandAnswer, capture_by, refusal_answer}
+use Rattle.vme_answer.specs.Texts.{line_of, refusal_status, refusal_text}
+use Rattle.vme_answer.specs.declared.refusal.Refusal.{Refusal}
+use Rattle.vme_answer.specs.declared.refusal.Refusal.TheVariants.{Memory}
+use Rattle.vme_text_commands.specs.declared.bind.NoBinding.{NoBinding}
+use Rattle.vme_text_commands.specs.declared.bind.NoBinding.TheVariants.{Refused, NoSuchScope}
+use Rattle.vme_text_commands.specs.Refused.{IsMore, refusal_with}
+use Rattle.vme_faults.specs.Pages.{pages_of}
+use Rattle.vme_faults.specs.declared.kind.Kind.{Kind}
+use denote.Ref.{Bor}
+
+abbrev pub text_answer : ℕ → List ℕ → CommandAnswer
+text_answer status text = record { out = text; error = []; status = status }
+
+-- a text is written with this status, or why there is none
+abbrev pub text_answer_by : ℕ → Result (List ℕ) Refusal → CommandAnswer
+text_answer_by status (Ok text) = text_answer status text
+text_answer_by status (Err refusal) = refusal_answer refusal
+
+-- the same, with more behind the line of a refusal
+abbrev pub text_answer_with : List ℕ → Result (List ℕ) Refusal → CommandAnswer
+text_answer_with more (Ok text) = text_answer 0 text
+text_answer_with more (Err refusal) = refusal_with more refusal
+
+-- there is a text, unless there was no memory
+abbrev pub IsText : Result (List ℕ) Refusal → Type 0
+IsText (Ok text) = Unit {0}
+IsText (Err refusal) = refusal ≡ Memory
+
+-- these are the pages of a kind, or of each, unless there was no memory
+abbrev pub ArePages : Option Kind → Result (List ℕ) Refusal → Type 0
+ArePages only (Ok text) = text ≡ pages_of only
+ArePages only (Err refusal) = refusal ≡ Memory
+
+-- there is a text of what was read of a dump, or else why there is no dump, unless there was no memory
+abbrev pub IsTextOf : Result Contents Refusal → Result (List ℕ) Refusal → Type 0
+IsTextOf read (Ok text) = (contents : Contents) × (read ≡ Ok contents)
+IsTextOf read (Err Memory) = Unit {0}
+IsTextOf read (Err refusal) = read ≡ Err refusal
+
+-- no variable of the dump stands in the scope that is asked
+abbrev pub no_scope_text : List ℕ
+no_scope_text =
+    codes "vmecheck: no variable of the dump stands in that scope: `vmecheck variables` lists their paths"
+
+-- the text of a binding is written, and what is said of it, with status 7 where a check by it judges nothing
+abbrev pub found_answer : FoundBinding → CommandAnswer
+found_answer found = record { out = found.text; error = found.told; status = if found.is_bus then 0 else 7 }
+
+-- why there is no binding, with more behind the line of a refusal
+abbrev pub missing_text : List ℕ → NoBinding → List ℕ
+missing_text more (Refused refusal) = line_of (refusal_text refusal) ++ more
+missing_text more NoSuchScope = line_of no_scope_text
+
+abbrev pub missing_status : NoBinding → ℕ
+missing_status (Refused refusal) = refusal_status refusal
+missing_status NoSuchScope = 3
+
+-- a binding is told, or why there is none
+abbrev pub binding_answer : List ℕ → Result FoundBinding NoBinding → CommandAnswer
+binding_answer more (Ok found) = found_answer found
+binding_answer more (Err missing) =
+    record { out = []; error = missing_text more missing; status = missing_status missing }
+
+-- what is told behind the line of a refusal
+abbrev pub IsMoreOfMissing : NoBinding → List ℕ → Type 0
+IsMoreOfMissing (Refused refusal) more = IsMore refusal more
+IsMoreOfMissing NoSuchScope more = Unit {0}
+
+abbrev pub TellsMore : Result FoundBinding NoBinding → List ℕ → Type 0
+TellsMore made more = IfErr made (λ missing. IsMoreOfMissing missing more)
+
+-- the dump that was read has the scope, or lacks it
+abbrev pub ScopeIs : Bool → Result Contents Refusal → List ℕ → Type 0
+ScopeIs there read path = (contents : Contents) × (read ≡ Ok contents)
+    × (has_scope path contents.variables ≡ there)
+
+-- The text is a binding by the format, so that it binds each line of the backplane once, of so many slots, where they
+-- are told, and it makes a recording of the dump that was read, which has the scope that is asked.
+pub record BindsDump (read : Result Contents Refusal) (slots : Option ℕ) (scope : Option (Bor (List ℕ)))
+    (text : List ℕ) : Type 0 where
+  pub bound : BoundLines
+  pub recording : Trace
+  pub is_binding : binding_of text ≡ Ok bound
+  pub records : capture_by bound read ≡ Ok recording
+  pub slots_are : IfSome slots (λ n. bound.slots ≡ n)
+  pub scope_is : IfSome scope (λ path. ScopeIs true read path.now)
+
+-- There is such a binding. Else this is why there is no dump, or the dump lacks the scope, unless there was no memory.
+abbrev pub IsBindingFor : Result Contents Refusal → Option ℕ → Option (Bor (List ℕ)) → Result FoundBinding NoBinding
+    → Type 0
+IsBindingFor read slots scope (Ok found) = BindsDump read slots scope found.text
+IsBindingFor read slots scope (Err (Refused Memory)) = Unit {0}
+IsBindingFor read slots scope (Err (Refused refusal)) = read ≡ Err refusal
+IsBindingFor read slots None (Err NoSuchScope) = ⊥
+IsBindingFor read slots (Some path) (Err NoSuchScope) = ScopeIs false read path.now

@@ -1,0 +1,229 @@
+//! A binding for a dump.
+
+ghost use Rattle.std.specs.Prelude.{◌≡◌, ℕ, List, Option, Result};
+ghost use Rattle.vcd_read.specs.Meaning.{dump_of};
+ghost use Rattle.vme_answer.specs.Answers.{dump_read, or_bad_dump};
+ghost use Rattle.vme_answer.specs.Ends.{Ends};
+ghost use Rattle.vme_answer.specs.Texts.{line_of};
+ghost use Rattle.vme_stream.specs.Inputs.{IsReading};
+ghost use Rattle.vme_stream.specs.Outputs.{TriesToWrite};
+ghost use Rattle.vme_text_commands.specs.TextAnswers.{IsBindingFor, IsMoreOfMissing, TellsMore, binding_answer};
+ghost use Rattle.vme_text_commands.specs.TextAnswers.{found_answer, missing_status, missing_text, no_scope_text};
+ghost use Rattle.vme_text_commands.specs.declared.bind.NoBinding.{NoBinding as Without};
+ghost use Rattle.vme_answer.specs.Refusals.{dump_refusal};
+ghost use Rattle.vme_declarations.specs.SurveyStages.{survey_ahead};
+ghost use Rattle.vme_declarations.specs.Surveys.{IsSurveyOf, survey_of};
+ghost use Rattle.vme_text_commands.specs.declared.bind.NoBinding.TheVariants.{Refused};
+ghost use Rattle.vme_find.specs.Recordings.{AreSlots};
+ghost use Rattle.vme_find.specs.declared.writing.FoundBinding.{FoundBinding as Found};
+
+use crate::refused::{complain_with, show_seen_dump};
+use crate::seen_dump::SeenDump;
+use crate::surveyed_input::SurveyedInput;
+use crate::telling::say;
+use std::alloc::Global;
+use vcd_read::VcdFault;
+use vme_answer::{Input, Refusal, cannot_write_line};
+use vme_declarations::{SurveyedDump, surveys_are_of_dumps};
+use vme_find::{FindFault, FoundBinding, write_binding};
+use vme_stream::{Message, complain, read_by, write_all};
+use vme_text::Text;
+use vme_trace::{Sink, Source};
+
+/// How many bytes of a dump are surveyed at once.
+const PIECE: usize = 262_144;
+
+/// Why there is no binding for a dump.
+#[derive(Clone, Copy, Debug, PartialEq, Eq)]
+pub enum NoBinding {
+    /// The dump is refused, or there is no memory.
+    Refused(Refusal),
+    /// No variable of the dump stands in the scope that is asked, nor in one within it.
+    NoSuchScope,
+}
+
+/// The line that tells that a dump lacks the scope that is asked.
+fn no_scope_line() -> Message
+    ensures { result ≡ line_of no_scope_text }
+{
+    Message::new()
+        .with(b"vmecheck: no variable of the dump stands in that scope: ")
+        .with(b"`vmecheck variables` lists their paths")
+        .with_line_feed()
+}
+
+/// Writes to `out` a binding for a dump, of so many slots, 1 to 21, or of those that the daisy chains show, in the
+/// scope of a path, or in the best one, and to `err` one line that says what was bound; or to `err` why the dump can't
+/// be read, as `check` says it, and behind it what the dump, of this name, shows there and what the refusal means, or
+/// that it lacks the scope. The answer is the exit status: 0; 7 where AS, a strobe or DTACK wasn't found, or AS never
+/// moves, so that a check by the binding judges nothing, and the line says why; 3 where the dump is refused or lacks
+/// the scope, 4 for want of memory, 5 where the binding can't be written.
+///
+/// What it writes is a binding by the format, and it makes a recording of the dump without a fault. A failure of `err`
+/// is ignored.
+pub fn bind<D: Source, O: Sink, E: Sink>(
+    alloc: Global,
+    dump: &mut D,
+    name: &[u8],
+    slots: Option<u8>,
+    scope: Option<&[u8]>,
+    out: &mut O,
+    err: &mut E,
+) -> u8
+    requires { AreSlots slots }
+    ensures { (bytes : Option (List ℕ)) × (made : Result Found Without) × (more : List ℕ)
+        × IsReading (D.reading dump.old) (D.reading dump.new) bytes
+        × IsBindingFor (dump_read bytes) slots scope.entry made
+        × TellsMore made more
+        × Ends (binding_answer more made)
+        (O.writing out.old, O.writing out.new) (E.writing err.old, E.writing err.new) result }
+{
+    let mut shown = Text::new(alloc);
+    let made = binding_for(alloc, dump, name, slots, scope, &mut shown);
+    tell_binding(alloc, &made, &shown, out, err)
+}
+
+/// Writes a binding to `out` and what is said of it to `err`, or to `err` why there is none, with what the dump shows.
+fn tell_binding<O: Sink, E: Sink>(
+    alloc: Global,
+    made: &Result<FoundBinding, NoBinding>,
+    shown: &Text,
+    out: &mut O,
+    err: &mut E,
+) -> u8
+    ensures { (more : List ℕ) × TellsMore made.now more × Ends (binding_answer more made.now)
+        (O.writing out.old, O.writing out.new) (E.writing err.old, E.writing err.new) result }
+{
+    match made {
+        Ok(found) => tell_found(found, out, err),
+        Err(missing) => tell_missing(alloc, missing, shown, err),
+    }
+}
+
+/// Writes to `err` why there is no binding, with what the dump shows. The answer is the exit status.
+fn tell_missing<E: Sink>(alloc: Global, missing: &NoBinding, shown: &Text, err: &mut E) -> u8
+    ensures { (more : List ℕ) × IsMoreOfMissing missing.now more
+        × TriesToWrite (E.writing err.old) (E.writing err.new) (missing_text more missing.now)
+        × (result ≡ missing_status missing.now) }
+{
+    match missing {
+        NoBinding::Refused(refusal) => {
+            complain_with(alloc, err, refusal, shown);
+            refusal.status()
+        }
+        NoBinding::NoSuchScope => {
+            complain(err, no_scope_line());
+            3
+        }
+    }
+}
+
+/// Writes a binding to `out`, and what is said of it to `err`.
+fn tell_found<O: Sink, E: Sink>(found: &FoundBinding, out: &mut O, err: &mut E) -> u8
+    ensures { Ends (found_answer found.now)
+        (O.writing out.old, O.writing out.new) (E.writing err.old, E.writing err.new) result }
+{
+    match write_all(out, found.text.as_bytes()) {
+        Ok(()) => {
+            say(err, found.told.as_bytes());
+            if found.is_bus { 0 } else { 7 }
+        }
+        Err(_) => {
+            complain(err, cannot_write_line());
+            5
+        }
+    }
+}
+
+/// A binding for a dump, which is read piece by piece: no more of it is kept than its definitions.
+fn binding_for<D: Source>(
+    alloc: Global,
+    dump: &mut D,
+    name: &[u8],
+    slots: Option<u8>,
+    scope: Option<&[u8]>,
+    shown: &mut Text,
+) -> Result<FoundBinding, NoBinding>
+    requires { AreSlots slots }
+    ensures { (bytes : Option (List ℕ))
+        × IsReading (D.reading dump.old) (D.reading dump.new) bytes
+        × IsBindingFor (dump_read bytes) slots scope.entry result }
+{
+    match read_by(
+        alloc,
+        dump,
+        SurveyedInput::new(alloc),
+        PIECE,
+        &|input: SurveyedInput, bytes: &[u8]| input.take(alloc, bytes),
+    ) {
+        Ok((input, rest)) => binding_of_input(
+            alloc,
+            input,
+            rest.as_slice(),
+            name,
+            slots,
+            scope,
+            shown,
+        ),
+        Err(fault) => Err(NoBinding::Refused(Refusal::of_input(Input::Dump, fault))),
+    }
+}
+
+/// The same of a dump that was read, whose last bytes these are.
+fn binding_of_input(
+    alloc: Global,
+    input: SurveyedInput,
+    rest: &[u8],
+    name: &[u8],
+    slots: Option<u8>,
+    scope: Option<&[u8]>,
+    shown: &mut Text,
+) -> Result<FoundBinding, NoBinding>
+    requires { AreSlots slots }
+    ensures { (bytes : List ℕ) → survey_of bytes ≡ survey_ahead input.survey rest.now
+        → IsBindingFor (or_bad_dump (dump_of bytes)) slots scope.entry result }
+{
+    surveys_are_of_dumps();
+    let SurveyedInput { survey, seen } = input;
+    match survey.finish(alloc, rest) {
+        Ok(surveyed) => binding_by(alloc, &surveyed, slots, scope),
+        Err(fault) => Err(refused(alloc, fault, seen, rest, name, shown)),
+    }
+}
+
+/// Why there is no binding for a dump with this fault.
+fn refused(
+    alloc: Global,
+    fault: VcdFault,
+    seen: SeenDump,
+    rest: &[u8],
+    name: &[u8],
+    shown: &mut Text,
+) -> NoBinding
+    ensures { result ≡ Refused (dump_refusal fault) }
+{
+    let refusal = Refusal::of_dump(fault);
+    let mut seen = seen;
+    if let Ok(()) = seen.stop(fault, rest) {
+        show_seen_dump(shown, alloc, &refusal, name, &seen);
+    }
+    NoBinding::Refused(refusal)
+}
+
+/// A binding by what was surveyed of a dump.
+fn binding_by(
+    alloc: Global,
+    surveyed: &SurveyedDump,
+    slots: Option<u8>,
+    scope: Option<&[u8]>,
+) -> Result<FoundBinding, NoBinding>
+    requires { AreSlots slots }
+    ensures { (bytes : List ℕ) → IsSurveyOf surveyed.now bytes
+        → IsBindingFor (or_bad_dump (dump_of bytes)) slots scope.entry result }
+{
+    match write_binding(alloc, surveyed, slots, scope) {
+        Ok(found) => Ok(found),
+        Err(FindFault::NoSuchScope) => Err(NoBinding::NoSuchScope),
+        Err(FindFault::Memory) => Err(NoBinding::Refused(Refusal::Memory)),
+    }
+}

@@ -1,0 +1,409 @@
+//! Why a recording is judged as it is.
+
+ghost use Rattle.std.specs.Prelude.{◌≡◌, ◌++◌, ℕ, List, None, Ok, Option, IfOk, IfSome, Result};
+ghost use Rattle.vme_account.specs.Accounts.{IsAccountOf};
+ghost use Rattle.vme_bind.specs.Binding.{binding_of};
+ghost use Rattle.vme_answer.specs.Answers.{AnswerGives, binding_read, capture_by, dump_read, or_bad_binding};
+ghost use Rattle.vme_answer.specs.Ends.{Ends};
+ghost use Rattle.vme_answer.specs.Texts.{line_of, verdict_text};
+ghost use Rattle.vme_answer.specs.declared.refusal.Refusal.{Refusal as Refused};
+ghost use Rattle.vme_text_commands.specs.Explained.{Explains, IsExplained, IsExplainedWhole, explained_answer_by};
+ghost use Rattle.vme_text_commands.specs.Explained.{judged_by};
+ghost use Rattle.vme_text_commands.specs.ExplainedDumps.{GivesAccount, judged_whole, or_too_long, short_read};
+ghost use Rattle.vme_text_commands.specs.Refused.{MayHaveMore};
+ghost use Rattle.vme_commands.specs.Settled.{settled_judgement};
+ghost use Rattle.vme_picture.specs.Pictures.{IsPicture};
+ghost use Rattle.vme_skew.specs.Settled.{settled_or};
+ghost use Rattle.vme_stream.specs.Inputs.{IsReading};
+ghost use Rattle.vme_trace.specs.Trace.{Trace};
+ghost use Rattle.vme_trace.specs.Verdict.{verdict};
+ghost use Rattle.vme_trace.specs.WellFormed.{malformed_step};
+
+use crate::explained_input::{KeptDump, taken_dump};
+use crate::refused::{NamedInput, complain_with, show_binding, show_seen_dump, show_suggestions};
+use crate::telling::tell_bytes;
+use std::alloc::{AllocError, Global};
+use std::marker::Brand;
+use vme_account::{Account, AccountVisitor, NoAccount};
+use vme_answer::{Input, Refusal, binding_in, verdict_line, verdict_status};
+use vme_bind::Binding;
+use vme_explain::{Subject, explanation, save_file};
+use vme_picture::picture;
+use vme_skew::{GhostSkew, SettlingVisitor};
+use vme_stream::read_all;
+use vme_summary::NoVerdict;
+use vme_text::Text;
+use vme_trace::{Sink, Source, Verdict};
+
+/// What the files of the inputs are named.
+#[derive(Clone, Copy)]
+pub struct InputNames<'a> {
+    /// The binding.
+    pub binding: &'a [u8],
+    /// The dump.
+    pub dump: &'a [u8],
+}
+
+/// A verdict, and what is told of it.
+#[derive(Drop)]
+pub struct Explained {
+    /// The verdict.
+    pub verdict: Verdict,
+    /// Its line, and behind it why.
+    pub text: Text,
+    /// What is written into files, where they are wanted.
+    pub files: ExplainedFiles,
+}
+
+/// What is written into files beside an explanation.
+#[derive(Drop)]
+pub struct ExplainedFiles {
+    /// A save file for the waveform viewer, for a dump of the name that was given.
+    pub viewer: Text,
+    /// A picture.
+    pub picture: Text,
+}
+
+/// Writes to `out` the line of the verdict on the recording that a binding makes of a dump, settled by a skew, as
+/// `check` does, and behind it why; or to `err` why there is none, as `check` does, and behind it what the inputs show
+/// there and what the refusal means. The status is that of `check`. The save file is for a dump of this name; there are
+/// no files where no verdict is written.
+pub fn explain<B: Source, D: Source, O: Sink, E: Sink>(
+    alloc: Global,
+    binding: &mut B,
+    dump: &mut D,
+    names: InputNames<'_>,
+    skew: u64,
+    out: &mut O,
+    err: &mut E,
+) -> (u8, Option<ExplainedFiles>)
+    ensures told { Explains skew
+        (B.reading binding.old, B.reading binding.new) (D.reading dump.old, D.reading dump.new)
+        (O.writing out.old, O.writing out.new) (E.writing err.old, E.writing err.new) result.0 }
+    ensures drawn { IfSome result.1 (λ files. IsPicture files.picture) }
+{
+    let mut shown = Text::new(alloc);
+    let told = explained_from(alloc, binding, dump, names, skew, &mut shown);
+    tell_explained(alloc, told, &shown, out, err)
+}
+
+/// Writes what is told of a verdict to `out`, or to `err` why there is none, with what the inputs show. The answer is
+/// the exit status, and the files.
+fn tell_explained<O: Sink, E: Sink>(
+    alloc: Global,
+    made: Result<Explained, Refusal>,
+    shown: &Text,
+    out: &mut O,
+    err: &mut E,
+) -> (u8, Option<ExplainedFiles>)
+    ensures told { (more : List ℕ) × MayHaveMore made more × Ends (explained_answer_by more made)
+        (O.writing out.old, O.writing out.new) (E.writing err.old, E.writing err.new) result.0 }
+    ensures drawn { IsExplained made → IfSome result.1 (λ files. IsPicture files.picture) }
+{
+    match made {
+        Ok(told) => {
+            let Explained {
+                verdict,
+                text,
+                files,
+            } = told;
+            let status = tell_bytes(text.as_bytes(), verdict_status(&verdict), out, err);
+            (status, Some(files))
+        }
+        Err(refusal) => {
+            complain_with(alloc, err, &refusal, shown);
+            (refusal.status(), None)
+        }
+    }
+}
+
+/// The verdict on the recording that a binding makes of a dump, settled by a skew, and what is told of it: the binding
+/// is read first. Where there is none, what the inputs show is appended.
+fn explained_from<B: Source, D: Source>(
+    alloc: Global,
+    binding: &mut B,
+    dump: &mut D,
+    names: InputNames<'_>,
+    skew: u64,
+    shown: &mut Text,
+) -> Result<Explained, Refusal>
+    ensures read { (binding_bytes dump_bytes : Option (List ℕ))
+        × IsReading (B.reading binding.old) (B.reading binding.new) binding_bytes
+        × IsReading (D.reading dump.old) (D.reading dump.new) dump_bytes
+        × AnswerGives (λ told. told.verdict) result (settled_judgement skew binding_bytes dump_bytes 16384) }
+    ensures begins { IsExplained result }
+{
+    match read_all(alloc, binding) {
+        Ok(text) => explained_bound(alloc, text.as_slice(), dump, names, skew, shown),
+        Err(fault) => Err(Refusal::of_input(Input::Binding, fault)),
+    }
+}
+
+/// The same, of the text of a binding.
+fn explained_bound<D: Source>(
+    alloc: Global,
+    binding: &[u8],
+    dump: &mut D,
+    names: InputNames<'_>,
+    skew: u64,
+    shown: &mut Text,
+) -> Result<Explained, Refusal>
+    ensures read { (bytes : Option (List ℕ))
+        × IsReading (D.reading dump.old) (D.reading dump.new) bytes
+        × ((b : Option (List ℕ)) → binding_read b ≡ or_bad_binding (binding_of binding.now)
+        → AnswerGives (λ told. told.verdict) result (settled_judgement skew b bytes 16384)) }
+    ensures begins { IsExplained result }
+{
+    match binding_in(alloc, binding) {
+        Ok(bound) => explained_by(alloc, binding, &bound, dump, names, skew, shown),
+        Err(refusal) => {
+            show_binding(
+                shown,
+                alloc,
+                &refusal,
+                NamedInput::new(names.binding, binding),
+            );
+            Err(refusal)
+        }
+    }
+}
+
+/// The same, by a binding and its text.
+fn explained_by<D: Source>(
+    alloc: Global,
+    binding: &[u8],
+    bound: &Binding,
+    dump: &mut D,
+    names: InputNames<'_>,
+    skew: u64,
+    shown: &mut Text,
+) -> Result<Explained, Refusal>
+    ensures read { (bytes : Option (List ℕ))
+        × IsReading (D.reading dump.old) (D.reading dump.new) bytes
+        × AnswerGives (λ told. told.verdict) result (judged_by skew bound.now (dump_read bytes)) }
+    ensures begins { IsExplained result }
+{
+    let (account, kept) = account_of_dump(alloc, bound, dump, skew);
+    if let Err(refusal) = &account {
+        show_inputs(shown, alloc, refusal, binding, bound, &kept, names);
+    }
+    explained_account(alloc, binding, account, &kept, names.dump)
+}
+
+/// Appends what the inputs show where they are refused. Without memory the text ends somewhere in it.
+fn show_inputs(
+    shown: &mut Text,
+    alloc: Global,
+    refusal: &Refusal,
+    binding: &[u8],
+    bound: &Binding,
+    kept: &KeptDump,
+    names: InputNames<'_>,
+) {
+    show_binding(
+        shown,
+        alloc,
+        refusal,
+        NamedInput::new(names.binding, binding),
+    );
+    show_suggestions(
+        shown,
+        alloc,
+        refusal,
+        binding,
+        bound.lines().slots(),
+        kept.variables.as_slice(),
+    );
+    if let Some(seen) = &kept.seen {
+        show_seen_dump(shown, alloc, refusal, names.dump, seen);
+    }
+}
+
+/// The account of the recording that a binding makes of a dump, settled by a skew, or the first reason that there is
+/// none; and what is kept of the dump.
+fn account_of_dump<D: Source>(
+    alloc: Global,
+    bound: &Binding,
+    dump: &mut D,
+    skew: u64,
+) -> (Result<Account, Refusal>, KeptDump)
+    ensures { (bytes : Option (List ℕ))
+        × IsReading (D.reading dump.old) (D.reading dump.new) bytes
+        × GivesAccount result.0 (settled_or skew (capture_by bound.now (dump_read bytes))) }
+{
+    if skew == 0 {
+        unsettled_account(alloc, bound, dump)
+    } else {
+        settled_account::<Brand, D>(alloc, bound, dump, skew)
+    }
+}
+
+/// The same without a skew.
+fn unsettled_account<D: Source>(
+    alloc: Global,
+    bound: &Binding,
+    dump: &mut D,
+) -> (Result<Account, Refusal>, KeptDump)
+    ensures { (bytes : Option (List ℕ))
+        × IsReading (D.reading dump.old) (D.reading dump.new) bytes
+        × GivesAccount result.0 (capture_by bound.now (dump_read bytes)) }
+{
+    let visitor = AccountVisitor::new(alloc, bound.lines());
+    let (taken, kept) = taken_dump(alloc, bound, dump, visitor);
+    (account_of(taken), kept)
+}
+
+/// The same by a skew that types name.
+fn settled_account<K: GhostSkew, D: Source>(
+    alloc: Global,
+    bound: &Binding,
+    dump: &mut D,
+    skew: u64,
+) -> (Result<Account, Refusal>, KeptDump)
+    requires { skew ≡ K.skew }
+    ensures { (bytes : Option (List ℕ))
+        × IsReading (D.reading dump.old) (D.reading dump.new) bytes
+        × GivesAccount result.0 (settled_or K.skew (capture_by bound.now (dump_read bytes))) }
+{
+    let lines = bound.lines();
+    let visitor = AccountVisitor::new(alloc, lines);
+    let settling: SettlingVisitor<K, AccountVisitor> = SettlingVisitor::new(
+        alloc, lines, skew, visitor,
+    );
+    let (taken, kept) = taken_dump(alloc, bound, dump, settling);
+    (account_by_skew(alloc, taken), kept)
+}
+
+/// The account of a recording whose steps were taken, or the reason that they weren't.
+fn account_of(taken: Result<AccountVisitor, Refusal>) -> Result<Account, Refusal>
+    ensures { (read : Result Trace Refused) → AnswerGives (λ v. v) taken read
+        → IfOk taken (λ v. malformed_step v ≡ None) → GivesAccount result (short_read read) }
+{
+    match taken {
+        Ok(visitor) => account_in(visitor),
+        Err(refusal) => Err(refusal),
+    }
+}
+
+/// The account of a recording whose steps came.
+fn account_in(visitor: AccountVisitor) -> Result<Account, Refusal>
+    ensures { malformed_step visitor ≡ None → GivesAccount result (or_too_long visitor) }
+{
+    match visitor.finish() {
+        Ok(account) => Ok(account),
+        Err(NoAccount::TooManySteps) => Err(Refusal::of_judging(NoVerdict::TooManySteps)),
+        Err(NoAccount::TooManyBlocks) => Err(Refusal::TooManyBlocks),
+        Err(NoAccount::Memory) => Err(Refusal::Memory),
+    }
+}
+
+/// The same of one that settles.
+fn account_by_skew<K: GhostSkew>(
+    alloc: Global,
+    taken: Result<SettlingVisitor<K, AccountVisitor>, Refusal>,
+) -> Result<Account, Refusal>
+    ensures { (read : Result Trace Refused) → AnswerGives (λ v. v) taken read
+        → IfOk taken (λ v. malformed_step v ≡ None)
+        → GivesAccount result (settled_or K.skew (short_read read)) }
+{
+    match taken {
+        Ok(settling) => settled_account_in(alloc, settling),
+        Err(refusal) => Err(refusal),
+    }
+}
+
+/// The account of a recording whose last group ends. The limit holds on the steps before they settle.
+fn settled_account_in<K: GhostSkew>(
+    alloc: Global,
+    settling: SettlingVisitor<K, AccountVisitor>,
+) -> Result<Account, Refusal>
+    ensures { malformed_step settling ≡ None → GivesAccount result (settled_or K.skew (or_too_long settling)) }
+{
+    if settling.is_too_long() {
+        return Err(Refusal::of_judging(NoVerdict::TooManySteps));
+    }
+    match settling.finish(alloc) {
+        Ok(visitor) => account_in(visitor),
+        Err(_) => Err(Refusal::Memory),
+    }
+}
+
+/// What is told of a recording by its account, or why there is none.
+fn explained_account(
+    alloc: Global,
+    binding: &[u8],
+    account: Result<Account, Refusal>,
+    kept: &KeptDump,
+    name: &[u8],
+) -> Result<Explained, Refusal>
+    ensures read { (captured : Result Trace Refused) → GivesAccount account captured
+        → AnswerGives (λ told. told.verdict) result (judged_whole captured) }
+    ensures begins { IsExplained result }
+{
+    match account {
+        Ok(account) => explained_by_account(alloc, binding, &account, kept, name),
+        Err(refusal) => Err(refusal),
+    }
+}
+
+/// What is told of a recording of which this is the account.
+fn explained_by_account(
+    alloc: Global,
+    binding: &[u8],
+    account: &Account,
+    kept: &KeptDump,
+    name: &[u8],
+) -> Result<Explained, Refusal>
+    ensures read { (t : Trace) → IsAccountOf account.now t
+        → AnswerGives (λ told. told.verdict) result (Ok (verdict t)) }
+    ensures begins { IsExplained result }
+{
+    match told_of(alloc, binding, account, account.verdict(), kept, name) {
+        Ok(told) => Ok(told),
+        Err(_) => Err(Refusal::Memory),
+    }
+}
+
+/// What is told of a verdict. The only error is want of memory.
+fn told_of(
+    alloc: Global,
+    binding: &[u8],
+    account: &Account,
+    verdict: Verdict,
+    kept: &KeptDump,
+    name: &[u8],
+) -> Result<Explained, AllocError>
+    ensures verdict { IfOk result (λ told. told.verdict ≡ verdict) }
+    ensures begins { IfOk result IsExplainedWhole }
+{
+    let subject = Subject {
+        account,
+        verdict: &verdict,
+        binding,
+        variables: kept.variables.as_slice(),
+        time_unit: kept.time_unit,
+        time_scale: kept.time_scale.as_bytes(),
+    };
+    let text = whole_text(alloc, &verdict, &subject)?;
+    let viewer = save_file(alloc, &subject, name)?;
+    let drawn = picture(alloc, &subject, verdict_line(&verdict).as_bytes())?;
+    Ok(Explained {
+        verdict,
+        text,
+        files: ExplainedFiles {
+            viewer,
+            picture: drawn,
+        },
+    })
+}
+
+/// The line of a verdict, and behind it why.
+fn whole_text(alloc: Global, verdict: &Verdict, subject: &Subject<'_>) -> Result<Text, AllocError>
+    ensures { IfOk result (λ text. (rest : List ℕ) × (text ≡ line_of (verdict_text verdict.now) ++ rest)) }
+{
+    let mut text = Text::new(alloc);
+    text.push(verdict_line(verdict).as_bytes())?;
+    let rest = explanation(alloc, subject)?;
+    text.push(rest.as_bytes())?;
+    Ok(text)
+}

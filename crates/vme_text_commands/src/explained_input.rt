@@ -1,0 +1,227 @@
+//! A dump that is explained as it is read.
+
+ghost use Rattle.std.specs.Prelude.{◌≡◌, ◌≤◌, ℕ, List, Option, None, IfOk, length, take};
+ghost use Rattle.vcd_read.specs.Meaning.{dump_of};
+ghost use Rattle.vme_answer.specs.Answers.{AnswerGives, dump_read, or_bad_dump, recording_by};
+ghost use Rattle.vme_bind.specs.Binding.{BoundLines};
+ghost use Rattle.vme_bind.specs.TextCapture.{recording_of_text};
+ghost use Rattle.vme_commands.specs.DumpJudge.{ahead_of};
+ghost use Rattle.vme_stream.specs.ByteConsumers.{ContinuesAs};
+ghost use Rattle.vme_stream.specs.Inputs.{IsReading};
+ghost use Rattle.vme_trace.specs.WellFormed.{malformed_step};
+
+use crate::seen_dump::SeenDump;
+use std::alloc::{AllocError, Global};
+use vcd_read::{FaultKind, Variables, read_definitions};
+use vme_answer::{Input, Refusal};
+use vme_bind::{Binding, CaptureFault};
+use vme_commands::OrderedDump;
+use vme_stream::{ByteConsumer, read_by};
+use vme_text::Text;
+use vme_trace::{Source, StepVisitor};
+use vme_variables::{time_scale, time_unit};
+
+/// How many bytes of a dump are read at once.
+const PIECE: usize = 262_144;
+
+/// What is kept of a dump that was read.
+#[derive(Drop)]
+pub(crate) struct KeptDump {
+    /// Its variables; none where its definitions are at fault.
+    pub variables: Variables,
+    /// How many units of its time scale a time stands for.
+    pub time_unit: u64,
+    /// Its time scale, as `10ns`, or nothing.
+    pub time_scale: Text,
+    /// What was seen of it, where it has a fault.
+    pub seen: Option<SeenDump>,
+}
+
+impl KeptDump {
+    /// Nothing.
+    fn nothing(alloc: Global) -> KeptDump {
+        KeptDump {
+            variables: Variables::new(alloc),
+            time_unit: 1,
+            time_scale: Text::new(alloc),
+            seen: None,
+        }
+    }
+
+    /// What is kept of a dump that begins with these bytes, in which its definitions end. The only error is want of
+    /// memory.
+    fn of(alloc: Global, bytes: &[u8]) -> Result<KeptDump, AllocError> {
+        Ok(KeptDump {
+            variables: variables_of(alloc, bytes)?,
+            time_unit: time_unit(alloc, bytes)?,
+            time_scale: time_scale(alloc, bytes)?,
+            seen: None,
+        })
+    }
+
+    /// The same where the dump ends with these bytes, and its definitions may end in them.
+    fn by_end(alloc: Global, kept: Option<KeptDump>, rest: &[u8]) -> Result<KeptDump, AllocError> {
+        match kept {
+            Some(kept) => Ok(kept),
+            None => KeptDump::of(alloc, rest),
+        }
+    }
+
+    /// The same where the dump, which ends with these bytes, has no recording.
+    fn with_fault(self, seen: SeenDump, fault: &CaptureFault, rest: &[u8]) -> KeptDump {
+        let mut kept = self;
+        let mut seen = seen;
+        if let CaptureFault::Dump(fault) = fault {
+            if let Ok(()) = seen.stop(*fault, rest) {
+                kept.seen = Some(seen);
+            }
+        }
+        kept
+    }
+}
+
+fn variables_of(alloc: Global, bytes: &[u8]) -> Result<Variables, AllocError> {
+    match read_definitions(alloc, bytes, Variables::new(alloc)) {
+        Ok((_, variables)) => Ok(variables),
+        Err(fault) => match fault.kind {
+            FaultKind::Memory => Err(AllocError),
+            _ => Ok(Variables::new(alloc)),
+        },
+    }
+}
+
+/// What is kept of a dump once some bytes of it were taken: its definitions are among the first.
+fn kept_after(
+    alloc: Global,
+    kept: Option<KeptDump>,
+    taken: &[u8],
+) -> Result<Option<KeptDump>, AllocError> {
+    match kept {
+        Some(kept) => Ok(Some(kept)),
+        None if taken.is_empty() => Ok(None),
+        None => Ok(Some(KeptDump::of(alloc, taken)?)),
+    }
+}
+
+/// A dump whose recording by a binding is taken as it is read, and what is kept of it for what is said beside.
+#[derive(Drop)]
+pub(crate) struct ExplainedInput<'b, F: StepVisitor> {
+    ordered: OrderedDump<'b, F>,
+    seen: SeenDump,
+    kept: Option<KeptDump>,
+}
+
+impl<'b, F: StepVisitor> ExplainedInput<'b, F> {
+    /// Before the first byte.
+    pub fn new(alloc: Global, bound: &'b Binding, visitor: F) -> ExplainedInput<'b, F>
+        ensures { (rest : List ℕ) → ahead_of result.ordered.bound.now result.ordered.stage rest
+            ≡ recording_of_text bound.now rest }
+    {
+        ExplainedInput {
+            ordered: OrderedDump::new(bound, visitor),
+            seen: SeenDump::new(alloc),
+            kept: None,
+        }
+    }
+
+    /// Takes some of the first of these bytes, and says how many.
+    pub fn take(
+        self,
+        alloc: Global,
+        bytes: &[u8],
+    ) -> Result<(ExplainedInput<'b, F>, usize), AllocError>
+        ensures within { IfOk result (λ made. made.1 ≤ length bytes.now) }
+        ensures taken { IfOk result (λ made.
+            ContinuesAs (ahead_of self.entry.ordered.bound.now self.entry.ordered.stage)
+            (ahead_of made.0.ordered.bound.now made.0.ordered.stage) (take made.1 bytes.now)) }
+    {
+        let ExplainedInput {
+            ordered,
+            seen,
+            kept,
+        } = self;
+        let mut seen = seen;
+        let (ordered, count) = ordered.take(alloc, bytes)?;
+        let taken = &bytes[..count];
+        seen.pass(alloc, taken, ordered.fault())?;
+        let kept = kept_after(alloc, kept, taken)?;
+        Ok((
+            ExplainedInput {
+                ordered,
+                seen,
+                kept,
+            },
+            count,
+        ))
+    }
+}
+
+impl<F: StepVisitor> ByteConsumer for ExplainedInput<'_, F> {
+    ghost use Rattle.std.specs.Prelude.{Result};
+    ghost use Rattle.vme_trace.specs.Trace.{Trace};
+    ghost use Rattle.vme_bind.specs.declared.fault.CaptureFault.{CaptureFault};
+    ghost use Rattle.vme_commands.specs.DumpJudge.{ahead_of};
+
+    ghost Outcome = { Result Trace CaptureFault };
+
+    ghost ahead = { λ u. ahead_of u.ordered.bound.now u.ordered.stage };
+}
+
+/// What took the recording that a binding makes of a dump, which is read piece by piece, or the first reason that there
+/// is none; and what is kept of the dump.
+pub(crate) fn taken_dump<F: StepVisitor, D: Source>(
+    alloc: Global,
+    bound: &Binding,
+    dump: &mut D,
+    taker: F,
+) -> (Result<F, Refusal>, KeptDump)
+    ensures gives { (bytes : Option (List ℕ))
+        × IsReading (D.reading dump.old) (D.reading dump.new) bytes
+        × AnswerGives (λ w. F.recorded w) result.0 (recording_by bound.now (dump_read bytes)) }
+    ensures formed { IfOk result.0 (λ w. malformed_step (F.recorded w) ≡ None) }
+{
+    let input = ExplainedInput::new(alloc, bound, taker);
+    match read_by(
+        alloc,
+        dump,
+        input,
+        PIECE,
+        &|input: ExplainedInput<'_, F>, bytes: &[u8]| input.take(alloc, bytes),
+    ) {
+        Ok((input, rest)) => taken_input(alloc, input, rest.as_slice()),
+        Err(fault) => (
+            Err(Refusal::of_input(Input::Dump, fault)),
+            KeptDump::nothing(alloc),
+        ),
+    }
+}
+
+/// The same of a dump that was read, whose last bytes these are.
+fn taken_input<F: StepVisitor>(
+    alloc: Global,
+    input: ExplainedInput<'_, F>,
+    rest: &[u8],
+) -> (Result<F, Refusal>, KeptDump)
+    ensures gives { (b : BoundLines) (bytes : List ℕ)
+        → recording_of_text b bytes ≡ ahead_of input.entry.ordered.bound.now input.entry.ordered.stage rest.now
+        → AnswerGives (λ w. F.recorded w) result.0 (recording_by b (or_bad_dump (dump_of bytes))) }
+    ensures formed { (b : BoundLines) (bytes : List ℕ)
+        → recording_of_text b bytes ≡ ahead_of input.entry.ordered.bound.now input.entry.ordered.stage rest.now
+        → IfOk result.0 (λ w. malformed_step (F.recorded w) ≡ None) }
+{
+    let ExplainedInput {
+        ordered,
+        seen,
+        kept,
+    } = input;
+    let Ok(kept) = KeptDump::by_end(alloc, kept, rest) else {
+        return (Err(Refusal::Memory), KeptDump::nothing(alloc));
+    };
+    match ordered.finish(alloc, rest) {
+        Ok(taker) => (Ok(taker), kept),
+        Err(fault) => {
+            let kept = kept.with_fault(seen, &fault, rest);
+            (Err(Refusal::of_capture(fault)), kept)
+        }
+    }
+}

@@ -1,0 +1,413 @@
+//! What is told behind the line of a refusal: the line of the input that it names, with the token marked, what kind of
+//! file the input is where another was expected, and the page of the refusal's kind.
+
+ghost use Rattle.std.specs.Prelude.{◌++◌, IfOk, List, ℕ};
+ghost use Rattle.vme_answer.specs.Texts.{line_of, refusal_text};
+ghost use Rattle.vme_text_commands.specs.Refused.{IsMore, IsRefusedText};
+ghost use Rattle.vme_stream.specs.Outputs.{TriesToWrite};
+
+use crate::seen_dump::SeenDump;
+use crate::suggestions::{FaultySource, push_nearest, push_widths};
+use crate::telling::say;
+use std::alloc::{AllocError, Global};
+use vcd_read::{FaultKind, Variable, VcdFault};
+use vme_answer::{Refusal, refusal_line};
+use vme_bind::BindKind;
+use vme_faults::{FileKind, Kind, push_page};
+use vme_stream::complain;
+use vme_text::{Text, push_shown};
+use vme_trace::Sink;
+
+/// How many columns a line has, at most.
+const COLUMNS: usize = 100;
+
+/// How many columns of a line of an input are shown before the token that is marked, and how many of that.
+const SIDE: usize = 40;
+
+/// An input: the name of its file, and its bytes.
+#[derive(Clone, Copy)]
+pub(crate) struct NamedInput<'a> {
+    name: &'a [u8],
+    bytes: &'a [u8],
+}
+
+impl<'a> NamedInput<'a> {
+    pub(crate) fn new(name: &'a [u8], bytes: &'a [u8]) -> NamedInput<'a> {
+        NamedInput { name, bytes }
+    }
+}
+
+/// Where a token stands in a line: its first byte, and the one behind it.
+#[derive(Clone, Copy)]
+struct WordRange {
+    start: usize,
+    end: usize,
+}
+
+/// Writes the line of a refusal, and behind it this, which the inputs show, and the page of its kind. Without memory
+/// the line stands alone.
+pub(crate) fn complain_with<E: Sink>(alloc: Global, err: &mut E, refusal: &Refusal, shown: &Text)
+    ensures { (more : List ℕ) × IsMore refusal.now more
+        × TriesToWrite (E.writing err.old) (E.writing err.new) (line_of (refusal_text refusal.now) ++ more) }
+{
+    match refused_text(alloc, refusal, shown) {
+        Ok(text) => say(err, text.as_bytes()),
+        Err(_) => complain(err, refusal_line(refusal)),
+    }
+}
+
+/// The line of a refusal, what the inputs show, and the page of its kind.
+fn refused_text(alloc: Global, refusal: &Refusal, shown: &Text) -> Result<Text, AllocError>
+    ensures { IfOk result (IsRefusedText refusal.now) }
+{
+    let mut text = Text::new(alloc);
+    text.push(refusal_line(refusal).as_bytes())?;
+    text.push(shown.as_bytes())?;
+    push_page(&mut text, Kind::of(refusal))?;
+    Ok(text)
+}
+
+/// Appends what a dump shows where it is refused. Without memory the text ends somewhere in it.
+pub(crate) fn show_dump(shown: &mut Text, alloc: Global, refusal: &Refusal, dump: NamedInput<'_>) {
+    if let Refusal::BadDump(fault) = refusal {
+        let line = line_at(dump.bytes, fault.line);
+        let _ = push_dump(
+            shown,
+            alloc,
+            dump.name,
+            FileKind::of(dump.bytes),
+            *fault,
+            line,
+        );
+    }
+}
+
+/// The same of a dump that was read piece by piece.
+pub(crate) fn show_seen_dump(
+    shown: &mut Text,
+    alloc: Global,
+    refusal: &Refusal,
+    name: &[u8],
+    seen: &SeenDump,
+) {
+    if let Refusal::BadDump(fault) = refusal {
+        let _ = push_dump(shown, alloc, name, seen.kind(), *fault, seen.line());
+    }
+}
+
+/// Appends what a binding shows where it is refused. Without memory the text ends somewhere in it.
+pub(crate) fn show_binding(
+    shown: &mut Text,
+    alloc: Global,
+    refusal: &Refusal,
+    binding: NamedInput<'_>,
+) {
+    if let Refusal::BadBinding(fault) = refusal {
+        let line = line_at(binding.bytes, fault.line);
+        let span = match fault.kind {
+            BindKind::NoSuchPath | BindKind::AmbiguousPath | BindKind::WrongWidth => {
+                word_at(line, 2)
+            }
+            BindKind::BadLine => bad_word_in(line),
+            BindKind::Unbound(_) => next_word(line, line.len()),
+            _ => word_at(line, 0),
+        };
+        let _ = push_binding(shown, alloc, binding, fault.line, line, span);
+    }
+}
+
+/// Appends what a dump has in the place of what a binding asks of it. Without memory the text ends somewhere in it.
+pub(crate) fn show_suggestions(
+    shown: &mut Text,
+    alloc: Global,
+    refusal: &Refusal,
+    binding: &[u8],
+    slots: u8,
+    variables: &[Variable],
+) {
+    if let Refusal::BadBinding(fault) = refusal {
+        let line = line_at(binding, fault.line);
+        let faulty = FaultySource {
+            name: token_of(line, word_at(line, 0)),
+            source: token_of(line, word_at(line, 2)),
+            slots,
+        };
+        let _ = match fault.kind {
+            BindKind::NoSuchPath => push_nearest(shown, alloc, faulty, variables),
+            BindKind::WrongWidth => push_widths(shown, alloc, faulty, variables),
+            _ => Ok(()),
+        };
+    }
+}
+
+fn push_dump(
+    shown: &mut Text,
+    alloc: Global,
+    name: &[u8],
+    kind: Option<FileKind>,
+    fault: VcdFault,
+    line: &[u8],
+) -> Result<(), AllocError> {
+    let span = match fault.kind {
+        FaultKind::BadToken => bad_token_in(line),
+        _ => word_at(line, 0),
+    };
+    push_place(shown, alloc, name, fault.line)?;
+    push_marked(shown, alloc, line, span)?;
+    match kind {
+        Some(FileKind::Dump) => push_hint(shown, token_of(line, span)),
+        Some(kind) => push_file(shown, alloc, name, kind),
+        None => Ok(()),
+    }
+}
+
+fn push_binding(
+    shown: &mut Text,
+    alloc: Global,
+    binding: NamedInput<'_>,
+    number: u64,
+    line: &[u8],
+    span: WordRange,
+) -> Result<(), AllocError> {
+    if number > 0 {
+        push_place(shown, alloc, binding.name, number)?;
+        push_marked(shown, alloc, line, span)?;
+    }
+    match FileKind::of(binding.bytes) {
+        Some(FileKind::Binding) | None => Ok(()),
+        Some(kind) => push_file(shown, alloc, binding.name, kind),
+    }
+}
+
+/// Appends the name of a file and the number of a line.
+fn push_place(shown: &mut Text, alloc: Global, name: &[u8], number: u64) -> Result<(), AllocError> {
+    push_shown(shown, alloc, name)?;
+    shown.push(b", line ")?;
+    shown.push_decimal(alloc, number)?;
+    shown.push(b":\n")
+}
+
+/// Appends what a file is, and what helps.
+fn push_file(
+    shown: &mut Text,
+    alloc: Global,
+    name: &[u8],
+    kind: FileKind,
+) -> Result<(), AllocError> {
+    push_shown(shown, alloc, name)?;
+    shown.push(b" is ")?;
+    shown.push(kind.name().as_bytes())?;
+    shown.push(b":\n")?;
+    shown.push(kind.help().as_bytes())?;
+    shown.push(b"\n")
+}
+
+/// Appends what a token of a dump shows, if it shows more than its kind of fault.
+fn push_hint(shown: &mut Text, token: &[u8]) -> Result<(), AllocError> {
+    let hint: &'static str = match token {
+        b"$date" | b"$version" | b"$scope" | b"$timescale" | b"$var" | b"$upscope" => {
+            "a second header begins here: two dumps stand in one file\n"
+        }
+        [b'$', ..] => "",
+        [b'p', ..] =>
+            "a change of extended VCD: record with `$dumpvars` and not with `$dumpports`\n",
+        [b'b' | b'B', digits @ ..] if digits.iter().any(|digit| is_of_nine(*digit)) => NINE_STATES,
+        [first, ..] if is_of_nine(*first) => NINE_STATES,
+        _ => "",
+    };
+    shown.push(hint.as_bytes())
+}
+
+/// What is said of a letter of nine states.
+const NINE_STATES: &str = "\
+a letter of nine states, of which a dump has four: record with `ghdl -r bench --vcd=bus.vcd\n\
+--vcd-4states`, or signals that `to_X01Z` converted\n";
+
+/// Whether a byte is a state of std_logic that four states lack.
+fn is_of_nine(byte: u8) -> bool {
+    matches!(
+        byte,
+        b'U' | b'W' | b'L' | b'H' | b'-' | b'u' | b'w' | b'l' | b'h'
+    )
+}
+
+fn is_blank(byte: u8) -> bool {
+    matches!(byte, b' ' | b'\t' | b'\r')
+}
+
+/// The line of a text of this number, from 1, without its line feed.
+fn line_at(bytes: &[u8], number: u64) -> &[u8] {
+    let mut at: u64 = 1;
+    for line in bytes.split(|byte| *byte == b'\n') {
+        if at == number {
+            return match line {
+                [front @ .., b'\r'] => front,
+                _ => line,
+            };
+        }
+        at = at.saturating_add(1);
+    }
+    b""
+}
+
+/// The first word of a line from a place on; where there is none, the place behind the line.
+fn next_word(line: &[u8], from: usize) -> WordRange {
+    let rest = line.get(from..).unwrap_or(b"");
+    let blanks = place_in(rest, false);
+    let word = rest.get(blanks..).unwrap_or(b"");
+    let start = from.saturating_add(blanks);
+    WordRange {
+        start,
+        end: start.saturating_add(place_in(word, true)),
+    }
+}
+
+/// The place of the first byte that is a blank, or that isn't one, or the place behind them all.
+fn place_in(bytes: &[u8], of_blank: bool) -> usize {
+    match bytes.iter().position(|byte| is_blank(*byte) == of_blank) {
+        Some(at) => at,
+        None => bytes.len(),
+    }
+}
+
+/// The word at a place in a line, from 0, or its last one.
+fn word_at(line: &[u8], place: u8) -> WordRange {
+    let mut span = next_word(line, 0);
+    for _ in 0..place {
+        let next = next_word(line, span.end);
+        if next.start < line.len() {
+            span = next;
+        }
+    }
+    span
+}
+
+/// The word of a line of a binding that is too many, or another than an equals sign, or else the last one.
+fn bad_word_in(line: &[u8]) -> WordRange {
+    let second = word_at(line, 1);
+    if token_of(line, second) != b"=".as_slice() {
+        second
+    } else {
+        word_at(line, 3)
+    }
+}
+
+/// The first token of a line of a dump that no body has, or else the first one.
+fn bad_token_in(line: &[u8]) -> WordRange {
+    let first = next_word(line, 0);
+    let mut span = first;
+    let mut is_code = false;
+    for _ in 0..line.len() {
+        let token = token_of(line, span);
+        if token.is_empty() {
+            return first;
+        }
+        if !is_code && !may_stand(token) {
+            return span;
+        }
+        is_code = !is_code && matches!(token, [b'b' | b'B' | b'r' | b'R' | b's', ..]);
+        span = next_word(line, span.end);
+    }
+    first
+}
+
+/// Whether a token may stand in the body of a dump, as what it begins with shows.
+fn may_stand(token: &[u8]) -> bool {
+    match token {
+        [b'#', digits @ ..] => !digits.is_empty()
+            && digits.iter().all(|digit| digit.is_ascii_digit()),
+        [b'b' | b'B', digits @ ..] => {
+            !digits.is_empty()
+                && digits.iter().all(|digit| matches!(
+                    digit,
+                    b'0' | b'1' | b'x' | b'X' | b'z' | b'Z'
+                ))
+        }
+        [b'0' | b'1' | b'x' | b'X' | b'z' | b'Z', code @ ..] => !code.is_empty(),
+        [b'r' | b'R' | b's', ..] => true,
+        b"$comment" | b"$dumpvars" | b"$dumpall" | b"$dumpon" | b"$dumpoff" | b"$end" => true,
+        _ => false,
+    }
+}
+
+/// The bytes of a token.
+fn token_of(line: &[u8], span: WordRange) -> &[u8] {
+    line.get(span.start..span.end).unwrap_or(b"")
+}
+
+/// How many columns a byte is shown in.
+fn columns(byte: u8) -> usize {
+    if 0x20 <= byte && byte <= 0x7E { 1 } else { 4 }
+}
+
+/// How many of the first bytes are shown in so many columns.
+fn fitting(bytes: &[u8], room: usize) -> usize {
+    let mut used: usize = 0;
+    for (at, byte) in bytes.iter().enumerate() {
+        used = used.saturating_add(columns(*byte));
+        if used > room {
+            return at;
+        }
+    }
+    bytes.len()
+}
+
+/// From which byte on the last ones are shown in so many columns.
+fn fitting_end(bytes: &[u8], room: usize) -> usize {
+    let mut used: usize = 0;
+    for (at, byte) in bytes.iter().rev().enumerate() {
+        used = used.saturating_add(columns(*byte));
+        if used > room {
+            return bytes.len().saturating_sub(at);
+        }
+    }
+    0
+}
+
+/// Appends a line of an input, with a token of it marked below, in the columns that there are.
+fn push_marked(
+    shown: &mut Text,
+    alloc: Global,
+    line: &[u8],
+    span: WordRange,
+) -> Result<(), AllocError> {
+    let front = line.get(..span.start).unwrap_or(b"");
+    let token = token_of(line, span);
+    if token.is_empty() {
+        return shown.push(b"    the text ends here\n");
+    }
+    let rest = line.get(span.end..).unwrap_or(b"");
+    let mut quoted = Text::new(alloc);
+    let from = fitting_end(front, SIDE);
+    if from > 0 {
+        quoted.push(b".. ")?;
+    }
+    push_shown(&mut quoted, alloc, front.get(from..).unwrap_or(b""))?;
+    let before = quoted.as_bytes().len();
+    push_shown(
+        &mut quoted,
+        alloc,
+        token.get(..fitting(token, SIDE)).unwrap_or(b""),
+    )?;
+    let marked = quoted.as_bytes().len().saturating_sub(before).max(1);
+    if fitting(token, SIDE) < token.len() {
+        quoted.push(b" ..")?;
+    } else {
+        let room = COLUMNS
+            .saturating_sub(quoted.as_bytes().len())
+            .saturating_sub(8);
+        let kept = fitting(rest, room);
+        push_shown(&mut quoted, alloc, rest.get(..kept).unwrap_or(b""))?;
+        if kept < rest.len() {
+            quoted.push(b" ..")?;
+        }
+    }
+    shown.push(b"    ")?;
+    shown.push(quoted.as_bytes())?;
+    shown.push(b"\n    ")?;
+    shown.push_spaces(before)?;
+    for _ in 0..marked {
+        shown.push(b"^")?;
+    }
+    shown.push(b"\n")
+}

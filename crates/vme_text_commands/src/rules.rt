@@ -1,0 +1,37 @@
+//! What the rules ask.
+
+ghost use Rattle.std.specs.Prelude.{ℕ, List, Result};
+ghost use Rattle.vme_answer.specs.Ends.{Ends};
+ghost use Rattle.vme_text_commands.specs.TextAnswers.{IsText, text_answer_by};
+ghost use Rattle.vme_answer.specs.declared.refusal.Refusal.{Refusal};
+
+use crate::telling::tell_text;
+use std::alloc::Global;
+use vme_answer::Refusal;
+use vme_rules::rules_text;
+use vme_text::Text;
+use vme_trace::{Rule, Sink};
+
+/// Writes what a rule asks, or each of them, with the line that a break names, the section of the standard and the
+/// usual causes. The answer is the exit status: 0, 4 for want of memory, or 5 where the text can't be written.
+pub fn tell_rules<O: Sink, E: Sink>(
+    alloc: Global,
+    only: Option<Rule>,
+    out: &mut O,
+    err: &mut E,
+) -> u8
+    ensures { (made : Result (List ℕ) Refusal) × IsText made × Ends (text_answer_by 0 made)
+        (O.writing out.old, O.writing out.new) (E.writing err.old, E.writing err.new) result }
+{
+    let made = text_of_rules(alloc, only);
+    tell_text(&made, 0, out, err)
+}
+
+fn text_of_rules(alloc: Global, only: Option<Rule>) -> Result<Text, Refusal>
+    ensures { IsText result }
+{
+    match rules_text(alloc, only) {
+        Ok(text) => Ok(text),
+        Err(_) => Err(Refusal::Memory),
+    }
+}

@@ -1,0 +1,52 @@
+//! Texts that a command writes, or why there are none.
+
+ghost use Rattle.std.specs.Prelude.{[]};
+ghost use Rattle.vme_answer.specs.Ends.{Ends};
+ghost use Rattle.vme_text_commands.specs.TextAnswers.{text_answer, text_answer_by};
+ghost use Rattle.vme_stream.specs.Outputs.{TriesToWrite};
+
+use vme_answer::{Refusal, cannot_write_line, refusal_line};
+use vme_stream::{complain, write_all};
+use vme_text::Text;
+use vme_trace::Sink;
+
+/// Writes a text to `out`, and answers this status; or to `err` why there is none, and the refusal's status. Where the
+/// text can't be written, the status is 5.
+pub fn tell_text<O: Sink, E: Sink>(
+    made: &Result<Text, Refusal>,
+    status: u8,
+    out: &mut O,
+    err: &mut E,
+) -> u8
+    ensures { Ends (text_answer_by status made.now)
+        (O.writing out.old, O.writing out.new) (E.writing err.old, E.writing err.new) result }
+{
+    match made {
+        Ok(text) => tell_bytes(text.as_bytes(), status, out, err),
+        Err(refusal) => {
+            complain(err, refusal_line(refusal));
+            refusal.status()
+        }
+    }
+}
+
+/// Writes what is said beside an answer. Where that fails, nothing else is done.
+pub fn say<W: Sink>(sink: &mut W, text: &[u8])
+    ensures { TriesToWrite (W.writing sink.old) (W.writing sink.new) text.now }
+{
+    let _ = write_all(sink, text);
+}
+
+/// Writes some bytes to `out`, and answers this status. Where they can't be written, the status is 5.
+pub fn tell_bytes<O: Sink, E: Sink>(bytes: &[u8], status: u8, out: &mut O, err: &mut E) -> u8
+    ensures { Ends (text_answer status bytes.now)
+        (O.writing out.old, O.writing out.new) (E.writing err.old, E.writing err.new) result }
+{
+    match write_all(out, bytes) {
+        Ok(()) => status,
+        Err(_) => {
+            complain(err, cannot_write_line());
+            5
+        }
+    }
+}

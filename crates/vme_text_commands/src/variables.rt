@@ -1,0 +1,90 @@
+//! The variables of a dump.
+
+ghost use Rattle.std.specs.Prelude.{ℕ, List, Option, Result};
+ghost use Rattle.vcd_read.specs.Meaning.{dump_of};
+ghost use Rattle.vme_answer.specs.Answers.{dump_read, or_bad_dump};
+ghost use Rattle.vme_answer.specs.Ends.{Ends};
+ghost use Rattle.vme_stream.specs.Inputs.{IsReading};
+ghost use Rattle.vme_text_commands.specs.Refused.{MayHaveMore};
+ghost use Rattle.vme_text_commands.specs.TextAnswers.{IsTextOf, text_answer_with};
+ghost use Rattle.vme_answer.specs.declared.refusal.Refusal.{Refusal};
+
+use crate::refused::{NamedInput, complain_with, show_dump};
+use crate::telling::tell_bytes;
+use std::alloc::Global;
+use vme_answer::{Input, Refusal};
+use vme_stream::read_all;
+use vme_text::Text;
+use vme_trace::{Sink, Source};
+use vme_variables::variables_text;
+
+/// Writes the variables of a dump to `out`, or to `err` why it can't be read, as `check` says it, and behind it what
+/// the dump, of this name, shows there and what the refusal means. The answer is the exit status: 0, 3 where the dump
+/// is refused, 4 for want of memory, 5 where the text can't be written.
+pub fn tell_variables<D: Source, O: Sink, E: Sink>(
+    alloc: Global,
+    dump: &mut D,
+    name: &[u8],
+    out: &mut O,
+    err: &mut E,
+) -> u8
+    ensures { (bytes : Option (List ℕ)) × (made : Result (List ℕ) Refusal) × (more : List ℕ)
+        × IsReading (D.reading dump.old) (D.reading dump.new) bytes
+        × IsTextOf (dump_read bytes) made
+        × MayHaveMore made more
+        × Ends (text_answer_with more made)
+        (O.writing out.old, O.writing out.new) (E.writing err.old, E.writing err.new) result }
+{
+    let mut shown = Text::new(alloc);
+    let made = variables_from(alloc, dump, name, &mut shown);
+    tell_or_complain(alloc, &made, &shown, out, err)
+}
+
+/// Writes a text to `out`, or to `err` why there is none, with what the input shows.
+fn tell_or_complain<O: Sink, E: Sink>(
+    alloc: Global,
+    made: &Result<Text, Refusal>,
+    shown: &Text,
+    out: &mut O,
+    err: &mut E,
+) -> u8
+    ensures { (more : List ℕ) × MayHaveMore made.now more × Ends (text_answer_with more made.now)
+        (O.writing out.old, O.writing out.new) (E.writing err.old, E.writing err.new) result }
+{
+    match made {
+        Ok(text) => tell_bytes(text.as_bytes(), 0, out, err),
+        Err(refusal) => {
+            complain_with(alloc, err, refusal, shown);
+            refusal.status()
+        }
+    }
+}
+
+fn variables_from<D: Source>(
+    alloc: Global,
+    dump: &mut D,
+    name: &[u8],
+    shown: &mut Text,
+) -> Result<Text, Refusal>
+    ensures { (bytes : Option (List ℕ))
+        × IsReading (D.reading dump.old) (D.reading dump.new) bytes
+        × IsTextOf (dump_read bytes) result }
+{
+    match read_all(alloc, dump) {
+        Ok(text) => variables_in(alloc, text.as_slice(), name, shown),
+        Err(fault) => Err(Refusal::of_input(Input::Dump, fault)),
+    }
+}
+
+fn variables_in(alloc: Global, dump: &[u8], name: &[u8], shown: &mut Text) -> Result<Text, Refusal>
+    ensures { IsTextOf (or_bad_dump (dump_of dump.now)) result }
+{
+    match variables_text(alloc, dump) {
+        Ok(text) => Ok(text),
+        Err(fault) => {
+            let refusal = Refusal::of_dump(fault);
+            show_dump(shown, alloc, &refusal, NamedInput::new(name, dump));
+            Err(refusal)
+        }
+    }
+}
