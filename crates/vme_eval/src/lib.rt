@@ -17,8 +17,8 @@
 //! Nothing here: this crate has definitions, and no function. Crates of laws compute what the
 //! definitions of vme_trace and vme_listing say of these recordings: vme_transfers_eval,
 //! vme_stability_eval, vme_chains_eval, vme_judging_eval and, above these four, vme_rules_eval.
-//! vme_audit_eval and vme_join_eval write recordings of their own as it is done here. No code of
-//! the product stands on any of them.
+//! vme_audit_eval writes recordings, and vme_judging_eval blocks, as it is done here. No code of the
+//! product stands on any of them.
 //!
 //! # What isn't said
 //!

@@ -1,8 +1,9 @@
-//! What the definitions say of where judging starts and ends, and of which break is named, on
-//! worked recordings, by computing them.
+//! What the definitions say of where judging starts and ends, of which break is named, and of which
+//! blocks join, on worked recordings and blocks, by computing them.
 //!
 //! Each function is a law: its contract is what it says, and the prover computes it. The recordings
-//! stand in vme_eval, with the verdict and the listing that each should get.
+//! stand in vme_eval, with the verdict and the listing that each should get, and the blocks in
+//! `specs/WorkedBlocks`.
 //!
 //! - [`malformed_steps`]: steps that may not stand where they stand.
 //! - [`least_of_two`]: the lesser of two levels, and of two malformed steps.
@@ -11,8 +12,13 @@
 //! - [`resets`]: resets of the bus, and the starts after them.
 //! - [`same_instant`]: which of two breaks of one instant is named.
 //! - [`leniencies`]: what conforms though the standard's order of edges forbids it.
+//! - [`blocks_that_join`]: blocks that follow one another join, across a block without steps too.
+//! - [`blocks_that_are_torn`]: blocks are torn by number, by lines, by slots and by time, the last
+//!   across a block without steps too.
 //!
-//! Nothing is said of recordings that don't stand there. Start reading at the law of interest.
+//! By their contracts, `join` and `append` of vme_summary answer that spans are torn exactly where
+//! their blocks don't join; vme_summary_tests asks them about spans. Nothing is said of recordings
+//! and blocks that don't stand there. Start reading at the law of interest.
 #![tactic(auto)]
 
 ghost use Rattle.std.specs.Prelude.{◌≡◌, ◌∷◌, [], Some};
@@ -26,6 +32,8 @@ ghost use Rattle.vme_eval.specs.Grants.{two_levels_granted_at_once};
 ghost use Rattle.vme_eval.specs.Resets.{resets, reset_after_a_lost_strobe, two_resets};
 ghost use Rattle.vme_eval.specs.SameInstant.{same_instant};
 ghost use Rattle.vme_eval.specs.Leniencies.{leniencies};
+ghost use Rattle.vme_summary.specs.Joins.{BlocksJoin};
+ghost use Rattle.vme_judging_eval.specs.WorkedBlocks.{first, next, empty, after_empty, on_slots, on_other_lines};
 
 /// Steps that may not stand where they stand: one that changes nothing, one that is no later than the one before, and
 /// ones that change a line that one slot doesn't have, a line to the level that it has, and lines out of order.
@@ -70,4 +78,23 @@ pub fn same_instant()
 /// What conforms though the standard's order of edges forbids it.
 pub fn leniencies()
     ensures { AllAgree leniencies }
+{}
+
+/// Blocks that follow one another join, across an empty block too.
+pub fn blocks_that_join()
+    ensures later { BlocksJoin (first ∷ next 11 ∷ []) }
+    ensures across_empty { BlocksJoin (first ∷ empty ∷ after_empty 11 ∷ []) }
+    ensures same_slots { BlocksJoin (first ∷ on_slots 3 ∷ []) }
+{}
+
+/// Blocks are torn where a number is left out, where the lines or the slots differ, and where the time isn't later than
+/// that of the last step so far, across an empty block too: of these three each two that stand side by side join.
+pub fn blocks_that_are_torn()
+    ensures by_number { ¬ BlocksJoin (first ∷ after_empty 11 ∷ []) }
+    ensures by_lines { ¬ BlocksJoin (first ∷ on_other_lines ∷ []) }
+    ensures by_slots { ¬ BlocksJoin (first ∷ on_slots 2 ∷ []) }
+    ensures by_time { ¬ BlocksJoin (first ∷ next 10 ∷ []) }
+    ensures before_empty { BlocksJoin (first ∷ empty ∷ []) }
+    ensures behind_empty { BlocksJoin (empty ∷ after_empty 10 ∷ []) }
+    ensures across_empty { ¬ BlocksJoin (first ∷ empty ∷ after_empty 10 ∷ []) }
 {}

@@ -1,8 +1,8 @@
 use Rattle.std.proofs.Common.{refl, [], ◌∷◌}
 use Rattle.vme_trace.specs.Trace.{changed}
 use Rattle.vme_summary.proofs.Chains.{chain_joins}
-use Rattle.vme_join_eval.specs.Worked.{first, next, empty, after_empty, on_slots}
-use Rattle.vme_join_eval.proofs.blocks_that_join.Goals as goal
+use Rattle.vme_judging_eval.specs.WorkedBlocks.{first, next, empty, after_empty, on_slots}
+use Rattle.vme_judging_eval.proofs.blocks_that_join.Goals as goal
 
 pub returns-clause-later : goal.returns-clause-later
 returns-clause-later c = chain_joins first (next 11 ∷ []) (refl, refl, refl, tt)

@@ -5,8 +5,8 @@ use Rattle.vme_trace.specs.Levels.{level_at}
 use Rattle.vme_trace.specs.Trace.{changed}
 use Rattle.vme_trace.specs.declared.level.Level.TheVariants.{High, Unknown}
 use Rattle.vme_summary.proofs.Chains.{chain_joins}
-use Rattle.vme_join_eval.specs.Worked.{first, next, empty, after_empty, on_slots, on_other_lines}
-use Rattle.vme_join_eval.proofs.blocks_that_are_torn.Goals as goal
+use Rattle.vme_judging_eval.specs.WorkedBlocks.{first, next, empty, after_empty, on_slots, on_other_lines}
+use Rattle.vme_judging_eval.proofs.blocks_that_are_torn.Goals as goal
 
 pub returns-clause-by_number : goal.returns-clause-by_number
 returns-clause-by_number c j =
