@@ -18,7 +18,7 @@ use Rattle.vme_trace.specs.declared.class.Class.{Class}
 use Rattle.vme_trace.specs.declared.class.Class.TheVariants as class
 use Rattle.vme_trace.specs.declared.data.Lanes.{Lanes}
 use Rattle.vme_trace.specs.declared.rule.Rule.{Rule}
-use Rattle.vme_trace.specs.declared.rule.Rule.TheVariants as rule
+use Rattle.vme_trace.proofs.EveryRule.{every-rule}
 use Rattle.vme_listing.specs.LaneDigits.{digit_in, flag_in, is_moved_in}
 use Rattle.vme_listing.specs.RowText.{address_digits, digit_text, digit_text_in, hexadecimal, lanes_text}
 use Rattle.vme_listing.specs.declared.row.AnswerLine.{AnswerLine}
@@ -140,37 +140,7 @@ line_word l =
     refl))))))))))))))
 
 rule_word : (r : Rule) → is_word (rule_name r) ≡ true
-rule_word rule.U1 = refl
-rule_word rule.U2 = refl
-rule_word rule.U3 = refl
-rule_word rule.U4 = refl
-rule_word rule.H1 = refl
-rule_word rule.H2 = refl
-rule_word rule.H3 = refl
-rule_word rule.H4 = refl
-rule_word rule.H5 = refl
-rule_word rule.H6 = refl
-rule_word rule.H7 = refl
-rule_word rule.H8 = refl
-rule_word rule.S1 = refl
-rule_word rule.S2 = refl
-rule_word rule.S3 = refl
-rule_word rule.C1 = refl
-rule_word rule.C2 = refl
-rule_word rule.G1 = refl
-rule_word rule.G2 = refl
-rule_word rule.G3 = refl
-rule_word rule.G4 = refl
-rule_word rule.G5 = refl
-rule_word rule.B1 = refl
-rule_word rule.B2 = refl
-rule_word rule.B3 = refl
-rule_word rule.B4 = refl
-rule_word rule.I1 = refl
-rule_word rule.I2 = refl
-rule_word rule.I3 = refl
-rule_word rule.I4 = refl
-rule_word rule.I5 = refl
+rule_word r = every-rule (λ r. is_word (rule_name r)) refl r
 
 -- ---- the texts
 

@@ -1,17 +1,17 @@
 -- The text of an allowance is cut at its `=`, since no rule has one in its name.
 use Rattle.std.proofs.Common.{◌≡◌, ◌∙◌, ◌<◌, ◌+◌, ◌==◌, ℕ, zero, suc, refl, sym, ap, arith, false}
-use Rattle.std.proofs.Common.{true≢false}
+use Rattle.std.proofs.Common.{true, true≢false, Bool}
 use Rattle.std.proofs.Common.{List, [], ◌∷◌, ◌++◌, ◌-◌, append-nil, length, take, drop, Option, Some, None}
 use Rattle.std.proofs.lemmas.Bool.{eqb-true}
 use Rattle.std.proofs.lemmas.List.{drop_more, length-drop, take-append-drop, take_all}
-use Rattle.std.specs.Prelude.{IfSome, get_or, unwrap_or}
+use Rattle.std.specs.Prelude.{◌&&◌, IfSome, get_or, not, unwrap_or}
 use Rattle.memchr.specs.Find.{IsFirstByte, is_byte}
 use Rattle.vme_audit.specs.declared.allowance.Allowance.{Allowance}
 use Rattle.vme_trace.specs.LineNumbers.{line_count}
 use Rattle.vme_trace.specs.Names.{line_name}
 use Rattle.vme_trace.specs.Rules.{rule_name}
 use Rattle.vme_trace.specs.declared.rule.Rule.{Rule}
-use Rattle.vme_trace.specs.declared.rule.Rule.TheVariants as rule
+use Rattle.vme_trace.proofs.EveryRule.{every-rule}
 use Rattle.vme_commands.specs.AllowanceTexts.{allowance_text}
 
 -- a rule has two bytes in its name, neither of which is a `=`
@@ -22,38 +22,28 @@ record TwoBytes (r : Rule) : Type 0 where
   x_is : (x == 61) ≡ false
   y_is : (y == 61) ≡ false
 
+-- a name of two bytes, neither of which is a `=`
+abbrev is_two : List ℕ → Bool
+is_two [] = false
+is_two (x ∷ []) = false
+is_two (x ∷ y ∷ []) = not (x == 61) && not (y == 61)
+is_two (x ∷ y ∷ z ∷ name) = false
+
+is_other : (a b : Bool) → (not a && not b) ≡ true → (a ≡ false) × (b ≡ false)
+is_other false false e = (refl, refl)
+is_other false true e = absurd (cc)
+is_other true b e = absurd (cc)
+
+two_in : (r : Rule) (name : List ℕ) → rule_name r ≡ name → is_two name ≡ true → TwoBytes r
+two_in r [] is two = absurd (cc)
+two_in r (x ∷ []) is two = absurd (cc)
+two_in r (x ∷ y ∷ []) is two =
+    let other = is_other (x == 61) (y == 61) two in
+    record { x = x; y = y; name = is; x_is = other.0; y_is = other.1 }
+two_in r (x ∷ y ∷ z ∷ name) is two = absurd (cc)
+
 two_bytes : (r : Rule) → TwoBytes r
-two_bytes rule.U1 = record { x = 85; y = 49; name = refl; x_is = refl; y_is = refl }
-two_bytes rule.U2 = record { x = 85; y = 50; name = refl; x_is = refl; y_is = refl }
-two_bytes rule.U3 = record { x = 85; y = 51; name = refl; x_is = refl; y_is = refl }
-two_bytes rule.U4 = record { x = 85; y = 52; name = refl; x_is = refl; y_is = refl }
-two_bytes rule.H1 = record { x = 72; y = 49; name = refl; x_is = refl; y_is = refl }
-two_bytes rule.H2 = record { x = 72; y = 50; name = refl; x_is = refl; y_is = refl }
-two_bytes rule.H3 = record { x = 72; y = 51; name = refl; x_is = refl; y_is = refl }
-two_bytes rule.H4 = record { x = 72; y = 52; name = refl; x_is = refl; y_is = refl }
-two_bytes rule.H5 = record { x = 72; y = 53; name = refl; x_is = refl; y_is = refl }
-two_bytes rule.H6 = record { x = 72; y = 54; name = refl; x_is = refl; y_is = refl }
-two_bytes rule.H7 = record { x = 72; y = 55; name = refl; x_is = refl; y_is = refl }
-two_bytes rule.H8 = record { x = 72; y = 56; name = refl; x_is = refl; y_is = refl }
-two_bytes rule.S1 = record { x = 83; y = 49; name = refl; x_is = refl; y_is = refl }
-two_bytes rule.S2 = record { x = 83; y = 50; name = refl; x_is = refl; y_is = refl }
-two_bytes rule.S3 = record { x = 83; y = 51; name = refl; x_is = refl; y_is = refl }
-two_bytes rule.C1 = record { x = 67; y = 49; name = refl; x_is = refl; y_is = refl }
-two_bytes rule.C2 = record { x = 67; y = 50; name = refl; x_is = refl; y_is = refl }
-two_bytes rule.G1 = record { x = 71; y = 49; name = refl; x_is = refl; y_is = refl }
-two_bytes rule.G2 = record { x = 71; y = 50; name = refl; x_is = refl; y_is = refl }
-two_bytes rule.G3 = record { x = 71; y = 51; name = refl; x_is = refl; y_is = refl }
-two_bytes rule.G4 = record { x = 71; y = 52; name = refl; x_is = refl; y_is = refl }
-two_bytes rule.G5 = record { x = 71; y = 53; name = refl; x_is = refl; y_is = refl }
-two_bytes rule.B1 = record { x = 66; y = 49; name = refl; x_is = refl; y_is = refl }
-two_bytes rule.B2 = record { x = 66; y = 50; name = refl; x_is = refl; y_is = refl }
-two_bytes rule.B3 = record { x = 66; y = 51; name = refl; x_is = refl; y_is = refl }
-two_bytes rule.B4 = record { x = 66; y = 52; name = refl; x_is = refl; y_is = refl }
-two_bytes rule.I1 = record { x = 73; y = 49; name = refl; x_is = refl; y_is = refl }
-two_bytes rule.I2 = record { x = 73; y = 50; name = refl; x_is = refl; y_is = refl }
-two_bytes rule.I3 = record { x = 73; y = 51; name = refl; x_is = refl; y_is = refl }
-two_bytes rule.I4 = record { x = 73; y = 52; name = refl; x_is = refl; y_is = refl }
-two_bytes rule.I5 = record { x = 73; y = 53; name = refl; x_is = refl; y_is = refl }
+two_bytes r = two_in r (rule_name r) refl (every-rule (λ r. is_two (rule_name r)) refl r)
 
 cut_at : (x y : ℕ) (name : List ℕ) (end : ℕ) → (x == 61) ≡ false → (y == 61) ≡ false
     → IsFirstByte (is_byte 61) (x ∷ y ∷ 61 ∷ name) (Some end) → end ≡ 2

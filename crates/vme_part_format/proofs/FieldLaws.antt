@@ -17,7 +17,7 @@ use Rattle.vme_trace.specs.LineNumbers.{line_count}
 use Rattle.vme_trace.specs.Names.{rule_number}
 use Rattle.vme_trace.specs.Rules.{all_rules}
 use Rattle.vme_trace.specs.declared.rule.Rule.{Rule}
-use Rattle.vme_trace.specs.declared.rule.Rule.TheVariants as rule
+use Rattle.vme_trace.proofs.EveryRule.{listed}
 use Rattle.vme_part_format.specs.declared.fault.PartFaultKind.TheVariants as fault
 use Rattle.vme_part_format.specs.declared.fault.FieldFault.{FieldFault}
 use Rattle.vme_part_format.specs.declared.table.TableEntry.{TableEntry}
@@ -201,40 +201,6 @@ numbered_at k (q ∷ rs) (suc n) r ok e =
 pub rule_numbered : (n : ℕ) (r : Rule) → slice_get all_rules n ≡ Some r → rule_number r ≡ n
 rule_numbered n r e = omega (arith, numbered_at 0 all_rules n r all_numbered e)
 
--- each rule is at its place
-pub rule_there : (r : Rule) → slice_get all_rules (rule_number r) ≡ Some r
-rule_there rule.U1 = refl
-rule_there rule.U2 = refl
-rule_there rule.U3 = refl
-rule_there rule.U4 = refl
-rule_there rule.H1 = refl
-rule_there rule.H2 = refl
-rule_there rule.H3 = refl
-rule_there rule.H4 = refl
-rule_there rule.H5 = refl
-rule_there rule.H6 = refl
-rule_there rule.H7 = refl
-rule_there rule.H8 = refl
-rule_there rule.S1 = refl
-rule_there rule.S2 = refl
-rule_there rule.S3 = refl
-rule_there rule.C1 = refl
-rule_there rule.C2 = refl
-rule_there rule.G1 = refl
-rule_there rule.G2 = refl
-rule_there rule.G3 = refl
-rule_there rule.G4 = refl
-rule_there rule.G5 = refl
-rule_there rule.B1 = refl
-rule_there rule.B2 = refl
-rule_there rule.B3 = refl
-rule_there rule.B4 = refl
-rule_there rule.I1 = refl
-rule_there rule.I2 = refl
-rule_there rule.I3 = refl
-rule_there rule.I4 = refl
-rule_there rule.I5 = refl
-
 -- the bytes of a break behind the number of its rule
 abbrev pub break_bytes : WideBreak → List ℕ
 break_bytes b = b.line ∷ (to_le_bytes w64 b.instant ++ to_le_bytes w64 b.time)
@@ -367,7 +333,7 @@ event_by_again steps bad b rest fits =
     is_false (eqb (rule_number b.rule + 1) 0)
     (λ e. omega (arith, eqb-true (rule_number b.rule + 1) 0 e)) in
     let one : rule_number b.rule + 1 - 1 ≡ rule_number b.rule = omega arith in
-    rw (some, one, rule_there b.rule) (break_again steps bad b rest fits)
+    rw (some, one, listed b.rule) (break_again steps bad b rest fits)
 
 pub event_again : (steps : ℕ) (o : Option WideBreak) (rest : List ℕ) → IfSome o (FitsBreak steps)
     → event_at steps (event_bytes o ++ rest) ≡ Ok (o, rest)
