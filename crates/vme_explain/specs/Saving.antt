@@ -1,8 +1,8 @@
 -- Which files are written, and which aren't.
 use Rattle.std.specs.Prelude.{Bool, ◌==◌, ◌&&◌, false, if◌then◌else◌, Option, None, Some}
 use Rattle.vme_explain.specs.declared.saving.FileId.{FileId}
-use Rattle.vme_explain.specs.declared.saving.Present.{Present}
-use Rattle.vme_explain.specs.declared.saving.Present.TheVariants.{Nothing, File, Other}
+use Rattle.vme_explain.specs.declared.saving.PathEntry.{PathEntry}
+use Rattle.vme_explain.specs.declared.saving.PathEntry.TheVariants.{Nothing, File, Other}
 use Rattle.vme_explain.specs.declared.saving.SaveRefusal.{SaveRefusal}
 use Rattle.vme_explain.specs.declared.saving.SaveRefusal.TheVariants.{Binding, Dump, Foreign}
 
@@ -10,20 +10,20 @@ use Rattle.vme_explain.specs.declared.saving.SaveRefusal.TheVariants.{Binding, D
 abbrev pub is_same : FileId → FileId → Bool
 is_same one other = one.device == other.device && one.number == other.number
 
--- this file stands there
-abbrev pub is_this_file : Present → FileId → Bool
+-- the entry is this file
+abbrev pub is_this_file : PathEntry → FileId → Bool
 is_this_file Nothing id = false
 is_this_file (File other is_ours) id = is_same other id
 is_this_file Other id = false
 
--- one file stands at both places
-abbrev pub is_one_file : Present → Present → Bool
+-- both entries are one file
+abbrev pub is_one_file : PathEntry → PathEntry → Bool
 is_one_file Nothing second = false
 is_one_file (File id is_ours) second = is_this_file second id
 is_one_file Other second = false
 
 -- A file isn't written over the binding or the dump, nor over what this program didn't write.
-abbrev pub save_refusal : Present → FileId → FileId → Option SaveRefusal
+abbrev pub save_refusal : PathEntry → FileId → FileId → Option SaveRefusal
 save_refusal Nothing binding dump = None
 save_refusal (File id is_ours) binding dump =
     if is_same id binding then Some Binding

@@ -52,7 +52,7 @@ pub use broken::{OtherEvent, others_of};
 pub use driver::{Driver, driver_of, push_label};
 pub use level_characters::line_characters;
 pub use page::{Subject, explanation, push_line_value, push_open, shown_time};
-pub use saving::{FileId, Present, SaveRefusal, is_one_file, save_refusal, save_refusal_text};
+pub use saving::{FileId, PathEntry, SaveRefusal, is_one_file, save_refusal, save_refusal_text};
 pub use scale::time_name;
 pub use values::{MOST_DIGITS, ValueRow};
 pub use viewer::{is_save_file, save_file};

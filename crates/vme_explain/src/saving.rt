@@ -15,9 +15,9 @@ pub struct FileId {
     pub number: u64,
 }
 
-/// What stands where a file is to be written.
+/// What is at a path where a file is to be written.
 #[derive(Clone, Copy, Debug, PartialEq, Eq)]
-pub enum Present {
+pub enum PathEntry {
     /// Nothing.
     Nothing,
     /// A file.
@@ -51,36 +51,36 @@ fn is_same(one: FileId, other: FileId) -> bool
     one.device == other.device && one.number == other.number
 }
 
-/// Whether this file stands at a place.
-fn is_this_file(present: &Present, id: FileId) -> bool
-    ensures { result ≡ is_this_file present.now id }
+/// Whether this file is at a path.
+fn is_this_file(entry: &PathEntry, id: FileId) -> bool
+    ensures { result ≡ is_this_file entry.now id }
 {
-    match present {
-        Present::File { id: other, .. } => is_same(*other, id),
+    match entry {
+        PathEntry::File { id: other, .. } => is_same(*other, id),
         _ => false,
     }
 }
 
-/// Whether one file stands at two places, by whatever links.
-pub fn is_one_file(one: &Present, other: &Present) -> bool
+/// Whether one file is at two paths, by whatever links.
+pub fn is_one_file(one: &PathEntry, other: &PathEntry) -> bool
     ensures { result ≡ is_one_file one.now other.now }
 {
     match one {
-        Present::File { id, .. } => is_this_file(other, *id),
+        PathEntry::File { id, .. } => is_this_file(other, *id),
         _ => false,
     }
 }
 
-/// Why a file isn't written where this stands, by the files of the binding and of the dump: an input stands there, or
-/// what this program didn't write. It is where nothing stands, and in the place of one of its own.
-pub fn save_refusal(present: &Present, binding: FileId, dump: FileId) -> Option<SaveRefusal>
-    ensures { result ≡ save_refusal present.now binding dump }
+/// Why a file isn't written over this entry, by the files of the binding and of the dump: it is one of these inputs, or
+/// a file that this program didn't write. It is written where nothing is, and over a file of its own.
+pub fn save_refusal(entry: &PathEntry, binding: FileId, dump: FileId) -> Option<SaveRefusal>
+    ensures { result ≡ save_refusal entry.now binding dump }
 {
-    match present {
-        Present::Nothing => None,
-        Present::File { id, .. } if is_same(*id, binding) => Some(SaveRefusal::Binding),
-        Present::File { id, .. } if is_same(*id, dump) => Some(SaveRefusal::Dump),
-        Present::File { is_ours, .. } if *is_ours => None,
+    match entry {
+        PathEntry::Nothing => None,
+        PathEntry::File { id, .. } if is_same(*id, binding) => Some(SaveRefusal::Binding),
+        PathEntry::File { id, .. } if is_same(*id, dump) => Some(SaveRefusal::Dump),
+        PathEntry::File { is_ours, .. } if *is_ours => None,
         _ => Some(SaveRefusal::Foreign),
     }
 }

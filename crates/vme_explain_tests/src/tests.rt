@@ -2,7 +2,7 @@ use std::test::Fail;
 use vcd_read::{Variables, read_definitions};
 use vme_account::AccountVisitor;
 use vme_explain::{
-    Driver, FileId, Present, SaveRefusal, Subject, driver_of, is_one_file, is_save_file, save_file,
+    Driver, FileId, PathEntry, SaveRefusal, Subject, driver_of, is_one_file, is_save_file, save_file,
     save_refusal, save_refusal_text, time_name,
 };
 use vme_trace::{Break, Line, Lines, Rule, Verdict};
@@ -86,18 +86,18 @@ const DUMP: FileId = FileId {
 fn no_input_and_no_file_of_others_is_written_over(rt: HostRuntime) -> Result<(), Fail> {
     let at = |device, number, is_ours| {
         let id = FileId { device, number };
-        save_refusal(&Present::File { id, is_ours }, BINDING, DUMP)
+        save_refusal(&PathEntry::File { id, is_ours }, BINDING, DUMP)
     };
-    assert!(rt; save_refusal(&Present::Nothing, BINDING, DUMP).is_none());
-    assert!(rt; save_refusal(&Present::Other, BINDING, DUMP) == Some(SaveRefusal::Foreign));
+    assert!(rt; save_refusal(&PathEntry::Nothing, BINDING, DUMP).is_none());
+    assert!(rt; save_refusal(&PathEntry::Other, BINDING, DUMP) == Some(SaveRefusal::Foreign));
     assert!(rt; at(1, 7, true) == Some(SaveRefusal::Binding));
     assert!(rt; at(1, 8, true) == Some(SaveRefusal::Dump));
     assert!(rt; at(2, 8, true).is_none());
     assert!(rt; at(1, 9, false) == Some(SaveRefusal::Foreign));
-    let stands = |id, is_ours| Present::File { id, is_ours };
+    let stands = |id, is_ours| PathEntry::File { id, is_ours };
     assert!(rt; is_one_file(&stands(DUMP, true), &stands(DUMP, false)));
     assert!(rt; !is_one_file(&stands(DUMP, true), &stands(BINDING, true)));
-    assert!(rt; !is_one_file(&Present::Nothing, &Present::Nothing));
+    assert!(rt; !is_one_file(&PathEntry::Nothing, &PathEntry::Nothing));
     let text = save_refusal_text(rt.alloc(), "a\u{202E}\u{1B}", SaveRefusal::Dump)?;
     let shown = b"vmecheck: nothing is written over a\\xE2\\x80\\xAE\\x1B: it is the dump\n";
     assert_eq!(rt; text.as_bytes(), shown.as_slice());

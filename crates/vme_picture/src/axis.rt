@@ -1,8 +1,8 @@
 //! The instants of a picture with their times, the break, and the other events.
 
 use crate::drawing::{
-    Area, BoxKind, PathKind, Point, WordStyle, push_box, push_number, push_path, push_point,
-    push_straight, push_words,
+    BoxFill, PathKind, Point, Rectangle, TextStyle, push_axis_line, push_box, push_number,
+    push_path, push_point, push_text_at,
 };
 use crate::layout::{CHARACTER, Layout, MARGIN, TOP};
 use crate::markup::Markup;
@@ -43,7 +43,7 @@ pub(crate) fn push_axis(
         push_number(markup, alloc, Point { x, y: INSTANTS }, u64::from(instant))?;
         push_number(markup, alloc, Point { x, y: TIMES }, time)?;
         push_point(&mut grid, alloc, b"M", Point { x, y: TOP })?;
-        push_straight(&mut grid, alloc, b"V", layout.bottom())?;
+        push_axis_line(&mut grid, alloc, b"V", layout.bottom())?;
     }
     push_path(markup, alloc, PathKind::Grid, grid.as_bytes())
 }
@@ -55,11 +55,11 @@ fn push_row_name(
     y: u64,
     name: &[u8],
 ) -> Result<(), AllocError> {
-    push_words(
+    push_text_at(
         markup,
         alloc,
         Point { x: MARGIN, y },
-        WordStyle::Plain,
+        TextStyle::Plain,
         name,
     )
 }
@@ -125,11 +125,11 @@ fn push_break(
         words.push(b" ")?;
         words.push(letters)?;
     }
-    push_event_line(markup, alloc, PathKind::Break, x, layout)?;
+    push_event_line(markup, alloc, PathKind::BreakMarker, x, layout)?;
     let width = (words.as_bytes().len() as u64)
         .saturating_mul(CHARACTER)
         .saturating_add(6);
-    let area = Area {
+    let area = Rectangle {
         corner: Point {
             x: x.saturating_sub(width / 2),
             y: MARKS - 10,
@@ -137,9 +137,9 @@ fn push_break(
         width,
         height: 13,
     };
-    push_box(markup, alloc, BoxKind::Black, area)?;
+    push_box(markup, alloc, BoxFill::Black, area)?;
     let at = Point { x, y: MARKS };
-    push_words(markup, alloc, at, WordStyle::Inverse, words.as_bytes())
+    push_text_at(markup, alloc, at, TextStyle::Inverse, words.as_bytes())
 }
 
 /// Adds the line of other events.
@@ -150,9 +150,9 @@ fn push_other(
     layout: &Layout,
     x: u64,
 ) -> Result<(), AllocError> {
-    push_event_line(markup, alloc, PathKind::Other, x, layout)?;
+    push_event_line(markup, alloc, PathKind::EventMarker, x, layout)?;
     let at = Point { x, y: MARKS };
-    push_words(markup, alloc, at, WordStyle::Middle, letters)
+    push_text_at(markup, alloc, at, TextStyle::Middle, letters)
 }
 
 /// Adds a line from the mark of an event down through all rows, but for the instant and the time.
@@ -165,8 +165,8 @@ fn push_event_line(
 ) -> Result<(), AllocError> {
     let mut points = Text::new(alloc);
     push_point(&mut points, alloc, b"M", Point { x, y: MARKS + 3 })?;
-    push_straight(&mut points, alloc, b"V", INSTANTS - 9)?;
+    push_axis_line(&mut points, alloc, b"V", INSTANTS - 9)?;
     push_point(&mut points, alloc, b"M", Point { x, y: TOP - 2 })?;
-    push_straight(&mut points, alloc, b"V", layout.bottom().saturating_add(2))?;
+    push_axis_line(&mut points, alloc, b"V", layout.bottom().saturating_add(2))?;
     push_path(markup, alloc, kind, points.as_bytes())
 }

@@ -1,8 +1,8 @@
 //! Buses by their values, each in a frame from where it begins to where it ends.
 
 use crate::drawing::{
-    Area, BoxKind, PathKind, Point, WordStyle, push_box, push_path, push_point, push_straight,
-    push_words,
+    BoxFill, PathKind, Point, Rectangle, TextStyle, push_axis_line, push_box, push_path,
+    push_point, push_text_at,
 };
 use crate::layout::{CHARACTER, Layout, MARGIN, ROW, SLOPE};
 use crate::markup::Markup;
@@ -27,7 +27,7 @@ pub(crate) fn push_buses(
             x: MARGIN,
             y: y.saturating_add(BASE),
         };
-        push_words(markup, alloc, at, WordStyle::Plain, row.name.as_bytes())?;
+        push_text_at(markup, alloc, at, TextStyle::Plain, row.name.as_bytes())?;
         push_values(markup, alloc, row, y, layout)?;
     }
     Ok(())
@@ -94,15 +94,15 @@ fn push_frame(
     let mut points = Text::new(alloc);
     push_point(&mut points, alloc, b"M", begin)?;
     push_point(&mut points, alloc, b"L", after_edge(from, high))?;
-    push_straight(&mut points, alloc, b"H", to)?;
+    push_axis_line(&mut points, alloc, b"H", to)?;
     push_point(&mut points, alloc, b"L", end)?;
     push_point(&mut points, alloc, b"L", Point { x: to, y: low })?;
-    push_straight(&mut points, alloc, b"H", from.saturating_add(SLOPE))?;
+    push_axis_line(&mut points, alloc, b"H", from.saturating_add(SLOPE))?;
     points.push(b"Z")?;
     let (kind, background) = if is_known {
-        (PathKind::Value, BoxKind::White)
+        (PathKind::Value, BoxFill::White)
     } else {
-        (PathKind::UnknownValue, BoxKind::Grey)
+        (PathKind::UnknownValue, BoxFill::Grey)
     };
     push_path(markup, alloc, kind, points.as_bytes())?;
     // the value stands on a box of its own, so that the line of an event doesn't go through it
@@ -110,7 +110,7 @@ fn push_frame(
         .saturating_mul(CHARACTER)
         .saturating_add(4);
     let x = (from.saturating_add(to) / 2).saturating_add(SLOPE / 2);
-    let area = Area {
+    let area = Rectangle {
         corner: Point {
             x: x.saturating_sub(width / 2),
             y: high.saturating_add(1),
@@ -123,7 +123,7 @@ fn push_frame(
         x,
         y: y.saturating_add(BASE),
     };
-    push_words(markup, alloc, at, WordStyle::Middle, value)
+    push_text_at(markup, alloc, at, TextStyle::Middle, value)
 }
 
 /// The point after an edge at this height.

@@ -1,26 +1,26 @@
-//! The elements of pictures: words, paths and boxes.
+//! The elements of pictures: texts, paths and boxes.
 
 use crate::markup::{Attribute, Attributes, Markup, Tag};
 use std::alloc::{AllocError, Global};
 use vme_text::Text;
 
-/// A place in a picture.
+/// A point of a picture.
 #[derive(Clone, Copy)]
 pub(crate) struct Point {
     pub x: u64,
     pub y: u64,
 }
 
-/// How words are set.
+/// How a text is set.
 #[derive(Clone, Copy)]
-pub(crate) enum WordStyle {
-    /// They begin at their place.
+pub(crate) enum TextStyle {
+    /// It begins at its point.
     Plain,
     /// The same, in bold.
     Bold,
-    /// Their middle is at their place.
+    /// It is centred on its point.
     Middle,
-    /// The same, in bold and white.
+    /// It is centred on its point, bold and white.
     Inverse,
 }
 
@@ -29,40 +29,40 @@ pub(crate) enum WordStyle {
 pub(crate) enum PathKind {
     /// The lines at which the columns begin.
     Grid,
-    /// The line of another event.
-    Other,
-    /// The line of the break.
-    Break,
-    /// The levels of a line.
+    /// The marker of an event other than the break.
+    EventMarker,
+    /// The marker of the break.
+    BreakMarker,
+    /// The levels of a bus line.
     Wave,
-    /// Those of the line of the break.
-    BrokenWave,
-    /// A value.
+    /// The levels of the bus line that the break names.
+    HighlightedWave,
+    /// The value of several bus lines.
     Value,
-    /// One of which not all is known.
+    /// The same, where not all of it is known.
     UnknownValue,
 }
 
 /// How a path is drawn.
 #[derive(Clone, Copy)]
-struct PathLook {
+struct PathStyle {
     fill: &'static str,
     stroke: &'static str,
     width: &'static str,
     dashes: &'static str,
 }
 
-fn look_of(kind: PathKind) -> PathLook {
+fn style_of(kind: PathKind) -> PathStyle {
     let (fill, stroke, width, dashes) = match kind {
         PathKind::Grid => ("none", "#bbb", "0.5", ""),
-        PathKind::Other => ("none", "#000", "0.8", "3 2"),
-        PathKind::Break => ("none", "#000", "1.2", ""),
+        PathKind::EventMarker => ("none", "#000", "0.8", "3 2"),
+        PathKind::BreakMarker => ("none", "#000", "1.2", ""),
         PathKind::Wave => ("none", "#000", "1", ""),
-        PathKind::BrokenWave => ("none", "#000", "1.6", ""),
+        PathKind::HighlightedWave => ("none", "#000", "1.6", ""),
         PathKind::Value => ("none", "#000", "0.8", ""),
         PathKind::UnknownValue => ("#ddd", "#000", "0.8", ""),
     };
-    PathLook {
+    PathStyle {
         fill,
         stroke,
         width,
@@ -72,7 +72,7 @@ fn look_of(kind: PathKind) -> PathLook {
 
 /// What a box is filled with.
 #[derive(Clone, Copy)]
-pub(crate) enum BoxKind {
+pub(crate) enum BoxFill {
     /// White.
     White,
     /// The grey of a value of which not all is known.
@@ -83,19 +83,19 @@ pub(crate) enum BoxKind {
     Hatched,
 }
 
-/// The name by which boxes refer to what they are hatched with.
-pub(crate) const HATCHING: &str = "unknown";
+/// The id of the pattern with which boxes are hatched.
+pub(crate) const HATCHING_ID: &str = "unknown";
 
-/// A box, by its left upper corner.
+/// A box, by its upper left corner.
 #[derive(Clone, Copy)]
-pub(crate) struct Area {
+pub(crate) struct Rectangle {
     pub corner: Point,
     pub width: u64,
     pub height: u64,
 }
 
-/// Adds an element on a line of its own.
-pub(crate) fn push_line_of(
+/// Adds an element and an end of line.
+pub(crate) fn push_element_line(
     markup: &mut Markup,
     alloc: Global,
     tag: Tag,
@@ -106,33 +106,33 @@ pub(crate) fn push_line_of(
     markup.push_end_of_line()
 }
 
-/// Adds words at a place.
-pub(crate) fn push_words(
+/// Adds a text at a point.
+pub(crate) fn push_text_at(
     markup: &mut Markup,
     alloc: Global,
     at: Point,
-    style: WordStyle,
-    words: &[u8],
+    style: TextStyle,
+    text: &[u8],
 ) -> Result<(), AllocError> {
     let mut attributes = Attributes::new(alloc);
     attributes.push_number(alloc, Attribute::X, at.x)?;
     attributes.push_number(alloc, Attribute::Y, at.y)?;
     match style {
-        WordStyle::Plain => {}
-        WordStyle::Bold => attributes.push(alloc, Attribute::FontWeight, b"bold")?,
-        WordStyle::Middle => attributes.push(alloc, Attribute::TextAnchor, b"middle")?,
-        WordStyle::Inverse => {
+        TextStyle::Plain => {}
+        TextStyle::Bold => attributes.push(alloc, Attribute::FontWeight, b"bold")?,
+        TextStyle::Middle => attributes.push(alloc, Attribute::TextAnchor, b"middle")?,
+        TextStyle::Inverse => {
             attributes.push(alloc, Attribute::TextAnchor, b"middle")?;
             attributes.push(alloc, Attribute::FontWeight, b"bold")?;
             attributes.push(alloc, Attribute::Fill, b"#fff")?;
         }
     }
     let mut inner = Markup::new(alloc);
-    inner.push_characters(alloc, words)?;
-    push_line_of(markup, alloc, Tag::Text, &attributes, &inner)
+    inner.push_characters(alloc, text)?;
+    push_element_line(markup, alloc, Tag::Text, &attributes, &inner)
 }
 
-/// Adds a number, its middle at a place.
+/// Adds a number, centred on a point.
 pub(crate) fn push_number(
     markup: &mut Markup,
     alloc: Global,
@@ -141,7 +141,7 @@ pub(crate) fn push_number(
 ) -> Result<(), AllocError> {
     let mut digits = Text::new(alloc);
     digits.push_decimal(alloc, number)?;
-    push_words(markup, alloc, at, WordStyle::Middle, digits.as_bytes())
+    push_text_at(markup, alloc, at, TextStyle::Middle, digits.as_bytes())
 }
 
 /// Adds a path through these points, if it has some.
@@ -154,7 +154,7 @@ pub(crate) fn push_path(
     if points.is_empty() {
         return Ok(());
     }
-    let look = look_of(kind);
+    let look = style_of(kind);
     let mut attributes = Attributes::new(alloc);
     attributes.push(alloc, Attribute::D, points)?;
     attributes.push(alloc, Attribute::Fill, look.fill.as_bytes())?;
@@ -163,15 +163,15 @@ pub(crate) fn push_path(
     if !look.dashes.is_empty() {
         attributes.push(alloc, Attribute::StrokeDasharray, look.dashes.as_bytes())?;
     }
-    push_line_of(markup, alloc, Tag::Path, &attributes, &Markup::new(alloc))
+    push_element_line(markup, alloc, Tag::Path, &attributes, &Markup::new(alloc))
 }
 
 /// Adds a box.
 pub(crate) fn push_box(
     markup: &mut Markup,
     alloc: Global,
-    kind: BoxKind,
-    area: Area,
+    kind: BoxFill,
+    area: Rectangle,
 ) -> Result<(), AllocError> {
     let mut attributes = Attributes::new(alloc);
     attributes.push_number(alloc, Attribute::X, area.corner.x)?;
@@ -179,20 +179,20 @@ pub(crate) fn push_box(
     attributes.push_number(alloc, Attribute::Width, area.width)?;
     attributes.push_number(alloc, Attribute::Height, area.height)?;
     match kind {
-        BoxKind::White => attributes.push(alloc, Attribute::Fill, b"#fff")?,
-        BoxKind::Grey => attributes.push(alloc, Attribute::Fill, b"#ddd")?,
-        BoxKind::Black => attributes.push(alloc, Attribute::Fill, b"#000")?,
-        BoxKind::Hatched => {
+        BoxFill::White => attributes.push(alloc, Attribute::Fill, b"#fff")?,
+        BoxFill::Grey => attributes.push(alloc, Attribute::Fill, b"#ddd")?,
+        BoxFill::Black => attributes.push(alloc, Attribute::Fill, b"#000")?,
+        BoxFill::Hatched => {
             let mut fill = Text::new(alloc);
             fill.push(b"url(#")?;
-            fill.push(HATCHING.as_bytes())?;
+            fill.push(HATCHING_ID.as_bytes())?;
             fill.push(b")")?;
             attributes.push(alloc, Attribute::Fill, fill.as_bytes())?;
             attributes.push(alloc, Attribute::Stroke, b"#000")?;
             attributes.push(alloc, Attribute::StrokeWidth, b"0.5")?;
         }
     }
-    push_line_of(markup, alloc, Tag::Rect, &attributes, &Markup::new(alloc))
+    push_element_line(markup, alloc, Tag::Rect, &attributes, &Markup::new(alloc))
 }
 
 /// Appends what a path does, and to where: `M` goes to a point, and `L` draws to it.
@@ -209,7 +209,7 @@ pub(crate) fn push_point(
 }
 
 /// Appends a line that is drawn to this height, `V`, or this far to the right, `H`.
-pub(crate) fn push_straight(
+pub(crate) fn push_axis_line(
     points: &mut Text,
     alloc: Global,
     what: &[u8],

@@ -9,7 +9,7 @@
 //! - `layout`: where the columns and the rows stand.
 //! - `axis`, `waves`, `buses`, `paragraphs`: the instants with the break and the other events; lines
 //!   by their levels; buses by their values; what is said below.
-//! - `drawing`: words, paths and boxes.
+//! - `drawing`: texts, paths and boxes.
 //!
 //! # What is proved
 //!

@@ -1,7 +1,7 @@
 //! What is said below a picture: the rule, what is open, the line, and the other events.
 
 use crate::axis::letter;
-use crate::drawing::{Point, WordStyle, push_words};
+use crate::drawing::{Point, TextStyle, push_text_at};
 use crate::layout::{CHARACTER, LINE, MARGIN};
 use crate::markup::Markup;
 use std::alloc::{AllocError, Global};
@@ -59,7 +59,7 @@ pub(crate) fn push_paragraphs(
                 x: MARGIN.saturating_add(CHARACTER.saturating_mul(set_in as u64)),
                 y,
             };
-            push_words(markup, alloc, at, WordStyle::Plain, &line[set_in..])?;
+            push_text_at(markup, alloc, at, TextStyle::Plain, &line[set_in..])?;
         }
     }
     Ok(())

@@ -1,8 +1,8 @@
 //! Lines by their levels: High above, Low below, and hatched where the level isn't known.
 
 use crate::drawing::{
-    Area, BoxKind, PathKind, Point, WordStyle, push_box, push_path, push_point, push_straight,
-    push_words,
+    BoxFill, PathKind, Point, Rectangle, TextStyle, push_axis_line, push_box, push_path,
+    push_point, push_text_at,
 };
 use crate::layout::{Layout, MARGIN, ROW, SLOPE};
 use crate::markup::Markup;
@@ -58,11 +58,11 @@ fn push_name(
         y: y.saturating_add(BASE),
     };
     let style = if is_broken {
-        WordStyle::Bold
+        TextStyle::Bold
     } else {
-        WordStyle::Plain
+        TextStyle::Plain
     };
-    push_words(markup, alloc, at, style, label.as_bytes())
+    push_text_at(markup, alloc, at, style, label.as_bytes())
 }
 
 /// Where a line of this level stands in the row that begins at y, if its level is known.
@@ -93,10 +93,10 @@ fn push_known(
         }
     }
     if before.is_some() {
-        push_straight(&mut points, alloc, b"H", layout.edge(levels.len() as u64))?;
+        push_axis_line(&mut points, alloc, b"H", layout.edge(levels.len() as u64))?;
     }
     let kind = if is_broken {
-        PathKind::BrokenWave
+        PathKind::HighlightedWave
     } else {
         PathKind::Wave
     };
@@ -112,7 +112,7 @@ fn push_edge(
     x: u64,
 ) -> Result<(), AllocError> {
     if before.is_some() {
-        push_straight(points, alloc, b"H", x)?;
+        push_axis_line(points, alloc, b"H", x)?;
     }
     match now {
         Some(y) if before.is_some() => {
@@ -150,7 +150,7 @@ fn push_unknown(
             begin = next;
         } else if !is_unknown(levels, next) {
             let x = layout.edge(begin as u64);
-            let area = Area {
+            let area = Rectangle {
                 corner: Point {
                     x,
                     y: y.saturating_add(INSET),
@@ -158,7 +158,7 @@ fn push_unknown(
                 width: layout.edge(next as u64).saturating_sub(x),
                 height: ROW - 2 * INSET,
             };
-            push_box(markup, alloc, BoxKind::Hatched, area)?;
+            push_box(markup, alloc, BoxFill::Hatched, area)?;
             begin = next;
         }
     }

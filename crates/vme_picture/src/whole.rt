@@ -8,7 +8,7 @@ ghost use Rattle.vme_text.specs.Visible.{IsVisible};
 use crate::axis::{push_axis, push_events};
 use crate::buses::push_buses;
 use crate::drawing::{
-    Area, BoxKind, HATCHING, Point, WordStyle, push_box, push_line_of, push_words,
+    BoxFill, HATCHING_ID, Point, Rectangle, TextStyle, push_box, push_element_line, push_text_at,
 };
 use crate::layout::{LINE, Layout, MARGIN, WIDTH};
 use crate::markup::{Attribute, Attributes, Markup, Tag, element_text};
@@ -154,19 +154,19 @@ fn push_head(
 ) -> Result<(), AllocError> {
     let mut called = Markup::new(alloc);
     called.push_characters(alloc, title)?;
-    push_line_of(markup, alloc, Tag::Title, &Attributes::new(alloc), &called)?;
+    push_element_line(markup, alloc, Tag::Title, &Attributes::new(alloc), &called)?;
     push_hatching(markup, alloc)?;
-    let page = Area {
+    let page = Rectangle {
         corner: Point { x: 0, y: 0 },
         width: WIDTH,
         height,
     };
-    push_box(markup, alloc, BoxKind::White, page)?;
+    push_box(markup, alloc, BoxFill::White, page)?;
     let at = Point {
         x: MARGIN,
         y: MARGIN + 10,
     };
-    push_words(markup, alloc, at, WordStyle::Bold, title)
+    push_text_at(markup, alloc, at, TextStyle::Bold, title)
 }
 
 /// Adds what the boxes of levels that aren't known are hatched with.
@@ -178,11 +178,11 @@ fn push_hatching(markup: &mut Markup, alloc: Global) -> Result<(), AllocError> {
     let mut strokes = Markup::new(alloc);
     strokes.push_element(alloc, Tag::Path, &stroke, &Markup::new(alloc))?;
     let mut attributes = Attributes::new(alloc);
-    attributes.push(alloc, Attribute::Id, HATCHING.as_bytes())?;
+    attributes.push(alloc, Attribute::Id, HATCHING_ID.as_bytes())?;
     attributes.push_number(alloc, Attribute::Width, 4)?;
     attributes.push_number(alloc, Attribute::Height, 4)?;
     attributes.push(alloc, Attribute::PatternUnits, b"userSpaceOnUse")?;
     let mut pattern = Markup::new(alloc);
     pattern.push_element(alloc, Tag::Pattern, &attributes, &strokes)?;
-    push_line_of(markup, alloc, Tag::Defs, &Attributes::new(alloc), &pattern)
+    push_element_line(markup, alloc, Tag::Defs, &Attributes::new(alloc), &pattern)
 }

@@ -23,8 +23,8 @@ use Rattle.vme_program.specs.Saves.{TellsNoMemory}
 use Rattle.vme_program.specs.declared.audit.NoWords.{NoWords}
 use Rattle.vme_program.specs.declared.audit.NoWords.TheVariants.{Faulty}
 use Rattle.vme_program.specs.declared.environment.Environment.{Ghosts as Environment}
-use Rattle.vme_program.specs.declared.environment.Written.{Written}
-use Rattle.vme_program.specs.declared.environment.Written.TheVariants as written
+use Rattle.vme_program.specs.declared.environment.WriteResult.{WriteResult}
+use Rattle.vme_program.specs.declared.environment.WriteResult.TheVariants as written
 
 -- ---- the words
 
@@ -75,7 +75,7 @@ abbrev pub EndsForMemory : Writing × Writing → Writing × Writing → ℕ →
 EndsForMemory out err status = (out.1 ≡ out.0) × TellsNoMemory err status
 
 -- the status by how the writing of the file ended, where it would be this one
-abbrev pub EndsCases : List ℕ → Written → ℕ → Writing × Writing → ℕ → Type 0
+abbrev pub EndsCases : List ℕ → WriteResult → ℕ → Writing × Writing → ℕ → Type 0
 EndsCases path written.Whole first err status = (err.1 ≡ err.0) × (status ≡ first)
 EndsCases path other first err status = RefusesFile path (codes "cannot write") 5 err status
 
@@ -86,7 +86,7 @@ module _ {S R : Type 0} (outside : Environment S R) (s : S) where
   abbrev pub IsDumpOf : List ℕ → NamedReading → Type 0
   IsDumpOf name named =
       (named.name ≡ name)
-      × (((name ≡ input_name) × outside.is_input s named.dump)
+      × (((name ≡ input_name) × outside.gives_input s named.dump)
       ⊎ ((name ≢ input_name) × outside.opens s name (Some named.dump)))
 
   -- the first of these names that can't be opened
@@ -99,8 +99,8 @@ module _ {S R : Type 0} (outside : Environment S R) (s : S) where
   -- which file a dump is, if it can be told
   abbrev pub IsFileOf : NamedReading → Option FileId → Type 0
   IsFileOf named id =
-      ((named.name ≡ input_name) × outside.leads_to s input_path id)
-      ⊎ ((named.name ≢ input_name) × outside.is_file s named.dump id)
+      ((named.name ≡ input_name) × outside.is_at_path s input_path id)
+      ⊎ ((named.name ≢ input_name) × outside.reads_file s named.dump id)
 
   -- ---- the file of test cases
 
@@ -111,19 +111,19 @@ module _ {S R : Type 0} (outside : Environment S R) (s : S) where
   -- a path leads to the binding, which is this file, or to a dump
   abbrev pub LeadsToInput : List ℕ → FileId → List NamedReading → Type 0
   LeadsToInput path binding dumps =
-      (id : FileId) × outside.leads_to s path (Some id)
+      (id : FileId) × outside.is_at_path s path (Some id)
       × ((id ≡ binding) ⊎ ((named : NamedReading) × Contains dumps named × IsFileOf named (Some id)))
 
   -- or to none of them
   abbrev pub LeadsToNoInput : List ℕ → FileId → List NamedReading → Type 0
   LeadsToNoInput path binding dumps =
-      (led : Option FileId) × outside.leads_to s path led
+      (led : Option FileId) × outside.is_at_path s path led
       × IfSome led (λ id. (id ≢ binding) × All (IsOther id) dumps)
 
   -- test cases are written into the file at a path, behind an audit with this status; for want of memory they aren't
   abbrev pub SavesCases : List ℕ → ℕ → Writing × Writing → ℕ → Type 0
   SavesCases path first err status =
-      ((text : List ℕ) × (ended : Written)
+      ((text : List ℕ) × (ended : WriteResult)
       × outside.writes s path text ended × EndsCases path ended first err status)
       ⊎ (TriesToWrite err.0 err.1 (line_of (refusal_text Memory)) × (status ≡ (if first == 5 then 5 else 4)))
 
@@ -149,8 +149,8 @@ module _ {S R : Type 0} (outside : Environment S R) (s : S) where
     abbrev pub AuditsAndSaves : List ℕ → Reading × Reading → List NamedReading
         → Writing × Writing → Writing × Writing → ℕ → Type 0
     AuditsAndSaves path binding dumps out err status =
-        (outside.is_file s binding.0 None × Tells (refusal_answer (CannotOpen Binding)) out err status)
-        ⊎ ((id : FileId) × outside.is_file s binding.0 (Some id)
+        (outside.reads_file s binding.0 None × Tells (refusal_answer (CannotOpen Binding)) out err status)
+        ⊎ ((id : FileId) × outside.reads_file s binding.0 (Some id)
         × ((LeadsToInput path id dumps × (out.1 ≡ out.0) × RefusesFile path (codes "is an input") 3 err status)
         ⊎ (LeadsToNoInput path id dumps × AuditsThenSaves path binding dumps out err status)))
 

@@ -10,7 +10,7 @@ use Rattle.vme_answer.specs.declared.refusal.Refusal.TheVariants.{CannotOpen}
 use Rattle.vme_text_commands.specs.Explained.{Explains}
 use Rattle.vme_explain.specs.Saving.{is_one_file}
 use Rattle.vme_explain.specs.declared.saving.FileId.{FileId}
-use Rattle.vme_explain.specs.declared.saving.Present.{Present}
+use Rattle.vme_explain.specs.declared.saving.PathEntry.{PathEntry}
 use Rattle.vme_explain.specs.declared.saving.SaveRefusal.{SaveRefusal}
 use Rattle.vme_picture.specs.Pictures.{IsPicture}
 use Rattle.vme_stream.specs.Outputs.{Writes}
@@ -38,7 +38,7 @@ module _ {S R : Type 0} (outside : Environment S R) (s : S) where
   -- whether two paths are one, or one file stands at both
   abbrev pub IsOnePlace : List ℕ → List ℕ → Bool → Type 0
   IsOnePlace one other both =
-      (a b : Present) × outside.stands_at s one a × outside.stands_at s other b
+      (a b : PathEntry) × outside.has_entry s one a × outside.has_entry s other b
       × (both ≡ (bytes_eq one other || is_one_file a b))
 
   -- where files are wanted at two paths, these are two places, or they are one
@@ -53,20 +53,20 @@ module _ {S R : Type 0} (outside : Environment S R) (s : S) where
   module _ (inputs : InputIds) where
     -- a file may be written at this path, if one is wanted there
     abbrev pub IsAllowed : Option (List ℕ) → Type 0
-    IsAllowed word = MatchOption word (Unit {0}) (λ path. MayBeSaved (outside.stands_at s) path inputs None)
+    IsAllowed word = MatchOption word (Unit {0}) (λ path. MayBeSaved (outside.has_entry s) path inputs None)
 
     -- one is wanted there, and may not be written
     abbrev pub IsRefusedAt : Option (List ℕ) → Type 0
     IsRefusedAt word =
         (path : List ℕ) × (refusal : SaveRefusal) × (word ≡ Some path)
-        × MayBeSaved (outside.stands_at s) path inputs (Some refusal)
+        × MayBeSaved (outside.has_entry s) path inputs (Some refusal)
 
     -- these bytes are put at this path, if a file is wanted there
     abbrev pub SavesIfAsked : Option (List ℕ) → List ℕ → ℕ → Writing × Writing → ℕ → Type 0
     SavesIfAsked word bytes first err status =
         MatchOption word
         ((err.1 ≡ err.0) × (status ≡ first))
-        (λ path. Saves (outside.stands_at s) (outside.puts s) path inputs bytes first err status)
+        (λ path. Saves (outside.has_entry s) (outside.replaces s) path inputs bytes first err status)
 
   module _ (order : ExplainOrder) where
     -- each file that is wanted may be written, or one may not
@@ -109,16 +109,16 @@ module _ {S R : Type 0} (outside : Environment S R) (s : S) where
     -- it can't be told which file an input is: that is told as one that can't be opened
     abbrev pub IsNoFile : Input → Reading → Writing × Writing → Writing × Writing → ℕ → Type 0
     IsNoFile input told out err status =
-        outside.is_file s told None × Tells (refusal_answer (CannotOpen input)) out err status
+        outside.reads_file s told None × Tells (refusal_answer (CannotOpen input)) out err status
 
     -- the inputs are files, of the binding first
     abbrev pub ExplainsAndSaves : Reading × Reading → Reading × Reading
         → Writing × Writing → Writing × Writing → ℕ → Type 0
     ExplainsAndSaves binding dump out err status =
         IsNoFile Binding binding.0 out err status
-        ⊎ ((b : FileId) × outside.is_file s binding.0 (Some b)
+        ⊎ ((b : FileId) × outside.reads_file s binding.0 (Some b)
         × (IsNoFile Dump dump.0 out err status
-        ⊎ ((d : FileId) × outside.is_file s dump.0 (Some d)
+        ⊎ ((d : FileId) × outside.reads_file s dump.0 (Some d)
         × ExplainsUnlessRefused (record { binding = b; dump = d }) binding dump out err status)))
 
     -- the files were opened: it is explained, and files are written where words name them

@@ -12,10 +12,10 @@ SaysFirst false old new = new ≡ old
 
 -- standard input is judged by the built-in binding, without a skew, in blocks of the usual size
 abbrev pub ChecksInput : (Reading → Type 0) → (Bool → Type 0) → Writing × Writing → Writing × Writing → ℕ → Type 0
-ChecksInput is_input on_terminal out err status =
+ChecksInput gives_input on_terminal out err status =
     (is_terminal : Bool) × (said : Writing) × (binding input : Reading × Reading)
     × on_terminal is_terminal
     × SaysFirst is_terminal err.0 said
     × (binding.0.left ≡ Some BUILT_IN.now)
-    × is_input input.0
+    × gives_input input.0
     × ChecksSettled 0 binding input BLOCK out (said, err.1) status

@@ -4,12 +4,12 @@ use Rattle.vme_trace.specs.Streams.{Writing}
 use Rattle.vme_answer.specs.Texts.{cannot_write_text, line_of, refusal_text}
 use Rattle.vme_answer.specs.declared.refusal.Refusal.TheVariants.{Memory}
 use Rattle.vme_explain.specs.Saving.{save_refusal}
-use Rattle.vme_explain.specs.declared.saving.Present.{Present}
+use Rattle.vme_explain.specs.declared.saving.PathEntry.{PathEntry}
 use Rattle.vme_explain.specs.declared.saving.SaveRefusal.{SaveRefusal}
 use Rattle.vme_stream.specs.Outputs.{TriesToWrite}
 use Rattle.vme_program.specs.declared.save.InputIds.{InputIds}
-use Rattle.vme_program.specs.declared.environment.Written.{Written}
-use Rattle.vme_program.specs.declared.environment.Written.TheVariants as written
+use Rattle.vme_program.specs.declared.environment.WriteResult.{WriteResult}
+use Rattle.vme_program.specs.declared.environment.WriteResult.TheVariants as written
 
 -- nothing is written for want of memory, and that is told
 abbrev pub TellsNoMemory : Writing × Writing → ℕ → Type 0
@@ -21,22 +21,22 @@ RefusesPlace err status =
     ((text : List ℕ) × TriesToWrite err.0 err.1 text × (status ≡ 3)) ⊎ TellsNoMemory err status
 
 -- by what stands at the path a file may be written there, or this is why it may not
-abbrev pub MayBeSaved : (List ℕ → Present → Type 0) → List ℕ → InputIds → Option SaveRefusal → Type 0
-MayBeSaved stands_at path inputs refusal =
-    (p : Present) × stands_at path p × (refusal ≡ save_refusal p inputs.binding inputs.dump)
+abbrev pub MayBeSaved : (List ℕ → PathEntry → Type 0) → List ℕ → InputIds → Option SaveRefusal → Type 0
+MayBeSaved has_entry path inputs refusal =
+    (p : PathEntry) × has_entry path p × (refusal ≡ save_refusal p inputs.binding inputs.dump)
 
 -- the status by how the writing of a file ended, where it would be this one
-abbrev pub EndsWritten : Written → ℕ → Writing × Writing → ℕ → Type 0
-EndsWritten written.Whole first err status = (err.1 ≡ err.0) × (status ≡ first)
-EndsWritten written.Failed first err status =
+abbrev pub EndsWriting : WriteResult → ℕ → Writing × Writing → ℕ → Type 0
+EndsWriting written.Whole first err status = (err.1 ≡ err.0) × (status ≡ first)
+EndsWriting written.Failed first err status =
     TriesToWrite err.0 err.1 (line_of cannot_write_text) × (status ≡ 5)
-EndsWritten written.Memory first err status = TellsNoMemory err status
+EndsWriting written.Memory first err status = TellsNoMemory err status
 
-module _ (stands_at : List ℕ → Present → Type 0) (puts : List ℕ → List ℕ → Written → Type 0) (path : List ℕ)
+module _ (has_entry : List ℕ → PathEntry → Type 0) (replaces : List ℕ → List ℕ → WriteResult → Type 0) (path : List ℕ)
     (inputs : InputIds) where
   -- these bytes are put at the path, unless what stands there may not be written over
   abbrev pub Saves : List ℕ → ℕ → Writing × Writing → ℕ → Type 0
   Saves bytes first err status =
-      ((refusal : SaveRefusal) × MayBeSaved stands_at path inputs (Some refusal) × RefusesPlace err status)
-      ⊎ (MayBeSaved stands_at path inputs None
-      × ((end : Written) × puts path bytes end × EndsWritten end first err status))
+      ((refusal : SaveRefusal) × MayBeSaved has_entry path inputs (Some refusal) × RefusesPlace err status)
+      ⊎ (MayBeSaved has_entry path inputs None
+      × ((end : WriteResult) × replaces path bytes end × EndsWriting end first err status))

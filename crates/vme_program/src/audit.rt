@@ -13,7 +13,7 @@ ghost use Rattle.vme_program.specs.declared.audit.NoDumps.TheVariants.{Memory as
 ghost use Rattle.vme_program.specs.declared.audit.NoWords.TheVariants.{Memory};
 ghost use Rattle.vme_words.specs.OrderFaults.{IsOfWords};
 
-use crate::environment::{Environment, Written};
+use crate::environment::{Environment, WriteResult};
 use crate::opening::{refuse, refuse_input};
 use crate::save::say;
 use std::alloc::{AllocError, AllocFailed, Global};
@@ -429,11 +429,17 @@ fn save_cases<S: Environment, E: Sink>(
 }
 
 /// Says that test cases aren't written, if they aren't. The answer is this exit status, or another where they aren't.
-fn end_cases<E: Sink>(alloc: Global, path: &str, written: Written, status: u8, err: &mut E) -> u8
+fn end_cases<E: Sink>(
+    alloc: Global,
+    path: &str,
+    written: WriteResult,
+    status: u8,
+    err: &mut E,
+) -> u8
     ensures { EndsCases path.now written status (E.writing err.old, E.writing err.new) result }
 {
     match written {
-        Written::Whole => status,
+        WriteResult::Whole => status,
         _ => refuse_file(alloc, path, b"cannot write", 5, err),
     }
 }

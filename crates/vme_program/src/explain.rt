@@ -12,8 +12,8 @@ use crate::opening::{open_recording, refuse_input};
 use crate::save::{InputIds, refusal_at, refuse_place, save};
 use std::alloc::Global;
 use vme_answer::Input;
-use vme_text_commands::explain::{ExplainedFiles, InputNames, explain};
 use vme_explain::{SaveRefusal, is_one_file};
+use vme_text_commands::explain::{ExplainedFiles, InputNames, explain};
 use vme_trace::{Sink, Source};
 use vme_words::ExplainOrder;
 
@@ -232,8 +232,8 @@ fn shared_by<'a, S: Environment>(
 fn is_one_place<S: Environment>(environment: &S, one: &str, other: &str) -> bool
     ensures { IsOnePlace S.Environment environment.now one.now other.now result }
 {
-    let first = environment.present_at(one);
-    let second = environment.present_at(other);
+    let first = environment.entry_at(one);
+    let second = environment.entry_at(other);
     let is_one_path = one == other;
     is_one_path || is_one_file(&first, &second)
 }

@@ -5,8 +5,8 @@ ghost use Rattle.vme_program.specs.Texts.{IsKindOf, NamesNoKind, TellsFaults};
 ghost use Rattle.vme_words.specs.OrderFaults.{IsOfWords};
 
 use std::alloc::Global;
-use vme_text_commands::tell_faults;
 use vme_faults::Kind;
+use vme_text_commands::tell_faults;
 use vme_trace::Sink;
 use vme_words::{FaultsOrder, OrderFault, Task, task_fault};
 

@@ -20,7 +20,7 @@ pub fn check_input<R: Threads + Sync, S: Environment, O: Sink, E: Sink>(
     out: &mut O,
     err: &mut E,
 ) -> u8
-    ensures { ChecksInput (S.is_input environment.now) (S.on_terminal environment.now)
+    ensures { ChecksInput (S.gives_input environment.now) (S.on_terminal environment.now)
         (O.writing out.old, O.writing out.new) (E.writing err.old, E.writing err.new) result }
 {
     say_first(environment.is_terminal(), err);

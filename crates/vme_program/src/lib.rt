@@ -68,5 +68,5 @@ mod rules;
 mod save;
 mod variables;
 
-pub use environment::{Environment, Written};
+pub use environment::{Environment, WriteResult};
 pub use program::run_words;

@@ -39,7 +39,7 @@ pub fn run_words<R: Threads + Sync, S: Environment, O: Sink, E: Sink>(
     err: &mut E,
 ) -> Result<u8, OrderFault>
     ensures none { length words.now ≤ 1 → IfOk result (λ status. ChecksInput
-        (S.is_input environment.now) (S.on_terminal environment.now)
+        (S.gives_input environment.now) (S.on_terminal environment.now)
         (O.writing out.old, O.writing out.new) (E.writing err.old, E.writing err.new) status) }
     ensures some { 1 < length words.now → IfOk result (λ status. (asked : OrderIs)
         × IsOrder asked (subcommand_of vmecheck_app (map string_bytes words.now))

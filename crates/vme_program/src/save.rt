@@ -1,9 +1,9 @@
 //! The file of the waveform viewer: over no input, and over nothing that the program didn't write itself.
 
-ghost use Rattle.vme_program.specs.Saves.{EndsWritten, MayBeSaved, RefusesPlace, Saves};
+ghost use Rattle.vme_program.specs.Saves.{EndsWriting, MayBeSaved, RefusesPlace, Saves};
 ghost use Rattle.vme_stream.specs.Outputs.{TriesToWrite};
 
-use crate::environment::{Environment, Written};
+use crate::environment::{Environment, WriteResult};
 use crate::opening::refuse;
 use std::alloc::Global;
 use vme_answer::{Refusal, cannot_write_line};
@@ -26,9 +26,9 @@ pub(crate) fn refusal_at<S: Environment>(
     path: &str,
     inputs: InputIds,
 ) -> Option<SaveRefusal>
-    ensures { MayBeSaved (S.stands_at environment.now) path.now inputs result }
+    ensures { MayBeSaved (S.has_entry environment.now) path.now inputs result }
 {
-    save_refusal(&environment.present_at(path), inputs.binding, inputs.dump)
+    save_refusal(&environment.entry_at(path), inputs.binding, inputs.dump)
 }
 
 /// Writes a file at a path, if it may. The answer is this exit status, or another where the file isn't written.
@@ -42,26 +42,26 @@ pub(crate) fn save<S: Environment, E: Sink>(
     status: u8,
     err: &mut E,
 ) -> u8
-    ensures { Saves (S.stands_at environment.now) (S.puts environment.now) path.now inputs bytes.now status
+    ensures { Saves (S.has_entry environment.now) (S.replaces environment.now) path.now inputs bytes.now status
         (E.writing err.old, E.writing err.new) result }
 {
     match refusal_at(environment, path, inputs) {
         Some(refusal) => refuse_place(alloc, path, refusal, err),
-        None => end_written(environment.put_file(alloc, path, bytes), status, err),
+        None => end_writing(environment.replace_file(alloc, path, bytes), status, err),
     }
 }
 
 /// Says that a file isn't written, if it isn't. The answer is this exit status, or another where it isn't.
-fn end_written<E: Sink>(written: Written, status: u8, err: &mut E) -> u8
-    ensures { EndsWritten written status (E.writing err.old, E.writing err.new) result }
+fn end_writing<E: Sink>(written: WriteResult, status: u8, err: &mut E) -> u8
+    ensures { EndsWriting written status (E.writing err.old, E.writing err.new) result }
 {
     match written {
-        Written::Whole => status,
-        Written::Failed => {
+        WriteResult::Whole => status,
+        WriteResult::Failed => {
             complain(err, cannot_write_line());
             5
         }
-        Written::Memory => refuse(&Refusal::Memory, err),
+        WriteResult::Memory => refuse(&Refusal::Memory, err),
     }
 }
 

@@ -3,8 +3,8 @@ use std::cell::Cell;
 use std::process::Abort;
 use std::test::Fail;
 use std::thread::Threads;
-use vme_explain::{FileId, Present};
-use vme_program::{Environment, Written, run_words};
+use vme_explain::{FileId, PathEntry};
+use vme_program::{Environment, WriteResult, run_words};
 use vme_stream::Bytes;
 use vme_trace::{Failed, Sink};
 
@@ -34,7 +34,7 @@ $upscope $end\n$scope module vmecheck $end $var string 1 ! tenure $end ";
 struct Shelf<'a> {
     is_terminal: bool,
     part: &'a [u8],
-    puts: Cell<u32>,
+    replaces: Cell<u32>,
     writes: Cell<u32>,
 }
 
@@ -43,17 +43,17 @@ impl<'a> Environment for Shelf<'a> {
 
     ghost opens = { λ _ _ _. Unit {0} };
 
-    ghost is_input = { λ _ _. Unit {0} };
+    ghost gives_input = { λ _ _. Unit {0} };
 
     ghost on_terminal = { λ _ _. Unit {0} };
 
-    ghost is_file = { λ _ _ _. Unit {0} };
+    ghost reads_file = { λ _ _ _. Unit {0} };
 
-    ghost leads_to = { λ _ _ _. Unit {0} };
+    ghost is_at_path = { λ _ _ _. Unit {0} };
 
-    ghost stands_at = { λ _ _ _. Unit {0} };
+    ghost has_entry = { λ _ _ _. Unit {0} };
 
-    ghost puts = { λ _ _ _ _. Unit {0} };
+    ghost replaces = { λ _ _ _ _. Unit {0} };
 
     ghost writes = { λ _ _ _ _. Unit {0} };
 
@@ -97,9 +97,9 @@ impl<'a> Environment for Shelf<'a> {
         }
     }
 
-    fn present_at(&self, path: &str) -> Present {
+    fn entry_at(&self, path: &str) -> PathEntry {
         if path == "dump" {
-            Present::File {
+            PathEntry::File {
                 id: FileId {
                     device: 1,
                     number: 1,
@@ -107,7 +107,7 @@ impl<'a> Environment for Shelf<'a> {
                 is_ours: false,
             }
         } else if path == "save" || path == "link_to_save" {
-            Present::File {
+            PathEntry::File {
                 id: FileId {
                     device: 1,
                     number: 2,
@@ -115,25 +115,25 @@ impl<'a> Environment for Shelf<'a> {
                 is_ours: true,
             }
         } else {
-            Present::Nothing
+            PathEntry::Nothing
         }
     }
 
-    fn put_file(&self, _alloc: Global, path: &str, _bytes: &[u8]) -> Written {
-        self.puts.set(self.puts.get().wrapping_add(1));
+    fn replace_file(&self, _alloc: Global, path: &str, _bytes: &[u8]) -> WriteResult {
+        self.replaces.set(self.replaces.get().wrapping_add(1));
         if path == "full" {
-            Written::Failed
+            WriteResult::Failed
         } else {
-            Written::Whole
+            WriteResult::Whole
         }
     }
 
-    fn write_file(&self, path: &str, _bytes: &[u8]) -> Written {
+    fn write_file(&self, path: &str, _bytes: &[u8]) -> WriteResult {
         self.writes.set(self.writes.get().wrapping_add(1));
         if path == "full" {
-            Written::Failed
+            WriteResult::Failed
         } else {
-            Written::Whole
+            WriteResult::Whole
         }
     }
 }
@@ -177,7 +177,7 @@ fn expect<R: Abort + AllocGlobal + Threads + Sync>(
     let shelf = Shelf {
         is_terminal,
         part: b"vmepart2",
-        puts: Cell::new(0),
+        replaces: Cell::new(0),
         writes: Cell::new(0),
     };
     let mut out = Page {
@@ -189,7 +189,7 @@ fn expect<R: Abort + AllocGlobal + Threads + Sync>(
     let status = run_words(rt, rt.alloc(), &shelf, words.as_slice(), &mut out, &mut err);
     match status {
         Ok(status) => assert_eq!(rt;
-            (status, shelf.puts.get(), shelf.writes.get()),
+            (status, shelf.replaces.get(), shelf.writes.get()),
             ended,
             "{line}"
         ),
@@ -424,7 +424,7 @@ fn written<R: Abort + AllocGlobal + Threads + Sync>(
     let shelf = Shelf {
         is_terminal: false,
         part,
-        puts: Cell::new(0),
+        replaces: Cell::new(0),
         writes: Cell::new(0),
     };
     let mut out = Page {

@@ -5,9 +5,9 @@ use std::alloc::Global;
 use std::fs::{self, File, Metadata};
 use std::io::{self, ErrorKind, IsTerminal, Read, Stdin, Write};
 use std::os::unix::fs::MetadataExt;
-use vme_explain::{FileId, Present, is_save_file};
+use vme_explain::{FileId, PathEntry, is_save_file};
 use vme_picture::is_picture;
-use vme_program::{Environment, Written};
+use vme_program::{Environment, WriteResult};
 use vme_stream::Io;
 use vme_trace::{Failed, Source};
 
@@ -66,17 +66,17 @@ impl Environment for Host<'_> {
 
     ghost opens = { λ _ _ _. Unit {0} };
 
-    ghost is_input = { λ _ _. Unit {0} };
+    ghost gives_input = { λ _ _. Unit {0} };
 
     ghost on_terminal = { λ _ _. Unit {0} };
 
-    ghost is_file = { λ _ _ _. Unit {0} };
+    ghost reads_file = { λ _ _ _. Unit {0} };
 
-    ghost leads_to = { λ _ _ _. Unit {0} };
+    ghost is_at_path = { λ _ _ _. Unit {0} };
 
-    ghost stands_at = { λ _ _ _. Unit {0} };
+    ghost has_entry = { λ _ _ _. Unit {0} };
 
-    ghost puts = { λ _ _ _ _. Unit {0} };
+    ghost replaces = { λ _ _ _ _. Unit {0} };
 
     ghost writes = { λ _ _ _ _. Unit {0} };
 
@@ -112,36 +112,36 @@ impl Environment for Host<'_> {
         id_of(fs::metadata(self.rt, path))
     }
 
-    fn present_at(&self, path: &str) -> Present {
+    fn entry_at(&self, path: &str) -> PathEntry {
         if let Err(error) = fs::symlink_metadata(self.rt, path) {
             return match error.kind() {
-                ErrorKind::NotFound => Present::Nothing,
-                _ => Present::Other,
+                ErrorKind::NotFound => PathEntry::Nothing,
+                _ => PathEntry::Other,
             };
         }
         match fs::metadata(self.rt, path) {
-            Ok(found) if found.is_file() => Present::File {
+            Ok(found) if found.reads_file() => PathEntry::File {
                 id: FileId {
                     device: found.dev(),
                     number: found.ino(),
                 },
                 is_ours: is_ours(self.rt, path),
             },
-            _ => Present::Other,
+            _ => PathEntry::Other,
         }
     }
 
-    fn put_file(&self, alloc: Global, path: &str, bytes: &[u8]) -> Written {
+    fn replace_file(&self, alloc: Global, path: &str, bytes: &[u8]) -> WriteResult {
         put(self.rt, alloc, path, bytes)
     }
 
-    fn write_file(&self, path: &str, bytes: &[u8]) -> Written {
+    fn write_file(&self, path: &str, bytes: &[u8]) -> WriteResult {
         match fs::create(self.rt, path) {
             Ok(mut file) => match file.write_all(bytes) {
-                Ok(()) => Written::Whole,
-                Err(_) => Written::Failed,
+                Ok(()) => WriteResult::Whole,
+                Err(_) => WriteResult::Failed,
             },
-            Err(_) => Written::Failed,
+            Err(_) => WriteResult::Failed,
         }
     }
 }

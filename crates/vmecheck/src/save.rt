@@ -4,14 +4,14 @@ use std::alloc::{AllocError, Global};
 use std::fs::{self, File};
 use std::io::{ErrorKind, Write};
 use std::path::PathBuf;
-use vme_program::Written;
+use vme_program::WriteResult;
 
 /// How many names are tried for the file that is written beside.
 const MOST_NAMES: u32 = 100;
 
 /// Writes a file at a path: its bytes go into a new file beside it, which takes its place once all are written. Where
 /// that fails, what stood there stays.
-pub(crate) fn put(rt: &HostRuntime, alloc: Global, path: &str, bytes: &[u8]) -> Written {
+pub(crate) fn put(rt: &HostRuntime, alloc: Global, path: &str, bytes: &[u8]) -> WriteResult {
     // what a link leads to is replaced, and not the link
     let found: Option<PathBuf> = fs::canonicalize(rt, path).ok();
     let place = match &found {
@@ -20,7 +20,7 @@ pub(crate) fn put(rt: &HostRuntime, alloc: Global, path: &str, bytes: &[u8]) -> 
     };
     match put_at(rt, alloc, place, bytes) {
         Ok(written) => written,
-        Err(_) => Written::Memory,
+        Err(_) => WriteResult::Memory,
     }
 }
 
@@ -30,22 +30,22 @@ fn put_at(
     alloc: Global,
     place: &str,
     bytes: &[u8],
-) -> Result<Written, AllocError> {
+) -> Result<WriteResult, AllocError> {
     for number in 0..MOST_NAMES {
         let beside = format!(in alloc; "{place}.part{number}")?;
         match File::create_new(rt, beside.as_str()) {
             Ok(file) => {
                 if is_whole(file, bytes) && fs::rename(rt, beside.as_str(), place).is_ok() {
-                    return Ok(Written::Whole);
+                    return Ok(WriteResult::Whole);
                 }
                 let _ = fs::remove_file(rt, beside.as_str());
-                return Ok(Written::Failed);
+                return Ok(WriteResult::Failed);
             }
             Err(error) if error.kind() == ErrorKind::AlreadyExists => {}
-            Err(_) => return Ok(Written::Failed),
+            Err(_) => return Ok(WriteResult::Failed),
         }
     }
-    Ok(Written::Failed)
+    Ok(WriteResult::Failed)
 }
 
 /// Whether all bytes came to the device.

@@ -3,18 +3,18 @@ use Rattle.vme_program.proofs.explain.is_one_place.Goals as goal
 
 pub returns-then-is_one_path : goal.returns-then-is_one_path
 returns-then-is_one_path g c = (
-  c.present_at-first.result,
-  c.present_at-second.result,
-  c.present_at-first.ensures,
-  c.present_at-second.ensures,
+  c.entry_at-first.result,
+  c.entry_at-second.result,
+  c.entry_at-first.ensures,
+  c.entry_at-second.ensures,
   search rules,
 )
 
 pub returns-else-is_one_path : goal.returns-else-is_one_path
 returns-else-is_one_path g c = (
-  c.present_at-first.result,
-  c.present_at-second.result,
-  c.present_at-first.ensures,
-  c.present_at-second.ensures,
+  c.entry_at-first.result,
+  c.entry_at-second.result,
+  c.entry_at-first.ensures,
+  c.entry_at-second.ensures,
   search rules,
 )

@@ -5,4 +5,4 @@ pub returns-in-Some : goal.returns-in-Some
 returns-in-Some g c = inl (c.in-Some.refusal, c.in-Some.ensures, c.refuse_place.ensures)
 
 pub returns-in-None : goal.returns-in-None
-returns-in-None g c = inr (c.in-None.ensures, (c.put_file.result, c.put_file.ensures, c.end_written.ensures))
+returns-in-None g c = inr (c.in-None.ensures, (c.replace_file.result, c.replace_file.ensures, c.end_writing.ensures))

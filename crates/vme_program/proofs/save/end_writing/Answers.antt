@@ -1,17 +1,17 @@
 use Rattle.std.proofs.Common.{refl, sym, subst}
 use Rattle.vme_trace.specs.Streams.{Writing}
-use Rattle.vme_program.specs.Saves.{EndsWritten}
-use Rattle.vme_program.specs.declared.environment.Written.{Written}
-use Rattle.vme_program.proofs.save.end_written.Goals as goal
+use Rattle.vme_program.specs.Saves.{EndsWriting}
+use Rattle.vme_program.specs.declared.environment.WriteResult.{WriteResult}
+use Rattle.vme_program.proofs.save.end_writing.Goals as goal
 
 pub returns-in-Failed : goal.returns-in-Failed
 returns-in-Failed g c =
     let err : Writing × Writing = (g.E.Sink.writing c.args.err.now, g.E.Sink.writing c.complain.new.sink) in
-    let Ends : Written → Type 0 = λ w. EndsWritten w c.args.status err 5 in
+    let Ends : WriteResult → Type 0 = λ w. EndsWriting w c.args.status err 5 in
     subst Ends (sym c.in-Failed.is) (rw c.cannot_write_line.ensures at c.complain.ensures, refl)
 
 pub returns-in-Memory : goal.returns-in-Memory
 returns-in-Memory g c =
     let err : Writing × Writing = (g.E.Sink.writing c.args.err.now, g.E.Sink.writing c.refuse.new.err) in
-    let Ends : Written → Type 0 = λ w. EndsWritten w c.args.status err c.refuse.result in
+    let Ends : WriteResult → Type 0 = λ w. EndsWriting w c.args.status err c.refuse.result in
     subst Ends (sym c.in-Memory.is) (c.refuse.ensures.told, c.refuse.ensures.status)
