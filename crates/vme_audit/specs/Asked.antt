@@ -13,9 +13,10 @@ use Rattle.vme_trace.specs.Cycles.{cycle_starts, class_at, in_cycle, answers_of}
 use Rattle.vme_trace.specs.Tenures.{grant_falls, tenure_starts}
 use Rattle.vme_trace.specs.Rules.{all_rules, ends_span, is_later, is_single, is_block_class, is_interrupt}
 use Rattle.vme_trace.specs.declared.rule.Rule.{Rule}
-use Rattle.vme_trace.specs.declared.rule.Rule.TheVariants as rule
 use Rattle.vme_trace.specs.declared.class.Class.{Class}
 use Rattle.vme_trace.specs.declared.verdict.Break.{Break}
+use Rattle.vme_audit.specs.Event.{Event, event_of}
+use Rattle.vme_audit.specs.Event as event
 use Rattle.vme_audit.specs.Parts.{Part, parts, own_break}
 
 module _ (t : Trace) where
@@ -59,54 +60,33 @@ module _ (t : Trace) (span : Stretch) where
       is_answer t span j
       && in_cycle t span (λ i. chosen (class_at t span i) && is_later (answers_of t span i j)) j
 
+  -- an event happens at an instant of the stretch, which doesn't start there
+  abbrev pub event_happens : Event → ℕ → Bool
+  event_happens event.stretch j = false
+  event_happens event.cycle j = cycle_starts t span j
+  event_happens event.cycle_end j = rises t AS j
+  event_happens event.transfer j = transfer_starts t span j
+  event_happens event.write j = write_starts j
+  event_happens event.strobe_rise j = strobe_rises t j && within_transfer j
+  event_happens event.strobe_fall j = strobe_falls t j && within_transfer j
+  event_happens event.answer_fall j = answer_falls t j
+  event_happens event.answer_rise j = answer_rises t j
+  event_happens event.answer j = is_answer t span j
+  event_happens event.single_again j = answered_again_in_class is_single j
+  event_happens event.block_again j = answered_again_in_class is_block_class j
+  event_happens event.interrupt j = answered_in_class is_interrupt j
+  event_happens event.interrupt_again j = answered_again_in_class is_interrupt j
+  event_happens event.slot_grant_fall j = slot_grant_falls t j
+  event_happens event.slot_grant_rise j = slot_grant_rises t j
+  event_happens event.arbiter_fall j = grant_falls t j
+  event_happens event.grant_fall j = any_grant_falls t j
+  event_happens event.tenure j = tenure_starts t span j
+  event_happens event.acknowledge_fall j = acknowledge_falls t j
+
   -- the event of a rule happens at an instant of the stretch: where it doesn't, the rule can't be broken. That of U1 is
   -- the stretch itself
   unfoldable pub happens : Rule → ℕ → Bool
-  happens rule.U1 j = false
-  -- a cycle starts
-  happens rule.U2 j = cycle_starts t span j
-  happens rule.S1 j = cycle_starts t span j
-  happens rule.B3 j = cycle_starts t span j
-  -- a transfer starts
-  happens rule.U3 j = transfer_starts t span j
-  happens rule.H1 j = transfer_starts t span j
-  happens rule.S2 j = transfer_starts t span j
-  -- a write starts
-  happens rule.U4 j = write_starts j
-  happens rule.S3 j = write_starts j
-  -- a strobe rises, or falls, within a transfer
-  happens rule.H2 j = strobe_rises t j && within_transfer j
-  happens rule.H3 j = strobe_falls t j && within_transfer j
-  -- an answer line falls, or rises
-  happens rule.H4 j = answer_falls t j
-  happens rule.H5 j = answer_falls t j
-  happens rule.H6 j = answer_rises t j
-  -- the address strobe rises
-  happens rule.H7 j = rises t AS j
-  -- a transfer is answered
-  happens rule.H8 j = is_answer t span j
-  -- a further transfer of a cycle is answered
-  happens rule.C1 j = answered_again_in_class is_single j
-  happens rule.C2 j = answered_again_in_class is_block_class j
-  happens rule.I5 j = answered_again_in_class is_interrupt j
-  -- a transfer of an interrupt acknowledge is answered
-  happens rule.I4 j = answered_in_class is_interrupt j
-  -- a slot begins to grant on, or ends it
-  happens rule.G1 j = slot_grant_falls t j
-  happens rule.G2 j = slot_grant_rises t j
-  -- the arbiter grants
-  happens rule.G3 j = grant_falls t j
-  happens rule.G5 j = grant_falls t j
-  -- the arbiter or a slot grants
-  happens rule.G4 j = any_grant_falls t j
-  -- the bus becomes busy
-  happens rule.B1 j = tenure_starts t span j
-  happens rule.B2 j = tenure_starts t span j
-  happens rule.B4 j = tenure_starts t span j
-  -- a slot acknowledges on
-  happens rule.I1 j = acknowledge_falls t j
-  happens rule.I2 j = acknowledge_falls t j
-  happens rule.I3 j = acknowledge_falls t j
+  happens r j = event_happens (event_of r) j
 
 -- the first instant that isn't looked at any more: behind the break, or behind the last
 abbrev pub asking_end : Trace → Option Break → ℕ

@@ -25,7 +25,6 @@ use Rattle.vme_trace.specs.WellFormed.{malformed_step}
 use Rattle.vme_trace.specs.declared.class.Class.{Class}
 use Rattle.vme_trace.specs.declared.class.Class.TheVariants as class
 use Rattle.vme_trace.specs.declared.rule.Rule.{Rule}
-use Rattle.vme_trace.specs.declared.rule.Rule.TheVariants as rule
 use Rattle.vme_trace.specs.declared.step.Change.{Change}
 use Rattle.vme_trace.proofs.Ranges.{any-alike}
 use Rattle.vme_trace.proofs.SpanEnds.{slots_at}
@@ -51,9 +50,11 @@ use Rattle.vme_dtb.proofs.Held.{Holds}
 use Rattle.vme_dtb.proofs.OpenState.{started_is}
 use Rattle.vme_dtb.proofs.StepFacts.{falls_is, judged, new, old, rises_is, starts_is}
 use Rattle.vme_audit.specs.Asked.{any_grant_falls, answer_rises, answered_again_in_class}
-use Rattle.vme_audit.specs.Asked.{answered_in_class, happens, within_transfer}
+use Rattle.vme_audit.specs.Asked.{answered_in_class, event_happens, happens, within_transfer}
 use Rattle.vme_audit.specs.Asked.{write_starts}
-use Rattle.vme_auditor.specs.Events.{asks_by, at_step, is_interrupt_cycle, is_interrupt_entered}
+use Rattle.vme_audit.specs.Event.{Event, event_of}
+use Rattle.vme_audit.specs.Event as event
+use Rattle.vme_auditor.specs.Events.{asks_by, at_step, has_happened, is_interrupt_cycle, is_interrupt_entered}
 use Rattle.vme_auditor.specs.declared.asked.AskedEvents.{AskedEvents}
 use Rattle.vme_auditor.proofs.EventFields.{any_falls, any_rises, goes_on, is_block_answered, is_interrupt_answered}
 use Rattle.vme_auditor.proofs.EventFields.{is_single_answered, on_acknowledge_fall, on_answer, on_answer_fall}
@@ -329,47 +330,39 @@ module _ (t : Trace) (ok : malformed_step t ≡ None) (few : t.opening.slots ≤
     add : (a b c d : Bool) → a ≡ (b || c) → c ≡ d → a ≡ (b || d)
     add a b c d p q = p ∙ ap (λ x. b || x) q
 
-    pub asked_here : (r : Rule) → asks_by more r ≡ (asks_by e r || happens t span r (suc n))
-    unfolding happens
-    asked_here rule.U1 = on_stretch e m v w cs shown ∙ sym (or-false e.stretch)
-    asked_here rule.U2 = add _ _ _ _ (on_cycle e m v w cs shown) cycle_event
-    asked_here rule.S1 = add _ _ _ _ (on_cycle e m v w cs shown) cycle_event
-    asked_here rule.B3 = add _ _ _ _ (on_cycle e m v w cs shown) cycle_event
-    asked_here rule.U3 = add _ _ _ _ (on_transfer e m v w cs shown) transfer_event
-    asked_here rule.H1 = add _ _ _ _ (on_transfer e m v w cs shown) transfer_event
-    asked_here rule.S2 = add _ _ _ _ (on_transfer e m v w cs shown) transfer_event
-    asked_here rule.U4 = add _ _ _ _ (on_write e m v w cs shown) write_event
-    asked_here rule.S3 = add _ _ _ _ (on_write e m v w cs shown) write_event
-    asked_here rule.H2 = add _ _ _ _ (on_strobe_rise e m v w cs shown) strobe_rise_event
-    asked_here rule.H3 = add _ _ _ _ (on_strobe_fall e m v w cs shown) strobe_fall_event
-    asked_here rule.H4 = add _ _ _ _ (on_answer_fall e m v w cs shown) answer_fall_event
-    asked_here rule.H5 = add _ _ _ _ (on_answer_fall e m v w cs shown) answer_fall_event
-    asked_here rule.H6 = add _ _ _ _ (on_answer_rise e m v w cs shown) answer_rise_event
-    asked_here rule.H7 = add _ _ _ _ (on_cycle_end e m v w cs shown) cycle_end_event
-    asked_here rule.H8 = add _ _ _ _ (on_answer e m v w cs shown) answer_event
-    asked_here rule.C1 =
+    by_event : (v : Event) → has_happened more v ≡ (has_happened e v || event_happens t span v (suc n))
+    by_event event.stretch = on_stretch e m v w cs shown ∙ sym (or-false e.stretch)
+    by_event event.cycle = add _ _ _ _ (on_cycle e m v w cs shown) cycle_event
+    by_event event.cycle_end = add _ _ _ _ (on_cycle_end e m v w cs shown) cycle_end_event
+    by_event event.transfer = add _ _ _ _ (on_transfer e m v w cs shown) transfer_event
+    by_event event.write = add _ _ _ _ (on_write e m v w cs shown) write_event
+    by_event event.strobe_rise = add _ _ _ _ (on_strobe_rise e m v w cs shown) strobe_rise_event
+    by_event event.strobe_fall = add _ _ _ _ (on_strobe_fall e m v w cs shown) strobe_fall_event
+    by_event event.answer_fall = add _ _ _ _ (on_answer_fall e m v w cs shown) answer_fall_event
+    by_event event.answer_rise = add _ _ _ _ (on_answer_rise e m v w cs shown) answer_rise_event
+    by_event event.answer = add _ _ _ _ (on_answer e m v w cs shown) answer_event
+    by_event event.single_again =
         add _ _ _ _ (on_single_again e m v w cs shown)
         (again_event is_single_answered is_single single_fresh (in_single t span (suc n)))
-    asked_here rule.C2 =
+    by_event event.block_again =
         add _ _ _ _ (on_block_again e m v w cs shown)
         (again_event is_block_answered is_block_class block_fresh (in_block t span (suc n)))
-    asked_here rule.I5 =
+    by_event event.interrupt = add _ _ _ _ (on_interrupt e m v w cs shown) interrupt_event
+    by_event event.interrupt_again =
         add _ _ _ _ (on_interrupt_again e m v w cs shown)
         (again_event is_interrupt_answered is_interrupt interrupt_fresh
         (in_acknowledged t span (suc n) ∙ acknowledged_is (cycle_before t span (suc n))))
-    asked_here rule.I4 = add _ _ _ _ (on_interrupt e m v w cs shown) interrupt_event
-    asked_here rule.G1 = add _ _ _ _ (on_slot_grant_fall e m v w cs shown) (nets_fall is_slot_grant e)
-    asked_here rule.G2 = add _ _ _ _ (on_slot_grant_rise e m v w cs shown) (nets_rise is_slot_grant e)
-    asked_here rule.G3 = add _ _ _ _ (on_arbiter_fall e m v w cs shown) (arbiter_event e)
-    asked_here rule.G5 = add _ _ _ _ (on_arbiter_fall e m v w cs shown) (arbiter_event e)
-    asked_here rule.G4 =
+    by_event event.slot_grant_fall = add _ _ _ _ (on_slot_grant_fall e m v w cs shown) (nets_fall is_slot_grant e)
+    by_event event.slot_grant_rise = add _ _ _ _ (on_slot_grant_rise e m v w cs shown) (nets_rise is_slot_grant e)
+    by_event event.arbiter_fall = add _ _ _ _ (on_arbiter_fall e m v w cs shown) (arbiter_event e)
+    by_event event.grant_fall =
         or_both _ _ _ _ (on_arbiter_fall e m v w cs shown) (on_slot_grant_fall e m v w cs shown)
         ∙ or_swapped e.arbiter_fall (any_falls e m v w cs shown is_arbiter_grant) e.slot_grant_fall
         (any_falls e m v w cs shown is_slot_grant)
         ∙ ap (λ x. (e.arbiter_fall || e.slot_grant_fall) || x) (grant_event e)
-    asked_here rule.B1 = add _ _ _ _ (on_tenure e m v w cs shown) tenure_event
-    asked_here rule.B2 = add _ _ _ _ (on_tenure e m v w cs shown) tenure_event
-    asked_here rule.B4 = add _ _ _ _ (on_tenure e m v w cs shown) tenure_event
-    asked_here rule.I1 = add _ _ _ _ (on_acknowledge_fall e m v w cs shown) (nets_fall is_slot_iack e)
-    asked_here rule.I2 = add _ _ _ _ (on_acknowledge_fall e m v w cs shown) (nets_fall is_slot_iack e)
-    asked_here rule.I3 = add _ _ _ _ (on_acknowledge_fall e m v w cs shown) (nets_fall is_slot_iack e)
+    by_event event.tenure = add _ _ _ _ (on_tenure e m v w cs shown) tenure_event
+    by_event event.acknowledge_fall = add _ _ _ _ (on_acknowledge_fall e m v w cs shown) (nets_fall is_slot_iack e)
+
+    pub asked_here : (r : Rule) → asks_by more r ≡ (asks_by e r || happens t span r (suc n))
+    unfolding happens
+    asked_here r = by_event (event_of r)

@@ -224,36 +224,7 @@ module _ (o : Levels) (x : List Step) where
 -- a rule is asked by the stretch alone, or by another event
 by_stretch : (r : Rule) → (r ≡ rule.U1) ⊎ (ends_span r ≡ false)
 by_stretch rule.U1 = inl refl
-by_stretch rule.U2 = inr refl
-by_stretch rule.U3 = inr refl
-by_stretch rule.U4 = inr refl
-by_stretch rule.H1 = inr refl
-by_stretch rule.H2 = inr refl
-by_stretch rule.H3 = inr refl
-by_stretch rule.H4 = inr refl
-by_stretch rule.H5 = inr refl
-by_stretch rule.H6 = inr refl
-by_stretch rule.H7 = inr refl
-by_stretch rule.H8 = inr refl
-by_stretch rule.S1 = inr refl
-by_stretch rule.S2 = inr refl
-by_stretch rule.S3 = inr refl
-by_stretch rule.C1 = inr refl
-by_stretch rule.C2 = inr refl
-by_stretch rule.G1 = inr refl
-by_stretch rule.G2 = inr refl
-by_stretch rule.G3 = inr refl
-by_stretch rule.G4 = inr refl
-by_stretch rule.G5 = inr refl
-by_stretch rule.B1 = inr refl
-by_stretch rule.B2 = inr refl
-by_stretch rule.B3 = inr refl
-by_stretch rule.B4 = inr refl
-by_stretch rule.I1 = inr refl
-by_stretch rule.I2 = inr refl
-by_stretch rule.I3 = inr refl
-by_stretch rule.I4 = inr refl
-by_stretch rule.I5 = inr refl
+by_stretch r = inr refl
 
 any_alike : {A : Type 0} (p q : A → Bool) (xs : List A) → ((a : A) → p a ≡ q a) → list_any p xs ≡ list_any q xs
 any_alike p q [] h = refl

@@ -59,36 +59,7 @@ any_both p (x ∷ xs) ys = ap (λ b. p x || b) (any_both p xs ys) ∙ sym (or_as
 pub stretch_alone : (r : Rule) (e : AskedEvents) (b : Bool) → ends_span r ≡ false → asks_by (with_stretch e b) r
     ≡ asks_by e r
 stretch_alone rule.U1 e b h = absurd (cc)
-stretch_alone rule.U2 e b h = refl
-stretch_alone rule.U3 e b h = refl
-stretch_alone rule.U4 e b h = refl
-stretch_alone rule.H1 e b h = refl
-stretch_alone rule.H2 e b h = refl
-stretch_alone rule.H3 e b h = refl
-stretch_alone rule.H4 e b h = refl
-stretch_alone rule.H5 e b h = refl
-stretch_alone rule.H6 e b h = refl
-stretch_alone rule.H7 e b h = refl
-stretch_alone rule.H8 e b h = refl
-stretch_alone rule.S1 e b h = refl
-stretch_alone rule.S2 e b h = refl
-stretch_alone rule.S3 e b h = refl
-stretch_alone rule.C1 e b h = refl
-stretch_alone rule.C2 e b h = refl
-stretch_alone rule.G1 e b h = refl
-stretch_alone rule.G2 e b h = refl
-stretch_alone rule.G3 e b h = refl
-stretch_alone rule.G4 e b h = refl
-stretch_alone rule.G5 e b h = refl
-stretch_alone rule.B1 e b h = refl
-stretch_alone rule.B2 e b h = refl
-stretch_alone rule.B3 e b h = refl
-stretch_alone rule.B4 e b h = refl
-stretch_alone rule.I1 e b h = refl
-stretch_alone rule.I2 e b h = refl
-stretch_alone rule.I3 e b h = refl
-stretch_alone rule.I4 e b h = refl
-stretch_alone rule.I5 e b h = refl
+stretch_alone r e b h = refl
 
 -- judging starts, or has started
 abbrev StartsBy : StretchPhase Stateless → Next (StretchPhase Stateless) → Type 0

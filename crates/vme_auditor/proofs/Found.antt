@@ -36,36 +36,7 @@ use Rattle.vme_auditor.proofs.ToldBreaks.{FindsFirst, recorded, told_are_breaks}
 -- nothing was asked before a recording
 nothing_asked : (r : Rule) → asks_by nothing_happened r ≡ false
 nothing_asked rule.U1 = refl
-nothing_asked rule.U2 = refl
-nothing_asked rule.U3 = refl
-nothing_asked rule.U4 = refl
-nothing_asked rule.H1 = refl
-nothing_asked rule.H2 = refl
-nothing_asked rule.H3 = refl
-nothing_asked rule.H4 = refl
-nothing_asked rule.H5 = refl
-nothing_asked rule.H6 = refl
-nothing_asked rule.H7 = refl
-nothing_asked rule.H8 = refl
-nothing_asked rule.S1 = refl
-nothing_asked rule.S2 = refl
-nothing_asked rule.S3 = refl
-nothing_asked rule.C1 = refl
-nothing_asked rule.C2 = refl
-nothing_asked rule.G1 = refl
-nothing_asked rule.G2 = refl
-nothing_asked rule.G3 = refl
-nothing_asked rule.G4 = refl
-nothing_asked rule.G5 = refl
-nothing_asked rule.B1 = refl
-nothing_asked rule.B2 = refl
-nothing_asked rule.B3 = refl
-nothing_asked rule.B4 = refl
-nothing_asked rule.I1 = refl
-nothing_asked rule.I2 = refl
-nothing_asked rule.I3 = refl
-nothing_asked rule.I4 = refl
-nothing_asked rule.I5 = refl
+nothing_asked r = refl
 
 -- nor was anything counted
 nothing_fits : Fits 0 0 0 0 nothing_counted None

@@ -9,7 +9,6 @@ use Rattle.vme_trace.specs.LineNumbers.{AS, DTACK, BERR, BBSY, has_line, is_arbi
 use Rattle.vme_trace.specs.LineNumbers.{is_slot_iack}
 use Rattle.vme_trace.specs.Rules.{is_interrupt}
 use Rattle.vme_trace.specs.declared.rule.Rule.{Rule}
-use Rattle.vme_trace.specs.declared.rule.Rule.TheVariants as rule
 use Rattle.vme_trace.specs.declared.step.Change.{Change}
 use Rattle.vme_monitor.specs.Tracking.{is_within}
 use Rattle.vme_monitor.specs.declared.mark.CycleStart.{CycleStart}
@@ -20,6 +19,8 @@ use Rattle.vme_dtb.specs.declared.cycle.Cycle.{Cycle}
 use Rattle.vme_dtb.specs.declared.cycle.Cycle.TheVariants.{SingleRead, SingleDone, BlockReading, BlockWriting}
 use Rattle.vme_dtb.specs.declared.cycle.Cycle.TheVariants.{Interrupt, InterruptDone}
 use Rattle.vme_dtb.specs.declared.memory.HandshakeMemory.{HandshakeMemory}
+use Rattle.vme_audit.specs.Event.{Event, event_of}
+use Rattle.vme_audit.specs.Event as event
 use Rattle.vme_auditor.specs.declared.asked.AskedEvents.{AskedEvents}
 
 abbrev pub nothing_happened : AskedEvents
@@ -46,39 +47,32 @@ nothing_happened =
       acknowledge_fall = false;
     }
 
--- the event of each rule
+-- an event happened
+abbrev pub has_happened : AskedEvents → Event → Bool
+has_happened e event.stretch = e.stretch
+has_happened e event.cycle = e.cycle
+has_happened e event.cycle_end = e.cycle_end
+has_happened e event.transfer = e.transfer
+has_happened e event.write = e.write
+has_happened e event.strobe_rise = e.strobe_rise
+has_happened e event.strobe_fall = e.strobe_fall
+has_happened e event.answer_fall = e.answer_fall
+has_happened e event.answer_rise = e.answer_rise
+has_happened e event.answer = e.answer
+has_happened e event.single_again = e.single_again
+has_happened e event.block_again = e.block_again
+has_happened e event.interrupt = e.interrupt
+has_happened e event.interrupt_again = e.interrupt_again
+has_happened e event.slot_grant_fall = e.slot_grant_fall
+has_happened e event.slot_grant_rise = e.slot_grant_rise
+has_happened e event.arbiter_fall = e.arbiter_fall
+has_happened e event.grant_fall = e.arbiter_fall || e.slot_grant_fall
+has_happened e event.tenure = e.tenure
+has_happened e event.acknowledge_fall = e.acknowledge_fall
+
+-- the event of a rule happened
 abbrev pub asks_by : AskedEvents → Rule → Bool
-asks_by e rule.U1 = e.stretch
-asks_by e rule.U2 = e.cycle
-asks_by e rule.S1 = e.cycle
-asks_by e rule.B3 = e.cycle
-asks_by e rule.U3 = e.transfer
-asks_by e rule.H1 = e.transfer
-asks_by e rule.S2 = e.transfer
-asks_by e rule.U4 = e.write
-asks_by e rule.S3 = e.write
-asks_by e rule.H2 = e.strobe_rise
-asks_by e rule.H3 = e.strobe_fall
-asks_by e rule.H4 = e.answer_fall
-asks_by e rule.H5 = e.answer_fall
-asks_by e rule.H6 = e.answer_rise
-asks_by e rule.H7 = e.cycle_end
-asks_by e rule.H8 = e.answer
-asks_by e rule.C1 = e.single_again
-asks_by e rule.C2 = e.block_again
-asks_by e rule.I4 = e.interrupt
-asks_by e rule.I5 = e.interrupt_again
-asks_by e rule.G1 = e.slot_grant_fall
-asks_by e rule.G2 = e.slot_grant_rise
-asks_by e rule.G3 = e.arbiter_fall
-asks_by e rule.G5 = e.arbiter_fall
-asks_by e rule.G4 = e.arbiter_fall || e.slot_grant_fall
-asks_by e rule.B1 = e.tenure
-asks_by e rule.B2 = e.tenure
-asks_by e rule.B4 = e.tenure
-asks_by e rule.I1 = e.acknowledge_fall
-asks_by e rule.I2 = e.acknowledge_fall
-asks_by e rule.I3 = e.acknowledge_fall
+asks_by e r = has_happened e (event_of r)
 
 -- the class of a cycle that says which answers may follow
 abbrev pub is_interrupt_cycle : Cycle → Bool
