@@ -60,7 +60,7 @@ pub use fits::can_write;
 pub use join::join_parts;
 pub use join_refusal::JoinRefusal;
 pub use judged_segments::{JudgedSegments, Stop};
-pub use made::{part_of_block, part_of_steps};
+pub use made::part_of_steps;
 pub use part_refusal::PartRefusal;
 pub use state::{State, States};
 pub use tell::{judged, tell_verdict};

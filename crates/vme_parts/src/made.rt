@@ -28,7 +28,7 @@ use vme_part_format::{OutcomeTable, Part, Segment, SegmentTimes, TableEntry};
 use vme_part_tables::widened;
 use vme_stability::stability::{Stability, StabilityRules};
 use vme_summary::each_monitor::summarise_monitors;
-use vme_trace::{Block, Lines, Step};
+use vme_trace::{Lines, Step};
 
 /// The table without marks of what a monitor's summary says.
 fn bare_table<M: Finite>(alloc: Global, summary: &M::Summary) -> Result<OutcomeTable, AllocError>
@@ -200,28 +200,4 @@ pub fn part_of_steps(
         listing,
         segments,
     })
-}
-
-/// The same of a block.
-pub fn part_of_block(
-    alloc: Global,
-    backplane: u64,
-    listing: bool,
-    block: &Block,
-) -> Result<Part, PartRefusal>
-    requires accepted { malformed_step (trace_of block.now) ≡ None }
-    requires few { length block.now.steps ≤ 268435456 }
-    ensures backplane { IfOk result (λ p. p.backplane ≡ backplane) }
-    ensures listing { IfOk result (λ p. p.listing ≡ listing) }
-    ensures stands { IfOk result (λ p. IsPartOfFile listing block.now (part_value p)) }
-{
-    let steps = block.steps.as_slice();
-    part_of_steps(
-        alloc,
-        backplane,
-        listing,
-        block.number,
-        &block.opening,
-        steps,
-    )
 }
