@@ -23,8 +23,8 @@ use Rattle.vme_stream.specs.Outputs.{FailsToWrite, Writes}
 use Rattle.vme_step_auditor.specs.ReadBy.{GivenSteps, read_by, read_of}
 use Rattle.vme_step_reader.specs.StepReading.{StepReading, whole_reading}
 use Rattle.vme_audit_command.specs.Bodies.{AuditsRest, EndsBehind, HasGiven, IsLater, ended_at}
-use Rattle.vme_dump_steps.specs.SettledReadings.{settled_by, skew_of}
-use Rattle.vme_dump_steps.specs.SettledSteps.{ComesOut, IsSettlerFor}
+use Rattle.vme_dump_input.specs.SettledReadings.{settled_by, skew_of}
+use Rattle.vme_dump_input.specs.SettledSteps.{ComesOut, IsSettlerFor}
 use Rattle.vme_audit_command.specs.Definitions.{IsBodyBegun, ReadsDefinitions}
 use Rattle.vme_audit_command.specs.DumpAnswers.{AuditOptions, AuditsBehind, AuditsDump, DumpAnswer, EndsAs, answer_by}
 use Rattle.vme_audit_command.specs.DumpAnswers.{reading_answer, dump_answer, last_lines}

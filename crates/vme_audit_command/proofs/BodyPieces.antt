@@ -12,7 +12,7 @@ use Rattle.vme_audit_command.specs.Definitions.{GivenIsPrefix, unread}
 use Rattle.vme_audit_command.specs.declared.dump_input.ReadFault.{ReadFault}
 use Rattle.vme_audit_command.specs.declared.dump_input.ReadFault.TheVariants as read
 use Rattle.vme_audit_command.specs.DumpAudits.{given_all, lines_of}
-use Rattle.vme_dump_steps.specs.SettledReadings.{settled_by}
+use Rattle.vme_dump_input.specs.SettledReadings.{settled_by}
 use Rattle.vme_skew.specs.Settling.{Settling}
 use Rattle.vme_step_auditor.specs.ReadBy.{GivenSteps}
 use Rattle.vme_step_reader.specs.StepReading.{StepReading, whole_reading}
@@ -20,7 +20,7 @@ use Rattle.vme_audit_command.specs.declared.told.NoOutcome.{NoOutcome}
 use Rattle.vme_audit_command.specs.declared.told.NoOutcome.TheVariants.{CannotRead, NotWritten}
 use Rattle.vme_audit_command.specs.declared.told.TellFault.TheVariants.{Memory}
 use Rattle.vme_audit_command.proofs.BodyLemmas.{ReadGoesOn}
-use Rattle.vme_dump_steps.proofs.ReadSteps.{StepsFollow, TimeGoesOn}
+use Rattle.vme_dump_input.proofs.ReadSteps.{StepsFollow, TimeGoesOn}
 use Rattle.vme_audit_command.proofs.Onward.{given-on}
 use Rattle.vme_audit_command.proofs.PieceLemmas.{ends-after, memory-ends}
 use Rattle.vme_audit_command.proofs.WriteLemmas.{writes-both, writes-nothing}

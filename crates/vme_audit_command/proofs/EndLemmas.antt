@@ -19,7 +19,7 @@ use Rattle.vme_audit_lines.specs.AuditLines.{head_of, outcome_status}
 use Rattle.vme_audit_command.specs.Bodies.{ended_at}
 use Rattle.vme_audit_command.specs.Definitions.{AreAllBytesOf}
 use Rattle.vme_audit_command.specs.DumpAudits.{break_lines}
-use Rattle.vme_dump_steps.specs.SettledReadings.{settled_by, skew_of}
+use Rattle.vme_dump_input.specs.SettledReadings.{settled_by, skew_of}
 use Rattle.vme_audit_command.specs.DumpAnswers.{AuditOptions, AuditsDump, DumpAnswer, answer_by, dump_answer}
 use Rattle.vme_audit_command.specs.DumpAnswers.{dump_outcome}
 use Rattle.vme_audit_command.specs.DumpEnds.{AuditsNamed, EndsWith, RefusesAs, TellsEnd}

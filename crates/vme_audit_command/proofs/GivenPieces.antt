@@ -12,14 +12,14 @@ use Rattle.vme_skew.specs.Settling.{Settling}
 use Rattle.vme_audit_command.specs.Bodies.{EndsBehind, HasGiven, TakesPiece}
 use Rattle.vme_audit_command.specs.Definitions.{GivenIsPrefix}
 use Rattle.vme_audit_command.specs.DumpAudits.{AuditGoesTo, given_all, lines_of}
-use Rattle.vme_dump_steps.specs.SettledReadings.{settled_by, settled_so_far}
-use Rattle.vme_dump_steps.specs.SettledSteps.{ComesOut, GoOnTo}
+use Rattle.vme_dump_input.specs.SettledReadings.{settled_by, settled_so_far}
+use Rattle.vme_dump_input.specs.SettledSteps.{ComesOut, GoOnTo}
 use Rattle.vme_step_auditor.specs.ReadBy.{GivenSteps, has_stopped}
 use Rattle.vme_step_reader.specs.StepReading.{StepReading, whole_reading}
 use Rattle.vme_audit_command.specs.declared.told.NoOutcome.TheVariants.{NotWritten}
 use Rattle.vme_audit_command.specs.declared.told.TellFault.{TellFault}
 use Rattle.vme_audit_command.proofs.BodyLemmas.{ReadGoesOn}
-use Rattle.vme_dump_steps.proofs.ReadSteps.{StepsFollow, StepsWithin, TimeGoesOn, so-far-formed}
+use Rattle.vme_dump_input.proofs.ReadSteps.{StepsFollow, StepsWithin, TimeGoesOn, so-far-formed}
 use Rattle.vme_audit_command.proofs.Onward.{GoesOnWith, piece-to, reading-on}
 use Rattle.vme_audit_command.proofs.PieceLemmas.{StopIsRead, StopStays, cut-ends, final-ends}
 

@@ -21,12 +21,12 @@ use Rattle.vme_skew.proofs.SettlerSteps.{until-recording}
 use Rattle.vme_step_reader.specs.StepReading.{StepReading, whole_reading}
 use Rattle.vme_step_reader.specs.Stops.{StopsBehind}
 use Rattle.vme_step_reader.specs.declared.stopped_steps.StoppedSteps.{StoppedSteps}
-use Rattle.vme_dump_steps.proofs.ReadSteps.{StepsFollow, StepsWithin, TimeGoesOn, so-far-formed, so-far-opens}
-use Rattle.vme_dump_steps.proofs.ReadSteps.{steps-from, steps-to, stopped-parts, whole-formed, whole-opens}
+use Rattle.vme_dump_input.proofs.ReadSteps.{StepsFollow, StepsWithin, TimeGoesOn, so-far-formed, so-far-opens}
+use Rattle.vme_dump_input.proofs.ReadSteps.{steps-from, steps-to, stopped-parts, whole-formed, whole-opens}
 use Rattle.vme_audit_command.specs.Bodies.{HasGiven}
 use Rattle.vme_audit_command.specs.Definitions.{GivenIsPrefix, IsFormed}
-use Rattle.vme_dump_steps.specs.SettledReadings.{settled_before, settled_by, settled_so_far, settled_whole}
-use Rattle.vme_dump_steps.specs.SettledSteps.{ComesOut, GoOnFrom, GoOnTo}
+use Rattle.vme_dump_input.specs.SettledReadings.{settled_before, settled_by, settled_so_far, settled_whole}
+use Rattle.vme_dump_input.specs.SettledSteps.{ComesOut, GoOnFrom, GoOnTo}
 use Rattle.vme_step_auditor.specs.ReadBy.{GivenSteps}
 
 -- a recording goes on with another

@@ -12,8 +12,8 @@ use Rattle.vme_stream.specs.Outputs.{Writes, FailsToWrite}
 use Rattle.vme_answer.specs.declared.refusal.Refusal.{Refusal}
 use Rattle.vme_audit_command.specs.Definitions.{AreAllBytesOf, IsFormed}
 use Rattle.vme_audit_command.specs.DumpAudits.{WritesPrefix, break_lines, given_all, lines_of}
-use Rattle.vme_dump_steps.specs.SettledReadings.{settled_by}
-use Rattle.vme_dump_steps.specs.SettledSteps.{ComesOut}
+use Rattle.vme_dump_input.specs.SettledReadings.{settled_by}
+use Rattle.vme_dump_input.specs.SettledSteps.{ComesOut}
 use Rattle.vme_skew.specs.Settling.{Settling}
 use Rattle.vme_trace.specs.LineNumbers.{line_count}
 use Rattle.vme_step_auditor.specs.ReadBy.{GivenSteps, is_stopped, read_by}

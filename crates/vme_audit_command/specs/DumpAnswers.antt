@@ -17,7 +17,7 @@ use Rattle.vme_audit_command.specs.Bodies.{IsWholeBody, ended_at}
 use Rattle.vme_audit_command.specs.Definitions.{AreAllBytesOf}
 use Rattle.vme_audit_command.specs.DumpAudits.{WritesPrefix, break_lines}
 use Rattle.vme_audit_command.specs.LastLines.{counts_unless, outcome_line_of}
-use Rattle.vme_dump_steps.specs.SettledReadings.{settled_by, skew_of}
+use Rattle.vme_dump_input.specs.SettledReadings.{settled_by, skew_of}
 use Rattle.vme_audit_command.specs.declared.told.NoOutcome.{NoOutcome}
 use Rattle.vme_audit_command.specs.declared.told.NoOutcome.TheVariants.{CannotRead, NotWritten, Refused}
 use Rattle.vme_audit_command.specs.declared.told.TellFault.TheVariants.{Memory, CannotWrite}

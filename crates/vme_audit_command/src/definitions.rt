@@ -12,7 +12,7 @@ use std::alloc::Global;
 use vcd_read::whole_tokens;
 use vme_answer::Refusal;
 use vme_bind::{Binding, CaptureFault};
-use vme_dump_steps::DefinitionsEnd;
+use vme_dump_input::DefinitionsEnd;
 use vme_step_reader::{StepReader, begin_last_steps, begin_steps};
 use vme_trace::Source;
 

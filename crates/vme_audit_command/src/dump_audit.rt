@@ -26,7 +26,7 @@ use vme_audit_lines::{
     count_lines, dump_head, outcome_line, outcome_status, unasked_is_never_asked,
 };
 use vme_bind::Binding;
-use vme_dump_steps::settler_for;
+use vme_dump_input::settler_for;
 use vme_skew::StepSettler;
 use vme_step_auditor::{AuditRules, StepAuditor};
 use vme_step_reader::StepReader;

@@ -8,7 +8,7 @@
 //! - `definitions`: reads as far as the definitions end. They are looked for again only where they
 //!   may have ended, so that this takes time in proportion to the bytes.
 //! - `body`: takes the steps that each piece completes, settles them if there is a skew (by
-//!   vme_dump_steps), audits them and reports their breaks (`told`), before the next read.
+//!   vme_dump_input), audits them and reports their breaks (`told`), before the next read.
 //! - `dump_input`: the bytes that were read and not taken.
 //! - `junit`: the same as a JUnit file ([`TestSuite`], [`junit_file`]).
 //!
@@ -20,7 +20,7 @@
 //!   definitions give the dumps' bytes, however these come, one dump after the other: a line for
 //!   each break with its standing, the counts, the rules that are never asked, and the outcome
 //!   (`specs/DumpAnswers`). By a skew a text is of what the recording settles to, and before a
-//!   fault of what is complete of that by the last time before it (`specs/SettledReadings` of vme_dump_steps). With
+//!   fault of what is complete of that by the last time before it (`specs/SettledReadings` of vme_dump_input). With
 //!   `stop` it is that of the recording as far as it is audited, and a later fault is not met.
 //!   Standard error is exactly the lines that say why dumps have no outcome, in the same order. The
 //!   exit status is the first of 5, 4, 3, 1, 2, 6 that occurred, of all dumps, or else 0. Where a

@@ -18,7 +18,7 @@ use Rattle.vme_skew.proofs.Laws.{by_zero}
 use Rattle.vme_cert.specs.Comparing.{Decides}
 use Rattle.vme_cert.specs.declared.compare.Answer.{Answer}
 use Rattle.vme_step_reader.specs.StepReading.{StepReading, whole_reading}
-use Rattle.vme_dump_steps.specs.SettledReadings.{settled_whole, skew_of}
+use Rattle.vme_dump_input.specs.SettledReadings.{settled_whole, skew_of}
 use Rattle.vme_dump_input.specs.DumpBeginnings.{IsReadDump, IsSound}
 use Rattle.vme_confirm_command.specs.DumpChecks.{FindsOf}
 use Rattle.vme_confirm_command.specs.DumpChecks.{IsChecked}

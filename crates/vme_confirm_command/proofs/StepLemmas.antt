@@ -21,8 +21,8 @@ use Rattle.vme_skew.proofs.Complete.{until-front}
 use Rattle.vme_skew.proofs.Laws.{no_longer}
 use Rattle.vme_cert.specs.Checking.{MayGoOn, last_levels}
 use Rattle.vme_cert.proofs.Checking.{sound-step}
-use Rattle.vme_dump_steps.specs.SettledReadings.{settled_so_far, settled_whole}
-use Rattle.vme_dump_steps.specs.SettledSteps.{ComesOut}
+use Rattle.vme_dump_input.specs.SettledReadings.{settled_so_far, settled_whole}
+use Rattle.vme_dump_input.specs.SettledSteps.{ComesOut}
 use Rattle.vme_confirm_command.specs.StepChecks.{ComesTo, StepsMayFollow}
 
 -- ---- one step more of some

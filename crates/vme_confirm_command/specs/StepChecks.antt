@@ -14,8 +14,8 @@ use Rattle.vme_cert.specs.Checking.{HasCompared, HasFollowed}
 use Rattle.vme_cert.specs.Comparing.{Decides}
 use Rattle.vme_cert.specs.declared.checker.Checker.{Checker}
 use Rattle.vme_cert.specs.declared.compare.Answer.{Answer}
-use Rattle.vme_dump_steps.specs.SettledReadings.{settled_whole}
-use Rattle.vme_dump_steps.specs.SettledSteps.{ComesOut}
+use Rattle.vme_dump_input.specs.SettledReadings.{settled_whole}
+use Rattle.vme_dump_input.specs.SettledSteps.{ComesOut}
 
 -- the steps that were given are counted, and this came out of them; or they are too many
 abbrev pub ComesTo : Option ℕ → Trace → ℕ → Option Settling → ℕ → Bool → Trace → Type 0

@@ -7,7 +7,7 @@ ghost use Rattle.vme_bind.specs.Binding.{BoundLines};
 ghost use Rattle.vme_listing.specs.declared.row.Version.{Version};
 ghost use Rattle.vme_stream.specs.Inputs.{longest_input};
 ghost use Rattle.vme_cert.specs.Checking.{HasCompared};
-ghost use Rattle.vme_dump_steps.specs.SettledReadings.{skew_of};
+ghost use Rattle.vme_dump_input.specs.SettledReadings.{skew_of};
 ghost use Rattle.vme_dump_input.specs.DumpBeginnings.{IsAtBody, IsBodyUnread};
 ghost use Rattle.vme_confirm_command.specs.DumpChecks.{Compares, IsChecked};
 ghost use Rattle.vme_dump_input.specs.DumpBeginnings.{MayBeRead, BeginsDump};

@@ -9,14 +9,14 @@ ghost use Rattle.vme_trace.specs.WellFormed.{capture_limit};
 ghost use Rattle.vme_listing.specs.declared.row.Row.{Row};
 ghost use Rattle.vme_listing.specs.declared.row.Version.{Version};
 ghost use Rattle.vme_cert.specs.Checking.{HasCompared, HasFollowed, at_opening};
-ghost use Rattle.vme_dump_steps.specs.SettledReadings.{skew_of};
-ghost use Rattle.vme_dump_steps.specs.SettledSteps.{GoOnFrom, GoOnTo};
+ghost use Rattle.vme_dump_input.specs.SettledReadings.{skew_of};
+ghost use Rattle.vme_dump_input.specs.SettledSteps.{GoOnFrom, GoOnTo};
 ghost use Rattle.vme_confirm_command.specs.StepChecks.{Finds, HasStepped, IsComparing, StepsMayFollow};
 
 use std::alloc::{AllocError, Global};
 use vme_bind::{BindFault, BindKind};
 use vme_cert::{Answer, Checker, RowSource};
-use vme_dump_steps::{last_steps, settled_steps, settler_for};
+use vme_dump_input::{last_steps, settled_steps, settler_for};
 use vme_listing::Version;
 use vme_skew::StepSettler;
 use vme_trace::{Lines, Step};

@@ -13,8 +13,8 @@ use Rattle.vme_bind.specs.Binding.{BoundLines}
 use Rattle.vme_bind.specs.TextReading.{StopsAs, TextReading, reading_of_text}
 use Rattle.vme_stream.specs.Inputs.{longest_input}
 use Rattle.vme_step_reader.specs.StepReading.{StepReading, whole_reading}
-use Rattle.vme_dump_steps.specs.SettledSteps.{GoOnFrom, GoOnTo}
-use Rattle.vme_dump_steps.proofs.ReadSteps.{GivenIsPrefix, StepsFollow, StepsWithin, TimeGoesOn, steps-from, steps-to}
+use Rattle.vme_dump_input.specs.SettledSteps.{GoOnFrom, GoOnTo}
+use Rattle.vme_dump_input.proofs.ReadSteps.{GivenIsPrefix, StepsFollow, StepsWithin, TimeGoesOn, steps-from, steps-to}
 use Rattle.vme_dump_input.specs.DumpBeginnings.{HasFault, HasFaultBefore, IsAtBody, IsSound}
 use Rattle.vme_dump_input.specs.BufferedInputs.{InputSoFar, IsAllOf, IsGrown, IsReadTo}
 use Rattle.vme_dump_input.specs.BodyPieces.{IsAtEnd}

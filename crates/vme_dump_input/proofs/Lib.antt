@@ -3,3 +3,6 @@ pub mod DumpTexts
 pub mod DumpRefusals
 pub mod DefinitionLemmas
 pub mod BodyLemmas
+pub mod SettlingLemmas
+pub mod FirstSteps
+pub mod ReadSteps

@@ -1,3 +1,5 @@
 pub mod BufferedInputs
 pub mod DumpBeginnings
 pub mod BodyPieces
+pub mod SettledReadings
+pub mod SettledSteps

@@ -17,11 +17,11 @@ ghost use Rattle.vme_dump_input.specs.DumpBeginnings.{MayBegin};
 ghost use Rattle.vme_dump_input.specs.DumpBeginnings.{BeginsDump};
 
 use crate::buffered_input::BufferedInput;
+use crate::definitions_end::DefinitionsEnd;
 use std::alloc::{AllocError, Global};
 use vcd_read::{VcdFault, whole_tokens};
 use vme_answer::{Input, Refusal, captured_in};
 use vme_bind::{BindFault, Binding, CaptureFault};
-use vme_dump_steps::DefinitionsEnd;
 use vme_step_reader::{StepReader, begin_last_steps, begin_steps};
 use vme_stream::InFault;
 use vme_trace::Source;

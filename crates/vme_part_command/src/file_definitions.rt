@@ -16,8 +16,7 @@ use vcd_read::whole_tokens;
 use vcd_start::{Start, start_in, start_of_text};
 use vme_answer::Refusal;
 use vme_bind::{BindFault, Binding, CaptureFault};
-use vme_dump_input::{Begun, BufferedInput, not_begun, unread};
-use vme_dump_steps::DefinitionsEnd;
+use vme_dump_input::{Begun, BufferedInput, DefinitionsEnd, not_begun, unread};
 use vme_step_reader::{StepReader, begin_last_steps, begin_steps};
 use vme_trace::Source;
 

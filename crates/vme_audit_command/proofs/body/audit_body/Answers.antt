@@ -2,7 +2,7 @@ use Rattle.std.proofs.Common.{◌++◌, Err, Ok, ap, subst}
 use Rattle.vme_audit_command.specs.declared.told.NoOutcome.TheVariants.{CannotRead}
 use Rattle.vme_audit_command.specs.Bodies.{EndsBehind}
 use Rattle.vme_audit_command.specs.DumpAudits.{lines_of}
-use Rattle.vme_dump_steps.specs.SettledReadings.{settled_by}
+use Rattle.vme_dump_input.specs.SettledReadings.{settled_by}
 use Rattle.vme_step_reader.specs.StepReading.{whole_reading}
 use Rattle.vme_audit_command.proofs.BodyPieces.{given-next, no-more-ends, takes-some, underway-ends, underway-fails}
 use Rattle.vme_audit_command.proofs.BodyPieces.{underway-first, underway-last, underway-on, underway-read}

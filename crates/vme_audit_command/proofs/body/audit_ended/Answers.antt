@@ -2,7 +2,7 @@ use Rattle.std.proofs.Common.{◌≡◌, OnOk, ap, subst, ◌∙◌}
 use Rattle.vme_trace.specs.Followed.{with_steps}
 use Rattle.vme_trace.specs.WellFormed.{malformed_step}
 use Rattle.vme_audit_command.specs.DumpAudits.{given_all}
-use Rattle.vme_dump_steps.specs.SettledReadings.{settled_whole}
+use Rattle.vme_dump_input.specs.SettledReadings.{settled_whole}
 use Rattle.vme_audit_command.proofs.Onward.{to-end}
 use Rattle.vme_audit_command.proofs.PieceLemmas.{goes-to, memory-goes}
 use Rattle.vme_audit_command.proofs.body.audit_ended.Goals as goal

@@ -7,7 +7,7 @@ use Rattle.vme_step_reader.specs.StepReading.{whole_reading}
 use Rattle.vme_audit_command.specs.declared.told.NoOutcome.TheVariants.{Refused}
 use Rattle.vme_audit_command.specs.Bodies.{EndsBehind, IsLater}
 use Rattle.vme_audit_command.specs.DumpAudits.{lines_of}
-use Rattle.vme_dump_steps.specs.SettledReadings.{settled_by, settled_so_far}
+use Rattle.vme_dump_input.specs.SettledReadings.{settled_by, settled_so_far}
 use Rattle.vme_audit_command.proofs.Later.{later-by, on-any}
 use Rattle.vme_audit_command.proofs.Onward.{stopped-fault, stopped-is, stopped-on, stopped-to, to-next}
 use Rattle.vme_audit_command.proofs.PieceLemmas.{cut-ends, fault-ends}

@@ -3,7 +3,7 @@ use Rattle.vme_trace.specs.Followed.{with_steps}
 use Rattle.vme_step_reader.specs.StepReading.{whole_reading}
 use Rattle.vme_audit_command.specs.Bodies.{EndsBehind}
 use Rattle.vme_audit_command.specs.DumpAudits.{lines_of}
-use Rattle.vme_dump_steps.specs.SettledReadings.{settled_by, settled_whole}
+use Rattle.vme_dump_input.specs.SettledReadings.{settled_by, settled_whole}
 use Rattle.vme_audit_command.proofs.Later.{later-by}
 use Rattle.vme_audit_command.proofs.Onward.{last-from, last-is, last-on, to-end}
 use Rattle.vme_audit_command.proofs.PieceLemmas.{cut-ends, whole-ends}

@@ -1,7 +1,7 @@
 use Rattle.std.proofs.Common.{◌++◌, []}
 use Rattle.vme_trace.specs.Followed.{with_steps}
 use Rattle.vme_step_reader.specs.StepReading.{whole_reading}
-use Rattle.vme_dump_steps.specs.SettledReadings.{settled_so_far}
+use Rattle.vme_dump_input.specs.SettledReadings.{settled_so_far}
 use Rattle.vme_audit_command.proofs.GivenPieces.{piece-cut, piece-steps, piece-taken}
 use Rattle.vme_audit_command.proofs.Later.{later-by, none-kept}
 use Rattle.vme_audit_command.proofs.Onward.{to-next}

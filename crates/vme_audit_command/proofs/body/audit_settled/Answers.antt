@@ -2,8 +2,8 @@ use Rattle.std.proofs.Common.{◌≡◌, OnOk, ap, subst, sym, ◌∙◌}
 use Rattle.vme_trace.specs.Followed.{with_steps}
 use Rattle.vme_trace.specs.WellFormed.{malformed_step}
 use Rattle.vme_audit_command.specs.DumpAudits.{given_all}
-use Rattle.vme_dump_steps.specs.SettledReadings.{settled_so_far}
-use Rattle.vme_dump_steps.specs.SettledSteps.{ComesOut}
+use Rattle.vme_dump_input.specs.SettledReadings.{settled_so_far}
+use Rattle.vme_dump_input.specs.SettledSteps.{ComesOut}
 use Rattle.vme_audit_command.proofs.Later.{on-given}
 use Rattle.vme_audit_command.proofs.Onward.{to-next}
 use Rattle.vme_audit_command.proofs.PieceLemmas.{goes-to, memory-goes}

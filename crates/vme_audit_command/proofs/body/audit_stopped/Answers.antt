@@ -1,5 +1,5 @@
 use Rattle.vme_step_reader.specs.StepReading.{whole_reading}
-use Rattle.vme_dump_steps.specs.SettledReadings.{settled_by}
+use Rattle.vme_dump_input.specs.SettledReadings.{settled_by}
 use Rattle.vme_audit_command.proofs.Onward.{given-on}
 use Rattle.vme_audit_command.proofs.PieceLemmas.{memory-ends}
 use Rattle.vme_audit_command.proofs.body.audit_stopped.Goals as goal

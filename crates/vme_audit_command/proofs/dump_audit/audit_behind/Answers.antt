@@ -1,7 +1,7 @@
 use Rattle.std.proofs.Common.{[], sym}
 use Rattle.vme_step_reader.specs.StepReading.{whole_reading}
-use Rattle.vme_dump_steps.specs.SettledReadings.{skew_of}
-use Rattle.vme_dump_steps.proofs.FirstSteps.{comes-first}
+use Rattle.vme_dump_input.specs.SettledReadings.{skew_of}
+use Rattle.vme_dump_input.proofs.FirstSteps.{comes-first}
 use Rattle.vme_audit_command.proofs.AnswerLemmas.{behind-unwritten, behind-with, behind-without, given-first}
 use Rattle.vme_audit_command.proofs.AnswerLemmas.{no-lines}
 use Rattle.vme_audit_command.proofs.dump_audit.audit_behind.Goals as goal

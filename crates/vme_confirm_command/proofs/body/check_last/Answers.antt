@@ -2,7 +2,7 @@
 use Rattle.std.proofs.Common.{[], Some}
 use Rattle.vme_trace.specs.Followed.{with_steps}
 use Rattle.vme_step_reader.specs.StepReading.{whole_reading}
-use Rattle.vme_dump_steps.specs.SettledReadings.{skew_of}
+use Rattle.vme_dump_input.specs.SettledReadings.{skew_of}
 use Rattle.vme_dump_input.proofs.BodyLemmas.{last-goes, stops-fault}
 use Rattle.vme_confirm_command.proofs.BodyLemmas.{finds-of}
 use Rattle.vme_dump_input.proofs.DumpRefusals.{faulty-is}

@@ -3,7 +3,7 @@ use Rattle.std.proofs.Common.{[], subst}
 use Rattle.std.specs.Prelude.{Ok}
 use Rattle.vme_dump_input.specs.DumpBeginnings.{BeginsDump}
 use Rattle.vme_dump_input.specs.declared.definitions.Begun.{Begun}
-use Rattle.vme_dump_steps.specs.SettledReadings.{skew_of}
+use Rattle.vme_dump_input.specs.SettledReadings.{skew_of}
 use Rattle.vme_confirm_command.proofs.body.compare_begun.Goals as goal
 
 pub compare_body-requires : goal.compare_body-requires

@@ -1,6 +1,6 @@
 -- The steps of each piece are compared.
 use Rattle.std.proofs.Common.{ℕ, List, refl, subst, sym, ◌∙◌}
-use Rattle.vme_dump_steps.specs.SettledReadings.{skew_of}
+use Rattle.vme_dump_input.specs.SettledReadings.{skew_of}
 use Rattle.vme_dump_input.specs.BufferedInputs.{FailsAs}
 use Rattle.vme_dump_input.specs.BodyPieces.{IsAtEnd}
 use Rattle.vme_dump_input.proofs.BodyLemmas.{body-ends, body-grown}

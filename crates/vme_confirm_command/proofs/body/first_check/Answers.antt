@@ -4,7 +4,7 @@ use Rattle.vme_trace.specs.Levels.{Levels}
 use Rattle.vme_trace.specs.Trace.{Trace}
 use Rattle.vme_step_reader.specs.StepReading.{whole_reading}
 use Rattle.vme_cert.specs.Checking.{HasCompared, at_opening}
-use Rattle.vme_dump_steps.specs.SettledReadings.{skew_of}
+use Rattle.vme_dump_input.specs.SettledReadings.{skew_of}
 use Rattle.vme_confirm_command.specs.StepChecks.{HasStepped}
 use Rattle.vme_dump_input.proofs.DefinitionLemmas.{unread-given, unread-sound}
 use Rattle.vme_confirm_command.proofs.body.first_check.Goals as goal

@@ -4,8 +4,8 @@ use Rattle.vme_trace.specs.Followed.{with_steps}
 use Rattle.vme_trace.specs.Trace.{Trace}
 use Rattle.vme_trace.specs.WellFormed.{capture_limit}
 use Rattle.vme_cert.specs.Checking.{HasCompared, HasFollowed}
-use Rattle.vme_dump_steps.specs.SettledReadings.{settled_whole}
-use Rattle.vme_dump_steps.proofs.ReadSteps.{whole-formed}
+use Rattle.vme_dump_input.specs.SettledReadings.{settled_whole}
+use Rattle.vme_dump_input.proofs.ReadSteps.{whole-formed}
 use Rattle.vme_confirm_command.proofs.StepLemmas.{limited-fits, limited-long, many-came, may-whole, not-many}
 use Rattle.vme_confirm_command.proofs.step_check.StepCheck.finish.Goals as goal
 

@@ -1,6 +1,6 @@
 use Rattle.std.proofs.Common.{refl, arith}
 use Rattle.vme_cert.specs.Checking.{at_opening}
-use Rattle.vme_dump_steps.proofs.FirstSteps.{comes-first}
+use Rattle.vme_dump_input.proofs.FirstSteps.{comes-first}
 use Rattle.vme_confirm_command.proofs.step_check.StepCheck.new.Goals as goal
 
 pub returns-clause-stepped : goal.returns-clause-stepped

@@ -3,7 +3,7 @@ use Rattle.std.proofs.Common.{◌≤◌, ◌++◌, length, ap, ◌∙◌, arith,
 use Rattle.vme_trace.specs.Followed.{with_steps}
 use Rattle.vme_trace.specs.WellFormed.{capture_limit}
 use Rattle.vme_cert.specs.Checking.{HasFollowed}
-use Rattle.vme_dump_steps.proofs.ReadSteps.{so-far-formed}
+use Rattle.vme_dump_input.proofs.ReadSteps.{so-far-formed}
 use Rattle.vme_confirm_command.proofs.StepLemmas.{comes-few, comes-many, many-came, may-so_far, not-many}
 use Rattle.vme_confirm_command.proofs.step_check.StepCheck.take.Goals as goal
 

@@ -1,7 +1,7 @@
 use Rattle.std.proofs.Common.{◌≡◌, IfOk, subst}
-use Rattle.vme_dump_steps.specs.SettledSteps.{settled_to}
-use Rattle.vme_dump_steps.proofs.SettlingLemmas.{steps-come, steps-settled}
-use Rattle.vme_dump_steps.proofs.settling.settled_steps.Goals as goal
+use Rattle.vme_dump_input.specs.SettledSteps.{settled_to}
+use Rattle.vme_dump_input.proofs.SettlingLemmas.{steps-come, steps-settled}
+use Rattle.vme_dump_input.proofs.settling.settled_steps.Goals as goal
 
 pub returns-in-Some-clause-comes : goal.returns-in-Some-clause-comes
 returns-in-Some-clause-comes c = λ skew given t from h go.

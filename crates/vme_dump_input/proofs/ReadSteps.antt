@@ -16,8 +16,8 @@ use Rattle.vme_skew.specs.Settled.{settled, settled_until}
 use Rattle.vme_skew.proofs.Laws.{is_recording}
 use Rattle.vme_skew.proofs.SettlerSteps.{until-recording}
 use Rattle.vme_step_reader.specs.StepReading.{StepReading, whole_reading}
-use Rattle.vme_dump_steps.specs.SettledReadings.{settled_so_far, settled_whole}
-use Rattle.vme_dump_steps.specs.SettledSteps.{GoOnFrom, GoOnTo}
+use Rattle.vme_dump_input.specs.SettledReadings.{settled_so_far, settled_whole}
+use Rattle.vme_dump_input.specs.SettledSteps.{GoOnFrom, GoOnTo}
 
 -- the times of the steps that are still to come
 abbrev pub StepsFollow : Type 0

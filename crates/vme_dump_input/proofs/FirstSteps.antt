@@ -8,8 +8,8 @@ use Rattle.vme_trace.specs.declared.step.Step.{Step}
 use Rattle.vme_skew.specs.Settled.{is_complete, settled, settled_until}
 use Rattle.vme_skew.specs.Settling.{Settling}
 use Rattle.vme_skew.proofs.Laws.{no_longer}
-use Rattle.vme_dump_steps.specs.SettledReadings.{skew_of}
-use Rattle.vme_dump_steps.specs.SettledSteps.{ComesOut, IsSettlerFor}
+use Rattle.vme_dump_input.specs.SettledReadings.{skew_of}
+use Rattle.vme_dump_input.specs.SettledSteps.{ComesOut, IsSettlerFor}
 
 -- nothing comes out before the first step
 none-first : (skew : ℕ) (given : Trace) → given.steps ≡ [] → given ≡ settled_until skew 0 given

@@ -2,9 +2,9 @@ use Rattle.std.proofs.Common.{◌≡◌, ◌++◌, ◌&&◌, true, None, IfOk, s
 use Rattle.vme_trace.specs.Followed.{with_steps}
 use Rattle.vme_trace.specs.WellFormed.{malformed_step}
 use Rattle.vme_skew.specs.Settled.{settled}
-use Rattle.vme_dump_steps.specs.SettledSteps.{are_in_order}
-use Rattle.vme_dump_steps.proofs.SettlingLemmas.{last-come}
-use Rattle.vme_dump_steps.proofs.settling.last_steps.Goals as goal
+use Rattle.vme_dump_input.specs.SettledSteps.{are_in_order}
+use Rattle.vme_dump_input.proofs.SettlingLemmas.{last-come}
+use Rattle.vme_dump_input.proofs.settling.last_steps.Goals as goal
 
 pub returns-in-Some : goal.returns-in-Some
 returns-in-Some c = λ skew given t from h go.

@@ -7,9 +7,9 @@ ghost use Rattle.vme_trace.specs.Trace.{Trace};
 ghost use Rattle.vme_trace.specs.WellFormed.{malformed_step};
 ghost use Rattle.vme_skew.specs.Settled.{settled as settled_recording};
 ghost use Rattle.vme_skew.specs.Settling.{IsSettledSoFar};
-ghost use Rattle.vme_dump_steps.specs.SettledReadings.{settled_so_far, settled_whole};
-ghost use Rattle.vme_dump_steps.specs.SettledSteps.{ComesOut, GoOnFrom, GoOnTo, IsSettlerFor, all_taken};
-ghost use Rattle.vme_dump_steps.specs.SettledSteps.{are_in_order, settled_to};
+ghost use Rattle.vme_dump_input.specs.SettledReadings.{settled_so_far, settled_whole};
+ghost use Rattle.vme_dump_input.specs.SettledSteps.{ComesOut, GoOnFrom, GoOnTo, IsSettlerFor, all_taken};
+ghost use Rattle.vme_dump_input.specs.SettledSteps.{are_in_order, settled_to};
 
 use std::alloc::{AllocError, Global};
 use vme_skew::StepSettler;

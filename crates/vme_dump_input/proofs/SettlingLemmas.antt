@@ -14,9 +14,9 @@ use Rattle.vme_trace.specs.declared.step.Step.{Step}
 use Rattle.vme_summary.proofs.Sound.{MayStand, sound_apart, sound_stands}
 use Rattle.vme_skew.specs.Settled.{settled, settled_until}
 use Rattle.vme_skew.specs.Settling.{IsSettledSoFar, Settling, taken}
-use Rattle.vme_dump_steps.specs.SettledReadings.{settled_so_far, settled_whole}
-use Rattle.vme_dump_steps.specs.SettledSteps.{ComesOut, GoOnFrom, GoOnTo, IsSettledTo, all_taken, are_in_order}
-use Rattle.vme_dump_steps.specs.SettledSteps.{reached_at, settled_to}
+use Rattle.vme_dump_input.specs.SettledReadings.{settled_so_far, settled_whole}
+use Rattle.vme_dump_input.specs.SettledSteps.{ComesOut, GoOnFrom, GoOnTo, IsSettledTo, all_taken, are_in_order}
+use Rattle.vme_dump_input.specs.SettledSteps.{reached_at, settled_to}
 
 reached-more : (reached : ℕ) (steps : List Step) (step : Step)
     → max (reached_at reached steps) step.time ≡ reached_at reached (steps ++ step ∷ [])

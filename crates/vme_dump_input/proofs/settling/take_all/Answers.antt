@@ -1,7 +1,7 @@
 use Rattle.std.proofs.Common.{◌≡◌, [], subst, sym}
-use Rattle.vme_dump_steps.specs.SettledSteps.{all_taken}
-use Rattle.vme_dump_steps.proofs.SettlingLemmas.{all-next, all-none}
-use Rattle.vme_dump_steps.proofs.settling.take_all.Goals as goal
+use Rattle.vme_dump_input.specs.SettledSteps.{all_taken}
+use Rattle.vme_dump_input.proofs.SettlingLemmas.{all-next, all-none}
+use Rattle.vme_dump_input.proofs.settling.take_all.Goals as goal
 
 pub loop-step-init : goal.loop-step-init
 loop-step-init c =

@@ -1,3 +1,0 @@
-pub mod SettlingLemmas
-pub mod FirstSteps
-pub mod ReadSteps

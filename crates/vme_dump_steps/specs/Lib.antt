@@ -1,2 +1,0 @@
-pub mod SettledReadings
-pub mod SettledSteps
