@@ -1,6 +1,7 @@
 //! What the refusals of inputs mean, for people: what each kind of them means, what was expected
 //! there, what usually causes it, and the remedy; what kind of file stands in the place of a dump
-//! or of a binding; and which paths of a dump are nearest to one that it lacks.
+//! or of a binding; which paths of a dump are nearest to one that it lacks; and the lines of a dump
+//! that a refusal may name.
 //!
 //! # Parts
 //!
@@ -11,6 +12,8 @@
 //! - `file_kind`: [`FileKind::of`] says by its first bytes what kind of file some bytes are, and
 //!   which program makes a plain dump of it.
 //! - `nearness`: [`nearest`], the variables whose paths are nearest to one.
+//! - `kept_lines`: [`KeptLines`], which passes over the pieces of a dump, and keeps the line of a
+//!   fault; `line_words`: which bytes are spaces, and the words of a line.
 //!
 //! # What is proved
 //!
@@ -25,21 +28,28 @@
 //! # What isn't proved
 //!
 //! That the texts are true and helpful: they are to be read beside docs/FORMATS.md, which says when
-//! each fault comes. `tests/texts` compares docs/RECORDING.md with them.
+//! each fault comes. `tests/texts` compares docs/RECORDING.md with them. That the line that is kept is
+//! that of the whole text: `tests/texts` compares what is shown of refused dumps, and
+//! vme_faults_tests cuts dumps at each of their tokens.
 //!
 //! # Limits
 //!
-//! A kind of file is known by its first bytes alone: what stands after them isn't looked at. Start
-//! reading at `page`.
+//! A kind of file is known by its first bytes alone: what stands after them isn't looked at. Kept are
+//! the line that is read, the line of the last token, and those of a bracket and of a comment that
+//! are open; no fault that is met later is of another line. Memory is in proportion to the longest
+//! line. Start reading at `page`.
 #![tactic(auto)]
 
 mod file_kind;
+mod kept_lines;
 mod kind;
+mod line_words;
 mod nearness;
 mod page;
 mod refusal;
 
 pub use file_kind::FileKind;
+pub use kept_lines::KeptLines;
 pub use kind::Kind;
 pub use nearness::{NearVariable, nearest};
 pub use page::{Page, faults_text, push_page};

@@ -2,8 +2,7 @@
 
 use std::alloc::{AllocError, Global};
 use vcd_read::VcdFault;
-use vme_faults::FileKind;
-use vme_kept_lines::KeptLines;
+use vme_faults::{FileKind, KeptLines};
 
 /// What was seen of a dump.
 #[derive(Drop)]

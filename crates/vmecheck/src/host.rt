@@ -120,7 +120,7 @@ impl Environment for Host<'_> {
             };
         }
         match fs::metadata(self.rt, path) {
-            Ok(found) if found.reads_file() => PathEntry::File {
+            Ok(found) if found.is_file() => PathEntry::File {
                 id: FileId {
                     device: found.dev(),
                     number: found.ino(),

@@ -2,8 +2,8 @@ use std::test::Fail;
 use vcd_read::{Variables, read_definitions};
 use vme_account::AccountVisitor;
 use vme_explain::{
-    Driver, FileId, PathEntry, SaveRefusal, Subject, driver_of, is_one_file, is_save_file, save_file,
-    save_refusal, save_refusal_text, time_name,
+    Driver, FileId, PathEntry, SaveRefusal, Subject, driver_of, is_one_file, is_save_file,
+    save_file, save_refusal, save_refusal_text, time_name,
 };
 use vme_trace::{Break, Line, Lines, Rule, Verdict};
 

@@ -1,6 +1,6 @@
 //! What is kept of a dump that is read in pieces, for the text of a refusal.
 
-use crate::words::{last_word, line_start, up_to_feed, word_from};
+use crate::line_words::{last_word, line_start, up_to_feed, word_from};
 use memchr::memchr;
 use std::alloc::{AllocError, Global};
 use vcd_read::line_feeds;

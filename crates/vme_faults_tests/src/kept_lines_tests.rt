@@ -1,6 +1,6 @@
 use std::alloc::{AllocError, Global};
 use std::test::Fail;
-use vme_kept_lines::KeptLines;
+use vme_faults::KeptLines;
 
 /// A dump with a bracket, and in it a comment; one of its lines ends with a carriage return.
 const DUMP: &str =
