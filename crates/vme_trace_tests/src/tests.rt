@@ -192,32 +192,27 @@ fn lines_by_place(rt: HostRuntime) {
     assert!(rt; Line::iack(21).number() == 158);
 }
 
-/// Whether a rule of that name is found, has that name, and is one by which a recording can't be read on where its
-/// letter says so.
-fn is_rule(name: &[u8]) -> bool {
-    match Rule::from_name(name) {
-        Some(rule) => {
-            rule.name().as_bytes() == name && rule.is_unreadable() == name.starts_with(b"U")
+/// Whether a rule is named as its variant is, is found by that name, and is one by which a recording can't be read on
+/// where its letter says so.
+fn is_rule_named(alloc: Global, rule: Rule) -> bool {
+    let name = rule.name();
+    match format!(in alloc; "{rule:?}") {
+        Ok(variant) => {
+            variant.as_bytes() == name.as_bytes()
+                && Rule::from_name(variant.as_bytes()) == Some(rule)
+                && rule.is_unreadable() == variant.starts_with('U')
         }
-        None => false,
+        Err(_) => false,
     }
 }
 
-/// The names of the rules.
-static RULES: [&str; 31] = [
-    "U1", "U2", "U3", "U4", "H1", "H2", "H3", "H4", "H5", "H6", "H7", "H8", "S1", "S2", "S3", "C1",
-    "C2", "G1", "G2", "G3", "G4", "G5", "B1", "B2", "B3", "B4", "I1", "I2", "I3", "I4", "I5",
-];
-
 /// No rule has one of these names.
-static NO_RULES: [&str; 12] = [
-    "", "U", "U0", "U5", "H9", "S4", "C3", "G6", "B5", "I6", "u1", "U1 ",
-];
+static NO_RULES: [&str; 9] = ["", "U", "1", "U0", "X1", "u1", "U1 ", "U01", "1U"];
 
 #[test]
 fn rule_names(rt: HostRuntime) {
-    for name in RULES.iter() {
-        assert!(rt; is_rule(name.as_bytes()), "{name}");
+    for rule in Rule::ALL {
+        assert!(rt; is_rule_named(rt.alloc(), rule), "{rule:?}");
     }
     for name in NO_RULES.iter() {
         assert!(rt; Rule::from_name(name.as_bytes()).is_none(), "{name}");
