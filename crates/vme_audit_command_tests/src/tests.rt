@@ -183,9 +183,32 @@ fn dump_of<'a>(name: &'a [u8], body: &'a str, feed: DumpFeed) -> ReadDump<'a> {
 /// What is written, and the status.
 #[derive(Clone, Copy)]
 struct WantedAudit<'a> {
+    /// The lines, where `..` at the end of one stands for the names of rules.
     out: &'a [u8],
     err: &'a [u8],
     status: u8,
+}
+
+/// Whether a line is the one that is wanted, up to its `..`, if it has one.
+fn is_line(line: &[u8], wanted: &[u8]) -> bool {
+    match wanted.strip_suffix(b"..") {
+        Some(front) => line.starts_with(front),
+        None => line == wanted,
+    }
+}
+
+fn count_lines(text: &[u8]) -> usize {
+    text.split(|byte| *byte == b'\n').count()
+}
+
+/// Whether these are the lines of a text.
+fn has_lines(text: &[u8], wanted: &[u8]) -> bool {
+    let lines = text.split(|byte| *byte == b'\n');
+    let wanted_lines = wanted.split(|byte| *byte == b'\n');
+    count_lines(text) == count_lines(wanted)
+        && lines
+            .zip(wanted_lines)
+            .all(|(line, wanted)| is_line(line, wanted))
 }
 
 /// Whether dumps are audited by a text, with this outcome, where so many bytes can be written.
@@ -210,7 +233,7 @@ fn audits(
         &mut err,
     );
     (is_audited, status) == (wanted.0, wanted.1.status)
-        && out.bytes.as_slice() == wanted.1.out
+        && has_lines(out.bytes.as_slice(), wanted.1.out)
         && err.bytes.as_slice() == wanted.1.err
 }
 
@@ -292,7 +315,7 @@ fn counts_are_told(rt: HostRuntime) {
         out: b"d: 0 broken, 0 unreadable, 0 allowed
 d: 0 resets, 0 tenures, 1 cycles (1 single, 0 block, 0 free, 0 acknowledge)
 d: 1 transfers (1 read, 0 write; 1 by DTACK, 0 by BERR, 0 pending)
-d: never asked: U4 H3 S3 C1 C2 G1 G2 G3 G4 G5 B1 B2 B4 I1 I2 I3 I4 I5
+d: never asked: U4 ..
 d: conforming
 ",
         err: b"",
@@ -511,21 +534,21 @@ d: broken
     status: 3,
 };
 
-/// The JUnit file of these.
+/// The JUnit file of these, where `..` at the end of a line stands for the names of rules.
 const JUNIT: &str = "<?xml version=\"1.0\" encoding=\"UTF-8\"?>
 <testsuite name=\"vmecheck\">
 <testcase name=\"a&lt;&quot;b&quot;&gt;?&amp;&#9;\">\
 <failure message=\"not covered: 1 of 2 transfers answered\"/><system-out>0 broken, 0 unreadable, 0 allowed
 0 resets, 0 tenures, 1 cycles (1 single, 0 block, 0 free, 0 acknowledge)
 1 transfers (1 read, 0 write; 1 by DTACK, 0 by BERR, 0 pending)
-never asked: U4 H3 S3 C1 C2 G1 G2 G3 G4 G5 B1 B2 B4 I1 I2 I3 I4 I5
+never asked: U4 ..
 </system-out></testcase>
 <testcase name=\"c\"><error message=\"dump line 12: BadToken\"/></testcase>
 <testcase name=\"d\"><failure message=\"broken H4 at instant 2 time 10 line DTACK\"/>\
 <failure message=\"broken H4 at instant 4 time 30 line BERR\"/><system-out>2 broken, 0 unreadable, 0 allowed
 0 resets, 0 tenures, 0 cycles (0 single, 0 block, 0 free, 0 acknowledge)
 0 transfers (0 read, 0 write; 0 by DTACK, 0 by BERR, 0 pending)
-never asked: U2 U3 U4 H1 H2 H3 H6 H7 H8 S1 S2 S3 C1 C2 G1 G2 G3 G4 G5 B1 B2 B3 B4 I1 I2 I3 I4 I5
+never asked: U2 U3 U4 ..
 </system-out></testcase>
 </testsuite>
 ";
@@ -533,7 +556,7 @@ never asked: U2 U3 U4 H1 H2 H3 H6 H7 H8 S1 S2 S3 C1 C2 G1 G2 G3 G4 G5 B1 B2 B3 B
 /// Whether the JUnit file of a suite is this.
 fn has_junit_file(alloc: Global, suite: &TestSuite, wanted: &str) -> bool {
     match junit_file(alloc, suite) {
-        Ok(text) => text.as_bytes() == wanted.as_bytes(),
+        Ok(text) => has_lines(text.as_bytes(), wanted.as_bytes()),
         Err(_) => false,
     }
 }

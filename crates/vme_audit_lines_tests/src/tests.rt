@@ -25,7 +25,7 @@ const LATE: AuditBreak = AuditBreak {
     line: Line::DTACK,
 };
 
-/// The events of a recording in which no single cycle goes on and no interrupt is acknowledged.
+/// The events of a recording in which no single cycle and no acknowledge goes on.
 const MANY_EVENTS: AskedEvents = AskedEvents {
     stretch: true,
     cycle: true,
@@ -39,13 +39,13 @@ const MANY_EVENTS: AskedEvents = AskedEvents {
     answer: true,
     single_again: false,
     block_again: true,
-    interrupt: false,
+    interrupt: true,
     interrupt_again: false,
     slot_grant_fall: true,
     slot_grant_rise: true,
     arbiter_fall: true,
     tenure: true,
-    acknowledge_fall: false,
+    acknowledge_fall: true,
 };
 
 /// Whether this text was made.
@@ -177,20 +177,18 @@ fn are_told(alloc: Global, head: &[u8], findings: &AuditFindings, lines: &[u8]) 
 const MANY_TOLD: &[u8] = b"4 broken, 2 unreadable, 0 allowed\n\
 3 resets, 5 tenures, 6 cycles (3 single, 2 block, 1 free, 0 acknowledge)\n\
 7 transfers (2 read, 5 write; 5 by DTACK, 1 by BERR, 1 pending)\n\
-never asked: C1 I1 I2 I3 I4 I5\n";
+never asked: C1 I5\n";
 
 #[test]
 fn counts_are_told(rt: HostRuntime) {
     let lines = b"-: 4 broken, 2 unreadable, 0 allowed\n\
 -: 3 resets, 5 tenures, 6 cycles (3 single, 2 block, 1 free, 0 acknowledge)\n\
 -: 7 transfers (2 read, 5 write; 5 by DTACK, 1 by BERR, 1 pending)\n\
--: never asked: C1 I1 I2 I3 I4 I5\n";
+-: never asked: C1 I5\n";
     assert!(rt; are_told(rt.alloc(), b"-: ", &found_with(MANY_EVENTS), lines));
     let all = AskedEvents {
         single_again: true,
-        interrupt: true,
         interrupt_again: true,
-        acknowledge_fall: true,
         ..MANY_EVENTS
     };
     let lines = b"4 broken, 2 unreadable, 0 allowed\n\
@@ -213,7 +211,7 @@ fn sums_do_not_wrap(rt: HostRuntime) {
 18446744073709551615 block, 1 free, 0 acknowledge)\n\
 36893488147419103230 transfers (18446744073709551615 read, 18446744073709551615 write; 5 by DTACK, \
 1 by BERR, 1 pending)\n\
-never asked: C1 I1 I2 I3 I4 I5\n";
+never asked: C1 I5\n";
     assert!(rt; are_told(rt.alloc(), b"", &findings, lines));
 }
 

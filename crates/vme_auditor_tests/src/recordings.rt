@@ -15,7 +15,8 @@ pub(crate) struct WorkedRecording {
     /// Resets, tenures, single, block, free and acknowledge cycles, reads, writes, and transfers by DTACK*, by BERR*
     /// and pending.
     pub counts: [u64; 11],
-    pub never_asked: &'static str,
+    /// The events that happen of which rules speak, as the fields of AskedEvents name them.
+    pub events: &'static str,
     /// What it comes to where every break is allowed, and no answered transfer is wanted, or one is.
     pub outcomes: (Outcome, Outcome),
 }
@@ -29,7 +30,7 @@ pub(crate) static RECORDINGS: [WorkedRecording; 22] = [
         steps: "",
         breaks: &[],
         counts: [0, 0, 0, 0, 0, 0, 0, 0, 0, 0, 0],
-        never_asked: "U1 U2 U3 U4 H1 H2 H3 H4 H5 H6 H7 H8 S1 S2 S3 C1 C2 G1 G2 G3 G4 G5 B1 B2 B3 B4 I1 I2 I3 I4 I5",
+        events: "",
         outcomes: (
             Outcome::NotCovered {
                 gap: CoverageGap::NeverIdle,
@@ -46,7 +47,7 @@ pub(crate) static RECORDINGS: [WorkedRecording; 22] = [
         steps: "",
         breaks: &[],
         counts: [0, 0, 0, 0, 0, 0, 0, 0, 0, 0, 0],
-        never_asked: "U2 U3 U4 H1 H2 H3 H4 H5 H6 H7 H8 S1 S2 S3 C1 C2 G1 G2 G3 G4 G5 B1 B2 B3 B4 I1 I2 I3 I4 I5",
+        events: "stretch",
         outcomes: (
             Outcome::Conforming { allowed: 0 },
             Outcome::NotCovered {
@@ -65,7 +66,8 @@ pub(crate) static RECORDINGS: [WorkedRecording; 22] = [
             DS0=0 DS1=0;DTACK=0;AS=1 DS0=1 DS1=1;DTACK=1;BBSY=1",
         breaks: &[],
         counts: [0, 1, 1, 0, 0, 0, 1, 0, 1, 0, 0],
-        never_asked: "U4 H3 S3 C1 C2 I1 I2 I3 I4 I5",
+        events: "stretch cycle cycle_end transfer strobe_rise answer_fall answer_rise answer \
+            slot_grant_fall slot_grant_rise arbiter_fall tenure",
         outcomes: (
             Outcome::Conforming { allowed: 0 },
             Outcome::Conforming { allowed: 0 },
@@ -78,7 +80,7 @@ pub(crate) static RECORDINGS: [WorkedRecording; 22] = [
         steps: "DTACK=0;BERR=0;BERR=1;DTACK=1;BERR=0;BERR=1",
         breaks: &[(1, 0, Rule::H4, "DTACK"), (5, 40, Rule::H4, "BERR")],
         counts: [0, 0, 0, 0, 0, 0, 0, 0, 0, 0, 0],
-        never_asked: "U2 U3 U4 H1 H2 H3 H6 H7 H8 S1 S2 S3 C1 C2 G1 G2 G3 G4 G5 B1 B2 B3 B4 I1 I2 I3 I4 I5",
+        events: "stretch answer_fall",
         outcomes: (
             Outcome::Conforming { allowed: 2 },
             Outcome::NotCovered {
@@ -96,7 +98,7 @@ pub(crate) static RECORDINGS: [WorkedRecording; 22] = [
         steps: "AM1=0 BBSY=0;AS=0;DS0=0;DTACK=0;AS=1 DS0=1;DTACK=1",
         breaks: &[(1, 0, Rule::B1, "BBSY")],
         counts: [0, 0, 1, 0, 0, 0, 1, 0, 1, 0, 0],
-        never_asked: "U4 H3 S3 C1 C2 G1 G2 G3 G4 G5 I1 I2 I3 I4 I5",
+        events: "stretch cycle cycle_end transfer strobe_rise answer_fall answer_rise answer tenure",
         outcomes: (
             Outcome::Conforming { allowed: 1 },
             Outcome::Conforming { allowed: 1 },
@@ -113,7 +115,7 @@ pub(crate) static RECORDINGS: [WorkedRecording; 22] = [
             (9, 80, Rule::H5, "DTACK"),
         ],
         counts: [0, 0, 1, 0, 0, 0, 1, 0, 0, 1, 0],
-        never_asked: "U4 H2 H3 H6 H7 S3 C1 C2 G1 G2 G3 G4 G5 B1 B2 B4 I1 I2 I3 I4 I5",
+        events: "stretch cycle transfer answer_fall answer",
         outcomes: (
             Outcome::Conforming { allowed: 3 },
             Outcome::Conforming { allowed: 3 },
@@ -131,7 +133,7 @@ pub(crate) static RECORDINGS: [WorkedRecording; 22] = [
             (11, 100, Rule::H4, "BERR"),
         ],
         counts: [2, 0, 1, 0, 0, 0, 0, 1, 0, 0, 1],
-        never_asked: "H2 H3 H6 H7 H8 C1 C2 G1 G2 G3 G4 G5 I1 I2 I3 I4 I5",
+        events: "stretch cycle transfer write answer_fall tenure",
         outcomes: (
             Outcome::Conforming { allowed: 3 },
             Outcome::NotCovered {
@@ -151,7 +153,7 @@ pub(crate) static RECORDINGS: [WorkedRecording; 22] = [
             BERR=1",
         breaks: &[(12, 110, Rule::C2, "DTACK")],
         counts: [0, 0, 1, 1, 0, 0, 2, 2, 2, 1, 1],
-        never_asked: "H3 C1 G1 G2 G3 G4 G5 B1 B2 B4 I1 I2 I3 I4 I5",
+        events: "stretch cycle cycle_end transfer write strobe_rise answer_fall answer_rise answer block_again",
         outcomes: (
             Outcome::Conforming { allowed: 1 },
             Outcome::Conforming { allowed: 1 },
@@ -165,7 +167,7 @@ pub(crate) static RECORDINGS: [WorkedRecording; 22] = [
             DTACK=0;DS0=1 DS1=1;DTACK=1;DS0=0 DS1=0;DTACK=0;AS=1 DS0=1 DS1=1;DTACK=1",
         breaks: &[(13, 120, Rule::C1, "DTACK")],
         counts: [0, 0, 1, 0, 0, 0, 1, 2, 2, 0, 1],
-        never_asked: "H3 H7 C2 G1 G2 G3 G4 G5 B1 B2 B4 I1 I2 I3 I4 I5",
+        events: "stretch cycle transfer write strobe_rise answer_fall answer_rise answer single_again",
         outcomes: (
             Outcome::Conforming { allowed: 1 },
             Outcome::Conforming { allowed: 1 },
@@ -179,7 +181,8 @@ pub(crate) static RECORDINGS: [WorkedRecording; 22] = [
             AS=1 DS0=1;DTACK=1 IA.1=1 IA.2=1;IACK=1",
         breaks: &[(10, 90, Rule::I5, "DTACK")],
         counts: [0, 0, 0, 0, 0, 1, 2, 0, 1, 0, 1],
-        never_asked: "U4 H3 H7 S3 C1 C2 G1 G2 G3 G4 G5 B1 B2 B4",
+        events: "stretch cycle transfer strobe_rise answer_fall answer_rise answer interrupt \
+            interrupt_again acknowledge_fall",
         outcomes: (
             Outcome::Conforming { allowed: 1 },
             Outcome::Conforming { allowed: 1 },
@@ -192,7 +195,7 @@ pub(crate) static RECORDINGS: [WorkedRecording; 22] = [
         steps: "IA.2=0;IA.2=1;IACK=0;AS=0;IA.1=0;DS0=0;AS=1 DS0=1;IACK=1;IA.1=1",
         breaks: &[(1, 0, Rule::I1, "IA.2"), (5, 40, Rule::I2, "IA.1")],
         counts: [0, 0, 0, 0, 0, 1, 0, 0, 0, 0, 0],
-        never_asked: "U3 U4 H1 H2 H3 H4 H5 H6 H7 H8 S2 S3 C1 C2 G1 G2 G3 G4 G5 B1 B2 B4 I4 I5",
+        events: "stretch cycle acknowledge_fall",
         outcomes: (
             Outcome::Conforming { allowed: 2 },
             Outcome::NotCovered {
@@ -210,7 +213,7 @@ pub(crate) static RECORDINGS: [WorkedRecording; 22] = [
         steps: "AM1=0;AS=0;DS0=0;DS0=1;DS0=0;DTACK=0",
         breaks: &[(4, 30, Rule::H2, "DS0")],
         counts: [0, 0, 1, 0, 0, 0, 1, 0, 0, 0, 1],
-        never_asked: "U4 H3 H4 H5 H6 H7 H8 S3 C1 C2 G1 G2 G3 G4 G5 B1 B2 B4 I1 I2 I3 I4 I5",
+        events: "stretch cycle transfer strobe_rise",
         outcomes: (
             Outcome::NotCovered {
                 gap: CoverageGap::NeverIdleBehind { instant: 4 },
@@ -227,7 +230,7 @@ pub(crate) static RECORDINGS: [WorkedRecording; 22] = [
         steps: "AM1=0;AS=0;DS0=0;SYSRESET=0;AS=1 DS0=1;SYSRESET=1;AS=0;DS1=0",
         breaks: &[],
         counts: [1, 0, 2, 0, 0, 0, 2, 0, 0, 0, 2],
-        never_asked: "U4 H2 H3 H4 H5 H6 H7 H8 S3 C1 C2 G1 G2 G3 G4 G5 B1 B2 B4 I1 I2 I3 I4 I5",
+        events: "stretch cycle transfer",
         outcomes: (
             Outcome::NotCovered {
                 gap: CoverageGap::Hang {
@@ -250,7 +253,7 @@ pub(crate) static RECORDINGS: [WorkedRecording; 22] = [
         steps: "DS0=0;DTACK=0;DS0=1;DTACK=1;AM1=0;AS=0;DS0=0;DTACK=0;AS=1 DS0=1;DTACK=1",
         breaks: &[(2, 10, Rule::H8, "DTACK")],
         counts: [0, 0, 1, 0, 0, 0, 2, 0, 1, 0, 1],
-        never_asked: "U4 H3 S3 C1 C2 G1 G2 G3 G4 G5 B1 B2 B4 I1 I2 I3 I4 I5",
+        events: "stretch cycle cycle_end transfer strobe_rise answer_fall answer_rise answer",
         outcomes: (
             Outcome::Conforming { allowed: 1 },
             Outcome::Conforming { allowed: 1 },
@@ -263,7 +266,7 @@ pub(crate) static RECORDINGS: [WorkedRecording; 22] = [
         steps: "DS0=0;AM1=0;AS=0",
         breaks: &[],
         counts: [0, 0, 1, 0, 0, 0, 1, 0, 0, 0, 1],
-        never_asked: "U4 H2 H3 H4 H5 H6 H7 H8 S3 C1 C2 G1 G2 G3 G4 G5 B1 B2 B4 I1 I2 I3 I4 I5",
+        events: "stretch cycle transfer",
         outcomes: (
             Outcome::NotCovered {
                 gap: CoverageGap::Hang {
@@ -287,7 +290,7 @@ pub(crate) static RECORDINGS: [WorkedRecording; 22] = [
             BR0=0;BBSY=1;BG0.0=0;BG0.1=0;BBSY=0;BG0.0=1;BG0.1=1",
         breaks: &[(6, 50, Rule::B4, "BBSY")],
         counts: [0, 1, 0, 0, 0, 0, 0, 0, 0, 0, 0],
-        never_asked: "U2 U3 U4 H1 H2 H3 H4 H5 H6 H7 H8 S1 S2 S3 C1 C2 B3 I1 I2 I3 I4 I5",
+        events: "stretch slot_grant_fall slot_grant_rise arbiter_fall tenure",
         outcomes: (
             Outcome::Conforming { allowed: 1 },
             Outcome::NotCovered {
@@ -305,7 +308,7 @@ pub(crate) static RECORDINGS: [WorkedRecording; 22] = [
         steps: "BG2.1=0;BG2.1=1;BR2=0;BG2.0=0;BG2.1=0;BR2=1 BG2.0=1;BG2.1=1;BBSY=0;BBSY=1",
         breaks: &[(1, 0, Rule::G1, "BG2.1"), (8, 70, Rule::B1, "BBSY")],
         counts: [0, 0, 0, 0, 0, 0, 0, 0, 0, 0, 0],
-        never_asked: "U2 U3 U4 H1 H2 H3 H4 H5 H6 H7 H8 S1 S2 S3 C1 C2 B3 I1 I2 I3 I4 I5",
+        events: "stretch slot_grant_fall slot_grant_rise arbiter_fall tenure",
         outcomes: (
             Outcome::Conforming { allowed: 2 },
             Outcome::NotCovered {
@@ -323,7 +326,7 @@ pub(crate) static RECORDINGS: [WorkedRecording; 22] = [
         steps: "BR1=0 BR2=0;BG2.0=0;BG1.0=0;BG1.0=1;BBSY=0;BG2.0=1;BG1.0=0;BG1.0=1;BBSY=1",
         breaks: &[(3, 20, Rule::G3, "BG1.0"), (7, 60, Rule::G4, "BG1.0")],
         counts: [0, 0, 0, 0, 0, 0, 0, 0, 0, 0, 0],
-        never_asked: "U2 U3 U4 H1 H2 H3 H4 H5 H6 H7 H8 S1 S2 S3 C1 C2 G1 G2 B1 B2 B3 B4 I1 I2 I3 I4 I5",
+        events: "stretch arbiter_fall",
         outcomes: (
             Outcome::Conforming { allowed: 2 },
             Outcome::NotCovered {
@@ -342,7 +345,7 @@ pub(crate) static RECORDINGS: [WorkedRecording; 22] = [
             DTACK=0;AS=1 DS0=1;DTACK=1;WRITE=0 D01=x;AS=0;DS0=0;DTACK=0;D01=0;AS=1 DS0=1;DTACK=1",
         breaks: &[(9, 80, Rule::S1, "A05"), (18, 170, Rule::U4, "D01")],
         counts: [0, 0, 3, 0, 1, 0, 2, 0, 2, 0, 0],
-        never_asked: "H3 C1 C2 G1 G2 G3 G4 G5 B1 B2 B4 I1 I2 I3 I4 I5",
+        events: "stretch cycle cycle_end transfer write strobe_rise answer_fall answer_rise answer",
         outcomes: (
             Outcome::Conforming { allowed: 2 },
             Outcome::Conforming { allowed: 2 },
@@ -359,7 +362,7 @@ pub(crate) static RECORDINGS: [WorkedRecording; 22] = [
             (7, 60, Rule::U1, "AS"),
         ],
         counts: [0, 0, 2, 0, 0, 0, 2, 0, 1, 0, 1],
-        never_asked: "U4 H3 S3 C1 C2 G1 G2 G3 G4 G5 I1 I2 I3 I4 I5",
+        events: "stretch cycle cycle_end transfer strobe_rise answer_fall answer_rise answer tenure",
         outcomes: (
             Outcome::Conforming { allowed: 3 },
             Outcome::Conforming { allowed: 3 },
@@ -372,7 +375,7 @@ pub(crate) static RECORDINGS: [WorkedRecording; 22] = [
         steps: "AM1=0;AS=0;DS0=0;DTACK=0;AS=1 DS0=1;DTACK=1;BERR=0",
         breaks: &[(7, 60, Rule::H4, "BERR")],
         counts: [0, 0, 1, 0, 0, 0, 1, 0, 1, 0, 0],
-        never_asked: "U4 H3 S3 C1 C2 G1 G2 G3 G4 G5 B1 B2 B4 I1 I2 I3 I4 I5",
+        events: "stretch cycle cycle_end transfer strobe_rise answer_fall answer_rise answer",
         outcomes: (
             Outcome::NotCovered {
                 gap: CoverageGap::NeverIdleBehind { instant: 7 },
@@ -390,7 +393,7 @@ pub(crate) static RECORDINGS: [WorkedRecording; 22] = [
             DTACK=0 BERR=0;DS0=1;AS=1 DS1=1;DTACK=1 BERR=1",
         breaks: &[(5, 40, Rule::H3, "DS1"), (11, 100, Rule::H5, "DTACK")],
         counts: [0, 0, 2, 0, 0, 0, 2, 0, 1, 0, 1],
-        never_asked: "U4 H2 H6 H7 S3 C1 C2 G1 G2 G3 G4 G5 B1 B2 B4 I1 I2 I3 I4 I5",
+        events: "stretch cycle transfer strobe_fall answer_fall answer",
         outcomes: (
             Outcome::Conforming { allowed: 2 },
             Outcome::Conforming { allowed: 2 },

@@ -2,7 +2,7 @@ use crate::recordings::{RECORDINGS, WorkedRecording};
 use smallvec::SmallVec;
 use std::alloc::Global;
 use vme_audit::{Counts, CoverageGap, Outcome};
-use vme_auditor::{AuditBreak, AuditFindings, Auditor, BreakCounts, outcome};
+use vme_auditor::{AskedEvents, AuditBreak, AuditFindings, Auditor, BreakCounts, outcome};
 use vme_trace::{Block, Change, Changes, LINE_COUNT, Level, Line, Lines, Rule, Step, Steps};
 
 /// The change that a word says, as BR3=0.
@@ -165,19 +165,40 @@ fn are_breaks(breaks: &[AuditBreak], told: &[(u64, u64, Rule, &'static str)]) ->
 }
 
 /// Whether a text has a name among its words.
-fn has_name(names: &str, name: &[u8]) -> bool {
+fn has_name(names: &str, name: &str) -> bool {
     for word in names.split_whitespace() {
-        if word.as_bytes() == name {
+        if word == name {
             return true;
         }
     }
     false
 }
 
-/// Whether exactly the rules are never asked that a text names.
-fn are_never_asked(findings: &AuditFindings, names: &str) -> bool {
-    for rule in Rule::ALL {
-        if findings.events.ask(rule) == has_name(names, rule.name().as_bytes()) {
+/// Whether exactly the events happened that a text names.
+fn are_events(events: &AskedEvents, names: &str) -> bool {
+    let happened = [
+        ("stretch", events.stretch),
+        ("cycle", events.cycle),
+        ("cycle_end", events.cycle_end),
+        ("transfer", events.transfer),
+        ("write", events.write),
+        ("strobe_rise", events.strobe_rise),
+        ("strobe_fall", events.strobe_fall),
+        ("answer_fall", events.answer_fall),
+        ("answer_rise", events.answer_rise),
+        ("answer", events.answer),
+        ("single_again", events.single_again),
+        ("block_again", events.block_again),
+        ("interrupt", events.interrupt),
+        ("interrupt_again", events.interrupt_again),
+        ("slot_grant_fall", events.slot_grant_fall),
+        ("slot_grant_rise", events.slot_grant_rise),
+        ("arbiter_fall", events.arbiter_fall),
+        ("tenure", events.tenure),
+        ("acknowledge_fall", events.acknowledge_fall),
+    ];
+    for (name, is_there) in happened {
+        if is_there != has_name(names, name) {
             return false;
         }
     }
@@ -206,8 +227,8 @@ fn difference(
     if findings.counts != counts_of(worked.counts) {
         return "counts";
     }
-    if !are_never_asked(findings, worked.never_asked) {
-        return "rules";
+    if !are_events(&findings.events, worked.events) {
+        return "events";
     }
     if !comes_to(findings, breaks.len() as u64, worked.outcomes) {
         return "outcome";
