@@ -1,6 +1,6 @@
 -- The stretches of a recording from one instant to the next, and its steps taken one by one.
-use Rattle.std.proofs.Common.{◌≡◌, ℕ, zero, suc, ◌+◌, ◌<◌, ◌≤◌, true, false, List, [], ◌∷◌, ◌++◌, map, refl, sym, ◌∙◌}
-use Rattle.std.proofs.Common.{ap, subst, arith, inl, inr, ◌⊎◌, append_assoc, length-append, add-one, not, get_or}
+use Rattle.std.proofs.Common.{◌≡◌, ℕ, zero, suc, ◌+◌, ◌*◌, ◌<◌, ◌≤◌, true, false, List, [], ◌∷◌, ◌++◌, map, refl, sym}
+use Rattle.std.proofs.Common.{◌∙◌, ap, subst, arith, inl, inr, ◌⊎◌, append_assoc, length-append, add-one, not, get_or}
 use Rattle.std.proofs.Common.{length, take, append-nil}
 use Rattle.std.specs.Prelude.{◌-◌, nat_lt, Option, None, Some, if◌then◌else◌, slice_get}
 use Rattle.std.proofs.lemmas.Option.{slice_get_read, slice_get_within}
@@ -54,16 +54,17 @@ module _ {Whole Source : Type 0} {gave : Whole → Source → List Row → Type 
       → Follows gave is_over whole v done t span n rows → n ≤ span.end
       → CanClose gave is_over whole v (done ++ rows_to t span n) rows
   follows-close {done} {span} {n} {rows} h within =
+      let a = h.are_taken in
+      let taken = rows.compared.taken in
       record {
-        version_is = h.are_taken.version_is;
-        taken_is = omega (arith, h.taken_is, length-append done (rows_to t span n));
-        given = h.given;
-        is_given = h.are_taken.is_given;
-        compared = h.are_taken.compared n (omega arith) within;
-        tenure = open-last v done t span BBSY n h.given rows.compared.taken rows.tenure h.placed.tenure h.tenure within;
-        cycle = open-last v done t span AS n h.given rows.compared.taken rows.cycle h.placed.cycle h.cycle within;
-        transfer = transfer-last t span v done h.given rows.compared.taken n rows.transfer h.placed.transfer h.transfer
-            within;
+        version_is = a.version_is;
+        taken_is = omega (arith, a.taken_is, length-append done (rows_to t span n));
+        given = a.given;
+        is_given = a.is_given;
+        compared = a.compared n (omega arith) within;
+        tenure = open-last v done t span BBSY n a.given taken rows.tenure a.placed.tenure h.tenure within;
+        cycle = open-last v done t span AS n a.given taken rows.cycle a.placed.cycle h.cycle within;
+        transfer = transfer-last t span v done a.given taken n rows.transfer a.placed.transfer h.transfer within;
       }
 
   -- at the opening
@@ -307,20 +308,6 @@ advanced t old new cs at instant before levels made =
       levels = levels ∙ (ap (λ (w : Levels). changed w cs) at.levels ∙ (sym made ∙ ap (levels_at t) (sym instant)));
     }
 
--- what was so of the next instant is so there
-pub arrives : {Whole Source : Type 0} {gave : Whole → Source → List Row → Type 0} {is_over : Source → Type 0}
-    {whole : Whole} {v : Version} {t : Trace} {old : Checker Source} {stage : Stage} (new : Bus) (cs : List Change)
-    → Checks gave is_over whole v t old → new.instant ≡ old.bus.instant + 1 → new.before ≡ old.bus.levels
-    → new.levels ≡ changed old.bus.levels cs
-    → levels_at t (old.bus.instant + 1) ≡ changed (levels_at t old.bus.instant) cs → old.stage ≡ stage
-    → IsBusOf t new × IsStage gave is_over whole v t new.instant old.outcome old.rows stage
-arrives {gave = gave} {is_over = is_over} {whole = whole} {v = v} {t = t} {old = old} {stage = stage} new cs h instant
-    before levels made is = (
-      advanced t old.bus new cs h.at instant before levels made,
-      subst (λ n. IsStage gave is_over whole v t n old.outcome old.rows stage) (sym instant)
-          (subst (IsStage gave is_over whole v t (old.bus.instant + 1) old.outcome old.rows) is h.stage_is),
-    )
-
 -- ---- What the step before an instant does.
 
 module _ (t : Trace) (i : ℕ) (step : Step) (found : slice_get t.steps i ≡ Some step) where
@@ -368,6 +355,45 @@ levels-next recorded step levels changes behind same =
 pub all-taken : (recorded : Trace) → with_steps recorded [] ≡ recorded
 all-taken recorded =
     ap (λ (steps : List Step). record recorded { steps = steps }) (append-nil recorded.steps)
+
+-- of a step that is taken
+pub has-taken : {Source : Type 0} {recorded : Trace} {old : Checker Source} {bus : Bus} {cs : List Change} (step : Step)
+    → HasFollowed recorded old → bus.instant ≡ old.bus.instant + 1 → bus.levels ≡ changed old.bus.levels cs
+    → cs ≡ step.changes → (new : Checker Source) → new.bus ≡ bus → new.rows.compared.taken ≤ 4 * bus.instant + 4
+    → HasFollowed (with_steps recorded (step ∷ [])) new
+has-taken {recorded = recorded} {old = old} {cs = cs} step taken instant levels same new is few =
+    let at = ap (λ (b : Bus). b.instant) is in
+    record {
+      instant = omega (arith, at, instant, taken.instant, length-append recorded.steps (step ∷ []));
+      levels = ap (λ (b : Bus). b.levels) is
+          ∙ (levels ∙ levels-next recorded step old.bus.levels cs taken.levels same);
+      few = omega (arith, at, few);
+    }
+
+-- what was so of the next instant is so there
+pub arrives : {Whole Source : Type 0} {gave : Whole → Source → List Row → Type 0} {is_over : Source → Type 0}
+    {whole : Whole} {v : Version} {recorded : Trace} {old : Checker Source} {bus : Bus} {cs : List Change}
+    (step : Step) → HasFollowed recorded old → bus.instant ≡ old.bus.instant + 1 → bus.before ≡ old.bus.levels
+    → bus.levels ≡ changed old.bus.levels cs → cs ≡ step.changes → HasCompared gave is_over whole v recorded old
+    → {stage : Stage} → old.stage ≡ stage → (more : List Step)
+    → IsBusOf (with_steps (with_steps recorded (step ∷ [])) more) bus
+    × (bus.instant ≤ last_instant (with_steps (with_steps recorded (step ∷ [])) more))
+    × IsStage gave is_over whole v (with_steps (with_steps recorded (step ∷ [])) more) bus.instant old.outcome old.rows
+    stage
+arrives {gave = gave} {is_over = is_over} {whole = whole} {v = v} {recorded = recorded} {old = old} {bus = bus}
+    {cs = cs} step taken instant before levels same compared {stage} is more =
+    let t : Trace = with_steps recorded (step ∷ more) in
+    let n = last_instant recorded in
+    let h = compared (step ∷ more) in
+    subst (λ (u : Trace). IsBusOf u bus × (bus.instant ≤ last_instant u)
+    × IsStage gave is_over whole v u bus.instant old.outcome old.rows stage) (goes_to recorded step more) (
+      advanced t old.bus bus cs h.at instant before levels
+          (subst (λ i. levels_at t (i + 1) ≡ changed (levels_at t i) cs) (sym taken.instant)
+          (levels-made t n step (next-is recorded step more) ∙ ap (changed (levels_at t n)) (sym same))),
+      omega (arith, instant, taken.instant, length-append recorded.steps (step ∷ more)),
+      subst (λ n. IsStage gave is_over whole v t n old.outcome old.rows stage) (sym instant)
+          (subst (IsStage gave is_over whole v t (old.bus.instant + 1) old.outcome old.rows) is h.stage_is),
+    )
 
 -- a recording up to an instant
 abbrev pub recorded_to : Trace → ℕ → Trace

@@ -1,26 +1,28 @@
 -- What rules ask of the transfer and the cycle of an instant is answered by the state.
-use Rattle.std.proofs.Common.{◌≡◌, ℕ, ◌+◌, ◌-◌, ◌&&◌, ◌||◌, Bool, true, false, not, refl, sym, ◌∙◌, ap, arith, zero}
-use Rattle.std.proofs.Common.{suc, ◌<◌, List, [], ◌∷◌, ◌++◌, cond, inl, inr, ◌⊎◌}
+use Rattle.std.proofs.Common.{◌≡◌, ℕ, ◌+◌, ◌-◌, ◌≤◌, ◌&&◌, ◌||◌, Bool, true, false, not, refl, sym, ◌∙◌, ap, arith}
+use Rattle.std.proofs.Common.{zero, suc, ◌<◌, List, [], ◌∷◌, ◌++◌, cond, inl, inr}
 use Rattle.std.specs.Prelude.{None, nat_lt, nat_le}
 use Rattle.std.specs.Option.{option_map_or}
 use Rattle.std.proofs.Math.Bool.{beq}
 use Rattle.vme_trace.proofs.JudgedSpans.{span_reads}
-use Rattle.vme_trace.proofs.Ranges.{any-fails, any-holds, any-least, any-step, clash, fails-any, least-found}
-use Rattle.vme_cert.specs.Words.{AS, BERR, DS0, DS1, DTACK, High, IsSpanOf, Level, Low, Needs, Stretch, Trace, Unknown}
-use Rattle.vme_cert.specs.Words.{answer_falls, answers, answers_of, answers_write, any, class_at, cycle_of, cycle_runs}
-use Rattle.vme_cert.specs.Words.{cycle_starts, falls, greatest, high, in_cycle, in_transfer, is_answer, is_answered}
-use Rattle.vme_cert.specs.Words.{is_block_class, is_high, is_interrupt, is_judged, is_known, is_later, is_low}
-use Rattle.vme_cert.specs.Words.{is_needed, is_single, is_within, is_write, known, level, levels_at, low, needs_of}
-use Rattle.vme_cert.specs.Words.{none, rises, spoils_pair, strobe_rises, strobes_high, those, transfer_starts, turns}
+use Rattle.vme_trace.proofs.OpenTransfers.{ReadsStrobes}
+use Rattle.vme_trace.proofs.Ranges.{any-fails, any-least, any-step, fails-any, least-found}
+use Rattle.vme_cert.specs.Words.{AS, BERR, DS0, DS1, DTACK, IsSpanOf, Needs, Stretch, Trace, answer_falls, answers}
+use Rattle.vme_cert.specs.Words.{answers_of, answers_write, any, class_at, cycle_of, cycle_runs, cycle_starts, falls}
+use Rattle.vme_cert.specs.Words.{greatest, high, in_cycle, in_transfer, is_answer, is_answered, is_block_class}
+use Rattle.vme_cert.specs.Words.{is_interrupt, is_judged, is_later, is_needed, is_single, is_within, is_write, known}
+use Rattle.vme_cert.specs.Words.{level, levels_at, low, needs_of, none, rises, spoils_pair, strobe_rises, strobes_high}
+use Rattle.vme_cert.specs.Words.{those, transfer_starts, turns}
 use Rattle.vme_cert.specs.State.{is_data_held, is_unanswered, IsCycle, IsLastCycle, IsOpenTransfer, IsTransfer}
 use Rattle.vme_cert.specs.State.{is_acknowledged, AreClosed}
 use Rattle.vme_cert.specs.declared.state.Cycle.{Cycle}
 use Rattle.vme_cert.specs.declared.state.Transfer.{Transfer}
 use Rattle.vme_cert.proofs.Fields.{answers-is, answered-step, spoils-is, turns-is, cycle-starts-is, in-last, in-none}
 use Rattle.vme_cert.proofs.Fields.{runs-on, stays-ended, longer, high-between, low-no_fall, starts-is, since-asks}
-use Rattle.vme_cert.proofs.Fields.{since-later-asks, cycle-within}
+use Rattle.vme_cert.proofs.Fields.{since-later-asks, cycle-within, high-and-low, stays-low}
 use Rattle.vme_cert.proofs.Ranges.{greatest-not, later, IsGreatest, greatest-found, greatest-none-any, after_start}
 use Rattle.vme_cert.proofs.Ranges.{and_true, de_morgan, le_holds, lt_of, only-last, or_on, unless, decide, and_on}
+use Rattle.vme_cert.proofs.Ranges.{last_or_before, or_false}
 
 module _ (t : Trace) (span : Stretch) (j : ℕ) (judged : is_judged span j ≡ true) where
   module _ (c : Transfer) (is : IsTransfer t span (j + 1) j c) where
@@ -164,38 +166,20 @@ any-later p f (suc n) = rw (any-later p f n) (more (those p f n) (nat_le f n && 
     more [] false = refl
     more (r ∷ rs) b = refl
 
-module _ (t : Trace) (l i : ℕ) (starts : low t l i ≡ true) where
-  -- a line that was low and is high has risen, where it is known
-  rose-by : (k : ℕ) → i < k → ((r : ℕ) → i < r → r < k → known t l r ≡ true) → high t l k ≡ true
-      → any (rises t l) (i + 1) (k + 1) ≡ true
-  unfolding low high known rises
-  rose-by zero before knows is = absurd (omega arith)
-  rose-by (suc k) before knows is =
-      by_before (λ later before_high. rose-by k later (λ r a b. knows r a (omega arith)) before_high) (level t l k) refl
-    where
-      back : suc k - 1 ≡ k
-      back = omega arith
-
-      here : is_low (level t l k) ≡ true → any (rises t l) (i + 1) (suc k + 1) ≡ true
-      here h = any-holds (rises t l) (i + 1) (suc k + 1) (suc k) (omega arith) (omega arith) (rw (back, h, is) refl)
-
-      same_or_later : (i k : ℕ) → i < suc k → (i ≡ k) ⊎ (i < k)
-      same_or_later i k h = grind arith
-
-      not_same : (x : Level) → level t l k ≡ x → is_low x ≡ false → i < k
-      not_same x e off = elim (same_or_later i k before) [
-        | inl same ↦ absurd (clash (is_low (level t l k)) (ap (λ n. is_low (level t l n)) (sym same) ∙ starts)
-            (ap is_low e ∙ off))
-        | inr later ↦ later
-      ]
-
-      by_before : (i < k → is_high (level t l k) ≡ true → any (rises t l) (i + 1) (k + 1) ≡ true) → (x : Level)
-          → level t l k ≡ x → any (rises t l) (i + 1) (suc k + 1) ≡ true
-      by_before earlier Low e = here (ap is_low e)
-      by_before earlier High e =
-          longer (rises t l) (i + 1) (k + 1) (suc k + 1) (omega arith) (earlier (not_same High e refl) (ap is_high e))
-      by_before earlier Unknown e =
-          absurd (clash (is_known (level t l k)) (knows k (not_same Unknown e refl) (omega arith)) (ap is_known e))
+-- a line that was low stays so while it is known and doesn't rise
+stays-along : (t : Trace) (l i k : ℕ) → low t l i ≡ true → i ≤ k → ((r : ℕ) → i < r → r ≤ k → known t l r ≡ true)
+    → ((r : ℕ) → i < r → r ≤ k → rises t l r ≡ false) → low t l k ≡ true
+stays-along t l i zero starts order knows still = let same : 0 ≡ i = omega arith in ap (low t l) same ∙ starts
+stays-along t l i (suc k) starts order knows still =
+    elim (last_or_before i (suc k) (omega arith)) [
+      | inl same ↦ ap (low t l) (sym same) ∙ starts
+      | inr before ↦
+          let back : k ≡ suc k - 1 = omega arith in
+          let earlier = stays-along t l i k starts (omega arith) (λ r a b. knows r a (omega arith))
+          (λ r a b. still r a (omega arith)) in
+          stays-low t l (suc k) (ap (low t l) (sym back) ∙ earlier) (still (suc k) before (omega arith))
+          (knows (suc k) before (omega arith))
+    ]
 
 -- the needs of a cycle are those of the levels at its start
 module _ (t : Trace) (start : ℕ) where
@@ -208,33 +192,34 @@ module _ (t : Trace) (span : Stretch) (is : IsSpanOf t span) where
   -- from the start of a transfer to where both strobes are high, one rises
   strobe-rose : (i k : ℕ) → transfer_starts t span i ≡ true → i < k → k < span.end → strobes_high t k ≡ true
       → any (strobe_rises t) (i + 1) (k + 1) ≡ true
-  unfolding transfer_starts
-  strobe-rose i k start before end high_there =
-      let reads = span_reads t span is in
-      let parts = and_true (is_judged span i && strobes_high t (i - 1)) (low t DS0 i || low t DS1 i) start in
-      let from = after_start span i (and_true (is_judged span i) (strobes_high t (i - 1)) parts.0).0 in
-      let there = and_true (high t DS0 k) (high t DS1 k) high_there in
-      by_low (low t DS0 i) (low t DS1 i) parts.1 refl refl
-      (λ e. rose-by t DS0 i e k before (λ r a b. reads.first r (omega arith) (omega arith)) there.0)
-      (λ e. rose-by t DS1 i e k before (λ r a b. reads.second r (omega arith) (omega arith)) there.1)
+  unfolding transfer_starts low high
+  strobe-rose i k start before end high_there = decide (any (strobe_rises t) (i + 1) (k + 1)) (λ e. e) (λ none. absurd
+      (high-and-low (level t DS0 k) (level t DS1 k) high_there
+      (by_low (low t DS0 i) (low t DS1 i) parts.1 refl refl (quiet none))))
     where
-      first_of : (r : ℕ) → rises t DS0 r ≡ true → strobe_rises t r ≡ true
-      first_of r h = rw h refl
+      reads : ReadsStrobes t span
+      reads = span_reads t span is
 
-      second_of : (r : ℕ) → rises t DS1 r ≡ true → strobe_rises t r ≡ true
-      second_of r h = rw h (or_on (rises t DS0 r))
+      parts : ((is_judged span i && strobes_high t (i - 1)) ≡ true) × ((low t DS0 i || low t DS1 i) ≡ true)
+      parts = and_true (is_judged span i && strobes_high t (i - 1)) (low t DS0 i || low t DS1 i) start
 
-      carry : (p q : ℕ → Bool) (f n : ℕ) → ((r : ℕ) → p r ≡ true → q r ≡ true) → any p f n ≡ true → any q f n ≡ true
-      carry p q f n h e = decide (any q f n) (λ k. k) (λ k. absurd (clash (any p f n) e (fails-any p f n (λ r a b.
-          decide (p r) (λ g. absurd (clash (q r) (h r g) (any-fails q f n r k a b))) (λ g. g)))))
+      from : span.start + 1 ≤ i
+      from = after_start span i (and_true (is_judged span i) (strobes_high t (i - 1)) parts.0).0
+
+      quiet : any (strobe_rises t) (i + 1) (k + 1) ≡ false → (r : ℕ) → i < r → r ≤ k
+          → (rises t DS0 r ≡ false) × (rises t DS1 r ≡ false)
+      quiet none r a b = or_false (rises t DS0 r) (rises t DS1 r)
+          (any-fails (strobe_rises t) (i + 1) (k + 1) r none (omega arith) (omega arith))
 
       by_low : (a b : Bool) → (a || b) ≡ true → low t DS0 i ≡ a → low t DS1 i ≡ b
-          → (low t DS0 i ≡ true → any (rises t DS0) (i + 1) (k + 1) ≡ true)
-          → (low t DS1 i ≡ true → any (rises t DS1) (i + 1) (k + 1) ≡ true)
-          → any (strobe_rises t) (i + 1) (k + 1) ≡ true
-      by_low true b h e f first second = carry (rises t DS0) (strobe_rises t) (i + 1) (k + 1) first_of (first e)
-      by_low false true h e f first second = carry (rises t DS1) (strobe_rises t) (i + 1) (k + 1) second_of (second f)
-      by_low false false h e f first second = absurd (cc)
+          → ((r : ℕ) → i < r → r ≤ k → (rises t DS0 r ≡ false) × (rises t DS1 r ≡ false))
+          → (low t DS0 k || low t DS1 k) ≡ true
+      by_low true b h e f still = rw (stays-along t DS0 i k e (omega arith)
+          (λ r a b. reads.first r (omega (arith, from)) (omega arith)) (λ r a b. (still r a b).0)) refl
+      by_low false true h e f still = rw (stays-along t DS1 i k f (omega arith)
+          (λ r a b. reads.second r (omega (arith, from)) (omega arith)) (λ r a b. (still r a b).1))
+          (or_on (low t DS0 k))
+      by_low false false h e f still = absurd (cc)
 
   module _ (j : ℕ) (judged : is_judged span j ≡ true) where
     before_end : j < span.end

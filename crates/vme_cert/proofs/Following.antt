@@ -12,8 +12,7 @@ use Rattle.vme_cert.specs.Words.{is_answered, is_judged, known, lanes_at, lasts,
 use Rattle.vme_cert.specs.Words.{row_in, rows_in, strobes_high, transfer_row, transfer_starts, without_data}
 use Rattle.vme_cert.specs.Comparing.{Extends, IsBegun, IsCompared, IsDue, IsGiven, IsSettled, is_at, spares}
 use Rattle.vme_cert.specs.Ended.{ended}
-use Rattle.vme_cert.specs.Following.{AreAtPlaces, AreTaken, CanClose, IsOpenAt, IsTaken, IsTakenAt, IsTransferAt}
-use Rattle.vme_cert.specs.Following.{is_open, right_to}
+use Rattle.vme_cert.specs.Following.{AreAtPlaces, CanClose, IsOpenAt, IsTakenAt, IsTransferAt, is_open, right_to}
 use Rattle.vme_cert.specs.declared.comparison.Comparison.{Comparison}
 use Rattle.vme_cert.specs.declared.comparison.OpenRow.{OpenRow}
 use Rattle.vme_cert.specs.declared.open_rows.OpenRows.{OpenRows}
@@ -132,61 +131,6 @@ module _ (v : Version) (done : List Row) (t : Trace) (span : Stretch) (l j : ℕ
             (sym (ap (λ (r : Row). ended r (least (rises t l) (j + 1) end)) is
             ∙ ended-in v right (least (rises t l) (j + 1) end)));
       }
-
--- one more row has started
-pub record Begins {Whole Source : Type 0} (gave : Whole → Source → List Row → Type 0) (is_over : Source → Type 0)
-    (whole : Whole) (v : Version) (done : List Row) (t : Trace) (span : Stretch) (given : List Row)
-    (old new : Comparison Source) (next : ℕ) (now : ℕ → Bool) (right : Row) (row : OpenRow) : Type 0 where
-  pub more : List Row
-  pub extends : Extends given more old.taken
-  pub is_taken : IsTaken more new.taken row
-  pub right_is : row.right ≡ row_in v right
-  pub are_taken : AreTaken gave is_over whole v done t span more next new now
-
-module _ {Whole Source : Type 0} {gave : Whole → Source → List Row → Type 0} {is_over : Source → Type 0} {whole : Whole}
-    {v : Version} {done : List Row} {t : Trace} {span : Stretch} {given : List Row} {first : ℕ}
-    {old : Comparison Source} {still : ℕ → Bool} (h : AreTaken gave is_over whole v done t span given first old still)
-    (next : ℕ) (order : first ≤ next) where
-  pub begins : {new : Comparison Source} {right : Row} {row : OpenRow} → IsBegun gave is_over right old new row
-      → (now : ℕ → Bool) → ((n : ℕ) → now n ≡ false → (still n ≡ false) × ((n == row.place) ≡ false))
-      → Begins gave is_over whole v done t span given old new next now right row
-  begins {new} {right} {row} b now kept =
-      let g = b.given whole given h.is_given in
-      record {
-        more = g.more;
-        extends = g.extends;
-        is_taken = record {
-          below = omega (arith, b.place, b.taken);
-          given_is = g.given_is ∙ ap (slice_get g.more) (sym b.place);
-        };
-        right_is = b.right_is ∙ ap (λ (w : Version). row_in w right) h.version_is;
-        are_taken = record {
-          version_is = b.version ∙ h.version_is;
-          is_given = subst (IsGiven gave is_over whole g.more new.source) (sym b.taken) g.is_given;
-          compared = λ end from within. begun-compared b g.more (right_to v done t span end) now
-              (h.compared end (omega arith) within) g.extends (λ n below. refl) kept;
-        };
-      }
-
-  -- one is compared
-  pub taken-settles : {new : Comparison Source} {o : Option OpenRow} {edge : Option ℕ} → IsSettled o edge old new
-      → ((end : ℕ) → next ≤ end → end ≤ span.end → IsDue given (right_to v done t span end) old.taken edge o)
-      → (now : ℕ → Bool) → ((n : ℕ) → now n ≡ false → spares still o n ≡ false)
-      → AreTaken gave is_over whole v done t span given next new now
-  taken-settles s due now kept = record {
-    version_is = s.version ∙ h.version_is;
-    is_given = settled-given s h.is_given;
-    compared = λ end from within. compared-fewer now
-        (settled-compared s (h.compared end (omega arith) within) (due end from within)) kept;
-  }
-
-  -- by later ends alone
-  pub taken-later : AreTaken gave is_over whole v done t span given next old still
-  taken-later = record {
-    version_is = h.version_is;
-    is_given = h.is_given;
-    compared = λ end from within. h.compared end (omega arith) within;
-  }
 
 -- what is open closes, and one more row comes, which has no edge
 module _ {Whole Source : Type 0} {gave : Whole → Source → List Row → Type 0} {is_over : Source → Type 0} {whole : Whole}

@@ -1,11 +1,10 @@
 -- The rows of a recording, stretch by stretch, and how far they are followed behind an instant.
 use Rattle.std.specs.Prelude.{◌≡◌, ℕ, ◌+◌, ◌*◌, ◌<◌, ◌≤◌, ◌&&◌, true, List, [], ◌∷◌, ◌++◌, Option, None, Some, nat_lt}
 use Rattle.std.specs.Prelude.{if◌then◌else◌}
-use Rattle.vme_cert.specs.Words.{Break, Conforming, IsSpanOf, Levels, ListedVerdict, Reset, Row, Step, Stretch, Trace}
-use Rattle.vme_cert.specs.Words.{Verdict, Version, all_rules, are_changes, break_before, capture_limit, is_reset_at}
-use Rattle.vme_cert.specs.Words.{last_instant, least_break, levels_after, outcome_of, recorded_rows, span_end}
-use Rattle.vme_cert.specs.Words.{span_from, with_steps}
-use Rattle.vme_trace.proofs.JudgedSpans.{Awaits, spans_after}
+use Rattle.vme_cert.specs.Words.{Awaits, Break, Conforming, IsSpanOf, Levels, ListedVerdict, Reset, Row, Step, Stretch}
+use Rattle.vme_cert.specs.Words.{Trace, Verdict, Version, all_rules, are_changes, break_before, capture_limit}
+use Rattle.vme_cert.specs.Words.{is_reset_at, last_instant, least_break, levels_after, outcome_of, recorded_rows}
+use Rattle.vme_cert.specs.Words.{span_end, span_from, spans_after, with_steps}
 use Rattle.vme_cert.specs.Following.{CanClose, Follows, rows_to}
 use Rattle.vme_cert.specs.Instant.{IsBusOf}
 use Rattle.vme_cert.specs.State.{Holds}
@@ -92,6 +91,7 @@ pub record MayGoOn (recorded : Trace) (step : Step) : Type 0 where
 pub record HasFollowed {Source : Type 0} (recorded : Trace) (checker : Checker Source) : Type 0 where
   pub instant : checker.bus.instant ≡ last_instant recorded
   pub levels : checker.bus.levels ≡ last_levels recorded
+  -- at most four rows start at an instant: a stretch, a tenure, a cycle and a transfer
   pub few : checker.rows.compared.taken ≤ 4 * checker.bus.instant + 4
 
 -- and the rows that were given are compared with those of the recording, however it goes on

@@ -8,7 +8,6 @@ use Rattle.vme_cert.specs.Comparing.{IsCompared, IsDue, IsGiven, is_at}
 use Rattle.vme_cert.specs.Ended.{ended}
 use Rattle.vme_cert.specs.Instant.{IsBusOf}
 use Rattle.vme_cert.specs.declared.bus.Bus.{Bus}
-use Rattle.vme_cert.specs.declared.comparison.Comparison.{Comparison}
 use Rattle.vme_cert.specs.declared.comparison.OpenRow.{OpenRow}
 use Rattle.vme_cert.specs.declared.open_rows.OpenRows.{OpenRows}
 
@@ -80,7 +79,7 @@ module _ (version : Version) (done : List Row) (t : Trace) (span : Stretch) wher
   IsOpenAt l j (Some row) = IsOpen l j row
 
   -- the row of the last transfer to start before one instant, with its answer before a second, which isn't closed
-  -- before a third
+  -- before a third: what it is by the end, and what is known of it so far, but for its close
   pub record IsTransferRow (opened answered closed : ℕ) (row : OpenRow) : Type 0 where
     pub start : ℕ
     pub last : greatest (transfer_starts t span) (span.start + 1) opened ≡ Some start
@@ -108,20 +107,20 @@ module _ {Whole Source : Type 0} (gave : Whole → Source → List Row → Type 
     pub transfer : IsDue given (rows_in version rights) rows.compared.taken None rows.transfer
 
   module _ (done : List Row) (t : Trace) (span : Stretch) where
-    -- all but some were compared, whatever the end is from a first one on
-    pub record AreTaken (given : List Row) (first : ℕ) (taken : Comparison Source) (still : ℕ → Bool) : Type 0 where
-      pub version_is : taken.version ≡ version
-      pub is_given : IsGiven gave is_over whole given taken.source taken.taken
-      pub compared : (end : ℕ) → first ≤ end → end ≤ span.end
-          → IsCompared given (right_to version done t span end) taken.taken still taken.wrong
-
-    -- so many were taken, and these are open: by instants before which a tenure and a cycle haven't ended, and a
-    -- transfer has started, is answered, and hasn't closed
-    pub record AreOpen (first taken tenures cycles opened answered closed : ℕ) (rows : OpenRows Source) : Type 0 where
+    -- so many were taken, and all but the open ones were compared, whatever the end is from a first one on
+    pub record AreTaken (first taken : ℕ) (rows : OpenRows Source) : Type 0 where
+      pub version_is : rows.compared.version ≡ version
       pub taken_is : rows.compared.taken ≡ taken
       pub given : List Row
-      pub are_taken : AreTaken given first rows.compared (is_open rows)
+      pub is_given : IsGiven gave is_over whole given rows.compared.source rows.compared.taken
+      pub compared : (end : ℕ) → first ≤ end → end ≤ span.end
+          → IsCompared given (right_to version done t span end) rows.compared.taken (is_open rows) rows.compared.wrong
       pub placed : AreAtPlaces given rows.compared.taken rows
+
+    -- and these are open: by instants before which a tenure and a cycle haven't ended, and a transfer has started, is
+    -- answered, and hasn't closed
+    pub record AreOpen (first taken tenures cycles opened answered closed : ℕ) (rows : OpenRows Source) : Type 0 where
+      pub are_taken : AreTaken first taken rows
       pub tenure : IsOpenAt version done t span BBSY tenures rows.tenure
       pub cycle : IsOpenAt version done t span AS cycles rows.cycle
       pub transfer : IsTransferAt version done t span opened answered closed rows.transfer

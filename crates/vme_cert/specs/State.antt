@@ -34,8 +34,10 @@ module _ (t : Trace) (span : Stretch) where
     pub class : c.class ≡ class_at t span c.start
     pub needs : c.needs ≡ needs_of (levels_at t c.start)
     pub runs : c.runs ≡ none (rises t AS) (c.start + 1) j
+    -- while it runs AS* is low, so none starts; and each earlier one has ended
     pub is_low : c.runs ≡ true → c.start < j → low t AS (j - 1) ≡ true
     pub others : (i : ℕ) → cycle_starts t span i ≡ true → i < c.start → none (rises t AS) (i + 1) j ≡ false
+    -- of its answers there is one, by which another would come later; what the first is; and there are more
     pub answered : c.answered ≡ is_later (answers_of t span c.start j)
     pub first_writes : c.first_writes ≡ writes_first (answers_of t span c.start j)
     pub answered_again : c.answered_again ≡ is_many (answers_of t span c.start j)

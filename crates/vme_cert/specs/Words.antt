@@ -1,4 +1,5 @@
--- The words of recordings and of listings, by the modules that define them.
+-- The words of recordings and of listings, by the modules that define them. What is unfoldable is a name that a proof
+-- opens where it says so; each other one stands for what it means.
 
 pub use Rattle.vme_trace.specs.Changes.{is_changed, lost_among}
 unfoldable pub use Rattle.vme_trace.specs.Cycle.{class_of, highest_address, is_needed, modifier_of, needs_of}
@@ -39,6 +40,7 @@ unfoldable pub use Rattle.vme_trace.specs.Verdict.{break_at, break_before, least
 pub use Rattle.vme_trace.specs.Verdict.{least_of, rule_count}
 unfoldable pub use Rattle.vme_trace.specs.WellFormed.{are_changes, is_step, malformed_step}
 pub use Rattle.vme_trace.specs.WellFormed.{IsCapture, capture_limit}
+pub use Rattle.vme_trace.proofs.JudgedSpans.{Awaits, spans_after}
 pub use Rattle.vme_trace.specs.declared.class.Class.{Class}
 pub use Rattle.vme_trace.specs.declared.data.Lanes.{Lanes}
 pub use Rattle.vme_trace.specs.declared.level.Level.{Level}

@@ -1,4 +1,5 @@
 //! The levels at an instant and at the one before.
+// `shown` stands for what a line shows: to open it is to open `low`, `falls` and the like.
 #![tactic(auto, unfolding(crate::proofs::Instant::shown))]
 
 ghost use Rattle.std.specs.Prelude.{◌≡◌, ◌+◌, ◌-◌, ◌<◌, ◌≤◌, not, IsTrue, IfSome, unwrap_or};

@@ -1,8 +1,8 @@
 //! The stretches of a recording, step by step: from an idle instant to a reset, a lost line or a break.
 
 ghost use Rattle.std.specs.Prelude.{◌≡◌, ◌+◌, ◌*◌, ◌<◌, ◌≤◌, List, [], ◌∷◌, true, if◌then◌else◌};
-ghost use Rattle.vme_cert.specs.Words.{Broken, Row, Trace, Unreadable, Version, are_changes, capture_limit, changed};
-ghost use Rattle.vme_cert.specs.Words.{is_unreadable, last_instant, levels_at, recorded_rows, rows_in, with_steps};
+ghost use Rattle.vme_cert.specs.Words.{Broken, Row, Trace, Unreadable, Version, is_unreadable, last_instant};
+ghost use Rattle.vme_cert.specs.Words.{recorded_rows, rows_in, with_steps};
 
 use crate::bus::Bus;
 use crate::compare::Answer;
@@ -54,12 +54,12 @@ impl<S: RowSource> Checker<S> {
             stage: Stage::Waiting,
             outcome: ListedVerdict::NeverIdle,
         };
-        checker.wait();
+        checker.begin_where_idle();
         checker
     }
 
     /// Begins a stretch, where the bus is idle.
-    fn wait(&mut self)
+    fn begin_where_idle(&mut self)
         requires waits { self.old.stage ≡ Waiting }
         requires few { self.old.rows.compared.taken ≤ 4 * self.old.bus.instant }
         ensures bus { self.new.bus ≡ self.old.bus }
@@ -108,7 +108,7 @@ impl<S: RowSource> Checker<S> {
         let instant = self.bus.instant;
         prove!(self.bus.before.slots() <= 21);
         if self.bus.levels.is_reset() {
-            self.rows.follow(Row::Reset { instant });
+            self.rows.close_before(Row::Reset { instant });
             self.stage = Stage::Waiting;
             return;
         }
@@ -125,27 +125,6 @@ impl<S: RowSource> Checker<S> {
         self.stage = Stage::Judging(state.later(&self.bus));
     }
 
-    /// Goes on by the changes of the next step.
-    fn go_on(&mut self, changes: &[Change])
-        requires limit { self.old.bus.instant < capture_limit }
-        requires changes { are_changes self.old.bus.levels 0 changes.now ≡ true }
-        requires few { self.old.rows.compared.taken ≤ 4 * self.old.bus.instant + 4 }
-        ensures instant { self.new.bus.instant ≡ self.old.bus.instant + 1 }
-        ensures levels { self.new.bus.levels ≡ changed self.old.bus.levels changes.now }
-        ensures few { self.new.rows.compared.taken ≤ 4 * self.new.bus.instant + 4 }
-        ensures checks { (whole : S.Whole) (version : Version) (t : Trace)
-            → levels_at t (self.old.bus.instant + 1) ≡ changed (levels_at t self.old.bus.instant) changes.now
-            → self.old.bus.instant < last_instant t → Checks S.gave S.is_over whole version t self.old
-            → Checks S.gave S.is_over whole version t self.new }
-    {
-        self.bus.advance(changes);
-        match self.stage {
-            Stage::Waiting => self.wait(),
-            Stage::Judging(state) => self.judge(&state, changes),
-            Stage::Ended => {}
-        }
-    }
-
     /// Takes the next step of the recording.
     pub fn take(&mut self, step: &Step)
         requires { (recorded : Trace) × HasFollowed recorded self.old × MayGoOn recorded step.now }
@@ -155,7 +134,13 @@ impl<S: RowSource> Checker<S> {
             → HasCompared S.gave S.is_over whole version recorded self.old
             → HasCompared S.gave S.is_over whole version (with_steps recorded (step.now ∷ [])) self.new }
     {
-        self.go_on(step.changes.as_slice());
+        let changes = step.changes.as_slice();
+        self.bus.advance(changes);
+        match self.stage {
+            Stage::Waiting => self.begin_where_idle(),
+            Stage::Judging(state) => self.judge(&state, changes),
+            Stage::Ended => {}
+        }
     }
 
     /// What the rows say, where the recording is whole; and what they come from.
@@ -167,7 +152,7 @@ impl<S: RowSource> Checker<S> {
             × Decides S.is_over more (rows_in version (recorded_rows recorded)) result.1 result.0 }
     {
         let mut rows = self.rows;
-        rows.follow(Row::Verdict(self.outcome));
+        rows.close_before(Row::Verdict(self.outcome));
         rows.compared.finish()
     }
 

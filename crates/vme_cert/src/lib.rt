@@ -14,8 +14,9 @@
 //!
 //! The prover and its library; and that the definitions say what the bus does: `specs/` of
 //! vme_trace (the levels of an instant, what is judged, transfers, cycles, tenures, the rules, the
-//! verdict) and `specs/Recorded.antt` of vme_listing (the rows). docs/PROTOCOL.md says the same in
-//! words.
+//! verdict) and of vme_listing (`Recorded.antt` the rows; for `confirm_text` also `Listed.antt`,
+//! `Places.antt`, `RowText.antt` and `Reading.antt`: which text is that of a listing, and what the
+//! first fault of another one is). docs/PROTOCOL.md says the same in words.
 //!
 //! Stop here if you trust the prover: nothing in this crate is to be trusted, and its own `specs/`
 //! and `proofs/` only lead from its code to those definitions.

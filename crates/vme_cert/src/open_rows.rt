@@ -39,8 +39,9 @@ impl<S: RowSource> OpenRows<S> {
         }
     }
 
-    /// What is open has no edges any more: here a stretch ends, or what is listed of it. The next right row has none.
-    pub(crate) fn follow(&mut self, row: Row)
+    /// Compares what is open, which has no edges any more, and then the next right row, which has none: the start of a
+    /// stretch, a reset, or the verdict.
+    pub(crate) fn close_before(&mut self, row: Row)
         requires { self.old.compared.taken < 2 ^ 62 }
         ensures rows { (whole : S.Whole) (version : Version) (rights : List Row) → ended row None ≡ row
             → CanClose S.gave S.is_over whole version rights self.old

@@ -27,15 +27,15 @@ fn rules_on(line: Line) -> &'static [Rule]
     ensures exists { line < line_count }
 {
     match line.number() {
-        0 => &[H7, B3],
-        1..=2 => &[H2, H3],
-        3..=4 => &[H1, H4, H5, H6, H8, C1, C2, I4, I5],
-        13 => &[U2, U3, S1, S2],
-        5..=44 => &[U2, S1],
-        45 => &[B1, B2, B4],
-        50..=137 => &[G1, G2, G3, G4, G5],
-        138..=158 => &[I1, I2, I3],
-        159..=190 => &[U4, S3],
+        0 => &[H7, B3], // AS*
+        1..=2 => &[H2, H3], // DS0*, DS1*
+        3..=4 => &[H1, H4, H5, H6, H8, C1, C2, I4, I5], // DTACK*, BERR*
+        13 => &[U2, U3, S1, S2], // WRITE*
+        5..=44 => &[U2, S1], // IACK*, the modifier, LWORD*, the address
+        45 => &[B1, B2, B4], // BBSY*
+        50..=137 => &[G1, G2, G3, G4, G5], // the chains of grants
+        138..=158 => &[I1, I2, I3], // the chain of IACK*
+        159..=190 => &[U4, S3], // the data
         _ => &[],
     }
 }
@@ -327,7 +327,7 @@ impl State {
 
     /// Whether a rule is broken on one of some lines, where it is asked at all. On a known line it isn't.
     #[tactic(auto, using(crate::proofs::Breaks::within))]
-    fn is_unreadable(&self, bus: &Bus, asked: bool, rule: Rule, first: Line, last: Line) -> bool
+    fn is_broken_within(&self, bus: &Bus, asked: bool, rule: Rule, first: Line, last: Line) -> bool
         requires { first ≤ last }
         ensures { (t : Trace) (span : Stretch) (l : ℕ) → IsStateOf t span bus.now self.now → result ≡ false
             → (asked ≡ false → breaks t span rule bus.now.instant l ≡ false)
@@ -355,9 +355,9 @@ impl State {
         let change = self.is_change_broken(bus, changes);
         let transfer = self.is_transfer_start_broken(bus);
         let starts = bus.falls(Line::AS);
-        let cycle = self.is_unreadable(bus, starts, U2, Line::IACK, Line::address(31));
+        let cycle = self.is_broken_within(bus, starts, U2, Line::IACK, Line::address(31));
         let strobed = bus.strobe_falls();
-        let data = self.is_unreadable(bus, strobed, U4, Line::data(0), Line::data(31));
+        let data = self.is_broken_within(bus, strobed, U4, Line::data(0), Line::data(31));
         if !(change | transfer | cycle | data) {
             return None;
         }

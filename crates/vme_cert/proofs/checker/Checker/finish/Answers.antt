@@ -7,18 +7,18 @@ use Rattle.vme_cert.proofs.Following.{all-off, none-at}
 use Rattle.vme_cert.proofs.Placing.{rows_in-length}
 use Rattle.vme_cert.proofs.checker.Checker.finish.Goals as goal
 
-pub follow-requires : goal.follow-requires
-follow-requires g c = omega (arith, c.requires.1.few, c.args.self.bus.within)
+pub close_before-requires : goal.close_before-requires
+close_before-requires g c = omega (arith, c.requires.1.few, c.args.self.bus.within)
 
 pub finish-requires : goal.finish-requires
-finish-requires g c = omega (arith, c.follow.ensures.taken, c.requires.1.few, c.args.self.bus.within)
+finish-requires g c = omega (arith, c.close_before.ensures.taken, c.requires.1.few, c.args.self.bus.within)
 
 pub returns : goal.returns
 returns g c whole v t taken compared =
     let e = ended-all taken compared in
-    let new = c.follow.new.self in
-    let closed = c.follow.ensures.rows whole v e.done refl e.rows_are in
-    let none = c.follow.ensures.closed in
+    let new = c.close_before.new.self in
+    let closed = c.close_before.ensures.rows whole v e.done refl e.rows_are in
+    let none = c.close_before.ensures.closed in
     c.finish.ensures whole closed.given (rows_in v (recorded_rows t)) closed.is_given
     (subst (λ (rows : List Row). IsCompared closed.given (rows_in v rows) new.compared.taken (λ n. false)
     new.compared.wrong) e.all

@@ -10,7 +10,7 @@ returns-then-is_reset-clause-checks g c whole v t at within h = record {
   at = at;
   stage_is = judge-resets at c.requires.lead (omega (arith, c.slots.ensures.most, c.slots.ensures.slots)) within h
       (sym c.is_reset.ensures ∙ c.if-is_reset.true)
-      (c.follow.ensures.rows whole v (h.done ++ rows_to t (span_from t h.start) c.args.self.now.bus.instant) refl
+      (c.close_before.ensures.rows whole v (h.done ++ rows_to t (span_from t h.start) c.args.self.now.bus.instant) refl
       (follows-close h.rows_are h.upto));
 }
 

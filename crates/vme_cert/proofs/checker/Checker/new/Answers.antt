@@ -10,18 +10,18 @@ unfolding levels_at
 returns-clause-taken g c =
     let t = at_opening c.args.opening.now in
     let at = c.opening.ensures.at t refl in
-    let instant = ap (λ (b : Bus). b.instant) c.wait.ensures.bus in
+    let instant = ap (λ (b : Bus). b.instant) c.begin_where_idle.ensures.bus in
     record {
       instant = instant ∙ c.opening.ensures.instant;
-      levels = ap (λ (b : Bus). b.levels) c.wait.ensures.bus
+      levels = ap (λ (b : Bus). b.levels) c.begin_where_idle.ensures.bus
           ∙ (at.levels ∙ ap (levels_at t) c.opening.ensures.instant);
-      few = omega (arith, c.wait.ensures.few, instant);
+      few = omega (arith, c.begin_where_idle.ensures.few, instant);
     }
 
 pub returns-clause-compared : goal.returns-clause-compared
 returns-clause-compared g c whole gave_none more =
     let t : Trace = with_steps (at_opening c.args.opening.now) more in
     let first = c.opening.ensures.instant in
-    c.wait.ensures.checks whole c.args.version t (c.opening.ensures.at t refl) (omega (arith, first))
+    c.begin_where_idle.ensures.checks whole c.args.version t (c.opening.ensures.at t refl) (omega (arith, first))
     (subst (λ n. IsWaiting g.S.RowSource.gave g.S.RowSource.is_over whole c.args.version t n NeverIdle c.new.result)
     (sym first) (waits-first (c.new.ensures.rows whole gave_none)))

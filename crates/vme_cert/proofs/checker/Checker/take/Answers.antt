@@ -1,44 +1,60 @@
-use Rattle.std.proofs.Common.{◌≡◌, ◌+◌, ◌∙◌, [], ◌∷◌, sym, ap, subst, arith, length-append}
-use Rattle.vme_cert.specs.Words.{Levels, Trace, are_changes, changed, last_instant, levels_at, with_steps}
-use Rattle.vme_cert.specs.Checking.{Checks, last_levels}
-use Rattle.vme_cert.proofs.Checking.{levels-made, goes_to, levels-next, next-is}
+-- The step makes the levels of the next instant, where what was so of it is so.
+use Rattle.std.proofs.Common.{◌∙◌, refl, sym, ap, arith}
+use Rattle.vme_cert.specs.Words.{Levels, are_changes, changed}
+use Rattle.vme_cert.specs.Checking.{last_levels}
+use Rattle.vme_cert.proofs.Checking.{arrives, has-taken}
 use Rattle.vme_cert.proofs.checker.Checker.take.Goals as goal
 
-pub go_on-requires-clause-limit : goal.go_on-requires-clause-limit
-go_on-requires-clause-limit g c =
-    let (recorded, taken, next) = c.requires in
-    omega (arith, taken.instant, next.within)
+pub advance-requires : goal.advance-requires
+advance-requires g c = let (recorded, taken, next) = c.requires in omega (arith, taken.instant, next.within)
 
-pub go_on-requires-clause-changes : goal.go_on-requires-clause-changes
-go_on-requires-clause-changes g c =
-    let (recorded, taken, next) = c.requires in
-    ap (λ (w : Levels). are_changes w 0 c.as_slice.result.now) taken.levels
-    ∙ (ap (are_changes (last_levels recorded) 0) c.as_slice.ensures ∙ next.sound)
+pub begin_where_idle-requires-clause-few : goal.begin_where_idle-requires-clause-few
+begin_where_idle-requires-clause-few g c =
+    let (recorded, taken, next) = c.requires in omega (arith, taken.few, c.advance.ensures.instant)
 
-pub go_on-requires-clause-few : goal.go_on-requires-clause-few
-go_on-requires-clause-few g c =
-    let (recorded, taken, next) = c.requires in
-    taken.few
+pub judge-requires-clause-few : goal.judge-requires-clause-few
+judge-requires-clause-few g c =
+    let (recorded, taken, next) = c.requires in omega (arith, taken.few, c.advance.ensures.instant)
 
-pub returns-clause-taken : goal.returns-clause-taken
-returns-clause-taken g c recorded taken =
-    let step = c.args.step.now in
+pub judge-requires-clause-lead : goal.judge-requires-clause-lead
+judge-requires-clause-lead g c =
+    let (recorded, taken, next) = c.requires in
+    let changes = c.as_slice-changes.result.now in
     record {
-      instant = omega (arith, c.go_on.ensures.instant, taken.instant, length-append recorded.steps (step ∷ []));
-      levels = c.go_on.ensures.levels ∙ levels-next recorded step c.args.self.now.bus.levels c.as_slice.result.now
-          taken.levels c.as_slice.ensures;
-      few = c.go_on.ensures.few;
+      made = c.advance.ensures.levels ∙ ap (λ (w : Levels). changed w changes) (sym c.advance.ensures.before);
+      sound = ap (λ (w : Levels). are_changes w 0 changes) (c.advance.ensures.before ∙ taken.levels)
+          ∙ (ap (are_changes (last_levels recorded) 0) c.as_slice-changes.ensures ∙ next.sound);
     }
 
-pub returns-clause-compared : goal.returns-clause-compared
-returns-clause-compared g c whole version recorded taken compared more =
-    let step = c.args.step.now in
-    let n = last_instant recorded in
-    let t : Trace = with_steps recorded (step ∷ more) in
-    subst (λ (u : Trace). Checks g.S.RowSource.gave g.S.RowSource.is_over whole version u c.go_on.new.self)
-    (goes_to recorded step more)
-    (c.go_on.ensures.checks whole version t
-    (subst (λ i. levels_at t (i + 1) ≡ changed (levels_at t i) c.as_slice.result.now) (sym taken.instant)
-    (levels-made t n step (next-is recorded step more) ∙ ap (changed (levels_at t n)) (sym c.as_slice.ensures)))
-    (omega (arith, taken.instant, length-append recorded.steps (step ∷ more)))
-    (compared (step ∷ more)))
+pub returns-in-Waiting-clause-taken : goal.returns-in-Waiting-clause-taken
+returns-in-Waiting-clause-taken g c recorded taken =
+    has-taken c.args.step.now taken c.advance.ensures.instant c.advance.ensures.levels c.as_slice-changes.ensures
+    c.begin_where_idle.new.self c.begin_where_idle.ensures.bus c.begin_where_idle.ensures.few
+
+pub returns-in-Judging-clause-taken : goal.returns-in-Judging-clause-taken
+returns-in-Judging-clause-taken g c recorded taken =
+    has-taken c.args.step.now taken c.advance.ensures.instant c.advance.ensures.levels c.as_slice-changes.ensures c.judge.new.self
+    c.judge.ensures.bus c.judge.ensures.few
+
+pub returns-in-Ended-clause-taken : goal.returns-in-Ended-clause-taken
+returns-in-Ended-clause-taken g c recorded taken =
+    has-taken c.args.step.now taken c.advance.ensures.instant c.advance.ensures.levels c.as_slice-changes.ensures _ refl
+    (omega (arith, taken.few, c.advance.ensures.instant))
+
+pub returns-in-Waiting-clause-compared : goal.returns-in-Waiting-clause-compared
+returns-in-Waiting-clause-compared g c whole version recorded taken compared more =
+    let (at, within, stage) = arrives c.args.step.now taken c.advance.ensures.instant c.advance.ensures.before c.advance.ensures.levels
+    c.as_slice-changes.ensures compared c.in-Waiting.is more in
+    c.begin_where_idle.ensures.checks whole version _ at within stage
+
+pub returns-in-Judging-clause-compared : goal.returns-in-Judging-clause-compared
+returns-in-Judging-clause-compared g c whole version recorded taken compared more =
+    let (at, within, stage) = arrives c.args.step.now taken c.advance.ensures.instant c.advance.ensures.before c.advance.ensures.levels
+    c.as_slice-changes.ensures compared c.in-Judging.is more in
+    c.judge.ensures.checks whole version _ at within stage
+
+pub returns-in-Ended-clause-compared : goal.returns-in-Ended-clause-compared
+returns-in-Ended-clause-compared g c whole version recorded taken compared more =
+    let (at, within, stage) = arrives c.args.step.now taken c.advance.ensures.instant c.advance.ensures.before c.advance.ensures.levels
+    c.as_slice-changes.ensures compared c.in-Ended.is more in
+    record { at = at; stage_is = rw c.in-Ended.is stage }

@@ -1,6 +1,6 @@
 use Rattle.std.proofs.Common.{◌∙◌, ap, sym}
 use Rattle.std.specs.Prelude.{if◌then◌else◌}
-use Rattle.vme_cert.specs.Words.{Direction, PendingTransfer, Read, Write, is_write}
+use Rattle.vme_cert.specs.Words.{Direction, PendingTransfer, Read, Write}
 use Rattle.vme_cert.proofs.Stepping.{transfer-begins, transfer-idle}
 use Rattle.vme_cert.proofs.open_rows.OpenRows.begin_transfer.Goals as goal
 
@@ -10,10 +10,8 @@ returns-then-not-transfer_starts-clause-rows g c whole v done t span within h =
     (sym (c.transfer_starts.ensures t within.at) ∙ c.if-not-transfer_starts.true)
 
 pub returns-clause-rows : goal.returns-clause-rows
-unfolding is_write
 returns-clause-rows g c whole v done t span within h =
-    let j = c.args.bus.now.instant in
-    transfer-begins j within.is within.judged h
-    (sym (c.transfer_starts.ensures t within.at) ∙ c.if-not-transfer_starts.false)
-    (λ end. ap (λ (d : Direction). PendingTransfer j d)
-    (c.direction.ensures ∙ ap (λ b. if b then Write else Read) (c.low.ensures t within.at))) c.begin.ensures
+    transfer-begins c.args.bus.now.instant within.is within.judged h
+    (sym (c.transfer_starts.ensures t within.at) ∙ c.if-not-transfer_starts.false) c.begin.ensures
+    (ap (λ (d : Direction). PendingTransfer c.args.bus.now.instant d)
+    (c.direction.ensures ∙ ap (λ b. if b then Write else Read) (c.low.ensures t within.at)))

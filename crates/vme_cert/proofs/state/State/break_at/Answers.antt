@@ -17,14 +17,14 @@ returns-then-not-change-transfer c t span h =
     let j = bus.instant in
     let change = c.is_change_broken-change.result in
     let transfer = c.is_transfer_start_broken-transfer.result in
-    let cycle = c.is_unreadable-cycle.result in
-    let three = or_false (change || transfer || cycle) c.is_unreadable-data.result
+    let cycle = c.is_broken_within-cycle.result in
+    let three = or_false (change || transfer || cycle) c.is_broken_within-data.result
     c.if-not-change-transfer.true in
     let two = or_false (change || transfer) cycle three.0 in
     let one = or_false change transfer two.0 in
     sym (ap named (break_at-none t span j (unbroken t span bus c.args.self.now c.args.changes.now h c.requires
     (λ r l e s. c.is_change_broken-change.ensures t span r l h one.0 e s)
-    (λ l. c.is_unreadable-cycle.ensures t span l h two.1
+    (λ l. c.is_broken_within-cycle.ensures t span l h two.1
     (λ e. let none : cycle_starts t span j ≡ false =
     cycle-starts-is t span j h.judged ∙ (sym (c.falls-starts.ensures t h.at) ∙ e) in
     breaks-off t span j l U2 (rw none refl))
@@ -33,7 +33,7 @@ returns-then-not-change-transfer c t span h =
     (ap (λ n. nat_le 5 l && nat_le l n) (sym c.address.ensures) ∙ e))))
     (λ l. c.is_transfer_start_broken-transfer.ensures.direction t span l h one.1)
     (λ l. c.is_transfer_start_broken-transfer.ensures.answers t span l h one.1)
-    (λ l. c.is_unreadable-data.ensures t span l h three.1
+    (λ l. c.is_broken_within-data.ensures t span l h three.1
     (λ e. let none : strobe_falls t j ≡ false = sym (c.strobe_falls-strobed.ensures t h.at) ∙ e in
     breaks-off t span j l U4 (rw (none, and_off) refl))
     (λ e. breaks-off t span j l U4 (rw (e, and_off) refl))

@@ -1,5 +1,5 @@
 use Rattle.vme_cert.proofs.Following.{closes}
-use Rattle.vme_cert.proofs.open_rows.OpenRows.follow.Goals as goal
+use Rattle.vme_cert.proofs.open_rows.OpenRows.close_before.Goals as goal
 
 pub returns-clause-rows : goal.returns-clause-rows
 returns-clause-rows g c whole version rights edge h =

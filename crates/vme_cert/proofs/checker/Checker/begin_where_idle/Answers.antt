@@ -3,7 +3,7 @@ use Rattle.vme_cert.specs.Words.{span_from}
 use Rattle.vme_cert.specs.Checking.{IsStage}
 use Rattle.vme_cert.specs.declared.checker.Stage.{Stage}
 use Rattle.vme_cert.proofs.Checking.{idle-is, starts, waits-on}
-use Rattle.vme_cert.proofs.checker.Checker.wait.Goals as goal
+use Rattle.vme_cert.proofs.checker.Checker.begin_where_idle.Goals as goal
 
 pub returns-then-not-is_idle-clause-checks : goal.returns-then-not-is_idle-clause-checks
 returns-then-not-is_idle-clause-checks g c whole v t at within h =
