@@ -3,7 +3,7 @@ use Rattle.std.proofs.Common.{◌≡◌, ℕ, suc, ◌<◌, Bool, true, false, �
 use Rattle.std.proofs.Common.{◌∙◌, arith, ◌+◌, ◌-◌, ◌≤◌, ◌&&◌, ap, subst}
 use Rattle.std.specs.Prelude.{◌==◌, nat_le, nat_lt, if◌then◌else◌, None, Some}
 use Rattle.std.specs.List.{list_any}
-use Rattle.std.proofs.lemmas.Bool.{agree_below, agree_below_at}
+use Rattle.std.proofs.lemmas.Bool.{agree_below, agree_below_at, ltb-true, eqb-true, and_parts}
 use Rattle.std.proofs.lemmas.Bool.Decides.{nat_tests}
 use Rattle.vme_trace.specs.declared.class.Class.TheVariants as class
 use Rattle.vme_trace.proofs.EveryRule.{every-rule, same-rule}
@@ -23,8 +23,7 @@ use Rattle.vme_cert.specs.State.{IsStateOf}
 use Rattle.vme_cert.specs.declared.bus.Bus.{Bus}
 use Rattle.vme_cert.specs.declared.state.State.{State}
 use Rattle.std.proofs.lemmas.List.Folds.{list_any_at}
-use Rattle.vme_cert.proofs.Ranges.{equal, eq_fails, false_of_not, true_of_not, within_of, and_off, and_true, lt_of}
-use Rattle.vme_cert.proofs.Ranges.{any-first, or_false, decide}
+use Rattle.vme_cert.proofs.Ranges.{eq_fails, false_of_not, true_of_not, within_of, and_off, any-first, or_false, decide}
 use Rattle.vme_cert.proofs.Fields.{starts-is}
 
 -- ---- The table of rules by line lists the rules that speak of a line: every rule is tried on every line.
@@ -64,7 +63,7 @@ speaks-listed l r below spoken = found (rules_on l) (listed-is l r below ∙ spo
             → (list_any (λ y. rule_number y == rule_number r) rs ≡ true
             → (k : ℕ) × (k < length rs) × (get_or rs k U1 ≡ r))
             → (k : ℕ) × (k < length (x ∷ rs)) × (get_or (x ∷ rs) k U1 ≡ r)
-        by_test true e h later = (0, omega arith, same-rule x r (equal (rule_number x) (rule_number r) e))
+        by_test true e h later = (0, omega arith, same-rule x r (eqb-true (rule_number x) (rule_number r) e))
         by_test false e h later = let (k, below, at) = later h in (suc k, omega arith, at)
 
 -- ---- The lines of which a rule speaks: on others it isn't broken. And the table of rules by line says the same.
@@ -119,7 +118,7 @@ module _ (t : Trace) (span : Stretch) (j l : ℕ) where
   pub unspoken : (r : Rule) → is_judged span j ≡ true → speaks_of r l ≡ false → is_broken t span r j l ≡ false
   unfolding is_broken
   unspoken U1 n h = rw (eq_fails j span.end
-      (lt_of j span.end (and_true (nat_lt span.start j) (nat_lt j span.end) n).1)) refl
+      (ltb-true j span.end (and_parts (nat_lt span.start j) (nat_lt j span.end) n).1)) refl
   unspoken U2 n h = rw (not_needed (levels_at t j) l h, and_off) refl
   unspoken U4 n h = rw (not_selected (levels_at t j) l h) refl
   unspoken S1 n h = ap (λ b. has_edge t l j && b)
@@ -202,14 +201,14 @@ module _ (t : Trace) (span : Stretch) (j l : ℕ) where
 
   pub direction-only : is_judged span j ≡ true → is_broken t span U3 j WRITE ≡ false → is_broken t span U3 j l ≡ false
   direction-only judged h = decide (l == WRITE)
-      (λ e. subst (λ k. is_broken t span U3 j k ≡ false) (sym (equal l WRITE e)) h)
+      (λ e. subst (λ k. is_broken t span U3 j k ≡ false) (sym (eqb-true l WRITE e)) h)
       (λ e. unspoken t span j l U3 judged e)
 
   pub answers-only : is_judged span j ≡ true → is_broken t span H1 j DTACK ≡ false
       → is_broken t span H1 j BERR ≡ false → is_broken t span H1 j l ≡ false
   answers-only judged h k = decide (l == DTACK)
-      (λ e. subst (λ k. is_broken t span H1 j k ≡ false) (sym (equal l DTACK e)) h)
-      (λ e. decide (l == BERR) (λ f. subst (λ k. is_broken t span H1 j k ≡ false) (sym (equal l BERR f)) k)
+      (λ e. subst (λ k. is_broken t span H1 j k ≡ false) (sym (eqb-true l DTACK e)) h)
+      (λ e. decide (l == BERR) (λ f. subst (λ k. is_broken t span H1 j k ≡ false) (sym (eqb-true l BERR f)) k)
       (λ f. unspoken t span j l H1 judged (rw (e, f) refl)))
 
   pub unstarted-direction : transfer_starts t span j ≡ false → is_broken t span U3 j l ≡ false

@@ -5,6 +5,7 @@ use Rattle.std.specs.Prelude.{◌==◌, Option, None, Some, slice_get, MatchOpti
 use Rattle.std.proofs.lemmas.Bool.Decides.{nat_tests}
 use Rattle.std.proofs.lemmas.Option.{slice_get_past, slice_get_within}
 use Rattle.std.proofs.lemmas.List.{append-nil}
+use Rattle.std.proofs.lemmas.Bool.{eqb-true}
 use Rattle.vme_cert.specs.Words.{Row}
 use Rattle.vme_cert.specs.Comparing.{Decides, Extends, IsBegun, IsCompared, IsDue, IsGiven, IsGivenNext, IsSame}
 use Rattle.vme_cert.specs.Comparing.{IsSettled, same_to, spares}
@@ -13,7 +14,7 @@ use Rattle.vme_cert.specs.declared.comparison.OpenRow.{OpenRow}
 use Rattle.vme_cert.specs.declared.compare.Answer.TheVariants.{Yes, No}
 use Rattle.vme_cert.specs.Agreement.{DecidesListing, DiffersAt}
 use Rattle.vme_cert.specs.declared.compare.Answer.{Answer}
-use Rattle.vme_cert.proofs.Ranges.{same_value, below_or_from, equal, decide}
+use Rattle.vme_cert.proofs.Ranges.{same_value, below_or_from, decide}
 
 module _ {A : Type 0} where
   none_some : (x : A) → None ≡ Some x → ⊥
@@ -52,7 +53,7 @@ module _ {A : Type 0} where
 
 spared : (still : ℕ → Bool) (row : OpenRow) (n : ℕ) → spares still (Some row) n ≡ false → (n ≡ row.place) ⊎ (still n
     ≡ false)
-spared still row n off = decide (n == row.place) (λ f. inl (equal n row.place f)) (λ f. decide (still n)
+spared still row n off = decide (n == row.place) (λ f. inl (eqb-true n row.place f)) (λ f. decide (still n)
     (λ e. let h : (true && not false) ≡ false = rw (e, f) at off in absurd (cc)) (λ e. inr e))
 
 module _ (given right : List Row) (taken : ℕ) (still : ℕ → Bool) (row : OpenRow) where

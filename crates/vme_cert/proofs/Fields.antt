@@ -1,26 +1,31 @@
--- The fields of the state as a cycle or a transfer starts, and one instant later.
+-- The fields of the state as a cycle or a transfer starts, and one instant later; and what rules ask of them.
 use Rattle.std.proofs.Common.{◌≡◌, ℕ, ◌+◌, ◌-◌, ◌≤◌, ◌<◌, ◌&&◌, ◌||◌, Bool, true, false, refl, sym, ◌∙◌, ap, arith, inl}
-use Rattle.std.proofs.Common.{inr, ◌⊎◌, ◌∷◌, ◌++◌, [], not, add-one, List, subst}
-use Rattle.std.specs.Prelude.{Some, nat_le, if◌then◌else◌, nat_lt, unwrap_or}
+use Rattle.std.proofs.Common.{inr, ◌⊎◌, ◌∷◌, ◌++◌, [], not, add-one, List, subst, zero, suc, cond}
+use Rattle.std.specs.Prelude.{Some, nat_le, if◌then◌else◌, nat_lt, unwrap_or, None}
 use Rattle.std.proofs.Math.Bool.{beq}
 use Rattle.std.proofs.lemmas.Bool.Decides.{nat_tests}
-use Rattle.vme_trace.proofs.OpenTransfers.{in_transfer-is}
-use Rattle.vme_trace.proofs.Ranges.{any-holds, fails-any, any-step, any-fails, clash}
+use Rattle.vme_trace.proofs.OpenTransfers.{in_transfer-is, ReadsStrobes}
+use Rattle.vme_trace.proofs.Ranges.{any-holds, fails-any, any-step, any-fails, clash, any-least, least-found}
 use Rattle.vme_cert.specs.Words.{AS, DS0, DS1, DTACK, High, Level, Low, Stretch, Trace, Unknown, WRITE, answer_falls}
 use Rattle.vme_cert.specs.Words.{answers, answers_of, answers_write, any, class_at, cycle_starts, differ, falls}
 use Rattle.vme_cert.specs.Words.{greatest, high, in_transfer, is_answer, is_answered, is_high, is_judged, is_known}
 use Rattle.vme_cert.specs.Words.{is_later, is_low, is_write, known, last_before, lasts, level, levels_at, low, needs_of}
 use Rattle.vme_cert.specs.Words.{none, rises, spoils_pair, strobe_rises, strobes_high, those, transfer_starts, turns}
+use Rattle.vme_cert.specs.Words.{BERR, IsSpanOf, Needs, cycle_of, cycle_runs, in_cycle, is_block_class, is_interrupt}
+use Rattle.vme_cert.specs.Words.{is_needed, is_single, is_within}
 use Rattle.vme_cert.specs.State.{is_many, writes_first, AreClosed, IsOpenTransfer, IsTransfer, IsCycle, IsLastCycle}
-use Rattle.vme_cert.specs.State.{is_acknowledged}
+use Rattle.vme_cert.specs.State.{is_acknowledged, is_data_held, is_unanswered}
 use Rattle.vme_cert.specs.Instant.{starts_transfer}
 use Rattle.vme_cert.specs.declared.state.Transfer.{Transfer}
 use Rattle.vme_cert.specs.declared.state.Cycle.{Cycle}
-use Rattle.vme_cert.proofs.Ranges.{below_or_from, both, IsGreatest, and_off, and_on, greatest-found, and_true, le_holds}
-use Rattle.vme_cert.proofs.Ranges.{none-shorter, after_start, greatest-here, greatest-not, none-step, any-start}
-use Rattle.vme_cert.proofs.Ranges.{last_or_before, lt_of, greatest-none-any, those-empty, false_of_not, order_of}
-use Rattle.vme_cert.proofs.Ranges.{true_of_not, greatest-none, decide, lt_not, case_of}
+use Rattle.vme_cert.proofs.Ranges.{below_or_from, both, IsGreatest, and_off, and_on, greatest-found, none-shorter}
+use Rattle.vme_cert.proofs.Ranges.{after_start, greatest-here, greatest-not, none-step, any-start, last_or_before}
+use Rattle.vme_cert.proofs.Ranges.{greatest-none-any, those-empty, false_of_not, order_of, true_of_not, greatest-none}
+use Rattle.vme_cert.proofs.Ranges.{decide, case_of, later, de_morgan, only-last, or_on, unless, or_false}
 use Rattle.vme_cert.proofs.Instant.{address-known}
+use Rattle.std.specs.Option.{option_map_or}
+use Rattle.std.proofs.lemmas.Bool.{le-leb, ltb-true, ltb-false, and_parts}
+use Rattle.vme_trace.proofs.JudgedSpans.{span_reads}
 
 -- ---- The transfer of an instant: the last to start, while no instant since then had both strobes high.
 
@@ -39,7 +44,7 @@ module _ (t : Trace) (span : Stretch) where
   high-between i k order first second =
       elim (just-or-later i k order) [
         | inl e ↦ absurd (high-and-low (level t DS0 i) (level t DS1 i) (ap (strobes_high t) (sym e) ∙ before)
-            (and_true (is_judged span i && strobes_high t (i - 1)) _ first).1)
+            (and_parts (is_judged span i && strobes_high t (i - 1)) _ first).1)
         | inr later ↦ any-holds (strobes_high t) (i + 1) k (k - 1) (omega arith) (omega arith) before
       ]
     where
@@ -47,8 +52,8 @@ module _ (t : Trace) (span : Stretch) where
       just-or-later i k h = grind arith
 
       before : strobes_high t (k - 1) ≡ true
-      before = (and_true (is_judged span k) (strobes_high t (k - 1))
-          (and_true (is_judged span k && strobes_high t (k - 1)) _ second).0).1
+      before = (and_parts (is_judged span k) (strobes_high t (k - 1))
+          (and_parts (is_judged span k && strobes_high t (k - 1)) _ second).0).1
 
   module _ (j : ℕ) (judged : is_judged span j ≡ true) where
     lasts-not : (i : ℕ) → any (strobes_high t) (i + 1) j ≡ true → lasts t span i j ≡ false
@@ -57,7 +62,7 @@ module _ (t : Trace) (span : Stretch) where
 
     pub lasts-on : (i : ℕ) → i ≤ j → none (strobes_high t) (i + 1) j ≡ true → lasts t span i j ≡ true
     unfolding lasts
-    lasts-on i order h = rw (le_holds i j order, judged, h) refl
+    lasts-on i order h = rw (le-leb i j order, judged, h) refl
 
     not-in : (p : ℕ → Bool)
         → ((i : ℕ) → span.start < i → i ≤ j → transfer_starts t span i ≡ true → lasts t span i j ≡ false)
@@ -97,7 +102,7 @@ module _ (t : Trace) (span : Stretch) (j i : ℕ) (judged : is_judged span j ≡
   -- the field one instant later, and as rules ask for it there
   pub answered-step : is_answered t span i (j + 1) ≡ (is_answered t span i j || answer_falls t j)
   unfolding is_answered
-  answered-step = any-step (λ r. lasts t span i r && answer_falls t r) i j ∙ rw (le_holds i j within, here) refl
+  answered-step = any-step (λ r. lasts t span i r && answer_falls t r) i j ∙ rw (le-leb i j within, here) refl
 
   pub answers-is : answers t span i j ≡ (answer_falls t j && not (is_answered t span i j))
   unfolding answers
@@ -111,7 +116,7 @@ module _ (t : Trace) (span : Stretch) (j i : ℕ) (judged : is_judged span j ≡
 pub answers-step : (t : Trace) (span : Stretch) (i j : ℕ) → i ≤ j → answers_of t span i (j + 1)
     ≡ answers_of t span i j ++ (if is_answer t span j then j ∷ [] else [])
 unfolding answers_of those
-answers-step t span i j order = rw (add-one, le_holds i j order) refl
+answers-step t span i j order = rw (add-one, le-leb i j order) refl
 
 -- ---- The answers of a cycle, with one more or none, and what rules ask of them.
 
@@ -227,11 +232,11 @@ module _ (t : Trace) (span : Stretch) (j : ℕ) (judged : is_judged span j ≡ t
 
     still-on : (nat_lt c.start j && strobes_high t j) ≡ false → none (strobes_high t) (c.start + 1) (j + 1) ≡ true
     still-on h = decide (nat_lt c.start j)
-        (λ e. let before = lt_of c.start j e in
+        (λ e. let before = ltb-true c.start j e in
         let low : strobes_high t j ≡ false = rw e at h in
         none-step (strobes_high t) (c.start + 1) j (omega arith)
         ∙ both (none (strobes_high t) (c.start + 1) j) (not (strobes_high t j)) is.still (ap not low))
-        (λ e. let same = lt_not c.start j e in
+        (λ e. let same = ltb-false c.start j e in
         ap not (any-start (strobes_high t) (c.start + 1) (j + 1) (omega arith)))
 
     pub rose-on : any (strobe_rises t) (c.start + 1) (j + 1) ≡ (c.rose || (nat_lt c.start j && strobe_rises t j))
@@ -273,9 +278,9 @@ module _ (t : Trace) (span : Stretch) (j : ℕ) (judged : is_judged span j ≡ t
           })
       by_flags false b e g = record { here = λ k. absurd (cc); absent = λ k. closed-on (is.absent e) }
       by_flags true true e g =
-          let parts = and_true (nat_lt c.start j) (strobes_high t j) g in record {
+          let parts = and_parts (nat_lt c.start j) (strobes_high t j) g in record {
             here = λ k. absurd (cc);
-            absent = λ k. closes c (is.here e) (lt_of c.start j parts.0) parts.1;
+            absent = λ k. closes c (is.here e) (ltb-true c.start j parts.0) parts.1;
           }
       by_flags true false e g = record {
         here = λ k. subst (λ b. IsOpenTransfer t span (j + 1) (j + 1) (record c {
@@ -290,8 +295,8 @@ module _ (t : Trace) (span : Stretch) (j : ℕ) (judged : is_judged span j ≡ t
 pub none-started : (t : Trace) (span : Stretch) → AreClosed t span (span.start + 1) (span.start + 1)
 unfolding transfer_starts
 none-started t span i before start =
-    let judged = (and_true (is_judged span i) (strobes_high t (i - 1))
-    (and_true (is_judged span i && strobes_high t (i - 1)) _ start).0).0 in
+    let judged = (and_parts (is_judged span i) (strobes_high t (i - 1))
+    (and_parts (is_judged span i && strobes_high t (i - 1)) _ start).0).0 in
     let after = after_start span i judged in
     absurd (omega arith)
 
@@ -309,7 +314,7 @@ one_of Unknown = (λ h. absurd (cc), λ h. absurd (cc))
 module _ (t : Trace) (l j : ℕ) where
   pub fall-low : falls t l j ≡ true → low t l j ≡ true
   unfolding falls
-  fall-low h = (and_true (high t l (j - 1)) (low t l j) h).1
+  fall-low h = (and_parts (high t l (j - 1)) (low t l j) h).1
 
   -- what was low doesn't fall
   pub low-no_fall : low t l (j - 1) ≡ true → falls t l j ≡ false
@@ -319,12 +324,12 @@ module _ (t : Trace) (l j : ℕ) where
   -- what falls doesn't rise
   pub no-rise : falls t l j ≡ true → rises t l j ≡ false
   unfolding falls rises low high
-  no-rise h = rw ((one_of (level t l (j - 1))).0 (and_true (high t l (j - 1)) (low t l j) h).0) refl
+  no-rise h = rw ((one_of (level t l (j - 1))).0 (and_parts (high t l (j - 1)) (low t l j) h).0) refl
 
   -- what rises doesn't fall
   pub no-fall : rises t l j ≡ true → falls t l j ≡ false
   unfolding rises
-  no-fall h = low-no_fall (and_true (low t l (j - 1)) (high t l j) h).0
+  no-fall h = low-no_fall (and_parts (low t l (j - 1)) (high t l j) h).0
 
   -- what was low and doesn't rise stays low, where it is known
   pub stays-low : low t l (j - 1) ≡ true → rises t l j ≡ false → known t l j ≡ true → low t l j ≡ true
@@ -342,11 +347,11 @@ stays-ended p i j h = rw (any-step p (i + 1) j, true_of_not (any p (i + 1) j) h)
 
 starts-after : (t : Trace) (span : Stretch) (i : ℕ) → cycle_starts t span i ≡ true → span.start + 1 ≤ i
 unfolding cycle_starts
-starts-after t span i h = after_start span i (and_true (is_judged span i) (falls t AS i) h).0
+starts-after t span i h = after_start span i (and_parts (is_judged span i) (falls t AS i) h).0
 
 starts-low : (t : Trace) (span : Stretch) (i : ℕ) → cycle_starts t span i ≡ true → low t AS i ≡ true
 unfolding cycle_starts
-starts-low t span i h = fall-low t AS i (and_true (is_judged span i) (falls t AS i) h).1
+starts-low t span i h = fall-low t AS i (and_parts (is_judged span i) (falls t AS i) h).1
 
 -- where AS* falls each cycle has ended
 all-ended : (t : Trace) (span : Stretch) (j : ℕ) (c : Cycle) → IsCycle t span j j c → falls t AS j ≡ true → (i : ℕ)
@@ -438,7 +443,7 @@ module _ (t : Trace) (span : Stretch) (j : ℕ) (judged : is_judged span j ≡ t
     low-now knows on = by_order (last_or_before c.start j found-cycle.before)
       where
         parts : (c.runs ≡ true) × (not (rises t AS j) ≡ true)
-        parts = and_true c.runs (not (rises t AS j)) on
+        parts = and_parts c.runs (not (rises t AS j)) on
 
         by_order : (c.start ≡ j) ⊎ (c.start < j) → low t AS j ≡ true
         by_order (inl e) = starts-low t span j (ap (cycle_starts t span) (sym e) ∙ found-cycle.holds)
@@ -451,7 +456,7 @@ module _ (t : Trace) (span : Stretch) (j : ℕ) (judged : is_judged span j ≡ t
     acknowledged-step : is_acknowledged t span c.start (j + 1)
         ≡ (is_acknowledged t span c.start j || (is_answer t span j && falls t DTACK j))
     acknowledged-step = any-step (λ r. is_answer t span r && falls t DTACK r) c.start j
-        ∙ rw (le_holds c.start j cycle-within) refl
+        ∙ rw (le-leb c.start j cycle-within) refl
 
     later-last : known t AS j ≡ true → IsLastCycle t span (j + 1) (j + 1) (record c {
       runs = c.runs && not (rises t AS j);
@@ -517,11 +522,11 @@ module _ (t : Trace) (span : Stretch) (p q : ℕ → Bool) (j : ℕ) (judged : i
   -- what a rule asks at an instant of what happened up to there
   pub since-asks : any q (last_before t span p j) (j + 1) ≡ (any q (last_before t span p j) j || q j)
   since-asks = any-step q (last_before t span p j) j
-      ∙ rw (le_holds (last_before t span p j) j (omega (arith, last-within))) refl
+      ∙ rw (le-leb (last_before t span p j) j (omega (arith, last-within))) refl
 
   pub since-later-asks : any q (last_before t span p j + 1) (j + 1) ≡ (any q (last_before t span p j + 1) j || q j)
   since-later-asks = any-step q (last_before t span p j + 1) j
-      ∙ rw (le_holds (last_before t span p j + 1) j last-within) refl
+      ∙ rw (le-leb (last_before t span p j + 1) j last-within) refl
 
   -- the field one instant later
   pub since-step : {a b c : Bool} → a ≡ any q (last_before t span p j) j → b ≡ p j → c ≡ q j
@@ -530,7 +535,7 @@ module _ (t : Trace) (span : Stretch) (p q : ℕ → Bool) (j : ℕ) (judged : i
       (λ e. rw (last-not e, e, since-asks, and_on) refl))
     where
       here_only : any q j (j + 1) ≡ q j
-      here_only = any-step q j j ∙ rw (any-start q j j (omega arith), le_holds j j (omega arith)) refl
+      here_only = any-step q j j ∙ rw (any-start q j j (omega arith), le-leb j j (omega arith)) refl
 
   pub since-later-step : {a b c : Bool} → a ≡ any q (last_before t span p j + 1) j → b ≡ p j → c ≡ q j
       → ((a || c) && not b) ≡ any q (last_before t span p (j + 1) + 1) (j + 1)
@@ -547,8 +552,354 @@ module _ (t : Trace) (span : Stretch) (p q : ℕ → Bool) where
   pub since-start : any q (last_before t span p (span.start + 1)) (span.start + 1) ≡ q span.start
   since-start = ap (λ k. any q k (span.start + 1)) last-start
       ∙ (any-step q span.start span.start
-      ∙ rw (any-start q span.start span.start (omega arith), le_holds span.start span.start (omega arith)) refl)
+      ∙ rw (any-start q span.start span.start (omega arith), le-leb span.start span.start (omega arith)) refl)
 
   pub since-later-start : any q (last_before t span p (span.start + 1) + 1) (span.start + 1) ≡ false
   since-later-start = ap (λ k. any q (k + 1) (span.start + 1)) last-start
       ∙ any-start q (span.start + 1) (span.start + 1) (omega arith)
+
+module _ (t : Trace) (span : Stretch) (j : ℕ) (judged : is_judged span j ≡ true) where
+  module _ (c : Transfer) (is : IsTransfer t span (j + 1) j c) where
+    -- what is asked of an open transfer, and isn't so where none is open
+    ask : (x : Bool) (p : ℕ → Bool) → (IsOpenTransfer t span (j + 1) j c → x ≡ p c.start)
+        → (c.is_open && x) ≡ in_transfer t span p j
+    ask x p here = decide c.is_open
+        (λ e. let w = is.here e in rw e (here w ∙ sym (in-last t span j judged c.start w.last p w.still)))
+        (λ e. rw e (sym (in-none t span j judged p (is.absent e))))
+
+    answered-by : IsOpenTransfer t span (j + 1) j c
+        → (c.answered || answer_falls t j) ≡ is_answered t span c.start (j + 1)
+    answered-by w =
+        ap (λ b. b || answer_falls t j) w.answered ∙ sym (answered-step t span j c.start judged w.last w.still)
+
+    answers-here : IsOpenTransfer t span (j + 1) j c → (answer_falls t j && not c.answered) ≡ answers t span c.start j
+    answers-here w =
+        ap (λ b. answer_falls t j && not b) w.answered ∙ sym (answers-is t span j c.start judged w.last w.still)
+
+    pub has-is : c.is_open ≡ in_transfer t span (λ i. true) j
+    has-is = sym (and_on c.is_open) ∙ ask true (λ i. true) (λ w. refl)
+
+    pub answer-is : (c.is_open && (answer_falls t j && not c.answered)) ≡ is_answer t span j
+    unfolding is_answer
+    answer-is = ask (answer_falls t j && not c.answered) (λ i. answers t span i j) (λ w. answers-here w)
+
+    pub write-is : (is_answer t span j && c.is_write) ≡ answers_write t span j
+    unfolding answers_write
+    write-is =
+        ap (λ b. b && c.is_write) (sym answer-is) ∙ (grouped c.is_open (answer_falls t j && not c.answered) c.is_write
+        ∙ ask ((answer_falls t j && not c.answered) && c.is_write) (λ i. answers t span i j && is_write t span i)
+        (λ w. ap (λ b. b && c.is_write) (answers-here w) ∙ ap (λ b. answers t span c.start j && b) w.direction))
+      where
+        grouped : (a b x : Bool) → ((a && b) && x) ≡ (a && (b && x))
+        grouped true b x = refl
+        grouped false b x = refl
+
+    pub unanswered-is : (c.is_open && (nat_lt c.start j && not (c.answered || answer_falls t j)))
+        ≡ is_unanswered t span j
+    unanswered-is = ask (nat_lt c.start j && not (c.answered || answer_falls t j)) _
+        (λ w. ap (λ b. nat_lt c.start j && not b) (answered-by w))
+
+    pub was-answered-is : (c.is_open && (nat_lt c.start j && c.answered))
+        ≡ in_transfer t span (λ i. nat_lt i j && is_answered t span i j) j
+    was-answered-is = ask (nat_lt c.start j && c.answered) _ (λ w. ap (λ b. nat_lt c.start j && b) w.answered)
+
+    pub twice-is : (c.is_open && (c.answered || (falls t DTACK j && falls t BERR j)))
+        ≡ in_transfer t span
+        (λ i. is_answered t span i j || (answers t span i j && falls t DTACK j && falls t BERR j)) j
+    twice-is = ask (c.answered || (falls t DTACK j && falls t BERR j)) _
+        (λ w. by_values c.answered (falls t DTACK j) (falls t BERR j)
+        ∙ (ap (λ b. c.answered || (b && falls t DTACK j && falls t BERR j)) (answers-here w)
+        ∙ ap (λ b. b || (answers t span c.start j && falls t DTACK j && falls t BERR j)) w.answered))
+      where
+        by_values : (a d b : Bool) → (a || (d && b)) ≡ (a || (((d || b) && not a) && d && b))
+        by_values true d b = refl
+        by_values false true true = refl
+        by_values false true false = refl
+        by_values false false true = refl
+        by_values false false false = refl
+
+    pub open-write-is : (c.is_open && (c.is_write && not c.answered))
+        ≡ in_transfer t span (λ i. is_write t span i && not (is_answered t span i j)) j
+    open-write-is = ask (c.is_write && not c.answered) _ (λ w. rw (w.direction, w.answered) refl)
+
+    pub data-is : (r : Bool) → (IsOpenTransfer t span (j + 1) j c → r ≡ any (strobe_rises t) (c.start + 1) (j + 1))
+        → (c.is_open && (nat_lt c.start j && c.is_write && not (c.answered || answer_falls t j) && not r))
+        ≡ is_data_held t span j
+    data-is r rose = ask (nat_lt c.start j && c.is_write && not (c.answered || answer_falls t j) && not r) _
+        (λ w. rw (w.direction, answered-by w, rose w) refl)
+
+  module _ (c : Cycle) (is : IsCycle t span (j + 1) j c) where
+    last-of : (p : ℕ → Bool) → IsLastCycle t span (j + 1) j c → p c.start ≡ in_cycle t span p j
+    unfolding in_cycle cycle_of
+    last-of p w = rw w.last refl
+
+    none-of : (p : ℕ → Bool) → greatest (cycle_starts t span) (span.start + 1) (j + 1) ≡ None
+        → false ≡ in_cycle t span p j
+    unfolding in_cycle cycle_of
+    none-of p e = rw e refl
+
+    -- what is asked of the last cycle, and isn't so where none has started
+    ask-cycle : (x : Bool) (p : ℕ → Bool) → (IsLastCycle t span (j + 1) j c → x ≡ p c.start)
+        → (c.has_started && x) ≡ in_cycle t span p j
+    ask-cycle x p here = decide c.has_started (λ e. rw e (here (is.here e) ∙ last-of p (is.here e)))
+        (λ e. rw e (none-of p (is.absent e)))
+
+    pub spoils-pair-is : (w : Bool) → w ≡ answers_write t span j
+        → (c.has_started && (is_single c.class && (c.answered && (c.answered_again || c.first_writes || not w))))
+        ≡ in_cycle t span (λ i. is_single (class_at t span i) && spoils_pair t span (answers_of t span i j) j) j
+    spoils-pair-is w e =
+        ask-cycle (is_single c.class && (c.answered && (c.answered_again || c.first_writes || not w))) _
+        (λ k. rw (k.class, k.answered, k.answered_again, k.first_writes, e)
+        (ap (λ b. is_single (class_at t span c.start) && b) (spoils-is t span (answers_of t span c.start j) j)))
+
+    pub turns-block-is : (w : Bool) → w ≡ answers_write t span j
+        → (c.has_started && (is_block_class c.class && (c.answered && not (beq c.first_writes w))))
+        ≡ in_cycle t span (λ i. is_block_class (class_at t span i) && turns t span (answers_of t span i j) j) j
+    turns-block-is w e = ask-cycle (is_block_class c.class && (c.answered && not (beq c.first_writes w))) _
+        (λ k. rw (k.class, k.answered, k.first_writes, e)
+        (ap (λ b. is_block_class (class_at t span c.start) && b) (turns-is t span (answers_of t span c.start j) j)))
+
+    pub interrupt-is : (c.has_started && is_interrupt c.class) ≡ in_cycle t span
+        (λ i. is_interrupt (class_at t span i)) j
+    interrupt-is = ask-cycle (is_interrupt c.class) _ (λ k. ap is_interrupt k.class)
+
+    pub answered-interrupt-is : (c.has_started && (is_interrupt c.class && c.answered))
+        ≡ in_cycle t span (λ i. is_interrupt (class_at t span i) && is_later (answers_of t span i j)) j
+    answered-interrupt-is = ask-cycle (is_interrupt c.class && c.answered) _ (λ k. rw (k.class, k.answered) refl)
+
+    -- of the cycle of the instant before, where none starts here
+    before-is : falls t AS j ≡ false → (p : ℕ → Bool) → in_cycle t span p j ≡ in_cycle t span p (j - 1)
+    unfolding in_cycle cycle_of
+    before-is still p =
+        let some = later span j judged in
+        let back : j ≡ j - 1 + 1 = omega arith in
+        ap (λ o. option_map_or p o false)
+        (greatest-not (cycle_starts t span) (span.start + 1) j (cycle-starts-is t span j judged ∙ still)
+        ∙ ap (greatest (cycle_starts t span) (span.start + 1)) back)
+
+    pub acknowledged-is : falls t AS j ≡ false → (c.has_started && c.acknowledged)
+        ≡ in_cycle t span (λ i. is_acknowledged t span i j) (j - 1)
+    acknowledged-is still =
+        ask-cycle c.acknowledged (λ i. is_acknowledged t span i j) (λ k. k.acknowledged)
+        ∙ before-is still (λ i. is_acknowledged t span i j)
+
+-- for what the state answers
+pub ruleset questions = (answer-is, write-is, unanswered-is, data-is)
+
+-- ---- What is held while something lasts: a needed line of a cycle, and the direction of a transfer. Of all cycles,
+-- and of all transfers, only the last may hold it.
+
+-- whether one of a range holds is whether there are such
+any-later : (p : ℕ → Bool) (f n : ℕ) → any p f n ≡ is_later (those p f n)
+unfolding any those
+any-later p f zero = refl
+any-later p f (suc n) = rw (any-later p f n) (more (those p f n) (nat_le f n && p n))
+  where
+    more : (rs : List ℕ) (b : Bool) → (is_later rs || b) ≡ is_later (rs ++ cond b (n ∷ []) [])
+    more [] true = refl
+    more [] false = refl
+    more (r ∷ rs) b = refl
+
+-- a line that was low stays so while it is known and doesn't rise
+stays-along : (t : Trace) (l i k : ℕ) → low t l i ≡ true → i ≤ k → ((r : ℕ) → i < r → r ≤ k → known t l r ≡ true)
+    → ((r : ℕ) → i < r → r ≤ k → rises t l r ≡ false) → low t l k ≡ true
+stays-along t l i zero starts order knows still = let same : 0 ≡ i = omega arith in ap (low t l) same ∙ starts
+stays-along t l i (suc k) starts order knows still =
+    elim (last_or_before i (suc k) (omega arith)) [
+      | inl same ↦ ap (low t l) (sym same) ∙ starts
+      | inr before ↦
+          let back : k ≡ suc k - 1 = omega arith in
+          let earlier = stays-along t l i k starts (omega arith) (λ r a b. knows r a (omega arith))
+          (λ r a b. still r a (omega arith)) in
+          stays-low t l (suc k) (ap (low t l) (sym back) ∙ earlier) (still (suc k) before (omega arith))
+          (knows (suc k) before (omega arith))
+    ]
+
+-- the needs of a cycle are those of the levels at its start
+module _ (t : Trace) (start : ℕ) where
+  pub needed-at : (needs : Needs) (l : ℕ) → needs ≡ needs_of (levels_at t start) → is_within needs l
+      ≡ is_needed (levels_at t start) l
+  unfolding is_needed
+  needed-at needs l e = ap (λ (n : Needs). is_within n l) e
+
+module _ (t : Trace) (span : Stretch) (is : IsSpanOf t span) where
+  -- from the start of a transfer to where both strobes are high, one rises
+  strobe-rose : (i k : ℕ) → transfer_starts t span i ≡ true → i < k → k < span.end → strobes_high t k ≡ true
+      → any (strobe_rises t) (i + 1) (k + 1) ≡ true
+  unfolding transfer_starts low high
+  strobe-rose i k start before end high_there = decide (any (strobe_rises t) (i + 1) (k + 1)) (λ e. e) (λ none. absurd
+      (high-and-low (level t DS0 k) (level t DS1 k) high_there
+      (by_low (low t DS0 i) (low t DS1 i) parts.1 refl refl (quiet none))))
+    where
+      reads : ReadsStrobes t span
+      reads = span_reads t span is
+
+      parts : ((is_judged span i && strobes_high t (i - 1)) ≡ true) × ((low t DS0 i || low t DS1 i) ≡ true)
+      parts = and_parts (is_judged span i && strobes_high t (i - 1)) (low t DS0 i || low t DS1 i) start
+
+      from : span.start + 1 ≤ i
+      from = after_start span i (and_parts (is_judged span i) (strobes_high t (i - 1)) parts.0).0
+
+      quiet : any (strobe_rises t) (i + 1) (k + 1) ≡ false → (r : ℕ) → i < r → r ≤ k
+          → (rises t DS0 r ≡ false) × (rises t DS1 r ≡ false)
+      quiet none r a b = or_false (rises t DS0 r) (rises t DS1 r)
+          (any-fails (strobe_rises t) (i + 1) (k + 1) r none (omega arith) (omega arith))
+
+      by_low : (a b : Bool) → (a || b) ≡ true → low t DS0 i ≡ a → low t DS1 i ≡ b
+          → ((r : ℕ) → i < r → r ≤ k → (rises t DS0 r ≡ false) × (rises t DS1 r ≡ false))
+          → (low t DS0 k || low t DS1 k) ≡ true
+      by_low true b h e f still = rw (stays-along t DS0 i k e (omega arith)
+          (λ r a b. reads.first r (omega (arith, from)) (omega arith)) (λ r a b. (still r a b).0)) refl
+      by_low false true h e f still = rw (stays-along t DS1 i k f (omega arith)
+          (λ r a b. reads.second r (omega (arith, from)) (omega arith)) (λ r a b. (still r a b).1))
+          (or_on (low t DS0 k))
+      by_low false false h e f still = absurd (cc)
+
+  module _ (j : ℕ) (judged : is_judged span j ≡ true) where
+    before_end : j < span.end
+    before_end = ltb-true j span.end (and_parts (nat_lt span.start j) (nat_lt j span.end) judged).1
+
+    -- ---- the direction of a transfer
+    abbrev directs : ℕ → Bool
+    directs i = transfer_starts t span i && none (strobe_rises t) (i + 1) (j + 1)
+
+    -- where both strobes were high since, none does
+    closed-not : (i : ℕ) → any (strobes_high t) (i + 1) j ≡ true → transfer_starts t span i ≡ true → directs i ≡ false
+    closed-not i closed start =
+        let some = any-least (strobes_high t) (i + 1) j closed in
+        let found = least-found (strobes_high t) (i + 1) j some.0 some.1 in
+        let first = found.first in
+        let below = found.below in
+        rw (
+          longer (strobe_rises t) (i + 1) (some.0 + 1) (j + 1) (omega arith)
+              (strobe-rose i some.0 start (omega arith) (omega (arith, before_end)) found.holds),
+          start,
+        ) refl
+
+    direction-none : AreClosed t span (j + 1) j → any directs (span.start + 1) j ≡ false
+    direction-none closed = fails-any directs (span.start + 1) j
+        (λ i a b. unless (transfer_starts t span i) _ (λ e. closed-not i (closed i (omega arith) e) e))
+
+    direction-last : (c : Transfer) → IsOpenTransfer t span (j + 1) j c
+        → any directs (span.start + 1) j ≡ (nat_lt c.start j && none (strobe_rises t) (c.start + 1) (j + 1))
+    direction-last c h =
+        let found = greatest-found (transfer_starts t span) (span.start + 1) (j + 1) c.start h.last in
+        let within = found.before in
+        only-last (transfer_starts t span) directs (span.start + 1) j c.start found (λ i e. rw e refl)
+        (λ i before e. closed-not i (longer (strobes_high t) (i + 1) c.start j (omega arith)
+        (high-between t span i c.start before e found.holds)) e)
+        ∙ ap (λ b. nat_lt c.start j && (b && none (strobe_rises t) (c.start + 1) (j + 1))) found.holds
+
+    pub direction-is : (c : Transfer) → IsTransfer t span (j + 1) j c → (r : Bool)
+        → (IsOpenTransfer t span (j + 1) j c → r ≡ any (strobe_rises t) (c.start + 1) (j + 1))
+        → (c.is_open && nat_lt c.start j && not r) ≡ any directs (span.start + 1) j
+    direction-is c is r rose = decide c.is_open
+        (λ e. rw e (ap (λ b. nat_lt c.start j && not b) (rose (is.here e)) ∙ sym (direction-last c (is.here e))))
+        (λ e. rw e (sym (direction-none (is.absent e))))
+
+    -- ---- a line that a cycle needs
+    module _ (l : ℕ) where
+      abbrev needs : ℕ → Bool
+      needs i = cycle_starts t span i && cycle_runs t span i j && none (is_answer t span) i (j + 1) && is_needed
+          (levels_at t i) l
+
+      not-there : (i : ℕ) → cycle_starts t span i ≡ false → needs i ≡ false
+      not-there i h = rw h refl
+
+      ended : (i : ℕ) → none (rises t AS) (i + 1) j ≡ false → needs i ≡ false
+      unfolding cycle_runs
+      ended i h = rw (stays-ended (rises t AS) i j h) (off (cycle_starts t span i))
+        where
+          off : (a : Bool) → (a && false && none (is_answer t span) i (j + 1) && is_needed (levels_at t i) l) ≡ false
+          off true = refl
+          off false = refl
+
+      held-none : greatest (cycle_starts t span) (span.start + 1) (j + 1) ≡ None → any needs (span.start + 1) j ≡ false
+      held-none nowhere = fails-any needs (span.start + 1) j
+          (λ i a b. not-there i
+          (any-fails (cycle_starts t span) (span.start + 1) (j + 1) i (greatest-none-any _ _ _ nowhere) a
+          (omega arith)))
+
+      held-last : (c : Cycle) → IsLastCycle t span (j + 1) j c
+          → any needs (span.start + 1) j ≡
+          (nat_lt c.start j && (c.runs && not (rises t AS j)) && not (is_later (answers_of t span c.start j)) && not
+          (is_answer t span j) && is_needed (levels_at t c.start) l)
+      unfolding answers_of cycle_runs
+      held-last c h =
+          only-last (cycle_starts t span) needs (span.start + 1) j c.start found (λ i e. not-there i e)
+          (λ i before e. ended i (h.others i e before))
+          ∙ (ap (λ b. nat_lt c.start j && b) step ∙ grouped (nat_lt c.start j) _ _ _ _)
+        where
+          grouped : (n a b x y : Bool) → (n && (a && b && x && y)) ≡ (n && a && b && x && y)
+          grouped true a b x y = refl
+          grouped false a b x y = refl
+
+          found : IsGreatest (cycle_starts t span) (span.start + 1) (j + 1) c.start
+          found = greatest-found (cycle_starts t span) (span.start + 1) (j + 1) c.start h.last
+
+          unanswered : none (is_answer t span) c.start (j + 1) ≡
+              (not (is_later (answers_of t span c.start j)) && not (is_answer t span j))
+          unanswered = rw (
+            any-step (is_answer t span) c.start j,
+            le-leb c.start j (cycle-within t span j judged c h),
+            any-later
+                (is_answer t span) c.start j,
+          )
+              (de_morgan (is_later (those (is_answer t span) c.start j)) (is_answer t span j))
+
+          step : needs c.start ≡
+              ((c.runs && not (rises t AS j)) && not (is_later (answers_of t span c.start j)) && not
+              (is_answer t span j) && is_needed (levels_at t c.start) l)
+          step = rw (found.holds, unanswered, runs-on t span j judged c h)
+              (regroup (c.runs && not (rises t AS j)) (not (is_later (answers_of t span c.start j)))
+              (not (is_answer t span j)) (is_needed (levels_at t c.start) l))
+            where
+              regroup : (a b x y : Bool) → (true && a && (b && x) && y) ≡ (a && b && x && y)
+              regroup true true x y = refl
+              regroup true false x y = refl
+              regroup false b x y = refl
+
+      pub held-is : (c : Cycle) → IsCycle t span (j + 1) j c → (ri an ne : Bool) → ri ≡ rises t AS j
+          → an ≡ is_answer t span j → ne ≡ is_within c.needs l
+          → (c.has_started && nat_lt c.start j && (c.runs && not ri) && not c.answered && not an && ne)
+          ≡ any needs (span.start + 1) j
+      held-is c is ri an ne r a n = rw (r, a, n) (decide c.has_started
+          (λ e. let w = is.here e in
+          rw (e, w.answered, needed-at t c.start c.needs l w.needs) (sym (held-last c w)))
+          (λ e. rw e (sym (held-none (is.absent e)))))
+
+-- ---- The parts of a rule, as they are asked and as they are defined.
+
+module _ {s : Bool} (spoken : s ≡ true) {a b x y : Bool} (first : a ≡ x) (second : b ≡ y) where
+  pub two : (a && b) ≡ (s && x && y)
+  two = rw (spoken, first, second) refl
+
+  pub net : {c z : Bool} → c ≡ z → (a && b && c) ≡ ((s && x) && y && z)
+  net third = rw (spoken, first, second, third) refl
+
+pub either : {a b x y : Bool} → a ≡ x → b ≡ y → (a || b) ≡ (x || y)
+either e f = rw (e, f) refl
+
+pub turned : (a b : Bool) → a ≡ not b → b ≡ not a
+turned a true h = rw h refl
+turned a false h = rw h refl
+
+-- for the arms
+pub ruleset asked = (
+  was-answered-is,
+  interrupt-is,
+  answered-interrupt-is,
+  has-is,
+  open-write-is,
+  spoils-pair-is,
+  turns-block-is,
+  twice-is,
+  cycle-starts-is,
+  needed-at,
+  starts-is,
+  held-is,
+  acknowledged-is,
+  low-no_fall,
+  since-asks,
+  since-later-asks,
+)

@@ -2,13 +2,14 @@
 use Rattle.std.proofs.Common.{◌≡◌, ℕ, ◌-◌, not, refl, ap, Bool, true, false, ◌||◌, ◌∙◌, ◌+◌, ◌<◌, ◌≤◌, sym, arith, inl}
 use Rattle.std.proofs.Common.{inr, ◌⊎◌, ◌&&◌}
 use Rattle.std.specs.Prelude.{None, is_some, Option, Some, option_map, unwrap_or, nat_lt}
+use Rattle.std.proofs.lemmas.Bool.{ltb-true, and_parts}
 use Rattle.vme_trace.proofs.Ranges.{any-holds, fails-any, least-found, least-none-any, any-fails}
 use Rattle.vme_trace.proofs.JudgedSpans.{span_holds, span_runs}
 use Rattle.vme_cert.specs.Words.{AS, IsSpanOf, Stretch, Trace, any, every, falls, grant, greatest, has_edge}
 use Rattle.vme_cert.specs.Words.{has_reached, high, is_control, is_granting, is_judged, is_known_on, is_lost, is_reset}
 use Rattle.vme_cert.specs.Words.{is_reset_at, known, least, levels_at, line_count, loses_control, loses_control_at, low}
 use Rattle.vme_cert.specs.Words.{near, rises, taken_grant, tenure_level, tenure_slot}
-use Rattle.vme_cert.proofs.Ranges.{or_on, any-first, greatest-is, any-start, and_true, lt_of, decide}
+use Rattle.vme_cert.proofs.Ranges.{or_on, any-first, greatest-is, any-start, decide}
 
 -- for what a line shows by the levels that are kept: to open this is to open each of these
 unfoldable pub shown : Trace → ℕ → ℕ → Bool
@@ -109,10 +110,10 @@ module _ (t : Trace) (j level : ℕ) (is : tenure_level t j ≡ Some level) wher
 
 module _ (t : Trace) (span : Stretch) (is : IsSpanOf t span) (j : ℕ) (judged : is_judged span j ≡ true) where
   after : span.start < j
-  after = lt_of span.start j (and_true (nat_lt span.start j) (nat_lt j span.end) judged).0
+  after = ltb-true span.start j (and_parts (nat_lt span.start j) (nat_lt j span.end) judged).0
 
   before : j < span.end
-  before = lt_of j span.end (and_true (nat_lt span.start j) (nat_lt j span.end) judged).1
+  before = ltb-true j span.end (and_parts (nat_lt span.start j) (nat_lt j span.end) judged).1
 
   none_lost : (l : ℕ) → l < line_count → is_lost (levels_at t j) l ≡ false
   unfolding loses_control_at loses_control

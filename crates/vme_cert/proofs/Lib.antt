@@ -1,11 +1,8 @@
 pub mod Breaks
 pub mod Checking
 pub mod Comparing
-pub mod Conditions
 pub mod Fields
 pub mod Following
 pub mod Instant
 pub mod Placing
 pub mod Ranges
-pub mod Stepping
-pub mod Stretches

@@ -3,32 +3,12 @@ use Rattle.std.proofs.Common.{◌≡◌, ℕ, ◌+◌, ◌<◌, ◌≤◌, Bool,
 use Rattle.std.proofs.Common.{[], ◌∷◌, get_or, sym, ◌∙◌, ap, inl, inr, cond, add-one}
 use Rattle.std.specs.Prelude.{◌==◌, nat_le, nat_lt, Option, None, Some, is_some}
 use Rattle.std.proofs.lemmas.Bool.Decides.{nat_tests}
+use Rattle.std.proofs.lemmas.Bool.{leb-true, le-leb, ltb-true, lt-ltb, le-ltb, and_parts}
 use Rattle.vme_trace.proofs.Ranges.{any-fails, fails-any, clash, searches, any-holds, any-step, least-found}
 use Rattle.vme_trace.proofs.Ranges.{least-none-any, those-none}
 use Rattle.vme_cert.specs.Words.{Stretch, any, greatest, is_judged, least, none, those}
 
 -- ---- What tests on numbers say, and two tests together.
-
-pub le_of : (i j : ℕ) → nat_le i j ≡ true → i ≤ j
-le_of i j h = grind (arith, nat_tests)
-
-pub le_holds : (i j : ℕ) → i ≤ j → nat_le i j ≡ true
-le_holds i j h = grind (arith, nat_tests)
-
-pub lt_of : (i j : ℕ) → nat_lt i j ≡ true → i < j
-lt_of i j h = grind (arith, nat_tests)
-
-pub lt_holds : (i j : ℕ) → i < j → nat_lt i j ≡ true
-lt_holds i j h = grind (arith, nat_tests)
-
-pub lt_not : (i j : ℕ) → nat_lt i j ≡ false → j ≤ i
-lt_not i j h = grind (arith, nat_tests)
-
-pub lt_fails : (i j : ℕ) → j ≤ i → nat_lt i j ≡ false
-lt_fails i j h = grind (arith, nat_tests)
-
-pub equal : (i j : ℕ) → (i == j) ≡ true → i ≡ j
-equal i j h = grind (arith, nat_tests)
 
 pub eq_fails : (i j : ℕ) → i < j → (i == j) ≡ false
 eq_fails i j h = grind (arith, nat_tests)
@@ -65,13 +45,9 @@ pub false_of_not : (b : Bool) → not b ≡ true → b ≡ false
 false_of_not true h = absurd (cc)
 false_of_not false h = refl
 
-pub and_true : (a b : Bool) → (a && b) ≡ true → (a ≡ true) × (b ≡ true)
-and_true true b h = (refl, h)
-and_true false b h = absurd (cc)
-
 pub within_of : (f i n : ℕ) → (nat_le f i && nat_le i n) ≡ true → (f ≤ i) × (i < n + 1)
-within_of f i n h = let both = and_true (nat_le f i) (nat_le i n) h in
-    let last = le_of i n both.1 in (le_of f i both.0, omega arith)
+within_of f i n h = let both = and_parts (nat_le f i) (nat_le i n) h in
+    let last = leb-true i n both.1 in (leb-true f i both.0, omega arith)
 
 pub both : (a b : Bool) → a ≡ true → b ≡ true → (a && b) ≡ true
 both a b h k = rw (h, k) refl
@@ -154,8 +130,8 @@ greatest-found p f (suc n) i e =
     elim (chosen (nat_le f n && p n) (Some n) (greatest p f n) (Some i) e) [
       | inl here ↦
           let same : n ≡ i = same_value n i here.1 in
-          let both = and_true (nat_le f n) (p n) here.0 in
-          let from : f ≤ n = le_of f n both.0 in
+          let both = and_parts (nat_le f n) (p n) here.0 in
+          let from : f ≤ n = leb-true f n both.0 in
           record {
             from = omega arith;
             before = omega arith;
@@ -165,7 +141,7 @@ greatest-found p f (suc n) i e =
           }
       | inr earlier ↦
           let found = greatest-found p f n i earlier.1 in
-          let not_here : p n ≡ false = rw (le_holds f n (omega (arith, found.from, found.before))) at earlier.0 in
+          let not_here : p n ≡ false = rw (le-leb f n (omega (arith, found.from, found.before))) at earlier.0 in
           record {
             from = found.from;
             before = omega (arith, found.before);
@@ -208,9 +184,9 @@ only-last s p f j i found off earlier = by_order (last_or_before i j found.befor
         ]) ∙ sym e)
 
     by_order : (i ≡ j) ⊎ (i < j) → any p f j ≡ (nat_lt i j && p i)
-    by_order (inl e) = rw (lt_fails i j (omega arith)) (fails-any p f j
+    by_order (inl e) = rw (le-ltb i j (omega arith)) (fails-any p f j
         (λ k a b. sooner k (omega (arith, b))))
-    by_order (inr before) = rw (lt_holds i j before) (by_value before)
+    by_order (inr before) = rw (lt-ltb i j before) (by_value before)
 
 -- ---- One instant more, or less, of a search.
 
@@ -249,21 +225,21 @@ pub ruleset steps = (searches, any-start, any-more, any-end)
 
 pub after_start : (span : Stretch) (j : ℕ) → is_judged span j ≡ true → span.start + 1 ≤ j
 after_start span j judged = let after =
-    lt_of span.start j (and_true (nat_lt span.start j) (nat_lt j span.end) judged).0 in omega arith
+    ltb-true span.start j (and_parts (nat_lt span.start j) (nat_lt j span.end) judged).0 in omega arith
 
 pub unjudged : (span : Stretch) (i : ℕ) → i ≤ span.start → is_judged span i ≡ false
 unjudged span i h = grind (arith, nat_tests)
 
 pub greatest-here : (p : ℕ → Bool) (f n : ℕ) → f ≤ n → p n ≡ true → greatest p f (n + 1) ≡ Some n
 unfolding greatest
-greatest-here p f n from here = rw (add-one, le_holds f n from, here) refl
+greatest-here p f n from here = rw (add-one, le-leb f n from, here) refl
 
 pub greatest-not : (p : ℕ → Bool) (f n : ℕ) → p n ≡ false → greatest p f (n + 1) ≡ greatest p f n
 unfolding greatest
 greatest-not p f n not_here = rw (add-one, second_fails (nat_le f n) (p n) not_here) refl
 
 pub none-step : (p : ℕ → Bool) (f n : ℕ) → f ≤ n → none p f (n + 1) ≡ (none p f n && not (p n))
-none-step p f n from = ap not (any-step p f n) ∙ rw (le_holds f n from) (de_morgan (any p f n) (p n))
+none-step p f n from = ap not (any-step p f n) ∙ rw (le-leb f n from) (de_morgan (any p f n) (p n))
 
 pub later : (span : Stretch) (j : ℕ) → is_judged span j ≡ true → 1 ≤ j
 later span j judged = let after = after_start span j judged in omega arith

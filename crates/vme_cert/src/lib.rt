@@ -44,8 +44,8 @@
 //! 8. `source` and `compare`: where the given rows come from, a listing or a text.
 //!
 //! The lemmas of `proofs/` stand in the same order: `Ranges` and `Instant` for the levels, `Fields`
-//! for the state, `Conditions` and `Breaks` for the rules, `Comparing`, `Placing`, `Following` and
-//! `Stepping` for the rows, `Stretches` and `Checking` for the stretches.
+//! for the state and what rules ask of it, `Breaks` for the rules, `Comparing`, `Placing` and
+//! `Following` for the rows, `Checking` for the stretches.
 //!
 //! # What isn't proved
 //!

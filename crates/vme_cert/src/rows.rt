@@ -142,7 +142,7 @@ impl<S: RowSource> OpenRows<S> {
     }
 
     /// A tenure starts where the bus becomes busy by a grant, and ends where it is free.
-    #[tactic(auto, using(crate::proofs::Stepping::ends))]
+    #[tactic(auto, using(crate::proofs::Following::ends))]
     fn follow_tenure(&mut self, bus: &Bus)
         requires { self.old.compared.taken < 2 ^ 62 }
         ensures rows { LeadsOn bus.now self.old self.new (Follows S.gave S.is_over) (WithTenure S.gave S.is_over) }
@@ -173,7 +173,7 @@ impl<S: RowSource> OpenRows<S> {
     }
 
     /// A cycle starts where the address strobe falls, and ends where it rises.
-    #[tactic(auto, using(crate::proofs::Stepping::ends))]
+    #[tactic(auto, using(crate::proofs::Following::ends))]
     fn follow_cycle(&mut self, bus: &Bus)
         requires { self.old.compared.taken < 2 ^ 62 }
         ensures rows { LeadsOn bus.now self.old self.new (WithTenure S.gave S.is_over) (WithCycle S.gave S.is_over) }
@@ -235,7 +235,7 @@ impl<S: RowSource> OpenRows<S> {
     }
 
     /// The last transfer closes where both strobes are high.
-    #[tactic(auto, using(crate::proofs::Stepping::ends))]
+    #[tactic(auto, using(crate::proofs::Following::ends))]
     fn close_transfer(&mut self, bus: &Bus)
         ensures rows { (whole : S.Whole) (version : Version) (done : List Row) (t : Trace) (span : Stretch)
             → IsInStretch t span bus.now

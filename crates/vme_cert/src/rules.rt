@@ -154,7 +154,7 @@ impl Bus {
 impl State {
     /// Whether a rule is broken on a line.
     #[inline(never)]
-    #[tactic(auto, unfolding(vme_trace::specs::Rules::is_broken), using(crate::proofs::Conditions::asked))]
+    #[tactic(auto, unfolding(vme_trace::specs::Rules::is_broken), using(crate::proofs::Fields::asked))]
     fn is_broken(&self, bus: &Bus, rule: Rule, line: Line) -> bool
         requires has { IsTrue (has_line bus.now.levels.slots line) }
         requires speaks { IsTrue (speaks_of rule line) }

@@ -69,11 +69,8 @@ impl TextRows<'_> {
         }
         loop {
             match self.reader.next() {
-                Ok(row) => {
-                    if row.is_none() {
-                        return None;
-                    }
-                }
+                Ok(Some(_)) => {}
+                Ok(None) => return None,
                 Err(fault) => return Some(fault),
             }
         }

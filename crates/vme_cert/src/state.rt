@@ -233,7 +233,7 @@ impl State {
     }
 }
 
-#[tactic(auto, using(crate::proofs::Conditions::questions))]
+#[tactic(auto, using(crate::proofs::Fields::questions))]
 impl State {
     /// Whether the transfer is answered at the instant.
     pub(crate) fn is_answer(&self, bus: &Bus) -> bool

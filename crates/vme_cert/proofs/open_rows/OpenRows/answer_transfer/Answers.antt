@@ -5,7 +5,7 @@ use Rattle.vme_cert.specs.Ended.{ended}
 use Rattle.vme_cert.specs.Following.{IsTransferAt}
 use Rattle.vme_cert.specs.declared.comparison.OpenRow.{OpenRow}
 use Rattle.vme_cert.proofs.Following.{ended-in, is-opened, transfer-answered, transfer-outside, transfer-unanswered}
-use Rattle.vme_cert.proofs.Stepping.{transfer-replies, transfer-rests}
+use Rattle.vme_cert.proofs.Following.{transfer-replies, transfer-rests}
 use Rattle.vme_cert.proofs.open_rows.OpenRows.answer_transfer.Goals as goal
 
 pub returns-then-not-is_answer-clause-rows : goal.returns-then-not-is_answer-clause-rows

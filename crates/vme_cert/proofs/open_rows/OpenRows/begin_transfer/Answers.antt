@@ -1,7 +1,7 @@
 use Rattle.std.proofs.Common.{◌∙◌, ap, sym}
 use Rattle.std.specs.Prelude.{if◌then◌else◌}
 use Rattle.vme_cert.specs.Words.{Direction, PendingTransfer, Read, Write}
-use Rattle.vme_cert.proofs.Stepping.{transfer-begins, transfer-idle}
+use Rattle.vme_cert.proofs.Following.{transfer-begins, transfer-idle}
 use Rattle.vme_cert.proofs.open_rows.OpenRows.begin_transfer.Goals as goal
 
 pub returns-then-not-transfer_starts-clause-rows : goal.returns-then-not-transfer_starts-clause-rows

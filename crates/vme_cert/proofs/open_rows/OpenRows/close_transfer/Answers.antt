@@ -1,5 +1,5 @@
 use Rattle.std.proofs.Common.{◌∙◌, sym}
-use Rattle.vme_cert.proofs.Stepping.{transfer-lasts}
+use Rattle.vme_cert.proofs.Following.{transfer-lasts}
 use Rattle.vme_cert.proofs.open_rows.OpenRows.close_transfer.Goals as goal
 
 pub returns-then-not-strobes_high-clause-rows : goal.returns-then-not-strobes_high-clause-rows

@@ -1,5 +1,5 @@
 use Rattle.std.proofs.Common.{◌∙◌, sym}
-use Rattle.vme_cert.proofs.Stepping.{cycle-begins, cycle-stays}
+use Rattle.vme_cert.proofs.Following.{cycle-begins, cycle-stays}
 use Rattle.vme_cert.proofs.open_rows.OpenRows.follow_cycle.Goals as goal
 
 pub returns-then-not-falls-clause-rows : goal.returns-then-not-falls-clause-rows

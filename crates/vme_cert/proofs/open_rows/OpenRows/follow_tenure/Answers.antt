@@ -1,5 +1,5 @@
 use Rattle.std.proofs.Common.{◌∙◌, sym}
-use Rattle.vme_cert.proofs.Stepping.{tenure-begins, tenure-no_level, tenure-no_slot, tenure-stays}
+use Rattle.vme_cert.proofs.Following.{tenure-begins, tenure-no_level, tenure-no_slot, tenure-stays}
 use Rattle.vme_cert.proofs.open_rows.OpenRows.follow_tenure.Goals as goal
 
 pub returns-then-not-falls-clause-rows : goal.returns-then-not-falls-clause-rows

@@ -3,7 +3,7 @@ use Rattle.std.specs.Prelude.{None, ◌++◌, ◌∷◌, []}
 use Rattle.vme_cert.specs.Words.{BBSY, OpenTenure, Start, low}
 use Rattle.vme_cert.specs.Comparing.{IsBegun}
 use Rattle.vme_cert.specs.Following.{CanClose}
-use Rattle.vme_cert.proofs.Stepping.{starts-busy, starts-free}
+use Rattle.vme_cert.proofs.Following.{starts-busy, starts-free}
 use Rattle.vme_cert.proofs.open_rows.OpenRows.start.Goals as goal
 
 pub returns-then-not-low-clause-rows : goal.returns-then-not-low-clause-rows

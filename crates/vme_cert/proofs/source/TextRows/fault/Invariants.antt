@@ -3,8 +3,8 @@ use Rattle.std.proofs.Common.{◌≡◌, ◌++◌, ℕ, List, true, [], length}
 use Rattle.vme_cert.specs.Words.{HasRead, Row, ends_listing}
 use Rattle.vme_cert.proofs.source.TextRows.fault.Given as goal
 
-abbrev pub invariant-loop-row : goal.invariant-loop-row
-invariant-loop-row l =
+abbrev pub invariant-loop-fault : goal.invariant-loop-fault
+invariant-loop-fault l =
     record {
       version : l.self.reader.version ≡ l.fn.self.reader.version;
       over : ends_listing l.fn.self.reader.last ≡ true → l.self.reader ≡ l.fn.self.reader;
@@ -13,5 +13,5 @@ invariant-loop-row l =
           × (ends_listing l.fn.self.reader.last ≡ true → more ≡ []);
     }
 
-abbrev pub decreases-loop-row : goal.decreases-loop-row
-decreases-loop-row l = length l.self.reader.rest
+abbrev pub decreases-loop-fault : goal.decreases-loop-fault
+decreases-loop-fault l = length l.self.reader.rest

@@ -2,10 +2,9 @@ use Rattle.std.proofs.Common.{◌≡◌, ℕ, ◌+◌, ◌∙◌, ap, not, subst
 use Rattle.std.specs.Prelude.{is_some}
 use Rattle.vme_cert.specs.Words.{BR, Rule, grant_falls, is_broken, last_before, low, none}
 use Rattle.vme_cert.specs.RulesByLine.{speaks_of}
-use Rattle.vme_cert.proofs.Conditions as arms
+use Rattle.vme_cert.proofs.Fields as arms
 use Rattle.vme_cert.proofs.Instant.{granted-near}
-use Rattle.vme_cert.proofs.Conditions.{direction-is}
-use Rattle.vme_cert.proofs.Fields.{since-asks}
+use Rattle.vme_cert.proofs.Fields.{direction-is, since-asks}
 use Rattle.vme_cert.proofs.state.State.is_broken.Goals as goal
 
 spoken : {q r : Rule} (l : ℕ) → q ≡ r → speaks_of q l ≡ true → speaks_of r l ≡ true

@@ -4,10 +4,11 @@ use Rattle.std.specs.Prelude.{nat_le}
 use Rattle.std.specs.List.{list_all}
 use Rattle.std.proofs.lemmas.List.{take_all, take_more}
 use Rattle.std.proofs.lemmas.List.Folds.{list_all_at}
+use Rattle.std.proofs.lemmas.Bool.{eqb-true, and_parts}
 use Rattle.vme_trace.proofs.Ranges.{clash}
 use Rattle.vme_cert.specs.Words.{Change, Levels, are_changes, has_line, is_broken, is_changed, level_at, same_level}
 use Rattle.vme_cert.specs.RulesByLine.{speaks_of}
-use Rattle.vme_cert.proofs.Ranges.{and_true, decide, equal, or_on}
+use Rattle.vme_cert.proofs.Ranges.{decide, or_on}
 use Rattle.vme_cert.proofs.state.State.is_change_broken.Goals as goal
 
 either : (a b : Bool) → (a || b) ≡ true → (a ≡ true) ⊎ (b ≡ true)
@@ -18,7 +19,7 @@ either false b h = inr h
 changed-last : (cs : List Change) (c : Change) (n : ℕ) → is_changed (cs ++ c ∷ []) n ≡ true
     → (is_changed cs n ≡ true) ⊎ (c.line ≡ n)
 changed-last [] c n h = elim (either (c.line == n) false h) [
-  | inl here ↦ inr (equal c.line n here)
+  | inl here ↦ inr (eqb-true c.line n here)
   | inr none ↦ absurd (cc)
 ]
 changed-last (d ∷ cs) c n h = elim (either (d.line == n) (is_changed (cs ++ c ∷ []) n) h) [
@@ -35,10 +36,10 @@ has-lines : (v : Levels) (lowest : ℕ) (cs : List Change) → are_changes v low
 unfolding are_changes
 has-lines v lowest [] h = refl
 has-lines v lowest (d ∷ cs) h =
-    let both = and_true (nat_le lowest d.line && has_line v.slots d.line && not
+    let both = and_parts (nat_le lowest d.line && has_line v.slots d.line && not
     (same_level (level_at v d.line) d.level)) (are_changes v (d.line + 1) cs) h in
-    let two = and_true (nat_le lowest d.line && has_line v.slots d.line) _ both.0 in
-    rw ((and_true (nat_le lowest d.line) (has_line v.slots d.line) two.0).1, has-lines v (d.line + 1) cs both.1) refl
+    let two = and_parts (nat_le lowest d.line && has_line v.slots d.line) _ both.0 in
+    rw ((and_parts (nat_le lowest d.line) (has_line v.slots d.line) two.0).1, has-lines v (d.line + 1) cs both.1) refl
 
 pub is_line_broken-requires : goal.is_line_broken-requires
 is_line_broken-requires c =
