@@ -6,6 +6,9 @@ use Rattle.std.specs.Prelude.{Option, None, Some, flat_map, nat_lt, ◌==◌, op
 use Rattle.std.specs.Option.{option_or}
 use Rattle.std.proofs.Math.Nat.{min-eq_left, min-eq_right}
 use Rattle.std.proofs.lemmas.List.{append-nil, length-take-le, take_all}
+use Rattle.std.proofs.lemmas.Option.{slice_get_read, slice_get_within}
+use Rattle.std.proofs.Math.Seq.{get_or-append_seam}
+use Rattle.std.proofs.lemmas.Bool.{lt-ltb, le-ltb, and_parts}
 use Rattle.vme_trace.proofs.JudgedSpans.{AreInOrder, starts_before_end, ends_within, spans_in_order, span_holds}
 use Rattle.vme_trace.proofs.JudgedSpans.{span_runs, Awaits, awaits-first, awaits-next, busy-no_start, end-after}
 use Rattle.vme_trace.proofs.JudgedSpans.{end-within, reset-holds_at, span_reset, spans_after, spans_from_first}
@@ -15,6 +18,7 @@ use Rattle.vme_trace.proofs.Ranges.{any-fails, any-holds, fails-any, least-alike
 use Rattle.vme_trace.proofs.Ranges.{those-none, those-split}
 use Rattle.vme_trace.proofs.OpenTransfers.{suc-sub-one, is_judged-holds}
 use Rattle.vme_trace.proofs.SpanEnds.{break_before-stays, end-is, end-past, u1-lost, u1-held}
+use Rattle.vme_trace.proofs.CutBlocks.{levels_after-append, levels_at-taken, taken_more}
 use Rattle.vme_listing.proofs.FoundBreaks.{least_break-judged}
 use Rattle.vme_cert.specs.Words.{Break, Change, Conforming, IsSpanOf, ListedVerdict, NeverIdle, Row, Rule, Stretch}
 use Rattle.vme_cert.specs.Words.{Trace, U1, Verdict, all_rules, any, are_changes, break_at, break_before, breaks}
@@ -28,12 +32,6 @@ use Rattle.vme_cert.specs.Words.{malformed_step, span_starts, those, with_steps}
 use Rattle.vme_cert.specs.Checking.{reset_at, rows_by, rows_from, Checks, HasCompared, HasFollowed, IsEnded, IsJudging}
 use Rattle.vme_cert.specs.Checking.{IsStage, IsWaiting, MayGoOn, last_levels}
 use Rattle.vme_cert.specs.Following.{rows_to, CanClose, Follows}
-use Rattle.vme_cert.proofs.Ranges.{second_fails, eq_fails, unjudged, case_of, same_value, eq_past, true_of_not}
-use Rattle.vme_cert.proofs.Breaks.{break_at-none}
-use Rattle.std.proofs.lemmas.Option.{slice_get_read, slice_get_within}
-use Rattle.std.proofs.Math.Seq.{get_or-append_seam}
-use Rattle.std.proofs.lemmas.Bool.{lt-ltb, le-ltb, and_parts}
-use Rattle.vme_trace.proofs.CutBlocks.{levels_after-append, levels_at-taken, taken_more}
 use Rattle.vme_cert.specs.Instant.{LeadToInstant, named, IsBusOf}
 use Rattle.vme_cert.specs.State.{Holds, IsStateOf}
 use Rattle.vme_cert.specs.declared.bus.Bus.{Bus}
@@ -42,6 +40,9 @@ use Rattle.vme_cert.specs.declared.checker.Stage.{Stage}
 use Rattle.vme_cert.specs.declared.checker.Stage.TheVariants.{Ended, Judging, Waiting}
 use Rattle.vme_cert.specs.declared.open_rows.OpenRows.{OpenRows}
 use Rattle.vme_cert.specs.declared.state.State.{State}
+use Rattle.vme_cert.proofs.Ranges.{second_fails, eq_fails, unjudged, case_of, same_value, eq_past, true_of_not}
+use Rattle.vme_cert.proofs.Ranges.{last_or_before}
+use Rattle.vme_cert.proofs.Breaks.{break_at-none}
 use Rattle.vme_cert.proofs.Following.{open-last, transfer-last}
 
 -- ---- The listing of a recording, stretch by stretch.
@@ -194,17 +195,13 @@ module _ (t : Trace) (span : Stretch) where
   unfolding break_before
   none-after rules m zero order none later = let e : m ≡ 0 = omega arith in rw e at none
   none-after rules m (suc n) order none later =
-      elim (last_or_before m n order) [
+      elim (last_or_before m (suc n) (omega arith)) [
         | inl e ↦ rw e at none
         | inr before ↦ rw (
-          none-after rules m n before none (λ i a b. later i a (omega arith)),
-          later n before
-              (omega arith),
+          none-after rules m n (omega arith) none (λ i a b. later i a (omega arith)),
+          later n (omega arith) (omega arith),
         ) refl
       ]
-    where
-      last_or_before : (m n : ℕ) → m ≤ suc n → (m ≡ suc n) ⊎ (m ≤ n)
-      last_or_before m n h = grind arith
 
   pub found-first : (j : ℕ) (b : Break) → break_before t span all_rules j ≡ None → break_at t span all_rules j ≡ Some b
       → j ≤ last_instant t → least_break t span all_rules ≡ Some b
@@ -240,14 +237,11 @@ module _ (t : Trace) (s j : ℕ) (is : IsSpanOf t (span_from t s)) (from : s ≤
 
   pub goes-on : is_reset_at t (suc j) ≡ false → loses_control_at t (suc j) ≡ false → suc j < span_end t s
   goes-on unreset unlost = end-past t s (suc j) (fails-any (stops_at t) (s + 1) (suc j + 1) (λ i a b. still i a
-      (last_or_before i j b))) within
+      (last_or_before i (suc j) b))) within
     where
-      last_or_before : (i j : ℕ) → i < suc j + 1 → (i ≡ suc j) ⊎ (i < j + 1)
-      last_or_before i j h = grind arith
-
-      still : (i : ℕ) → s + 1 ≤ i → (i ≡ suc j) ⊎ (i < j + 1) → stops_at t i ≡ false
+      still : (i : ℕ) → s + 1 ≤ i → (i ≡ suc j) ⊎ (i < suc j) → stops_at t i ≡ false
       still i a (inl e) = rw (e, unreset, unlost) refl
-      still i a (inr earlier) = any-fails (stops_at t) (s + 1) (j + 1) i ran a earlier
+      still i a (inr earlier) = any-fails (stops_at t) (s + 1) (j + 1) i ran a (omega arith)
 
 -- at an instant of a stretch, or at its end
 module _ (t : Trace) (s : ℕ) (is : IsSpanOf t (span_from t s)) where

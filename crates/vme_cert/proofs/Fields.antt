@@ -4,8 +4,11 @@ use Rattle.std.proofs.Common.{inr, ◌⊎◌, ◌∷◌, ◌++◌, [], not, add-
 use Rattle.std.specs.Prelude.{Some, nat_le, if◌then◌else◌, nat_lt, unwrap_or, None}
 use Rattle.std.proofs.Math.Bool.{beq}
 use Rattle.std.proofs.lemmas.Bool.Decides.{nat_tests}
+use Rattle.std.specs.Option.{option_map_or}
+use Rattle.std.proofs.lemmas.Bool.{le-leb, ltb-true, ltb-false, and_parts}
 use Rattle.vme_trace.proofs.OpenTransfers.{in_transfer-is, ReadsStrobes}
 use Rattle.vme_trace.proofs.Ranges.{any-holds, fails-any, any-step, any-fails, clash, any-least, least-found}
+use Rattle.vme_trace.proofs.JudgedSpans.{span_reads}
 use Rattle.vme_cert.specs.Words.{AS, DS0, DS1, DTACK, High, Level, Low, Stretch, Trace, Unknown, WRITE, answer_falls}
 use Rattle.vme_cert.specs.Words.{answers, answers_of, answers_write, any, class_at, cycle_starts, differ, falls}
 use Rattle.vme_cert.specs.Words.{greatest, high, in_transfer, is_answer, is_answered, is_high, is_judged, is_known}
@@ -23,9 +26,6 @@ use Rattle.vme_cert.proofs.Ranges.{after_start, greatest-here, greatest-not, non
 use Rattle.vme_cert.proofs.Ranges.{greatest-none-any, those-empty, false_of_not, order_of, true_of_not, greatest-none}
 use Rattle.vme_cert.proofs.Ranges.{decide, case_of, later, de_morgan, only-last, or_on, unless, or_false}
 use Rattle.vme_cert.proofs.Instant.{address-known}
-use Rattle.std.specs.Option.{option_map_or}
-use Rattle.std.proofs.lemmas.Bool.{le-leb, ltb-true, ltb-false, and_parts}
-use Rattle.vme_trace.proofs.JudgedSpans.{span_reads}
 
 -- ---- The transfer of an instant: the last to start, while no instant since then had both strobes high.
 
@@ -64,18 +64,12 @@ module _ (t : Trace) (span : Stretch) where
     unfolding lasts
     lasts-on i order h = rw (le-leb i j order, judged, h) refl
 
-    not-in : (p : ℕ → Bool)
-        → ((i : ℕ) → span.start < i → i ≤ j → transfer_starts t span i ≡ true → lasts t span i j ≡ false)
-        → in_transfer t span p j ≡ false
-    unfolding in_transfer
-    not-in p h = fails-any (λ i. transfer_starts t span i && lasts t span i j && p i) (span.start + 1) (j + 1)
-        (λ i a b. decide (transfer_starts t span i) (λ e. rw (e, h i (omega arith) (omega arith) e) refl)
-        (λ e. rw e refl))
-
     -- each has closed
     pub in-none : (p : ℕ → Bool) → ((i : ℕ) → i < j + 1 → transfer_starts t span i ≡ true
         → any (strobes_high t) (i + 1) j ≡ true) → in_transfer t span p j ≡ false
-    in-none p closed = not-in p (λ i a b start. lasts-not i (closed i (omega arith) start))
+    unfolding in_transfer
+    in-none p closed = fails-any (λ i. transfer_starts t span i && lasts t span i j && p i) (span.start + 1) (j + 1)
+        (λ i a b. decide (transfer_starts t span i) (λ e. rw (e, lasts-not i (closed i b e)) refl) (λ e. rw e refl))
 
     module _ (i : ℕ) (last : greatest (transfer_starts t span) (span.start + 1) (j + 1) ≡ Some i) where
       found : IsGreatest (transfer_starts t span) (span.start + 1) (j + 1) i
@@ -629,20 +623,12 @@ module _ (t : Trace) (span : Stretch) (j : ℕ) (judged : is_judged span j ≡ t
         (λ w. rw (w.direction, answered-by w, rose w) refl)
 
   module _ (c : Cycle) (is : IsCycle t span (j + 1) j c) where
-    last-of : (p : ℕ → Bool) → IsLastCycle t span (j + 1) j c → p c.start ≡ in_cycle t span p j
-    unfolding in_cycle cycle_of
-    last-of p w = rw w.last refl
-
-    none-of : (p : ℕ → Bool) → greatest (cycle_starts t span) (span.start + 1) (j + 1) ≡ None
-        → false ≡ in_cycle t span p j
-    unfolding in_cycle cycle_of
-    none-of p e = rw e refl
-
     -- what is asked of the last cycle, and isn't so where none has started
     ask-cycle : (x : Bool) (p : ℕ → Bool) → (IsLastCycle t span (j + 1) j c → x ≡ p c.start)
         → (c.has_started && x) ≡ in_cycle t span p j
-    ask-cycle x p here = decide c.has_started (λ e. rw e (here (is.here e) ∙ last-of p (is.here e)))
-        (λ e. rw e (none-of p (is.absent e)))
+    unfolding in_cycle cycle_of
+    ask-cycle x p here = decide c.has_started (λ e. rw (e, (is.here e).last) (here (is.here e)))
+        (λ e. rw (e, is.absent e) refl)
 
     pub spoils-pair-is : (w : Bool) → w ≡ answers_write t span j
         → (c.has_started && (is_single c.class && (c.answered && (c.answered_again || c.first_writes || not w))))

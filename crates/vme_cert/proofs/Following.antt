@@ -3,9 +3,12 @@ use Rattle.std.proofs.Common.{◌≡◌, ℕ, ◌+◌, ◌-◌, ◌≤◌, Bool,
 use Rattle.std.proofs.Common.{refl, sym, ◌∙◌, ap, subst, arith, length-append, ◌<◌, inl, inr, ◌⊎◌, zero, suc}
 use Rattle.std.proofs.Common.{append_assoc}
 use Rattle.std.specs.Prelude.{◌==◌, Option, None, Some, slice_get, nat_le, if◌then◌else◌}
-use Rattle.vme_listing.specs.declared.row.Row.TheVariants as variant
+use Rattle.std.proofs.lemmas.Bool.Decides.{nat_tests}
+use Rattle.std.proofs.lemmas.Bool.{and_parts}
 use Rattle.vme_trace.proofs.Ranges.{clash, least-is, least-none, any-fails, any-holds, fails-any, least-found}
 use Rattle.vme_trace.proofs.Ranges.{least-none-any}
+use Rattle.vme_trace.specs.declared.class.Class.TheVariants as class
+use Rattle.vme_listing.specs.declared.row.Row.TheVariants as variant
 use Rattle.vme_cert.specs.Words.{AnswerLine, Berr, DS0, DS1, DTACK, Direction, Dtack, Lanes, One, Read, Row, Start}
 use Rattle.vme_cert.specs.Words.{Stretch, Three, Trace, Two, Version, Write, answer_falls, answered_row, answers, any}
 use Rattle.vme_cert.specs.Words.{cycle_of, cycle_starts, data_at, data_of, falls, greatest, high, is_answer}
@@ -34,9 +37,6 @@ use Rattle.vme_cert.proofs.Placing.{transfer-place}
 use Rattle.vme_cert.proofs.Ranges.{same_value, any-more, any-start, second_fails, greatest-found, after_start}
 use Rattle.vme_cert.proofs.Ranges.{greatest-here, greatest-not, below_or_from, false_of_not, first_fails, decide}
 use Rattle.vme_cert.proofs.Ranges.{case_of, unjudged}
-use Rattle.std.proofs.lemmas.Bool.Decides.{nat_tests}
-use Rattle.std.proofs.lemmas.Bool.{and_parts}
-use Rattle.vme_trace.specs.declared.class.Class.TheVariants as class
 use Rattle.vme_cert.proofs.Instant.{address-known, control-known}
 
 -- a row's edge, and its version

@@ -1,7 +1,7 @@
 -- The row of a cycle, and where a right row stands among the others.
 use Rattle.std.proofs.Common.{◌≡◌, ℕ, zero, suc, ◌+◌, ◌*◌, ◌%◌, ◌^◌, ◌<◌, ◌≤◌, Bool, true, false, refl, ap, arith}
 use Rattle.std.proofs.Common.{add-one, add-zero, lit<, ◌&&◌, ◌==◌, List, [], ◌∷◌, ◌++◌, length, cond, sym, ◌∙◌, inl}
-use Rattle.std.proofs.Common.{inr, ◌⊎◌, length-append, append_assoc}
+use Rattle.std.proofs.Common.{inr, length-append, append_assoc}
 use Rattle.std.specs.Prelude.{Option, ◌||◌, nat_le, if◌then◌else◌, None, Some, slice_get}
 use Rattle.std.proofs.lemmas.Bool.Decides.{nat_tests}
 use Rattle.std.proofs.Math.Nat.{pow-le-pow_right, pow-succ', mod-eq_of_lt}
@@ -14,6 +14,7 @@ use Rattle.vme_cert.specs.Words.{rows_in, tenure_level, tenure_row, tenure_rows,
 use Rattle.vme_cert.specs.Words.{transfer_rows, transfer_starts, without_data}
 use Rattle.vme_cert.specs.Following.{count_before, count_with_cycle, count_with_tenure, right_to}
 use Rattle.vme_cert.proofs.Comparing.{slice_get-here}
+use Rattle.vme_cert.proofs.Ranges.{last_or_before}
 
 -- ---- The address of a cycle, line by line.
 
@@ -158,16 +159,13 @@ module _ (t : Trace) (span : Stretch) where
   unfolding rows_before
   front end j zero h = let e : j ≡ 0 = omega arith in ([], rw e refl)
   front end j (suc n) h =
-      elim (last_or_before j n h) [
+      elim (last_or_before j (suc n) (omega arith)) [
         | inl e ↦ ([], ap (rows_before t span end) (sym e) ∙ sym (append-nil (rows_before t span end j)))
         | inr before ↦
-            let (rest, is) = front end j n before in
+            let (rest, is) = front end j n (omega arith) in
             let new = tenure_rows t span end n ++ (cycle_rows t span end n ++ transfer_rows t span end n) in
             (rest ++ new, simp (is, append_assoc))
       ]
-    where
-      last_or_before : (j n : ℕ) → j ≤ suc n → (j ≡ suc n) ⊎ (j ≤ n)
-      last_or_before j n h = grind arith
 
   -- those of an instant behind the earlier ones, and more
   all_rows : (end j : ℕ) → j + 1 ≤ end → (rest : List Row) × (rows_before t span end end ≡ rows_before t span end j

@@ -193,14 +193,8 @@ only-last s p f j i found off earlier = by_order (last_or_before i j found.befor
 pub any-start : (p : ℕ → Bool) (f n : ℕ) → n ≤ f → any p f n ≡ false
 any-start p f n h = fails-any p f n (λ i a b. absurd (omega arith))
 
-or_neither : (a b c : Bool) → a ≡ false → c ≡ false → (a || (b && c)) ≡ false
-or_neither a b c h k = grind (arith, nat_tests)
-
 pub any-more : (p : ℕ → Bool) (f n : ℕ) → any p f n ≡ false → p n ≡ false → any p f (n + 1) ≡ false
-any-more p f n none fails = any-step p f n ∙ or_neither (any p f n) (nat_le f n) (p n) none fails
-
-pub any-end : (p : ℕ → Bool) (f m n : ℕ) → n ≤ m → any p f m ≡ false → any p f n ≡ false
-any-end p f m n h none = fails-any p f n (λ i a b. any-fails p f m i none a (omega arith))
+any-more p f n none fails = any-step p f n ∙ rw (none, fails) (and_off (nat_le f n))
 
 chosen_below : (f n : ℕ) (b : Bool) (o : Option ℕ) → n < f → cond (nat_le f n && b) (Some n) o ≡ o
 chosen_below f n b o k = grind (arith, nat_tests)
@@ -219,7 +213,7 @@ any-first p f n = case_of (least p f n) (λ e. rw e (sym (least-none-any p f n e
     (λ i e. let found = least-found p f n i e in rw e (sym (any-holds p f n i found.first found.below found.holds)))
 
 -- for the goals of a loop that searches a range from its first number on
-pub ruleset steps = (searches, any-start, any-more, any-end)
+pub ruleset steps = (searches, any-start, any-more, none-shorter)
 
 -- ---- A range that is longer by one.
 
