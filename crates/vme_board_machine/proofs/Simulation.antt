@@ -19,7 +19,7 @@ use Rattle.vme_core.specs.Stages.{claimed_bit, filed_bit, taken_bit}
 use Rattle.vme_core.specs.Views.{after_draw, with_found, after_claim, after_filing, after_take, with_claimed}
 use Rattle.vme_core.specs.Views.{with_filed, with_taken, kept_view, split_view, joint_view, empty_view, first_view}
 use Rattle.vme_core.specs.Rule.{Invariant}
-use Rattle.vme_core.specs.Machine.{Core, Event, split, join, Happens, IsRun, Slot, empty, away, filled, WordRow}
+use Rattle.vme_core.specs.Machine.{Core, BoardEvent, split, join, Happens, IsRun, Slot, empty, away, filled, WordRow}
 use Rattle.vme_core.specs.Machine.{claimed_row, filed_row, taken_row, BenchProgress, idle, has_claimed, has_put}
 use Rattle.vme_core.specs.Machine.{has_taken, has_lifted, HasView, with_views, after_claim_step, after_file_step}
 use Rattle.vme_core.specs.Machine.{after_draw_step, after_take_step, after_look, start}
@@ -97,7 +97,7 @@ module _ (total draws : ℕ) (s : BoardState) (m : Core) (sh : ReadsAs total dra
   abbrev V : List View
   V = s.table.views
 
-  abbrev Goal : Event → BoardState → Type 0
+  abbrev Goal : BoardEvent → BoardState → Type 0
   Goal e t = (n : Core) × Happens total draws m e n × ReadsAs total draws t n
 
   has_view : (i : ℕ) (v : View) → get_elem? V i ≡ some v → HasView m i v
@@ -570,61 +570,61 @@ module _ (total draws : ℕ) (s : BoardState) (m : Core) (sh : ReadsAs total dra
             (omega (arith, a, b)),
       )
 
-  pub simulates : Invariant total m → (t : BoardState) (e : Event) → Takes total draws s e t → Goal e t
-  simulates r t Event.make h = absurd h
-  simulates r t (Event.split i) (v, at, is) = subst (Goal (Event.split i)) (sym is) (split_shown i v at)
-  simulates r t (Event.join i j) (v, w, ne, at, bt, is) = subst (Goal (Event.join i j)) (sym is)
+  pub simulates : Invariant total m → (t : BoardState) (e : BoardEvent) → Takes total draws s e t → Goal e t
+  simulates r t BoardEvent.make h = absurd h
+  simulates r t (BoardEvent.split i) (v, at, is) = subst (Goal (BoardEvent.split i)) (sym is) (split_shown i v at)
+  simulates r t (BoardEvent.join i j) (v, w, ne, at, bt, is) = subst (Goal (BoardEvent.join i j)) (sym is)
       (join_shown i j v w ne at bt)
-  simulates r t (Event.claim i n b) (v, after, low, at, rich, st, pg) = (
+  simulates r t (BoardEvent.claim i n b) (v, after, low, at, rich, st, pg) = (
     after_claim_step m i n b v (claimed_bit (m.stage n)),
     (v, low, has_view i v at.0, rich, pending_none i v at, refl),
     claim_shown t i n b v after low at st (claimed_bit (m.stage n)) refl
         (pg ∙ ap (λ (x : ℕ). update s.progress i (after_claiming n b x)) (sym (sh.claimed n))),
   )
-  simulates r t (Event.put i n b) (v, at, is) = let own : IsViewAt v (has_claimed n b) = subst (IsViewAt v) at.1
+  simulates r t (BoardEvent.put i n b) (v, at, is) = let own : IsViewAt v (has_claimed n b) = subst (IsViewAt v) at.1
       (sh.calls i v at.0) in (
         record m { progress = update m.progress i (has_put n b) },
         (v, has_view i v at.0, own.0, is_at i (has_claimed n b) at.1, refl),
         subst (λ (y : BoardState). ReadsAs total draws y (record m { progress = update m.progress i (has_put n b) }))
             (sym is) (goes_on i v (has_put n b) at.0 (own.0, tt)),
       )
-  simulates r t (Event.file i n b) (v, after, at, st, pg) = let own : IsViewAt v (has_put n b) = subst (IsViewAt v) at.1
-      (sh.calls i v at.0) in (
+  simulates r t (BoardEvent.file i n b) (v, after, at, st, pg) =
+      let own : IsViewAt v (has_put n b) = subst (IsViewAt v) at.1 (sh.calls i v at.0) in (
         after_file_step m i n b v,
         (v, has_view i v at.0, own.0, is_at i (has_put n b) at.1, refl),
         file_shown r t i n b v after at st pg,
       )
-  simulates r t (Event.look i row g) (v, after, at, st, pg) = (
+  simulates r t (BoardEvent.look i row g) (v, after, at, st, pg) = (
     with_views m (set m.views i (after_look m v row g)),
     (v, has_view i v at.0, refl),
     look_shown t i row g v after
         at st pg,
   )
-  simulates r t (Event.draw i d) (v, after, low, at, rich, st, pg) = (
+  simulates r t (BoardEvent.draw i d) (v, after, low, at, rich, st, pg) = (
     after_draw_step m i d v (m.drawn d),
     (v, low, has_view i v at.0, rich, refl),
     draw_shown t i d v after low at st
         (m.drawn d) refl pg,
   )
-  simulates r t (Event.take i n) (v, after, low, at, rich, saw, st, pg) = (
+  simulates r t (BoardEvent.take i n) (v, after, low, at, rich, saw, st, pg) = (
     after_take_step m i n v (taken_bit (m.stage n)) (m.content n),
     (v, has_view i v at.0, rich, saw, refl),
     take_shown r t i n v after low at saw st pg (taken_bit (m.stage n)) (m.content n) refl refl,
   )
-  simulates r t (Event.lift i n) (v, b, at, is) = let own : IsViewAt v (has_taken n b) = subst (IsViewAt v) at.1
+  simulates r t (BoardEvent.lift i n) (v, b, at, is) = let own : IsViewAt v (has_taken n b) = subst (IsViewAt v) at.1
       (sh.calls i v at.0) in (
         record m { progress = update m.progress i (has_lifted n b) },
         (v, b, has_view i v at.0, is_at i (has_taken n b) at.1, refl),
         subst (λ (y : BoardState). ReadsAs total draws y (record m { progress = update m.progress i (has_lifted n b) }))
             (sym is) (goes_on i v (has_lifted n b) at.0 own),
       )
-  simulates r t (Event.give i n) (v, b, after, at, st, pg) = let own : IsViewAt v (has_lifted n b) = subst (IsViewAt v)
-      at.1 (sh.calls i v at.0) in (
+  simulates r t (BoardEvent.give i n) (v, b, after, at, st, pg) =
+      let own : IsViewAt v (has_lifted n b) = subst (IsViewAt v) at.1 (sh.calls i v at.0) in (
         record m { home = update m.home n empty; progress = update m.progress i idle },
         (v, b, has_view i v at.0, own.1, is_at i (has_lifted n b) at.1, refl),
         give_shown t i n b v after at st pg,
       )
-  simulates r t (Event.load i) (v, after, at, st, pg) = (
+  simulates r t (BoardEvent.load i) (v, after, at, st, pg) = (
     m,
     (v, has_view i v at.0, refl),
     count_shown t i v after at st
@@ -666,7 +666,7 @@ begins total draws width a b = record {
   unmade = λ i far. refl;
 }
 
-pub simulates_run : (total draws : ℕ) (es : List Event) (s t : BoardState) (m : Core) → Invariant total m
+pub simulates_run : (total draws : ℕ) (es : List BoardEvent) (s t : BoardState) (m : Core) → Invariant total m
     → ReadsAs total draws s m → IsBoardRun total draws s es t
     → (n : Core) × IsRun total draws m es n × ReadsAs total draws t n
 simulates_run total draws [] s t m r sh is = (m, refl, subst (λ (y : BoardState). ReadsAs total draws y m) (sym is) sh)

@@ -9,7 +9,7 @@ use Rattle.vme_core.specs.declared.view.View.{View}
 use Rattle.vme_core.specs.Counting.{occurrences, update}
 use Rattle.vme_core.specs.Machine.{BenchProgress, idle, has_claimed, has_put, has_taken, has_lifted}
 use Rattle.vme_core.specs.Machine.{WordRow, claimed_row, filed_row, taken_row}
-use Rattle.vme_core.specs.Machine.{Event, make, split, join, claim, put, file, look, draw, take, lift, give, load}
+use Rattle.vme_core.specs.Machine.{BoardEvent, make, split, join, claim, put, file, look, draw, take, lift, give, load}
 use Rattle.vme_core.specs.Views.{first_view, empty_view, kept_view, split_view, joint_view}
 use Rattle.vme_board.specs.Words.{bit_of, mask_of}
 use Rattle.vme_board.specs.Tells.{SeatState, TableStep, DrawTells, ClaimTells, FileTells, TakeTells, GiveTells}
@@ -91,7 +91,7 @@ module _ (total draws : ℕ) where
   -- Benches of a board of so many numbers and draws take the step of this event, which leads from s to t. A call begins
   -- where its bench is in no other. The bench has a share: it was not folded into another. All benches but the first
   -- are split off.
-  abbrev pub Takes : BoardState → Event → BoardState → Type 0
+  abbrev pub Takes : BoardState → BoardEvent → BoardState → Type 0
   Takes s make t = ⊥
   Takes s (split i) t =
       (v : View) × IsAt s i v idle
@@ -138,6 +138,6 @@ module _ (total draws : ℕ) where
       × (t.progress ≡ s.progress)
 
   -- the steps of these events, one after the other, lead from s to t
-  abbrev pub IsBoardRun : BoardState → List Event → BoardState → Type 0
+  abbrev pub IsBoardRun : BoardState → List BoardEvent → BoardState → Type 0
   IsBoardRun s [] t = t ≡ s
   IsBoardRun s (e ∷ es) t = (u : BoardState) × Takes s e u × IsBoardRun u es t

@@ -8,17 +8,17 @@ use Rattle.vme_core.specs.declared.stage.Stage.TheVariants.{Claimed, Filed, Take
 use Rattle.vme_core.specs.declared.view.View.{View}
 use Rattle.vme_core.specs.Stages.{seen, stage_of}
 use Rattle.vme_core.specs.Shares.{IsWholeShare}
-use Rattle.vme_core.specs.Machine.{Event, split, join, claim, put, file, look, take, lift, give, filed_row}
+use Rattle.vme_core.specs.Machine.{BoardEvent, split, join, claim, put, file, look, take, lift, give, filed_row}
 use Rattle.vme_board.specs.Words.{bit_of}
 use Rattle.vme_board_machine.specs.Steps.{BoardState, opened, IsBoardRun}
 
 -- The bench 1 is split off, and from it the bench 2, which is dropped: it takes no step. The bench 0 claims the number,
 -- the bench 1 loses its claim for another block, and the bench 0 files its own.
-abbrev pub filing : Block → Block → List Event
+abbrev pub filing : Block → Block → List BoardEvent
 filing b c = split 0 ∷ split 1 ∷ claim 0 0 b ∷ claim 1 0 c ∷ put 0 0 b ∷ file 0 0 b ∷ []
 
 -- The bench 1 sees it filed, takes it out, and is folded into the bench 0.
-abbrev pub taking : List Event
+abbrev pub taking : List BoardEvent
 taking = look 1 filed_row 0 ∷ take 1 0 ∷ lift 1 0 ∷ give 1 0 ∷ join 0 1 ∷ []
 
 -- how far the words of a board show the number

@@ -8,8 +8,8 @@ use Rattle.vme_core.specs.declared.view.View.{View}
 use Rattle.vme_core.specs.Counting.{occurrences, numbers, update}
 use Rattle.vme_core.specs.Stages.{rank, claimed_bit, filed_bit, taken_bit}
 use Rattle.vme_core.specs.Views.{empty_view, kept_view, split_view, joint_view}
-use Rattle.vme_core.specs.Machine.{Core, Event, empty, filled, idle, has_put, has_lifted, make, split, join, claim, put}
-use Rattle.vme_core.specs.Machine.{file, look, draw, take, lift, give, load, with_views, after_claim_step}
+use Rattle.vme_core.specs.Machine.{Core, BoardEvent, empty, filled, idle, has_put, has_lifted, make, split, join, claim}
+use Rattle.vme_core.specs.Machine.{put, file, look, draw, take, lift, give, load, with_views, after_claim_step}
 use Rattle.vme_core.specs.Machine.{after_file_step, after_draw_step, after_take_step, after_look, Happens, IsRun}
 use Rattle.vme_core.specs.Rule.{Invariant}
 use Rattle.vme_core.specs.Law.{IsLawful, OnlyGrows}
@@ -99,7 +99,7 @@ module _ (limit : ℕ) (s : Core) (r : Invariant limit s) where
         (λ m ne. omega (arith, update_else s.drawn d 1 m ne));
   }
 
-  on_event : (draws : ℕ) (e : Event) (t : Core) → Happens limit draws s e t → OnlyGrows s t
+  on_event : (draws : ℕ) (e : BoardEvent) (t : Core) → Happens limit draws s e t → OnlyGrows s t
   on_event draws make t is = subst (OnlyGrows s) (sym is) (unchanged s (with_views s (s.views ++ empty_view ∷ [])) refl
       refl refl)
   on_event draws (split i) t (v, e, _, is) = subst (OnlyGrows s) (sym is)
@@ -126,7 +126,7 @@ module _ (limit : ℕ) (s : Core) (r : Invariant limit s) where
       (unchanged s (record s { home = update s.home n empty; progress = update s.progress i idle }) refl refl refl)
   on_event draws (load i) t (v, _, is) = subst (OnlyGrows s) (sym is) (unchanged s s refl refl refl)
 
-pub grows_run : (limit draws : ℕ) (es : List Event) (s t : Core) → Invariant limit s → IsRun limit draws s es t
+pub grows_run : (limit draws : ℕ) (es : List BoardEvent) (s t : Core) → Invariant limit s → IsRun limit draws s es t
     → OnlyGrows s t
 grows_run limit draws [] s t r is = subst (OnlyGrows s) (sym is) (unchanged s s refl refl refl)
 grows_run limit draws (e ∷ es) s t r (u, h, more) = let a = on_event limit s r draws e u h in

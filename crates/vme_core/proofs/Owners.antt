@@ -8,8 +8,8 @@ use Rattle.vme_core.specs.declared.view.View.{View}
 use Rattle.vme_core.specs.Counting.{numbers, update}
 use Rattle.vme_core.specs.Stages.{claimed_bit, filed_bit, taken_bit}
 use Rattle.vme_core.specs.Views.{empty_view, kept_view, split_view, joint_view, after_filing, after_take}
-use Rattle.vme_core.specs.Machine.{Core, Event, empty, idle, has_put, has_lifted, make, split, join, claim, put, file}
-use Rattle.vme_core.specs.Machine.{look, draw, take, lift, give, load, with_views, HasView, after_claim_step}
+use Rattle.vme_core.specs.Machine.{Core, BoardEvent, empty, idle, has_put, has_lifted, make, split, join, claim, put}
+use Rattle.vme_core.specs.Machine.{file, look, draw, take, lift, give, load, with_views, HasView, after_claim_step}
 use Rattle.vme_core.specs.Machine.{after_file_step, after_draw_step, after_take_step, after_look, Happens}
 use Rattle.vme_core.specs.Rule.{Invariant}
 use Rattle.vme_core.specs.Law.{IsFiledByOwner, IsTakenWhenFiled, IsRightStep}
@@ -85,8 +85,8 @@ by_take s i n v zero (Some b) e full = changed s (after_take_step s i n v zero (
       ),
     ))
 
-pub right_step : (limit : ℕ) (s : Core) → Invariant limit s → (draws : ℕ) (e : Event) (t : Core) → Happens limit draws s
-    e t → IsRightStep s t
+pub right_step : (limit : ℕ) (s : Core) → Invariant limit s → (draws : ℕ) (e : BoardEvent) (t : Core)
+    → Happens limit draws s e t → IsRightStep s t
 right_step limit s r draws make t is = subst (IsRightStep s) (sym is)
     (quiet s (with_views s (s.views ++ empty_view ∷ [])) refl)
 right_step limit s r draws (split i) t (v, e, _, is) = subst (IsRightStep s) (sym is)

@@ -12,8 +12,8 @@ use Rattle.vme_core.specs.Stages.{claimed_bit, filed_bit, taken_bit}
 use Rattle.vme_core.specs.Views.{empty_view, with_claimed, with_filed, with_taken, after_claim, after_filing}
 use Rattle.vme_core.specs.Views.{after_take}
 use Rattle.vme_core.specs.Machine.{Slot, empty, away, filled, BenchProgress, Core, WordRow, claimed_row, filed_row}
-use Rattle.vme_core.specs.Machine.{taken_row, Event, make, split, join, claim, put, file, look, draw, take, lift, give}
-use Rattle.vme_core.specs.Machine.{load, with_views, after_claim_step, after_file_step, after_draw_step}
+use Rattle.vme_core.specs.Machine.{taken_row, BoardEvent, make, split, join, claim, put, file, look, draw, take, lift}
+use Rattle.vme_core.specs.Machine.{give, load, with_views, after_claim_step, after_file_step, after_draw_step}
 use Rattle.vme_core.specs.Machine.{after_take_step, after_look, Happens, IsRun, start}
 use Rattle.vme_core.specs.Rule.{Invariant}
 use Rattle.vme_core.proofs.Sums.{update_here, update_else, each}
@@ -196,7 +196,7 @@ module _ (limit : ℕ) (s : Core) (r : Invariant limit s) where
         (record { listed = λ _ _ h. absurd h; took = λ _ _ h. absurd h });
   }
 
-  pub keeps_event : (draws : ℕ) (e : Event) (t : Core) → Happens limit draws s e t → Invariant limit t
+  pub keeps_event : (draws : ℕ) (e : BoardEvent) (t : Core) → Happens limit draws s e t → Invariant limit t
   keeps_event draws make t is = subst (Invariant limit) (sym is) keeps_make
   keeps_event draws (split i) t (v, e, _, is) = subst (Invariant limit) (sym is)
       (rule_splits limit s.drawn C F T s.content E H s.views r i v e)
@@ -218,7 +218,7 @@ module _ (limit : ℕ) (s : Core) (r : Invariant limit s) where
       (keeps_give i v e n (update s.progress i BenchProgress.idle) mine)
   keeps_event draws (load i) t (v, _, is) = subst (Invariant limit) (sym is) r
 
-pub keeps_run : (limit draws : ℕ) (es : List Event) (s t : Core) → Invariant limit s → IsRun limit draws s es t
+pub keeps_run : (limit draws : ℕ) (es : List BoardEvent) (s t : Core) → Invariant limit s → IsRun limit draws s es t
     → Invariant limit t
 keeps_run limit draws [] s t r is = subst (Invariant limit) (sym is) r
 keeps_run limit draws (e ∷ es) s t r (u, h, more) = keeps_run limit draws es u t (keeps_event limit s r draws e u h)

@@ -6,15 +6,15 @@ use Rattle.vme_core.specs.declared.view.View.{View}
 use Rattle.vme_core.specs.Counting.{occurrences, numbers, HasPair}
 use Rattle.vme_core.specs.Stages.{rank, seen, claimed_bit, filed_bit, taken_bit}
 use Rattle.vme_core.specs.Shares.{IsWholeShare}
-use Rattle.vme_core.specs.Machine.{Core, Event, filled, start, HasView, Happens, IsRun}
+use Rattle.vme_core.specs.Machine.{Core, BoardEvent, filled, start, HasView, Happens, IsRun}
 
 -- some events of benches of a board of so many numbers and draws lead from s to t
 abbrev pub RunsTo : ℕ → ℕ → Core → Core → Type 0
-RunsTo total draws s t = (events : List Event) × IsRun total draws s events t
+RunsTo total draws s t = (events : List BoardEvent) × IsRun total draws s events t
 
 -- one event of them leads from s to t
 abbrev pub StepsTo : ℕ → ℕ → Core → Core → Type 0
-StepsTo total draws s t = (e : Event) × Happens total draws s e t
+StepsTo total draws s t = (e : BoardEvent) × Happens total draws s e t
 
 -- some run leads to s
 abbrev pub IsReachable : ℕ → ℕ → Core → Type 0

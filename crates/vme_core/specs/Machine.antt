@@ -42,22 +42,22 @@ pub data WordRow : Type 0 where
   taken_row : WordRow
 
 -- The first number of an event is the bench that takes the step.
-pub data Event : Type 0 where
-  make : Event
-  split : ℕ → Event
-  join : ℕ → ℕ → Event
-  claim : ℕ → ℕ → Block → Event
-  put : ℕ → ℕ → Block → Event
-  file : ℕ → ℕ → Block → Event
+pub data BoardEvent : Type 0 where
+  make : BoardEvent
+  split : ℕ → BoardEvent
+  join : ℕ → ℕ → BoardEvent
+  claim : ℕ → ℕ → Block → BoardEvent
+  put : ℕ → ℕ → Block → BoardEvent
+  file : ℕ → ℕ → Block → BoardEvent
   -- the word of a row that has the bits of 64 numbers from 64 times the last number on
-  look : ℕ → WordRow → ℕ → Event
-  draw : ℕ → ℕ → Event
-  take : ℕ → ℕ → Event
-  lift : ℕ → ℕ → Event
+  look : ℕ → WordRow → ℕ → BoardEvent
+  draw : ℕ → ℕ → BoardEvent
+  take : ℕ → ℕ → BoardEvent
+  lift : ℕ → ℕ → BoardEvent
   -- a load by which an emptied slot goes home
-  give : ℕ → ℕ → Event
+  give : ℕ → ℕ → BoardEvent
   -- a load that changes nothing
-  load : ℕ → Event
+  load : ℕ → BoardEvent
 
 abbrev pub start : Core
 start = record {
@@ -132,7 +132,7 @@ after_look s v taken_row g = with_taken v (set_bits (64 * g) (λ k. taken_bit (s
 
 module _ (total draws : ℕ) where
   -- the event may happen in s, and leads to t
-  abbrev pub Happens : Core → Event → Core → Type 0
+  abbrev pub Happens : Core → BoardEvent → Core → Type 0
   Happens s make t = t ≡ with_views s (s.views ++ empty_view ∷ [])
   Happens s (split i) t =
       (v : View) × HasView s i v × (v.pending ≡ [])
@@ -165,6 +165,6 @@ module _ (total draws : ℕ) where
   Happens s (load i) t = (v : View) × HasView s i v × (t ≡ s)
 
   -- the events may happen one after the other from s on, and lead to t
-  abbrev pub IsRun : Core → List Event → Core → Type 0
+  abbrev pub IsRun : Core → List BoardEvent → Core → Type 0
   IsRun s [] t = t ≡ s
   IsRun s (e ∷ es) t = (u : Core) × Happens s e u × IsRun u es t
