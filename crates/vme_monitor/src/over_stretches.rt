@@ -18,7 +18,7 @@ ghost use Rattle.vme_trace.specs.declared.step.Change.{Change};
 ghost use Rattle.vme_monitor.specs.declared.mark.Fault.{Fault};
 ghost use Rattle.vme_monitor.specs.declared.mark.StepMarks.{StepMarks};
 ghost use Rattle.vme_monitor.specs.declared.mark.Next.{Next};
-ghost use Rattle.vme_monitor.specs.OverStretches.{has_started};
+ghost use Rattle.vme_monitor.specs.OverStretches.{has_started, start_in};
 
 use crate::machine::{Enumerable, Machine, Small};
 use crate::mark::{Fault, NOTHING, Next, StepMarks, quiet};
@@ -132,6 +132,17 @@ pub struct StretchObservation<S> {
     pub inner: Option<S>,
 }
 
+/// The phase at an opening: judging starts where the bus is idle.
+pub fn phase_at<R: Rules>(opening: &Lines) -> StretchPhase<R::Memory>
+    ensures { result ≡ start_in R.begin opening.now }
+{
+    if opening.is_idle() {
+        StretchPhase::Judging(R::at_start(opening))
+    } else {
+        StretchPhase::Waiting
+    }
+}
+
 /// The machine that judges by some rules within spans.
 pub struct OverStretches<R> {
     of: PhantomData<R>,
@@ -163,11 +174,7 @@ impl<R: Rules> Machine for OverStretches<R> {
     ghost few = { phases_few R.Memory.COUNT R.Memory.small };
 
     fn start(opening: &Lines) -> StretchPhase<R::Memory> {
-        if opening.is_idle() {
-            StretchPhase::Judging(R::at_start(opening))
-        } else {
-            StretchPhase::Waiting
-        }
+        phase_at::<R>(opening)
     }
 
     #[inline(always)]

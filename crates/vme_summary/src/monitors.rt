@@ -25,6 +25,7 @@ use vme_monitor::both::{least, marks_together};
 use vme_monitor::known::{Known, KnownRules, known_over_recordings};
 use vme_monitor::mark::Mark;
 use vme_monitor::monitor::Monitor;
+use vme_monitor::over_stretches::phase_at;
 use vme_monitor::table::Table;
 use vme_monitor::view::StepView;
 use vme_monitor::without_marks::BreakMonitor;
@@ -209,11 +210,11 @@ impl MonitorStates {
         ensures { HasFound result opening.now [] }
     {
         MonitorStates {
-            known: MonitorState::at(Known::start(opening)),
-            handshake: MonitorState::at(Dtb::start(opening)),
-            stability: MonitorState::at(Stability::start(opening)),
-            grant: MonitorState::at(Grant::start(opening)),
-            acknowledge: MonitorState::at(Iack::start(opening)),
+            known: MonitorState::at(phase_at::<KnownRules>(opening)),
+            handshake: MonitorState::at(phase_at::<HandshakeRules>(opening)),
+            stability: MonitorState::at(phase_at::<StabilityRules>(opening)),
+            grant: MonitorState::at(phase_at::<GrantRules>(opening)),
+            acknowledge: MonitorState::at(phase_at::<AcknowledgeRules>(opening)),
         }
     }
 
