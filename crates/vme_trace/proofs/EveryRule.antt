@@ -5,42 +5,11 @@ use Rattle.std.specs.List.{list_all}
 use Rattle.vme_trace.specs.Names.{rule_number}
 use Rattle.vme_trace.specs.Rules.{all_rules}
 use Rattle.vme_trace.specs.declared.rule.Rule.{Rule}
-use Rattle.vme_trace.specs.declared.rule.Rule.TheVariants.{U1, U2, U3, U4, H1, H2, H3, H4, H5, H6, H7, H8, S1, S2, S3}
-use Rattle.vme_trace.specs.declared.rule.Rule.TheVariants.{C1, C2, G1, G2, G3, G4, G5, B1, B2, B3, B4, I1, I2, I3, I4}
-use Rattle.vme_trace.specs.declared.rule.Rule.TheVariants.{I5}
+use Rattle.vme_trace.specs.declared.rule.Rule.TheVariants.{U1}
 
 pub listed : (r : Rule) → slice_get all_rules (rule_number r) ≡ Some r
 listed U1 = refl
-listed U2 = refl
-listed U3 = refl
-listed U4 = refl
-listed H1 = refl
-listed H2 = refl
-listed H3 = refl
-listed H4 = refl
-listed H5 = refl
-listed H6 = refl
-listed H7 = refl
-listed H8 = refl
-listed S1 = refl
-listed S2 = refl
-listed S3 = refl
-listed C1 = refl
-listed C2 = refl
-listed G1 = refl
-listed G2 = refl
-listed G3 = refl
-listed G4 = refl
-listed G5 = refl
-listed B1 = refl
-listed B2 = refl
-listed B3 = refl
-listed B4 = refl
-listed I1 = refl
-listed I2 = refl
-listed I3 = refl
-listed I4 = refl
-listed I5 = refl
+listed r = refl
 
 -- rules of one number are one
 pub same-rule : (q r : Rule) → rule_number q ≡ rule_number r → q ≡ r

@@ -14,8 +14,8 @@
 //! - `edges`, `cycle`, `class`, `data`: what a step does to a line, the strobes and the answers;
 //!   the address space and the needed lines of a cycle; its class; the data lines that a transfer
 //!   moves.
-//! - `rule`, `verdict`: the rules in the order in which breaks of one instant are named; a
-//!   break, and the verdict.
+//! - `rule`, `verdict`: the rules in the order in which breaks of one instant are named; a break,
+//!   and the verdict.
 //! - `name`: the bytes of a name.
 //! - `step_visitor`, `stream`: what takes a recording step by step; where bytes come from and where
 //!   they go.
