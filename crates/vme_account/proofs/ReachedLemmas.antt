@@ -15,7 +15,7 @@ use Rattle.vme_monitor.specs.declared.mark.Fault.{Fault}
 use Rattle.vme_monitor.specs.declared.mark.Mark.{Mark}
 use Rattle.vme_monitor.specs.declared.mark.MarkKind.{MarkKind}
 use Rattle.vme_summary.specs.MarkedRows.{marks_before, marks_listed, opening_marks}
-use Rattle.vme_auditor.specs.FirstEvent.{first_event}
+use Rattle.vme_auditor.specs.FirstBreak.{first_break_from}
 use Rattle.vme_auditor.specs.JoinedMarks.{joined_marks, kinds_shown}
 use Rattle.vme_auditor.specs.Memories.{first_fault_of, memories_at, memories_next}
 use Rattle.vme_auditor.specs.declared.memories.Memories.{Memories}
@@ -55,12 +55,12 @@ twice_moved n (Some b) = ap
 abbrev Behind : Option Break → Type 0
 Behind b = IfSome b (λ b. 1 ≤ b.instant)
 
-first_behind : (x : List Step) (m : Memories) (o : Levels) → Behind (first_event m o x)
-unfolding first_event
+first_behind : (x : List Step) (m : Memories) (o : Levels) → Behind (first_break_from m o x)
+unfolding first_break_from
 first_behind [] m o = tt
 first_behind (s ∷ x) m o =
     by_fault (first_fault_of m o (changed o s.changes) s.changes)
-    (first_event (memories_next m o (changed o s.changes) s.changes) (changed o s.changes) x)
+    (first_break_from (memories_next m o (changed o s.changes) s.changes) (changed o s.changes) x)
   where
     by_fault : (f : Option Fault) (rest : Option Break)
         → Behind (earlier (option_map (break_at 1 s.time) f) (option_map (shifted_break 1) rest))
@@ -180,22 +180,23 @@ module _ (s : Step) (o : Levels) (m : Memories) where
 
   -- the first break of the step, and of those behind it
   abbrev first_with : Option Fault → List Step → Option Break
-  first_with f x = earlier (option_map (break_at 1 s.time) f) (option_map (shifted_break 1) (first_event later next x))
+  first_with f x = earlier (option_map (break_at 1 s.time) f)
+      (option_map (shifted_break 1) (first_break_from later next x))
 
   found_by : (x : List Step) (n : ℕ) (ms : List Mark)
       → (fold with_step (at next (n + 1) later (ms ++ map (mark_at (n + 1)) kinds)) x).found
-      ≡ option_map (shifted_break (n + 1)) (first_event later next x) → (f : Option Fault)
+      ≡ option_map (shifted_break (n + 1)) (first_break_from later next x) → (f : Option Fault)
       → (fold with_step (found_then n ms (option_map (shifted_break n) (option_map (break_at 1 s.time) f))) x).found
       ≡ option_map (shifted_break n) (first_with f x)
   found_by x n ms rest (Some f) =
       found_stays x (found_then n ms (Some (shifted_break n (break_at 1 s.time f))))
       (shifted_break n (break_at 1 s.time f)) refl
-  found_by x n ms rest None = rest ∙ twice_moved n (first_event later next x)
+  found_by x n ms rest None = rest ∙ twice_moved n (first_break_from later next x)
 
   marks_by : (x : List Step) (n : ℕ) (ms : List Mark)
       → (fold with_step (at next (n + 1) later (ms ++ map (mark_at (n + 1)) kinds)) x).marks
       ≡ (ms ++ map (mark_at (n + 1)) kinds)
-      ++ map (shifted_mark (n + 1)) (marks_listed (first_event later next x) (joined_marks later next x))
+      ++ map (shifted_mark (n + 1)) (marks_listed (first_break_from later next x) (joined_marks later next x))
       → (f : Option Fault)
       → (fold with_step (found_then n ms (option_map (shifted_break n) (option_map (break_at 1 s.time) f))) x).marks
       ≡ ms ++ map (shifted_mark n) (marks_listed (first_with f x)
@@ -206,7 +207,7 @@ module _ (s : Step) (o : Levels) (m : Memories) where
       ∙ (sym (append-nil ms)
       ∙ ap (λ (l : List Mark). ms ++ map (shifted_mark n) l) (sym (none_before kinds (joined_marks later next x))))
   marks_by x n ms rest None =
-      let more : List Mark = marks_listed (first_event later next x) (joined_marks later next x) in
+      let more : List Mark = marks_listed (first_break_from later next x) (joined_marks later next x) in
       rest
       ∙ (append_assoc ms (map (mark_at (n + 1)) kinds) (map (shifted_mark (n + 1)) more)
       ∙ (ap (λ (l : List Mark). ms ++ (l ++ map (shifted_mark (n + 1)) more)) (kinds_moved n kinds)
@@ -214,12 +215,12 @@ module _ (s : Step) (o : Levels) (m : Memories) where
       ∙ (ap (λ (l : List Mark). ms ++ l)
       (sym (map-append (shifted_mark n) (map (mark_at 1) kinds) (map (shifted_mark 1) more)))
       ∙ ap (λ (l : List Mark). ms ++ map (shifted_mark n) l)
-      (sym (listed_behind kinds (first_event later next x) (joined_marks later next x)
+      (sym (listed_behind kinds (first_break_from later next x) (joined_marks later next x)
       (first_behind x later next)))))))
 
 pub first-found : (x : List Step) (o : Levels) (n : ℕ) (m : Memories) (ms : List Mark)
-    → (fold with_step (at o n m ms) x).found ≡ option_map (shifted_break n) (first_event m o x)
-unfolding first_event
+    → (fold with_step (at o n m ms) x).found ≡ option_map (shifted_break n) (first_break_from m o x)
+unfolding first_break_from
 first-found [] o n m ms = refl
 first-found (s ∷ x) o n m ms =
     ap (λ (f : Option Break). (fold with_step (found_then s o m n ms f) x).found)
@@ -229,8 +230,8 @@ first-found (s ∷ x) o n m ms =
 
 pub marks-found : (x : List Step) (o : Levels) (n : ℕ) (m : Memories) (ms : List Mark)
     → (fold with_step (at o n m ms) x).marks
-    ≡ ms ++ map (shifted_mark n) (marks_listed (first_event m o x) (joined_marks m o x))
-unfolding first_event joined_marks
+    ≡ ms ++ map (shifted_mark n) (marks_listed (first_break_from m o x) (joined_marks m o x))
+unfolding first_break_from joined_marks
 marks-found [] o n m ms = sym (append-nil ms)
 marks-found (s ∷ x) o n m ms =
     ap (λ (f : Option Break). (fold with_step (found_then s o m n ms f) x).marks)
@@ -256,14 +257,14 @@ unmoved (m ∷ ms) = ap (λ (i : ℕ). mark_at i m.kind ∷ map (shifted_mark 0)
     no_more : (i : ℕ) → i + 0 ≡ i
     no_more i = omega arith
 
-pub reached-first : (o : Levels) (x : List Step) → (reached o x).found ≡ first_event (memories_at o) o x
+pub reached-first : (o : Levels) (x : List Step) → (reached o x).found ≡ first_break_from (memories_at o) o x
 unfolding reached
 reached-first o x = first-found x o 0 (memories_at o) (opening_marks o)
-    ∙ none_shifted (first_event (memories_at o) o x)
+    ∙ none_shifted (first_break_from (memories_at o) o x)
 
 pub reached-marks : (o : Levels) (x : List Step) → (reached o x).marks
-    ≡ opening_marks o ++ marks_listed (first_event (memories_at o) o x) (joined_marks (memories_at o) o x)
+    ≡ opening_marks o ++ marks_listed (first_break_from (memories_at o) o x) (joined_marks (memories_at o) o x)
 unfolding reached
 reached-marks o x = marks-found x o 0 (memories_at o) (opening_marks o)
     ∙ ap (λ (ms : List Mark). opening_marks o ++ ms)
-    (unmoved (marks_listed (first_event (memories_at o) o x) (joined_marks (memories_at o) o x)))
+    (unmoved (marks_listed (first_break_from (memories_at o) o x) (joined_marks (memories_at o) o x)))

@@ -22,7 +22,7 @@ use Rattle.vme_trace.specs.declared.verdict.Break.{Break}
 use Rattle.vme_monitor.specs.Along.{changes_of, memory_from}
 use Rattle.vme_monitor.specs.Ends.{end_among}
 use Rattle.vme_monitor.specs.KnownRules.{known_begin}
-use Rattle.vme_monitor.specs.Outcome.{EventWithin, earlier, shifted_break}
+use Rattle.vme_monitor.specs.Outcome.{BreakWithin, earlier, shifted_break}
 use Rattle.vme_monitor.specs.OverStretches.{has_started, start_in}
 use Rattle.vme_monitor.specs.Run.{break_at}
 use Rattle.vme_monitor.specs.Whole.{has_span}
@@ -39,7 +39,7 @@ use Rattle.vme_audit.specs.Asked.{asking_end, asks, asks_in, happens}
 use Rattle.vme_audit.specs.Parts.{Part, named_break, own_break, part_behind, parts_from}
 use Rattle.vme_auditor.specs.Audited.{AuditReached, events_by, with_step, with_stretch}
 use Rattle.vme_auditor.specs.Events.{asks_by}
-use Rattle.vme_auditor.specs.FirstEvent.{first_event}
+use Rattle.vme_auditor.specs.FirstBreak.{first_break_from}
 use Rattle.vme_auditor.specs.Memories.{first_fault_of, handshake_at, known_at, memories_at, memories_next}
 use Rattle.vme_auditor.specs.declared.asked.AskedEvents.{AskedEvents}
 use Rattle.vme_auditor.specs.declared.memories.Memories.{Memories}
@@ -133,17 +133,17 @@ module _ (m : Memories) (o : Levels) (s : Step) (x : List Step) (e : AskedEvents
   to_later (Some b) = rw (add-one b.instant, levels_next o s x b.instant) refl
 
   to_stepped : (f : Option Fault) (time : ℕ) → events_from next after more x
-      ≡ events_to next after more x (first_event next after x)
+      ≡ events_to next after more x (first_break_from next after x)
       → events_from (memories_behind f after next) after (events_behind f after more) x
       ≡ events_to m o e (s ∷ x)
-      (earlier (option_map (break_at 1 time) f) (option_map (shifted_break 1) (first_event next after x)))
+      (earlier (option_map (break_at 1 time) f) (option_map (shifted_break 1) (first_break_from next after x)))
   unfolding levels_at quiet_events
-  to_stepped None time so_far = so_far ∙ to_later (first_event next after x)
+  to_stepped None time so_far = so_far ∙ to_later (first_break_from next after x)
   to_stepped (Some f) time so_far = refl
 
 events_first : (x : List Step) (m : Memories) (o : Levels) (e : AskedEvents) → events_from m o e x
-    ≡ events_to m o e x (first_event m o x)
-unfolding events_from quiet_events first_event
+    ≡ events_to m o e x (first_break_from m o x)
+unfolding events_from quiet_events first_break_from
 events_first [] m o e = refl
 events_first (s ∷ x) m o e =
     to_stepped m o s x e (first_fault_of m o (changed o s.changes) s.changes) s.time
@@ -303,28 +303,29 @@ break_judged t b e = spans_named t (judged_spans t) b e
 module _ (s : Step) (x : List Step) (m next : Memories) (o after : Levels) (b : Break) where
   cut_stepped : (f : Option Fault) (found : Option Break)
       → earlier (option_map (break_at 1 s.time) f) (option_map (shifted_break 1) found) ≡ Some b
-      → ((c : Break) → found ≡ Some c → first_event next after (take c.instant x) ≡ Some c)
-      → ((k : ℕ) → first_event m o (s ∷ take k x)
-      ≡ earlier (option_map (break_at 1 s.time) f) (option_map (shifted_break 1) (first_event next after (take k x))))
-      → first_event m o (take b.instant (s ∷ x)) ≡ Some b
+      → ((c : Break) → found ≡ Some c → first_break_from next after (take c.instant x) ≡ Some c)
+      → ((k : ℕ) → first_break_from m o (s ∷ take k x)
+      ≡ earlier (option_map (break_at 1 s.time) f)
+      (option_map (shifted_break 1) (first_break_from next after (take k x))))
+      → first_break_from m o (take b.instant (s ∷ x)) ≡ Some b
   cut_stepped (Some f) found h so_far step =
       let same : break_at 1 s.time f ≡ b = cc in
-      ap (λ (b : Break). first_event m o (take b.instant (s ∷ x))) (sym same) ∙ step 0 ∙ h
+      ap (λ (b : Break). first_break_from m o (take b.instant (s ∷ x))) (sym same) ∙ step 0 ∙ h
   cut_stepped None None h so_far step = absurd (cc)
   cut_stepped None (Some c) h so_far step =
       let same : shifted_break 1 c ≡ b = cc in
-      ap (λ (b : Break). first_event m o (take b.instant (s ∷ x))) (sym same)
-      ∙ ap (λ k. first_event m o (take k (s ∷ x))) (add-one c.instant)
+      ap (λ (b : Break). first_break_from m o (take b.instant (s ∷ x))) (sym same)
+      ∙ ap (λ k. first_break_from m o (take k (s ∷ x))) (add-one c.instant)
       ∙ step c.instant ∙ ap (option_map (shifted_break 1)) (so_far c refl) ∙ h
 
-first_cut : (x : List Step) (m : Memories) (o : Levels) (b : Break) → first_event m o x ≡ Some b
-    → first_event m o (take b.instant x) ≡ Some b
-unfolding first_event
+first_cut : (x : List Step) (m : Memories) (o : Levels) (b : Break) → first_break_from m o x ≡ Some b
+    → first_break_from m o (take b.instant x) ≡ Some b
+unfolding first_break_from
 first_cut [] m o b h = absurd (cc)
 first_cut (s ∷ x) m o b h =
     let after = changed o s.changes in
     let next = memories_next m o after s.changes in
-    cut_stepped s x m next o after b (first_fault_of m o after s.changes) (first_event next after x) h
+    cut_stepped s x m next o after b (first_fault_of m o after s.changes) (first_break_from next after x) h
     (λ c e. first_cut x next after c e) (λ k. refl)
 
 module _ (finds : FindsFirst) (starts : KnowsStart) where
@@ -340,7 +341,7 @@ module _ (finds : FindsFirst) (starts : KnowsStart) where
         ∙ starts (recorded o x) ok few
 
     -- and at its break
-    begun_break : (b : Break) → first_event (memories_at o) o x ≡ Some b → b.instant ≤ length x
+    begun_break : (b : Break) → first_break_from (memories_at o) o x ≡ Some b → b.instant ≤ length x
         → has_started (known_phase (recorded o x) ok few b.instant) ≡ has_span (judged_spans (recorded o x))
     unfolding known_run
     begun_break b e h =
@@ -370,7 +371,7 @@ module _ (finds : FindsFirst) (starts : KnowsStart) where
       abbrev fresh : AskedEvents
       fresh = with_stretch e (has_started (memories_at o).known)
 
-      last_happened : first_event (memories_at o) o x ≡ None
+      last_happened : first_break_from (memories_at o) o x ≡ None
           → asks_by (quiet_events (memories_at o) o fresh x) r
           ≡ (asks_by e r || (list_any (asks_in (recorded o x) None r) (judged_spans (recorded o x)) || false))
       last_happened found =
@@ -380,14 +381,14 @@ module _ (finds : FindsFirst) (starts : KnowsStart) where
           ∙ ap (λ b. asks_by e r || b)
           (sym (or-false (list_any (asks_in (recorded o x) None r) (judged_spans (recorded o x)))))
 
-      module _ (n : ℕ) (short : length x ≤ suc n) (b : Break) (w : EventWithin (length x) (Some b)) where
+      module _ (n : ℕ) (short : length x ≤ suc n) (b : Break) (w : BreakWithin (length x) (Some b)) where
         abbrev left : Levels
         left = levels_at (recorded o x) b.instant
 
         fewer : length (drop b.instant x) ≤ n
         fewer = simp length-drop (omega arith)
 
-        broken_happened : HaveHappened n → first_event (memories_at o) o x ≡ Some b
+        broken_happened : HaveHappened n → first_break_from (memories_at o) o x ≡ Some b
             → asks_by (events_to (memories_at o) o fresh x (Some b)) r
             ≡ (asks_by e r || (list_any (asks_in (recorded o x) (Some b) r) (judged_spans (recorded o x))
             || list_any (asks r) (parts_from n (part_behind here b))))
@@ -400,8 +401,8 @@ module _ (finds : FindsFirst) (starts : KnowsStart) where
             ∙ or_assoc (asks_by e r) (list_any (asks_in (recorded o x) (Some b) r) (judged_spans (recorded o x)))
             (list_any (asks r) (parts_from n (part_behind here b)))
 
-      happened_for : (n : ℕ) → length x ≤ suc n → HaveHappened n → (found : Option Break) → EventWithin (length x) found
-          → first_event (memories_at o) o x ≡ found
+      happened_for : (n : ℕ) → length x ≤ suc n → HaveHappened n → (found : Option Break) → BreakWithin (length x) found
+          → first_break_from (memories_at o) o x ≡ found
           → asks_by (events_to (memories_at o) o fresh x found) r
           ≡ (asks_by e r || (list_any (asks_in (recorded o x) found r) (judged_spans (recorded o x))
           || list_any (asks r) (option_map_or (λ b. parts_from n (part_behind here b)) found [])))
@@ -409,7 +410,7 @@ module _ (finds : FindsFirst) (starts : KnowsStart) where
       happened_for n short happened_by (Some b) w found = broken_happened n short b w happened_by found
 
     pub parts_happened : (n : ℕ) → HaveHappened n
-    unfolding parts_from own_break asks first_event events_from quiet_events
+    unfolding parts_from own_break asks first_break_from events_from quiet_events
     parts_happened zero start o [] e short ok few =
         rw (finds (recorded o []) ok few) (last_happened start o [] e ok few refl)
     parts_happened zero start o (s ∷ x) e short ok few = absurd (omega arith)
@@ -418,5 +419,5 @@ module _ (finds : FindsFirst) (starts : KnowsStart) where
           finds (recorded o x) ok few,
           events_first x (memories_at o) o (with_stretch e (has_started (memories_at o).known)),
         )
-        (happened_for start o x e ok few n short (parts_happened n) (first_event (memories_at o) o x)
+        (happened_for start o x e ok few n short (parts_happened n) (first_break_from (memories_at o) o x)
         (first_within x (memories_at o) o) refl)

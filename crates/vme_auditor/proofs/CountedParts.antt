@@ -15,7 +15,7 @@ use Rattle.vme_trace.specs.WellFormed.{malformed_step}
 use Rattle.vme_trace.specs.declared.step.Step.{Step}
 use Rattle.vme_trace.specs.declared.verdict.Break.{Break}
 use Rattle.vme_listing.specs.declared.row.Row.{Row}
-use Rattle.vme_monitor.specs.Outcome.{EventWithin}
+use Rattle.vme_monitor.specs.Outcome.{BreakWithin}
 use Rattle.vme_monitor.specs.declared.mark.Mark.{Mark}
 use Rattle.vme_summary.specs.MarkedRows.{marks_before, marks_listed}
 use Rattle.vme_summary.specs.MarkedRows.{rows_of as marked_rows}
@@ -23,7 +23,7 @@ use Rattle.vme_audit.specs.Counted.{count_of, counts_of_rows, rows_of}
 use Rattle.vme_audit.specs.Covered.{hanging}
 use Rattle.vme_audit.specs.Parts.{Part, last_from, own_break, part_behind, parts_from}
 use Rattle.vme_audit.specs.declared.counts.Counts.{Counts}
-use Rattle.vme_auditor.specs.FirstEvent.{first_event}
+use Rattle.vme_auditor.specs.FirstBreak.{first_break_from}
 use Rattle.vme_auditor.specs.JoinedMarks.{joined_marks}
 use Rattle.vme_auditor.specs.Memories.{memories_at}
 use Rattle.vme_auditor.specs.Tallied.{at_break, counts_so_far, hang_so_far}
@@ -115,7 +115,7 @@ last_behind (suc n) p q = refl
 
 module _ (finds : FindsFirst) (shows : ShowsMarks) where
   rows_are : (start : ℕ) (o : Levels) (x : List Step) → malformed_step (recorded o x) ≡ None → o.slots ≤ 21
-      → (e : Option Break) → first_event (memories_at o) o x ≡ e
+      → (e : Option Break) → first_break_from (memories_at o) o x ≡ e
       → CountAlike (rows_of (record { start = start; trace = recorded o x }))
       (marked_rows None (marks_listed e (joined_marks (memories_at o) o x)))
   rows_are start o x ok slots e found =
@@ -143,14 +143,14 @@ module _ (finds : FindsFirst) (shows : ShowsMarks) where
     here = record { start = start; trace = recorded o x }
 
     -- the last part
-    counts_last : first_event (memories_at o) o x ≡ None
+    counts_last : first_break_from (memories_at o) o x ≡ None
         → counts_so_far suc (quiet_tally (memories_at o) o start (fresh c) x)
         ≡ sum_of c (counts_of_rows (rows_of here ++ []))
     counts_last e =
         quiet_counts start o x c ∙ ap (sum_of c) (sym (rows_are start o x ok slots None e).counted)
         ∙ ap (λ (rows : List Row). sum_of c (counts_of_rows rows)) (sym (append-nil (rows_of here)))
 
-    hang_last : first_event (memories_at o) o x ≡ None
+    hang_last : first_break_from (memories_at o) o x ≡ None
         → hang_so_far (quiet_tally (memories_at o) o start (fresh c) x)
         ≡ option_map (started_of here) (hanging (rows_of here))
     hang_last e =
@@ -158,7 +158,7 @@ module _ (finds : FindsFirst) (shows : ShowsMarks) where
 
     module _ (n : ℕ) (few : length x ≤ suc n) where
       -- a part with a break, and those behind it
-      module _ (b : Break) (w : EventWithin (length x) (Some b)) where
+      module _ (b : Break) (w : BreakWithin (length x) (Some b)) where
         abbrev left : Levels
         left = levels_at (recorded o x) b.instant
 
@@ -183,7 +183,7 @@ module _ (finds : FindsFirst) (shows : ShowsMarks) where
         abbrev others : List Row
         others = flat_map rows_of (parts_from n (part_behind here b))
 
-        counts_broken : AreCounted n → first_event (memories_at o) o x ≡ Some b
+        counts_broken : AreCounted n → first_break_from (memories_at o) o x ≡ Some b
             → counts_so_far suc (tally_from (memories_at o) o start (fresh c) x (Some b))
             ≡ sum_of c (counts_of_rows (rows_of here ++ others))
         counts_broken counted e =
@@ -205,14 +205,15 @@ module _ (finds : FindsFirst) (shows : ShowsMarks) where
             ∙ ap (λ (last : Part). option_map (started_of last) (hanging (rows_of last)))
             (sym (last_behind n here (part_behind here b)))
 
-      counts_by : AreCounted n → (e : Option Break) → EventWithin (length x) e → first_event (memories_at o) o x ≡ e
+      counts_by : AreCounted n → (e : Option Break) → BreakWithin (length x) e → first_break_from (memories_at o) o x
+          ≡ e
           → counts_so_far suc (tally_from (memories_at o) o start (fresh c) x e)
           ≡ sum_of c (counts_of_rows (rows_of here
           ++ flat_map rows_of (option_map_or (λ b. parts_from n (part_behind here b)) e [])))
       counts_by counted None w e = counts_last e
       counts_by counted (Some b) w e = counts_broken b w counted e
 
-      hang_by : AreHung n → (e : Option Break) → EventWithin (length x) e → first_event (memories_at o) o x ≡ e
+      hang_by : AreHung n → (e : Option Break) → BreakWithin (length x) e → first_break_from (memories_at o) o x ≡ e
           → let last = last_from here (option_map_or (λ b. parts_from n (part_behind here b)) e []) in
           hang_so_far (tally_from (memories_at o) o start (fresh c) x e)
           ≡ option_map (started_of last) (hanging (rows_of last))
@@ -220,19 +221,19 @@ module _ (finds : FindsFirst) (shows : ShowsMarks) where
       hang_by hung (Some b) w e = hang_broken b w hung
 
   pub parts_counted : (n : ℕ) → AreCounted n
-  unfolding parts_from own_break first_event tally_by quiet_tally
+  unfolding parts_from own_break first_break_from tally_by quiet_tally
   parts_counted zero start o [] c few ok slots = counts_last start o [] c ok slots refl
   parts_counted zero start o (s ∷ x) c few ok slots = absurd (omega arith)
   parts_counted (suc n) start o x c few ok slots =
       rw (finds (recorded o x) ok slots, tally_first x (memories_at o) o start (fresh c))
-      (counts_by start o x c ok slots n few (parts_counted n) (first_event (memories_at o) o x)
+      (counts_by start o x c ok slots n few (parts_counted n) (first_break_from (memories_at o) o x)
       (first_within x (memories_at o) o) refl)
 
   pub parts_hung : (n : ℕ) → AreHung n
-  unfolding parts_from own_break first_event tally_by quiet_tally
+  unfolding parts_from own_break first_break_from tally_by quiet_tally
   parts_hung zero start o [] c few ok slots = hang_last start o [] c ok slots refl
   parts_hung zero start o (s ∷ x) c few ok slots = absurd (omega arith)
   parts_hung (suc n) start o x c few ok slots =
       rw (finds (recorded o x) ok slots, tally_first x (memories_at o) o start (fresh c))
-      (hang_by start o x c ok slots n few (parts_hung n) (first_event (memories_at o) o x)
+      (hang_by start o x c ok slots n few (parts_hung n) (first_break_from (memories_at o) o x)
       (first_within x (memories_at o) o) refl)

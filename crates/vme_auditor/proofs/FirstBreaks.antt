@@ -11,13 +11,13 @@ use Rattle.vme_trace.specs.declared.step.Step.{Step}
 use Rattle.vme_trace.specs.declared.verdict.Break.{Break}
 use Rattle.vme_trace.specs.declared.verdict.Verdict.TheVariants.{Broken, Unreadable}
 use Rattle.vme_monitor.specs.BothMonitors.{least, least_joined, sooner}
-use Rattle.vme_monitor.specs.Outcome.{EventWithin, earlier, shifted_break}
+use Rattle.vme_monitor.specs.Outcome.{BreakWithin, earlier, shifted_break}
 use Rattle.vme_monitor.specs.RuleMonitors.{run_within}
 use Rattle.vme_monitor.specs.Run.{break_at}
 use Rattle.vme_monitor.specs.declared.mark.Fault.{Fault}
 use Rattle.vme_audit.specs.Parts.{named_break}
 use Rattle.vme_summary.specs.Runs.{acknowledge_run, grant_run, handshake_run, known_run, stability_run}
-use Rattle.vme_auditor.specs.FirstEvent.{first_event}
+use Rattle.vme_auditor.specs.FirstBreak.{first_break_from}
 use Rattle.vme_auditor.specs.Memories.{acknowledge_at, comes_before, fault_at, first_fault, first_fault_of, grant_at}
 use Rattle.vme_auditor.specs.Memories.{handshake_at, known_at, memories_next, stability_at}
 use Rattle.vme_auditor.specs.declared.memories.Memories.{Memories}
@@ -29,24 +29,24 @@ first_at time f = option_map (break_at 1 time) f
 abbrev later : Option Break → Option Break
 later e = option_map (shifted_break 1) e
 
-fault_within : (n time : ℕ) (f : Option Fault) → EventWithin (suc n) (first_at time f)
+fault_within : (n time : ℕ) (f : Option Fault) → BreakWithin (suc n) (first_at time f)
 fault_within n time None = tt
 fault_within n time (Some f) = (omega arith, omega arith)
 
-later_within : (n : ℕ) (e : Option Break) → EventWithin n e → EventWithin (suc n) (later e)
+later_within : (n : ℕ) (e : Option Break) → BreakWithin n e → BreakWithin (suc n) (later e)
 later_within n None w = tt
 later_within n (Some b) w = (omega arith, omega arith)
 
-earlier_within : (n : ℕ) (a b : Option Break) → EventWithin n a → EventWithin n b → EventWithin n (earlier a b)
+earlier_within : (n : ℕ) (a b : Option Break) → BreakWithin n a → BreakWithin n b → BreakWithin n (earlier a b)
 earlier_within n None b p q = q
 earlier_within n (Some a) b p q = p
 
-least_within : (n : ℕ) (a b : Option Break) → EventWithin n a → EventWithin n b → EventWithin n (least a b)
+least_within : (n : ℕ) (a b : Option Break) → BreakWithin n a → BreakWithin n b → BreakWithin n (least a b)
 least_within n None b p q = q
 least_within n (Some a) None p q = p
 least_within n (Some a) (Some b) p q = chosen (sooner b a)
   where
-    chosen : (t : Bool) → EventWithin n (cond t (Some b) (Some a))
+    chosen : (t : Bool) → BreakWithin n (cond t (Some b) (Some a))
     chosen true = q
     chosen false = p
 
@@ -63,7 +63,7 @@ faults_least time (Some f) (Some g) = chosen (comes_before g f)
     chosen false = refl
 
 -- the least of what two find at a step and behind it
-least_stepped : (k time : ℕ) (f g : Option Fault) (c d : Option Break) → EventWithin k c → EventWithin k d
+least_stepped : (k time : ℕ) (f g : Option Fault) (c d : Option Break) → BreakWithin k c → BreakWithin k d
     → least (earlier (first_at time f) (later c)) (earlier (first_at time g) (later d))
     ≡ earlier (first_at time (first_fault f g)) (later (least c d))
 least_stepped k time f g c d p q =
@@ -73,14 +73,14 @@ least_stepped k time f g c d p q =
 -- what all five find of some steps
 abbrev pub least_event : Memories → Levels → List Step → Option Break
 least_event m o x =
-    least (known_run m.known o x).event
-    (least (handshake_run m.handshake o x).event
-    (least (stability_run m.stability o x).event
-    (least (grant_run m.grant o x).event (acknowledge_run m.acknowledge o x).event)))
+    least (known_run m.known o x).first_break
+    (least (handshake_run m.handshake o x).first_break
+    (least (stability_run m.stability o x).first_break
+    (least (grant_run m.grant o x).first_break (acknowledge_run m.acknowledge o x).first_break)))
 
 module _ (k time : ℕ) where
-  five_stepped : (f g h i j : Option Fault) (a b c d e : Option Break) → EventWithin k a → EventWithin k b
-      → EventWithin k c → EventWithin k d → EventWithin k e
+  five_stepped : (f g h i j : Option Fault) (a b c d e : Option Break) → BreakWithin k a → BreakWithin k b
+      → BreakWithin k c → BreakWithin k d → BreakWithin k e
       → least (earlier (first_at time f) (later a))
       (least (earlier (first_at time g) (later b))
       (least (earlier (first_at time h) (later c))
@@ -97,8 +97,8 @@ module _ (k time : ℕ) where
       (least_within k b (least c (least d e)) q (least_within k c (least d e) r (least_within k d e s t))) in
       rw (last, third, second, first) refl
 
-pub runs_first : (x : List Step) (m : Memories) (o : Levels) → least_event m o x ≡ first_event m o x
-unfolding first_event known_run handshake_run stability_run grant_run acknowledge_run
+pub runs_first : (x : List Step) (m : Memories) (o : Levels) → least_event m o x ≡ first_break_from m o x
+unfolding first_break_from known_run handshake_run stability_run grant_run acknowledge_run
 runs_first [] m o = refl
 runs_first (s ∷ x) m o =
     let after = changed o s.changes in
@@ -106,23 +106,23 @@ runs_first (s ∷ x) m o =
     five_stepped (length x) s.time (known_at m.known o after s.changes).fault
     (handshake_at m.handshake o after s.changes).fault (stability_at m.stability o after s.changes).fault
     (grant_at m.grant o after s.changes).fault (acknowledge_at m.acknowledge o after s.changes).fault
-    (known_run next.known after x).event (handshake_run next.handshake after x).event
-    (stability_run next.stability after x).event (grant_run next.grant after x).event
-    (acknowledge_run next.acknowledge after x).event (run_within known_at x next.known after).0
+    (known_run next.known after x).first_break (handshake_run next.handshake after x).first_break
+    (stability_run next.stability after x).first_break (grant_run next.grant after x).first_break
+    (acknowledge_run next.acknowledge after x).first_break (run_within known_at x next.known after).0
     (run_within handshake_at x next.handshake after).0 (run_within stability_at x next.stability after).0
     (run_within grant_at x next.grant after).0 (run_within acknowledge_at x next.acknowledge after).0
     ∙ ap (λ e. earlier (fault_at m o after s.changes 1 s.time) (later e)) (runs_first x next after)
 
 -- it is at one of the instants
-pub first_within : (x : List Step) (m : Memories) (o : Levels) → EventWithin (length x) (first_event m o x)
-unfolding first_event
+pub first_within : (x : List Step) (m : Memories) (o : Levels) → BreakWithin (length x) (first_break_from m o x)
+unfolding first_break_from
 first_within [] m o = tt
 first_within (s ∷ x) m o =
     let after = changed o s.changes in
     let next = memories_next m o after s.changes in
-    earlier_within (suc (length x)) (fault_at m o after s.changes 1 s.time) (later (first_event next after x))
+    earlier_within (suc (length x)) (fault_at m o after s.changes 1 s.time) (later (first_break_from next after x))
     (fault_within (length x) s.time (first_fault_of m o after s.changes))
-    (later_within (length x) (first_event next after x) (first_within x next after))
+    (later_within (length x) (first_break_from next after x) (first_within x next after))
 
 -- the break that a verdict names is the least
 pub named_on : (found : Option Break) → named_break (verdict_on found) ≡ found

@@ -11,7 +11,7 @@ use Rattle.vme_trace.specs.Trace.{changed, levels_at}
 use Rattle.vme_trace.specs.WellFormed.{malformed_step}
 use Rattle.vme_trace.specs.declared.step.Step.{Step}
 use Rattle.vme_trace.specs.declared.verdict.Break.{Break}
-use Rattle.vme_monitor.specs.Outcome.{EventWithin, earlier, shifted_break}
+use Rattle.vme_monitor.specs.Outcome.{BreakWithin, earlier, shifted_break}
 use Rattle.vme_monitor.specs.OverStretches.{has_started}
 use Rattle.vme_monitor.specs.Run.{break_at}
 use Rattle.vme_monitor.specs.Whole.{has_span}
@@ -20,7 +20,7 @@ use Rattle.vme_audit.specs.Covered.{has_stretch, is_judged_part}
 use Rattle.vme_audit.specs.Parts.{Part, last_from, own_break, part_behind, parts_from}
 use Rattle.vme_auditor.specs.Audited.{AuditReached, with_step}
 use Rattle.vme_auditor.specs.Breaks.{last_instant_of}
-use Rattle.vme_auditor.specs.FirstEvent.{first_event}
+use Rattle.vme_auditor.specs.FirstBreak.{first_break_from}
 use Rattle.vme_auditor.specs.Memories.{first_fault_of, memories_at, memories_next}
 use Rattle.vme_auditor.specs.declared.memories.Memories.{Memories}
 use Rattle.vme_auditor.proofs.AskedParts.{KnowsStart, known_left, quiet_memories}
@@ -67,17 +67,17 @@ module _ (m : Memories) (o : Levels) (s : Step) (x : List Step) where
   to_later (Some b) = rw (add-one b.instant, levels_next o s x b.instant) refl
 
   to_stepped : (f : Option Fault) (time : ℕ) → memories_from next after x
-      ≡ memories_to next after x (first_event next after x)
+      ≡ memories_to next after x (first_break_from next after x)
       → memories_from (memories_behind f after next) after x
       ≡ memories_to m o (s ∷ x)
-      (earlier (option_map (break_at 1 time) f) (option_map (shifted_break 1) (first_event next after x)))
+      (earlier (option_map (break_at 1 time) f) (option_map (shifted_break 1) (first_break_from next after x)))
   unfolding levels_at quiet_memories
-  to_stepped None time so_far = so_far ∙ to_later (first_event next after x)
+  to_stepped None time so_far = so_far ∙ to_later (first_break_from next after x)
   to_stepped (Some f) time so_far = refl
 
 memories_first : (x : List Step) (m : Memories) (o : Levels) → memories_from m o x
-    ≡ memories_to m o x (first_event m o x)
-unfolding memories_from quiet_memories first_event
+    ≡ memories_to m o x (first_break_from m o x)
+unfolding memories_from quiet_memories first_break_from
 memories_first [] m o = refl
 memories_first (s ∷ x) m o =
     to_stepped m o s x (first_fault_of m o (changed o s.changes) s.changes) s.time
@@ -105,7 +105,7 @@ module _ (finds : FindsFirst) (starts : KnowsStart) where
         ap has_started (known_left x (memories_at o) o) ∙ starts (recorded o x) ok few
         ∙ same_started (judged_spans (recorded o x))
 
-    judged_by : (n : ℕ) → length x ≤ suc n → AreJudged n → (found : Option Break) → EventWithin (length x) found
+    judged_by : (n : ℕ) → length x ≤ suc n → AreJudged n → (found : Option Break) → BreakWithin (length x) found
         → has_started (memories_to (memories_at o) o x found).known
         ≡ is_judged_part (last_from here (option_map_or (λ b. parts_from n (part_behind here b)) found []))
     judged_by n short judged None w = judged_last
@@ -117,12 +117,12 @@ module _ (finds : FindsFirst) (starts : KnowsStart) where
         ∙ ap is_judged_part (sym (last_behind n here (part_behind here b)))
 
   pub parts_judged : (n : ℕ) → AreJudged n
-  unfolding parts_from own_break first_event memories_from quiet_memories
+  unfolding parts_from own_break first_break_from memories_from quiet_memories
   parts_judged zero start o [] short ok few = judged_last start o [] ok few
   parts_judged zero start o (s ∷ x) short ok few = absurd (omega arith)
   parts_judged (suc n) start o x short ok few =
       rw (finds (recorded o x) ok few, memories_first x (memories_at o) o)
-      (judged_by start o x ok few n short (parts_judged n) (first_event (memories_at o) o x)
+      (judged_by start o x ok few n short (parts_judged n) (first_break_from (memories_at o) o x)
       (first_within x (memories_at o) o))
 
 -- the instant of the last break is that of the last one told

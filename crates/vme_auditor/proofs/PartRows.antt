@@ -111,20 +111,22 @@ alike : (xs ys zs : List Row) → xs ≡ ys → CountAlike ys zs → CountAlike 
 alike xs ys zs e a = record { counted = ap counts_of_rows e ∙ a.counted; hangs = ap hanging e ∙ a.hangs }
 
 -- the rows of a part, by what is judged, its break and its marks
-rows_alike : (v : Levels) (started : Bool) (event : Option Break) (ms : List Mark)
+rows_alike : (v : Levels) (started : Bool) (first_break : Option Break) (ms : List Mark)
     → (started ≡ false → ms ≡ [])
-    → CountAlike (filter is_told (listed v started event ms)) (marked_rows None (marks_listed event ms))
-rows_alike v true event ms silent =
-    let rows = marked_rows None (opening_marks v ++ marks_listed event ms) in
-    alike (filter is_told (rows ++ row.Verdict (outcome_of event) ∷ [])) rows (marked_rows None (marks_listed event ms))
-    (filter-append is_told rows (row.Verdict (outcome_of event) ∷ [])
-    ∙ append-nil (filter is_told rows) ∙ no_verdict (opening_marks v ++ marks_listed event ms) None)
-    (opening_uncounted v (marks_listed event ms))
-rows_alike v false event ms silent =
+    → CountAlike (filter is_told (listed v started first_break ms)) (marked_rows None (marks_listed first_break ms))
+rows_alike v true first_break ms silent =
+    let rows = marked_rows None (opening_marks v ++ marks_listed first_break ms) in
+    alike (filter is_told (rows ++ row.Verdict (outcome_of first_break) ∷ [])) rows
+    (marked_rows None (marks_listed first_break ms))
+    (filter-append is_told rows (row.Verdict (outcome_of first_break) ∷ [])
+    ∙ append-nil (filter is_told rows) ∙ no_verdict (opening_marks v ++ marks_listed first_break ms) None)
+    (opening_uncounted v (marks_listed first_break ms))
+rows_alike v false first_break ms silent =
     let none = silent refl in
-    subst (λ (ms : List Mark). CountAlike [] (marked_rows None (marks_listed event ms))) (sym none) (no_rows event)
+    subst (λ (ms : List Mark). CountAlike [] (marked_rows None (marks_listed first_break ms))) (sym none)
+    (no_rows first_break)
   where
-    no_rows : (event : Option Break) → CountAlike [] (marked_rows None (marks_listed event []))
+    no_rows : (first_break : Option Break) → CountAlike [] (marked_rows None (marks_listed first_break []))
     no_rows None = record { counted = refl; hangs = refl }
     no_rows (Some b) = record { counted = refl; hangs = refl }
 
@@ -138,21 +140,22 @@ ShowsMarks = (t : Trace) → malformed_step t ≡ None → t.opening.slots ≤ 2
     → joined_marks (memories_at t.opening) t.opening t.steps ≡ all_marks t
 
 pub part_rows : ShowsMarks → (start : ℕ) (t : Trace) → malformed_step t ≡ None → t.opening.slots ≤ 21
-    → (event : Option Break) → named_break (verdict t) ≡ event
+    → (first_break : Option Break) → named_break (verdict t) ≡ first_break
     → CountAlike (rows_of (record { start = start; trace = t }))
-    (marked_rows None (marks_listed event (joined_marks (memories_at t.opening) t.opening t.steps)))
-part_rows shows start t ok few event e =
-    let least : least_of rules_in_force t (judged_spans t) ≡ event = sym (named_is_least t) ∙ e in
-    let rows = rows_alike t.opening (has_span (judged_spans t)) event (all_marks t)
+    (marked_rows None (marks_listed first_break (joined_marks (memories_at t.opening) t.opening t.steps)))
+part_rows shows start t ok few first_break e =
+    let least : least_of rules_in_force t (judged_spans t) ≡ first_break = sym (named_is_least t) ∙ e in
+    let rows = rows_alike t.opening (has_span (judged_spans t)) first_break (all_marks t)
     (silent_unstarted t (judged_spans t)) in
     alike (rows_of (record { start = start; trace = t }))
-    (filter is_told (listed t.opening (has_span (judged_spans t)) event (all_marks t)))
-    (marked_rows None (marks_listed event (joined_marks (memories_at t.opening) t.opening t.steps)))
+    (filter is_told (listed t.opening (has_span (judged_spans t)) first_break (all_marks t)))
+    (marked_rows None (marks_listed first_break (joined_marks (memories_at t.opening) t.opening t.steps)))
     (ap (filter is_told) (sym (marked_is_listed t)
-    ∙ ap (λ (event : Option Break). listed t.opening (has_span (judged_spans t)) event (all_marks t)) least))
+    ∙ ap (λ (first_break : Option Break). listed t.opening (has_span (judged_spans t)) first_break (all_marks t))
+    least))
     (subst (λ (ms : List Mark). CountAlike
-    (filter is_told (listed t.opening (has_span (judged_spans t)) event (all_marks t)))
-    (marked_rows None (marks_listed event ms))) (sym (shows t ok few)) rows)
+    (filter is_told (listed t.opening (has_span (judged_spans t)) first_break (all_marks t)))
+    (marked_rows None (marks_listed first_break ms))) (sym (shows t ok few)) rows)
 
 -- ---- the marks before a break
 

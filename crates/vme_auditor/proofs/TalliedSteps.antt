@@ -11,7 +11,7 @@ use Rattle.vme_trace.specs.Trace.{changed, levels_at, time_of}
 use Rattle.vme_trace.specs.declared.data.Lanes.{Lanes}
 use Rattle.vme_trace.specs.declared.step.Step.{Step}
 use Rattle.vme_trace.specs.declared.verdict.Break.{Break}
-use Rattle.vme_monitor.specs.Outcome.{EventWithin, earlier, shifted_break, shifted_mark}
+use Rattle.vme_monitor.specs.Outcome.{BreakWithin, earlier, shifted_break, shifted_mark}
 use Rattle.vme_monitor.specs.Run.{answer_kind, answered_kind, break_at, cycle_kind, kinds_of, mark_at, tenure_kind}
 use Rattle.vme_monitor.specs.Run.{when}
 use Rattle.vme_monitor.specs.declared.mark.BusGrant.{BusGrant}
@@ -23,7 +23,7 @@ use Rattle.vme_monitor.specs.declared.mark.MarkKind.TheVariants as kind
 use Rattle.vme_monitor.specs.declared.mark.StepMarks.{StepMarks}
 use Rattle.vme_monitor.specs.declared.mark.TransferAnswer.{TransferAnswer}
 use Rattle.vme_auditor.specs.Audited.{AuditReached, with_step}
-use Rattle.vme_auditor.specs.FirstEvent.{first_event}
+use Rattle.vme_auditor.specs.FirstBreak.{first_break_from}
 use Rattle.vme_auditor.specs.JoinedMarks.{joined_marks, kinds_shown}
 use Rattle.vme_auditor.specs.Memories.{first_fault_of, grant_at, handshake_at, known_at, memories_at, memories_next}
 use Rattle.vme_auditor.specs.Tallied.{at_answer, at_break, at_cycle, at_reset, at_tenure, at_transfer, counted, tallied}
@@ -239,7 +239,7 @@ module _ (m : Memories) (o : Levels) (s : Step) (x : List Step) (n : ℕ) (a : T
   more = tallied suc a (n + 1) s.time (known_at m.known o after s.changes).shown
       (grant_at m.grant o after s.changes).shown (handshake_at m.handshake o after s.changes).shown
 
-  from_later : (e : Option Break) → EventWithin (length x) e
+  from_later : (e : Option Break) → BreakWithin (length x) e
       → tally_from next after (n + 1) more x e ≡ tally_from m o n a (s ∷ x) (option_map (shifted_break 1) e)
   unfolding quiet_tally
   from_later None w = refl
@@ -249,19 +249,19 @@ module _ (m : Memories) (o : Levels) (s : Step) (x : List Step) (n : ℕ) (a : T
       rw (one_less, add-one b.instant, levels_next o s x b.instant, same) refl
 
   from_stepped : (f : Option Fault) → tally_by suc next after (n + 1) more x
-      ≡ tally_from next after (n + 1) more x (first_event next after x)
+      ≡ tally_from next after (n + 1) more x (first_break_from next after x)
       → tally_by suc (memories_behind f after next) after (n + 1)
       (tally_behind suc f a (n + 1) s.time (known_at m.known o after s.changes).shown
       (grant_at m.grant o after s.changes).shown (handshake_at m.handshake o after s.changes).shown) x
       ≡ tally_from m o n a (s ∷ x)
-      (earlier (option_map (break_at 1 s.time) f) (option_map (shifted_break 1) (first_event next after x)))
+      (earlier (option_map (break_at 1 s.time) f) (option_map (shifted_break 1) (first_break_from next after x)))
   unfolding levels_at quiet_tally
-  from_stepped None so_far = so_far ∙ from_later (first_event next after x) (first_within x next after)
+  from_stepped None so_far = so_far ∙ from_later (first_break_from next after x) (first_within x next after)
   from_stepped (Some f) so_far = refl
 
 pub tally_first : (x : List Step) (m : Memories) (o : Levels) (n : ℕ) (a : Tally) → tally_by suc m o n a x
-    ≡ tally_from m o n a x (first_event m o x)
-unfolding tally_by quiet_tally first_event
+    ≡ tally_from m o n a x (first_break_from m o x)
+unfolding tally_by quiet_tally first_break_from
 tally_first [] m o n a = refl
 tally_first (s ∷ x) m o n a =
     from_stepped m o s x n a (first_fault_of m o (changed o s.changes) s.changes)

@@ -12,7 +12,7 @@ use Rattle.vme_trace.specs.declared.step.Step.{Step}
 use Rattle.vme_trace.specs.declared.verdict.Break.{Break}
 use Rattle.vme_trace.proofs.Changing.{slots-kept}
 use Rattle.vme_trace.proofs.CutBlocks.{levels_at-taken}
-use Rattle.vme_monitor.specs.Outcome.{EventWithin, earlier, shifted_break}
+use Rattle.vme_monitor.specs.Outcome.{BreakWithin, earlier, shifted_break}
 use Rattle.vme_monitor.specs.Run.{break_at}
 use Rattle.vme_monitor.specs.declared.mark.Fault.{Fault}
 use Rattle.vme_audit.specs.Parts.{breaks, breaks_of, moved_by, named_break, own_break, part_behind, parts}
@@ -20,7 +20,7 @@ use Rattle.vme_audit.specs.Parts.{parts_from}
 use Rattle.vme_audit.specs.Parts.{rest_behind, whole}
 use Rattle.vme_summary.proofs.Sound.{sound_apart}
 use Rattle.vme_auditor.specs.Audited.{AuditReached, reached_after, reached_at, with_step}
-use Rattle.vme_auditor.specs.FirstEvent.{first_event}
+use Rattle.vme_auditor.specs.FirstBreak.{first_break_from}
 use Rattle.vme_auditor.specs.Memories.{fault_at, first_fault_of, memories_at, memories_next}
 use Rattle.vme_auditor.specs.declared.memories.Memories.{Memories}
 use Rattle.vme_auditor.proofs.FirstBreaks.{first_within}
@@ -95,17 +95,17 @@ module _ (o : Levels) (s : Step) (x : List Step) (n : ℕ) where
 
   -- where what is told behind a step is so
   first_stepped : (f : Option Fault) (m : Memories) → told_by m after (n + 1) x
-      ≡ told_behind after (n + 1) x (first_event m after x)
+      ≡ told_behind after (n + 1) x (first_break_from m after x)
       → option_to_list (option_map (break_at (n + 1) s.time) f)
       ++ told_by (memories_behind f after m) after (n + 1) x ≡ told_behind o n (s ∷ x)
-      (earlier (option_map (break_at 1 s.time) f) (option_map (shifted_break 1) (first_event m after x)))
+      (earlier (option_map (break_at 1 s.time) f) (option_map (shifted_break 1) (first_break_from m after x)))
   unfolding levels_at
-  first_stepped None m so_far = so_far ∙ behind_later o n s x (first_event m after x)
+  first_stepped None m so_far = so_far ∙ behind_later o n s x (first_break_from m after x)
   first_stepped (Some f) m so_far = refl
 
 told_first : (x : List Step) (m : Memories) (o : Levels) (n : ℕ) → told_by m o n x
-    ≡ told_behind o n x (first_event m o x)
-unfolding told_by first_event
+    ≡ told_behind o n x (first_break_from m o x)
+unfolding told_by first_break_from
 told_first [] m o n = refl
 told_first (s ∷ x) m o n =
     let after = changed o s.changes in
@@ -130,7 +130,7 @@ rest_sound t j ok =
 -- monitors find what a verdict names
 abbrev pub FindsFirst : Type 0
 FindsFirst = (t : Trace) → malformed_step t ≡ None → t.opening.slots ≤ 21
-    → named_break (verdict t) ≡ first_event (memories_at t.opening) t.opening t.steps
+    → named_break (verdict t) ≡ first_break_from (memories_at t.opening) t.opening t.steps
 
 module _ (finds : FindsFirst) where
   -- the breaks of a part and of those behind it, where they are those that are told
@@ -139,7 +139,7 @@ module _ (finds : FindsFirst) where
       → o.slots ≤ 21 → breaks_of (parts_from n (record { start = start; trace = recorded o x })) ≡ told_anew o start x
 
   breaks_behind : (n start : ℕ) (o : Levels) (x : List Step) → length x ≤ suc n → malformed_step (recorded o x) ≡ None
-      → o.slots ≤ 21 → AreTold n → (e : Option Break) → EventWithin (length x) e
+      → o.slots ≤ 21 → AreTold n → (e : Option Break) → BreakWithin (length x) e
       → option_to_list (option_map (moved_by start) e) ++ breaks_of (option_map_or
       (λ b. parts_from n (part_behind (record { start = start; trace = recorded o x }) b)) e [])
       ≡ told_behind o start x e
@@ -152,13 +152,13 @@ module _ (finds : FindsFirst) where
       (subst (λ k. k ≤ 21) (sym (rest_slots (recorded o x) b.instant)) slots))
 
   breaks_told : (n : ℕ) → AreTold n
-  unfolding parts_from own_break first_event
+  unfolding parts_from own_break first_break_from
   breaks_told zero start o [] few ok slots =
       rw (finds (recorded o []) ok slots) (sym (told_first [] (memories_at o) o start))
   breaks_told zero start o (s ∷ x) few ok slots = absurd (omega arith)
   breaks_told (suc n) start o x few ok slots =
       rw (finds (recorded o x) ok slots, told_first x (memories_at o) o start)
-      (breaks_behind n start o x few ok slots (breaks_told n) (first_event (memories_at o) o x)
+      (breaks_behind n start o x few ok slots (breaks_told n) (first_break_from (memories_at o) o x)
       (first_within x (memories_at o) o))
 
   -- an audit tells the breaks

@@ -2,7 +2,7 @@ pub mod Audited
 pub mod Breaks
 pub mod Events
 pub mod Findings
-pub mod FirstEvent
+pub mod FirstBreak
 pub mod Growth
 pub mod JoinedMarks
 pub mod Memories

@@ -16,7 +16,7 @@ ghost use Rattle.vme_audit.specs.declared.outcome.CoverageGap.TheVariants as gap
 ghost use Rattle.vme_audit.specs.declared.outcome.Outcome.TheVariants as audited;
 ghost use Rattle.vme_listing.specs.Recorded.{recorded_rows};
 ghost use Rattle.vme_summary.specs.AllShown.{all_marks};
-ghost use Rattle.vme_auditor.specs.FirstEvent.{first_event};
+ghost use Rattle.vme_auditor.specs.FirstBreak.{first_break_from};
 ghost use Rattle.vme_auditor.specs.JoinedMarks.{joined_marks};
 ghost use Rattle.vme_auditor.specs.Memories.{memories_at};
 
@@ -29,7 +29,7 @@ use vme_stability::stability::stability_over_recordings;
 /// The first break of a recording, step by step, is the one that its verdict names.
 pub fn first_break_is_found()
     ensures { (t : Trace) → malformed_step t ≡ None → t.opening.slots ≤ 21
-        → named_break (verdict t) ≡ first_event (memories_at t.opening) t.opening t.steps }
+        → named_break (verdict t) ≡ first_break_from (memories_at t.opening) t.opening t.steps }
 {
     known_over_recordings();
     handshake_over_recordings();

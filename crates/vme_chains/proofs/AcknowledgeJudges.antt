@@ -19,7 +19,7 @@ use Rattle.vme_monitor.specs.Run.{break_at, machine_step, nothing, run_of}
 use Rattle.vme_monitor.specs.OverStretches.{observed, phase_step, start_in}
 use Rattle.vme_monitor.specs.Whole.{FindsLeast, ShowsAll}
 use Rattle.vme_monitor.specs.declared.mark.Next.{Next}
-use Rattle.vme_monitor.proofs.OwnRules.{own_event, own_marks}
+use Rattle.vme_monitor.proofs.OwnRules.{own_first_break, own_marks}
 use Rattle.vme_monitor.proofs.SpanFacts.{IsSpan}
 use Rattle.vme_monitor.proofs.Alongside.{levels_step, changes_fit, memory_early}
 use Rattle.vme_chains.specs.AcknowledgeRules.{acknowledge_begin, acknowledge_end_fault, acknowledge_next}
@@ -181,11 +181,12 @@ module _ (t : Trace) (span : Stretch) (ok : malformed_step t ≡ None) (few : t.
   acknowledge_inside n from before within = fault_is n from before within (memory_at n)
       (holds_at n from (omega arith) (omega arith))
 
-pub acknowledge_event : FindsLeast
+pub acknowledge_first_break : FindsLeast
     (run_of (machine_step (observed acknowledge_observation) (phase_step acknowledge_begin acknowledge_start_marks
     nothing (λ l. None)
     acknowledge_next))) (start_in acknowledge_begin) acknowledge_rules
-acknowledge_event = own_event acknowledge_begin acknowledge_start_marks acknowledge_observation acknowledge_next
+acknowledge_first_break = own_first_break acknowledge_begin acknowledge_start_marks acknowledge_observation
+    acknowledge_next
     acknowledge_rules
     refl (λ t span ok few facts n from before within unbroken. acknowledge_inside t span ok few facts n from before
     within)

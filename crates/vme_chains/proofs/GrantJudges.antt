@@ -19,7 +19,7 @@ use Rattle.vme_monitor.specs.Run.{break_at, machine_step, run_of, nothing, quiet
 use Rattle.vme_monitor.specs.OverStretches.{observed, phase_step, start_in}
 use Rattle.vme_monitor.specs.Whole.{FindsLeast, ShowsAll}
 use Rattle.vme_monitor.specs.declared.mark.BusGrant.{BusGrant}
-use Rattle.vme_monitor.proofs.OwnRules.{own_event, own_marks}
+use Rattle.vme_monitor.proofs.OwnRules.{own_first_break, own_marks}
 use Rattle.vme_monitor.proofs.Alongside.{levels_step, changes_fit, memory_early}
 use Rattle.vme_chains.specs.GrantLevels.{falls_between, rises_between, is_low_in, grant_begins, requested_in}
 use Rattle.vme_chains.specs.GrantLevels.{taken_between, touches_arbitration, is_cycle_unowned, is_ungranted}
@@ -252,11 +252,11 @@ module _ (t : Trace) (span : Stretch) (few : t.opening.slots ≤ 21) where
           }
       alike same judged x y falls rises o a b c = rw (a, b, c) refl
 
-pub grant_event : FindsLeast
+pub grant_first_break : FindsLeast
     (run_of (machine_step (observed grant_observation)
     (phase_step grant_begin grant_start_marks nothing (λ l. None) grant_next)))
     (start_in grant_begin) grant_rules
-grant_event = own_event grant_begin grant_start_marks grant_observation grant_next grant_rules refl
+grant_first_break = own_first_break grant_begin grant_start_marks grant_observation grant_next grant_rules refl
     (λ t span ok few facts n from before within unbroken. grant_inside t span few ok n from before within)
 
 pub grant_marks : ShowsAll

@@ -349,8 +349,8 @@ impl Rules for AcknowledgeRules {
 /// AS* isn't low or neither data strobe is (I2), or after DTACK* answered in the cycle (I3).
 pub type Iack = RuleMonitor<AcknowledgeRules>;
 
-/// Over a whole recording, the event is the least break of I1, I2 and I3, and there are no marks.
+/// Over a whole recording, the first break is the least break of I1, I2 and I3, and there are no marks.
 pub fn acknowledge_over_recordings()
-    ensures event { FindsLeast ⟦<Iack as Monitor>⟧.run ⟦<Iack as Monitor>⟧.begin acknowledge_rules }
+    ensures first_break { FindsLeast ⟦<Iack as Monitor>⟧.run ⟦<Iack as Monitor>⟧.begin acknowledge_rules }
     ensures marks { ShowsAll ⟦<Iack as Monitor>⟧.run ⟦<Iack as Monitor>⟧.begin nothing acknowledge_shown }
 {}

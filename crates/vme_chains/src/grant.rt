@@ -231,9 +231,9 @@ impl Rules for GrantRules {
 /// The monitor of grants and tenures.
 pub type Grant = RuleMonitor<GrantRules>;
 
-/// Over a whole recording, the event is the least break of the rules G1 to G5 and B1 to B4, and the marks are the
+/// Over a whole recording, the first break is the least break of the rules G1 to G5 and B1 to B4, and the marks are the
 /// tenures: one that is open at the start, each start with its level and slot, and each end.
 pub fn grants_over_recordings()
-    ensures event { FindsLeast ⟦<Grant as Monitor>⟧.run ⟦<Grant as Monitor>⟧.begin grant_rules }
+    ensures first_break { FindsLeast ⟦<Grant as Monitor>⟧.run ⟦<Grant as Monitor>⟧.begin grant_rules }
     ensures marks { ShowsAll ⟦<Grant as Monitor>⟧.run ⟦<Grant as Monitor>⟧.begin nothing tenures_shown }
 {}

@@ -12,11 +12,11 @@
 //!
 //! Over every recording, also where other rules are broken:
 //!
-//! - [`grant::grants_over_recordings`]: the event is the least break of the nine rules of grants
-//!   and tenures (`event`). The marks are the tenures: an open one at the start, each start with
+//! - [`grant::grants_over_recordings`]: the first break is the least break of the nine rules of grants
+//!   and tenures (`first_break`). The marks are the tenures: an open one at the start, each start with
 //!   its level and slot, and each end (`marks`).
-//! - [`acknowledge::acknowledge_over_recordings`]: the event is the least break of I1 to I3
-//!   (`event`), and there are no marks (`marks`).
+//! - [`acknowledge::acknowledge_over_recordings`]: the first break is the least break of I1 to I3
+//!   (`first_break`), and there are no marks (`marks`).
 //!
 //! I4 and I5, of an acknowledge cycle's transfers, are rules of vme_dtb.
 //!

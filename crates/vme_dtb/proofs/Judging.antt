@@ -32,7 +32,7 @@ use Rattle.vme_monitor.specs.declared.mark.Next.{Next}
 use Rattle.vme_monitor.specs.declared.tracking.Pending.{Pending}
 use Rattle.vme_monitor.specs.declared.tracking.Pending.TheVariants.{Closed, Reading, Writing, Answered}
 use Rattle.vme_monitor.proofs.LeastLines.{least_answer}
-use Rattle.vme_monitor.proofs.OwnRules.{own_event, own_marks}
+use Rattle.vme_monitor.proofs.OwnRules.{own_first_break, own_marks}
 use Rattle.vme_monitor.proofs.SpanFacts.{IsSpan}
 use Rattle.vme_dtb.specs.Edge.{cycle_start_of, edges_between}
 use Rattle.vme_dtb.specs.Machine.{answer_in, answered_in, cycle_faults, cycle_rules, dtb_begin, dtb_end_fault, dtb_next}
@@ -191,12 +191,12 @@ module _ (t : Trace) (span : Stretch) where
     and_false (strobes_high t span.start),
   ) refl
 
-pub dtb_event : FindsLeast
+pub dtb_first_break : FindsLeast
     (run_of (machine_step (observed dtb_observation) (phase_step dtb_begin dtb_start_marks nothing (λ l. None)
     dtb_step))) (start_in dtb_begin)
     handshake_rules
-dtb_event =
-    own_event dtb_begin dtb_start_marks dtb_observation dtb_step handshake_rules refl
+dtb_first_break =
+    own_first_break dtb_begin dtb_start_marks dtb_observation dtb_step handshake_rules refl
     (λ t span ok few facts n from before within unbroken. dtb_inside t span facts n from before
     (memory_at t span facts n) (holds_at t span facts n from (omega (arith, before))))
 

@@ -439,13 +439,13 @@ impl Rules for HandshakeRules {
 
 /// The monitor of the handshake and of the answers that cycles admit.
 ///
-/// Over a whole recording its event is the least break of the rules H1 to H8, C1, C2, I4 and I5;
+/// Over a whole recording its first break is the least break of the rules H1 to H8, C1, C2, I4 and I5;
 /// [`handshake_over_recordings`] says so.
 pub type Dtb = RuleMonitor<HandshakeRules>;
 
-/// Over a whole recording, the event is the least break of H1 to H8, C1, C2, I4 and I5, and the marks are the starts
-/// and ends of cycles, and the starts, answers and closes of transfers.
+/// Over a whole recording, the first break is the least break of H1 to H8, C1, C2, I4 and I5, and the marks are the
+/// starts and ends of cycles, and the starts, answers and closes of transfers.
 pub fn handshake_over_recordings()
-    ensures event { FindsLeast ⟦<Dtb as Monitor>⟧.run ⟦<Dtb as Monitor>⟧.begin handshake_rules }
+    ensures first_break { FindsLeast ⟦<Dtb as Monitor>⟧.run ⟦<Dtb as Monitor>⟧.begin handshake_rules }
     ensures marks { ShowsAll ⟦<Dtb as Monitor>⟧.run ⟦<Dtb as Monitor>⟧.begin nothing handshake_shown }
 {}

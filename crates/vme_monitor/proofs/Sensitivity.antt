@@ -23,7 +23,7 @@ earlier-none (Some x) = refl
 -- a step that leaves the memory and shows nothing
 pub extended_quiet : {P : Type 0} (n time : ℕ) (a : Outcome P) (next : Next P) → next ≡ quiet a.leaving
     → extended a (outcome_at n time next) ≡ a
-extended_quiet n time a next e = rw (e, earlier-none a.event, append-nil a.marks) refl
+extended_quiet n time a next e = rw (e, earlier-none a.first_break, append-nil a.marks) refl
 
 module _ {P S : Type 0} (observation : Levels → Levels → List Change → Option S) (next : P → Levels → Levels → S
     → Next P) (sensitivity : P → ℕ) (threshold : S → ℕ)

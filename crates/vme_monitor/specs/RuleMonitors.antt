@@ -7,7 +7,7 @@ use Rattle.vme_trace.specs.declared.step.Change.{Change}
 use Rattle.vme_trace.specs.declared.step.Step.{Step}
 use Rattle.vme_trace.specs.declared.verdict.Break.{Break}
 use Rattle.vme_monitor.specs.declared.mark.Fault.{Fault}
-use Rattle.vme_monitor.specs.Outcome.{Outcome, StandsFor, EventWithin, MarksWithin, IsWithin, earlier, followed}
+use Rattle.vme_monitor.specs.Outcome.{Outcome, StandsFor, BreakWithin, MarksWithin, IsWithin, earlier, followed}
 use Rattle.vme_monitor.specs.Outcome.{shifted_break, shifted_mark}
 use Rattle.vme_monitor.specs.Run.{run_of, extended, break_at, mark_at, kinds_of}
 use Rattle.vme_monitor.specs.Walk.{later, later_break, later_mark, later_outcome}
@@ -15,17 +15,17 @@ use Rattle.vme_monitor.specs.declared.mark.MarkKind.{MarkKind}
 use Rattle.vme_monitor.specs.declared.mark.Mark.{Mark}
 use Rattle.vme_monitor.specs.declared.mark.Next.{Next}
 
-event_earlier : (n : ℕ) (a b : Option Break) → EventWithin n a → EventWithin n b → EventWithin n (earlier a b)
-event_earlier n None b p q = q
-event_earlier n (Some x) b p q = p
+break_earlier : (n : ℕ) (a b : Option Break) → BreakWithin n a → BreakWithin n b → BreakWithin n (earlier a b)
+break_earlier n None b p q = q
+break_earlier n (Some x) b p q = p
 
-event_at : (n time : ℕ) (f : Option Fault) → EventWithin (suc n) (option_map (break_at 1 time) f)
-event_at n time None = tt
-event_at n time (Some f) = (omega arith, omega arith)
+break_there : (n time : ℕ) (f : Option Fault) → BreakWithin (suc n) (option_map (break_at 1 time) f)
+break_there n time None = tt
+break_there n time (Some f) = (omega arith, omega arith)
 
-event_shifted : (n : ℕ) (e : Option Break) → EventWithin n e → EventWithin (suc n) (option_map (shifted_break 1) e)
-event_shifted n None p = tt
-event_shifted n (Some b) p = (omega arith, omega arith)
+break_shifted : (n : ℕ) (e : Option Break) → BreakWithin n e → BreakWithin (suc n) (option_map (shifted_break 1) e)
+break_shifted n None p = tt
+break_shifted n (Some b) p = (omega arith, omega arith)
 
 marks_append : (n : ℕ) (a b : List Mark) → MarksWithin n a → MarksWithin n b → MarksWithin n (a ++ b)
 marks_append n [] b p q = q
@@ -47,19 +47,20 @@ run_within next (s ∷ x) p o =
     let m = next p o after s.changes in
     let r = run_of next m.memory after x in
     let w = run_within next x m.memory after in (
-      event_earlier (suc (length x)) (option_map (break_at 1 s.time) m.fault) (option_map (shifted_break 1) r.event)
-          (event_at (length x) s.time m.fault) (event_shifted (length x) r.event w.0),
+      break_earlier (suc (length x)) (option_map (break_at 1 s.time) m.fault)
+          (option_map (shifted_break 1) r.first_break)
+          (break_there (length x) s.time m.fault) (break_shifted (length x) r.first_break w.0),
       marks_append (suc (length x)) (map (mark_at 1) (kinds_of m.shown)) (map (shifted_mark 1) r.marks)
           (marks_at (length x) (kinds_of m.shown)) (marks_shifted (length x) r.marks w.1),
     )
 
-event_more : (m n : ℕ) (e : Option Break) → EventWithin m e → EventWithin (m + n) e
-event_more m n None p = tt
-event_more m n (Some b) p = (p.0, omega arith)
+break_more : (m n : ℕ) (e : Option Break) → BreakWithin m e → BreakWithin (m + n) e
+break_more m n None p = tt
+break_more m n (Some b) p = (p.0, omega arith)
 
-event_moved : (m n : ℕ) (e : Option Break) → EventWithin n e → EventWithin (m + n) (option_map (shifted_break m) e)
-event_moved m n None p = tt
-event_moved m n (Some b) p = (omega arith, omega arith)
+break_moved : (m n : ℕ) (e : Option Break) → BreakWithin n e → BreakWithin (m + n) (option_map (shifted_break m) e)
+break_moved m n None p = tt
+break_moved m n (Some b) p = (omega arith, omega arith)
 
 marks_more : (m n : ℕ) (ms : List Mark) → MarksWithin m ms → MarksWithin (m + n) ms
 marks_more m n [] p = tt
@@ -72,8 +73,8 @@ marks_moved m n (k ∷ ms) p = (omega arith, omega arith, marks_moved m n ms p.2
 pub followed_within : {P : Type 0} (m n : ℕ) (a b : Outcome P) → IsWithin m a → IsWithin n b
     → IsWithin (m + n) (followed m a b)
 followed_within m n a b p q = (
-  event_earlier (m + n) a.event (option_map (shifted_break m) b.event) (event_more m n a.event p.0)
-      (event_moved m n b.event q.0),
+  break_earlier (m + n) a.first_break (option_map (shifted_break m) b.first_break) (break_more m n a.first_break p.0)
+      (break_moved m n b.first_break q.0),
   marks_append (m + n) a.marks (map (shifted_mark m) b.marks) (marks_more m n a.marks p.1)
       (marks_moved m n b.marks q.1),
 )
@@ -82,7 +83,7 @@ followed_within m n a b p q = (
 later_sum : (m n i : ℕ) → i ≤ m → m + n < 2 ^ 32 → later n i ≡ i + n
 later_sum m n i p h = omega arith
 
-break_same : (m n : ℕ) (e : Option Break) → EventWithin m e → m + n < 2 ^ 32
+break_same : (m n : ℕ) (e : Option Break) → BreakWithin m e → m + n < 2 ^ 32
     → option_map (later_break n) e ≡ option_map (shifted_break n) e
 break_same m n None p h = refl
 break_same m n (Some b) p h = rw (later_sum m n b.instant p.1 h) refl
@@ -105,13 +106,18 @@ pub followed_same : {P : Type 0} (m n : ℕ) (a b : Outcome P) → IsWithin n b 
     → extended a (later_outcome m b) ≡ followed m a b
 followed_same m n a b q h =
     let hn : n + m < 2 ^ 32 = omega arith in
-    rw (break_same n m b.event q.0 hn, marks_same n m b.marks q.1 hn) refl
+    rw (break_same n m b.first_break q.0 hn, marks_same n m b.marks q.1 hn) refl
 
 pub extended_same : {P : Type 0} (m n : ℕ) (a b : Outcome P) → IsWithin m a → IsWithin n b → m + n < 2 ^ 32
     → extended (later_outcome 0 a) (later_outcome m b) ≡ followed m a b
 extended_same m n a b p q h =
     let h0 : m + 0 < 2 ^ 32 = omega arith in
-    rw (break_same m 0 a.event p.0 h0, marks_same m 0 a.marks p.1 h0, break_here a.event, marks_here a.marks)
+    rw (
+      break_same m 0 a.first_break p.0 h0,
+      marks_same m 0 a.marks p.1 h0,
+      break_here a.first_break,
+      marks_here a.marks,
+    )
     (followed_same m n a b q h)
 
 module _ {P : Type 0} (run : P → Levels → List Step → Outcome P) where

@@ -13,7 +13,7 @@ use Rattle.vme_monitor.specs.declared.mark.Next.{Next}
 pub record FindsFor {P : Type 0} (run : P → Levels → List Step → Outcome P) (says : P → Outcome P) (count : ℕ)
     (o : Levels) (x : List Step) : Type 0 where
   pub leaving : (p : P) → (says p).leaving ≡ (run p o x).leaving
-  pub event : (p : P) → (says p).event ≡ (run p o x).event
+  pub first_break : (p : P) → (says p).first_break ≡ (run p o x).first_break
   pub counted : count ≡ length x
 
 -- what stands for steps finds these
@@ -22,7 +22,7 @@ pub stands_finds : {P : Type 0} {run : P → Levels → List Step → Outcome P}
 stands_finds stands =
     record {
       leaving = λ p. ap (λ (r : Outcome _). r.leaving) (stands.outcomes p);
-      event = λ p. ap (λ (r : Outcome _). r.event) (stands.outcomes p);
+      first_break = λ p. ap (λ (r : Outcome _). r.first_break) (stands.outcomes p);
       counted = stands.counted;
     }
 
@@ -36,7 +36,7 @@ unmarked_step next p before after seen = unmarked_next (next p before after seen
 
 -- an outcome without its marks
 abbrev pub unmarked : {P : Type 0} → Outcome P → Outcome P
-unmarked a = record { leaving = a.leaving; event = a.event; marks = [] }
+unmarked a = record { leaving = a.leaving; first_break = a.first_break; marks = [] }
 
 -- what is below a memory's threshold leaves it as it is, without marks too
 pub unmarked_unchanged : {P S : Type 0} (next : P → Levels → Levels → S → Next P) (sensitivity : P → ℕ) (threshold : S
@@ -78,6 +78,6 @@ module _ {P S : Type 0} (observation : Levels → Levels → List Change → Opt
   unmarked_finds says count o x stands =
       record {
         leaving = λ p. ap (λ (r : Outcome P). r.leaving) (stands.outcomes p ∙ unmarked_run x p o);
-        event = λ p. ap (λ (r : Outcome P). r.event) (stands.outcomes p ∙ unmarked_run x p o);
+        first_break = λ p. ap (λ (r : Outcome P). r.first_break) (stands.outcomes p ∙ unmarked_run x p o);
         counted = stands.counted;
       }

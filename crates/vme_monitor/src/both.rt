@@ -58,7 +58,7 @@ fn mark_lt(a: &Mark, b: &Mark) -> bool
     a.instant < b.instant || (a.instant == b.instant && i < j)
 }
 
-/// The sooner of two events.
+/// The sooner of two breaks.
 pub fn least(first: Option<Break>, second: Option<Break>) -> Option<Break>
     ensures { result ≡ least_of first second }
 {
@@ -284,10 +284,10 @@ impl<M: Monitor, N: Monitor> Monitor for Both<M, N> {
     }
 }
 
-/// Over a whole recording, the event of both monitors is the least break of the rules of both, and their marks are what
-/// both show.
+/// Over a whole recording, the first break of both monitors is the least break of the rules of both, and their marks
+/// are what both show.
 pub fn both_over_recordings<M: Monitor, N: Monitor>()
-    ensures event { (rs qs all : List Rule) → AreJoined rs qs all → FindsLeast M.run M.begin rs
+    ensures first_break { (rs qs all : List Rule) → AreJoined rs qs all → FindsLeast M.run M.begin rs
         → FindsLeast N.run N.begin qs → FindsLeast ⟦<Both<M, N> as Monitor>⟧.run ⟦<Both<M, N> as Monitor>⟧.begin all }
     ensures marks { (a b : StepMarks) (f g : Trace → Stretch → ℕ → StepMarks) → AreApart a b
         → ((t : Trace) (span : Stretch) (j : ℕ) → AreApart (f t span j) (g t span j))

@@ -21,7 +21,7 @@ use vme_trace::{Break, Lanes, Line};
 /// What runs show until they meet others, and which row of the next layer they go on in.
 #[derive(Debug, Drop)]
 pub struct Link {
-    pub event: Option<Break>,
+    pub first_break: Option<Break>,
     pub marks: Vec<Mark>,
     pub next: usize,
 }
@@ -30,7 +30,7 @@ pub struct Link {
 #[derive(Debug, Drop)]
 pub struct TableRow<P> {
     pub memory: P,
-    pub event: Option<Break>,
+    pub first_break: Option<Break>,
     pub marks: Vec<Mark>,
 }
 
@@ -81,7 +81,7 @@ pub fn later_links(alloc: Global, links: &[Link], by: u32) -> Result<Vec<Link>, 
     for link in links {
         let marks = later_marks(alloc, link.marks.as_slice(), by)?;
         all.push(Link {
-            event: later_break(link.event, by),
+            first_break: later_break(link.first_break, by),
             marks,
             next: link.next,
         })?;
@@ -101,7 +101,7 @@ pub fn later_rows<P: Copy>(
         let marks = later_marks(alloc, row.marks.as_slice(), by)?;
         all.push(TableRow {
             memory: row.memory,
-            event: later_break(row.event, by),
+            first_break: later_break(row.first_break, by),
             marks,
         })?;
     }
@@ -121,7 +121,7 @@ pub fn links_to_places<P: Enumerable>(
     for row in rows {
         let marks = later_marks(alloc, row.marks.as_slice(), by)?;
         all.push(Link {
-            event: later_break(row.event, by),
+            first_break: later_break(row.first_break, by),
             marks,
             next: row.memory.place(),
         })?;
@@ -134,7 +134,7 @@ impl Link {
     fn shift_instants(&mut self, by: u32)
         ensures { link_value self.new ≡ later_link_value by (link_value self.old) }
     {
-        self.event = later_break(self.event, by);
+        self.first_break = later_break(self.first_break, by);
         shift_marks(self.marks.as_mut_slice(), by);
     }
 }
@@ -153,7 +153,7 @@ impl<P: Copy> TableRow<P> {
     fn shift_instants(&mut self, by: u32)
         ensures { outcome_of self.new ≡ later_outcome by (outcome_of self.old) }
     {
-        self.event = later_break(self.event, by);
+        self.first_break = later_break(self.first_break, by);
         shift_marks(self.marks.as_mut_slice(), by);
     }
 }
@@ -177,7 +177,7 @@ pub fn links_in<P: Enumerable>(room: Vec<Link>, rows: Vec<TableRow<P>>) -> Vec<L
     let mut links = room;
     while let Some(row) = rows.pop() {
         links.push_reserved(Link {
-            event: row.event,
+            first_break: row.first_break,
             marks: row.marks,
             next: row.memory.place(),
         });
@@ -194,7 +194,7 @@ pub fn fresh_rows<P: Copy>(alloc: Global, memories: &[P]) -> Result<Vec<TableRow
     for memory in memories {
         rows.push(TableRow {
             memory: *memory,
-            event: None,
+            first_break: None,
             marks: Vec::new(alloc),
         })?;
     }
@@ -342,8 +342,8 @@ impl<P: Copy> TableRow<P> {
             shown,
         } = next;
         if let Some(fault) = fault {
-            if self.event.is_none() {
-                self.event = Some(break_of(fault, instant, time));
+            if self.first_break.is_none() {
+                self.first_break = Some(break_of(fault, instant, time));
             }
         }
         if !shown.is_nothing() {

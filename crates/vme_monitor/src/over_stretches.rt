@@ -259,14 +259,14 @@ impl<R: Rules> Machine for OverStretches<R> {
 /// The monitor of some rules.
 pub type RuleMonitor<R> = TableMonitor<OverStretches<R>>;
 
-/// Over a whole recording, the event is the least break of the rules, and the marks are what happens in the spans and
-/// at the resets that end them, for rules that meet what is owed of each span (`Judges`, `Shows`). Within a span the
-/// memory is the inner machine's.
+/// Over a whole recording, the first break is the least break of the rules, and the marks are what happens in the spans
+/// and at the resets that end them, for rules that meet what is owed of each span (`Judges`, `Shows`). Within a span
+/// the memory is the inner machine's.
 pub fn rules_over_recordings<R: Rules>()
-    ensures event { (t : Trace) (rules : List Rule) → malformed_step t ≡ None → t.opening.slots ≤ 21
+    ensures first_break { (t : Trace) (rules : List Rule) → malformed_step t ≡ None → t.opening.slots ≤ 21
         → ((span : Stretch) → IsSpanOf t span
         → Judges (machine_step R.observation R.next) (R.begin (levels_at t span.start)) R.end_fault t span rules)
-        → (run_whole ⟦<RuleMonitor<R> as Monitor>⟧.run ⟦<RuleMonitor<R> as Monitor>⟧.begin t).event
+        → (run_whole ⟦<RuleMonitor<R> as Monitor>⟧.run ⟦<RuleMonitor<R> as Monitor>⟧.begin t).first_break
         ≡ least_of rules t (judged_spans t) }
     ensures marks { (t : Trace) (shown : Stretch → ℕ → StepMarks) → malformed_step t ≡ None → t.opening.slots ≤ 21
         → ((span : Stretch) → IsSpanOf t span

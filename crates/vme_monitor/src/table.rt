@@ -426,8 +426,8 @@ impl<P: Enumerable> Table<P> {
     }
 
     /// The first break, where this memory enters.
-    pub fn event(&self, memory: P) -> Option<Break>
-        ensures { result ≡ (outcome self.now.layers.items self.now.rows.items memory (P.place_of memory)).event }
+    pub fn first_break(&self, memory: P) -> Option<Break>
+        ensures { result ≡ (outcome self.now.layers.items self.now.rows.items memory (P.place_of memory)).first_break }
     {
         let mut k = memory.place();
         for layer in &self.layers {
@@ -435,13 +435,13 @@ impl<P: Enumerable> Table<P> {
                 return None;
             }
             let link = &layer[k];
-            if let Some(found) = link.event {
+            if let Some(found) = link.first_break {
                 return Some(found);
             }
             k = link.next;
         }
         if k < self.rows.len() {
-            self.rows[k].event
+            self.rows[k].first_break
         } else {
             None
         }

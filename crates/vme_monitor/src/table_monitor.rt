@@ -92,7 +92,7 @@ impl<M: Machine> Monitor for TableMonitor<M> {
     }
 
     fn event(summary: &Table<M::Memory>, memory: M::Memory) -> Option<Break> {
-        summary.event(memory)
+        summary.first_break(memory)
     }
 
     fn marks(

@@ -148,7 +148,7 @@ fn finds_in<M: Monitor>(
     alloc: Global,
     capture: &Capture,
     size: u32,
-    event: &Option<Break>,
+    first_break: &Option<Break>,
     marks: Option<&[Mark]>,
 ) -> Option<bool> {
     let all = whole::<M>(alloc, capture, size)?;
@@ -158,7 +158,7 @@ fn finds_in<M: Monitor>(
         Some(marks) => shown.as_slice() == marks,
         None => true,
     };
-    Some(are_shown && M::event(&all, start) == *event)
+    Some(are_shown && M::event(&all, start) == *first_break)
 }
 
 /// The sizes of blocks that are tried.
@@ -168,14 +168,14 @@ static SIZES: [u32; 5] = [1, 2, 3, 9, 65536];
 pub(crate) fn finds<M: Monitor>(
     alloc: Global,
     recording: &Recording,
-    event: Option<Break>,
+    first_break: Option<Break>,
     marks: Option<&[Mark]>,
 ) -> bool {
     let Some(capture) = capture_of(alloc, recording) else {
         return false;
     };
     for size in SIZES.iter() {
-        if !finds_in::<M>(alloc, &capture, *size, &event, marks).unwrap_or(false) {
+        if !finds_in::<M>(alloc, &capture, *size, &first_break, marks).unwrap_or(false) {
             return false;
         }
     }

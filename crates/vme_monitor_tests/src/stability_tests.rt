@@ -96,7 +96,7 @@ static RESETS: [JudgedSteps; 2] = [
 /// Whether this is found in a recording, and nothing is shown.
 fn is_judged(alloc: Global, worked: &JudgedSteps) -> bool {
     let (steps, want) = *worked;
-    let event = match want {
+    let first_break = match want {
         Some((instant, rule, name)) => match Line::from_name(name.as_bytes()) {
             Some(line) => break_of(instant, rule, line),
             None => return false,
@@ -108,7 +108,7 @@ fn is_judged(alloc: Global, worked: &JudgedSteps) -> bool {
         opening: "",
         steps,
     };
-    finds::<Stability>(alloc, &recording, event, Some(&[]))
+    finds::<Stability>(alloc, &recording, first_break, Some(&[]))
 }
 
 #[test]

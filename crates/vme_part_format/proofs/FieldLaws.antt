@@ -23,8 +23,9 @@ use Rattle.vme_part_format.specs.declared.fault.FieldFault.{FieldFault}
 use Rattle.vme_part_format.specs.declared.table.TableEntry.{TableEntry}
 use Rattle.vme_part_format.specs.declared.wide.WideBreak.{WideBreak}
 use Rattle.vme_part_format.specs.Bounds.{CanWrite, FitsBreak, FitsEntry}
-use Rattle.vme_part_format.specs.PartText.{entry_bytes, event_bytes, flag, way_bytes}
-use Rattle.vme_part_format.specs.Reading.{◌>>=◌, break_at, byte_at, entry_at, event_at, event_by, fault_at, flag_at}
+use Rattle.vme_part_format.specs.PartText.{entry_bytes, first_break_bytes, flag, way_bytes}
+use Rattle.vme_part_format.specs.Reading.{◌>>=◌, break_at, byte_at, entry_at, first_break_at, first_break_by, fault_at}
+use Rattle.vme_part_format.specs.Reading.{flag_at}
 use Rattle.vme_part_format.specs.Reading.{may_break, number_at, or_fault, read_break, way_at, way_number_at}
 
 abbrev pub IsBytes : List ℕ → Type 0
@@ -268,7 +269,7 @@ break_again steps bad b rest fits =
 
 -- the bytes of a rule's number and 1, and then of the break
 named_bytes : (b : WideBreak) (number : ℕ) → 0 < number → rule_number b.rule ≡ number - 1
-    → number ∷ break_bytes b ≡ event_bytes (Some b)
+    → number ∷ break_bytes b ≡ first_break_bytes (Some b)
 named_bytes b number some e = ap (λ (k : ℕ). k ∷ break_bytes b) (omega (arith, e))
 
 -- which way a test went
@@ -276,71 +277,72 @@ pub chosen : {A : Type 0} (b : Bool) (x y z : A) → cond b x y ≡ z → ((b �
 chosen true x y z e = inl (refl, e)
 chosen false x y z e = inr (refl, e)
 
--- what an event that was read is
-abbrev EventTaken : ℕ → List ℕ → Option WideBreak × List ℕ → Type 0
-EventTaken steps bytes x = Takes bytes (event_bytes x.0) x.1 × IfSome x.0 (FitsBreak steps)
+-- what a first break that was read is
+abbrev FirstBreakTaken : ℕ → List ℕ → Option WideBreak × List ℕ → Type 0
+FirstBreakTaken steps bytes x = Takes bytes (first_break_bytes x.0) x.1 × IfSome x.0 (FitsBreak steps)
 
-no_event : (steps number : ℕ) (bytes : List ℕ) (x : Option WideBreak × List ℕ) → IsBytes bytes → number ≡ 0
-    → (None, bytes) ≡ x → EventTaken steps (number ∷ bytes) x
-no_event steps number bytes x fits zero-is e =
-    subst (λ (n : ℕ). EventTaken steps (n ∷ bytes) x) (sym zero-is)
-    (subst (λ (y : Option WideBreak × List ℕ). EventTaken steps (0 ∷ bytes) y) e
+no_first_break : (steps number : ℕ) (bytes : List ℕ) (x : Option WideBreak × List ℕ) → IsBytes bytes → number ≡ 0
+    → (None, bytes) ≡ x → FirstBreakTaken steps (number ∷ bytes) x
+no_first_break steps number bytes x fits zero-is e =
+    subst (λ (n : ℕ). FirstBreakTaken steps (n ∷ bytes) x) (sym zero-is)
+    (subst (λ (y : Option WideBreak × List ℕ). FirstBreakTaken steps (0 ∷ bytes) y) e
     (record { parts = refl; rest_fits = fits }, tt))
 
-some_event : (steps : ℕ) (bad : FieldFault) (number : ℕ) (bytes : List ℕ) (x : Option WideBreak × List ℕ)
+some_first_break : (steps : ℕ) (bad : FieldFault) (number : ℕ) (bytes : List ℕ) (x : Option WideBreak × List ℕ)
     → IsBytes bytes → 0 < number
     → (or_fault bad (slice_get all_rules (number - 1)) >>= λ rule. break_at steps rule bad bytes) ≡ Ok x
-    → EventTaken steps (number ∷ bytes) x
-some_event steps bad number bytes x fits some e =
+    → FirstBreakTaken steps (number ∷ bytes) x
+some_first_break steps bad number bytes x fits some e =
     let a = bind_ok (or_fault bad (slice_get all_rules (number - 1))) (λ rule. break_at steps rule bad bytes) x e in
     let place : rule_number a.0 ≡ number - 1 =
     rule_numbered (number - 1) a.0 (found_ok bad (slice_get all_rules (number - 1)) a.0 a.1) in
     let r = break_takes steps a.0 bad bytes x fits a.2 in
-    let named : number ∷ break_bytes r.found ≡ event_bytes (Some r.found) =
+    let named : number ∷ break_bytes r.found ≡ first_break_bytes (Some r.found) =
     named_bytes r.found number some (ap rule_number r.of ∙ place) in
     let took : Takes (number ∷ bytes) (number ∷ break_bytes r.found) x.1 =
     record { parts = ap (λ (t : List ℕ). number ∷ t) r.taken.parts; rest_fits = r.taken.rest_fits } in
-    subst (λ (o : Option WideBreak). Takes (number ∷ bytes) (event_bytes o) x.1 × IfSome o (FitsBreak steps))
+    subst (λ (o : Option WideBreak). Takes (number ∷ bytes) (first_break_bytes o) x.1 × IfSome o (FitsBreak steps))
     (sym r.is) (subst (λ (t : List ℕ). Takes (number ∷ bytes) t x.1) named took, r.fits)
 
-event_by_takes : (steps : ℕ) (bad : FieldFault) (number : ℕ) (bytes : List ℕ) (x : Option WideBreak × List ℕ)
-    → IsBytes bytes → event_by steps bad number bytes ≡ Ok x → EventTaken steps (number ∷ bytes) x
-unfolding event_by
-event_by_takes steps bad number bytes x fits e =
+first_break_by_takes : (steps : ℕ) (bad : FieldFault) (number : ℕ) (bytes : List ℕ) (x : Option WideBreak × List ℕ)
+    → IsBytes bytes → first_break_by steps bad number bytes ≡ Ok x → FirstBreakTaken steps (number ∷ bytes) x
+unfolding first_break_by
+first_break_by_takes steps bad number bytes x fits e =
     let none : Result (Option WideBreak × List ℕ) FieldFault = Ok (None, bytes) in
     let some = or_fault bad (slice_get all_rules (number - 1)) >>= λ rule. break_at steps rule bad bytes in
     elim (chosen (eqb number 0) none some (Ok x) e) [
-      | inl h ↦ no_event steps number bytes x fits (eqb-true number 0 h.0) (ok_is (None, bytes) x h.1)
-      | inr h ↦ some_event steps bad number bytes x fits (omega (arith, eqb-false number 0 h.0)) h.1
+      | inl h ↦ no_first_break steps number bytes x fits (eqb-true number 0 h.0) (ok_is (None, bytes) x h.1)
+      | inr h ↦ some_first_break steps bad number bytes x fits (omega (arith, eqb-false number 0 h.0)) h.1
     ]
 
-pub event_takes : (steps : ℕ) (bytes : List ℕ) (x : Option WideBreak × List ℕ) → IsBytes bytes
-    → event_at steps bytes ≡ Ok x → Takes bytes (event_bytes x.0) x.1 × IfSome x.0 (FitsBreak steps)
-unfolding event_at
-event_takes steps [] x fits e = absurd cc
-event_takes steps (b ∷ bytes) x fits e =
-    event_by_takes steps (fault_at fault.BadBreak (b ∷ bytes)) b bytes x (IsBytes-rest b bytes fits) e
+pub first_break_takes : (steps : ℕ) (bytes : List ℕ) (x : Option WideBreak × List ℕ) → IsBytes bytes
+    → first_break_at steps bytes ≡ Ok x → Takes bytes (first_break_bytes x.0) x.1 × IfSome x.0 (FitsBreak steps)
+unfolding first_break_at
+first_break_takes steps [] x fits e = absurd cc
+first_break_takes steps (b ∷ bytes) x fits e =
+    first_break_by_takes steps (fault_at fault.BadBreak (b ∷ bytes)) b bytes x (IsBytes-rest b bytes fits) e
 
 pub is_false : (b : Bool) → (b ≡ true → ⊥) → b ≡ false
 is_false true h = absurd (h refl)
 is_false false h = refl
 
-event_by_again : (steps : ℕ) (bad : FieldFault) (b : WideBreak) (rest : List ℕ) → FitsBreak steps b
-    → event_by steps bad (rule_number b.rule + 1) (break_bytes b ++ rest) ≡ Ok (Some b, rest)
-unfolding event_by
-event_by_again steps bad b rest fits =
+first_break_by_again : (steps : ℕ) (bad : FieldFault) (b : WideBreak) (rest : List ℕ) → FitsBreak steps b
+    → first_break_by steps bad (rule_number b.rule + 1) (break_bytes b ++ rest) ≡ Ok (Some b, rest)
+unfolding first_break_by
+first_break_by_again steps bad b rest fits =
     let some : eqb (rule_number b.rule + 1) 0 ≡ false =
     is_false (eqb (rule_number b.rule + 1) 0)
     (λ e. omega (arith, eqb-true (rule_number b.rule + 1) 0 e)) in
     let one : rule_number b.rule + 1 - 1 ≡ rule_number b.rule = omega arith in
     rw (some, one, listed b.rule) (break_again steps bad b rest fits)
 
-pub event_again : (steps : ℕ) (o : Option WideBreak) (rest : List ℕ) → IfSome o (FitsBreak steps)
-    → event_at steps (event_bytes o ++ rest) ≡ Ok (o, rest)
-unfolding event_at event_by
-event_again steps None rest fits = refl
-event_again steps (Some b) rest fits =
-    event_by_again steps (fault_at fault.BadBreak ((rule_number b.rule + 1) ∷ (break_bytes b ++ rest))) b rest fits
+pub first_break_again : (steps : ℕ) (o : Option WideBreak) (rest : List ℕ) → IfSome o (FitsBreak steps)
+    → first_break_at steps (first_break_bytes o ++ rest) ≡ Ok (o, rest)
+unfolding first_break_at first_break_by
+first_break_again steps None rest fits = refl
+first_break_again steps (Some b) rest fits =
+    first_break_by_again steps (fault_at fault.BadBreak ((rule_number b.rule + 1) ∷ (break_bytes b ++ rest))) b rest
+    fits
 
 -- ---- where a way goes on
 
@@ -382,23 +384,27 @@ pub entry_takes : (listing : Bool) (steps ways : ℕ) (bytes : List ℕ) (x : Ta
 unfolding entry_at
 entry_takes listing steps ways bytes x fits e =
     let a = bind_ok (way_at listing ways bytes)
-    (λ next. event_at steps next.1 >>= λ event. Ok (record { next = next.0; event = event.0 }, event.1)) x e in
-    let b = bind_ok (event_at steps a.0.1) (λ event. Ok (record { next = a.0.0; event = event.0 }, event.1)) x a.2 in
+    (λ next. first_break_at steps next.1 >>= λ first_break. Ok (
+      record { next = next.0; first_break = first_break.0 },
+      first_break.1,
+    )) x e in
+    let b = bind_ok (first_break_at steps a.0.1)
+    (λ first_break. Ok (record { next = a.0.0; first_break = first_break.0 }, first_break.1)) x a.2 in
     let t0 = way_takes listing ways bytes a.0 fits a.1 in
-    let t1 = event_takes steps a.0.1 b.0 t0.0.rest_fits b.1 in
-    let t01 = Takes-then bytes (way_bytes listing a.0.0) a.0.1 (event_bytes b.0.0) b.0.1 t0.0 t1.0 in
-    let made : TableEntry × List ℕ = (record { next = a.0.0; event = b.0.0 }, b.0.1) in
+    let t1 = first_break_takes steps a.0.1 b.0 t0.0.rest_fits b.1 in
+    let t01 = Takes-then bytes (way_bytes listing a.0.0) a.0.1 (first_break_bytes b.0.0) b.0.1 t0.0 t1.0 in
+    let made : TableEntry × List ℕ = (record { next = a.0.0; first_break = b.0.0 }, b.0.1) in
     subst
     (λ (y : TableEntry × List ℕ). Takes bytes (entry_bytes listing y.0) y.1 × IsEntry listing steps ways y.0)
     (ok_is made x b.2)
-    (t01, record { fits = record { next = t0.2; event = t1.1 }; can = t0.1 })
+    (t01, record { fits = record { next = t0.2; first_break = t1.1 }; can = t0.1 })
 
 pub entry_again : (listing : Bool) (steps ways : ℕ) (e : TableEntry) (rest : List ℕ) → IsEntry listing steps ways e
     → entry_at listing steps ways (entry_bytes listing e ++ rest) ≡ Ok (e, rest)
 unfolding entry_at
 entry_again listing steps ways e rest fits =
-    ap (entry_at listing steps ways) (append_assoc (way_bytes listing e.next) (event_bytes e.event) rest)
+    ap (entry_at listing steps ways) (append_assoc (way_bytes listing e.next) (first_break_bytes e.first_break) rest)
     ∙ rw (
-      way_again listing ways e.next (event_bytes e.event ++ rest) fits.can fits.fits.next,
-      event_again steps e.event rest fits.fits.event,
+      way_again listing ways e.next (first_break_bytes e.first_break ++ rest) fits.can fits.fits.next,
+      first_break_again steps e.first_break rest fits.fits.first_break,
     ) refl

@@ -16,7 +16,7 @@ use Rattle.vme_part_format.specs.Bounds.{FitSegments, FitsPart, FitsSegment, Fit
 use Rattle.vme_monitor.specs.declared.mark.MarkKind.{MarkKind}
 use Rattle.vme_monitor.specs.declared.mark.MarkKind.TheVariants as kind
 use Rattle.vme_part_format.specs.declared.wide.WideMark.{WideMark}
-use Rattle.vme_part_format.specs.PartText.{bytes_of_width, entry_bytes, event_bytes, front_bytes, head_bytes}
+use Rattle.vme_part_format.specs.PartText.{bytes_of_width, entry_bytes, first_break_bytes, front_bytes, head_bytes}
 use Rattle.vme_part_format.specs.PartText.{kind_bytes, levels_bytes, mark_bytes, marks_bytes, spaced_bytes, width_code}
 use Rattle.vme_part_format.specs.PartText.{lines_bytes, node_bytes, packed, part_bytes, body_bytes, seen_level}
 use Rattle.vme_part_format.specs.PartText.{seen_levels}
@@ -27,18 +27,18 @@ use Rattle.vme_part_format.specs.Sums.{sum_of}
 use Rattle.vme_part_format.specs.Tables.{NodeValue, PartValue, SegmentValue, TableValue, last_of}
 use Rattle.vme_part_format.proofs.TableLaws.{written-is}
 
-event_size : (o : Option WideBreak) → length (event_bytes o) ≤ 18
-event_size None = omega arith
-event_size (Some b) = omega (arith, length-append (to_le_bytes w64 b.instant) (to_le_bytes w64 b.time))
+first_break_size : (o : Option WideBreak) → length (first_break_bytes o) ≤ 18
+first_break_size None = omega arith
+first_break_size (Some b) = omega (arith, length-append (to_le_bytes w64 b.instant) (to_le_bytes w64 b.time))
 
 entries_size : (es : List TableEntry) → length (flat_map (entry_bytes false) es) ≤ 19 * length es
 entries_size [] = omega arith
 entries_size (e ∷ es) =
     omega (
       arith,
-      event_size e.event,
+      first_break_size e.first_break,
       entries_size es,
-      length-append (event_bytes e.event) (flat_map (entry_bytes false) es),
+      length-append (first_break_bytes e.first_break) (flat_map (entry_bytes false) es),
     )
 
 pub table_size : (memories steps : ℕ) (t : TableValue) → 3 ≤ memories → FitsTable false memories steps t
@@ -220,10 +220,10 @@ node_size n =
     let marks = marks_bytes 0 n.marks in
     omega (
       arith,
-      length-append (to_le_bytes w32 n.next) (event_bytes n.event ++ (count ++ marks)),
-      length-append (event_bytes n.event) (count ++ marks),
+      length-append (to_le_bytes w32 n.next) (first_break_bytes n.first_break ++ (count ++ marks)),
+      length-append (first_break_bytes n.first_break) (count ++ marks),
       length-append count marks,
-      event_size n.event,
+      first_break_size n.first_break,
       marks_size 0 n.marks,
     )
 
@@ -242,9 +242,9 @@ marked_entries_size [] = omega arith
 marked_entries_size (e ∷ es) =
     omega (
       arith,
-      event_size e.event,
+      first_break_size e.first_break,
       marked_entries_size es,
-      length-append (to_le_bytes w32 e.next) (event_bytes e.event),
+      length-append (to_le_bytes w32 e.next) (first_break_bytes e.first_break),
       length-append (entry_bytes true e) (flat_map (entry_bytes true) es),
     )
 

@@ -13,14 +13,17 @@ use Rattle.vme_part_format.specs.declared.table.TableEntry.{TableEntry}
 use Rattle.vme_part_format.specs.Bounds.{CanWrite, FitNodes, FitsEntry, FitsNode, FitsTable}
 use Rattle.vme_part_format.specs.Bounds.{HasNodes}
 use Rattle.vme_part_format.specs.Bounds.{stays}
-use Rattle.vme_part_format.specs.PartText.{count_bytes, entry_bytes, event_bytes, marks_bytes, node_bytes, table_bytes}
+use Rattle.vme_part_format.specs.PartText.{count_bytes, entry_bytes, first_break_bytes, marks_bytes, node_bytes}
+use Rattle.vme_part_format.specs.PartText.{table_bytes}
 use Rattle.vme_part_format.specs.PartText.{written}
-use Rattle.vme_part_format.specs.Reading.{◌>>=◌, entries_at, entry_at, event_at, fault_at, mark_count_at, marks_at}
+use Rattle.vme_part_format.specs.Reading.{◌>>=◌, entries_at, entry_at, first_break_at, fault_at, mark_count_at}
+use Rattle.vme_part_format.specs.Reading.{marks_at}
 use Rattle.vme_part_format.specs.Reading.{node_at}
 use Rattle.vme_part_format.specs.Reading.{node_count_at, node_number_at, nodes_at, number_at, table_at, way_at}
 use Rattle.vme_part_format.specs.Tables.{NodeValue, TableValue}
 use Rattle.vme_part_format.proofs.FieldLaws.{IsBytes, IsEntry, Takes, Takes-then, bind_ok, entry_again, entry_takes}
-use Rattle.vme_part_format.proofs.FieldLaws.{event_again, event_takes, guard_in, guard_out, number_again, number_takes}
+use Rattle.vme_part_format.proofs.FieldLaws.{first_break_again, first_break_takes, guard_in, guard_out, number_again}
+use Rattle.vme_part_format.proofs.FieldLaws.{number_takes}
 use Rattle.vme_part_format.proofs.FieldLaws.{ok_is, way_again, way_takes, wide32, is_false}
 use Rattle.vme_part_format.proofs.MarkLaws.{marks_again, marks_takes}
 
@@ -92,33 +95,34 @@ node_takes : (count steps others : ℕ) (bytes : List ℕ) (x : NodeValue × Lis
     → node_at steps (count + others) bytes ≡ Ok x → NodeTaken count steps others bytes x
 unfolding node_at node_bytes
 node_takes count steps others bytes x low fits e =
-    let a = bind_ok (way_at true (count + others) bytes) (λ next. event_at steps next.1 >>= λ event.
-    mark_count_at event.1 >>= λ count. marks_at steps 0 count.0 count.1 >>= λ marks.
-    Ok (record { next = next.0; event = event.0; marks = marks.0 }, marks.1)) x e in
-    let b = bind_ok (event_at steps a.0.1) (λ event. mark_count_at event.1 >>= λ count.
+    let a = bind_ok (way_at true (count + others) bytes) (λ next. first_break_at steps next.1 >>= λ first_break.
+    mark_count_at first_break.1 >>= λ count. marks_at steps 0 count.0 count.1 >>= λ marks.
+    Ok (record { next = next.0; first_break = first_break.0; marks = marks.0 }, marks.1)) x e in
+    let b = bind_ok (first_break_at steps a.0.1) (λ first_break. mark_count_at first_break.1 >>= λ count.
     marks_at steps 0 count.0 count.1 >>= λ marks.
-    Ok (record { next = a.0.0; event = event.0; marks = marks.0 }, marks.1)) x a.2 in
+    Ok (record { next = a.0.0; first_break = first_break.0; marks = marks.0 }, marks.1)) x a.2 in
     let c = bind_ok (mark_count_at b.0.1) (λ count. marks_at steps 0 count.0 count.1 >>= λ marks.
-    Ok (record { next = a.0.0; event = b.0.0; marks = marks.0 }, marks.1)) x b.2 in
+    Ok (record { next = a.0.0; first_break = b.0.0; marks = marks.0 }, marks.1)) x b.2 in
     let d = bind_ok (marks_at steps 0 c.0.0 c.0.1)
-    (λ marks. Ok (record { next = a.0.0; event = b.0.0; marks = marks.0 }, marks.1)) x c.2 in
+    (λ marks. Ok (record { next = a.0.0; first_break = b.0.0; marks = marks.0 }, marks.1)) x c.2 in
     let t0 = way_takes true (count + others) bytes a.0 fits a.1 in
-    let t1 = event_takes steps a.0.1 b.0 t0.0.rest_fits b.1 in
+    let t1 = first_break_takes steps a.0.1 b.0 t0.0.rest_fits b.1 in
     let t2 = mark_count_takes b.0.1 c.0 t1.0.rest_fits c.1 in
     let t3 = marks_takes steps 0 c.0.0 c.0.1 d.0 low t2.0.rest_fits d.1 in
     let many : Takes b.0.1 (to_le_bytes w32 (length d.0.0)) c.0.1 =
     subst (λ (n : ℕ). Takes b.0.1 (to_le_bytes w32 n) c.0.1) (sym t3.2) t2.0 in
     let t23 = Takes-then b.0.1 (to_le_bytes w32 (length d.0.0)) c.0.1 (marks_bytes 0 d.0.0) d.0.1 many t3.0 in
-    let t13 = Takes-then a.0.1 (event_bytes b.0.0) b.0.1 (to_le_bytes w32 (length d.0.0) ++ marks_bytes 0 d.0.0) d.0.1
+    let t13 = Takes-then a.0.1 (first_break_bytes b.0.0) b.0.1 (to_le_bytes w32 (length d.0.0) ++ marks_bytes 0 d.0.0)
+    d.0.1
     t1.0 t23 in
     let t03 = Takes-then bytes (to_le_bytes w32 a.0.0) a.0.1
-    (event_bytes b.0.0 ++ (to_le_bytes w32 (length d.0.0) ++ marks_bytes 0 d.0.0)) d.0.1 t0.0 t13 in
-    let made : NodeValue × List ℕ = (record { next = a.0.0; event = b.0.0; marks = d.0.0 }, d.0.1) in
+    (first_break_bytes b.0.0 ++ (to_le_bytes w32 (length d.0.0) ++ marks_bytes 0 d.0.0)) d.0.1 t0.0 t13 in
+    let made : NodeValue × List ℕ = (record { next = a.0.0; first_break = b.0.0; marks = d.0.0 }, d.0.1) in
     subst (λ (y : NodeValue × List ℕ). NodeTaken count steps others bytes y) (ok_is made x d.2) (
       t03,
       record {
         next = t0.2;
-        event = t1.1;
+        first_break = t1.1;
         some = (omega (arith, t3.2, t2.1), omega (arith, t3.2, t2.2));
         marks = t3.1;
       },
@@ -131,20 +135,20 @@ unfolding node_at node_bytes
 node_again count steps others n rest few fits =
     let many = to_le_bytes w32 (length n.marks) in
     let marks = marks_bytes 0 n.marks in
-    let regrouped : (to_le_bytes w32 n.next ++ (event_bytes n.event ++ (many ++ marks))) ++ rest
-    ≡ to_le_bytes w32 n.next ++ (event_bytes n.event ++ (many ++ (marks ++ rest))) =
-    append_assoc (to_le_bytes w32 n.next) (event_bytes n.event ++ (many ++ marks)) rest
+    let regrouped : (to_le_bytes w32 n.next ++ (first_break_bytes n.first_break ++ (many ++ marks))) ++ rest
+    ≡ to_le_bytes w32 n.next ++ (first_break_bytes n.first_break ++ (many ++ (marks ++ rest))) =
+    append_assoc (to_le_bytes w32 n.next) (first_break_bytes n.first_break ++ (many ++ marks)) rest
     ∙ ap (λ (t : List ℕ). to_le_bytes w32 n.next ++ t)
-    (append_assoc (event_bytes n.event) (many ++ marks) rest
-    ∙ ap (λ (t : List ℕ). event_bytes n.event ++ t) (append_assoc many marks rest)) in
+    (append_assoc (first_break_bytes n.first_break) (many ++ marks) rest
+    ∙ ap (λ (t : List ℕ). first_break_bytes n.first_break ++ t) (append_assoc many marks rest)) in
     ap (node_at steps (count + others)) regrouped
     ∙ rw (
-      way_again true (count + others) n.next (event_bytes n.event ++ (many ++ (marks ++ rest))) (omega (
+      way_again true (count + others) n.next (first_break_bytes n.first_break ++ (many ++ (marks ++ rest))) (omega (
         arith,
         fits.next,
       ))
           fits.next,
-      event_again steps n.event (many ++ (marks ++ rest)) fits.event,
+      first_break_again steps n.first_break (many ++ (marks ++ rest)) fits.first_break,
       mark_count_again (length n.marks) (marks ++ rest) fits.some.0 fits.some.1,
       marks_again steps 0 n.marks rest fits.marks,
     ) refl
@@ -267,7 +271,7 @@ table_taken listing memories steps bytes a b c d some counted t0 t1 t2 t3 x e =
     let took : Takes bytes (count_bytes listing (length d.0) ++ (flat_map bytes_of (written es) ++ flat_map node_bytes
     d.0))
     d.1 = subst (λ (t : List ℕ). Takes bytes (count_bytes listing (length d.0) ++ t) d.1) all t03 in
-    let stays_fits : FitsEntry steps ways stays = record { next = omega arith; event = tt } in
+    let stays_fits : FitsEntry steps ways stays = record { next = omega arith; first_break = tt } in
     let in_ways : All (FitsEntry steps ways) es =
     All-append (FitsEntry steps ways) b.0 (stays ∷ c.0) (All_entries listing steps ways b.0 t1.1)
     (All-cons (FitsEntry steps ways) stays c.0 stays_fits (All_entries listing steps ways c.0 t2.1)) in

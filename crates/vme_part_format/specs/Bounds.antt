@@ -26,7 +26,7 @@ pub record FitsBreak (steps : ℕ) (b : WideBreak) : Type 0 where
 -- where something goes on: below the number of the memories and of the nodes that are behind
 pub record FitsEntry (steps ways : ℕ) (e : TableEntry) : Type 0 where
   pub next : e.next < ways
-  pub event : IfSome e.event (FitsBreak steps)
+  pub first_break : IfSome e.first_break (FitsBreak steps)
 
 abbrev pub FitsKind : MarkKind → Type 0
 FitsKind kind.Reset = Unit {0}
@@ -64,7 +64,7 @@ CanWrite false next = next < 256
 -- a node with so many others behind it, in a table of so many memories
 pub record FitsNode (count steps behind : ℕ) (n : NodeValue) : Type 0 where
   pub next : n.next < count + behind
-  pub event : IfSome n.event (FitsBreak steps)
+  pub first_break : IfSome n.first_break (FitsBreak steps)
   pub some : (0 < length n.marks) × (length n.marks < 2 ^ 32)
   pub marks : FitMarks steps 0 n.marks
 
@@ -74,7 +74,7 @@ FitNodes count steps (n ∷ ns) = FitsNode count steps (length ns) n × FitNodes
 
 -- memory 2 stays as it is and shows nothing
 abbrev pub stays : TableEntry
-stays = record { next = 2; event = None }
+stays = record { next = 2; first_break = None }
 
 -- nodes there are in a part with marks alone
 abbrev pub HasNodes : Bool → List NodeValue → Type 0

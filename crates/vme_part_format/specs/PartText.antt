@@ -51,9 +51,9 @@ levels_bytes v = packed (seen_levels v)
 
 -- ---- breaks, and where a way goes on
 
-abbrev pub event_bytes : Option WideBreak → List ℕ
-event_bytes None = 0 ∷ []
-event_bytes (Some b) =
+abbrev pub first_break_bytes : Option WideBreak → List ℕ
+first_break_bytes None = 0 ∷ []
+first_break_bytes (Some b) =
     (rule_number b.rule + 1) ∷ b.line ∷ (to_le_bytes w64 b.instant ++ to_le_bytes w64 b.time)
 
 -- four bytes in a part with marks, else one
@@ -62,7 +62,7 @@ way_bytes true next = to_le_bytes w32 next
 way_bytes false next = next ∷ []
 
 abbrev pub entry_bytes : Bool → TableEntry → List ℕ
-entry_bytes listing e = way_bytes listing e.next ++ event_bytes e.event
+entry_bytes listing e = way_bytes listing e.next ++ first_break_bytes e.first_break
 
 -- ---- marks
 
@@ -133,7 +133,8 @@ marks_bytes before (m ∷ ms) = mark_bytes before m ++ marks_bytes m.instant ms
 
 unfoldable pub node_bytes : NodeValue → List ℕ
 node_bytes n =
-    to_le_bytes w32 n.next ++ (event_bytes n.event ++ (to_le_bytes w32 (length n.marks) ++ marks_bytes 0 n.marks))
+    to_le_bytes w32 n.next
+    ++ (first_break_bytes n.first_break ++ (to_le_bytes w32 (length n.marks) ++ marks_bytes 0 n.marks))
 
 -- memory 2 isn't written: it stays as it is and shows nothing
 abbrev pub written : List TableEntry → List TableEntry

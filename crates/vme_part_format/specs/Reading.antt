@@ -148,15 +148,15 @@ break_at steps rule bad bytes = do
   if may_break steps line.0 instant.0 then Ok (Some (read_break rule line.0 instant.0 time.0), time.1) else Err bad
 
 -- 0 for none, else the number of the rule and 1
-unfoldable pub event_by : ℕ → FieldFault → ℕ → List ℕ → Result (Option WideBreak × List ℕ) FieldFault
-event_by steps bad number bytes =
+unfoldable pub first_break_by : ℕ → FieldFault → ℕ → List ℕ → Result (Option WideBreak × List ℕ) FieldFault
+first_break_by steps bad number bytes =
     if number == 0 then Ok (None, bytes)
     else (or_fault bad (slice_get all_rules (number - 1)) >>= λ rule. break_at steps rule bad bytes)
 
-unfoldable pub event_at : ℕ → List ℕ → Result (Option WideBreak × List ℕ) FieldFault
-event_at steps bytes = do
+unfoldable pub first_break_at : ℕ → List ℕ → Result (Option WideBreak × List ℕ) FieldFault
+first_break_at steps bytes = do
   number ← byte_at bytes
-  event_by steps (fault_at fault.BadBreak bytes) number.0 number.1
+  first_break_by steps (fault_at fault.BadBreak bytes) number.0 number.1
 
 -- the number as it is written, below the number of the ways
 abbrev pub way_number_at : Bool → List ℕ → Result (ℕ × List ℕ) FieldFault
@@ -171,8 +171,8 @@ way_at listing ways bytes = do
 unfoldable pub entry_at : Bool → ℕ → ℕ → List ℕ → Result (TableEntry × List ℕ) FieldFault
 entry_at listing steps ways bytes = do
   next ← way_at listing ways bytes
-  event ← event_at steps next.1
-  Ok (record { next = next.0; event = event.0 }, event.1)
+  first_break ← first_break_at steps next.1
+  Ok (record { next = next.0; first_break = first_break.0 }, first_break.1)
 
 unfoldable pub entries_at : Bool → ℕ → ℕ → ℕ → List ℕ → Result (List TableEntry × List ℕ) FieldFault
 entries_at listing steps ways zero bytes = Ok ([], bytes)
@@ -270,10 +270,10 @@ mark_count_at bytes = do
 unfoldable pub node_at : ℕ → ℕ → List ℕ → Result (NodeValue × List ℕ) FieldFault
 node_at steps ways bytes = do
   next ← way_at true ways bytes
-  event ← event_at steps next.1
-  count ← mark_count_at event.1
+  first_break ← first_break_at steps next.1
+  count ← mark_count_at first_break.1
   marks ← marks_at steps 0 count.0 count.1
-  Ok (record { next = next.0; event = event.0; marks = marks.0 }, marks.1)
+  Ok (record { next = next.0; first_break = first_break.0; marks = marks.0 }, marks.1)
 
 -- so many nodes, of a table of so many memories
 unfoldable pub nodes_at : ℕ → ℕ → ℕ → List ℕ → Result (List NodeValue × List ℕ) FieldFault

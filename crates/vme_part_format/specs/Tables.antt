@@ -12,11 +12,11 @@ use Rattle.vme_part_format.specs.declared.wide.WideMark.{WideMark}
 
 pub record NodeValue : Type 0 where
   pub next : ℕ
-  pub event : Option WideBreak
+  pub first_break : Option WideBreak
   pub marks : List WideMark
 
 abbrev pub node_value : TableNode → NodeValue
-node_value n = record { next = n.next; event = n.event; marks = n.marks.items }
+node_value n = record { next = n.next; first_break = n.first_break; marks = n.marks.items }
 
 pub record TableValue : Type 0 where
   pub entries : List TableEntry

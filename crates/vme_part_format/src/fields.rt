@@ -3,8 +3,8 @@
 ghost use Rattle.std.specs.Prelude.{◌≡◌, ◌↔◌, [], IsTrue, slice_get};
 ghost use Rattle.std.specs.Int.{w16, w32, w64};
 ghost use Rattle.vme_trace.specs.Rules.{all_rules};
-ghost use Rattle.vme_part_format.specs.Reading.{Gives, break_at, byte_at, entry_at, event_at, fault_at, flag_at};
-ghost use Rattle.vme_part_format.specs.Reading.{event_by as event_by_number};
+ghost use Rattle.vme_part_format.specs.Reading.{Gives, break_at, byte_at, entry_at, first_break_at, fault_at, flag_at};
+ghost use Rattle.vme_part_format.specs.Reading.{first_break_by as first_break_by_number};
 ghost use Rattle.vme_part_format.specs.Reading.{number_at, way_at, way_number_at};
 
 use crate::fault::{FieldError, FieldFault, PartFaultKind};
@@ -148,14 +148,14 @@ impl<'a> Fields<'a> {
     }
 
     /// A break by the number that stands before it: 0 for none, else the number of the rule and 1.
-    #[tactic(auto, unfolding(crate::specs::Reading::event_by))]
-    fn event_by(
+    #[tactic(auto, unfolding(crate::specs::Reading::first_break_by))]
+    fn first_break_by(
         &mut self,
         steps: u64,
         bad: FieldFault,
         number: u8,
     ) -> Result<Option<WideBreak>, FieldError>
-        ensures { Gives (λ x. x) result self.new (event_by_number steps bad number self.old) }
+        ensures { Gives (λ x. x) result self.new (first_break_by_number steps bad number self.old) }
     {
         if number == 0 {
             return Ok(None);
@@ -167,13 +167,13 @@ impl<'a> Fields<'a> {
     }
 
     /// A break in a segment of so many steps, if there is one.
-    #[tactic(auto, unfolding(crate::specs::Reading::event_at))]
-    pub(crate) fn event(&mut self, steps: u64) -> Result<Option<WideBreak>, FieldError>
-        ensures { Gives (λ x. x) result self.new (event_at steps self.old) }
+    #[tactic(auto, unfolding(crate::specs::Reading::first_break_at))]
+    pub(crate) fn first_break(&mut self, steps: u64) -> Result<Option<WideBreak>, FieldError>
+        ensures { Gives (λ x. x) result self.new (first_break_at steps self.old) }
     {
         let bad = self.fault(PartFaultKind::BadBreak);
         let number = self.byte()?;
-        self.event_by(steps, bad, number)
+        self.first_break_by(steps, bad, number)
     }
 
     /// The number of a way, as it is written.
@@ -211,7 +211,7 @@ impl<'a> Fields<'a> {
         ensures { Gives (λ x. x) result self.new (entry_at listing steps ways self.old) }
     {
         let next = self.way(listing, ways)?;
-        let event = self.event(steps)?;
-        Ok(TableEntry { next, event })
+        let first_break = self.first_break(steps)?;
+        Ok(TableEntry { next, first_break })
     }
 }

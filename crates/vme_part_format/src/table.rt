@@ -7,7 +7,7 @@ use crate::wide::{WideBreak, WideMark};
 #[derive(Debug, PartialEq, Eq, Drop)]
 pub struct TableEntry {
     pub next: u32,
-    pub event: Option<WideBreak>,
+    pub first_break: Option<WideBreak>,
 }
 
 /// What ways have in common: the first break, the marks, and where they go on: as in an entry, but that node 0 is the
@@ -15,7 +15,7 @@ pub struct TableEntry {
 #[derive(Debug, Drop)]
 pub struct TableNode {
     pub next: u32,
-    pub event: Option<WideBreak>,
+    pub first_break: Option<WideBreak>,
     pub marks: Vec<WideMark>,
 }
 
@@ -30,5 +30,5 @@ pub struct OutcomeTable {
 /// What comes of memory 2, in which judging has ended: it stays, and shows nothing.
 pub const STAYS: TableEntry = TableEntry {
     next: 2,
-    event: None,
+    first_break: None,
 };

@@ -3,7 +3,7 @@
 ghost use Rattle.std.specs.Prelude.{◌≡◌, ◌+◌, ◌^◌, ◌<◌, ◌≤◌, ◌++◌, ℕ, OnOk, IfOk, Some, All, flat_map, length, map};
 ghost use Rattle.std.specs.Int.{w32, to_le_bytes};
 ghost use Rattle.vme_part_format.specs.Bounds.{AreAscending, CanWrite, FitsTable};
-ghost use Rattle.vme_part_format.specs.PartText.{count_bytes, entry_bytes, event_bytes, marks_bytes, node_bytes};
+ghost use Rattle.vme_part_format.specs.PartText.{count_bytes, entry_bytes, first_break_bytes, marks_bytes, node_bytes};
 ghost use Rattle.vme_part_format.specs.PartText.{table_bytes, way_bytes, written};
 ghost use Rattle.vme_part_format.specs.Reading.{Gives, entries_at, mark_count_at, node_at, node_count_at};
 ghost use Rattle.vme_part_format.specs.Reading.{node_number_at, nodes_at, table_at};
@@ -21,17 +21,17 @@ use std::alloc::{AllocError, Global};
 const BEFORE_ENDED: u32 = 2;
 
 fn put_break(out: &mut Vec<u8>, found: WideBreak) -> Result<(), AllocError>
-    ensures { OnOk result (out.new.items ≡ out.old.items ++ event_bytes (Some found)) }
+    ensures { OnOk result (out.new.items ≡ out.old.items ++ first_break_bytes (Some found)) }
 {
     out.push(found.rule.number() + 1)?;
     out.push(found.line.number())?;
     put_pair(out, found.instant, found.time)
 }
 
-fn put_event(out: &mut Vec<u8>, event: Option<WideBreak>) -> Result<(), AllocError>
-    ensures { OnOk result (out.new.items ≡ out.old.items ++ event_bytes event) }
+fn put_first_break(out: &mut Vec<u8>, first_break: Option<WideBreak>) -> Result<(), AllocError>
+    ensures { OnOk result (out.new.items ≡ out.old.items ++ first_break_bytes first_break) }
 {
-    match event {
+    match first_break {
         None => Ok(out.push(0)?),
         Some(found) => put_break(out, found),
     }
@@ -53,7 +53,7 @@ fn put_entry(out: &mut Vec<u8>, listing: bool, entry: &TableEntry) -> Result<(),
     ensures { OnOk result (out.new.items ≡ out.old.items ++ entry_bytes listing entry.now) }
 {
     put_way(out, listing, entry.next)?;
-    put_event(out, entry.event)
+    put_first_break(out, entry.first_break)
 }
 
 fn put_entries(out: &mut Vec<u8>, listing: bool, entries: &[TableEntry]) -> Result<(), AllocError>
@@ -90,7 +90,7 @@ fn put_node(out: &mut Vec<u8>, node: &TableNode) -> Result<(), AllocError>
     ensures { OnOk result (out.new.items ≡ out.old.items ++ node_bytes (node_value node.now)) }
 {
     out.extend_from_slice(&node.next.to_le_bytes())?;
-    put_event(out, node.event)?;
+    put_first_break(out, node.first_break)?;
     put_counted_marks(out, node.marks.as_slice())
 }
 
@@ -157,8 +157,8 @@ fn read_entries(
 {
     let mut entries = Vec::new(alloc);
     for _ in 0..count {
-        let TableEntry { next, event } = fields.entry(listing, steps, ways)?;
-        entries.push(TableEntry { next, event })?;
+        let TableEntry { next, first_break } = fields.entry(listing, steps, ways)?;
+        entries.push(TableEntry { next, first_break })?;
     }
     Ok(entries)
 }
@@ -186,10 +186,14 @@ fn read_node(
     ensures { Gives node_value result fields.new (node_at steps ways fields.old) }
 {
     let next = fields.way(true, ways)?;
-    let event = fields.event(steps)?;
+    let first_break = fields.first_break(steps)?;
     let count = read_mark_count(fields)?;
     let marks = read_marks(alloc, fields, steps, count)?;
-    Ok(TableNode { next, event, marks })
+    Ok(TableNode {
+        next,
+        first_break,
+        marks,
+    })
 }
 
 /// So many nodes, of a table of so many memories.

@@ -309,7 +309,7 @@ fn a_part_without_steps_is_read(rt: HostRuntime) -> Result<(), Fail> {
     assert_eq!(rt; segment.times, None);
     let last = TableEntry {
         next: 3,
-        event: None,
+        first_break: None,
     };
     assert_eq!(rt; segment.known.entries.last(), Some(&last));
     assert_eq!(rt; segment.known.entries.get(2), Some(&STAYS));
@@ -337,7 +337,7 @@ fn the_greatest_part_without_marks_has_4063_bytes(rt: HostRuntime) -> Result<(),
     };
     let last = TableEntry {
         next: 10,
-        event: Some(found),
+        first_break: Some(found),
     };
     assert_eq!(rt; segment.acknowledge.entries.last(), Some(&last));
     Ok(())
@@ -373,7 +373,7 @@ fn marks_are_read(rt: HostRuntime) -> Result<(), Fail> {
         line: Line::DTACK,
     };
     assert_eq!(rt; node.next, 3);
-    assert_eq!(rt; node.event, Some(found));
+    assert_eq!(rt; node.first_break, Some(found));
     Ok(())
 }
 

@@ -17,7 +17,7 @@ use Rattle.vme_monitor.specs.declared.mark.Mark.{Mark}
 use Rattle.vme_summary.specs.AllShown.{all_marks}
 use Rattle.vme_summary.specs.Joins.{joined_trace}
 use Rattle.vme_summary.specs.MarkedRows.{listed}
-use Rattle.vme_summary.specs.Summaries.{first_break}
+use Rattle.vme_summary.specs.Summaries.{first_break_of}
 use Rattle.vme_summary.proofs.MarkedListing.{marked_is_listed}
 use Rattle.vme_part_format.specs.Tables.{TableValue}
 use Rattle.vme_part_tables.specs.Runs.{TellsRun, TellsRuns, mark_of}
@@ -39,7 +39,7 @@ pub past_way : {P : Type 0} (run : P → Levels → List Step → Outcome P) →
     → TellsRuns true count place t (λ p. run p v y) → HasWay run begin place r o (x ++ y)
 past_way {P} run law begin place count t w r o v x y steps memory marks opens counted fits was tells =
     let p = (run (begin o) o x).leaving in
-    let a : WayOutcome = record { leaving = w.memory; event = None; marks = w.marks.items } in
+    let a : WayOutcome = record { leaving = w.memory; first_break = None; marks = w.marks.items } in
     let b : TellsRun true place (outcome_in t w.memory) (run p v y) = rw was.leaving (tells.tells p) in
     let both = marks_of_both (length x) (length y) fits place true a (outcome_in t w.memory) (run (begin o) o x)
     (run p v y) was.marks b.marks (law.within p v y) in
@@ -64,10 +64,10 @@ opened_so j e (b ∷ bs) t o was same is =
     same ∙ (sym own ∙ ap (λ (k : Trace). k.opening) whole)
 
 -- the listing by what was found and shown is that of the recording
-pub listed_so : (t : Trace) (judged : Bool) (event : Option Break) (o : Levels) (ms : List Mark) (l : Listed)
-    → judged ≡ has_span (judged_spans t) → event ≡ first_break t → o ≡ t.opening → ms ≡ all_marks t
-    → l ≡ in_newest_version (listed o judged event ms) → listing_of t ≡ l
-listed_so t judged event o ms l started first opens seen is =
+pub listed_so : (t : Trace) (judged : Bool) (first_break : Option Break) (o : Levels) (ms : List Mark) (l : Listed)
+    → judged ≡ has_span (judged_spans t) → first_break ≡ first_break_of t → o ≡ t.opening → ms ≡ all_marks t
+    → l ≡ in_newest_version (listed o judged first_break ms) → listing_of t ≡ l
+listed_so t judged first_break o ms l started first opens seen is =
     let whole = marked_is_listed t in
-    let rows : recorded_rows t ≡ listed o judged event ms = cc in
+    let rows : recorded_rows t ≡ listed o judged first_break ms = cc in
     ap in_newest_version rows ∙ sym is

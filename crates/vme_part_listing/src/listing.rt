@@ -235,14 +235,20 @@ fn listing_from(
     ensures { IfOk result (λ what.
         ListsFiles judging.now (segment_value first.now ∷ map segment_value rest.now) what) }
 {
-    let Some(event) = narrow_break(judging.states.first_break()) else {
+    let Some(first_break) = narrow_break(judging.states.first_break()) else {
         return Ok(ListingAnswer::TooLong);
     };
     let Some(marks) = marks_from(alloc, first, rest)? else {
         return Ok(ListingAnswer::TooLong);
     };
     let has_judged = judging.states.has_judged();
-    let listing = listing_by(alloc, &first.opening, has_judged, event, marks.as_slice())?;
+    let listing = listing_by(
+        alloc,
+        &first.opening,
+        has_judged,
+        first_break,
+        marks.as_slice(),
+    )?;
     Ok(ListingAnswer::Listing(listing))
 }
 

@@ -15,7 +15,7 @@ use Rattle.vme_part_format.specs.declared.wide.WideBreak.{WideBreak}
 use Rattle.vme_part_format.specs.declared.wide.WideMark.{WideMark}
 use Rattle.vme_part_tables.specs.Ways.{HasWays, NodesGoOn, WayOutcome, behind_break, behind_marks, ended_in, from_entry}
 use Rattle.vme_part_tables.specs.Ways.{gone_on, later_break, later_outcome, outcome_in, walked}
-use Rattle.vme_part_tables.specs.Composed.{CanCompose, entry_of, entry_on, event_on, later_node, next_on, node_on}
+use Rattle.vme_part_tables.specs.Composed.{CanCompose, entry_of, entry_on, first_break_on, later_node, next_on, node_on}
 use Rattle.vme_part_tables.specs.Composed.{nodes_on, table_on}
 use Rattle.vme_part_tables.proofs.Walking.{walked_here, walked_later, walked_memory, walked_over}
 use Rattle.vme_part_tables.proofs.Walking.{walked_past}
@@ -30,7 +30,7 @@ module _ (es : List TableEntry) (bs : List NodeValue) (steps : ℕ) where
 
   -- what the second table says of a memory
   abbrev second_says : ℕ → WayOutcome
-  second_says w = behind_break (entry_of es w).event (walked m bs (entry_of es w).next)
+  second_says w = behind_break (entry_of es w).first_break (walked m bs (entry_of es w).next)
 
   -- both, from a way through nodes of the first
   abbrev both_say : List NodeValue → ℕ → Option WideBreak → WayOutcome
@@ -41,7 +41,7 @@ module _ (es : List TableEntry) (bs : List NodeValue) (steps : ℕ) where
 
   -- what the table of both says from there
   abbrev says_on : List NodeValue → ℕ → Option WideBreak → WayOutcome
-  says_on ns w ev = behind_break (event_on es steps w ev) (walked m (nodes_of_both ns) (next_on es (length ns) w))
+  says_on ns w ev = behind_break (first_break_on es steps w ev) (walked m (nodes_of_both ns) (next_on es (length ns) w))
 
   next_in : (between w : ℕ) → w < m → (entry_of es w).next < m → next_on es between w ≡ (entry_of es w).next
   next_in between w h k = rw (lt-ltb w m h, lt-ltb (entry_of es w).next m k) refl
@@ -49,15 +49,15 @@ module _ (es : List TableEntry) (bs : List NodeValue) (steps : ℕ) where
   next_out : (between w : ℕ) → w < m → m ≤ (entry_of es w).next → next_on es between w ≡ (entry_of es w).next + between
   next_out between w h k = rw (lt-ltb w m h, le-ltb (entry_of es w).next m k) refl
 
-  event_in : (w : ℕ) (ev : Option WideBreak) → w < m
-      → event_on es steps w ev ≡ option_or ev (option_map (later_break steps) (entry_of es w).event)
-  event_in w ev h = rw (lt-ltb w m h) refl
+  first_break_in : (w : ℕ) (ev : Option WideBreak) → w < m
+      → first_break_on es steps w ev ≡ option_or ev (option_map (later_break steps) (entry_of es w).first_break)
+  first_break_in w ev h = rw (lt-ltb w m h) refl
 
   next_past : (between w : ℕ) → m ≤ w → next_on es between w ≡ w
   next_past between w h = rw (le-ltb w m h) refl
 
-  event_past : (w : ℕ) (ev : Option WideBreak) → m ≤ w → event_on es steps w ev ≡ ev
-  event_past w ev h = rw (le-ltb w m h) refl
+  first_break_past : (w : ℕ) (ev : Option WideBreak) → m ≤ w → first_break_on es steps w ev ≡ ev
+  first_break_past w ev h = rw (le-ltb w m h) refl
 
   -- a way that ends in a memory of the first
   walked_second : (ns : List NodeValue) (w : ℕ) → w < m → ((entry_of es w).next < m) ⊎ (m ≤ (entry_of es w).next)
@@ -75,7 +75,7 @@ module _ (es : List TableEntry) (bs : List NodeValue) (steps : ℕ) where
 
   later_two : (a b : Option WideBreak) (r : WayOutcome)
       → behind_break (option_or a (option_map (later_break steps) b)) (later_outcome steps r)
-      ≡ gone_on steps (record { leaving = r.leaving; event = a; marks = [] }) (behind_break b r)
+      ≡ gone_on steps (record { leaving = r.leaving; first_break = a; marks = [] }) (behind_break b r)
   later_two None None r = refl
   later_two None (Some x) r = refl
   later_two (Some y) b r = refl
@@ -89,8 +89,8 @@ module _ (es : List TableEntry) (bs : List NodeValue) (steps : ℕ) where
       let e : walked m (nodes_of_both ns) (next_on es (length ns) w)
       ≡ later_outcome steps (walked m bs (entry_of es w).next)
       = walked_second ns w h (cases_lt (entry_of es w).next m) in
-      rw (e, event_in w ev h, walked_memory m ns w h, or_none ev)
-      (later_two ev (entry_of es w).event (walked m bs (entry_of es w).next))
+      rw (e, first_break_in w ev h, walked_memory m ns w h, or_none ev)
+      (later_two ev (entry_of es w).first_break (walked m bs (entry_of es w).next))
 
   with_marks : (ms : List WideMark) (ev : Option WideBreak) (a b : WayOutcome)
       → behind_break ev (behind_marks ms (gone_on steps a b)) ≡ gone_on steps (behind_break ev (behind_marks ms a)) b
@@ -107,12 +107,12 @@ module _ (es : List TableEntry) (bs : List NodeValue) (steps : ℕ) where
       at_node more ev =
           rw (
             next_past (suc (length ns)) m (omega arith),
-            event_past m ev (omega arith),
+            first_break_past m ev (omega arith),
             walked_here m (node_on es steps (length ns) n) (nodes_of_both ns),
             walked_here m n ns,
           )
-          (ap (λ r. behind_break ev (behind_marks n.marks r)) (more n.next n.event g.0)
-          ∙ with_marks n.marks ev (behind_break n.event (walked m ns n.next))
+          (ap (λ r. behind_break ev (behind_marks n.marks r)) (more n.next n.first_break g.0)
+          ∙ with_marks n.marks ev (behind_break n.first_break (walked m ns n.next))
           (second_says (walked m ns n.next).leaving))
 
       by_order : ((w : ℕ) (ev : Option WideBreak) → w < m + length ns → says_on ns w ev ≡ both_say ns w ev)
@@ -125,10 +125,10 @@ module _ (es : List TableEntry) (bs : List NodeValue) (steps : ℕ) where
           let below : w - 1 < m + length ns = omega arith in
           let whole = more (w - 1) ev below in
           let on : behind_break ev (walked m (nodes_of_both ns) (w - 1)) ≡ both_say ns (w - 1) ev
-          = rw (next_past (length ns) (w - 1) past, event_past (w - 1) ev past) at whole in
+          = rw (next_past (length ns) (w - 1) past, first_break_past (w - 1) ev past) at whole in
           rw (
             next_past (suc (length ns)) w (omega arith),
-            event_past w ev (omega arith),
+            first_break_past w ev (omega arith),
             walked_past m (node_on es steps (length ns) n) (nodes_of_both ns) w k,
             walked_past m n ns w k,
           ) on
@@ -187,13 +187,13 @@ module _ (a b : TableValue) (steps : ℕ) (c : CanCompose a b) where
       let there : slice_get (map on a.entries) k ≡ Some (on e)
       = slice_get-map on a.entries k ∙ ap (option_map on) at in
       let left = walked_leaving m a.nodes e.next ways below in
-      let r = behind_break e.event (walked m a.nodes e.next) in
-      let on_both : outcome_in (table_on a b steps) k ≡ says_on b.entries b.nodes steps a.nodes e.next e.event =
+      let r = behind_break e.first_break (walked m a.nodes e.next) in
+      let on_both : outcome_in (table_on a b steps) k ≡ says_on b.entries b.nodes steps a.nodes e.next e.first_break =
       outcome_at (table_on a b steps) k (on e) there
-      ∙ ap (λ j. behind_break (on e).event (walked j (table_on a b steps).nodes (on e).next)) as_many_on in
+      ∙ ap (λ j. behind_break (on e).first_break (walked j (table_on a b steps).nodes (on e).next)) as_many_on in
       let from_a : r ≡ outcome_in a k =
-      ap (λ j. behind_break e.event (walked j a.nodes e.next)) c.as_many ∙ sym (outcome_at a k e at) in
-      on_both ∙ (walked_both b.entries b.nodes steps a.nodes e.next e.event ways below
+      ap (λ j. behind_break e.first_break (walked j a.nodes e.next)) c.as_many ∙ sym (outcome_at a k e at) in
+      on_both ∙ (walked_both b.entries b.nodes steps a.nodes e.next e.first_break ways below
       ∙ (ap (gone_on steps r) (second_outcome r.leaving left)
       ∙ ap (λ (s : WayOutcome). gone_on steps s (outcome_in b s.leaving)) from_a))
 

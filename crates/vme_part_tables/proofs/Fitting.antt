@@ -16,7 +16,7 @@ use Rattle.vme_part_format.specs.declared.table.TableEntry.{TableEntry}
 use Rattle.vme_part_format.specs.declared.wide.WideBreak.{WideBreak}
 use Rattle.vme_part_format.specs.declared.wide.WideMark.{WideMark}
 use Rattle.vme_part_tables.specs.Ways.{HasWays, NodesGoOn, later, later_break, later_mark}
-use Rattle.vme_part_tables.specs.Composed.{CanCompose, entry_of, entry_on, event_on, later_node}
+use Rattle.vme_part_tables.specs.Composed.{CanCompose, entry_of, entry_on, first_break_on, later_node}
 use Rattle.vme_part_tables.specs.Composed.{nodes_on, table_on}
 use Rattle.vme_part_tables.proofs.Composing.{composed_memories, composed_ways}
 
@@ -102,26 +102,26 @@ module _ (steps more : ℕ) (fits : steps + more < 2 ^ 64) where
   module _ (listing : Bool) (count : ℕ) (a b : TableValue) (f : FitsTable listing count steps a)
       (g : FitsTable listing count more b) (c : CanCompose a b) where
     -- the break where a way goes on
-    break_at : (w : ℕ) → IfSome (entry_of b.entries w).event (FitsBreak more)
+    break_at : (w : ℕ) → IfSome (entry_of b.entries w).first_break (FitsBreak more)
     break_at w = by_place (slice_get_cases b.entries w).1
       where
         by_place : ((x : TableEntry) × (w < length b.entries) × (slice_get b.entries w ≡ Some x)
             × (get_or b.entries w x ≡ x)) ⊎ ((length b.entries ≤ w) × (slice_get b.entries w ≡ None))
-            → IfSome (entry_of b.entries w).event (FitsBreak more)
+            → IfSome (entry_of b.entries w).first_break (FitsBreak more)
         by_place (inl there) =
             let e = there.2 in
-            rw e (subst (λ (x : TableEntry). IfSome x.event (FitsBreak more)) there.3
-            (g.entries w there.0 there.1).event)
+            rw e (subst (λ (x : TableEntry). IfSome x.first_break (FitsBreak more)) there.3
+            (g.entries w there.0 there.1).first_break)
         by_place (inr past) = let e = past.1 in rw e tt
 
-    event_fits : (w : ℕ) (ev : Option WideBreak) → IfSome ev (FitsBreak steps)
-        → IfSome (event_on b.entries steps w ev) (FitsBreak (steps + more))
-    event_fits w ev h = by_place (cases_lt w (length b.entries))
+    first_break_fits : (w : ℕ) (ev : Option WideBreak) → IfSome ev (FitsBreak steps)
+        → IfSome (first_break_on b.entries steps w ev) (FitsBreak (steps + more))
+    first_break_fits w ev h = by_place (cases_lt w (length b.entries))
       where
         by_place : ((w < length b.entries) ⊎ (length b.entries ≤ w))
-            → IfSome (event_on b.entries steps w ev) (FitsBreak (steps + more))
+            → IfSome (first_break_on b.entries steps w ev) (FitsBreak (steps + more))
         by_place (inl k) =
-            rw (lt-ltb w (length b.entries) k) (found_both ev (entry_of b.entries w).event h (break_at w))
+            rw (lt-ltb w (length b.entries) k) (found_both ev (entry_of b.entries w).first_break h (break_at w))
         by_place (inr k) = rw (le-ltb w (length b.entries) k) (found_first ev h)
 
     nodes_fit_second : (ns : List NodeValue) → FitNodes count more ns
@@ -130,7 +130,7 @@ module _ (steps more : ℕ) (fits : steps + more < 2 ^ 64) where
     nodes_fit_second (n ∷ ns) h = (
       record {
         next = rw (length-map ns (later_node steps)) h.0.next;
-        event = found_second n.event h.0.event;
+        first_break = found_second n.first_break h.0.first_break;
         some = rw (length-map n.marks (later_mark steps)) h.0.some;
         marks = marks_second 0 0 n.marks (omega arith) h.0.marks;
       },
@@ -144,7 +144,7 @@ module _ (steps more : ℕ) (fits : steps + more < 2 ^ 64) where
     nodes_fit (n ∷ ns) h w = (
       record {
         next = w.0;
-        event = event_fits n.next n.event h.0.event;
+        first_break = first_break_fits n.next n.first_break h.0.first_break;
         some = h.0.some;
         marks = marks_first 0 n.marks h.0.marks;
       },
@@ -179,10 +179,11 @@ module _ (steps more : ℕ) (fits : steps + more < 2 ^ 64) where
           );
           entries = λ k d h. record {
             next = rw (← memories) (ways.entries k d h);
-            event =
-                All-map (λ (e : TableEntry). IfSome e.event (FitsBreak (steps + more)))
+            first_break =
+                All-map (λ (e : TableEntry). IfSome e.first_break (FitsBreak (steps + more)))
                 (entry_on b.entries steps (length a.nodes)) a.entries
-                (λ k d h. event_fits (get_or a.entries k d).next (get_or a.entries k d).event (f.entries k d h).event) k
+                (λ k d h. first_break_fits (get_or a.entries k d).next (get_or a.entries k d).first_break
+                (f.entries k d h).first_break) k
                 d h;
           };
           nodes = nodes_fit a.nodes f.nodes (subst (λ m. NodesGoOn m (table_on a b steps).nodes) memories ways.nodes);

@@ -20,7 +20,7 @@ kept_nodes_fit : (m count steps : ℕ) (bs : List Bool) (ns : List NodeValue) �
 kept_nodes_fit m count steps [] ns f w = tt
 kept_nodes_fit m count steps (b ∷ bs) [] f w = tt
 kept_nodes_fit m count steps (true ∷ bs) (n ∷ ns) f w = (
-  record { next = w.0; event = f.0.event; some = f.0.some; marks = f.0.marks },
+  record { next = w.0; first_break = f.0.first_break; some = f.0.some; marks = f.0.marks },
   kept_nodes_fit m count steps bs ns f.1 w.1,
 )
 kept_nodes_fit m count steps (false ∷ bs) (n ∷ ns) f w = kept_nodes_fit m count steps bs ns f.1 w
@@ -61,9 +61,9 @@ module _ (listing : Bool) (count steps : ℕ) (t : TableValue) (keeps : List Boo
           ended = (map on f.ended.0, map on f.ended.1, length-map f.ended.0 on ∙ f.ended.2, ended_kept);
           entries = λ k d i. record {
             next = rw (← memories) (ways.entries k d i);
-            event =
-                All-map (λ (e : TableEntry). IfSome e.event (FitsBreak steps)) on t.entries
-                (λ k d i. (f.entries k d i).event) k d i;
+            first_break =
+                All-map (λ (e : TableEntry). IfSome e.first_break (FitsBreak steps)) on t.entries
+                (λ k d i. (f.entries k d i).first_break) k d i;
           };
           nodes = kept_nodes_fit (length t.entries) count steps keeps t.nodes f.nodes
               (subst (λ m. NodesGoOn m (table_kept keeps t).nodes) memories ways.nodes);

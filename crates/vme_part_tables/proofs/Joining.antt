@@ -5,7 +5,7 @@ use Rattle.std.proofs.Common.{refl, ap, ◌∙◌, arith}
 use Rattle.std.specs.Option.{option_map, option_or}
 use Rattle.std.proofs.lemmas.List.{map-append}
 use Rattle.vme_trace.specs.declared.verdict.Break.{Break}
-use Rattle.vme_monitor.specs.Outcome.{EventWithin, IsWithin, MarksWithin, Outcome, earlier, followed, shifted_break}
+use Rattle.vme_monitor.specs.Outcome.{BreakWithin, IsWithin, MarksWithin, Outcome, earlier, followed, shifted_break}
 use Rattle.vme_monitor.specs.Outcome.{shifted_mark}
 use Rattle.vme_monitor.specs.declared.mark.Mark.{Mark}
 use Rattle.vme_part_format.specs.Tables.{TableValue}
@@ -18,7 +18,7 @@ module _ (m n : ℕ) (fits : m + n < 2 ^ 64) where
   later_is : (i : ℕ) → i ≤ n → later m i ≡ i + m
   later_is i h = omega arith
 
-  later_found : (e : Option WideBreak) (f : Option Break) → option_map break_of e ≡ f → EventWithin n f
+  later_found : (e : Option WideBreak) (f : Option Break) → option_map break_of e ≡ f → BreakWithin n f
       → option_map break_of (option_map (later_break m) e) ≡ option_map (shifted_break m) f
   later_found None None s h = refl
   later_found None (Some c) s h = absurd (cc)
@@ -67,8 +67,9 @@ module _ (m n : ℕ) (fits : m + n < 2 ^ 64) where
     tells_both listing a b r s p q h =
         record {
           leaving = q.leaving;
-          event = earlier_of a.event (option_map (later_break m) b.event) r.event (option_map (shifted_break m) s.event)
-              p.event (later_found b.event s.event q.event h.0);
+          first_break = earlier_of a.first_break (option_map (later_break m) b.first_break) r.first_break
+              (option_map (shifted_break m) s.first_break)
+              p.first_break (later_found b.first_break s.first_break q.first_break h.0);
           marks = marks_of_both listing a b r s p.marks q.marks h;
         }
 

@@ -70,7 +70,7 @@ module _ (m : ℕ) where
   -- and from it
   pub says_new : (made : List NodeValue) (n : NodeValue)
       → made_says m (made ++ n ∷ []) None (m + length made)
-      ≡ behind_marks n.marks (behind_break n.event (walked m (reverse made) n.next))
+      ≡ behind_marks n.marks (behind_break n.first_break (walked m (reverse made) n.next))
   says_new made n =
       let count : length (made ++ n ∷ []) ≡ length made + 1 = length-append made (n ∷ []) in
       let to : turned m (length (made ++ n ∷ [])) (m + length made) ≡ m
@@ -89,14 +89,14 @@ break_or (Some a) b = refl
 
 -- a break is said before what follows
 pub says_break : (ev : Option WideBreak) (w : WayOutcome) → SaysBehind (option_map break_of ev) [] w (behind_break ev w)
-says_break ev w = record { leaving = refl; event = break_or ev w.event; marks = refl }
+says_break ev w = record { leaving = refl; first_break = break_or ev w.first_break; marks = refl }
 
 pub says_marks : (ev : Option WideBreak) (ws : List WideMark) (ms : List Mark) (w : WayOutcome) → map mark_of ws ≡ ms
     → SaysBehind (option_map break_of ev) ms w (behind_marks ws (behind_break ev w))
 says_marks ev ws ms w e =
     record {
       leaving = refl;
-      event = break_or ev w.event;
+      first_break = break_or ev w.first_break;
       marks = map-append mark_of ws w.marks ∙ ap (λ k. k ++ map mark_of w.marks) e;
     }
 
@@ -110,15 +110,15 @@ through_nothing m made ev on w =
 
 -- a new node before a way
 pub through_node : (m : ℕ) (made : List NodeValue) (n : NodeValue) (ev on : Option WideBreak) (w : ℕ) (ms : List Mark)
-    → n.event ≡ option_or ev on → n.next ≡ turned m (length made) w → map mark_of n.marks ≡ ms
+    → n.first_break ≡ option_or ev on → n.next ≡ turned m (length made) w → map mark_of n.marks ≡ ms
     → SaysBehind (option_map break_of ev) ms (made_says m made on w)
     (made_says m (made ++ n ∷ []) None (m + length made))
-through_node m made n ev on w ms event next marks =
+through_node m made n ev on w ms first_break next marks =
     let rest = walked m (reverse made) in
     let same : made_says m (made ++ n ∷ []) None (m + length made)
     ≡ behind_marks n.marks (behind_break ev (made_says m made on w)) =
     says_new m made n
-    ∙ (ap (λ k. behind_marks n.marks (behind_break k (rest n.next))) event
+    ∙ (ap (λ k. behind_marks n.marks (behind_break k (rest n.next))) first_break
     ∙ (ap (λ k. behind_marks n.marks (behind_break (option_or ev on) (rest k))) next
     ∙ ap (behind_marks n.marks) (behind_two ev on (rest (turned m (length made) w))))) in
     subst (SaysBehind (option_map break_of ev) ms (made_says m made on w)) (sym same)
@@ -132,13 +132,13 @@ earlier_none (Some b) = refl
 pub row_tells : {P : Type 0} (place : P → ℕ) (m : ℕ) (made : List NodeValue) (p : P) (ev : Option Break)
     (ms : List Mark)
     (r : WayOutcome) → place p < m → SaysBehind ev ms (made_says m made None (place p)) r
-    → TellsRun true place r (record { leaving = p; event = ev; marks = ms })
+    → TellsRun true place r (record { leaving = p; first_break = ev; marks = ms })
 row_tells place m made p ev ms r h s =
     let ends : made_says m made None (place p) ≡ ended_in (place p) =
     ap (λ k. behind_break None (walked m (reverse made) k)) (turned_memory m (length made) (place p) h)
     ∙ ap (behind_break None) (walked_memory m (reverse made) (place p) h) in
     let s = subst (λ w. SaysBehind ev ms w r) ends s in
-    record { leaving = s.leaving; event = s.event ∙ earlier_none ev; marks = s.marks ∙ append-nil ms }
+    record { leaving = s.leaving; first_break = s.first_break ∙ earlier_none ev; marks = s.marks ∙ append-nil ms }
 
 -- where places go on, and one more
 pub onward_before : (os : List Onward) (o : Onward) (k : ℕ) → k < length os
@@ -177,10 +177,10 @@ module _ (m : ℕ) (old new : List TableNode) (n : TableNode) (pushed : new ≡ 
       (made_go_on m (map node_value old) (node_value n) g (rw (length-map old node_value) h))
 
   pub pushed_says : (ev on : Option WideBreak) (w k : ℕ) (ms : List Mark) → k ≡ m + length old
-      → n.event ≡ option_or ev on → n.next ≡ turned m (length old) w → map mark_of n.marks.items ≡ ms
+      → n.first_break ≡ option_or ev on → n.next ≡ turned m (length old) w → map mark_of n.marks.items ≡ ms
       → SaysBehind (option_map break_of ev) ms (made_says m (map node_value old) on w)
       (made_says m (map node_value new) None k)
-  pushed_says ev on w k ms at event next marks =
+  pushed_says ev on w k ms at first_break next marks =
       let many = length-map old node_value in
       let made = map node_value old in
       let to : made_says m (map node_value new) None k
@@ -188,7 +188,7 @@ module _ (m : ℕ) (old new : List TableNode) (n : TableNode) (pushed : new ≡ 
       ap (λ j. made_says m (map node_value new) None j) (at ∙ ap (λ j. m + j) (sym many))
       ∙ ap (λ l. made_says m l None (m + length made)) values in
       subst (SaysBehind (option_map break_of ev) ms (made_says m made on w)) (sym to)
-      (through_node m made (node_value n) ev on w ms event (next ∙ ap (λ j. turned m j w) (sym many)) marks)
+      (through_node m made (node_value n) ev on w ms first_break (next ∙ ap (λ j. turned m j w) (sym many)) marks)
 
 -- the table of nodes that were made
 module _ (m : ℕ) (made ns : List NodeValue) (onward : List Onward) (es : List TableEntry) (some : 0 < m)
@@ -213,7 +213,8 @@ module _ (m : ℕ) (made ns : List NodeValue) (onward : List Onward) (es : List 
       let o = onward_at onward k in
       let w = turned m (length made) o.way in
       ap (λ e. option_map_or (from_entry table) e (ended_in k)) (entries k h)
-      ∙ (ap (λ j. behind_break o.event (walked j ns w)) count ∙ ap (λ l. behind_break o.event (walked m l w)) turn)
+      ∙ (ap (λ j. behind_break o.first_break (walked j ns w)) count
+      ∙ ap (λ l. behind_break o.first_break (walked m l w)) turn)
 
   pub table_ways : HasWays table
   table_ways =
@@ -292,7 +293,7 @@ memory_step place m first new os ps o says i pushed count ways stays here below 
         let made = onward_made m (map node_value first) os k ways inside in
         let at : onward_at ps k ≡ onward_at os k
         = ap (λ (x : List Onward). onward_at x k) pushed ∙ onward_before os o k inside in
-        let still = stays (onward_at os k).event (onward_at os k).way (omega (arith, made, many)) in
+        let still = stays (onward_at os k).first_break (onward_at os k).way (omega (arith, made, many)) in
         subst (λ w. TellsRun true place w (says k))
         (sym (ap (says_at m (map node_value new)) at ∙ still)) (below k j)
     by_place (inr j) =

@@ -16,7 +16,7 @@ use Rattle.vme_part_tables.proofs.Composing.{walked_leaving}
 pub leaves_one : (t : TableValue) (k : ℕ) → HasWays t → k < length t.entries
     → (outcome_in t k).leaving < length t.entries
 leaves_one t k p h =
-    let d : TableEntry = record { next = 0; event = None } in
+    let d : TableEntry = record { next = 0; first_break = None } in
     let e : TableEntry = get_or t.entries k d in
     let at : outcome_in t k ≡ from_entry t e =
     ap (λ (o : Option TableEntry). option_map_or (from_entry t) o (ended_in k)) (slice_get-get_or t.entries k d h) in

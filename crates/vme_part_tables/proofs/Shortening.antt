@@ -47,28 +47,30 @@ past_more m d w x xs = by_place (cases_lt w m)
 
 -- what is said from a node
 walked_at : (m : ℕ) (ns : List NodeValue) (d : ℕ) (j : NodeValue) → d < length ns → get_or ns d j ≡ j
-    → walked m ns (m + d) ≡ behind_marks j.marks (behind_break j.event (walked m ns (next_past m d j.next)))
+    → walked m ns (m + d) ≡ behind_marks j.marks (behind_break j.first_break (walked m ns (next_past m d j.next)))
 walked_at m [] d j h e = absurd (omega (arith, h))
 walked_at m (x ∷ xs) zero j h e =
     let at : m + 0 ≡ m = omega arith in
     ap (walked m (x ∷ xs)) at
-    ∙ (subst (λ (y : NodeValue). walked m (x ∷ xs) m ≡ behind_marks y.marks (behind_break y.event (walked m xs y.next)))
+    ∙ (subst (λ (y : NodeValue). walked m (x ∷ xs) m ≡ behind_marks y.marks
+    (behind_break y.first_break (walked m xs y.next)))
     e (walked_here m x xs)
-    ∙ ap (λ r. behind_marks j.marks (behind_break j.event r)) (sym (past_one m j.next x xs)))
+    ∙ ap (λ r. behind_marks j.marks (behind_break j.first_break r)) (sym (past_one m j.next x xs)))
 walked_at m (x ∷ xs) (suc d) j h e =
     let back : m + suc d - 1 ≡ m + d = omega arith in
     walked_past m x xs (m + suc d) (omega arith)
     ∙ (ap (walked m xs) back
     ∙ (walked_at m xs d j (omega (arith, h)) e
-    ∙ ap (λ r. behind_marks j.marks (behind_break j.event r)) (sym (past_more m d j.next x xs))))
+    ∙ ap (λ r. behind_marks j.marks (behind_break j.first_break r)) (sym (past_more m d j.next x xs))))
 
 in_one : (ms ks : List WideMark) (a b : Option WideBreak) (r : WayOutcome)
     → behind_marks (ms ++ ks) (behind_break (option_or a b) r)
     ≡ behind_marks ms (behind_break a (behind_marks ks (behind_break b r)))
 in_one ms ks None b r =
-    ap (λ l. record { leaving = r.leaving; event = option_or b r.event; marks = l }) (append_assoc ms ks r.marks)
+    ap (λ l. record { leaving = r.leaving; first_break = option_or b r.first_break; marks = l })
+    (append_assoc ms ks r.marks)
 in_one ms ks (Some x) b r =
-    ap (λ l. record { leaving = r.leaving; event = Some x; marks = l }) (append_assoc ms ks r.marks)
+    ap (λ l. record { leaving = r.leaving; first_break = Some x; marks = l }) (append_assoc ms ks r.marks)
 
 taken_here : (m : ℕ) (n j : NodeValue) (xs : List NodeValue) (d : ℕ) → n.next ≡ m + d → d < length xs
     → get_or xs d j ≡ j → (w : ℕ) → walked m (node_with m d n j ∷ xs) w ≡ walked m (n ∷ xs) w
@@ -78,8 +80,8 @@ taken_here m n j xs d next h e w = by_order w (cases_order w m)
         → walked m (node_with m d n j ∷ xs) w ≡ walked m (n ∷ xs) w
     by_order w (inl same) =
         rw same (walked_here m (node_with m d n j) xs
-        ∙ (in_one n.marks j.marks n.event j.event (walked m xs (next_past m d j.next))
-        ∙ (ap (λ r. behind_marks n.marks (behind_break n.event r))
+        ∙ (in_one n.marks j.marks n.first_break j.first_break (walked m xs (next_past m d j.next))
+        ∙ (ap (λ r. behind_marks n.marks (behind_break n.first_break r))
         (sym (walked_at m xs d j h e) ∙ ap (walked m xs) (sym next))
         ∙ sym (walked_here m n xs))))
     by_order w (inr (inl below)) =
@@ -95,7 +97,7 @@ over_one m x xs ys same w = by_order w (cases_order w m)
     by_order : (w : ℕ) → ((w ≡ m) ⊎ ((w < m) ⊎ (m < w))) → walked m (x ∷ ys) w ≡ walked m (x ∷ xs) w
     by_order w (inl e) =
         rw e (walked_here m x ys
-        ∙ (ap (λ r. behind_marks x.marks (behind_break x.event r)) (same x.next) ∙ sym (walked_here m x xs)))
+        ∙ (ap (λ r. behind_marks x.marks (behind_break x.first_break r)) (same x.next) ∙ sym (walked_here m x xs)))
     by_order w (inr (inl below)) = walked_memory m (x ∷ ys) w below ∙ sym (walked_memory m (x ∷ xs) w below)
     by_order w (inr (inr above)) =
         walked_past m x ys w above ∙ (same (w - 1) ∙ sym (walked_past m x xs w above))
@@ -187,7 +189,7 @@ with_fits : (m steps d behind more : ℕ) (n j : NodeValue) → FitsNode m steps
 with_fits m steps d behind more n j f g order few next =
     record {
       next = next;
-      event = first_found steps n.event j.event f.event g.event;
+      first_break = first_found steps n.first_break j.first_break f.first_break g.first_break;
       some = (
         omega (arith, f.some.0, length-append n.marks j.marks),
         omega (arith, few, length-append n.marks j.marks),
@@ -207,7 +209,7 @@ taken_fits m steps (x ∷ xs) zero (suc k) d n j at e h f order few go_on g =
     (with_fits m steps d (length xs) there.0 n j own there.1 order few go_on.0, g.1)
 taken_fits m steps (x ∷ xs) (suc i) zero d n j at e h f order few go_on g = absurd (omega (arith, at))
 taken_fits m steps (x ∷ xs) (suc i) (suc k) d n j at e h f order few go_on g = (
-  record { next = go_on.0; event = g.0.event; some = g.0.some; marks = g.0.marks },
+  record { next = go_on.0; first_break = g.0.first_break; some = g.0.some; marks = g.0.marks },
   taken_fits m steps xs i k d n j (omega (arith, at)) e (omega (arith, h)) f order few go_on.1 g.1,
 )
 
@@ -334,7 +336,7 @@ module _ (m : ℕ) (xs : List TableNode) (place between : ℕ) where
         → j ≡ get_or xs (place + 1 + between) j → ys ≡ set xs place new
         → node_value new ≡ record {
           next = next_past m between j.next;
-          event = option_or n.event j.event;
+          first_break = option_or n.first_break j.first_break;
           marks = n.marks.items ++ j.marks.items;
         } → SayTheSame m (map node_value xs) (map node_value ys)
     says_the_same n j new ys is-n is-j changed made =
@@ -368,7 +370,7 @@ module _ (t : TableValue) (ms : List NodeValue) (h : HasWays t) (s : SayTheSame 
           → option_map_or (from_entry with_others) o (ended_in memory)
           ≡ option_map_or (from_entry t) o (ended_in memory)
       by_entry None = refl
-      by_entry (Some e) = ap (behind_break e.event) (s.says e.next)
+      by_entry (Some e) = ap (behind_break e.first_break) (s.says e.next)
 
   others_fit : (listing : Bool) (count steps : ℕ) → FitsTable listing count steps t
       → FitsTable listing count steps with_others
@@ -378,7 +380,7 @@ module _ (t : TableValue) (ms : List NodeValue) (h : HasWays t) (s : SayTheSame 
         ended = f.ended;
         entries = λ k d i. record {
           next = omega (arith, s.as_many, (f.entries k d i).next);
-          event = (f.entries k d i).event;
+          first_break = (f.entries k d i).first_break;
         };
         nodes = subst (λ m. FitNodes m steps ms) f.as_many
             (s.fit steps (subst (λ m. FitNodes m steps t.nodes) (sym f.as_many) f.nodes));

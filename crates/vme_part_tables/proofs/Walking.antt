@@ -25,7 +25,7 @@ walked_memory m [] w h = refl
 walked_memory m (n ∷ ns) w h = rw (lt-ltb w m h) refl
 
 pub walked_here : (m : ℕ) (n : NodeValue) (ns : List NodeValue)
-    → walked m (n ∷ ns) m ≡ behind_marks n.marks (behind_break n.event (walked m ns n.next))
+    → walked m (n ∷ ns) m ≡ behind_marks n.marks (behind_break n.first_break (walked m ns n.next))
 walked_here m n ns = rw (le-ltb m m (omega arith), same_number m) refl
 
 pub walked_past : (m : ℕ) (n : NodeValue) (ns : List NodeValue) (w : ℕ) → m < w
@@ -57,9 +57,10 @@ walked_later m by (n ∷ ns) w = by_order (walked_later m by ns) w (cases_order 
         → walked m (later_node by n ∷ map (later_node by) ns) w ≡ later_outcome by (walked m (n ∷ ns) w)
     by_order more w (inl e) =
         rw e (walked_here m (later_node by n) (map (later_node by) ns)
-        ∙ (ap (λ r. behind_marks (map (later_mark by) n.marks) (behind_break (option_map (later_break by) n.event) r))
+        ∙ (ap (λ r. behind_marks (map (later_mark by) n.marks) (behind_break (option_map (later_break by) n.first_break)
+        r))
         (more n.next)
-        ∙ (later_behind by n.marks n.event (walked m ns n.next)
+        ∙ (later_behind by n.marks n.first_break (walked m ns n.next)
         ∙ sym (ap (later_outcome by) (walked_here m n ns)))))
     by_order more w (inr (inl h)) =
         walked_memory m (later_node by n ∷ map (later_node by) ns) w h

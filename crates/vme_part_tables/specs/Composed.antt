@@ -9,7 +9,7 @@ use Rattle.vme_part_tables.specs.Ways.{HasWays, later_break, later_mark}
 
 -- the entry of a memory
 abbrev pub entry_of : List TableEntry → ℕ → TableEntry
-entry_of es memory = option_map_or (λ e. e) (slice_get es memory) (record { next = memory; event = None })
+entry_of es memory = option_map_or (λ e. e) (slice_get es memory) (record { next = memory; first_break = None })
 
 -- where a way goes on that ends in a memory, with so many nodes of the first table behind
 abbrev pub next_on : List TableEntry → ℕ → ℕ → ℕ
@@ -18,18 +18,23 @@ next_on second between way =
     if nat_lt way (length second) then (if nat_lt next (length second) then next else next + between) else way
 
 -- and its break
-abbrev pub event_on : List TableEntry → ℕ → ℕ → Option WideBreak → Option WideBreak
-event_on second steps way event =
-    if nat_lt way (length second) then option_or event (option_map (later_break steps) (entry_of second way).event)
-    else event
+abbrev pub first_break_on : List TableEntry → ℕ → ℕ → Option WideBreak → Option WideBreak
+first_break_on second steps way first_break =
+    if nat_lt way (length second) then option_or first_break
+    (option_map (later_break steps) (entry_of second way).first_break)
+    else first_break
 
 abbrev pub entry_on : List TableEntry → ℕ → ℕ → TableEntry → TableEntry
 entry_on second steps between e =
-    record { next = next_on second between e.next; event = event_on second steps e.next e.event }
+    record { next = next_on second between e.next; first_break = first_break_on second steps e.next e.first_break }
 
 abbrev pub node_on : List TableEntry → ℕ → ℕ → NodeValue → NodeValue
 node_on second steps between n =
-    record { next = next_on second between n.next; event = event_on second steps n.next n.event; marks = n.marks }
+    record {
+      next = next_on second between n.next;
+      first_break = first_break_on second steps n.next n.first_break;
+      marks = n.marks;
+    }
 
 -- a list whose elements are changed by a function of how many are behind each
 abbrev pub map_rest : {A B : Type 0} → (ℕ → A → B) → List A → List B
@@ -42,7 +47,11 @@ nodes_on second steps ns = map_rest (node_on second steps) ns
 
 abbrev pub later_node : ℕ → NodeValue → NodeValue
 later_node by n =
-    record { next = n.next; event = option_map (later_break by) n.event; marks = map (later_mark by) n.marks }
+    record {
+      next = n.next;
+      first_break = option_map (later_break by) n.first_break;
+      marks = map (later_mark by) n.marks;
+    }
 
 -- the table of both, where some nodes may be on no way
 abbrev pub table_on : TableValue → TableValue → ℕ → TableValue

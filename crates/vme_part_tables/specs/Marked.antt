@@ -16,7 +16,7 @@ use Rattle.vme_part_tables.specs.declared.marked.Onward.{Onward}
 -- a way that says a break and marks, and then what another says
 pub record SaysBehind (found : Option Break) (shown : List Mark) (w r : WayOutcome) : Type 0 where
   pub leaving : r.leaving ≡ w.leaving
-  pub event : option_map break_of r.event ≡ earlier found (option_map break_of w.event)
+  pub first_break : option_map break_of r.first_break ≡ earlier found (option_map break_of w.first_break)
   pub marks : map mark_of r.marks ≡ shown ++ map mark_of w.marks
 
 -- where a way goes on that names a node by how many were made before it: the last one made comes first
@@ -25,8 +25,8 @@ turned memories made way = if nat_lt way memories then way else memories + (made
 
 -- what is said from there, through nodes in the order in which they were made
 abbrev pub made_says : ℕ → List NodeValue → Option WideBreak → ℕ → WayOutcome
-made_says memories made event way =
-    behind_break event (walked memories (reverse made) (turned memories (length made) way))
+made_says memories made first_break way =
+    behind_break first_break (walked memories (reverse made) (turned memories (length made) way))
 
 -- nodes that were made go on with memories or with those made before
 abbrev pub MadeGoOn : ℕ → List NodeValue → Type 0
@@ -38,11 +38,11 @@ AreMade memories made onward = All (λ (o : Onward). o.way < memories + length m
 
 -- where a place goes on, if it is there
 abbrev pub onward_at : List Onward → ℕ → Onward
-onward_at onward place = option_map_or (λ o. o) (slice_get onward place) (record { event = None; way = 0 })
+onward_at onward place = option_map_or (λ o. o) (slice_get onward place) (record { first_break = None; way = 0 })
 
 -- what is said from there
 abbrev pub says_at : ℕ → List NodeValue → Onward → WayOutcome
-says_at memories made o = made_says memories made o.event o.way
+says_at memories made o = made_says memories made o.first_break o.way
 
 -- from each of the first places what is said is its run
 abbrev pub SayBelow : {P : Type 0} → (P → ℕ) → ℕ → List NodeValue → List Onward → ℕ → (ℕ → Outcome P) → Type 0
@@ -51,7 +51,7 @@ SayBelow {P} place memories made onward n runs =
 
 -- the entry of a memory
 abbrev pub entry_made : ℕ → ℕ → Onward → TableEntry
-entry_made memories made o = record { next = turned memories made o.way; event = o.event }
+entry_made memories made o = record { next = turned memories made o.way; first_break = o.first_break }
 
 -- whether the marks of the memory at a place are needed
 abbrev pub is_needed : List Bool → ℕ → Bool
@@ -67,4 +67,4 @@ marks_if false marks = []
 
 -- a run, and its marks where they are needed
 abbrev pub if_needed : {P : Type 0} → Bool → Outcome P → Outcome P
-if_needed b o = record { leaving = o.leaving; event = o.event; marks = marks_if b o.marks }
+if_needed b o = record { leaving = o.leaving; first_break = o.first_break; marks = marks_if b o.marks }

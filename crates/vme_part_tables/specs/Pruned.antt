@@ -40,7 +40,11 @@ next_kept memories keeps way =
     if nat_lt way memories then way else memories + kept_count (take (way - memories) keeps)
 
 abbrev pub node_kept : ℕ → List Bool → NodeValue → NodeValue
-node_kept memories keeps n = record { next = next_kept memories keeps n.next; event = n.event; marks = n.marks }
+node_kept memories keeps n = record {
+  next = next_kept memories keeps n.next;
+  first_break = n.first_break;
+  marks = n.marks;
+}
 
 -- the nodes that are kept
 abbrev pub nodes_kept : ℕ → List Bool → List NodeValue → List NodeValue
@@ -50,7 +54,7 @@ nodes_kept memories (b ∷ bs) (n ∷ ns) =
     if b then node_kept memories bs n ∷ nodes_kept memories bs ns else nodes_kept memories bs ns
 
 abbrev pub entry_kept : ℕ → List Bool → TableEntry → TableEntry
-entry_kept memories keeps e = record { next = next_kept memories keeps e.next; event = e.event }
+entry_kept memories keeps e = record { next = next_kept memories keeps e.next; first_break = e.first_break }
 
 abbrev pub table_kept : List Bool → TableValue → TableValue
 table_kept keeps t =

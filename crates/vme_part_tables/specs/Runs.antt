@@ -25,7 +25,7 @@ ShowsMarks false w o = w.marks ≡ []
 -- a way tells of a run: the memory that is left, the first break, and the marks
 pub record TellsRun {P : Type 0} (listing : Bool) (place : P → ℕ) (w : WayOutcome) (o : Outcome P) : Type 0 where
   pub leaving : w.leaving ≡ place o.leaving
-  pub event : option_map break_of w.event ≡ o.event
+  pub first_break : option_map break_of w.first_break ≡ o.first_break
   pub marks : ShowsMarks listing w o
 
 -- a table of so many memories tells of the run from each memory that enters

@@ -17,7 +17,7 @@ abbrev pub node_with : ℕ → ℕ → NodeValue → NodeValue → NodeValue
 node_with memories between n behind =
     record {
       next = next_past memories between behind.next;
-      event = option_or n.event behind.event;
+      first_break = option_or n.first_break behind.first_break;
       marks = n.marks ++ behind.marks;
     }
 

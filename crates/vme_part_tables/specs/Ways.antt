@@ -10,31 +10,35 @@ use Rattle.vme_part_format.specs.declared.wide.WideMark.{WideMark}
 -- the memory that is left, by its number, the first break, and the marks
 pub record WayOutcome : Type 0 where
   pub leaving : ℕ
-  pub event : Option WideBreak
+  pub first_break : Option WideBreak
   pub marks : List WideMark
 
 abbrev pub ended_in : ℕ → WayOutcome
-ended_in memory = record { leaving = memory; event = None; marks = [] }
+ended_in memory = record { leaving = memory; first_break = None; marks = [] }
 
 -- with a break before
 abbrev pub behind_break : Option WideBreak → WayOutcome → WayOutcome
-behind_break event w = record { leaving = w.leaving; event = option_or event w.event; marks = w.marks }
+behind_break first_break w = record {
+  leaving = w.leaving;
+  first_break = option_or first_break w.first_break;
+  marks = w.marks;
+}
 
 -- with marks before
 abbrev pub behind_marks : List WideMark → WayOutcome → WayOutcome
-behind_marks marks w = record { leaving = w.leaving; event = w.event; marks = marks ++ w.marks }
+behind_marks marks w = record { leaving = w.leaving; first_break = w.first_break; marks = marks ++ w.marks }
 
 -- where a way goes on: a number below that of the memories is a memory; that number is the first of the nodes
 abbrev pub walked : ℕ → List NodeValue → ℕ → WayOutcome
 walked memories [] way = ended_in way
 walked memories (n ∷ ns) way =
     if nat_lt way memories then ended_in way
-    else if way == memories then behind_marks n.marks (behind_break n.event (walked memories ns n.next))
+    else if way == memories then behind_marks n.marks (behind_break n.first_break (walked memories ns n.next))
     else walked memories ns (way - 1)
 
 -- what a table says of an entry
 abbrev pub from_entry : TableValue → TableEntry → WayOutcome
-from_entry t e = behind_break e.event (walked (length t.entries) t.nodes e.next)
+from_entry t e = behind_break e.first_break (walked (length t.entries) t.nodes e.next)
 
 -- what a table says of the memory of a number
 abbrev pub outcome_in : TableValue → ℕ → WayOutcome
@@ -63,8 +67,12 @@ later_mark n m = record { instant = later n m.instant; kind = m.kind }
 
 abbrev pub later_outcome : ℕ → WayOutcome → WayOutcome
 later_outcome n w =
-    record { leaving = w.leaving; event = option_map (later_break n) w.event; marks = map (later_mark n) w.marks }
+    record {
+      leaving = w.leaving;
+      first_break = option_map (later_break n) w.first_break;
+      marks = map (later_mark n) w.marks;
+    }
 
 -- a segment of n steps, and then one whose instants count from its own start
 abbrev pub gone_on : ℕ → WayOutcome → WayOutcome → WayOutcome
-gone_on n a b = behind_marks a.marks (behind_break a.event (later_outcome n b))
+gone_on n a b = behind_marks a.marks (behind_break a.first_break (later_outcome n b))

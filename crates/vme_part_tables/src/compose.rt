@@ -17,18 +17,21 @@ use vme_part_format::{OutcomeTable, TableEntry, TableNode, WideBreak, WideMark};
 /// Where a way goes on that the first table ends, with so many of its nodes behind.
 fn gone_on(
     way: u32,
-    event: Option<WideBreak>,
+    first_break: Option<WideBreak>,
     between: u32,
     second: &[TableEntry],
     steps: u64,
 ) -> TableEntry
     requires few { length second.now < 2 ^ 32 }
     requires fits { NextsFit second.now between }
-    ensures { result ≡ entry_on second.now steps between (record { next = way; event = event }) }
+    ensures { result ≡ entry_on second.now steps between (record { next = way; first_break = first_break }) }
 {
     let memories = second.len() as u32;
     if memories <= way {
-        return TableEntry { next: way, event };
+        return TableEntry {
+            next: way,
+            first_break,
+        };
     }
     let entry = &second[way as usize];
     let next = if memories <= entry.next {
@@ -38,7 +41,7 @@ fn gone_on(
     };
     TableEntry {
         next,
-        event: event.or(later_break(entry.event, steps)),
+        first_break: first_break.or(later_break(entry.first_break, steps)),
     }
 }
 
@@ -48,7 +51,7 @@ fn connect_entry(entry: &mut TableEntry, between: u32, second: &[TableEntry], st
     requires fits { NextsFit second.now between }
     ensures { entry.new ≡ entry_on second.now steps between entry.old }
 {
-    *entry = gone_on(entry.next, entry.event, between, second, steps);
+    *entry = gone_on(entry.next, entry.first_break, between, second, steps);
 }
 
 /// Has a node of the first table, with so many behind it, go on in the second.
@@ -57,9 +60,9 @@ fn connect_node(node: &mut TableNode, between: u32, second: &[TableEntry], steps
     requires fits { NextsFit second.now between }
     ensures { node_value node.new ≡ node_on second.now steps between (node_value node.old) }
 {
-    let way = gone_on(node.next, node.event, between, second, steps);
+    let way = gone_on(node.next, node.first_break, between, second, steps);
     node.next = way.next;
-    node.event = way.event;
+    node.first_break = way.first_break;
 }
 
 /// Has the entries of the first table, which has so many nodes, go on in the second.
@@ -107,7 +110,7 @@ fn delay_marks(marks: &mut [WideMark], by: u64)
 fn delay_node(node: &mut TableNode, by: u64)
     ensures { node_value node.new ≡ later_node_of by (node_value node.old) }
 {
-    node.event = later_break(node.event, by);
+    node.first_break = later_break(node.first_break, by);
     delay_marks(node.marks.as_mut_slice(), by);
 }
 

@@ -49,7 +49,7 @@ fn wide_marks(alloc: Global, marks: &[Mark]) -> Result<Vec<WideMark>, AllocError
 /// of nodes that were made before that node.
 #[derive(Clone, Copy)]
 struct Onward {
-    event: Option<WideBreak>,
+    first_break: Option<WideBreak>,
     way: u32,
 }
 
@@ -78,7 +78,7 @@ impl Made {
     fn through(
         &mut self,
         alloc: Global,
-        event: Option<WideBreak>,
+        first_break: Option<WideBreak>,
         marks: &[Mark],
         onward: Onward,
     ) -> Result<Onward, AllocError>
@@ -94,23 +94,27 @@ impl Made {
             ((before : Option WideBreak) (way : ℕ) → way < self.old.memories + length self.old.nodes.items
             → made_says self.old.memories (map node_value self.new.nodes.items) before way
             ≡ made_says self.old.memories (map node_value self.old.nodes.items) before way) }
-        ensures says { IfOk result (λ o. SaysBehind (option_map break_of event) marks.now
-            (made_says self.old.memories (map node_value self.old.nodes.items) onward.event onward.way)
-            (made_says self.old.memories (map node_value self.new.nodes.items) o.event o.way)) }
+        ensures says { IfOk result (λ o. SaysBehind (option_map break_of first_break) marks.now
+            (made_says self.old.memories (map node_value self.old.nodes.items) onward.first_break onward.way)
+            (made_says self.old.memories (map node_value self.new.nodes.items) o.first_break o.way)) }
     {
-        let event = event.or(onward.event);
+        let first_break = first_break.or(onward.first_break);
         if marks.is_empty() {
             return Ok(Onward {
-                event,
+                first_break,
                 way: onward.way,
             });
         }
         let made = self.nodes.len() as u32;
         let next = turned(self.memories, made, onward.way);
         let marks = wide_marks(alloc, marks)?;
-        self.nodes.push(TableNode { next, event, marks })?;
+        self.nodes.push(TableNode {
+            next,
+            first_break,
+            marks,
+        })?;
         Ok(Onward {
-            event: None,
+            first_break: None,
             way: self.memories + made,
         })
     }
@@ -166,7 +170,7 @@ fn memory_ways<M: Finite>(
         let found = M::event(summary, memory);
         let marks = marks_if_needed::<M>(alloc, summary, memory, is_needed(needs, place))?;
         let next = Onward {
-            event: None,
+            first_break: None,
             way: M::place(left) as u32,
         };
         let way = made.through(alloc, widened(found), marks.as_slice(), next)?;
@@ -182,7 +186,7 @@ fn onward_at(onward: &[Onward], place: usize) -> Onward
     match onward.get(place) {
         Some(way) => *way,
         None => Onward {
-            event: None,
+            first_break: None,
             way: 0,
         },
     }
@@ -211,7 +215,7 @@ fn made_table(
         let way = onward_at(onward, place);
         entries.push(TableEntry {
             next: turned(made.memories, count, way.way),
-            event: way.event,
+            first_break: way.first_break,
         })?;
     }
     let mut nodes = made.nodes;

@@ -147,9 +147,17 @@ fn kept_nodes(
     while let Some(node) = nodes.pop() {
         let place = nodes.len();
         if keeps[place] {
-            let TableNode { next, event, marks } = node;
+            let TableNode {
+                next,
+                first_break,
+                marks,
+            } = node;
             let next = next_kept(memories, keeps, counts, place + 1, next);
-            kept.push(TableNode { next, event, marks })?;
+            kept.push(TableNode {
+                next,
+                first_break,
+                marks,
+            })?;
         }
     }
     kept.reverse();

@@ -118,18 +118,18 @@ fn copied(alloc: Global, marks: &[WideMark]) -> Result<Vec<WideMark>, AllocError
 fn lengthen(
     node: &mut TableNode,
     next: u32,
-    event: Option<WideBreak>,
+    first_break: Option<WideBreak>,
     more: Vec<WideMark>,
 ) -> Result<(), AllocError>
     ensures { OnOk result (node_value node.new ≡ record {
       next = next;
-      event = option_or node.old.event event;
+      first_break = option_or node.old.first_break first_break;
       marks = node.old.marks.items ++ more.items;
     }) }
 {
     let mut more = more;
     node.next = next;
-    node.event = node.event.or(event);
+    node.first_break = node.first_break.or(first_break);
     node.marks.append(&mut more)
 }
 
@@ -161,9 +161,9 @@ fn take_in(
 {
     let behind = &nodes[place + 1 + between];
     let next = next_past(memories, between, behind.next);
-    let event = behind.event;
+    let first_break = behind.first_break;
     let more = copied(alloc, behind.marks.as_slice())?;
-    lengthen(&mut nodes[place], next, event, more)
+    lengthen(&mut nodes[place], next, first_break, more)
 }
 
 /// Has a node take in those behind it that no other way leads to, if one leads to it.

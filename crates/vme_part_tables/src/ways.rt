@@ -28,24 +28,24 @@ pub fn follow(table: &OutcomeTable, memory: u32) -> (u32, Option<WideBreak>)
     requires few { length table.now.entries.items < 2 ^ 32 }
     requires memory { memory < length table.now.entries.items }
     ensures leaving { result.0 ≡ (outcome_in (table_value table.now) memory).leaving }
-    ensures event { result.1 ≡ (outcome_in (table_value table.now) memory).event }
+    ensures first_break { result.1 ≡ (outcome_in (table_value table.now) memory).first_break }
 {
     let memories = table.entries.len() as u32;
     let entry = &table.entries[memory as usize];
     let mut way = entry.next;
-    let mut event = entry.event;
+    let mut first_break = entry.first_break;
     for node in &table.nodes {
         if way < memories {
-            return (way, event);
+            return (way, first_break);
         }
         if way == memories {
-            event = event.or(node.event);
+            first_break = first_break.or(node.first_break);
             way = node.next;
         } else {
             way -= 1;
         }
     }
-    (way, event)
+    (way, first_break)
 }
 
 /// Adds marks, some instants later.

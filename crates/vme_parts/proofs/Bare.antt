@@ -33,7 +33,7 @@ module _ {P : Type 0} (place : P → ℕ) (nth : ℕ → P) (says : P → Outcom
   -- an entry says what the memory at a place comes to
   pub record IsRow (k : ℕ) (e : TableEntry) : Type 0 where
     pub next : e.next ≡ place (says (nth k)).leaving
-    pub event : option_map break_of e.event ≡ (says (nth k)).event
+    pub first_break : option_map break_of e.first_break ≡ (says (nth k)).first_break
 
   -- so do the first entries
   abbrev pub AreRows : List TableEntry → ℕ → Type 0
@@ -72,8 +72,9 @@ module _ {P : Type 0} (place : P → ℕ) (nth : ℕ → P) (says : P → Outcom
             = ap (λ o. option_map_or (from_entry t) o (ended_in (place p))) r.1 in
             record {
               leaving = ap (λ (w : WayOutcome). w.leaving) at ∙ (r.2.next ∙ ap (λ q. place (says q).leaving) (found p));
-              event = ap (λ (w : WayOutcome). option_map break_of w.event) at
-                  ∙ (ap (option_map break_of) (or_none r.0.event) ∙ (r.2.event ∙ ap (λ q. (says q).event) (found p)));
+              first_break = ap (λ (w : WayOutcome). option_map break_of w.first_break) at
+                  ∙ (ap (option_map break_of) (or_none r.0.first_break)
+                  ∙ (r.2.first_break ∙ ap (λ q. (says q).first_break) (found p)));
               marks = ap (λ (w : WayOutcome). w.marks) at;
             };
       }

@@ -27,14 +27,14 @@ segment_there xs k d h all =
 -- ---- what is said is the same
 
 same_tables : (t : TableValue) → AreTablesAlike t t
-same_tables t = record { as_many = refl; leaving = λ k h. refl; event = λ k h. refl }
+same_tables t = record { as_many = refl; leaving = λ k h. refl; first_break = λ k h. refl }
 
 tables_back : (t u : TableValue) → AreTablesAlike t u → AreTablesAlike u t
 tables_back t u a =
     record {
       as_many = sym a.as_many;
       leaving = λ k h. sym (a.leaving k (omega (arith, h, a.as_many)));
-      event = λ k h. sym (a.event k (omega (arith, h, a.as_many)));
+      first_break = λ k h. sym (a.first_break k (omega (arith, h, a.as_many)));
     }
 
 tables_on : (t u v : TableValue) → AreTablesAlike t u → AreTablesAlike u v → AreTablesAlike t v
@@ -42,7 +42,7 @@ tables_on t u v a b =
     record {
       as_many = b.as_many ∙ a.as_many;
       leaving = λ k h. a.leaving k h ∙ b.leaving k (omega (arith, h, a.as_many));
-      event = λ k h. a.event k h ∙ b.event k (omega (arith, h, a.as_many));
+      first_break = λ k h. a.first_break k h ∙ b.first_break k (omega (arith, h, a.as_many));
     }
 
 same_segment : (s : SegmentValue) → AreAlike s s

@@ -21,17 +21,17 @@ use Rattle.vme_parts.proofs.Runs.{IsRun}
 
 -- a way without its marks
 abbrev bare : WayOutcome → WayOutcome
-bare w = record { leaving = w.leaving; event = w.event; marks = [] }
+bare w = record { leaving = w.leaving; first_break = w.first_break; marks = [] }
 
 tells_bare : {P : Type 0} (listing : Bool) (place : P → ℕ) (w : WayOutcome) (r : Outcome P)
     → TellsRun listing place w r → TellsRun false place (bare w) r
-tells_bare listing place w r t = record { leaving = t.leaving; event = t.event; marks = refl }
+tells_bare listing place w r t = record { leaving = t.leaving; first_break = t.first_break; marks = refl }
 
 -- the memory that a table leaves is one of its memories
 pub leaves_memory : (n : ℕ) (t : TableValue) (k : ℕ) → IsTableOf n t → k < n → (outcome_in t k).leaving < n
 leaves_memory n t k p h =
     let below : k < length t.entries = omega (arith, p.counted, h) in
-    let d : TableEntry = record { next = 0; event = None } in
+    let d : TableEntry = record { next = 0; first_break = None } in
     let e : TableEntry = get_or t.entries k d in
     let at : outcome_in t k ≡ from_entry t e =
     ap (λ (o : Option TableEntry). option_map_or (from_entry t) o (ended_in k))
@@ -43,10 +43,11 @@ leaves_memory n t k p h =
 pub past_state : {P : Type 0} (run : P → Levels → List Step → Outcome P) → IsRun run → (begin : Levels → P)
     (place : P → ℕ) (listing : Bool) (count : ℕ) (t : TableValue) (s r : State) (o v : Levels) (x y : List Step)
     (steps : ℕ) → r.memory ≡ (outcome_in t s.memory).leaving
-    → r.event ≡ option_or s.event (option_map (later_break steps) (outcome_in t s.memory).event) → v ≡ levels_after o x
+    → r.first_break ≡ option_or s.first_break (option_map (later_break steps) (outcome_in t s.memory).first_break) → v
+    ≡ levels_after o x
     → steps ≡ length x → length x + length y < 2 ^ 64 → HasState run begin place s o x
     → TellsRuns listing count place t (λ p. run p v y) → HasState run begin place r o (x ++ y)
-past_state {P} run law begin place listing count t s r o v x y steps memory event opens counted fits was tells =
+past_state {P} run law begin place listing count t s r o v x y steps memory first_break opens counted fits was tells =
     let p = (run (begin o) o x).leaving in
     let a = was in
     let b : TellsRun false place (bare (outcome_in t s.memory)) (run p v y) =
@@ -54,7 +55,7 @@ past_state {P} run law begin place listing count t s r o v x y steps memory even
     let both = tells_both (length x) (length y) fits place false (way_of s) (bare (outcome_in t s.memory))
     (run (begin o) o x) (run p v y) a b (law.within p v y) in
     let way : way_of r ≡ gone_on (length x) (way_of s) (bare (outcome_in t s.memory)) =
-    rw (memory, event, counted) refl in
+    rw (memory, first_break, counted) refl in
     let whole : run (begin o) o (x ++ y) ≡ followed (length x) (run (begin o) o x) (run p v y) =
     rw opens (law.joined (begin o) o x y) in
     subst (λ (w : WayOutcome). TellsRun false place w (run (begin o) o (x ++ y))) (sym way)

@@ -23,7 +23,7 @@ unmarked_tells {P} observation next count place t o x s =
           let e = unmarked_run observation next x k o in
           record {
             leaving = (s.tells k).leaving ∙ ap (λ (r : Outcome P). place r.leaving) e;
-            event = (s.tells k).event ∙ ap (λ (r : Outcome P). r.event) e;
+            first_break = (s.tells k).first_break ∙ ap (λ (r : Outcome P). r.first_break) e;
             marks = (s.tells k).marks;
           };
     }

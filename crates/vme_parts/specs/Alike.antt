@@ -12,7 +12,8 @@ pub record AreTablesAlike (t u : TableValue) : Type 0 where
   pub as_many : length u.entries ≡ length t.entries
   pub leaving : (memory : ℕ) → memory < length t.entries
       → (outcome_in t memory).leaving ≡ (outcome_in u memory).leaving
-  pub event : (memory : ℕ) → memory < length t.entries → (outcome_in t memory).event ≡ (outcome_in u memory).event
+  pub first_break : (memory : ℕ) → memory < length t.entries → (outcome_in t memory).first_break
+      ≡ (outcome_in u memory).first_break
 
 -- two segments say the same of their files, but for marks
 pub record AreAlike (s t : SegmentValue) : Type 0 where

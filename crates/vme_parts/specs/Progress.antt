@@ -32,7 +32,7 @@ use Rattle.vme_parts.specs.declared.state.States.{States}
 
 -- what is known of a way
 abbrev pub way_of : State → WayOutcome
-way_of s = record { leaving = s.memory; event = s.event; marks = [] }
+way_of s = record { leaving = s.memory; first_break = s.first_break; marks = [] }
 
 -- a monitor that began at an opening is, after some steps, in this memory, and has found this break first
 abbrev pub HasState : {P : Type 0} → (P → Levels → List Step → Outcome P) → (Levels → P) → (P → ℕ) → State → Levels

@@ -71,10 +71,10 @@ fn break_fits(found: WideBreak, steps: u64) -> bool
 }
 
 /// Whether a break is one of so many steps, if there is one.
-fn event_fits(event: Option<WideBreak>, steps: u64) -> bool
-    ensures { IsTrue result → IfSome event (FitsBreak steps) }
+fn first_break_fits(first_break: Option<WideBreak>, steps: u64) -> bool
+    ensures { IsTrue result → IfSome first_break (FitsBreak steps) }
 {
-    match event {
+    match first_break {
         Some(found) => break_fits(found, steps),
         None => true,
     }
@@ -120,7 +120,7 @@ fn node_fits(node: &TableNode, memories: u32, steps: u64, behind: u32) -> bool
     ensures { IsTrue result → FitsNode memories steps behind (node_value node.now) }
 {
     node.next < memories + behind
-        && event_fits(node.event, steps)
+        && first_break_fits(node.first_break, steps)
         && !node.marks.is_empty()
         && node.marks.len() <= u32::MAX as usize
         && marks_fit(node.marks.as_slice(), steps)
@@ -143,7 +143,7 @@ fn nodes_fit(nodes: &[TableNode], memories: u32, steps: u64) -> bool
 fn entry_fits(entry: &TableEntry, ways: u32, steps: u64) -> bool
     ensures { IsTrue result → FitsEntry steps ways entry.now }
 {
-    entry.next < ways && event_fits(entry.event, steps)
+    entry.next < ways && first_break_fits(entry.first_break, steps)
 }
 
 fn entries_fit(entries: &[TableEntry], ways: u32, steps: u64) -> bool

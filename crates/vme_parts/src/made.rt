@@ -39,8 +39,8 @@ fn bare_table<M: Finite>(alloc: Global, summary: &M::Summary) -> Result<OutcomeT
         let memory = M::nth(place);
         let left = M::leaving(summary, memory);
         let next = M::place(left) as u32;
-        let event = widened(M::event(summary, memory));
-        entries.push(TableEntry { next, event })?;
+        let first_break = widened(M::event(summary, memory));
+        entries.push(TableEntry { next, first_break })?;
     }
     let nodes = Vec::new(alloc);
     Ok(OutcomeTable { entries, nodes })

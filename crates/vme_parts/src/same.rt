@@ -60,7 +60,8 @@ fn are_ways_same(first: &OutcomeTable, second: &OutcomeTable, memory: u32) -> bo
     requires in_second { memory < length second.now.entries.items }
     ensures { IsTrue result
         ↔ ((outcome_in (table_value first.now) memory).leaving ≡ (outcome_in (table_value second.now) memory).leaving)
-        × ((outcome_in (table_value first.now) memory).event ≡ (outcome_in (table_value second.now) memory).event) }
+        × ((outcome_in (table_value first.now) memory).first_break
+        ≡ (outcome_in (table_value second.now) memory).first_break) }
 {
     let (left, found) = follow(first, memory);
     let (other_left, other_found) = follow(second, memory);

@@ -10,7 +10,7 @@ ghost use Rattle.vme_trace.specs.declared.step.Step.{Step};
 ghost use Rattle.vme_monitor.specs.BothMonitors.{breaks_before as fault_before, least as least_of};
 ghost use Rattle.vme_monitor.specs.BothMonitors.{sooner as sooner_than};
 ghost use Rattle.vme_monitor.specs.Whole.{has_span};
-ghost use Rattle.vme_summary.specs.Summaries.{first_break as first_break_of};
+ghost use Rattle.vme_summary.specs.Summaries.{first_break_of};
 ghost use Rattle.vme_part_format.specs.Tables.{segment_value, table_value};
 ghost use Rattle.vme_part_tables.specs.Runs.{break_of};
 ghost use Rattle.vme_part_tables.specs.Ways.{later_break as later_break_of, outcome_in};
@@ -33,19 +33,19 @@ use vme_trace::Lines;
 #[derive(Clone, Copy)]
 pub struct State {
     pub memory: u32,
-    pub event: Option<WideBreak>,
+    pub first_break: Option<WideBreak>,
 }
 
 /// A monitor at the opening of a recording.
 fn begin<M: Finite>(opening: &Lines) -> State
     ensures memory { result.memory ≡ M.place_of (M.begin opening.now) }
     ensures low { result.memory < M.COUNT }
-    ensures event { result.event ≡ None }
+    ensures first_break { result.first_break ≡ None }
 {
     let memory = M::place(M::start(opening)) as u32;
     State {
         memory,
-        event: None,
+        first_break: None,
     }
 }
 
@@ -54,13 +54,13 @@ fn past(state: State, table: &OutcomeTable, steps: u64) -> State
     requires few { length table.now.entries.items < 2 ^ 32 }
     requires memory { state.memory < length table.now.entries.items }
     ensures memory { result.memory ≡ (outcome_in (table_value table.now) state.memory).leaving }
-    ensures event { result.event ≡ option_or state.event
-        (option_map (later_break_of steps) (outcome_in (table_value table.now) state.memory).event) }
+    ensures first_break { result.first_break ≡ option_or state.first_break
+        (option_map (later_break_of steps) (outcome_in (table_value table.now) state.memory).first_break) }
 {
-    let (memory, event) = follow(table, state.memory);
+    let (memory, first_break) = follow(table, state.memory);
     State {
         memory,
-        event: state.event.or(later_break(event, steps)),
+        first_break: state.first_break.or(later_break(first_break, steps)),
     }
 }
 
@@ -170,10 +170,10 @@ impl States {
         stability_over_recordings();
         grants_over_recordings();
         acknowledge_over_recordings();
-        let chains = least(self.grant.event, self.acknowledge.event);
-        let held = least(self.stability.event, chains);
-        let started = least(self.handshake.event, held);
-        least(self.known.event, started)
+        let chains = least(self.grant.first_break, self.acknowledge.first_break);
+        let held = least(self.stability.first_break, chains);
+        let started = least(self.handshake.first_break, held);
+        least(self.known.first_break, started)
     }
 
     /// The verdict on it.

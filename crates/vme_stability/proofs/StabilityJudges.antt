@@ -20,7 +20,7 @@ use Rattle.vme_monitor.specs.Run.{break_at, nothing, machine_step, quiet, run_of
 use Rattle.vme_monitor.specs.OverStretches.{observed, phase_step, start_in}
 use Rattle.vme_monitor.specs.Whole.{FindsLeast, ShowsAll}
 use Rattle.vme_monitor.specs.declared.mark.Next.{Next}
-use Rattle.vme_monitor.proofs.OwnRules.{own_event, own_marks}
+use Rattle.vme_monitor.proofs.OwnRules.{own_first_break, own_marks}
 use Rattle.vme_monitor.proofs.SpanFacts.{IsSpan}
 use Rattle.vme_monitor.proofs.Alongside.{changes_fit, levels_step, memory_early}
 use Rattle.vme_stability.specs.StabilityRules.{fault_on, is_observed, shifted_fault, undriven_fault, keeps_direction}
@@ -191,11 +191,12 @@ module _ (t : Trace) (span : Stretch) (ok : malformed_step t ≡ None) (facts : 
       let holds = holds_at n from (omega arith) (omega arith) in
       rw (next_is n from before within (memory_at n) holds) (fault_is n from before within (memory_at n) holds unbroken)
 
-pub stability_event : FindsLeast
+pub stability_first_break : FindsLeast
     (run_of (machine_step (observed stability_observation) (phase_step stability_begin stability_start_marks nothing
     (λ l. None)
     stability_next))) (start_in stability_begin) stability_rules
-stability_event = own_event stability_begin stability_start_marks stability_observation stability_next stability_rules
+stability_first_break = own_first_break stability_begin stability_start_marks stability_observation stability_next
+    stability_rules
     refl
     (λ t span ok few facts n from before within unbroken. judges_inside t span ok facts n from before within unbroken)
 

@@ -12,7 +12,7 @@
 //! # What is proved
 //!
 //! [`stability::stability_over_recordings`]: over every recording, also where other rules are
-//! broken, the monitor's event is the least break of these six rules (`event`), and it shows no
+//! broken, the monitor's first break is the least break of these six rules (`first_break`), and it shows no
 //! marks (`marks`).
 //!
 //! # What isn't proved

@@ -261,8 +261,8 @@ impl Rules for StabilityRules {
 /// (a data line that a write moves changes before the answer and before a data strobe rises).
 pub type Stability = RuleMonitor<StabilityRules>;
 
-/// Over a whole recording, the event is the least break of U2, U3, U4, S1, S2 and S3, and there are no marks.
+/// Over a whole recording, the first break is the least break of U2, U3, U4, S1, S2 and S3, and there are no marks.
 pub fn stability_over_recordings()
-    ensures event { FindsLeast ⟦<Stability as Monitor>⟧.run ⟦<Stability as Monitor>⟧.begin stability_rules }
+    ensures first_break { FindsLeast ⟦<Stability as Monitor>⟧.run ⟦<Stability as Monitor>⟧.begin stability_rules }
     ensures marks { ShowsAll ⟦<Stability as Monitor>⟧.run ⟦<Stability as Monitor>⟧.begin nothing stability_shown }
 {}

@@ -34,7 +34,8 @@ pub led_on : {P : Type 0} (next : P → Levels → Levels → List Change → Ne
     (o : Levels) (x : List Step) (s : Step) (before after : Levels) (n : ℕ) → before ≡ levels_after o x
     → after ≡ changed before s.changes → n ≡ length x + 1
     → b.memory ≡ (next a.memory before after s.changes).memory
-    → b.event ≡ earlier a.event (option_map (break_at n s.time) (next a.memory before after s.changes).fault)
+    → b.first_break ≡ earlier a.first_break
+    (option_map (break_at n s.time) (next a.memory before after s.changes).fault)
     → HasMonitorState (run_of next) begin a o x → HasMonitorState (run_of next) begin b o (x ++ s ∷ [])
 led_on {P} next begin a b o x s before after n here there count m e seen =
     let so_far = run_of next (begin o) o x in
@@ -43,12 +44,13 @@ led_on {P} next begin a b o x s before after n here there count m e seen =
     record {
       memory = m ∙ ap (λ (p : P). (next p before after s.changes).memory) seen.memory
           ∙ sym (ap (λ (r : Outcome P). r.leaving) whole);
-      event = e
-          ∙ ap (λ (k : ℕ). earlier a.event (later k (next a.memory before after s.changes).fault)) count
-          ∙ ap (λ (p : P). earlier a.event (later (length x + 1) (next p before after s.changes).fault)) seen.memory
+      first_break = e
+          ∙ ap (λ (k : ℕ). earlier a.first_break (later k (next a.memory before after s.changes).fault)) count
+          ∙ ap (λ (p : P). earlier a.first_break (later (length x + 1) (next p before after s.changes).fault))
+          seen.memory
           ∙ ap (λ (v : Option Break). earlier v (later (length x + 1)
-          (next so_far.leaving before after s.changes).fault)) seen.event
-          ∙ sym (ap (λ (r : Outcome P). r.event) whole);
+          (next so_far.leaving before after s.changes).fault)) seen.first_break
+          ∙ sym (ap (λ (r : Outcome P). r.first_break) whole);
     }
 
 -- what the lines are after a step

@@ -15,17 +15,18 @@ use Rattle.vme_summary.specs.AllShown.{all_marks}
 use Rattle.vme_summary.specs.MarkedRows.{listed}
 use Rattle.vme_summary.specs.Stands.{IsListingOf, StandsForBlocks}
 use Rattle.vme_summary.specs.Progressed.{HasFoundAll}
-use Rattle.vme_summary.specs.Summaries.{StandsForAll, first_break, summary_steps}
+use Rattle.vme_summary.specs.Summaries.{StandsForAll, first_break_of, summary_steps}
 use Rattle.vme_summary.specs.declared.monitor_states.MonitorStates.{MonitorStates}
 use Rattle.vme_summary.specs.declared.span.Span.{Span}
 use Rattle.vme_summary.specs.declared.summary.MonitorSummaries.{MonitorSummaries}
 use Rattle.vme_summary.proofs.MarkedListing.{marked_is_listed}
 use Rattle.vme_summary.proofs.Whole.{FindsFrom, found_all, span_of_all}
 
-listing_at : (t : Trace) (judged : Bool) (event : Option Break) (opening : Levels) (marks : List Mark) → judged
-    ≡ has_span (judged_spans t) → event ≡ first_break t → opening ≡ t.opening → marks ≡ all_marks t → recorded_rows t
-    ≡ listed opening judged event marks
-listing_at t judged event opening marks started first opens seen =
+listing_at : (t : Trace) (judged : Bool) (first_break : Option Break) (opening : Levels) (marks : List Mark) → judged
+    ≡ has_span (judged_spans t) → first_break ≡ first_break_of t → opening ≡ t.opening → marks ≡ all_marks t
+    → recorded_rows t
+    ≡ listed opening judged first_break marks
+listing_at t judged first_break opening marks started first opens seen =
     let whole = marked_is_listed t in
     cc
 
@@ -33,12 +34,13 @@ listing_at t judged event opening marks started first opens seen =
 pub listing_found : (s : MonitorSummaries) (o : Levels) (t : Trace) → StandsForAll s o t
     → (f : MonitorStates) → FindsFrom s o f
     → (judged : Bool) → ((t : Trace) → HasFoundAll f t → judged ≡ has_span (judged_spans t))
-    → (event : Option Break) → ((t : Trace) → HasFoundAll f t → event ≡ first_break t)
+    → (first_break : Option Break) → ((t : Trace) → HasFoundAll f t → first_break ≡ first_break_of t)
     → (marks : List Mark) → ((t : Trace) → StandsForAll s o t → marks ≡ all_marks t) → listing_of t ≡ in_newest_version
-    (listed o judged event marks)
-listing_found s o t all f finds judged started event first marks seen =
+    (listed o judged first_break marks)
+listing_found s o t all f finds judged started first_break first marks seen =
     let found = found_all s o f t finds all in
-    ap in_newest_version (listing_at t judged event o marks (started t found) (first t found) all.opens (seen t all))
+    ap in_newest_version (listing_at t judged first_break o marks (started t found) (first t found) all.opens
+    (seen t all))
 
 -- a law of the listings of recordings holds of it
 pub placed_found : (s : MonitorSummaries) (o : Levels) (t : Trace) → StandsForAll s o t → summary_steps s < 2 ^ 32

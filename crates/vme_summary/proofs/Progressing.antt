@@ -35,8 +35,8 @@ use Rattle.vme_summary.proofs.Whole.{joined_sound}
 -- what a monitor sees of further steps from the memory that it is in
 pub seen_after : {P : Type 0} (next : P → Levels → Levels → List Change → Next P) (begin : Levels → P)
     (says : P → Outcome P) (count n : ℕ) (a b : MonitorState P) (o : Levels) (x y : List Step)
-    → b.memory ≡ (says a.memory).leaving → b.event ≡ earlier a.event
-    (option_map (shifted_break n) (says a.memory).event) → n ≡ length x
+    → b.memory ≡ (says a.memory).leaving → b.first_break ≡ earlier a.first_break
+    (option_map (shifted_break n) (says a.memory).first_break) → n ≡ length x
     → HasMonitorState (run_of next) begin a o x → FindsFor (run_of next) says count (levels_after o x) y
     → HasMonitorState (run_of next) begin b o (x ++ y)
 seen_after {P} next begin says count n a b o x y m e long seen finds =
@@ -46,14 +46,15 @@ seen_after {P} next begin says count n a b o x y m e long seen finds =
     let whole = run_joined next x y (begin o) o in
     let left : (says a.memory).leaving ≡ rest.leaving = finds.leaving a.memory
     ∙ ap (λ (p : P). (run_of next p after y).leaving) seen.memory in
-    let broken : (says a.memory).event ≡ rest.event = finds.event a.memory
-    ∙ ap (λ (p : P). (run_of next p after y).event) seen.memory in
+    let broken : (says a.memory).first_break ≡ rest.first_break = finds.first_break a.memory
+    ∙ ap (λ (p : P). (run_of next p after y).first_break) seen.memory in
     record {
       memory = m ∙ left ∙ sym (ap (λ (r : Outcome P). r.leaving) whole);
-      event = e ∙ ap (λ (k : ℕ). earlier a.event (option_map (shifted_break k) (says a.memory).event)) long
-          ∙ ap (λ v. earlier a.event (option_map (shifted_break (length x)) v)) broken
-          ∙ ap (λ v. earlier v (option_map (shifted_break (length x)) rest.event)) seen.event
-          ∙ sym (ap (λ (r : Outcome P). r.event) whole);
+      first_break = e ∙ ap (λ (k : ℕ). earlier a.first_break (option_map (shifted_break k) (says a.memory).first_break))
+          long
+          ∙ ap (λ v. earlier a.first_break (option_map (shifted_break (length x)) v)) broken
+          ∙ ap (λ v. earlier v (option_map (shifted_break (length x)) rest.first_break)) seen.first_break
+          ∙ sym (ap (λ (r : Outcome P). r.first_break) whole);
     }
 
 pub come_after : (p : RunningVerdict) (s : Span) (e : Extent) (n : ℕ) (f : MonitorStates) → e ≡ joined_extent p.extent

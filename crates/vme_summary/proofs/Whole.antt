@@ -18,7 +18,8 @@ use Rattle.vme_trace.specs.declared.verdict.Verdict.TheVariants.{NeverIdle}
 use Rattle.vme_monitor.specs.Whole.{has_span}
 use Rattle.vme_summary.specs.Joins.{BlocksJoin, first_time, is_later, joined_trace, last_time, left_by}
 use Rattle.vme_summary.specs.Progressed.{HasFound, HasFoundAll}
-use Rattle.vme_summary.specs.Summaries.{StandsForAll, SummaryFindsFor, SummaryStandsFor, first_break, stands_finds_all}
+use Rattle.vme_summary.specs.Summaries.{StandsForAll, SummaryFindsFor, SummaryStandsFor, first_break_of}
+use Rattle.vme_summary.specs.Summaries.{stands_finds_all}
 use Rattle.vme_summary.specs.Stands.{IsVerdictOf, SpanStandsFor}
 use Rattle.vme_summary.specs.declared.monitor_states.MonitorStates.{MonitorStates}
 use Rattle.vme_summary.specs.declared.span.Span.{Span}
@@ -105,10 +106,11 @@ judged_none [] t e = refl
 judged_none (span ∷ spans) t e = absurd (cc)
 
 -- the verdict where something is judged
-pub judged_verdict : (t : Trace) (judged : Bool) (event : Option Break) → judged ≡ has_span (judged_spans t) → event
-    ≡ first_break t → judged ≡ true → verdict_by rules_in_force t ≡ verdict_on event
+pub judged_verdict : (t : Trace) (judged : Bool) (first_break : Option Break) → judged ≡ has_span (judged_spans t)
+    → first_break
+    ≡ first_break_of t → judged ≡ true → verdict_by rules_in_force t ≡ verdict_on first_break
 unfolding verdict_by
-judged_verdict t judged event started first on = judged_some (judged_spans t) t (sym started ∙ on)
+judged_verdict t judged first_break started first on = judged_some (judged_spans t) t (sym started ∙ on)
     ∙ ap verdict_on (sym first)
 
 -- and where nothing is

@@ -31,7 +31,7 @@ pub record HasMonitorState {P : Type 0}
     (run : P → Levels → List Step → Outcome P) (begin : Levels → P) (seen : MonitorState P) (o : Levels)
     (x : List Step) : Type 0 where
   pub memory : seen.memory ≡ (run (begin o) o x).leaving
-  pub event : seen.event ≡ (run (begin o) o x).event
+  pub first_break : seen.first_break ≡ (run (begin o) o x).first_break
 
 -- and so for each monitor
 pub record HasFound (found : MonitorStates) (o : Levels) (x : List Step) : Type 0 where

@@ -95,5 +95,5 @@ pub record StandsForAll (s : MonitorSummaries) (opening : Levels) (t : Trace) : 
   pub stands : SummaryStandsFor s t.opening t.steps
 
 -- the first break of a recording, by the rules in force
-abbrev pub first_break : Trace → Option Break
-first_break t = least_of rules_in_force t (judged_spans t)
+abbrev pub first_break_of : Trace → Option Break
+first_break_of t = least_of rules_in_force t (judged_spans t)

@@ -31,18 +31,18 @@ use vme_trace::{Break, Change, Lines, Step, Verdict};
 #[derive(Drop)]
 pub(crate) struct MonitorState<P> {
     pub(crate) memory: P,
-    pub(crate) event: Option<Break>,
+    pub(crate) first_break: Option<Break>,
 }
 
 impl<P: Enumerable> MonitorState<P> {
     /// What a monitor that begins in this memory has come to before any step.
     pub(crate) fn at(memory: P) -> MonitorState<P>
         ensures memory { result.memory ≡ memory }
-        ensures event { result.event ≡ None }
+        ensures first_break { result.first_break ≡ None }
     {
         MonitorState {
             memory,
-            event: None,
+            first_break: None,
         }
     }
 
@@ -51,17 +51,17 @@ impl<P: Enumerable> MonitorState<P> {
         requires { steps + table.now.steps < 2 ^ 32 }
         ensures memory { result.memory ≡ (outcome table.now.layers.items table.now.rows.items self.now.memory
             (P.place_of self.now.memory)).leaving }
-        ensures event { result.event ≡ earlier self.now.event
+        ensures first_break { result.first_break ≡ earlier self.now.first_break
             (option_map (shifted_break steps) (outcome table.now.layers.items table.now.rows.items self.now.memory
-            (P.place_of self.now.memory)).event) }
+            (P.place_of self.now.memory)).first_break) }
     {
-        let event = match self.event {
+        let first_break = match self.first_break {
             Some(found) => Some(found),
-            None => later_break(table.event(self.memory), steps),
+            None => later_break(table.first_break(self.memory), steps),
         };
         MonitorState {
             memory: table.leaving(self.memory),
-            event,
+            first_break,
         }
     }
 }
@@ -140,7 +140,7 @@ pub(crate) fn advance<R: Rules>(
     ensures memory { state.new.memory
         ≡ (machine_step (observed R.observation) (phase_step R.begin R.start_marks R.reset_marks R.end_fault R.next)
         state.old.memory view.now.before view.now.after changes.now).memory }
-    ensures event { state.new.event ≡ earlier state.old.event (option_map (break_at instant time)
+    ensures first_break { state.new.first_break ≡ earlier state.old.first_break (option_map (break_at instant time)
         (machine_step (observed R.observation) (phase_step R.begin R.start_marks R.reset_marks R.end_fault R.next)
         state.old.memory view.now.before view.now.after changes.now).fault) }
 {
@@ -148,8 +148,8 @@ pub(crate) fn advance<R: Rules>(
         return;
     };
     state.memory = next.memory;
-    if let (None, Some(fault)) = (state.event, next.fault) {
-        state.event = Some(Break {
+    if let (None, Some(fault)) = (state.first_break, next.fault) {
+        state.first_break = Some(Break {
             instant,
             time,
             rule: fault.rule,

@@ -11,7 +11,7 @@ ghost use Rattle.vme_summary.specs.AllShown.{all_marks};
 ghost use Rattle.vme_summary.specs.HasRoom.{HasRoom};
 ghost use Rattle.vme_summary.specs.Advancing.{IsAdvancedTo};
 ghost use Rattle.vme_summary.specs.Progressed.{FoundAfter, HasFound, HasFoundAll};
-ghost use Rattle.vme_summary.specs.Summaries.{first_break as first_break_of, StandAlike, StandsForAll, SummaryFindsFor};
+ghost use Rattle.vme_summary.specs.Summaries.{first_break_of, StandAlike, StandsForAll, SummaryFindsFor};
 ghost use Rattle.vme_summary.specs.Summaries.{SummaryStandsFor, SummaryStandsForBoth, summary_steps};
 
 use crate::each_monitor::summarise_monitors;
@@ -251,9 +251,9 @@ impl MonitorStates {
         stability_over_recordings();
         grants_over_recordings();
         acknowledge_over_recordings();
-        let chains = least(self.grant.event, self.acknowledge.event);
-        let held = least(self.stability.event, chains);
-        let started = least(self.handshake.event, held);
-        least(self.known.event, started)
+        let chains = least(self.grant.first_break, self.acknowledge.first_break);
+        let held = least(self.stability.first_break, chains);
+        let started = least(self.handshake.first_break, held);
+        least(self.known.first_break, started)
     }
 }

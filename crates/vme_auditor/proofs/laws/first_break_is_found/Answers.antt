@@ -11,7 +11,9 @@ unfolding known_run handshake_run stability_run grant_run acknowledge_run
 returns c =
     λ t ok few.
     named_is_least t
-    ∙ sym (least_of_all t _ _ _ _ _ (c.known_over_recordings.ensures.event t ok few)
-    (c.handshake_over_recordings.ensures.event t ok few) (c.stability_over_recordings.ensures.event t ok few)
-    (c.grants_over_recordings.ensures.event t ok few) (c.acknowledge_over_recordings.ensures.event t ok few))
+    ∙ sym (least_of_all t _ _ _ _ _ (c.known_over_recordings.ensures.first_break t ok few)
+    (c.handshake_over_recordings.ensures.first_break t ok few) (c.stability_over_recordings.ensures.first_break t ok
+    few)
+    (c.grants_over_recordings.ensures.first_break t ok few) (c.acknowledge_over_recordings.ensures.first_break t ok
+    few))
     ∙ runs_first t.steps (memories_at t.opening) t.opening

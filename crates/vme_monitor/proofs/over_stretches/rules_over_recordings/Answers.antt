@@ -1,8 +1,9 @@
-use Rattle.vme_monitor.proofs.Spans.{event_over, marks_over_spans, started_over, memory_of_span}
+use Rattle.vme_monitor.proofs.Spans.{first_break_over, marks_over_spans, started_over, memory_of_span}
 use Rattle.vme_monitor.proofs.over_stretches.rules_over_recordings.Goals as goal
 
-pub returns-clause-event : goal.returns-clause-event
-returns-clause-event g c = λ t rules ok few owed. event_over g.R.Rules.begin g.R.Rules.start_marks g.R.Rules.reset_marks
+pub returns-clause-first_break : goal.returns-clause-first_break
+returns-clause-first_break g c = λ t rules ok few owed. first_break_over g.R.Rules.begin g.R.Rules.start_marks
+    g.R.Rules.reset_marks
     g.R.Rules.end_fault g.R.Rules.observation g.R.Rules.next t few ok rules owed
 
 pub returns-clause-marks : goal.returns-clause-marks

@@ -14,12 +14,12 @@ returns c =
     let o = c.args.first.now.opening in
     let ss = segment_value c.args.first.now ∷ map segment_value c.args.rest.now in
     let judged = c.has_judged-has_judged.result in
-    let event = c.in-Some.event in
+    let first_break = c.in-Some.first_break in
     let shows : ShowsFiles o ss c.in-Some-2.marks.items =
     subst (λ (found : Option (Vec Mark)). IfSome found (λ v. ShowsFiles o ss v.items)) c.in-Some-2.is
     c.in_ok-marks.ensures in
     λ files end are stand next t is all.
     let shown = shows files end are stand next t is all.few in
-    listed_so t judged event o c.in-Some-2.marks.items c.in_ok-listing.listing
+    listed_so t judged first_break o c.in-Some-2.marks.items c.in_ok-listing.listing
     (c.has_judged-has_judged.ensures t all) (c.in-Some.ensures ∙ c.first_break.ensures t all) shown.1 shown.0
-    (c.in_ok-listing.ensures ∙ ap (λ ms. in_newest_version (listed o judged event ms)) c.as_slice.ensures.value)
+    (c.in_ok-listing.ensures ∙ ap (λ ms. in_newest_version (listed o judged first_break ms)) c.as_slice.ensures.value)

@@ -17,7 +17,8 @@ loop-place-preserved g c =
     let old = map node_value c.loop-place.made.nodes.items in
     let new = map node_value c.through.new.self.nodes.items in
     let left : c.leaving-left.result ≡ run.leaving = c.leaving-left.ensures ∙ ap (λ p. (says p).leaving) memory in
-    let found : c.event-found.result ≡ run.event = c.event-found.ensures ∙ ap (λ p. (says p).event) memory in
+    let found : c.event-found.result ≡ run.first_break = c.event-found.ensures ∙ ap (λ p. (says p).first_break)
+    memory in
     let shown : c.in_ok-marks.marks.items ≡ run.marks =
     c.in_ok-marks.ensures
     ∙ (ap (λ x. marks_if x (says c.nth-memory.result).marks) c.is_needed.ensures
@@ -29,7 +30,7 @@ loop-place-preserved g c =
     let made = rw same at c.in_ok-way.ensures.made in
     let says = rw (c.widened.ensures, c.as_slice.ensures.value, found, shown, at) at c.in_ok-way.ensures.says in
     let says =
-    subst (λ m. SaysBehind run.event run.marks
+    subst (λ m. SaysBehind run.first_break run.marks
     (made_says m old None (place run.leaving)) (says_at m new c.in_ok-way.way)) same says in
     record {
       memories = c.in_ok-way.ensures.memories ∙ same;
@@ -44,6 +45,6 @@ loop-place-preserved g c =
           (λ k. if_needed (is_needed c.args.needs.now k) (g.M.Monitor.outcome c.args.summary.now (nth k)))
           c.loop-place.place c.in_ok-push.ensures.items
           (search rules) c.loop-place.invariant.ways kept
-          (row_tells place m old run.leaving run.event run.marks (says_at m new c.in_ok-way.way) low says)
+          (row_tells place m old run.leaving run.first_break run.marks (says_at m new c.in_ok-way.way) low says)
           c.loop-place.invariant.says;
     }

@@ -23,10 +23,10 @@ loop-node-preserved-in-Continue-1 c =
           c.loop-node.kept.items
           c.push.new.self.items (record {
             next = c.next_kept-next.result;
-            event = c.in-Some.node.event;
+            first_break = c.in-Some.node.first_break;
             marks = c.in-Some.node.marks;
           }) c.if-keeps-place.true c.in_ok-push.ensures.items
-          (ap (λ k. record { next = k; event = c.in-Some.node.event; marks = c.in-Some.node.marks.items })
+          (ap (λ k. record { next = k; first_break = c.in-Some.node.first_break; marks = c.in-Some.node.marks.items })
           c.next_kept-next.ensures)
           c.loop-node.invariant.kept;
     }

@@ -26,12 +26,12 @@ returns c =
     (made
     ∙ (ap (λ next. record {
       next = next;
-      event = option_or n.event j.event;
+      first_break = option_or n.first_break j.first_break;
       marks = n.marks.items ++ c.in_ok-more.more.items;
     }) c.next_past-next.ensures
     ∙ ap (λ marks. record {
       next = next_past c.args.memories c.args.between j.next;
-      event = option_or n.event j.event;
+      first_break = option_or n.first_break j.first_break;
       marks = n.marks.items ++ marks;
     }) (c.in_ok-more.ensures ∙ c.as_slice.ensures.value))))
     c.lengthen.ensures

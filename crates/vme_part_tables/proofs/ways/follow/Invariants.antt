@@ -11,7 +11,8 @@ invariant-loop-node l =
       leaving : (walked (length l.table.entries.items) (map node_value (drop l.node-index l.table.nodes.items))
           l.way).leaving
           ≡ (outcome_in (table_value l.fn.table) l.fn.memory).leaving;
-      event : option_or l.event
-          (walked (length l.table.entries.items) (map node_value (drop l.node-index l.table.nodes.items)) l.way).event
-          ≡ (outcome_in (table_value l.fn.table) l.fn.memory).event;
+      first_break : option_or l.first_break
+          (walked (length l.table.entries.items) (map node_value (drop l.node-index l.table.nodes.items))
+          l.way).first_break
+          ≡ (outcome_in (table_value l.fn.table) l.fn.memory).first_break;
     }

@@ -12,7 +12,7 @@ overflow_cast-next g c =
 pub loop-place-preserved : goal.loop-place-preserved
 loop-place-preserved g c =
     let says = g.M.Monitor.outcome c.args.summary.now in
-    let e : TableEntry = record { next = c.place-next.result; event = c.widened-event.result } in
+    let e : TableEntry = record { next = c.place-next.result; first_break = c.widened-first_break.result } in
     record {
       as_many = search rules;
       rows = subst
@@ -22,7 +22,7 @@ loop-place-preserved g c =
           (search rules)
           (record {
             next = rw (← c.nth-memory.ensures, ← c.leaving-left.ensures) c.place-next.ensures;
-            event = rw (← c.nth-memory.ensures, ← c.event.ensures) c.widened-event.ensures;
+            first_break = rw (← c.nth-memory.ensures, ← c.event.ensures) c.widened-first_break.ensures;
           })
           c.loop-place.invariant.rows);
     }

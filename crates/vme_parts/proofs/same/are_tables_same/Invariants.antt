@@ -8,6 +8,6 @@ invariant-loop-memory l =
     record {
       leaving : (k : ℕ) → k < l.memory
           → (outcome_in (table_value l.first) k).leaving ≡ (outcome_in (table_value l.second) k).leaving;
-      event : (k : ℕ) → k < l.memory
-          → (outcome_in (table_value l.first) k).event ≡ (outcome_in (table_value l.second) k).event;
+      first_break : (k : ℕ) → k < l.memory
+          → (outcome_in (table_value l.first) k).first_break ≡ (outcome_in (table_value l.second) k).first_break;
     }

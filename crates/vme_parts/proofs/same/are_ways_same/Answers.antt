@@ -7,7 +7,7 @@ returns c =
     let other = c.follow-other_left.ensures in (
       λ t. (
         sym left.leaving ∙ (c.if-left-other_left.false ∙ other.leaving),
-        sym left.event ∙ (c.are_breaks_same.ensures.0 t ∙ other.event),
+        sym left.first_break ∙ (c.are_breaks_same.ensures.0 t ∙ other.first_break),
       ),
-      λ h. c.are_breaks_same.ensures.1 (left.event ∙ (h.1 ∙ sym other.event)),
+      λ h. c.are_breaks_same.ensures.1 (left.first_break ∙ (h.1 ∙ sym other.first_break)),
     )

@@ -9,9 +9,9 @@ use Rattle.vme_part_tables.proofs.marked.Made.through.Goals as goal
 pub returns-then-is_empty-clause-says : goal.returns-then-is_empty-clause-says
 returns-then-is_empty-clause-says c =
     let empty : c.args.marks.now ≡ [] = no_marks c.args.marks.now (sym c.is_empty.ensures ∙ c.if-is_empty.true) in
-    rw (empty, c.or-event.ensures)
-    (through_nothing c.args.self.now.memories (map node_value c.args.self.now.nodes.items) c.args.event
-    c.args.onward.event c.args.onward.way)
+    rw (empty, c.or-first_break.ensures)
+    (through_nothing c.args.self.now.memories (map node_value c.args.self.now.nodes.items) c.args.first_break
+    c.args.onward.first_break c.args.onward.way)
 
 pub returns-clause-says : goal.returns-clause-says
 returns-clause-says c =
@@ -19,20 +19,20 @@ returns-clause-says c =
     let old = c.args.self.now.nodes.items in
     let n : TableNode = record {
       next = c.turned-next.result;
-      event = c.or-event.result;
+      first_break = c.or-first_break.result;
       marks =
           c.in_ok-marks.marks;
     } in
     let len : c.len-made.result ≡ length old = search rules in
-    pushed_says m old c.push.new.self.items n c.in_ok-push.ensures.items c.args.event c.args.onward.event
-    c.args.onward.way (m + c.len-made.result) c.args.marks.now (ap (λ k. m + k) len) c.or-event.ensures
+    pushed_says m old c.push.new.self.items n c.in_ok-push.ensures.items c.args.first_break c.args.onward.first_break
+    c.args.onward.way (m + c.len-made.result) c.args.marks.now (ap (λ k. m + k) len) c.or-first_break.ensures
     (c.turned-next.ensures ∙ ap (λ k. turned m k c.args.onward.way) len) c.in_ok-marks.ensures
 
 pub returns-clause-kept : goal.returns-clause-kept
 returns-clause-kept c =
     let n : TableNode = record {
       next = c.turned-next.result;
-      event = c.or-event.result;
+      first_break = c.or-first_break.result;
       marks =
           c.in_ok-marks.marks;
     } in
@@ -44,7 +44,7 @@ returns-clause-made c =
     let old = c.args.self.now.nodes.items in
     let n : TableNode = record {
       next = c.turned-next.result;
-      event = c.or-event.result;
+      first_break = c.or-first_break.result;
       marks =
           c.in_ok-marks.marks;
     } in

@@ -21,29 +21,29 @@ returns-clause-found c =
     record {
       known = record {
         leaving = c.begin.ensures.memory;
-        event = ap
-            (option_map break_of) c.begin.ensures.event;
+        first_break = ap
+            (option_map break_of) c.begin.ensures.first_break;
         marks = refl;
       };
       handshake = record {
         leaving = c.begin-2.ensures.memory;
-        event = ap (option_map break_of) c.begin-2.ensures.event;
+        first_break = ap (option_map break_of) c.begin-2.ensures.first_break;
         marks = refl;
       };
       stability = record {
         leaving = c.begin-3.ensures.memory;
-        event = ap (option_map break_of) c.begin-3.ensures.event;
+        first_break = ap (option_map break_of) c.begin-3.ensures.first_break;
         marks = refl;
       };
       grant = record {
         leaving = c.begin-4.ensures.memory;
-        event = ap
-            (option_map break_of) c.begin-4.ensures.event;
+        first_break = ap
+            (option_map break_of) c.begin-4.ensures.first_break;
         marks = refl;
       };
       acknowledge = record {
         leaving = c.begin-5.ensures.memory;
-        event = ap (option_map break_of) c.begin-5.ensures.event;
+        first_break = ap (option_map break_of) c.begin-5.ensures.first_break;
         marks = refl;
       };
     }

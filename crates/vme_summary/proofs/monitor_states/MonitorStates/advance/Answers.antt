@@ -27,30 +27,30 @@ returns c =
           (phase_step known_begin known_start_marks known_reset_marks known_end_fault known_next))
           (start_in known_begin) _ _ o x step before after
           c.args.instant led.levels_are there led.instant_is
-          (rw is at c.advance.ensures.memory) (rw is at c.advance.ensures.event)
+          (rw is at c.advance.ensures.memory) (rw is at c.advance.ensures.first_break)
           f.known;
       handshake = led_on (machine_step (observed dtb_observation)
           (phase_step dtb_begin dtb_start_marks nothing dtb_end_fault dtb_step))
           (start_in dtb_begin) _ _ o x step before after
           c.args.instant led.levels_are there led.instant_is
-          (rw is at c.advance-2.ensures.memory) (rw is at c.advance-2.ensures.event)
+          (rw is at c.advance-2.ensures.memory) (rw is at c.advance-2.ensures.first_break)
           f.handshake;
       stability = led_on (machine_step (observed stability_observation)
           (phase_step stability_begin stability_start_marks nothing stability_end_fault stability_next))
           (start_in stability_begin) _ _ o x step before after
           c.args.instant led.levels_are there led.instant_is
-          (rw is at c.advance-3.ensures.memory) (rw is at c.advance-3.ensures.event)
+          (rw is at c.advance-3.ensures.memory) (rw is at c.advance-3.ensures.first_break)
           f.stability;
       grant = led_on (machine_step (observed grant_observation)
           (phase_step grant_begin grant_start_marks nothing grant_end_fault grant_next))
           (start_in grant_begin) _ _ o x step before after
           c.args.instant led.levels_are there led.instant_is
-          (rw is at c.advance-4.ensures.memory) (rw is at c.advance-4.ensures.event)
+          (rw is at c.advance-4.ensures.memory) (rw is at c.advance-4.ensures.first_break)
           f.grant;
       acknowledge = led_on (machine_step (observed acknowledge_observation)
           (phase_step acknowledge_begin acknowledge_start_marks nothing acknowledge_end_fault acknowledge_next))
           (start_in acknowledge_begin) _ _ o x step before after
           c.args.instant led.levels_are there led.instant_is
-          (rw is at c.advance-5.ensures.memory) (rw is at c.advance-5.ensures.event)
+          (rw is at c.advance-5.ensures.memory) (rw is at c.advance-5.ensures.first_break)
           f.acknowledge;
     }

@@ -7,9 +7,18 @@ pub returns : goal.returns
 unfolding known_run handshake_run stability_run grant_run acknowledge_run
 returns c =
     record {
-      known = record { memory = c.at.ensures.memory ∙ c.start.ensures; event = c.at.ensures.event };
-      handshake = record { memory = c.at-2.ensures.memory ∙ c.start-2.ensures; event = c.at-2.ensures.event };
-      stability = record { memory = c.at-3.ensures.memory ∙ c.start-3.ensures; event = c.at-3.ensures.event };
-      grant = record { memory = c.at-4.ensures.memory ∙ c.start-4.ensures; event = c.at-4.ensures.event };
-      acknowledge = record { memory = c.at-5.ensures.memory ∙ c.start-5.ensures; event = c.at-5.ensures.event };
+      known = record { memory = c.at.ensures.memory ∙ c.start.ensures; first_break = c.at.ensures.first_break };
+      handshake = record {
+        memory = c.at-2.ensures.memory ∙ c.start-2.ensures;
+        first_break = c.at-2.ensures.first_break;
+      };
+      stability = record {
+        memory = c.at-3.ensures.memory ∙ c.start-3.ensures;
+        first_break = c.at-3.ensures.first_break;
+      };
+      grant = record { memory = c.at-4.ensures.memory ∙ c.start-4.ensures; first_break = c.at-4.ensures.first_break };
+      acknowledge = record {
+        memory = c.at-5.ensures.memory ∙ c.start-5.ensures;
+        first_break = c.at-5.ensures.first_break;
+      };
     }

@@ -12,10 +12,12 @@ returns c =
     let f = c.args.self.now in
     let found = all.found_there in
     c.least.ensures
-    ∙ ap (least f.known.event) (c.least-started.ensures ∙ ap (least f.handshake.event) (c.least-held.ensures
-    ∙ ap (least f.stability.event) c.least-chains.ensures))
-    ∙ least_of_all t _ _ _ _ _ (found.known.event ∙ c.known_over_recordings.ensures.event t all.sound all.few)
-    (found.handshake.event ∙ c.handshake_over_recordings.ensures.event t all.sound all.few)
-    (found.stability.event ∙ c.stability_over_recordings.ensures.event t all.sound all.few) (found.grant.event
-    ∙ c.grants_over_recordings.ensures.event t all.sound all.few)
-    (found.acknowledge.event ∙ c.acknowledge_over_recordings.ensures.event t all.sound all.few)
+    ∙ ap (least f.known.first_break) (c.least-started.ensures ∙ ap (least f.handshake.first_break) (c.least-held.ensures
+    ∙ ap (least f.stability.first_break) c.least-chains.ensures))
+    ∙ least_of_all t _ _ _ _ _ (found.known.first_break ∙ c.known_over_recordings.ensures.first_break t all.sound
+    all.few)
+    (found.handshake.first_break ∙ c.handshake_over_recordings.ensures.first_break t all.sound all.few)
+    (found.stability.first_break ∙ c.stability_over_recordings.ensures.first_break t all.sound all.few)
+    (found.grant.first_break
+    ∙ c.grants_over_recordings.ensures.first_break t all.sound all.few)
+    (found.acknowledge.first_break ∙ c.acknowledge_over_recordings.ensures.first_break t all.sound all.few)

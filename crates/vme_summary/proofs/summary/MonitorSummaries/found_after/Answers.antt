@@ -20,23 +20,24 @@ returns c =
     record {
       known = seen_after (machine_step (observed known_observation)
           (phase_step known_begin known_start_marks known_reset_marks known_end_fault
-          known_next)) (start_in known_begin) _ _ _ _ _ o x y c.after.ensures.memory c.after.ensures.event long f.known
+          known_next)) (start_in known_begin) _ _ _ _ _ o x y c.after.ensures.memory c.after.ensures.first_break long
+          f.known
           says.known;
       handshake = seen_after
           (machine_step (observed dtb_observation) (phase_step dtb_begin dtb_start_marks nothing dtb_end_fault
           dtb_step))
-          (start_in dtb_begin) _ _ _ _ _ o x y c.after-2.ensures.memory c.after-2.ensures.event long f.handshake
+          (start_in dtb_begin) _ _ _ _ _ o x y c.after-2.ensures.memory c.after-2.ensures.first_break long f.handshake
           says.handshake;
       stability = seen_after
           (machine_step (observed stability_observation) (phase_step stability_begin stability_start_marks nothing
           stability_end_fault stability_next)) (start_in stability_begin) _ _ _ _ _ o x y c.after-3.ensures.memory
-          c.after-3.ensures.event long f.stability says.stability;
+          c.after-3.ensures.first_break long f.stability says.stability;
       grant = seen_after (machine_step (observed grant_observation)
           (phase_step grant_begin grant_start_marks nothing grant_end_fault grant_next))
-          (start_in grant_begin) _ _ _ _ _ o x y c.after-4.ensures.memory c.after-4.ensures.event long f.grant
+          (start_in grant_begin) _ _ _ _ _ o x y c.after-4.ensures.memory c.after-4.ensures.first_break long f.grant
           says.grant;
       acknowledge = seen_after (machine_step (observed acknowledge_observation)
           (phase_step acknowledge_begin acknowledge_start_marks nothing
           acknowledge_end_fault acknowledge_next)) (start_in acknowledge_begin) _ _ _ _ _ o x y c.after-5.ensures.memory
-          c.after-5.ensures.event long f.acknowledge says.acknowledge;
+          c.after-5.ensures.first_break long f.acknowledge says.acknowledge;
     }

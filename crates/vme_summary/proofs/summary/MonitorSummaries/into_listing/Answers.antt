@@ -13,13 +13,13 @@ returns-clause-listing c =
     let s = c.args.self in
     let o = c.args.opening.now in
     let judged = c.has_judged.result in
-    let event = c.first_break.result in
+    let first_break = c.first_break.result in
     let marks = c.in_ok-marks.marks.items in
     IfOk-weaker c.listing_by.result _ _
     (λ listing e t all.
-    e ∙ ap (λ ms. in_newest_version (listed o judged event ms)) c.as_slice.ensures.value
+    e ∙ ap (λ ms. in_newest_version (listed o judged first_break ms)) c.as_slice.ensures.value
     ∙ sym (listing_found s o t all c.found_from-found.result c.found_from-found.ensures judged c.has_judged.ensures
-    event c.first_break.ensures marks c.in_ok-marks.ensures))
+    first_break c.first_break.ensures marks c.in_ok-marks.ensures))
     c.listing_by.ensures
 
 pub returns-clause-placed : goal.returns-clause-placed

@@ -9,9 +9,9 @@ use Rattle.vme_auditor.specs.Memories.{fault_at, memories_next}
 use Rattle.vme_auditor.specs.declared.memories.Memories.{Memories}
 
 -- the first break of steps after an opening, from these memories on
-unfoldable pub first_event : Memories → Levels → List Step → Option Break
-first_event m o [] = None
-first_event m o (s ∷ ss) =
+unfoldable pub first_break_from : Memories → Levels → List Step → Option Break
+first_break_from m o [] = None
+first_break_from m o (s ∷ ss) =
     let after = changed o s.changes in
     earlier (fault_at m o after s.changes 1 s.time)
-    (option_map (shifted_break 1) (first_event (memories_next m o after s.changes) after ss))
+    (option_map (shifted_break 1) (first_break_from (memories_next m o after s.changes) after ss))
