@@ -24,9 +24,9 @@ abbrev pub reached : {T A : Type 0} → (T → A) → Pieces T → Reached A
 reached taken p =
     record {
       nets = p.codes;
-      progress = taking (taken p.underway.timed.visitor) p.underway.timed.clock;
-      bracket = p.underway.bracket;
-      place = place_of p.underway.place;
+      progress = taking (taken p.state.timed.visitor) p.state.timed.clock;
+      bracket = p.state.bracket;
+      place = place_of p.state.place;
       line = p.line;
     }
 

@@ -500,19 +500,19 @@ pub(crate) fn read_until_fault<T: ChangeVisitor>(
     alloc: Global,
     reader: Reader<'_>,
     codes: &Codes,
-    underway: BodyState<T>,
+    state: BodyState<T>,
 ) -> Result<BodyState<T>, Stopped<T>>
     ensures { ContinuesOrStops (λ u. ahead_until_fault T.with_change T.with_instant codes.now
         (taking (T.taken u.timed.visitor) u.timed.clock) u.bracket (place_of u.place) []) (λ t. T.taken t) result
         (ahead_until_fault T.with_change T.with_instant codes.now
-        (taking (T.taken underway.timed.visitor) underway.timed.clock)
-        underway.bracket (place_of underway.place) (left_at reader.entry.text reader.entry.at)) }
+        (taking (T.taken state.timed.visitor) state.timed.clock)
+        state.bracket (place_of state.place) (left_at reader.entry.text reader.entry.at)) }
 {
     let BodyState {
         timed,
         bracket,
         place,
-    } = underway;
+    } = state;
     let mut body = Body {
         reader,
         codes,
@@ -531,16 +531,16 @@ pub(crate) fn read_piece<T: ChangeVisitor>(
     alloc: Global,
     reader: Reader<'_>,
     codes: &Codes,
-    underway: BodyState<T>,
+    state: BodyState<T>,
 ) -> Result<BodyState<T>, VcdFault>
     ensures { BodyContinuesTo (λ u. ahead T.with_change T.with_instant codes.now
         (taking (T.taken u.timed.visitor) u.timed.clock)
         u.bracket (place_of u.place) []) result
-        (ahead T.with_change T.with_instant codes.now (taking (T.taken underway.timed.visitor) underway.timed.clock)
-        underway.bracket (place_of underway.place) (left_at reader.entry.text reader.entry.at)) }
+        (ahead T.with_change T.with_instant codes.now (taking (T.taken state.timed.visitor) state.timed.clock)
+        state.bracket (place_of state.place) (left_at reader.entry.text reader.entry.at)) }
 {
-    match read_until_fault(alloc, reader, codes, underway) {
-        Ok(underway) => Ok(underway),
+    match read_until_fault(alloc, reader, codes, state) {
+        Ok(state) => Ok(state),
         Err(stopped) => Err(stopped.fault),
     }
 }

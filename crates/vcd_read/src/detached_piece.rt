@@ -136,7 +136,7 @@ impl<T: ChangeVisitor> Pieces<T> {
         ensures { IsTrue result ↔ ((reached T.taken self.now).place ≡ ready)
             × ((reached T.taken self.now).bracket ≡ None) }
     {
-        matches!(self.underway.place, OpenItem::Ready) && self.underway.bracket.is_none()
+        matches!(self.state.place, OpenItem::Ready) && self.state.bracket.is_none()
     }
 
     /// Whether a piece that was read by itself may be joined: what is read so far ends on the line that it begins on,
@@ -145,7 +145,7 @@ impl<T: ChangeVisitor> Pieces<T> {
         ensures { IsTrue result ↔ MayFollow (reached T.taken self.now) (read_detached N.taken detached.now) }
     {
         self.is_between_items()
-            && self.underway.timed.clock.time <= detached.time
+            && self.state.timed.clock.time <= detached.time
             && self.line == detached.first_line
     }
 
@@ -153,7 +153,7 @@ impl<T: ChangeVisitor> Pieces<T> {
     pub fn ended_by<N: ChangeVisitor>(&self, detached: &DetachedPiece<N>) -> Option<u64>
         ensures { result ≡ ended_at (reached T.taken self.now).progress (read_detached N.taken detached.now).time }
     {
-        let clock = self.underway.timed.clock;
+        let clock = self.state.timed.clock;
         if clock.begun && detached.time != clock.time {
             Some(clock.time)
         } else {
@@ -171,7 +171,7 @@ impl<T: ChangeVisitor> Pieces<T> {
     {
         let Pieces {
             codes,
-            underway,
+            state,
             line: _,
         } = self;
         let DetachedPiece {
@@ -181,17 +181,13 @@ impl<T: ChangeVisitor> Pieces<T> {
             bracket,
             line,
         } = detached;
-        let visitor = underway.timed.visitor;
-        let underway = BodyState {
+        let visitor = state.timed.visitor;
+        let state = BodyState {
             timed,
             bracket,
             place: OpenItem::Ready,
         };
-        let joined = Pieces {
-            codes,
-            underway,
-            line,
-        };
+        let joined = Pieces { codes, state, line };
         (joined, visitor)
     }
 
@@ -200,30 +196,22 @@ impl<T: ChangeVisitor> Pieces<T> {
         ensures pieces { reached N.taken result.0 ≡ with_taken (N.taken visitor) (reached T.taken self) }
         ensures visitor { T.taken result.1 ≡ (reached T.taken self).progress.taken }
     {
-        let Pieces {
-            codes,
-            underway,
-            line,
-        } = self;
+        let Pieces { codes, state, line } = self;
         let BodyState {
             timed,
             bracket,
             place,
-        } = underway;
+        } = state;
         let TimedVisitor {
             visitor: before,
             clock,
         } = timed;
-        let underway = BodyState {
+        let state = BodyState {
             timed: TimedVisitor { visitor, clock },
             bracket,
             place,
         };
-        let pieces = Pieces {
-            codes,
-            underway,
-            line,
-        };
+        let pieces = Pieces { codes, state, line };
         (pieces, before)
     }
 
@@ -231,14 +219,14 @@ impl<T: ChangeVisitor> Pieces<T> {
     pub fn visitor(&self) -> &T
         ensures { T.taken result.now ≡ (reached T.taken self.now).progress.taken }
     {
-        &self.underway.timed.visitor
+        &self.state.timed.visitor
     }
 
     /// The last time that was read, or 0.
     pub fn time(&self) -> u64
         ensures { result ≡ (reached T.taken self.now).progress.time }
     {
-        self.underway.timed.clock.time
+        self.state.timed.clock.time
     }
 
     /// The line that the next piece begins on, from 1.

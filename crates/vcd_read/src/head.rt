@@ -70,7 +70,7 @@ impl<'a> Head<'a> {
             text: self.reader.text,
             at: self.reader.at,
         };
-        let underway = read_piece(alloc, reader, &self.codes, BodyState::new(visitor))?;
-        underway.finish(alloc)
+        let state = read_piece(alloc, reader, &self.codes, BodyState::new(visitor))?;
+        state.finish(alloc)
     }
 }

@@ -52,7 +52,7 @@ impl<'a> Model for Front<'a> {
 #[derive(Drop)]
 pub struct Pieces<T: ChangeVisitor> {
     pub(crate) codes: Codes,
-    pub(crate) underway: BodyState<T>,
+    pub(crate) state: BodyState<T>,
     /// The line that the next piece begins on.
     pub(crate) line: u64,
 }
@@ -110,7 +110,7 @@ impl<'a> Front<'a> {
         let Front { codes, text, at } = self;
         let pieces = Pieces {
             codes,
-            underway: BodyState::new(visitor),
+            state: BodyState::new(visitor),
             line: Reader::new(text).line(Start::Here(at)),
         };
         (pieces, &text[at..])
@@ -131,24 +131,16 @@ impl<T: ChangeVisitor> Pieces<T> {
             (rest_until_fault T.with_change T.with_instant (reached T.taken self)
             (tokens_from (reached T.taken self).line piece.now)) }
     {
-        let Pieces {
-            codes,
-            underway,
-            line,
-        } = self;
+        let Pieces { codes, state, line } = self;
         if u64::MAX - line <= piece.len() as u64 {
-            let time = underway.timed.clock.time;
-            return Err(Stopped::out_of_memory(underway.timed.visitor, time));
+            let time = state.timed.clock.time;
+            return Err(Stopped::out_of_memory(state.timed.visitor, time));
         }
         let text = BodyPiece { bytes: piece, line };
         let reader = Reader { text, at: 0 };
         let line = reader.line(Start::Here(piece.len()));
-        match read_until_fault(alloc, reader, &codes, underway) {
-            Ok(underway) => Ok(Pieces {
-                codes,
-                underway,
-                line,
-            }),
+        match read_until_fault(alloc, reader, &codes, state) {
+            Ok(state) => Ok(Pieces { codes, state, line }),
             Err(stopped) => Err(stopped),
         }
     }
@@ -175,7 +167,7 @@ impl<T: ChangeVisitor> Pieces<T> {
         ensures { GivesOrStops (λ t. T.taken t) (reached T.taken self).progress result
             (outcome_of T.with_change T.with_instant (reached T.taken self)) }
     {
-        self.underway.finish_or_stop(alloc)
+        self.state.finish_or_stop(alloc)
     }
 
     /// The same, where only the fault is told.
@@ -183,6 +175,6 @@ impl<T: ChangeVisitor> Pieces<T> {
         ensures { ReadGives (λ t. T.taken t) result
             (outcome_of T.with_change T.with_instant (reached T.taken self)) }
     {
-        self.underway.finish(alloc)
+        self.state.finish(alloc)
     }
 }

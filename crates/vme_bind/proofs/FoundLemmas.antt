@@ -159,29 +159,30 @@ found-other (Named named) found scopes net size r begun some is other = ap (with
 
 -- ---- the bound groups one after the other
 
-pub bound_groups-first : (bound_groups : List BoundGroup) (sought : List PathSearch) (i : ℕ) (s : PathSearch)
-    → i < length sought → s ≡ get_or sought i s
-    → behind_bound_groups bound_groups (bound_groups_of (map seen_in (drop i sought)))
+pub bound_groups-first : (bound_groups : List BoundGroup) (searches : List PathSearch) (i : ℕ) (s : PathSearch)
+    → i < length searches → s ≡ get_or searches i s
+    → behind_bound_groups bound_groups (bound_groups_of (map seen_in (drop i searches)))
     ≡ (bound_group_of (seen_in s) >>= λ bound_group. behind_bound_groups (bound_groups ++ bound_group ∷ [])
-    (bound_groups_of (map seen_in (drop (i + 1) sought))))
+    (bound_groups_of (map seen_in (drop (i + 1) searches))))
 unfolding bound_groups_of
-bound_groups-first bound_groups sought i s lt e =
+bound_groups-first bound_groups searches i s lt e =
     ap (λ (rest : List PathSearch). behind_bound_groups bound_groups (bound_groups_of (map seen_in rest)))
-    (from_place sought i s lt e)
-    ∙ push_in bound_groups (bound_group_of (seen_in s)) (bound_groups_of (map seen_in (drop (i + 1) sought)))
+    (from_place searches i s lt e)
+    ∙ push_in bound_groups (bound_group_of (seen_in s)) (bound_groups_of (map seen_in (drop (i + 1) searches)))
 
-pub bound_groups-step : (bound_groups : List BoundGroup) (sought : List PathSearch) (i : ℕ) (s : PathSearch)
-    (bound_group : BoundGroup) → i < length sought → s ≡ get_or sought i s → bound_group_of (seen_in s) ≡ Ok bound_group
-    → behind_bound_groups bound_groups (bound_groups_of (map seen_in (drop i sought))) ≡ behind_bound_groups
-    (bound_groups ++ bound_group ∷ []) (bound_groups_of (map seen_in (drop (i + 1) sought)))
-bound_groups-step bound_groups sought i s bound_group lt e is =
-    bound_groups-first bound_groups sought i s lt e
+pub bound_groups-step : (bound_groups : List BoundGroup) (searches : List PathSearch) (i : ℕ) (s : PathSearch)
+    (bound_group : BoundGroup) → i < length searches → s ≡ get_or searches i s → bound_group_of (seen_in s)
+    ≡ Ok bound_group
+    → behind_bound_groups bound_groups (bound_groups_of (map seen_in (drop i searches))) ≡ behind_bound_groups
+    (bound_groups ++ bound_group ∷ []) (bound_groups_of (map seen_in (drop (i + 1) searches)))
+bound_groups-step bound_groups searches i s bound_group lt e is =
+    bound_groups-first bound_groups searches i s lt e
     ∙ ap (λ (r : Result BoundGroup BindFault). r >>= λ bound_group. behind_bound_groups (bound_groups ++ bound_group
-    ∷ []) (bound_groups_of (map seen_in (drop (i + 1) sought)))) is
+    ∷ []) (bound_groups_of (map seen_in (drop (i + 1) searches)))) is
 
-pub bound_groups-end : (bound_groups : List BoundGroup) (sought : List PathSearch) (i : ℕ) → length sought ≤ i
-    → behind_bound_groups bound_groups (bound_groups_of (map seen_in (drop i sought))) ≡ Ok bound_groups
+pub bound_groups-end : (bound_groups : List BoundGroup) (searches : List PathSearch) (i : ℕ) → length searches ≤ i
+    → behind_bound_groups bound_groups (bound_groups_of (map seen_in (drop i searches))) ≡ Ok bound_groups
 unfolding bound_groups_of
-bound_groups-end bound_groups sought i le =
+bound_groups-end bound_groups searches i le =
     ap (λ (rest : List PathSearch). behind_bound_groups bound_groups (bound_groups_of (map seen_in rest)))
-    (drop_of_length-le sought le) ∙ ap Ok (append-nil bound_groups)
+    (drop_of_length-le searches le) ∙ ap Ok (append-nil bound_groups)

@@ -170,21 +170,21 @@ pub same_begun : (scopes : List (List ℕ)) (s s' : PathSearch) → s'.begun ≡
 same_begun scopes s s' begun same is = begun ∙ is
     ∙ sym (ap (λ (a : Bor Assignment). scopes_begun (path_sought a.now.source) scopes) same)
 
-pub opened-all : (name : List ℕ) (scopes : List (List ℕ)) (sought : List PathSearch) → All (HasOpened scopes) sought
-    → All (HasOpened (name ∷ scopes)) (map (opened (length scopes) (length (path_in scopes)) (with_dot name)) sought)
-opened-all name scopes sought all =
-    All-map (HasOpened (name ∷ scopes)) (opened (length scopes) (length (path_in scopes)) (with_dot name)) sought
-    (λ k s at. opened-one name scopes (get_or sought k s) (all k s at))
+pub opened-all : (name : List ℕ) (scopes : List (List ℕ)) (searches : List PathSearch) → All (HasOpened scopes) searches
+    → All (HasOpened (name ∷ scopes)) (map (opened (length scopes) (length (path_in scopes)) (with_dot name)) searches)
+opened-all name scopes searches all =
+    All-map (HasOpened (name ∷ scopes)) (opened (length scopes) (length (path_in scopes)) (with_dot name)) searches
+    (λ k s at. opened-one name scopes (get_or searches k s) (all k s at))
 
 closed-one : (name : List ℕ) (scopes : List (List ℕ)) (s : PathSearch) → HasOpened (name ∷ scopes) s → HasOpened scopes
     (closed (length scopes) s)
 closed-one name scopes s begun = ap (λ (n : ℕ). min n (length scopes)) begun
     ∙ begun-close (path_sought s.assignment.now.source) name scopes
 
-pub closed-all : (name : List ℕ) (scopes : List (List ℕ)) (sought : List PathSearch) → All (HasOpened (name ∷ scopes))
-    sought → All (HasOpened scopes) (map (closed (length scopes)) sought)
-closed-all name scopes sought all =
-    All-map (HasOpened scopes) (closed (length scopes)) sought (λ k s at. closed-one name scopes (get_or sought k s)
+pub closed-all : (name : List ℕ) (scopes : List (List ℕ)) (searches : List PathSearch) → All (HasOpened (name ∷ scopes))
+    searches → All (HasOpened scopes) (map (closed (length scopes)) searches)
+closed-all name scopes searches all =
+    All-map (HasOpened scopes) (closed (length scopes)) searches (λ k s at. closed-one name scopes (get_or searches k s)
     (all k s at))
 
 -- the part of the path that a scope adds
@@ -235,48 +235,52 @@ stepped_rest xs ys i y e = drop-set-lt (i + 1) xs i y (omega arith) ∙ drop_mor
 
 -- ---- what is lent as a slice and given back
 
-given_back : (sought new : List PathSearch) (len : ℕ) → len ≡ length sought → length new ≡ length sought
-    → take len (new ++ drop (length new) sought) ≡ new
-given_back sought new len e n = take_at new (drop (length new) sought) len (n ∙ sym e)
+given_back : (searches new : List PathSearch) (len : ℕ) → len ≡ length searches → length new ≡ length searches
+    → take len (new ++ drop (length new) searches) ≡ new
+given_back searches new len e n = take_at new (drop (length new) searches) len (n ∙ sym e)
 
-same_count : (f : PathSearch → PathSearch) (sought lent new : List PathSearch) → lent ≡ sought → new ≡ map f lent
-    → length new ≡ length sought
-same_count f sought lent new e is = ap (λ (xs : List PathSearch). length xs) is ∙ length-map lent f
+same_count : (f : PathSearch → PathSearch) (searches lent new : List PathSearch) → lent ≡ searches → new ≡ map f lent
+    → length new ≡ length searches
+same_count f searches lent new e is = ap (λ (xs : List PathSearch). length xs) is ∙ length-map lent f
     ∙ ap (λ (xs : List PathSearch). length xs) e
 
-pub opened-back : (name : List ℕ) (scopes now : List (List ℕ)) (sought lent new : List PathSearch) (len depth start : ℕ)
-    (part : List ℕ) → All (HasOpened scopes) sought → now ≡ name ∷ scopes → len ≡ length sought → lent ≡ sought
+pub opened-back : (name : List ℕ) (scopes now : List (List ℕ)) (searches lent new : List PathSearch)
+    (len depth start : ℕ)
+    (part : List ℕ) → All (HasOpened scopes) searches → now ≡ name ∷ scopes → len ≡ length searches → lent ≡ searches
     → new ≡ map (opened depth start part) lent → depth ≡ length scopes → start ≡ length (path_in scopes) → part
-    ≡ drop start (path_in now) → All (HasOpened now) (take len (new ++ drop (length new) sought))
-opened-back name scopes now sought lent new len depth start part all names e same is d s p =
+    ≡ drop start (path_in now) → All (HasOpened now) (take len (new ++ drop (length new) searches))
+opened-back name scopes now searches lent new len depth start part all names e same is d s p =
     let own : part ≡ with_dot name = p ∙ ap (λ (n : ℕ). drop n (path_in now)) s
     ∙ ap (λ (ns : List (List ℕ)). drop (length (path_in scopes)) (path_in ns)) names ∙ part_behind name scopes in
-    let mapped : new ≡ map (opened (length scopes) (length (path_in scopes)) (with_dot name)) sought =
+    let mapped : new ≡ map (opened (length scopes) (length (path_in scopes)) (with_dot name)) searches =
     is ∙ ap (λ (xs : List PathSearch). map (opened depth start part) xs) same
-    ∙ ap (λ (n : ℕ). map (opened n start part) sought) d ∙ ap (λ (n : ℕ). map (opened (length scopes) n part) sought) s
-    ∙ ap (λ (b : List ℕ). map (opened (length scopes) (length (path_in scopes)) b) sought) own in
-    rw (given_back sought new len e (same_count (opened depth start part) sought lent new same is), mapped, names)
-    (opened-all name scopes sought all)
+    ∙ ap (λ (n : ℕ). map (opened n start part) searches) d
+    ∙ ap (λ (n : ℕ). map (opened (length scopes) n part) searches) s
+    ∙ ap (λ (b : List ℕ). map (opened (length scopes) (length (path_in scopes)) b) searches) own in
+    rw (given_back searches new len e (same_count (opened depth start part) searches lent new same is), mapped, names)
+    (opened-all name scopes searches all)
 
-pub closed-back : (name : List ℕ) (scopes now : List (List ℕ)) (sought lent new : List PathSearch) (len depth : ℕ)
-    → All (HasOpened scopes) sought → scopes ≡ name ∷ now → len ≡ length sought → lent ≡ sought
+pub closed-back : (name : List ℕ) (scopes now : List (List ℕ)) (searches lent new : List PathSearch) (len depth : ℕ)
+    → All (HasOpened scopes) searches → scopes ≡ name ∷ now → len ≡ length searches → lent ≡ searches
     → new ≡ map (closed depth) lent → depth ≡ length now → All (HasOpened now)
-    (take len (new ++ drop (length new) sought))
-closed-back name scopes now sought lent new len depth all names e same is d =
-    let mapped : new ≡ map (closed (length now)) sought = is ∙ ap (λ (xs : List PathSearch). map (closed depth) xs) same
-    ∙ ap (λ (n : ℕ). map (closed n) sought) d in
-    let before : All (HasOpened (name ∷ now)) sought = rw names at all in
-    rw (given_back sought new len e (same_count (closed depth) sought lent new same is), mapped)
-    (closed-all name now sought before)
+    (take len (new ++ drop (length new) searches))
+closed-back name scopes now searches lent new len depth all names e same is d =
+    let mapped : new ≡ map (closed (length now)) searches = is ∙ ap (λ (xs : List PathSearch). map (closed depth) xs)
+    same
+    ∙ ap (λ (n : ℕ). map (closed n) searches) d in
+    let before : All (HasOpened (name ∷ now)) searches = rw names at all in
+    rw (given_back searches new len e (same_count (closed depth) searches lent new same is), mapped)
+    (closed-all name now searches before)
 
 -- what is seen stays as it was
-pub seen-back : (f : PathSearch → PathSearch) (sought lent new : List PathSearch) (len : ℕ)
-    → ((s : PathSearch) → seen_in (f s) ≡ seen_in s) → len ≡ length sought → lent ≡ sought → new ≡ map f lent
-    → map seen_in (take len (new ++ drop (length new) sought)) ≡ map seen_in sought
-seen-back f sought lent new len kept e same is =
-    ap (λ (xs : List PathSearch). map seen_in xs) (given_back sought new len e (same_count f sought lent new same is)
+pub seen-back : (f : PathSearch → PathSearch) (searches lent new : List PathSearch) (len : ℕ)
+    → ((s : PathSearch) → seen_in (f s) ≡ seen_in s) → len ≡ length searches → lent ≡ searches → new ≡ map f lent
+    → map seen_in (take len (new ++ drop (length new) searches)) ≡ map seen_in searches
+seen-back f searches lent new len kept e same is =
+    ap (λ (xs : List PathSearch). map seen_in xs)
+    (given_back searches new len e (same_count f searches lent new same is)
     ∙ is ∙ ap (λ (xs : List PathSearch). map f xs) same)
-    ∙ map-map seen_in f sought ∙ map-same (λ s. seen_in (f s)) seen_in sought kept
+    ∙ map-map seen_in f searches ∙ map-same (λ s. seen_in (f s)) seen_in searches kept
   where
     map-same : (g h : PathSearch → Searched) (xs : List PathSearch) → ((s : PathSearch) → g s ≡ h s) → map g xs
         ≡ map h xs

@@ -18,40 +18,40 @@ use vcd_read::{Declaration, DeclarationVisitor, Scopes};
 #[derive(Drop)]
 pub(crate) struct Search<'b> {
     /// In the order of the binding's text.
-    sought: Vec<PathSearch<'b>>,
+    searches: Vec<PathSearch<'b>>,
     scopes: Scopes,
-    ghost begun: { All (HasOpened scopes) sought.items },
+    ghost begun: { All (HasOpened scopes) searches.items },
 }
 
 /// Opens a scope behind so many others: this part of the path is its own, from this place on.
-fn open_all(sought: &mut [PathSearch<'_>], depth: usize, start: usize, part: &[u8])
+fn open_all(searches: &mut [PathSearch<'_>], depth: usize, start: usize, part: &[u8])
     requires { depth + 1 < 2 ^ 64 }
-    ensures { sought.new ≡ map (opened depth start part.now) sought.old }
+    ensures { searches.new ≡ map (opened depth start part.now) searches.old }
 {
-    for s in sought.iter_mut() {
+    for s in searches.iter_mut() {
         s.open(depth, start, part);
     }
 }
 
 /// Closes the innermost scope, so that so many are left.
-fn close_all(sought: &mut [PathSearch<'_>], depth: usize)
-    ensures { sought.new ≡ map (closed depth) sought.old }
+fn close_all(searches: &mut [PathSearch<'_>], depth: usize)
+    ensures { searches.new ≡ map (closed depth) searches.old }
 {
-    for s in sought.iter_mut() {
+    for s in searches.iter_mut() {
         s.close(depth);
     }
 }
 
 /// Looks at a variable that is declared in these scopes.
-fn visit_all(sought: &mut [PathSearch<'_>], scopes: &Scopes, variable: Declaration<'_>)
-    requires begun { All (HasOpened scopes.now) sought.old }
+fn visit_all(searches: &mut [PathSearch<'_>], scopes: &Scopes, variable: Declaration<'_>)
+    requires begun { All (HasOpened scopes.now) searches.old }
     requires name { 0 < length variable.name.now }
-    ensures begun { All (HasOpened scopes.now) sought.new }
-    ensures seen { map seen_in sought.new ≡ map (with_candidate
+    ensures begun { All (HasOpened scopes.now) searches.new }
+    ensures seen { map seen_in searches.new ≡ map (with_candidate
         (variable_in scopes.now variable.entry.net variable.entry.size
-        (record { name = variable.entry.name.now; index = variable.entry.index }))) (map seen_in sought.old) }
+        (record { name = variable.entry.name.now; index = variable.entry.index }))) (map seen_in searches.old) }
 {
-    for s in sought.iter_mut() {
+    for s in searches.iter_mut() {
         s.visit(scopes, variable);
     }
 }
@@ -60,14 +60,14 @@ impl<'b> Search<'b> {
     /// Nothing is found yet, and no scope is open.
     pub fn new(alloc: Global, assignments: &'b [Assignment]) -> Result<Search<'b>, AllocError>
         ensures scopes { IfOk result (λ s. s.scopes ≡ []) }
-        ensures seen { IfOk result (λ s. map seen_in s.sought.items ≡ map unseen assignments.now) }
+        ensures seen { IfOk result (λ s. map seen_in s.searches.items ≡ map unseen assignments.now) }
     {
-        let mut sought = Vec::with_capacity(alloc, assignments.len())?;
+        let mut searches = Vec::with_capacity(alloc, assignments.len())?;
         for assignment in assignments {
-            sought.push_reserved(PathSearch::new(assignment));
+            searches.push_reserved(PathSearch::new(assignment));
         }
         Ok(Search {
-            sought,
+            searches,
             scopes: Scopes::new(alloc),
         })
     }
@@ -75,11 +75,11 @@ impl<'b> Search<'b> {
     /// The bound groups of all lines of the binding.
     pub fn bound_groups(&self, alloc: Global) -> Result<Vec<BoundGroup>, BindFault>
         ensures { BindGives (λ bound_groups. bound_groups.items) result
-            (bound_groups_of (map seen_in self.now.sought.items)) }
+            (bound_groups_of (map seen_in self.now.searches.items)) }
     {
-        let mut bound_groups = Vec::with_capacity(alloc, self.sought.len())?;
-        for sought in &self.sought {
-            match sought.bound_group() {
+        let mut bound_groups = Vec::with_capacity(alloc, self.searches.len())?;
+        for path_search in &self.searches {
+            match path_search.bound_group() {
                 Ok(bound_group) => bound_groups.push_reserved(bound_group),
                 // The fault is taken apart, since the checker can't carry it out of a loop whole.
                 Err(BindFault { line, kind }) => return Err(BindFault { line, kind }),
@@ -95,7 +95,7 @@ impl<'b> DeclarationVisitor for Search<'b> {
 
     ghost Taken = { List Searched };
 
-    ghost taken = { λ s. map seen_in s.sought.items };
+    ghost taken = { λ s. map seen_in s.searches.items };
 
     ghost with_variable = { with_variable };
 
@@ -106,7 +106,7 @@ impl<'b> DeclarationVisitor for Search<'b> {
         self.scopes.open(alloc, name)?;
         let depth = self.scopes.depth() - 1;
         let part = rest_of(self.scopes.path(), start);
-        open_all(self.sought.as_mut_slice(), depth, start, part);
+        open_all(self.searches.as_mut_slice(), depth, start, part);
         Ok(())
     }
 
@@ -114,13 +114,13 @@ impl<'b> DeclarationVisitor for Search<'b> {
         if !self.scopes.close() {
             return false;
         }
-        close_all(self.sought.as_mut_slice(), self.scopes.depth());
+        close_all(self.searches.as_mut_slice(), self.scopes.depth());
         true
     }
 
     fn declare(&mut self, alloc: Global, variable: Declaration<'_>) -> Result<(), AllocError> {
         let _ = alloc;
-        visit_all(self.sought.as_mut_slice(), &self.scopes, variable);
+        visit_all(self.searches.as_mut_slice(), &self.scopes, variable);
         Ok(())
     }
 }

@@ -151,7 +151,7 @@ impl Binding {
         search: &Search<'_>,
         visitor: F,
     ) -> Result<F, CaptureFault>
-        ensures { (variables : List Variable) → map seen_in search.now.sought.items
+        ensures { (variables : List Variable) → map seen_in search.now.searches.items
             ≡ fold with_variable (map unseen self.now.assignments) variables
             → GivesBy (λ f. F.recorded f) result (recording_behind self.now (defined head.now variables)) }
     {

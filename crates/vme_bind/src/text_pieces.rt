@@ -154,11 +154,11 @@ impl Binding {
         ensures formed { IfOk result (λ begun. (ts more : List Token)
             → malformed_step (reading_ahead (text_reached begun.0) ts more).recorded ≡ None) }
         ensures rest { (variables : List Variable)
-            → map seen_in search.now.sought.items ≡ fold with_variable (map unseen self.now.assignments) variables
+            → map seen_in search.now.searches.items ≡ fold with_variable (map unseen self.now.assignments) variables
             → TextContinuesAs (λ begun. outcome_from begun.0 begun.1.now) result
             (λ more. recording_behind self.now (defined (going_on front.entry.head more) variables)) }
         ensures reading { (variables : List Variable)
-            → map seen_in search.now.sought.items ≡ fold with_variable (map unseen self.now.assignments) variables
+            → map seen_in search.now.searches.items ≡ fold with_variable (map unseen self.now.assignments) variables
             → TextContinuesAs (λ begun. reading_from begun.0 begun.1.now) result
             (λ more. reading_behind self.now (defined (going_on front.entry.head more) variables)) }
     {

@@ -7,8 +7,9 @@ pub loop-s-preserved : goal.loop-s-preserved
 loop-s-preserved c =
     let step = closed c.args.depth in
     record {
-      done = stepped step c.loop-s.sought c.args.sought.now c.loop-s.s-index c.s-item.result c.close.new.self
+      done = stepped step c.loop-s.searches c.args.searches.now c.loop-s.s-index c.s-item.result c.close.new.self
           (search rules) (search rules) (search rules) (c.close.ensures ∙ ap step (sym c.s-item.is))
           c.loop-s.invariant.done c.loop-s.invariant.rest;
-      rest = stepped_rest c.loop-s.sought c.args.sought.now c.loop-s.s-index c.close.new.self c.loop-s.invariant.rest;
+      rest = stepped_rest c.loop-s.searches c.args.searches.now c.loop-s.s-index c.close.new.self
+          c.loop-s.invariant.rest;
     }

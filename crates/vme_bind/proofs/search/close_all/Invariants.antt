@@ -5,6 +5,6 @@ use Rattle.vme_bind.proofs.search.close_all.Given as goal
 abbrev pub invariant-loop-s : goal.invariant-loop-s
 invariant-loop-s l =
     record {
-      done : take l.s-index l.sought ≡ map (closed l.depth) (take l.s-index l.fn.sought);
-      rest : drop l.s-index l.sought ≡ drop l.s-index l.fn.sought;
+      done : take l.s-index l.searches ≡ map (closed l.depth) (take l.s-index l.fn.searches);
+      rest : drop l.s-index l.searches ≡ drop l.s-index l.fn.searches;
     }

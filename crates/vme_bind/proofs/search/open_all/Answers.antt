@@ -7,8 +7,9 @@ pub loop-s-preserved : goal.loop-s-preserved
 loop-s-preserved c =
     let step = opened c.args.depth c.args.start c.args.part.now in
     record {
-      done = stepped step c.loop-s.sought c.args.sought.now c.loop-s.s-index c.s-item.result c.«open».new.self
+      done = stepped step c.loop-s.searches c.args.searches.now c.loop-s.s-index c.s-item.result c.«open».new.self
           (search rules) (search rules) (search rules) (c.«open».ensures ∙ ap step (sym c.s-item.is))
           c.loop-s.invariant.done c.loop-s.invariant.rest;
-      rest = stepped_rest c.loop-s.sought c.args.sought.now c.loop-s.s-index c.«open».new.self c.loop-s.invariant.rest;
+      rest = stepped_rest c.loop-s.searches c.args.searches.now c.loop-s.s-index c.«open».new.self
+          c.loop-s.invariant.rest;
     }

@@ -5,6 +5,6 @@ use Rattle.vme_bind.proofs.search.open_all.Given as goal
 abbrev pub invariant-loop-s : goal.invariant-loop-s
 invariant-loop-s l =
     record {
-      done : take l.s-index l.sought ≡ map (opened l.depth l.start l.part) (take l.s-index l.fn.sought);
-      rest : drop l.s-index l.sought ≡ drop l.s-index l.fn.sought;
+      done : take l.s-index l.searches ≡ map (opened l.depth l.start l.part) (take l.s-index l.fn.searches);
+      rest : drop l.s-index l.searches ≡ drop l.s-index l.fn.searches;
     }

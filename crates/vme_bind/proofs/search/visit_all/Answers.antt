@@ -8,7 +8,7 @@ use Rattle.vme_bind.proofs.search.visit_all.Goals as goal
 
 pub visit-requires-clause-begun : goal.visit-requires-clause-begun
 visit-requires-clause-begun c = c.loop-s.invariant.begun c.loop-s.s-index c.s-item.result
-    (omega (arith, c.loop-s.auto.sought))
+    (omega (arith, c.loop-s.auto.searches))
 
 pub loop-s-preserved : goal.loop-s-preserved
 loop-s-preserved c =
@@ -16,14 +16,16 @@ loop-s-preserved c =
     let step = with_candidate (variable_in c.args.scopes.now v.net v.size
     (record { name = v.name.now; index = v.index })) in
     let scopes = c.args.scopes.now in
-    let before = c.loop-s.invariant.begun c.loop-s.s-index c.s-item.result (omega (arith, c.loop-s.auto.sought)) in
-    let begun : HasOpened scopes c.visit.new.self = same_begun scopes (get_or c.loop-s.sought c.loop-s.s-index
+    let before = c.loop-s.invariant.begun c.loop-s.s-index c.s-item.result (omega (arith, c.loop-s.auto.searches)) in
+    let begun : HasOpened scopes c.visit.new.self = same_begun scopes (get_or c.loop-s.searches c.loop-s.s-index
     c.s-item.result) c.visit.new.self c.visit.ensures.begun c.visit.ensures.assignment before in
     record {
-      begun = All-set (HasOpened c.args.scopes.now) c.loop-s.sought c.loop-s.s-index c.visit.new.self begun
+      begun = All-set (HasOpened c.args.scopes.now) c.loop-s.searches c.loop-s.s-index c.visit.new.self begun
           c.loop-s.invariant.begun;
-      done = stepped_by seen_in step c.loop-s.sought c.args.sought.now c.loop-s.s-index c.s-item.result c.visit.new.self
+      done = stepped_by seen_in step c.loop-s.searches c.args.searches.now c.loop-s.s-index c.s-item.result
+          c.visit.new.self
           (search rules) (search rules) (search rules) (c.visit.ensures.seen ∙ ap (λ (s : PathSearch). step (seen_in s))
           (sym c.s-item.is)) c.loop-s.invariant.done c.loop-s.invariant.rest;
-      rest = stepped_rest c.loop-s.sought c.args.sought.now c.loop-s.s-index c.visit.new.self c.loop-s.invariant.rest;
+      rest = stepped_rest c.loop-s.searches c.args.searches.now c.loop-s.s-index c.visit.new.self
+          c.loop-s.invariant.rest;
     }

@@ -9,8 +9,8 @@ invariant-loop-s l =
     let variable = variable_in l.scopes l.variable.net l.variable.size
     (record { name = l.variable.name.now; index = l.variable.index }) in
     record {
-      begun : All (HasOpened l.scopes) l.sought;
-      done : map seen_in (take l.s-index l.sought) ≡ map (with_candidate variable)
-          (map seen_in (take l.s-index l.fn.sought));
-      rest : drop l.s-index l.sought ≡ drop l.s-index l.fn.sought;
+      begun : All (HasOpened l.scopes) l.searches;
+      done : map seen_in (take l.s-index l.searches) ≡ map (with_candidate variable)
+          (map seen_in (take l.s-index l.fn.searches));
+      rest : drop l.s-index l.searches ≡ drop l.s-index l.fn.searches;
     }

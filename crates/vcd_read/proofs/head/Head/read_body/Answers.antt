@@ -4,10 +4,10 @@ use Rattle.vcd_read.specs.Taking.{at_end}
 use Rattle.vcd_read.proofs.ReadLemmas.{fails_first, gives_err}
 use Rattle.vcd_read.proofs.head.Head.read_body.Goals as goal
 
-pub returns-in_err-underway : goal.returns-in_err-underway
-returns-in_err-underway g c =
-    let fault = c.in_err-underway.field-0.0 in
-    let met = c.in_err-underway.ensures [] in
+pub returns-in_err-state : goal.returns-in_err-state
+returns-in_err-state g c =
+    let fault = c.in_err-state.field-0.0 in
+    let met = c.in_err-state.ensures [] in
     let h = rw (c.new.ensures.visitor, c.new.ensures.clock, c.new.ensures.bracket, c.new.ensures.place, append-nil) at
     met in
     rw (← c.self.view_is) (gives_err _ c.from_residual.result fault _ c.from_residual.ensures.1

@@ -19,7 +19,7 @@ returns-in-Ok-begin_body-clause-begins g c = λ whole more e.
     let b = c.args.self.now in
     let first : List Searched = map unseen b.assignments in
     let head = going_on c.in-Ok-Some.front.head more in
-    let seen : List Searched = map seen_in c.in-Ok-Some.search.sought.items in
+    let seen : List Searched = map seen_in c.in-Ok-Some.search.searches.items in
     let found = rw (c.in-Ok-Some.field-0-is, c.in-Ok.ensures.seen, c.assignments.ensures) at c.in-Ok-Some.ensures.header
     in
     let is = subst (λ (ts : List Token). header_of with_variable whole (nothing_declared first) ts
@@ -32,7 +32,7 @@ returns-in-Ok-Some-clause-begins g c = λ whole more e.
     let b = c.args.self.now in
     let first : List Searched = map unseen b.assignments in
     let head = going_on c.in-Ok-Some.front.head more in
-    let seen : List Searched = map seen_in c.in-Ok-Some.search.sought.items in
+    let seen : List Searched = map seen_in c.in-Ok-Some.search.searches.items in
     let found = rw (c.in-Ok-Some.field-0-is, c.in-Ok.ensures.seen, c.assignments.ensures) at c.in-Ok-Some.ensures.header
     in
     let is = subst (λ (ts : List Token). header_of with_variable whole (nothing_declared first) ts
@@ -64,7 +64,7 @@ returns-in-Ok-begin_body-clause-reading g c = λ whole more e.
     let b = c.args.self.now in
     let first : List Searched = map unseen b.assignments in
     let head = going_on c.in-Ok-Some.front.head more in
-    let seen : List Searched = map seen_in c.in-Ok-Some.search.sought.items in
+    let seen : List Searched = map seen_in c.in-Ok-Some.search.searches.items in
     let found = rw (c.in-Ok-Some.field-0-is, c.in-Ok.ensures.seen, c.assignments.ensures) at c.in-Ok-Some.ensures.header
     in
     let is = subst (λ (ts : List Token). header_of with_variable whole (nothing_declared first) ts
@@ -77,7 +77,7 @@ returns-in-Ok-Some-clause-reading g c = λ whole more e.
     let b = c.args.self.now in
     let first : List Searched = map unseen b.assignments in
     let head = going_on c.in-Ok-Some.front.head more in
-    let seen : List Searched = map seen_in c.in-Ok-Some.search.sought.items in
+    let seen : List Searched = map seen_in c.in-Ok-Some.search.searches.items in
     let found = rw (c.in-Ok-Some.field-0-is, c.in-Ok.ensures.seen, c.assignments.ensures) at c.in-Ok-Some.ensures.header
     in
     let is = subst (λ (ts : List Token). header_of with_variable whole (nothing_declared first) ts

@@ -13,7 +13,7 @@ returns-in-Ok-read_definitions g c =
     let first = map unseen b.assignments in
     let head = rw (c.in-Ok.ensures.seen, c.assignments.ensures) at c.in-Ok-read_definitions.ensures in
     let given = text-behind g.F.StepVisitor.recorded b text c.in-Ok-read_definitions.head first
-    (map seen_in c.in-Ok-read_definitions.search.sought.items) c.record_head.result head c.record_head.ensures in
+    (map seen_in c.in-Ok-read_definitions.search.searches.items) c.record_head.result head c.record_head.ensures in
     record { gives = given; formed = text-formed g.F.StepVisitor.recorded b text c.record_head.result given }
 
 pub returns-in-Err-read_definitions : goal.returns-in-Err-read_definitions

@@ -3,12 +3,12 @@ use Rattle.vme_bind.specs.PathSearch.{seen_in, bound_groups_of}
 use Rattle.vme_bind.proofs.BoundGroupLemmas.{behind_bound_groups}
 use Rattle.vme_bind.proofs.search.Search.bound_groups.Given as goal
 
-abbrev pub invariant-loop-sought : goal.invariant-loop-sought
-invariant-loop-sought l =
+abbrev pub invariant-loop-path_search : goal.invariant-loop-path_search
+invariant-loop-path_search l =
     record {
       bound_groups : behind_bound_groups l.bound_groups.items
-          (bound_groups_of (map seen_in (drop l.sought-index l.self.sought.items))) ≡ bound_groups_of
-          (map seen_in l.self.sought.items);
-      count : vec_len l.bound_groups ≡ l.sought-index;
-      capacity : vec_capacity l.bound_groups ≡ vec_len l.self.sought;
+          (bound_groups_of (map seen_in (drop l.path_search-index l.self.searches.items))) ≡ bound_groups_of
+          (map seen_in l.self.searches.items);
+      count : vec_len l.bound_groups ≡ l.path_search-index;
+      capacity : vec_capacity l.bound_groups ≡ vec_len l.self.searches;
     }

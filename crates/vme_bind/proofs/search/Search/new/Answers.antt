@@ -13,13 +13,13 @@ loop-assignment-preserved c =
     record {
       seen = rw (
         c.push_reserved.ensures.items,
-        map-append seen_in l.sought.items (c.new.result ∷ []),
+        map-append seen_in l.searches.items (c.new.result ∷ []),
         take_more all l.assignment-index a c.loop-assignment-test.true,
         ← c.assignment-item.is,
         c.new.ensures.seen,
         l.invariant.seen,
       ) (sym (map-append unseen _ (a ∷ [])));
-      begun = rw c.push_reserved.ensures.items (All-push (HasOpened []) l.sought.items c.new.result l.invariant.begun
+      begun = rw c.push_reserved.ensures.items (All-push (HasOpened []) l.searches.items c.new.result l.invariant.begun
           (begun_none c.new.result c.new.ensures.begun));
       count = omega (arith, c.push_reserved.ensures.len, l.invariant.count);
       capacity = c.push_reserved.ensures.capacity ∙ l.invariant.capacity;

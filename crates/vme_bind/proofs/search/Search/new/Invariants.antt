@@ -6,8 +6,8 @@ use Rattle.vme_bind.proofs.search.Search.new.Given as goal
 abbrev pub invariant-loop-assignment : goal.invariant-loop-assignment
 invariant-loop-assignment l =
     record {
-      seen : map seen_in l.sought.items ≡ map unseen (take l.assignment-index l.assignments);
-      begun : All (HasOpened []) l.sought.items;
-      count : vec_len l.sought ≡ l.assignment-index;
-      capacity : vec_capacity l.sought ≡ length l.assignments;
+      seen : map seen_in l.searches.items ≡ map unseen (take l.assignment-index l.assignments);
+      begun : All (HasOpened []) l.searches.items;
+      count : vec_len l.searches ≡ l.assignment-index;
+      capacity : vec_capacity l.searches ≡ length l.assignments;
     }

@@ -7,13 +7,14 @@ pub invariant_of-self-2 : goal.invariant_of-self-2
 invariant_of-self-2 c =
     let s = c.args.self.now in
     record {
-      begun = closed-back c.if-not-close.ensures.0 s.scopes c.close.new.self s.sought.items
-          c.as_mut_slice.result.now c.close_all.new.sought s.sought.len c.depth.result s.begun c.if-not-close.ensures.1
-          (omega (arith, s.sought.ok.0)) c.as_mut_slice.ensures.value c.close_all.ensures c.depth.ensures;
+      begun = closed-back c.if-not-close.ensures.0 s.scopes c.close.new.self s.searches.items
+          c.as_mut_slice.result.now c.close_all.new.searches s.searches.len c.depth.result s.begun
+          c.if-not-close.ensures.1
+          (omega (arith, s.searches.ok.0)) c.as_mut_slice.ensures.value c.close_all.ensures c.depth.ensures;
     }
 
 pub returns-clause-taken : goal.returns-clause-taken
 returns-clause-taken c =
     let s = c.args.self.now in
-    seen-back (closed c.depth.result) s.sought.items c.as_mut_slice.result.now c.close_all.new.sought s.sought.len
-    (λ s. refl) (omega (arith, s.sought.ok.0)) c.as_mut_slice.ensures.value c.close_all.ensures
+    seen-back (closed c.depth.result) s.searches.items c.as_mut_slice.result.now c.close_all.new.searches s.searches.len
+    (λ s. refl) (omega (arith, s.searches.ok.0)) c.as_mut_slice.ensures.value c.close_all.ensures

@@ -14,9 +14,9 @@ invariant_of-self-2 c =
     ) in
     record {
       begun =
-          opened-back c.args.name.now s.scopes c.«open».new.self s.sought.items c.as_mut_slice.result.now
-          c.open_all.new.sought s.sought.len (c.depth-depth.result - 1) start c.rest_of-part.result.now s.begun
-          c.in_ok-open.ensures.ok (omega (arith, s.sought.ok.0)) c.as_mut_slice.ensures.value c.open_all.ensures depth
+          opened-back c.args.name.now s.scopes c.«open».new.self s.searches.items c.as_mut_slice.result.now
+          c.open_all.new.searches s.searches.len (c.depth-depth.result - 1) start c.rest_of-part.result.now s.begun
+          c.in_ok-open.ensures.ok (omega (arith, s.searches.ok.0)) c.as_mut_slice.ensures.value c.open_all.ensures depth
           (ap (λ (path : List ℕ). length path) c.path-start.ensures)
           (c.rest_of-part.ensures ∙ ap (drop start) c.path.ensures);
     }
@@ -25,5 +25,5 @@ pub returns-clause-taken : goal.returns-clause-taken
 returns-clause-taken c =
     let s = c.args.self.now in
     seen-back (opened (c.depth-depth.result - 1) (length c.path-start.result.now) c.rest_of-part.result.now)
-    s.sought.items c.as_mut_slice.result.now c.open_all.new.sought s.sought.len (λ s. refl)
-    (omega (arith, s.sought.ok.0)) c.as_mut_slice.ensures.value c.open_all.ensures
+    s.searches.items c.as_mut_slice.result.now c.open_all.new.searches s.searches.len (λ s. refl)
+    (omega (arith, s.searches.ok.0)) c.as_mut_slice.ensures.value c.open_all.ensures

@@ -19,5 +19,5 @@ pub returns-in-Err : goal.returns-in-Err
 returns-in-Err g c =
     let p = c.args.self.pieces in
     fails-whole c.args.self.fault c.in-Err.fault (finished builder_change builder_instant p.codes
-    (taking p.underway.timed.visitor p.underway.timed.clock) p.underway.bracket (place_of p.underway.place))
+    (taking p.state.timed.visitor p.state.timed.clock) p.state.bracket (place_of p.state.place))
     c.in-Err.ensures

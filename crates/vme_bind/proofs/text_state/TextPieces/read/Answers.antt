@@ -16,7 +16,7 @@ returns-in-Ok-clause-rest g c = λ more. ap (λ (r : Result (State BuilderState)
 pub returns-in-Err-clause-rest : goal.returns-in-Err-clause-rest
 returns-in-Err-clause-rest g c =
     let p = c.args.self.pieces in
-    let read = ahead builder_change builder_instant p.codes (taking p.underway.timed.visitor p.underway.timed.clock)
-    p.underway.bracket (place_of p.underway.place) (tokens_from p.line c.args.piece.now) in
+    let read = ahead builder_change builder_instant p.codes (taking p.state.timed.visitor p.state.timed.clock)
+    p.state.bracket (place_of p.state.place) (tokens_from p.line c.args.piece.now) in
     fails-outcome c.args.self.fault c.in-Err.fault (λ more. outcome c.args.self.fault
     (read more >>= at_end builder_instant)) read (λ more. refl) c.in-Err.ensures.rest
