@@ -11,7 +11,7 @@ use Rattle.vme_trace.specs.Transfers.{strobe_rises, strobe_falls, answer_falls, 
 use Rattle.vme_trace.specs.Transfers.{is_answer}
 use Rattle.vme_trace.specs.Cycles.{cycle_starts, class_at, in_cycle, answers_of}
 use Rattle.vme_trace.specs.Tenures.{grant_falls, tenure_starts}
-use Rattle.vme_trace.specs.Rules.{all_rules, ends_span, is_later, is_single, is_block_class, is_interrupt}
+use Rattle.vme_trace.specs.Rules.{all_rules, ends_span, has_earlier_answer, is_single, is_block_class, is_interrupt}
 use Rattle.vme_trace.specs.declared.rule.Rule.{Rule}
 use Rattle.vme_trace.specs.declared.class.Class.{Class}
 use Rattle.vme_trace.specs.declared.verdict.Break.{Break}
@@ -58,7 +58,7 @@ module _ (t : Trace) (span : Stretch) where
   abbrev pub answered_again_in_class : (Class → Bool) → ℕ → Bool
   answered_again_in_class chosen j =
       is_answer t span j
-      && in_cycle t span (λ i. chosen (class_at t span i) && is_later (answers_of t span i j)) j
+      && in_cycle t span (λ i. chosen (class_at t span i) && has_earlier_answer (answers_of t span i j)) j
 
   -- an event happens at an instant of the stretch, which doesn't start there
   abbrev pub event_happens : Event → ℕ → Bool

@@ -14,7 +14,7 @@ use Rattle.vme_trace.specs.Levels.{Levels, is_low, level_at}
 use Rattle.vme_trace.specs.LineNumbers.{AS, BBSY, BERR, DS0, DS1, DTACK, WRITE, is_arbiter_grant, is_grant}
 use Rattle.vme_trace.specs.LineNumbers.{is_slot_grant}
 use Rattle.vme_trace.specs.LineNumbers.{is_slot_iack, line_count}
-use Rattle.vme_trace.specs.Rules.{is_block_class, is_interrupt, is_later, is_single}
+use Rattle.vme_trace.specs.Rules.{is_block_class, is_interrupt, has_earlier_answer, is_single}
 use Rattle.vme_trace.specs.Signals.{falls, low, rises}
 use Rattle.vme_trace.specs.Tenures.{grant_falls, tenure_starts}
 use Rattle.vme_trace.specs.Trace.{Trace, changed}
@@ -35,7 +35,8 @@ use Rattle.vme_monitor.specs.declared.mark.StepMarks.{StepMarks}
 use Rattle.vme_monitor.specs.declared.tracking.Pending.{Pending}
 use Rattle.vme_monitor.proofs.Alongside.{changes_fit, levels_step}
 use Rattle.vme_monitor.proofs.SpanFacts.{IsSpan}
-use Rattle.vme_dtb.specs.CycleState.{cycle_entered, is_acknowledge, is_acknowledged, unanswered_of}
+use Rattle.vme_dtb.specs.CycleState.{cycle_entered, is_interrupt_acknowledge, is_answered_interrupt_acknowledge}
+use Rattle.vme_dtb.specs.CycleState.{unanswered_of}
 use Rattle.vme_dtb.specs.Edge.{cycle_start_of, edges_between}
 use Rattle.vme_dtb.specs.Machine.{answer_in, dtb_next}
 use Rattle.vme_dtb.specs.declared.cycle.Cycle.{Cycle}
@@ -44,7 +45,8 @@ use Rattle.vme_dtb.specs.declared.cycle.Cycle.TheVariants.{InterruptDone, Single
 use Rattle.vme_dtb.specs.declared.edges.Edges.{Edges}
 use Rattle.vme_dtb.specs.declared.memory.HandshakeMemory.{HandshakeMemory}
 use Rattle.vme_dtb.proofs.CycleBreaks.{cycle_starts_is, here_is}
-use Rattle.vme_dtb.proofs.CycleMemory.{cycle_before, in_acknowledge, in_acknowledged, told, told_of}
+use Rattle.vme_dtb.proofs.CycleMemory.{cycle_before, in_interrupt_acknowledge, in_answered_interrupt_acknowledge, told}
+use Rattle.vme_dtb.proofs.CycleMemory.{told_of}
 use Rattle.vme_dtb.proofs.HandshakeBreaks.{answer_is}
 use Rattle.vme_dtb.proofs.Held.{Holds}
 use Rattle.vme_dtb.proofs.OpenState.{started_is}
@@ -111,13 +113,13 @@ interrupt_fresh class.K = refl
 interrupt_fresh class.I = refl
 interrupt_fresh class.F = refl
 
-interrupt_class : (k : Class) → is_interrupt k ≡ is_acknowledge (unanswered_of k)
+interrupt_class : (k : Class) → is_interrupt k ≡ is_interrupt_acknowledge (unanswered_of k)
 interrupt_class class.S = refl
 interrupt_class class.K = refl
 interrupt_class class.I = refl
 interrupt_class class.F = refl
 
-interrupt_cycle : (c : Cycle) → is_interrupt_cycle c ≡ is_acknowledge c
+interrupt_cycle : (c : Cycle) → is_interrupt_cycle c ≡ is_interrupt_acknowledge c
 interrupt_cycle Free = refl
 interrupt_cycle Single = refl
 interrupt_cycle SingleRead = refl
@@ -128,11 +130,12 @@ interrupt_cycle BlockWriting = refl
 interrupt_cycle Interrupt = refl
 interrupt_cycle InterruptDone = refl
 
-interrupt_entered : (c : Cycle) (s : Option CycleStart) → is_interrupt_entered c s ≡ is_acknowledge (cycle_entered c s)
+interrupt_entered : (c : Cycle) (s : Option CycleStart) → is_interrupt_entered c s ≡ is_interrupt_acknowledge
+    (cycle_entered c s)
 interrupt_entered c None = interrupt_cycle c
 interrupt_entered c (Some s) = interrupt_class s.class
 
-acknowledged_is : (c : Cycle) → is_acknowledged c ≡ is_interrupt_answered c
+acknowledged_is : (c : Cycle) → is_answered_interrupt_acknowledge c ≡ is_interrupt_answered c
 acknowledged_is Free = refl
 acknowledged_is Single = refl
 acknowledged_is SingleRead = refl
@@ -144,7 +147,8 @@ acknowledged_is Interrupt = refl
 acknowledged_is InterruptDone = refl
 
 module _ (t : Trace) (span : Stretch) where
-  single_later : (c : Class) (rs : List ℕ) → (is_single c && is_later rs) ≡ is_single_answered (told t span c rs)
+  single_later : (c : Class) (rs : List ℕ) → (is_single c && has_earlier_answer rs) ≡ is_single_answered
+      (told t span c rs)
   single_later class.S [] = refl
   single_later class.S (r ∷ []) = by_write (answers_write t span r)
     where
@@ -162,7 +166,8 @@ module _ (t : Trace) (span : Stretch) where
   single_later class.I (r ∷ rs) = refl
   single_later class.F rs = refl
 
-  block_later : (c : Class) (rs : List ℕ) → (is_block_class c && is_later rs) ≡ is_block_answered (told t span c rs)
+  block_later : (c : Class) (rs : List ℕ) → (is_block_class c && has_earlier_answer rs)
+      ≡ is_block_answered (told t span c rs)
   block_later class.S [] = refl
   block_later class.S (r ∷ []) = by_write (answers_write t span r)
     where
@@ -180,24 +185,27 @@ module _ (t : Trace) (span : Stretch) where
   block_later class.I (r ∷ rs) = refl
   block_later class.F rs = refl
 
-  in_single : (j : ℕ) → in_cycle t span (λ i. is_single (class_at t span i) && is_later (answers_of t span i j)) j
+  in_single : (j : ℕ) → in_cycle t span (λ i. is_single (class_at t span i) && has_earlier_answer
+      (answers_of t span i j)) j
       ≡ is_single_answered (cycle_before t span j)
   unfolding in_cycle
   in_single j = by_cycle (cycle_of t span j)
     where
       by_cycle : (o : Option ℕ)
-          → option_map_or (λ i. is_single (class_at t span i) && is_later (answers_of t span i j)) o false
+          → option_map_or (λ i. is_single (class_at t span i) && has_earlier_answer (answers_of t span i j)) o false
           ≡ is_single_answered (told_of t span o j)
       by_cycle None = refl
       by_cycle (Some i) = single_later (class_at t span i) (answers_of t span i j)
 
-  in_block : (j : ℕ) → in_cycle t span (λ i. is_block_class (class_at t span i) && is_later (answers_of t span i j)) j
+  in_block : (j : ℕ) → in_cycle t span (λ i. is_block_class (class_at t span i) && has_earlier_answer
+      (answers_of t span i j)) j
       ≡ is_block_answered (cycle_before t span j)
   unfolding in_cycle
   in_block j = by_cycle (cycle_of t span j)
     where
       by_cycle : (o : Option ℕ)
-          → option_map_or (λ i. is_block_class (class_at t span i) && is_later (answers_of t span i j)) o false
+          → option_map_or (λ i. is_block_class (class_at t span i) && has_earlier_answer (answers_of t span i j)) o
+          false
           ≡ is_block_answered (told_of t span o j)
       by_cycle None = refl
       by_cycle (Some i) = block_later (class_at t span i) (answers_of t span i j)
@@ -274,11 +282,12 @@ module _ (t : Trace) (ok : malformed_step t ≡ None) (few : t.opening.slots ≤
       ≡ answered_in_class t span is_interrupt (suc n)
   interrupt_event =
       and_both _ _ _ _ answer_event
-      (interrupt_entered m.cycle shown.cycle ∙ ap is_acknowledge (sym cycle_here) ∙ sym (in_acknowledge t span (suc n)))
+      (interrupt_entered m.cycle shown.cycle ∙ ap is_interrupt_acknowledge (sym cycle_here)
+      ∙ sym (in_interrupt_acknowledge t span (suc n)))
 
   -- an answer in a cycle that had one before
   again_event : (is : Cycle → Bool) (chosen : Class → Bool) → ((k : Class) → is (unanswered_of k) ≡ false)
-      → in_cycle t span (λ i. chosen (class_at t span i) && is_later (answers_of t span i (suc n))) (suc n)
+      → in_cycle t span (λ i. chosen (class_at t span i) && has_earlier_answer (answers_of t span i (suc n))) (suc n)
       ≡ is (cycle_before t span (suc n))
       → goes_on is m.cycle shown.cycle shown.answer ≡ answered_again_in_class t span chosen (suc n)
   again_event is chosen fresh so =
@@ -351,7 +360,7 @@ module _ (t : Trace) (ok : malformed_step t ≡ None) (few : t.opening.slots ≤
     by_event event.interrupt_again =
         add _ _ _ _ (on_interrupt_again e m v w cs shown)
         (again_event is_interrupt_answered is_interrupt interrupt_fresh
-        (in_acknowledged t span (suc n) ∙ acknowledged_is (cycle_before t span (suc n))))
+        (in_answered_interrupt_acknowledge t span (suc n) ∙ acknowledged_is (cycle_before t span (suc n))))
     by_event event.slot_grant_fall = add _ _ _ _ (on_slot_grant_fall e m v w cs shown) (nets_fall is_slot_grant e)
     by_event event.slot_grant_rise = add _ _ _ _ (on_slot_grant_rise e m v w cs shown) (nets_rise is_slot_grant e)
     by_event event.arbiter_fall = add _ _ _ _ (on_arbiter_fall e m v w cs shown) (arbiter_event e)

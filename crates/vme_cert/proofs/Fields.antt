@@ -12,8 +12,10 @@ use Rattle.vme_trace.proofs.JudgedSpans.{span_reads}
 use Rattle.vme_cert.specs.Words.{AS, DS0, DS1, DTACK, High, Level, Low, Stretch, Trace, Unknown, WRITE, answer_falls}
 use Rattle.vme_cert.specs.Words.{answers, answers_of, answers_write, any, class_at, cycle_starts, differ, falls}
 use Rattle.vme_cert.specs.Words.{greatest, high, in_transfer, is_answer, is_answered, is_high, is_judged, is_known}
-use Rattle.vme_cert.specs.Words.{is_later, is_low, is_write, known, last_before, lasts, level, levels_at, low, needs_of}
-use Rattle.vme_cert.specs.Words.{none, rises, spoils_pair, strobe_rises, strobes_high, those, transfer_starts, turns}
+use Rattle.vme_cert.specs.Words.{has_earlier_answer, is_low, is_write, known, last_before, lasts, level, levels_at, low}
+use Rattle.vme_cert.specs.Words.{needs_of}
+use Rattle.vme_cert.specs.Words.{none, rises, breaks_read_modify_write, strobe_rises, strobes_high, those}
+use Rattle.vme_cert.specs.Words.{transfer_starts, changes_direction}
 use Rattle.vme_cert.specs.Words.{BERR, IsSpanOf, Needs, cycle_of, cycle_runs, in_cycle, is_block_class, is_interrupt}
 use Rattle.vme_cert.specs.Words.{is_needed, is_single, is_within}
 use Rattle.vme_cert.specs.State.{is_many, writes_first, AreClosed, IsOpenTransfer, IsTransfer, IsCycle, IsLastCycle}
@@ -114,13 +116,14 @@ answers-step t span i j order = rw (add-one, le-leb i j order) refl
 
 -- ---- The answers of a cycle, with one more or none, and what rules ask of them.
 
-pub later-with : (rs : List ℕ) (r : ℕ) (b : Bool) → is_later (rs ++ (if b then r ∷ [] else [])) ≡ (is_later rs || b)
+pub later-with : (rs : List ℕ) (r : ℕ) (b : Bool) → has_earlier_answer (rs ++ (if b then r ∷ [] else []))
+    ≡ (has_earlier_answer rs || b)
 later-with [] r true = refl
 later-with [] r false = refl
 later-with (q ∷ rs) r b = refl
 
 pub many-with : (rs : List ℕ) (r : ℕ) (b : Bool) → is_many (rs ++ (if b then r ∷ [] else []))
-    ≡ (is_many rs || (b && is_later rs))
+    ≡ (is_many rs || (b && has_earlier_answer rs))
 many-with [] r true = refl
 many-with [] r false = refl
 many-with (q ∷ []) r true = refl
@@ -129,7 +132,7 @@ many-with (q ∷ p ∷ rs) r b = refl
 
 module _ (t : Trace) (span : Stretch) where
   pub first-with : (rs : List ℕ) (r : ℕ) (b : Bool) → writes_first t span (rs ++ (if b then r ∷ [] else []))
-      ≡ (writes_first t span rs || (b && not (is_later rs) && answers_write t span r))
+      ≡ (writes_first t span rs || (b && not (has_earlier_answer rs) && answers_write t span r))
   first-with [] r true = refl
   first-with [] r false = refl
   first-with (q ∷ rs) r b = stays (answers_write t span q) b (answers_write t span r)
@@ -140,19 +143,21 @@ module _ (t : Trace) (span : Stretch) where
       stays false false w = refl
 
   -- the pair of a single cycle, and the direction of a block cycle
-  pub spoils-is : (rs : List ℕ) (r : ℕ)
-      → (is_later rs && (is_many rs || writes_first t span rs || not (answers_write t span r))) ≡ spoils_pair t span
+  pub breaks_read_modify_write-is : (rs : List ℕ) (r : ℕ)
+      → (has_earlier_answer rs && (is_many rs || writes_first t span rs || not (answers_write t span r)))
+      ≡ breaks_read_modify_write t span
       rs r
-  unfolding spoils_pair
-  spoils-is [] r = refl
-  spoils-is (q ∷ []) r = refl
-  spoils-is (q ∷ p ∷ rs) r = refl
+  unfolding breaks_read_modify_write
+  breaks_read_modify_write-is [] r = refl
+  breaks_read_modify_write-is (q ∷ []) r = refl
+  breaks_read_modify_write-is (q ∷ p ∷ rs) r = refl
 
-  pub turns-is : (rs : List ℕ) (r : ℕ) → (is_later rs && not (beq (writes_first t span rs) (answers_write t span r)))
-      ≡ turns t span rs r
-  unfolding turns
-  turns-is [] r = refl
-  turns-is (q ∷ rs) r = differ-is (answers_write t span q) (answers_write t span r)
+  pub changes_direction-is : (rs : List ℕ) (r : ℕ)
+      → (has_earlier_answer rs && not (beq (writes_first t span rs) (answers_write t span r)))
+      ≡ changes_direction t span rs r
+  unfolding changes_direction
+  changes_direction-is [] r = refl
+  changes_direction-is (q ∷ rs) r = differ-is (answers_write t span q) (answers_write t span r)
     where
       differ-is : (a b : Bool) → not (beq a b) ≡ differ a b
       differ-is true true = refl
@@ -387,7 +392,7 @@ module _ (t : Trace) (span : Stretch) (j : ℕ) (judged : is_judged span j ≡ t
             ∙ ap not (any-start (rises t AS) (j + 1) j (omega arith)));
         is_low = λ on before. absurd (omega arith);
         others = λ i start before. all-ended t span j o was here i start (omega arith);
-        answered = answered ∙ sym (ap is_later none_yet);
+        answered = answered ∙ sym (ap has_earlier_answer none_yet);
         first_writes = first ∙ sym (ap (writes_first t span) none_yet);
         answered_again = again ∙ sym (ap is_many none_yet);
         acknowledged = acknowledged ∙ sym (ap (λ k. is_acknowledged t span k j) at
@@ -470,7 +475,7 @@ module _ (t : Trace) (span : Stretch) (j : ℕ) (judged : is_judged span j ≡ t
           runs = sym runs-on;
           is_low = λ on before. ap (low t AS) back ∙ low-now knows on;
           others = λ i start before. stays-ended (rises t AS) i j (is.others i start before);
-          answered = ap (λ b. b || an) is.answered ∙ sym (ap is_later answers-later ∙ later-with rs j an);
+          answered = ap (λ b. b || an) is.answered ∙ sym (ap has_earlier_answer answers-later ∙ later-with rs j an);
           first_writes = ap (λ b. b || (an && not c.answered && answers_write t span j)) is.first_writes
               ∙ (ap (λ b. writes_first t span rs || (an && not b && answers_write t span j)) is.answered
               ∙ sym (ap (writes_first t span) answers-later ∙ first-with t span rs j an));
@@ -630,27 +635,31 @@ module _ (t : Trace) (span : Stretch) (j : ℕ) (judged : is_judged span j ≡ t
     ask-cycle x p here = decide c.has_started (λ e. rw (e, (is.here e).last) (here (is.here e)))
         (λ e. rw (e, is.absent e) refl)
 
-    pub spoils-pair-is : (w : Bool) → w ≡ answers_write t span j
+    pub breaks_read_modify_write-cycle-is : (w : Bool) → w ≡ answers_write t span j
         → (c.has_started && (is_single c.class && (c.answered && (c.answered_again || c.first_writes || not w))))
-        ≡ in_cycle t span (λ i. is_single (class_at t span i) && spoils_pair t span (answers_of t span i j) j) j
-    spoils-pair-is w e =
+        ≡ in_cycle t span (λ i. is_single (class_at t span i) && breaks_read_modify_write t span (answers_of t span i j)
+        j) j
+    breaks_read_modify_write-cycle-is w e =
         ask-cycle (is_single c.class && (c.answered && (c.answered_again || c.first_writes || not w))) _
         (λ k. rw (k.class, k.answered, k.answered_again, k.first_writes, e)
-        (ap (λ b. is_single (class_at t span c.start) && b) (spoils-is t span (answers_of t span c.start j) j)))
+        (ap (λ b. is_single (class_at t span c.start) && b)
+        (breaks_read_modify_write-is t span (answers_of t span c.start j) j)))
 
-    pub turns-block-is : (w : Bool) → w ≡ answers_write t span j
+    pub changes_direction-cycle-is : (w : Bool) → w ≡ answers_write t span j
         → (c.has_started && (is_block_class c.class && (c.answered && not (beq c.first_writes w))))
-        ≡ in_cycle t span (λ i. is_block_class (class_at t span i) && turns t span (answers_of t span i j) j) j
-    turns-block-is w e = ask-cycle (is_block_class c.class && (c.answered && not (beq c.first_writes w))) _
+        ≡ in_cycle t span (λ i. is_block_class (class_at t span i) && changes_direction t span (answers_of t span i j)
+        j) j
+    changes_direction-cycle-is w e = ask-cycle (is_block_class c.class && (c.answered && not (beq c.first_writes w))) _
         (λ k. rw (k.class, k.answered, k.first_writes, e)
-        (ap (λ b. is_block_class (class_at t span c.start) && b) (turns-is t span (answers_of t span c.start j) j)))
+        (ap (λ b. is_block_class (class_at t span c.start) && b)
+        (changes_direction-is t span (answers_of t span c.start j) j)))
 
     pub interrupt-is : (c.has_started && is_interrupt c.class) ≡ in_cycle t span
         (λ i. is_interrupt (class_at t span i)) j
     interrupt-is = ask-cycle (is_interrupt c.class) _ (λ k. ap is_interrupt k.class)
 
     pub answered-interrupt-is : (c.has_started && (is_interrupt c.class && c.answered))
-        ≡ in_cycle t span (λ i. is_interrupt (class_at t span i) && is_later (answers_of t span i j)) j
+        ≡ in_cycle t span (λ i. is_interrupt (class_at t span i) && has_earlier_answer (answers_of t span i j)) j
     answered-interrupt-is = ask-cycle (is_interrupt c.class && c.answered) _ (λ k. rw (k.class, k.answered) refl)
 
     -- of the cycle of the instant before, where none starts here
@@ -676,12 +685,12 @@ pub ruleset questions = (answer-is, write-is, unanswered-is, data-is)
 -- and of all transfers, only the last may hold it.
 
 -- whether one of a range holds is whether there are such
-any-later : (p : ℕ → Bool) (f n : ℕ) → any p f n ≡ is_later (those p f n)
+any-later : (p : ℕ → Bool) (f n : ℕ) → any p f n ≡ has_earlier_answer (those p f n)
 unfolding any those
 any-later p f zero = refl
 any-later p f (suc n) = rw (any-later p f n) (more (those p f n) (nat_le f n && p n))
   where
-    more : (rs : List ℕ) (b : Bool) → (is_later rs || b) ≡ is_later (rs ++ cond b (n ∷ []) [])
+    more : (rs : List ℕ) (b : Bool) → (has_earlier_answer rs || b) ≡ has_earlier_answer (rs ++ cond b (n ∷ []) [])
     more [] true = refl
     more [] false = refl
     more (r ∷ rs) b = refl
@@ -808,7 +817,8 @@ module _ (t : Trace) (span : Stretch) (is : IsSpanOf t span) where
 
       held-last : (c : Cycle) → IsLastCycle t span (j + 1) j c
           → any needs (span.start + 1) j ≡
-          (nat_lt c.start j && (c.runs && not (rises t AS j)) && not (is_later (answers_of t span c.start j)) && not
+          (nat_lt c.start j && (c.runs && not (rises t AS j)) && not (has_earlier_answer (answers_of t span c.start j))
+          && not
           (is_answer t span j) && is_needed (levels_at t c.start) l)
       unfolding answers_of cycle_runs
       held-last c h =
@@ -824,20 +834,20 @@ module _ (t : Trace) (span : Stretch) (is : IsSpanOf t span) where
           found = greatest-found (cycle_starts t span) (span.start + 1) (j + 1) c.start h.last
 
           unanswered : none (is_answer t span) c.start (j + 1) ≡
-              (not (is_later (answers_of t span c.start j)) && not (is_answer t span j))
+              (not (has_earlier_answer (answers_of t span c.start j)) && not (is_answer t span j))
           unanswered = rw (
             any-step (is_answer t span) c.start j,
             le-leb c.start j (cycle-within t span j judged c h),
             any-later
                 (is_answer t span) c.start j,
           )
-              (de_morgan (is_later (those (is_answer t span) c.start j)) (is_answer t span j))
+              (de_morgan (has_earlier_answer (those (is_answer t span) c.start j)) (is_answer t span j))
 
           step : needs c.start ≡
-              ((c.runs && not (rises t AS j)) && not (is_later (answers_of t span c.start j)) && not
+              ((c.runs && not (rises t AS j)) && not (has_earlier_answer (answers_of t span c.start j)) && not
               (is_answer t span j) && is_needed (levels_at t c.start) l)
           step = rw (found.holds, unanswered, runs-on t span j judged c h)
-              (regroup (c.runs && not (rises t AS j)) (not (is_later (answers_of t span c.start j)))
+              (regroup (c.runs && not (rises t AS j)) (not (has_earlier_answer (answers_of t span c.start j)))
               (not (is_answer t span j)) (is_needed (levels_at t c.start) l))
             where
               regroup : (a b x y : Bool) → (true && a && (b && x) && y) ≡ (a && b && x && y)
@@ -877,8 +887,8 @@ pub ruleset asked = (
   answered-interrupt-is,
   has-is,
   open-write-is,
-  spoils-pair-is,
-  turns-block-is,
+  breaks_read_modify_write-cycle-is,
+  changes_direction-cycle-is,
   twice-is,
   cycle-starts-is,
   needed-at,

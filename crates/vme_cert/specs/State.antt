@@ -4,7 +4,8 @@ use Rattle.std.specs.Prelude.{◌≡◌, ℕ, ◌+◌, ◌-◌, ◌<◌, ◌&&�
 use Rattle.std.specs.Prelude.{nat_lt}
 use Rattle.vme_cert.specs.Words.{AS, BBSY, BERR, BR, DTACK, IsSpanOf, Stretch, Trace, answers_of, answers_write, any}
 use Rattle.vme_cert.specs.Words.{class_at, cycle_starts, falls, grant_falls, greatest, in_transfer, is_answer}
-use Rattle.vme_cert.specs.Words.{is_answered, is_judged, is_later, is_write, last_before, levels_at, low, needs_of}
+use Rattle.vme_cert.specs.Words.{is_answered, is_judged, has_earlier_answer, is_write, last_before, levels_at, low}
+use Rattle.vme_cert.specs.Words.{needs_of}
 use Rattle.vme_cert.specs.Words.{none, rises, strobe_rises, strobes_high, transfer_starts}
 use Rattle.vme_cert.specs.Instant.{IsBusOf}
 use Rattle.vme_cert.specs.declared.bus.Bus.{Bus}
@@ -38,7 +39,7 @@ module _ (t : Trace) (span : Stretch) where
     pub is_low : c.runs ≡ true → c.start < j → low t AS (j - 1) ≡ true
     pub others : (i : ℕ) → cycle_starts t span i ≡ true → i < c.start → none (rises t AS) (i + 1) j ≡ false
     -- of its answers there is one, by which another would come later; what the first is; and there are more
-    pub answered : c.answered ≡ is_later (answers_of t span c.start j)
+    pub answered : c.answered ≡ has_earlier_answer (answers_of t span c.start j)
     pub first_writes : c.first_writes ≡ writes_first (answers_of t span c.start j)
     pub answered_again : c.answered_again ≡ is_many (answers_of t span c.start j)
     pub acknowledged : c.acknowledged ≡ is_acknowledged c.start j

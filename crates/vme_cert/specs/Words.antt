@@ -24,8 +24,8 @@ pub use Rattle.vme_trace.specs.LineNumbers.{grant_level, grant_place, has_line, 
 pub use Rattle.vme_trace.specs.LineNumbers.{is_control, is_data, is_grant, is_slot_grant, is_slot_iack, is_strobe}
 pub use Rattle.vme_trace.specs.LineNumbers.{line_count}
 pub use Rattle.vme_trace.specs.Names.{rule_number}
-unfoldable pub use Rattle.vme_trace.specs.Rules.{breaks, is_broken, spoils_pair, turns}
-pub use Rattle.vme_trace.specs.Rules.{all_rules, differ, ends_span, is_block_class, is_interrupt, is_later}
+unfoldable pub use Rattle.vme_trace.specs.Rules.{breaks, is_broken, breaks_read_modify_write, changes_direction}
+pub use Rattle.vme_trace.specs.Rules.{all_rules, differ, ends_span, is_block_class, is_interrupt, has_earlier_answer}
 pub use Rattle.vme_trace.specs.Rules.{is_option_equal, is_single, is_unreadable}
 unfoldable pub use Rattle.vme_trace.specs.Signals.{falls, has_edge, high, known, low, rises}
 pub use Rattle.vme_trace.specs.Signals.{level, near}

@@ -206,14 +206,18 @@ impl State {
             }
             C1 => {
                 let writes = self.answers_write(bus);
-                let spoils = self.cycle.answered_again | self.cycle.first_writes | !writes;
-                let spoilt = is_single(self.cycle.class) & (self.cycle.answered & spoils);
-                bus.falls(line) & self.is_answer(bus) & (self.cycle.has_started & spoilt)
+                let differs = self.cycle.answered_again | self.cycle.first_writes | !writes;
+                let breaks_read_modify_write = is_single(self.cycle.class)
+                    & (self.cycle.answered & differs);
+                bus.falls(line)
+                    & self.is_answer(bus)
+                    & (self.cycle.has_started & breaks_read_modify_write)
             }
             C2 => {
-                let turns = self.cycle.first_writes != self.answers_write(bus);
-                let turned = is_block(self.cycle.class) & (self.cycle.answered & turns);
-                bus.falls(line) & self.is_answer(bus) & (self.cycle.has_started & turned)
+                let differs = self.cycle.first_writes != self.answers_write(bus);
+                let changes_direction = is_block(self.cycle.class)
+                    & (self.cycle.answered & differs);
+                bus.falls(line) & self.is_answer(bus) & (self.cycle.has_started & changes_direction)
             }
             G1 => is_passed_on(line) && (bus.falls(line) & !bus.low_near(input_of(line))),
             G2 => is_passed_on(line) && (bus.rises(line) & !bus.high_near(input_of(line))),

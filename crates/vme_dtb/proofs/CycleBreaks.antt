@@ -9,8 +9,9 @@ use Rattle.vme_trace.specs.Signals.{falls}
 use Rattle.vme_trace.specs.Judged.{Stretch, is_judged}
 use Rattle.vme_trace.specs.Transfers.{is_answer, answers_write}
 use Rattle.vme_trace.specs.Cycles.{cycle_starts, class_at, in_cycle, answers_of}
-use Rattle.vme_trace.specs.Rules.{breaks, is_broken, is_single, is_block_class, is_interrupt, is_later, spoils_pair}
-use Rattle.vme_trace.specs.Rules.{turns}
+use Rattle.vme_trace.specs.Rules.{breaks, is_broken, is_single, is_block_class, is_interrupt, has_earlier_answer}
+use Rattle.vme_trace.specs.Rules.{breaks_read_modify_write}
+use Rattle.vme_trace.specs.Rules.{changes_direction}
 use Rattle.vme_trace.specs.Verdict.{rule_break}
 use Rattle.vme_trace.specs.declared.rule.Rule.{Rule}
 use Rattle.vme_trace.specs.declared.rule.Rule.TheVariants.{C1, C2, I4, I5}
@@ -20,14 +21,17 @@ use Rattle.vme_monitor.specs.Tracking.{entered, is_unanswered, is_writing}
 use Rattle.vme_monitor.specs.declared.tracking.Pending.{Pending}
 use Rattle.vme_monitor.specs.declared.tracking.Pending.TheVariants.{Closed, Reading, Writing, Answered}
 use Rattle.vme_monitor.proofs.TrackedTransfers.{answers_write_is}
-use Rattle.vme_dtb.specs.CycleState.{cycle_entered, is_acknowledge, is_acknowledged, is_pair_spoiled, is_turned}
+use Rattle.vme_dtb.specs.CycleState.{cycle_entered, is_interrupt_acknowledge, is_answered_interrupt_acknowledge}
+use Rattle.vme_dtb.specs.CycleState.{is_read_modify_write_broken, is_direction_changed}
 use Rattle.vme_dtb.specs.Edge.{cycle_start_of, edges_between}
 use Rattle.vme_dtb.specs.Machine.{answer_in, broken, cycle_faults, cycle_rules}
 use Rattle.vme_dtb.specs.declared.cycle.Cycle.{Cycle}
 use Rattle.vme_dtb.specs.declared.edges.Edges.{Edges}
 use Rattle.vme_dtb.specs.declared.memory.HandshakeMemory.{HandshakeMemory}
 use Rattle.vme_dtb.proofs.Faults.{AreOf}
-use Rattle.vme_dtb.proofs.CycleMemory.{before_is, cycle_before, in_acknowledge, in_acknowledged, in_spoiled, in_turned}
+use Rattle.vme_dtb.proofs.CycleMemory.{before_is, cycle_before, in_interrupt_acknowledge}
+use Rattle.vme_dtb.proofs.CycleMemory.{in_answered_interrupt_acknowledge, in_broken_read_modify_write}
+use Rattle.vme_dtb.proofs.CycleMemory.{in_changed_direction}
 use Rattle.vme_dtb.proofs.HandshakeBreaks.{answer_is}
 use Rattle.vme_dtb.proofs.Held.{Holds}
 use Rattle.vme_dtb.proofs.StepFacts.{old, new, answer_fall_is, falls_is, gathered, judged, on_answers, rule_from}
@@ -119,66 +123,75 @@ module _ (t : Trace) (span : Stretch) (reads : ReadsStrobes t span) (n : ℕ) (f
           ≡ f here (is_writing within && is_some seen.answer_fall)
       same_test c w e g = rw (e, g) refl
 
-  abbrev spoiled : Bool
-  spoiled = in_cycle t span (λ i. is_single (class_at t span i) && spoils_pair t span (answers_of t span i (suc n))
+  abbrev read_modify_write_broken : Bool
+  read_modify_write_broken = in_cycle t span (λ i. is_single (class_at t span i) && breaks_read_modify_write t span
+      (answers_of t span i (suc n))
       (suc n)) (suc n)
 
   form_c1 : (l : ℕ) → breaks t span C1 (suc n) l ≡ (is_judged span (suc n) && has_line t.opening.slots l
-      && (is_answer_line l && falls t l (suc n) && (is_answer t span (suc n) && spoiled)))
+      && (is_answer_line l && falls t l (suc n) && (is_answer t span (suc n) && read_modify_write_broken)))
   unfolding breaks is_broken
   form_c1 l = ap (λ b. is_judged span (suc n) && has_line t.opening.slots l && b)
-      (gathered (is_answer_line l && falls t l (suc n)) (is_answer t span (suc n)) spoiled)
+      (gathered (is_answer_line l && falls t l (suc n)) (is_answer t span (suc n)) read_modify_write_broken)
 
-  c1 : option_map (break_at (suc n) (time_at t (suc n))) (broken C1 (is_pair_spoiled here (is_writing within))
+  c1 : option_map (break_at (suc n) (time_at t (suc n)))
+      (broken C1 (is_read_modify_write_broken here (is_writing within))
       (answer_in within seen)) ≡ rule_break t span (suc n) C1
-  c1 = from_cycle C1 spoiled is_pair_spoiled form_c1 (in_spoiled t span (suc n))
+  c1 = from_cycle C1 read_modify_write_broken is_read_modify_write_broken form_c1
+      (in_broken_read_modify_write t span (suc n))
 
-  abbrev turned : Bool
-  turned = in_cycle t span (λ i. is_block_class (class_at t span i) && turns t span (answers_of t span i (suc n))
+  abbrev direction_changed : Bool
+  direction_changed = in_cycle t span (λ i. is_block_class (class_at t span i) && changes_direction t span
+      (answers_of t span i (suc n))
       (suc n)) (suc n)
 
   form_c2 : (l : ℕ) → breaks t span C2 (suc n) l ≡ (is_judged span (suc n) && has_line t.opening.slots l
-      && (is_answer_line l && falls t l (suc n) && (is_answer t span (suc n) && turned)))
+      && (is_answer_line l && falls t l (suc n) && (is_answer t span (suc n) && direction_changed)))
   unfolding breaks is_broken
   form_c2 l = ap (λ b. is_judged span (suc n) && has_line t.opening.slots l && b)
-      (gathered (is_answer_line l && falls t l (suc n)) (is_answer t span (suc n)) turned)
+      (gathered (is_answer_line l && falls t l (suc n)) (is_answer t span (suc n)) direction_changed)
 
-  c2 : option_map (break_at (suc n) (time_at t (suc n))) (broken C2 (is_turned here (is_writing within))
+  c2 : option_map (break_at (suc n) (time_at t (suc n))) (broken C2 (is_direction_changed here (is_writing within))
       (answer_in within seen)) ≡ rule_break t span (suc n) C2
-  c2 = from_cycle C2 turned is_turned form_c2 (in_turned t span (suc n))
+  c2 = from_cycle C2 direction_changed is_direction_changed form_c2 (in_changed_direction t span (suc n))
 
-  abbrev later : Bool
-  later = in_cycle t span (λ i. is_interrupt (class_at t span i) && is_later (answers_of t span i (suc n))) (suc n)
+  abbrev answered_interrupt_acknowledge : Bool
+  answered_interrupt_acknowledge = in_cycle t span (λ i. is_interrupt (class_at t span i) && has_earlier_answer
+      (answers_of t span i (suc n))) (suc n)
 
   form_i5 : (l : ℕ) → breaks t span I5 (suc n) l ≡ (is_judged span (suc n) && has_line t.opening.slots l
-      && (is_answer_line l && falls t l (suc n) && (is_answer t span (suc n) && later)))
+      && (is_answer_line l && falls t l (suc n) && (is_answer t span (suc n) && answered_interrupt_acknowledge)))
   unfolding breaks is_broken
   form_i5 l = ap (λ b. is_judged span (suc n) && has_line t.opening.slots l && b)
-      (gathered (is_answer_line l && falls t l (suc n)) (is_answer t span (suc n)) later)
+      (gathered (is_answer_line l && falls t l (suc n)) (is_answer t span (suc n)) answered_interrupt_acknowledge)
 
-  i5 : option_map (break_at (suc n) (time_at t (suc n))) (broken I5 (is_acknowledged here) (answer_in within seen))
+  i5 : option_map (break_at (suc n) (time_at t (suc n))) (broken I5 (is_answered_interrupt_acknowledge here)
+      (answer_in within seen))
       ≡ rule_break t span (suc n) I5
-  i5 = from_cycle I5 later (λ c w. is_acknowledged c) form_i5 (in_acknowledged t span (suc n))
+  i5 = from_cycle I5 answered_interrupt_acknowledge (λ c w. is_answered_interrupt_acknowledge c) form_i5
+      (in_answered_interrupt_acknowledge t span (suc n))
 
-  abbrev acknowledges : Bool
-  acknowledges = in_cycle t span (λ i. is_interrupt (class_at t span i)) (suc n)
+  abbrev interrupt_acknowledge : Bool
+  interrupt_acknowledge = in_cycle t span (λ i. is_interrupt (class_at t span i)) (suc n)
 
   form_i4 : (l : ℕ) → breaks t span I4 (suc n) l ≡ (is_judged span (suc n) && has_line t.opening.slots l
-      && (is_answer_line l && falls t l (suc n) && (answers_write t span (suc n) && acknowledges)))
+      && (is_answer_line l && falls t l (suc n) && (answers_write t span (suc n) && interrupt_acknowledge)))
   unfolding breaks is_broken
   form_i4 l = ap (λ b. is_judged span (suc n) && has_line t.opening.slots l && b)
-      (gathered (is_answer_line l && falls t l (suc n)) (answers_write t span (suc n)) acknowledges)
+      (gathered (is_answer_line l && falls t l (suc n)) (answers_write t span (suc n)) interrupt_acknowledge)
 
-  i4 : option_map (break_at (suc n) (time_at t (suc n))) (broken I4 (is_acknowledge here && is_writing within)
+  i4 : option_map (break_at (suc n) (time_at t (suc n))) (broken I4 (is_interrupt_acknowledge here && is_writing within)
       (answer_in within seen)) ≡ rule_break t span (suc n) I4
   i4 =
-      rule_from t n span from before I4 (is_acknowledge here && is_writing within) (answer_in within seen)
-      (on_answers t n span from before I4 (λ l. falls t l (suc n)) (answers_write t span (suc n) && acknowledges)
+      rule_from t n span from before I4 (is_interrupt_acknowledge here && is_writing within) (answer_in within seen)
+      (on_answers t n span from before I4 (λ l. falls t l (suc n))
+      (answers_write t span (suc n) && interrupt_acknowledge)
       form_i4
-      ∙ same_cond _ _ _ _ (same_and (answers_write t span (suc n)) acknowledges (is_writing within
-      && is_some seen.answer_fall) (is_acknowledge here) write_is (in_acknowledge t span (suc n) ∙ ap is_acknowledge
+      ∙ same_cond _ _ _ _ (same_and (answers_write t span (suc n)) interrupt_acknowledge (is_writing within
+      && is_some seen.answer_fall) (is_interrupt_acknowledge here) write_is (in_interrupt_acknowledge t span (suc n)
+      ∙ ap is_interrupt_acknowledge
       here_is)) (answer_fall_is t n)
-      ∙ by_write within (is_acknowledge here) seen.answer_fall)
+      ∙ by_write within (is_interrupt_acknowledge here) seen.answer_fall)
     where
       same_and : (a b c d : Bool) → a ≡ c → b ≡ d → (a && b) ≡ (c && d)
       same_and a b c d e f = rw (e, f) refl

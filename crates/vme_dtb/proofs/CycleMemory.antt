@@ -8,11 +8,13 @@ use Rattle.vme_trace.specs.Trace.{Trace, levels_at}
 use Rattle.vme_trace.specs.Judged.{Stretch}
 use Rattle.vme_trace.specs.Transfers.{is_answer, answers_write}
 use Rattle.vme_trace.specs.Cycles.{cycle_starts, class_at, cycle_of, in_cycle, answers_of}
-use Rattle.vme_trace.specs.Rules.{is_single, is_block_class, is_interrupt, is_later, spoils_pair, turns, differ}
+use Rattle.vme_trace.specs.Rules.{is_single, is_block_class, is_interrupt, has_earlier_answer, breaks_read_modify_write}
+use Rattle.vme_trace.specs.Rules.{changes_direction, differ}
 use Rattle.vme_trace.specs.declared.class.Class.{Class}
 use Rattle.vme_trace.specs.declared.class.Class.TheVariants as class
-use Rattle.vme_dtb.specs.CycleState.{unanswered_of, cycle_entered, after_answer, is_pair_spoiled, is_turned}
-use Rattle.vme_dtb.specs.CycleState.{is_acknowledge, is_acknowledged}
+use Rattle.vme_dtb.specs.CycleState.{unanswered_of, cycle_entered, after_answer, is_read_modify_write_broken}
+use Rattle.vme_dtb.specs.CycleState.{is_direction_changed}
+use Rattle.vme_dtb.specs.CycleState.{is_interrupt_acknowledge, is_answered_interrupt_acknowledge}
 use Rattle.vme_dtb.specs.Edge.{cycle_start_of}
 use Rattle.vme_dtb.specs.declared.cycle.Cycle.{Cycle}
 use Rattle.vme_dtb.specs.declared.cycle.Cycle.TheVariants.{Free, Single, SingleRead, SingleDone, Block, BlockReading}
@@ -137,78 +139,81 @@ module _ (t : Trace) (span : Stretch) where
       by_cycle (Some i) e = ap (told (class_at t span i)) (answers_suc i j (cycle_within j i e))
           ∙ by_answer (class_at t span i) (answers_of t span i j) (is_answer t span j)
 
-  spoils_is : (c : Class) (rs : List ℕ) (j : ℕ) → (is_single c && spoils_pair t span rs j) ≡ is_pair_spoiled (told c rs)
+  breaks_read_modify_write_is : (c : Class) (rs : List ℕ) (j : ℕ)
+      → (is_single c && breaks_read_modify_write t span rs j) ≡ is_read_modify_write_broken (told c rs)
       (answers_write t span j)
-  unfolding spoils_pair
-  spoils_is class.S [] j = refl
-  spoils_is class.S (r ∷ []) j = by_write (answers_write t span r) (answers_write t span j)
+  unfolding breaks_read_modify_write
+  breaks_read_modify_write_is class.S [] j = refl
+  breaks_read_modify_write_is class.S (r ∷ []) j = by_write (answers_write t span r) (answers_write t span j)
     where
-      by_write : (a b : Bool) → (a || not b) ≡ is_pair_spoiled (cond a SingleDone SingleRead) b
+      by_write : (a b : Bool) → (a || not b) ≡ is_read_modify_write_broken (cond a SingleDone SingleRead) b
       by_write true b = refl
       by_write false b = refl
-  spoils_is class.S (r ∷ q ∷ rs) j = refl
-  spoils_is class.K [] j = refl
-  spoils_is class.K (r ∷ rs) j = by_write (answers_write t span r) (answers_write t span j)
+  breaks_read_modify_write_is class.S (r ∷ q ∷ rs) j = refl
+  breaks_read_modify_write_is class.K [] j = refl
+  breaks_read_modify_write_is class.K (r ∷ rs) j = by_write (answers_write t span r) (answers_write t span j)
     where
-      by_write : (a b : Bool) → false ≡ is_pair_spoiled (cond a BlockWriting BlockReading) b
+      by_write : (a b : Bool) → false ≡ is_read_modify_write_broken (cond a BlockWriting BlockReading) b
       by_write true b = refl
       by_write false b = refl
-  spoils_is class.I [] j = refl
-  spoils_is class.I (r ∷ rs) j = refl
-  spoils_is class.F rs j = refl
+  breaks_read_modify_write_is class.I [] j = refl
+  breaks_read_modify_write_is class.I (r ∷ rs) j = refl
+  breaks_read_modify_write_is class.F rs j = refl
 
-  turns_is : (c : Class) (rs : List ℕ) (j : ℕ) → (is_block_class c && turns t span rs j) ≡ is_turned (told c rs)
+  changes_direction_is : (c : Class) (rs : List ℕ) (j : ℕ) → (is_block_class c && changes_direction t span rs j)
+      ≡ is_direction_changed (told c rs)
       (answers_write t span j)
-  unfolding turns
-  turns_is class.S [] j = refl
-  turns_is class.S (r ∷ []) j = by_write (answers_write t span r) (answers_write t span j)
+  unfolding changes_direction
+  changes_direction_is class.S [] j = refl
+  changes_direction_is class.S (r ∷ []) j = by_write (answers_write t span r) (answers_write t span j)
     where
-      by_write : (a b : Bool) → false ≡ is_turned (cond a SingleDone SingleRead) b
+      by_write : (a b : Bool) → false ≡ is_direction_changed (cond a SingleDone SingleRead) b
       by_write true b = refl
       by_write false b = refl
-  turns_is class.S (r ∷ q ∷ rs) j = refl
-  turns_is class.K [] j = refl
-  turns_is class.K (r ∷ rs) j = by_write (answers_write t span r) (answers_write t span j)
+  changes_direction_is class.S (r ∷ q ∷ rs) j = refl
+  changes_direction_is class.K [] j = refl
+  changes_direction_is class.K (r ∷ rs) j = by_write (answers_write t span r) (answers_write t span j)
     where
-      by_write : (a b : Bool) → differ a b ≡ is_turned (cond a BlockWriting BlockReading) b
+      by_write : (a b : Bool) → differ a b ≡ is_direction_changed (cond a BlockWriting BlockReading) b
       by_write true true = refl
       by_write true false = refl
       by_write false true = refl
       by_write false false = refl
-  turns_is class.I [] j = refl
-  turns_is class.I (r ∷ rs) j = refl
-  turns_is class.F rs j = refl
+  changes_direction_is class.I [] j = refl
+  changes_direction_is class.I (r ∷ rs) j = refl
+  changes_direction_is class.F rs j = refl
 
-  acknowledge_is : (c : Class) (rs : List ℕ) → is_interrupt c ≡ is_acknowledge (told c rs)
+  acknowledge_is : (c : Class) (rs : List ℕ) → is_interrupt c ≡ is_interrupt_acknowledge (told c rs)
   acknowledge_is class.S [] = refl
   acknowledge_is class.S (r ∷ []) = by_write (answers_write t span r)
     where
-      by_write : (a : Bool) → false ≡ is_acknowledge (cond a SingleDone SingleRead)
+      by_write : (a : Bool) → false ≡ is_interrupt_acknowledge (cond a SingleDone SingleRead)
       by_write true = refl
       by_write false = refl
   acknowledge_is class.S (r ∷ q ∷ rs) = refl
   acknowledge_is class.K [] = refl
   acknowledge_is class.K (r ∷ rs) = by_write (answers_write t span r)
     where
-      by_write : (a : Bool) → false ≡ is_acknowledge (cond a BlockWriting BlockReading)
+      by_write : (a : Bool) → false ≡ is_interrupt_acknowledge (cond a BlockWriting BlockReading)
       by_write true = refl
       by_write false = refl
   acknowledge_is class.I [] = refl
   acknowledge_is class.I (r ∷ rs) = refl
   acknowledge_is class.F rs = refl
 
-  acknowledged_is : (c : Class) (rs : List ℕ) → (is_interrupt c && is_later rs) ≡ is_acknowledged (told c rs)
+  acknowledged_is : (c : Class) (rs : List ℕ) → (is_interrupt c && has_earlier_answer rs)
+      ≡ is_answered_interrupt_acknowledge (told c rs)
   acknowledged_is class.S [] = refl
   acknowledged_is class.S (r ∷ []) = by_write (answers_write t span r)
     where
-      by_write : (a : Bool) → false ≡ is_acknowledged (cond a SingleDone SingleRead)
+      by_write : (a : Bool) → false ≡ is_answered_interrupt_acknowledge (cond a SingleDone SingleRead)
       by_write true = refl
       by_write false = refl
   acknowledged_is class.S (r ∷ q ∷ rs) = refl
   acknowledged_is class.K [] = refl
   acknowledged_is class.K (r ∷ rs) = by_write (answers_write t span r)
     where
-      by_write : (a : Bool) → false ≡ is_acknowledged (cond a BlockWriting BlockReading)
+      by_write : (a : Bool) → false ≡ is_answered_interrupt_acknowledge (cond a BlockWriting BlockReading)
       by_write true = refl
       by_write false = refl
   acknowledged_is class.I [] = refl
@@ -216,42 +221,45 @@ module _ (t : Trace) (span : Stretch) where
   acknowledged_is class.F rs = refl
 
   -- what the rules ask of the cycle, by what a memory tells of it
-  pub in_spoiled : (j : ℕ) → in_cycle t span (λ i. is_single (class_at t span i) && spoils_pair t span
-      (answers_of t span i j) j) j ≡ is_pair_spoiled (cycle_before j) (answers_write t span j)
+  pub in_broken_read_modify_write : (j : ℕ) → in_cycle t span (λ i. is_single (class_at t span i)
+      && breaks_read_modify_write t span
+      (answers_of t span i j) j) j ≡ is_read_modify_write_broken (cycle_before j) (answers_write t span j)
   unfolding in_cycle
-  in_spoiled j = by_cycle (cycle_of t span j)
+  in_broken_read_modify_write j = by_cycle (cycle_of t span j)
     where
-      by_cycle : (o : Option ℕ) → option_map_or (λ i. is_single (class_at t span i) && spoils_pair t span
-          (answers_of t span i j) j) o false ≡ is_pair_spoiled (told_of o j) (answers_write t span j)
+      by_cycle : (o : Option ℕ) → option_map_or (λ i. is_single (class_at t span i) && breaks_read_modify_write t span
+          (answers_of t span i j) j) o false ≡ is_read_modify_write_broken (told_of o j) (answers_write t span j)
       by_cycle None = refl
-      by_cycle (Some i) = spoils_is (class_at t span i) (answers_of t span i j) j
+      by_cycle (Some i) = breaks_read_modify_write_is (class_at t span i) (answers_of t span i j) j
 
-  pub in_turned : (j : ℕ) → in_cycle t span (λ i. is_block_class (class_at t span i)
-      && turns t span (answers_of t span i j) j) j ≡ is_turned (cycle_before j) (answers_write t span j)
+  pub in_changed_direction : (j : ℕ) → in_cycle t span (λ i. is_block_class (class_at t span i)
+      && changes_direction t span (answers_of t span i j) j) j ≡ is_direction_changed (cycle_before j)
+      (answers_write t span j)
   unfolding in_cycle
-  in_turned j = by_cycle (cycle_of t span j)
+  in_changed_direction j = by_cycle (cycle_of t span j)
     where
       by_cycle : (o : Option ℕ) → option_map_or (λ i. is_block_class (class_at t span i)
-          && turns t span (answers_of t span i j) j) o false ≡ is_turned (told_of o j) (answers_write t span j)
+          && changes_direction t span (answers_of t span i j) j) o false ≡ is_direction_changed (told_of o j)
+          (answers_write t span j)
       by_cycle None = refl
-      by_cycle (Some i) = turns_is (class_at t span i) (answers_of t span i j) j
+      by_cycle (Some i) = changes_direction_is (class_at t span i) (answers_of t span i j) j
 
-  pub in_acknowledge : (j : ℕ) → in_cycle t span (λ i. is_interrupt (class_at t span i)) j
-      ≡ is_acknowledge (cycle_before j)
+  pub in_interrupt_acknowledge : (j : ℕ) → in_cycle t span (λ i. is_interrupt (class_at t span i)) j
+      ≡ is_interrupt_acknowledge (cycle_before j)
   unfolding in_cycle
-  in_acknowledge j = by_cycle (cycle_of t span j)
+  in_interrupt_acknowledge j = by_cycle (cycle_of t span j)
     where
       by_cycle : (o : Option ℕ) → option_map_or (λ i. is_interrupt (class_at t span i)) o false
-          ≡ is_acknowledge (told_of o j)
+          ≡ is_interrupt_acknowledge (told_of o j)
       by_cycle None = refl
       by_cycle (Some i) = acknowledge_is (class_at t span i) (answers_of t span i j)
 
-  pub in_acknowledged : (j : ℕ) → in_cycle t span (λ i. is_interrupt (class_at t span i)
-      && is_later (answers_of t span i j)) j ≡ is_acknowledged (cycle_before j)
+  pub in_answered_interrupt_acknowledge : (j : ℕ) → in_cycle t span (λ i. is_interrupt (class_at t span i)
+      && has_earlier_answer (answers_of t span i j)) j ≡ is_answered_interrupt_acknowledge (cycle_before j)
   unfolding in_cycle
-  in_acknowledged j = by_cycle (cycle_of t span j)
+  in_answered_interrupt_acknowledge j = by_cycle (cycle_of t span j)
     where
       by_cycle : (o : Option ℕ) → option_map_or (λ i. is_interrupt (class_at t span i)
-          && is_later (answers_of t span i j)) o false ≡ is_acknowledged (told_of o j)
+          && has_earlier_answer (answers_of t span i j)) o false ≡ is_answered_interrupt_acknowledge (told_of o j)
       by_cycle None = refl
       by_cycle (Some i) = acknowledged_is (class_at t span i) (answers_of t span i j)

@@ -7,7 +7,8 @@ use Rattle.vme_trace.specs.declared.rule.Rule.{Rule}
 use Rattle.vme_trace.specs.declared.rule.Rule.TheVariants.{C1, C2, I4, I5}
 use Rattle.vme_trace.specs.declared.verdict.Break.{Break}
 use Rattle.vme_monitor.specs.declared.mark.Fault.{Fault}
-use Rattle.vme_dtb.specs.CycleState.{is_acknowledge, is_acknowledged, is_pair_spoiled, is_turned}
+use Rattle.vme_dtb.specs.CycleState.{is_interrupt_acknowledge, is_answered_interrupt_acknowledge}
+use Rattle.vme_dtb.specs.CycleState.{is_read_modify_write_broken, is_direction_changed}
 use Rattle.vme_dtb.specs.Machine.{broken, cycle_fault, cycle_faults, first_of_faults, or_first}
 use Rattle.vme_dtb.specs.declared.cycle.Cycle.{Cycle}
 
@@ -32,8 +33,11 @@ none-first (f ∷ fs) h = ap (λ (o : Option Fault). or_first o fs) h.0 ∙ none
 pub unanswered : (c : Cycle) (w : Bool) → None ≡ cycle_fault c w None
 unanswered c w =
     sym (none-first (cycle_faults c w None) (
-      unnamed C1 (is_pair_spoiled c w),
-      (unnamed C2 (is_turned c w), (unnamed I4 (is_acknowledge c && w), (unnamed I5 (is_acknowledged c), tt))),
+      unnamed C1 (is_read_modify_write_broken c w),
+      (
+        unnamed C2 (is_direction_changed c w),
+        (unnamed I4 (is_interrupt_acknowledge c && w), (unnamed I5 (is_answered_interrupt_acknowledge c), tt)),
+      ),
     ))
 
 map_or : (at : Fault → Break) (a b : Option Fault) → option_map at (option_or a b) ≡ option_or (option_map at a)

@@ -34,22 +34,22 @@ after_answer Interrupt w = InterruptDone
 after_answer InterruptDone w = InterruptDone
 
 -- one more answer makes a single cycle other than a read and then a write
-abbrev pub is_pair_spoiled : Cycle → Bool → Bool
-is_pair_spoiled SingleRead w = not w
-is_pair_spoiled SingleDone w = true
-is_pair_spoiled c w = false
+abbrev pub is_read_modify_write_broken : Cycle → Bool → Bool
+is_read_modify_write_broken SingleRead w = not w
+is_read_modify_write_broken SingleDone w = true
+is_read_modify_write_broken c w = false
 
 -- one more answer turns the direction of a block transfer
-abbrev pub is_turned : Cycle → Bool → Bool
-is_turned BlockReading w = w
-is_turned BlockWriting w = not w
-is_turned c w = false
+abbrev pub is_direction_changed : Cycle → Bool → Bool
+is_direction_changed BlockReading w = w
+is_direction_changed BlockWriting w = not w
+is_direction_changed c w = false
 
-abbrev pub is_acknowledge : Cycle → Bool
-is_acknowledge Interrupt = true
-is_acknowledge InterruptDone = true
-is_acknowledge c = false
+abbrev pub is_interrupt_acknowledge : Cycle → Bool
+is_interrupt_acknowledge Interrupt = true
+is_interrupt_acknowledge InterruptDone = true
+is_interrupt_acknowledge c = false
 
-abbrev pub is_acknowledged : Cycle → Bool
-is_acknowledged InterruptDone = true
-is_acknowledged c = false
+abbrev pub is_answered_interrupt_acknowledge : Cycle → Bool
+is_answered_interrupt_acknowledge InterruptDone = true
+is_answered_interrupt_acknowledge c = false

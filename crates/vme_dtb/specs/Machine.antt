@@ -18,8 +18,9 @@ use Rattle.vme_monitor.specs.declared.mark.StepMarks.{StepMarks}
 use Rattle.vme_monitor.specs.declared.mark.Next.{Next}
 use Rattle.vme_monitor.specs.declared.tracking.Pending.{Pending}
 use Rattle.vme_monitor.specs.declared.tracking.Pending.TheVariants.{Closed, Answered}
-use Rattle.vme_dtb.specs.CycleState.{after_answer, cycle_entered, is_acknowledge, is_acknowledged, is_pair_spoiled}
-use Rattle.vme_dtb.specs.CycleState.{is_turned}
+use Rattle.vme_dtb.specs.CycleState.{after_answer, cycle_entered, is_interrupt_acknowledge}
+use Rattle.vme_dtb.specs.CycleState.{is_answered_interrupt_acknowledge, is_read_modify_write_broken}
+use Rattle.vme_dtb.specs.CycleState.{is_direction_changed}
 use Rattle.vme_dtb.specs.Edge.{edges_between, first_of, is_still}
 use Rattle.vme_dtb.specs.declared.cycle.Cycle.{Cycle}
 use Rattle.vme_dtb.specs.declared.cycle.Cycle.TheVariants.{Free}
@@ -95,10 +96,10 @@ cycle_rules = C1 ∷ C2 ∷ I4 ∷ I5 ∷ []
 
 abbrev pub cycle_faults : Cycle → Bool → Option ℕ → List (Option Fault)
 cycle_faults c w answer =
-    broken C1 (is_pair_spoiled c w) answer
-    ∷ broken C2 (is_turned c w) answer
-    ∷ broken I4 (is_acknowledge c && w) answer
-    ∷ broken I5 (is_acknowledged c) answer
+    broken C1 (is_read_modify_write_broken c w) answer
+    ∷ broken C2 (is_direction_changed c w) answer
+    ∷ broken I4 (is_interrupt_acknowledge c && w) answer
+    ∷ broken I5 (is_answered_interrupt_acknowledge c) answer
     ∷ []
 
 abbrev pub handshake_rules : List Rule

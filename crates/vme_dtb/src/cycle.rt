@@ -1,8 +1,9 @@
 //! What the cycle that started last still admits.
 
 ghost use Rattle.std.specs.Prelude.{◌≡◌, ◌<◌};
-ghost use Rattle.vme_dtb.specs.CycleState.{after_answer, cycle_entered, is_acknowledge, is_acknowledged};
-ghost use Rattle.vme_dtb.specs.CycleState.{is_pair_spoiled, is_turned, unanswered_of};
+ghost use Rattle.vme_dtb.specs.CycleState.{after_answer, cycle_entered, is_interrupt_acknowledge};
+ghost use Rattle.vme_dtb.specs.CycleState.{is_answered_interrupt_acknowledge};
+ghost use Rattle.vme_dtb.specs.CycleState.{is_read_modify_write_broken, is_direction_changed, unanswered_of};
 ghost use Rattle.vme_dtb.specs.MemoryNumbers.{cycle_nth, cycle_place};
 
 use vme_monitor::mark::CycleStart;
@@ -70,8 +71,8 @@ impl Cycle {
     }
 
     /// Whether one more answer makes a single cycle other than a read and then a write.
-    pub(crate) fn is_pair_spoiled(self, write: bool) -> bool
-        ensures { result ≡ is_pair_spoiled self write }
+    pub(crate) fn is_read_modify_write_broken(self, write: bool) -> bool
+        ensures { result ≡ is_read_modify_write_broken self write }
     {
         match self {
             Cycle::SingleRead => !write,
@@ -81,8 +82,8 @@ impl Cycle {
     }
 
     /// Whether one more answer turns the direction of a block transfer.
-    pub(crate) fn is_turned(self, write: bool) -> bool
-        ensures { result ≡ is_turned self write }
+    pub(crate) fn is_direction_changed(self, write: bool) -> bool
+        ensures { result ≡ is_direction_changed self write }
     {
         match self {
             Cycle::BlockReading => write,
@@ -92,15 +93,15 @@ impl Cycle {
     }
 
     /// Whether it is an interrupt acknowledge.
-    pub(crate) fn is_acknowledge(self) -> bool
-        ensures { result ≡ is_acknowledge self }
+    pub(crate) fn is_interrupt_acknowledge(self) -> bool
+        ensures { result ≡ is_interrupt_acknowledge self }
     {
         matches!(self, Cycle::Interrupt | Cycle::InterruptDone)
     }
 
     /// Whether it is an interrupt acknowledge that was answered.
-    pub(crate) fn is_acknowledged(self) -> bool
-        ensures { result ≡ is_acknowledged self }
+    pub(crate) fn is_answered_interrupt_acknowledge(self) -> bool
+        ensures { result ≡ is_answered_interrupt_acknowledge self }
     {
         matches!(self, Cycle::InterruptDone)
     }

@@ -184,10 +184,10 @@ fn cycle_fault(cycle: Cycle, write: bool, answer: Option<Line>) -> Option<Fault>
 {
     match answer {
         None => None,
-        Some(_) => broken(Rule::C1, cycle.is_pair_spoiled(write), answer)
-            .or(broken(Rule::C2, cycle.is_turned(write), answer))
-            .or(broken(Rule::I4, cycle.is_acknowledge() && write, answer))
-            .or(broken(Rule::I5, cycle.is_acknowledged(), answer)),
+        Some(_) => broken(Rule::C1, cycle.is_read_modify_write_broken(write), answer)
+            .or(broken(Rule::C2, cycle.is_direction_changed(write), answer))
+            .or(broken(Rule::I4, cycle.is_interrupt_acknowledge() && write, answer))
+            .or(broken(Rule::I5, cycle.is_answered_interrupt_acknowledge(), answer)),
     }
 }
 

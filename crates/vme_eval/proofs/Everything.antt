@@ -15,7 +15,7 @@ use Rattle.vme_trace.specs.Transfers.{answers_write, data_at}
 use Rattle.vme_trace.specs.Cycles.{cycle_starts, cycle_runs, cycle_of, in_cycle, answers_of}
 use Rattle.vme_trace.specs.Tenures.{is_granting, grant_falls, taken_grant, tenure_level, has_reached, tenure_slot}
 use Rattle.vme_trace.specs.Tenures.{tenure_starts, last_before}
-use Rattle.vme_trace.specs.Rules.{spoils_pair, turns, is_broken, breaks}
+use Rattle.vme_trace.specs.Rules.{breaks_read_modify_write, changes_direction, is_broken, breaks}
 use Rattle.vme_trace.specs.Verdict.{rule_break, break_at, break_before, least_break, verdict_by}
 use Rattle.vme_trace.specs.WellFormed.{malformed_step, is_step, are_changes}
 use Rattle.vme_listing.specs.Recorded.{tenure_rows, cycle_rows, transfer_rows, rows_before, rows_of_span, listing_by}
@@ -23,8 +23,9 @@ use Rattle.vme_listing.specs.RowText.{hexadecimal, lanes_text, row_text}
 use Rattle.vme_eval.specs.Steps.{idle_lines}
 
 unfoldable pub everything : ℕ
-unfolding verdict_by least_break break_before break_at rule_break breaks is_broken spoils_pair turns is_answered answers
-    is_write is_answer answers_write in_transfer lasts transfer_starts cycle_starts cycle_runs cycle_of in_cycle
+unfolding verdict_by least_break break_before break_at rule_break breaks is_broken breaks_read_modify_write
+    changes_direction is_answered answers is_write is_answer answers_write in_transfer lasts transfer_starts
+    cycle_starts cycle_runs cycle_of in_cycle
     answers_of is_granting grant_falls taken_grant tenure_level has_reached tenure_slot tenure_starts last_before
     modifier_of highest_address class_of needs_of is_needed is_selected judged_spans span_starts was_idle is_cut_off
     span_end is_idle_at is_reset_at loses_control_at loses_control least greatest those any is_idle levels_at changed

@@ -10,7 +10,8 @@ use Rattle.std.proofs.lemmas.List.{map-id}
 use Rattle.vme_trace.specs.Trace.{Trace}
 use Rattle.vme_listing.specs.Listed.{tells_resets}
 use Rattle.vme_listing.specs.Places.{is_number, is_edge, has_data, is_row, is_start, is_reset, is_verdict}
-use Rattle.vme_listing.specs.Places.{is_never_idle, is_later, place_of, may_follow, ascends, follows, ends_listing}
+use Rattle.vme_listing.specs.Places.{is_never_idle, is_later_place, place_of, may_follow, ascends, follows}
+use Rattle.vme_listing.specs.Places.{ends_listing}
 use Rattle.vme_listing.specs.Places.{is_rest, can_tell, is_well_placed}
 use Rattle.vme_listing.specs.Recorded.{recorded_rows, row_in, rows_in}
 use Rattle.vme_listing.specs.declared.row.Row.{Row}
@@ -181,7 +182,8 @@ module _ (v : Version) where
 
   -- where a place is told no more, nothing is compared with it
   later_told : (before row told_before told_row : Option (ℕ × ℕ)) → (told_before ≡ before) ⊎ (told_before ≡ None)
-      → (told_row ≡ row) ⊎ (told_row ≡ None) → is_later before row ≡ true → is_later told_before told_row ≡ true
+      → (told_row ≡ row) ⊎ (told_row ≡ None) → is_later_place before row ≡ true → is_later_place told_before told_row
+      ≡ true
   later_told before row told_before told_row (inl e) (inl f) h = rw (e, f) h
   later_told before row told_before told_row (inr e) f h = rw e refl
   later_told before row None told_row e (inr f) h = refl

@@ -18,7 +18,8 @@ use Rattle.vme_trace.specs.declared.rule.Rule.{Rule}
 use Rattle.vme_trace.specs.declared.rule.Rule.TheVariants.{U2, B4}
 use Rattle.vme_trace.specs.declared.verdict.Break.{Break}
 use Rattle.vme_trace.proofs.JudgedSpans.{AreInOrder, spans_in_order, starts_before_end}
-use Rattle.vme_listing.specs.Places.{follows, is_later, is_never_idle, is_outcome, is_reset, is_rest, is_row, is_start}
+use Rattle.vme_listing.specs.Places.{follows, is_later_place, is_never_idle, is_outcome, is_reset, is_rest, is_row}
+use Rattle.vme_listing.specs.Places.{is_start}
 use Rattle.vme_listing.specs.Places.{is_verdict, is_well_placed, never_idles, place_of}
 use Rattle.vme_listing.specs.Recorded.{cycle_rows, listed_end, listing_before, listing_by, recorded_rows}
 use Rattle.vme_listing.specs.Recorded.{listing_of_spans, outcome_of, reset_rows, rows_before, rows_of_span, tenure_rows}
@@ -36,10 +37,10 @@ use Rattle.vme_listing.proofs.RowForms.{IsMiddle, both, is_less, number}
 record Precedes (row : Row) (i kind : ℕ) : Type 0 where
   unfinished : is_verdict row ≡ false
   goes_on : is_reset row ≡ false
-  earlier : is_later (place_of Three row) (Some (i, kind)) ≡ true
+  earlier : is_later_place (place_of Three row) (Some (i, kind)) ≡ true
 
-later_than : (o : Option (ℕ × ℕ)) (i j m n : ℕ) → (i < j) ⊎ ((i ≡ j) × (m ≤ n)) → is_later o (Some (i, m)) ≡ true
-    → is_later o (Some (j, n)) ≡ true
+later_than : (o : Option (ℕ × ℕ)) (i j m n : ℕ) → (i < j) ⊎ ((i ≡ j) × (m ≤ n)) → is_later_place o (Some (i, m)) ≡ true
+    → is_later_place o (Some (j, n)) ≡ true
 later_than None i j m n h e = refl
 later_than (Some p) i j m n h e = on p.0 p.1 i j m n h e
   where
@@ -95,14 +96,14 @@ follows_on before row i kind p allowed place no_start =
     (placed_behind (is_verdict before) (is_reset before) (is_never_idle row) (is_start row) (is_verdict row)
     p.unfinished is.no_idle
     (rw (p.goes_on, no_start) refl)))
-    (ap (is_later (place_of Three before)) place ∙ p.earlier)
+    (ap (is_later_place (place_of Three before)) place ∙ p.earlier)
 
 next_kind : (row : Row) (i kind : ℕ) → IsMiddle i kind row → Precedes row i (kind + 1)
 next_kind row i kind m =
     record {
       unfinished = (inside row (i, kind) m.place).no_verdict;
       goes_on = m.no_reset;
-      earlier = ap (λ o. is_later o (Some (i, kind + 1))) m.place ∙ higher i kind;
+      earlier = ap (λ o. is_later_place o (Some (i, kind + 1))) m.place ∙ higher i kind;
     }
   where
     higher : (i kind : ℕ) → (nat_lt i i || ((i == i) && nat_lt kind (kind + 1))) ≡ true
@@ -130,7 +131,7 @@ last_is row found is e =
     of_any true = refl
     of_any false = refl
 
-    unplaced : (o : Option (ℕ × ℕ)) → is_later o None ≡ true
+    unplaced : (o : Option (ℕ × ℕ)) → is_later_place o None ≡ true
     unplaced None = refl
     unplaced (Some p) = refl
 

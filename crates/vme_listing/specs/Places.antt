@@ -166,15 +166,16 @@ may_follow (Some before) row =
     not (is_verdict before) && not (is_never_idle row)
     && (if is_reset before then is_start row || is_verdict row else not (is_start row))
 
-abbrev pub is_later : Option (ℕ × ℕ) → Option (ℕ × ℕ) → Bool
-is_later None after = true
-is_later (Some before) None = true
-is_later (Some before) (Some after) = nat_lt before.0 after.0 || ((before.0 == after.0) && nat_lt before.1 after.1)
+abbrev pub is_later_place : Option (ℕ × ℕ) → Option (ℕ × ℕ) → Bool
+is_later_place None after = true
+is_later_place (Some before) None = true
+is_later_place (Some before) (Some after) = nat_lt before.0 after.0
+    || ((before.0 == after.0) && nat_lt before.1 after.1)
 
 -- of two rows that have a place the second has the later instant, or at one instant the later kind
 abbrev pub ascends : Version → Option Row → Row → Bool
 ascends version None row = true
-ascends version (Some before) row = is_later (place_of version before) (place_of version row)
+ascends version (Some before) row = is_later_place (place_of version before) (place_of version row)
 
 -- the row may stand behind the one before it
 unfoldable pub follows : Version → Option Row → Row → Bool

@@ -10,7 +10,7 @@ use Rattle.std.proofs.lemmas.List.{drop-drop}
 use Rattle.std.proofs.lemmas.Nat.{pow_pos}
 use Rattle.vme_trace.specs.declared.block.Block.{Block}
 use Rattle.vme_trace.specs.Levels.{Levels}
-use Rattle.vme_summary.specs.Joins.{is_later}
+use Rattle.vme_summary.specs.Joins.{is_later_time}
 use Rattle.vme_part_format.specs.Bounds.{FitsSegment, FitsTimes}
 use Rattle.vme_part_format.specs.Tables.{SegmentValue}
 use Rattle.vme_part_format.specs.declared.segment.SegmentTimes.{SegmentTimes}
@@ -70,7 +70,7 @@ module _ (s t r : SegmentValue) (b : IsOfBoth s t r) (h : AreBuddies s t) where
       (omega (arith, b.first, c.0, begins), omega (arith, c.1, order, same, b.first, begins, pow_pos s.order))
 
   times_fit : (a c : Option SegmentTimes) → FitsTimes s.first s.order s.steps a → FitsTimes t.first t.order t.steps c
-      → is_later (ends_at a) (starts_at c) ≡ true → FitsTimes r.first r.order r.steps (joined_times a c)
+      → is_later_time (ends_at a) (starts_at c) ≡ true → FitsTimes r.first r.order r.steps (joined_times a c)
   times_fit None None f g l = omega (arith, f, g, b.steps)
   times_fit None (Some c) f g l =
       let order = ap (λ k. 2 ^ k) b.order ∙ twice s.order in

@@ -9,7 +9,7 @@ use Rattle.vme_trace.specs.Trace.{levels_after}
 use Rattle.vme_trace.specs.declared.block.Block.{Block}
 use Rattle.vme_trace.specs.declared.step.Step.{Step}
 use Rattle.vme_summary.specs.Extents.{Meets, joined_extent}
-use Rattle.vme_summary.specs.Joins.{is_later}
+use Rattle.vme_summary.specs.Joins.{is_later_time}
 use Rattle.vme_summary.specs.declared.extent.Extent.{Extent}
 use Rattle.vme_summary.proofs.Chains.{steps-append}
 use Rattle.vme_summary.proofs.Extents.{extent_joined, left_by_steps}
@@ -61,8 +61,8 @@ module _ (j r : JudgedSegments) (s : SegmentValue) (goes_on : FilesGoOn j.left j
       → SegmentStandsFor listing s ys
       → s.first ≡ e.last + 1 → HasJudgedFiles r (joined_extent e (extent_of s)) (bs ++ ys)
   past_segment listing e bs ys was p n =
-      let later : is_later e.ends (starts_at s.times) ≡ true
-      = subst (λ (t : Option ℕ). is_later t (starts_at s.times) ≡ true) was.ends goes_on.later in
+      let later : is_later_time e.ends (starts_at s.times) ≡ true
+      = subst (λ (t : Option ℕ). is_later_time t (starts_at s.times) ≡ true) was.ends goes_on.later in
       let meets : Meets e (extent_of s)
       = record { numbered = n; opened = goes_on.opened ∙ was.left; later = later } in
       let opens : s.opening ≡ levels_after e.opening (joined_steps bs)

@@ -10,7 +10,7 @@ use Rattle.vme_trace.specs.WellFormed.{malformed_step}
 use Rattle.vme_trace.specs.declared.block.Block.{Block}
 use Rattle.vme_trace.specs.declared.step.Step.{Step}
 use Rattle.vme_summary.specs.Extents.{IsExtent}
-use Rattle.vme_summary.specs.Joins.{BlocksJoin, first_time, is_later, last_time, left_by}
+use Rattle.vme_summary.specs.Joins.{BlocksJoin, first_time, is_later_time, last_time, left_by}
 use Rattle.vme_summary.specs.declared.extent.Extent.{Extent}
 use Rattle.vme_summary.proofs.Chains.{GoOn, apart, chain_joins, chain_of, last_left, last_number, left_after}
 use Rattle.vme_summary.proofs.Chains.{number_after, steps-append, timed, united}
@@ -126,7 +126,7 @@ module _ (j : JudgedSegments) (s : SegmentValue) (listing : Bool) (e : Extent) (
         let own = apart front (one ∷ back) (number_after a.number rest) (left_after (left_by a) rest) None
         (subst (GoOn (number_after a.number rest) (left_after (left_by a) rest) None) parts g) in
         let t = option_or (last_time (joined_steps rest)) (last_time a.steps) in
-        let later : is_later t (first_time (joined_steps front)) ≡ true = rw still (later_none t) in
+        let later : is_later_time t (first_time (joined_steps front)) ≡ true = rw still (later_none t) in
         let j = subst BlocksJoin first was.extent.join in
         rw first
         (chain_joins a (rest ++ front)
@@ -151,9 +151,9 @@ module _ (j : JudgedSegments) (s : SegmentValue) (listing : Bool) (e : Extent) (
         let g = apart (rest ++ front) (one ∷ []) a.number (left_by a) (last_time a.steps)
         (chain_of a ((rest ++ front) ++ one ∷ []) j) in
         let t = option_or (last_time (joined_steps (rest ++ front))) (last_time a.steps) in
-        let later : is_later (Some last) (Some start) ≡ true =
-        subst (λ (u : Option ℕ). is_later u (Some start) ≡ true) (time_before ∙ ends)
-        (subst (λ (u : Option ℕ). is_later t u ≡ true) starts g.1.2) in
+        let later : is_later_time (Some last) (Some start) ≡ true =
+        subst (λ (u : Option ℕ). is_later_time u (Some start) ≡ true) (time_before ∙ ends)
+        (subst (λ (u : Option ℕ). is_later_time t u ≡ true) starts g.1.2) in
         absurd (omega (arith, ltb-true last start later, early))
 
   goes_from : (a : Block) (rest : List Block) → bs ≡ a ∷ rest → s.opening ≡ j.left → (zs : List Block)

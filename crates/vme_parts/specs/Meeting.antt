@@ -2,7 +2,7 @@
 use Rattle.std.specs.Prelude.{◌≡◌, ℕ, ◌≤◌, ◌⊎◌, true, Option, Some}
 use Rattle.std.specs.Option.{option_map}
 use Rattle.vme_trace.specs.Levels.{Levels}
-use Rattle.vme_summary.specs.Joins.{is_later}
+use Rattle.vme_summary.specs.Joins.{is_later_time}
 use Rattle.vme_part_format.specs.declared.segment.SegmentTimes.{SegmentTimes}
 
 -- the time of the first step, if there is one, and of the last
@@ -18,7 +18,7 @@ pub record FilesGoOn (left : Levels) (before : Option SegmentTimes) (opening : L
     (after : Option SegmentTimes) : Type 0
   where
     pub opened : opening ≡ left
-    pub later : is_later (ends_at before) (starts_at after) ≡ true
+    pub later : is_later_time (ends_at before) (starts_at after) ≡ true
 
 -- a step isn't later than those before it: the first of this file
 pub record IsEarlyFile (before after : Option SegmentTimes) (file : ℕ) : Type 0 where

@@ -1,7 +1,7 @@
 //! Whether files follow one another.
 
 ghost use Rattle.std.specs.Prelude.{◌≡◌, IfSome, None, true};
-ghost use Rattle.vme_summary.specs.Joins.{is_later};
+ghost use Rattle.vme_summary.specs.Joins.{is_later_time};
 ghost use Rattle.vme_parts.specs.Joined.{joined_times as joined_times_of};
 ghost use Rattle.vme_parts.specs.Meeting.{FilesGoOn, IsEarlyFile, IsTornAt, ends_at, starts_at};
 
@@ -10,7 +10,7 @@ use vme_trace::Lines;
 
 /// The first file that has a step, where that isn't later than the last one before it.
 fn early_file(before: Option<SegmentTimes>, after: Option<SegmentTimes>) -> Option<u64>
-    ensures later { result ≡ None → is_later (ends_at before) (starts_at after) ≡ true }
+    ensures later { result ≡ None → is_later_time (ends_at before) (starts_at after) ≡ true }
     ensures early { IfSome result (IsEarlyFile before after) }
 {
     let Some(before) = before else {

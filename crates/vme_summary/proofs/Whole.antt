@@ -16,7 +16,7 @@ use Rattle.vme_trace.specs.declared.verdict.Break.{Break}
 use Rattle.vme_trace.specs.declared.verdict.Verdict.{Verdict}
 use Rattle.vme_trace.specs.declared.verdict.Verdict.TheVariants.{NeverIdle}
 use Rattle.vme_monitor.specs.Whole.{has_span}
-use Rattle.vme_summary.specs.Joins.{BlocksJoin, first_time, is_later, joined_trace, last_time, left_by}
+use Rattle.vme_summary.specs.Joins.{BlocksJoin, first_time, is_later_time, joined_trace, last_time, left_by}
 use Rattle.vme_summary.specs.Progressed.{HasFound, HasFoundAll}
 use Rattle.vme_summary.specs.Summaries.{StandsForAll, SummaryFindsFor, SummaryStandsFor, first_break_of}
 use Rattle.vme_summary.specs.Summaries.{stands_finds_all}
@@ -41,11 +41,12 @@ no_steps v = stands_sound v [] tt
 
 -- what is later than a time is later than the last of some steps, whatever that time is
 later_own : (steps : List Step) (t : Option ℕ) (bs : List Block) (n : ℕ) (v : Levels)
-    → GoOn n v (option_or (last_time steps) t) bs → is_later (last_time steps) (first_time (joined_steps bs)) ≡ true
+    → GoOn n v (option_or (last_time steps) t) bs → is_later_time (last_time steps) (first_time (joined_steps bs))
+    ≡ true
 later_own steps t bs n v g = by_last (last_time steps) (untimed bs n v (option_or (last_time steps) t) g).1
   where
-    by_last : (l : Option ℕ) → is_later (option_or l t) (first_time (joined_steps bs)) ≡ true
-        → is_later l (first_time (joined_steps bs)) ≡ true
+    by_last : (l : Option ℕ) → is_later_time (option_or l t) (first_time (joined_steps bs)) ≡ true
+        → is_later_time l (first_time (joined_steps bs)) ≡ true
     by_last None h = refl
     by_last (Some s) h = h
 

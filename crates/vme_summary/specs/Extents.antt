@@ -3,7 +3,7 @@ use Rattle.std.specs.Prelude.{◌≡◌, ◌+◌, true, List, Some, option_map}
 use Rattle.std.specs.Option.{option_or}
 use Rattle.vme_trace.specs.Blocks.{joined_steps}
 use Rattle.vme_trace.specs.declared.block.Block.{Block}
-use Rattle.vme_summary.specs.Joins.{AreSound, BlocksJoin, first_block, first_block_number, first_time, is_later}
+use Rattle.vme_summary.specs.Joins.{AreSound, BlocksJoin, first_block, first_block_number, first_time, is_later_time}
 use Rattle.vme_summary.specs.Joins.{last_block, last_block_number, last_time, left_by}
 use Rattle.vme_summary.specs.declared.extent.Extent.{Extent}
 
@@ -22,7 +22,7 @@ pub record IsExtent (e : Extent) (blocks : List Block) : Type 0 where
 pub record Meets (a b : Extent) : Type 0 where
   pub numbered : b.first ≡ a.last + 1
   pub opened : b.opening ≡ a.left
-  pub later : is_later a.ends b.starts ≡ true
+  pub later : is_later_time a.ends b.starts ≡ true
 
 -- two extents made one
 abbrev pub joined_extent : Extent → Extent → Extent
