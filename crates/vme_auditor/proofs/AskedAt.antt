@@ -32,16 +32,16 @@ use Rattle.vme_monitor.specs.Along.{changes_of}
 use Rattle.vme_monitor.specs.Tracking.{entered, is_unanswered, is_within}
 use Rattle.vme_monitor.specs.declared.mark.CycleStart.{CycleStart}
 use Rattle.vme_monitor.specs.declared.mark.StepMarks.{StepMarks}
-use Rattle.vme_monitor.specs.declared.tracking.Pending.{Pending}
+use Rattle.vme_monitor.specs.declared.tracking.TransferPhase.{TransferPhase}
 use Rattle.vme_monitor.proofs.Alongside.{changes_fit, levels_step}
 use Rattle.vme_monitor.proofs.SpanFacts.{IsSpan}
 use Rattle.vme_dtb.specs.CycleState.{cycle_entered, is_interrupt_acknowledge, is_answered_interrupt_acknowledge}
 use Rattle.vme_dtb.specs.CycleState.{unanswered_of}
 use Rattle.vme_dtb.specs.Edge.{cycle_start_of, edges_between}
 use Rattle.vme_dtb.specs.Machine.{answer_in, dtb_next}
-use Rattle.vme_dtb.specs.declared.cycle.Cycle.{Cycle}
-use Rattle.vme_dtb.specs.declared.cycle.Cycle.TheVariants.{Block, BlockReading, BlockWriting, Free, Interrupt}
-use Rattle.vme_dtb.specs.declared.cycle.Cycle.TheVariants.{InterruptDone, Single, SingleDone, SingleRead}
+use Rattle.vme_dtb.specs.declared.cycle.CyclePhase.{CyclePhase}
+use Rattle.vme_dtb.specs.declared.cycle.CyclePhase.TheVariants.{Block, BlockReading, BlockWriting, Free, Interrupt}
+use Rattle.vme_dtb.specs.declared.cycle.CyclePhase.TheVariants.{InterruptDone, Single, SingleDone, SingleRead}
 use Rattle.vme_dtb.specs.declared.edges.Edges.{Edges}
 use Rattle.vme_dtb.specs.declared.memory.HandshakeMemory.{HandshakeMemory}
 use Rattle.vme_dtb.proofs.CycleBreaks.{cycle_starts_is, here_is}
@@ -90,7 +90,8 @@ if_some true o = refl
 if_some false o = refl
 
 -- the cycle that is entered had an answer before where it goes on
-entered_goes : (is : Cycle → Bool) → ((k : Class) → is (unanswered_of k) ≡ false) → (c : Cycle) (s : Option CycleStart)
+entered_goes : (is : CyclePhase → Bool) → ((k : Class) → is (unanswered_of k) ≡ false)
+    → (c : CyclePhase) (s : Option CycleStart)
     → (not (is_some s) && is c) ≡ is (cycle_entered c s)
 entered_goes is fresh c None = refl
 entered_goes is fresh c (Some s) = sym (fresh s.class)
@@ -119,7 +120,7 @@ interrupt_class class.K = refl
 interrupt_class class.I = refl
 interrupt_class class.F = refl
 
-interrupt_cycle : (c : Cycle) → is_interrupt_cycle c ≡ is_interrupt_acknowledge c
+interrupt_cycle : (c : CyclePhase) → is_interrupt_cycle c ≡ is_interrupt_acknowledge c
 interrupt_cycle Free = refl
 interrupt_cycle Single = refl
 interrupt_cycle SingleRead = refl
@@ -130,12 +131,12 @@ interrupt_cycle BlockWriting = refl
 interrupt_cycle Interrupt = refl
 interrupt_cycle InterruptDone = refl
 
-interrupt_entered : (c : Cycle) (s : Option CycleStart) → is_interrupt_entered c s ≡ is_interrupt_acknowledge
+interrupt_entered : (c : CyclePhase) (s : Option CycleStart) → is_interrupt_entered c s ≡ is_interrupt_acknowledge
     (cycle_entered c s)
 interrupt_entered c None = interrupt_cycle c
 interrupt_entered c (Some s) = interrupt_class s.class
 
-acknowledged_is : (c : Cycle) → is_answered_interrupt_acknowledge c ≡ is_interrupt_answered c
+acknowledged_is : (c : CyclePhase) → is_answered_interrupt_acknowledge c ≡ is_interrupt_answered c
 acknowledged_is Free = refl
 acknowledged_is Single = refl
 acknowledged_is SingleRead = refl
@@ -229,8 +230,8 @@ module _ (t : Trace) (ok : malformed_step t ≡ None) (few : t.opening.slots ≤
   abbrev pub shown : StepMarks
   shown = (dtb_next m v w seen).shown
 
-  abbrev inside : Pending
-  inside = entered m.pending v w
+  abbrev inside : TransferPhase
+  inside = entered m.transfer v w
 
   cycle_event : is_some shown.cycle ≡ cycle_starts t span (suc n)
   cycle_event =
@@ -249,19 +250,19 @@ module _ (t : Trace) (ok : malformed_step t ≡ None) (few : t.opening.slots ≤
       true_if (starts_between v w) (is_low (level_at w WRITE))
       ∙ ap (λ b. b && is_low (level_at w WRITE)) (sym (starts_is t n span from before))
 
-  within_event : is_within m.pending ≡ within_transfer t span (suc n)
-  within_event = sym (started_is t span facts.reads n from before m.pending holds.transfer)
+  within_event : is_within m.transfer ≡ within_transfer t span (suc n)
+  within_event = sym (started_is t span facts.reads n from before m.transfer holds.transfer)
 
-  strobe_rise_event : (is_within m.pending && strobe_rises_between v w)
+  strobe_rise_event : (is_within m.transfer && strobe_rises_between v w)
       ≡ (strobe_rises t (suc n) && within_transfer t span (suc n))
   strobe_rise_event =
-      and_comm (is_within m.pending) (strobe_rises_between v w)
+      and_comm (is_within m.transfer) (strobe_rises_between v w)
       ∙ and_both _ _ _ _ (or_both _ _ _ _ (sym (rises_is t n DS0)) (sym (rises_is t n DS1))) within_event
 
-  strobe_fall_event : (is_within m.pending && strobe_falls_between v w)
+  strobe_fall_event : (is_within m.transfer && strobe_falls_between v w)
       ≡ (strobe_falls t (suc n) && within_transfer t span (suc n))
   strobe_fall_event =
-      and_comm (is_within m.pending) (strobe_falls_between v w)
+      and_comm (is_within m.transfer) (strobe_falls_between v w)
       ∙ and_both _ _ _ _ (or_both _ _ _ _ (sym (falls_is t n DS0)) (sym (falls_is t n DS1))) within_event
 
   answer_fall_event : answer_between v w ≡ answer_falls t (suc n)
@@ -286,7 +287,7 @@ module _ (t : Trace) (ok : malformed_step t ≡ None) (few : t.opening.slots ≤
       ∙ sym (in_interrupt_acknowledge t span (suc n)))
 
   -- an answer in a cycle that had one before
-  again_event : (is : Cycle → Bool) (chosen : Class → Bool) → ((k : Class) → is (unanswered_of k) ≡ false)
+  again_event : (is : CyclePhase → Bool) (chosen : Class → Bool) → ((k : Class) → is (unanswered_of k) ≡ false)
       → in_cycle t span (λ i. chosen (class_at t span i) && has_earlier_answer (answers_of t span i (suc n))) (suc n)
       ≡ is (cycle_before t span (suc n))
       → goes_on is m.cycle shown.cycle shown.answer ≡ answered_again_in_class t span chosen (suc n)

@@ -14,9 +14,9 @@ use Rattle.vme_monitor.specs.Tracking.{is_within}
 use Rattle.vme_monitor.specs.declared.mark.CycleStart.{CycleStart}
 use Rattle.vme_monitor.specs.declared.mark.StepMarks.{StepMarks}
 use Rattle.vme_monitor.specs.declared.mark.TransferAnswer.{TransferAnswer}
-use Rattle.vme_dtb.specs.declared.cycle.Cycle.{Cycle}
-use Rattle.vme_dtb.specs.declared.cycle.Cycle.TheVariants.{Block, BlockReading, BlockWriting, Free, Interrupt}
-use Rattle.vme_dtb.specs.declared.cycle.Cycle.TheVariants.{InterruptDone, Single, SingleDone, SingleRead}
+use Rattle.vme_dtb.specs.declared.cycle.CyclePhase.{CyclePhase}
+use Rattle.vme_dtb.specs.declared.cycle.CyclePhase.TheVariants.{Block, BlockReading, BlockWriting, Free, Interrupt}
+use Rattle.vme_dtb.specs.declared.cycle.CyclePhase.TheVariants.{InterruptDone, Single, SingleDone, SingleRead}
 use Rattle.vme_dtb.specs.declared.memory.HandshakeMemory.{HandshakeMemory}
 use Rattle.vme_auditor.specs.Events.{answer_taken, at_step, cycle_taken, further_taken, is_interrupt_entered}
 use Rattle.vme_auditor.specs.Events.{net_falls, net_rises, net_taken, nets_taken, strobes_taken, tenure_taken}
@@ -45,7 +45,7 @@ module _ (get : AskedEvents → Bool) (kept : (e : AskedEvents) (b : Bool)
     (single : (e : AskedEvents) → get (record e { single_again = true }) ≡ get e)
     (block : (e : AskedEvents) → get (record e { block_again = true }) ≡ get e)
     (again : (e : AskedEvents) → get (record e { interrupt_again = true }) ≡ get e) where
-  further_kept : (e : AskedEvents) (cycle : Cycle) → get (further_taken e cycle) ≡ get e
+  further_kept : (e : AskedEvents) (cycle : CyclePhase) → get (further_taken e cycle) ≡ get e
   further_kept e Free = refl
   further_kept e Single = refl
   further_kept e SingleRead = single e
@@ -56,7 +56,7 @@ module _ (get : AskedEvents → Bool) (kept : (e : AskedEvents) (b : Bool)
   further_kept e Interrupt = refl
   further_kept e InterruptDone = again e
 
-  answer_kept : (e : AskedEvents) (cycle : Cycle) (starts : Option CycleStart) (answer : Option TransferAnswer)
+  answer_kept : (e : AskedEvents) (cycle : CyclePhase) (starts : Option CycleStart) (answer : Option TransferAnswer)
       → get (answer_taken e cycle starts answer) ≡ get e
   answer_kept e cycle starts None = refl
   answer_kept e cycle None (Some a) =
@@ -65,24 +65,24 @@ module _ (get : AskedEvents → Bool) (kept : (e : AskedEvents) (b : Bool)
   answer_kept e cycle (Some s) (Some a) = kept e (e.interrupt || is_interrupt_entered cycle (Some s))
 
 -- the cycle had an answer before
-abbrev pub is_single_answered : Cycle → Bool
+abbrev pub is_single_answered : CyclePhase → Bool
 is_single_answered SingleRead = true
 is_single_answered SingleDone = true
 is_single_answered c = false
 
-abbrev pub is_block_answered : Cycle → Bool
+abbrev pub is_block_answered : CyclePhase → Bool
 is_block_answered BlockReading = true
 is_block_answered BlockWriting = true
 is_block_answered c = false
 
-abbrev pub is_interrupt_answered : Cycle → Bool
+abbrev pub is_interrupt_answered : CyclePhase → Bool
 is_interrupt_answered InterruptDone = true
 is_interrupt_answered c = false
 
-abbrev pub goes_on : (Cycle → Bool) → Cycle → Option CycleStart → Option TransferAnswer → Bool
+abbrev pub goes_on : (CyclePhase → Bool) → CyclePhase → Option CycleStart → Option TransferAnswer → Bool
 goes_on is cycle starts answer = is_some answer && (not (is_some starts) && is cycle)
 
-single_further : (e : AskedEvents) (cycle : Cycle) → (further_taken e cycle).single_again
+single_further : (e : AskedEvents) (cycle : CyclePhase) → (further_taken e cycle).single_again
     ≡ (e.single_again || is_single_answered cycle)
 single_further e Free = sym (or-false e.single_again)
 single_further e Single = sym (or-false e.single_again)
@@ -94,7 +94,7 @@ single_further e BlockWriting = sym (or-false e.single_again)
 single_further e Interrupt = sym (or-false e.single_again)
 single_further e InterruptDone = sym (or-false e.single_again)
 
-block_further : (e : AskedEvents) (cycle : Cycle) → (further_taken e cycle).block_again
+block_further : (e : AskedEvents) (cycle : CyclePhase) → (further_taken e cycle).block_again
     ≡ (e.block_again || is_block_answered cycle)
 block_further e Free = sym (or-false e.block_again)
 block_further e Single = sym (or-false e.block_again)
@@ -106,7 +106,7 @@ block_further e BlockWriting = sym (or-true e.block_again)
 block_further e Interrupt = sym (or-false e.block_again)
 block_further e InterruptDone = sym (or-false e.block_again)
 
-interrupt_further : (e : AskedEvents) (cycle : Cycle) → (further_taken e cycle).interrupt_again
+interrupt_further : (e : AskedEvents) (cycle : CyclePhase) → (further_taken e cycle).interrupt_again
     ≡ (e.interrupt_again || is_interrupt_answered cycle)
 interrupt_further e Free = sym (or-false e.interrupt_again)
 interrupt_further e Single = sym (or-false e.interrupt_again)
@@ -118,7 +118,7 @@ interrupt_further e BlockWriting = sym (or-false e.interrupt_again)
 interrupt_further e Interrupt = sym (or-false e.interrupt_again)
 interrupt_further e InterruptDone = sym (or-true e.interrupt_again)
 
-module _ (cycle : Cycle) where
+module _ (cycle : CyclePhase) where
   single_taken : (e : AskedEvents) (starts : Option CycleStart) (answer : Option TransferAnswer)
       → (answer_taken e cycle starts answer).single_again
       ≡ (e.single_again || goes_on is_single_answered cycle starts answer)
@@ -143,7 +143,7 @@ module _ (cycle : Cycle) where
       interrupt_further (record e { answer = true; interrupt = e.interrupt || is_interrupt_entered cycle None }) cycle
   interrupt_again_taken e (Some s) (Some a) = sym (or-false e.interrupt_again)
 
-  further_answer : (e : AskedEvents) (c : Cycle) → (further_taken e c).answer ≡ e.answer
+  further_answer : (e : AskedEvents) (c : CyclePhase) → (further_taken e c).answer ≡ e.answer
   further_answer e Free = refl
   further_answer e Single = refl
   further_answer e SingleRead = refl
@@ -154,7 +154,7 @@ module _ (cycle : Cycle) where
   further_answer e Interrupt = refl
   further_answer e InterruptDone = refl
 
-  further_interrupt : (e : AskedEvents) (c : Cycle) → (further_taken e c).interrupt ≡ e.interrupt
+  further_interrupt : (e : AskedEvents) (c : CyclePhase) → (further_taken e c).interrupt ≡ e.interrupt
   further_interrupt e Free = refl
   further_interrupt e Single = refl
   further_interrupt e SingleRead = refl
@@ -191,7 +191,7 @@ module _ (e : AskedEvents) (m : HandshakeMemory) (v w : Levels) (cs : List Chang
   cycles = cycle_taken e v w shown
 
   abbrev strobes : AskedEvents
-  strobes = strobes_taken cycles m.pending v w
+  strobes = strobes_taken cycles m.transfer v w
 
   abbrev answering : AskedEvents
   answering = record strobes {
@@ -226,13 +226,13 @@ module _ (e : AskedEvents) (m : HandshakeMemory) (v w : Levels) (cs : List Chang
       ∙ answer_kept (λ e. e.write) (λ e b. refl) (λ e. refl) (λ e. refl) (λ e. refl) answering m.cycle shown.cycle
       shown.answer
 
-  pub on_strobe_rise : stepped.strobe_rise ≡ (e.strobe_rise || (is_within m.pending && strobe_rises_between v w))
+  pub on_strobe_rise : stepped.strobe_rise ≡ (e.strobe_rise || (is_within m.transfer && strobe_rises_between v w))
   on_strobe_rise =
       nets_kept v w (λ e. e.strobe_rise) (λ e c. refl) cs (tenure_taken answers v w)
       ∙ answer_kept (λ e. e.strobe_rise) (λ e b. refl) (λ e. refl) (λ e. refl) (λ e. refl) answering m.cycle shown.cycle
       shown.answer
 
-  pub on_strobe_fall : stepped.strobe_fall ≡ (e.strobe_fall || (is_within m.pending && strobe_falls_between v w))
+  pub on_strobe_fall : stepped.strobe_fall ≡ (e.strobe_fall || (is_within m.transfer && strobe_falls_between v w))
   on_strobe_fall =
       nets_kept v w (λ e. e.strobe_fall) (λ e c. refl) cs (tenure_taken answers v w)
       ∙ answer_kept (λ e. e.strobe_fall) (λ e b. refl) (λ e. refl) (λ e. refl) (λ e. refl) answering m.cycle shown.cycle

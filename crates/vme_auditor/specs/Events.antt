@@ -14,10 +14,10 @@ use Rattle.vme_monitor.specs.Tracking.{is_within}
 use Rattle.vme_monitor.specs.declared.mark.CycleStart.{CycleStart}
 use Rattle.vme_monitor.specs.declared.mark.StepMarks.{StepMarks}
 use Rattle.vme_monitor.specs.declared.mark.TransferAnswer.{TransferAnswer}
-use Rattle.vme_monitor.specs.declared.tracking.Pending.{Pending}
-use Rattle.vme_dtb.specs.declared.cycle.Cycle.{Cycle}
-use Rattle.vme_dtb.specs.declared.cycle.Cycle.TheVariants.{SingleRead, SingleDone, BlockReading, BlockWriting}
-use Rattle.vme_dtb.specs.declared.cycle.Cycle.TheVariants.{Interrupt, InterruptDone}
+use Rattle.vme_monitor.specs.declared.tracking.TransferPhase.{TransferPhase}
+use Rattle.vme_dtb.specs.declared.cycle.CyclePhase.{CyclePhase}
+use Rattle.vme_dtb.specs.declared.cycle.CyclePhase.TheVariants.{SingleRead, SingleDone, BlockReading, BlockWriting}
+use Rattle.vme_dtb.specs.declared.cycle.CyclePhase.TheVariants.{Interrupt, InterruptDone}
 use Rattle.vme_dtb.specs.declared.memory.HandshakeMemory.{HandshakeMemory}
 use Rattle.vme_audit.specs.Event.{Event, event_of}
 use Rattle.vme_audit.specs.Event as event
@@ -75,12 +75,12 @@ abbrev pub asks_by : AskedEvents → Rule → Bool
 asks_by e r = has_happened e (event_of r)
 
 -- the class of a cycle that says which answers may follow
-abbrev pub is_interrupt_cycle : Cycle → Bool
+abbrev pub is_interrupt_cycle : CyclePhase → Bool
 is_interrupt_cycle Interrupt = true
 is_interrupt_cycle InterruptDone = true
 is_interrupt_cycle cycle = false
 
-abbrev pub is_interrupt_entered : Cycle → Option CycleStart → Bool
+abbrev pub is_interrupt_entered : CyclePhase → Option CycleStart → Bool
 is_interrupt_entered cycle None = is_interrupt_cycle cycle
 is_interrupt_entered cycle (Some start) = is_interrupt start.class
 
@@ -101,14 +101,14 @@ cycle_taken e before after shown = record e {
   write = e.write || option_map_or (λ write. write) shown.transfer false;
 }
 
-abbrev pub strobes_taken : AskedEvents → Pending → Levels → Levels → AskedEvents
-strobes_taken e pending before after = record e {
-  strobe_rise = e.strobe_rise || (is_within pending && strobe_rises_between before after);
-  strobe_fall = e.strobe_fall || (is_within pending && strobe_falls_between before after);
+abbrev pub strobes_taken : AskedEvents → TransferPhase → Levels → Levels → AskedEvents
+strobes_taken e phase before after = record e {
+  strobe_rise = e.strobe_rise || (is_within phase && strobe_rises_between before after);
+  strobe_fall = e.strobe_fall || (is_within phase && strobe_falls_between before after);
 }
 
 -- an answer in a cycle that started before, which another may have had
-abbrev pub further_taken : AskedEvents → Cycle → AskedEvents
+abbrev pub further_taken : AskedEvents → CyclePhase → AskedEvents
 further_taken e SingleRead = record e { single_again = true }
 further_taken e SingleDone = record e { single_again = true }
 further_taken e BlockReading = record e { block_again = true }
@@ -116,17 +116,17 @@ further_taken e BlockWriting = record e { block_again = true }
 further_taken e InterruptDone = record e { interrupt_again = true }
 further_taken e cycle = e
 
-abbrev pub further_unless : AskedEvents → Cycle → Option CycleStart → AskedEvents
+abbrev pub further_unless : AskedEvents → CyclePhase → Option CycleStart → AskedEvents
 further_unless e cycle None = further_taken e cycle
 further_unless e cycle (Some start) = e
 
-abbrev pub answer_taken : AskedEvents → Cycle → Option CycleStart → Option TransferAnswer → AskedEvents
+abbrev pub answer_taken : AskedEvents → CyclePhase → Option CycleStart → Option TransferAnswer → AskedEvents
 answer_taken e cycle starts None = e
 answer_taken e cycle starts (Some answer) =
     further_unless
     (record e { answer = true; interrupt = e.interrupt || is_interrupt_entered cycle starts }) cycle starts
 
-abbrev pub answers_taken : AskedEvents → Cycle → Levels → Levels → StepMarks → AskedEvents
+abbrev pub answers_taken : AskedEvents → CyclePhase → Levels → Levels → StepMarks → AskedEvents
 answers_taken e cycle before after shown =
     answer_taken
     (record e {
@@ -152,6 +152,6 @@ tenure_taken e before after = record e { tenure = e.tenure || falls_between befo
 abbrev pub at_step : AskedEvents → HandshakeMemory → Levels → Levels → List Change → StepMarks → AskedEvents
 at_step e entered before after changes shown =
     let a = cycle_taken e before after shown in
-    let b = strobes_taken a entered.pending before after in
+    let b = strobes_taken a entered.transfer before after in
     let c = answers_taken b entered.cycle before after shown in
     nets_taken before after (tenure_taken c before after) changes

@@ -6,10 +6,10 @@ ghost use Rattle.vme_auditor.specs.Events.{is_interrupt_entered as is_interrupt_
 ghost use Rattle.vme_auditor.specs.Events.{net_rises as net_rises_of, net_taken, nets_taken, nothing_happened};
 ghost use Rattle.vme_auditor.specs.Events.{strobes_taken};
 
-use vme_dtb::cycle::Cycle;
+use vme_dtb::cycle::CyclePhase;
 use vme_dtb::memory::HandshakeMemory;
 use vme_monitor::mark::StepMarks;
-use vme_monitor::tracking::Pending;
+use vme_monitor::tracking::TransferPhase;
 use vme_trace::edges::{answer_falls, falls, rises, strobe_falls, strobe_rises};
 use vme_trace::{Change, Class, Line, Lines, Rule};
 
@@ -71,12 +71,12 @@ fn net_rises(before: &Lines, after: &Lines, net: Line) -> bool
 }
 
 /// Whether the cycle in which an answer at a step is is an interrupt acknowledge.
-fn is_interrupt_entered(cycle: Cycle, shown: &StepMarks) -> bool
+fn is_interrupt_entered(cycle: CyclePhase, shown: &StepMarks) -> bool
     ensures { result ≡ is_interrupt_entered_by cycle shown.now.cycle }
 {
     match shown.cycle {
         Some(start) => matches!(start.class, Class::I),
-        None => matches!(cycle, Cycle::Interrupt | Cycle::InterruptDone),
+        None => matches!(cycle, CyclePhase::Interrupt | CyclePhase::InterruptDone),
     }
 }
 
@@ -121,7 +121,7 @@ impl AskedEvents {
         ensures { self.new ≡ at_step self.old entered before.now after.now changes.now shown.now }
     {
         self.take_cycle(before, after, shown);
-        self.take_strobes(entered.pending, before, after);
+        self.take_strobes(entered.transfer, before, after);
         self.take_answers(entered.cycle, before, after, shown);
         self.tenure = self.tenure || falls(before, after, Line::BBSY);
         self.take_nets(before, after, changes);
@@ -136,15 +136,15 @@ impl AskedEvents {
         self.write = self.write || matches!(shown.transfer, Some(true));
     }
 
-    fn take_strobes(&mut self, pending: Pending, before: &Lines, after: &Lines)
-        ensures { self.new ≡ strobes_taken self.old pending before.now after.now }
+    fn take_strobes(&mut self, phase: TransferPhase, before: &Lines, after: &Lines)
+        ensures { self.new ≡ strobes_taken self.old phase before.now after.now }
     {
-        let is_within = !matches!(pending, Pending::Closed);
+        let is_within = !matches!(phase, TransferPhase::Closed);
         self.strobe_rise = self.strobe_rise || (is_within && strobe_rises(before, after));
         self.strobe_fall = self.strobe_fall || (is_within && strobe_falls(before, after));
     }
 
-    fn take_answers(&mut self, cycle: Cycle, before: &Lines, after: &Lines, shown: &StepMarks)
+    fn take_answers(&mut self, cycle: CyclePhase, before: &Lines, after: &Lines, shown: &StepMarks)
         ensures { self.new ≡ answers_taken self.old cycle before.now after.now shown.now }
     {
         self.answer_fall = self.answer_fall || answer_falls(before, after);
@@ -161,14 +161,14 @@ impl AskedEvents {
     }
 
     /// Takes an answer in a cycle that started before, which another may have had.
-    fn take_further(&mut self, cycle: Cycle)
+    fn take_further(&mut self, cycle: CyclePhase)
         ensures { self.new ≡ further_taken self.old cycle }
     {
         match cycle {
-            Cycle::SingleRead | Cycle::SingleDone => self.single_again = true,
-            Cycle::BlockReading | Cycle::BlockWriting => self.block_again = true,
-            Cycle::InterruptDone => self.interrupt_again = true,
-            Cycle::Free | Cycle::Single | Cycle::Block | Cycle::Interrupt => {}
+            CyclePhase::SingleRead | CyclePhase::SingleDone => self.single_again = true,
+            CyclePhase::BlockReading | CyclePhase::BlockWriting => self.block_again = true,
+            CyclePhase::InterruptDone => self.interrupt_again = true,
+            CyclePhase::Free | CyclePhase::Single | CyclePhase::Block | CyclePhase::Interrupt => {}
         }
     }
 

@@ -16,10 +16,10 @@ use Rattle.vme_trace.specs.declared.level.Level.{Level}
 use Rattle.vme_trace.specs.declared.level.Level.TheVariants.{Low, High, Unknown}
 use Rattle.vme_trace.proofs.Ranges.{any-fails, clash, fails-any}
 use Rattle.vme_trace.proofs.OpenTransfers.{is_judged-holds, suc-sub-one}
-use Rattle.vme_monitor.specs.Tracked.{SaysPending}
+use Rattle.vme_monitor.specs.Tracked.{IsTransferPhase}
 use Rattle.vme_monitor.specs.Tracking.{answered_by, entered, is_unanswered}
-use Rattle.vme_monitor.specs.declared.tracking.Pending.{Pending}
-use Rattle.vme_monitor.specs.declared.tracking.Pending.TheVariants.{Closed, Reading, Writing, Answered}
+use Rattle.vme_monitor.specs.declared.tracking.TransferPhase.{TransferPhase}
+use Rattle.vme_monitor.specs.declared.tracking.TransferPhase.TheVariants.{Closed, Reading, Writing, Answered}
 use Rattle.vme_monitor.proofs.SpanFacts.{IsSpan}
 use Rattle.vme_monitor.proofs.TrackedTransfers.{says_start, tracked_is, is_answer_is}
 use Rattle.vme_chains.specs.AcknowledgeRules.{acknowledge_begin, acknowledged_after, changes_memory, changes_strobes}
@@ -60,7 +60,7 @@ module _ (t : Trace) (span : Stretch) where
 
   -- what the memory means after instant n
   pub record Holds (n : ℕ) (m : Acknowledgement) : Type 0 where
-    pub transfer : SaysPending t span n m.transfer
+    pub transfer : IsTransferPhase t span n m.transfer
     pub idle : low t AS n ≡ false → m.acknowledged ≡ false
     pub cycle : low t AS n ≡ true → IsOn n m.acknowledged
 
@@ -126,7 +126,8 @@ module _ (t : Trace) (span : Stretch) where
       unfolding falls high low
       falls_is l = rw (suc-sub-one n) refl
 
-      acknowledges_is : (m : Pending) → SaysPending t span n m → acknowledges (suc n) ≡ is_acknowledged m old new
+      acknowledges_is : (m : TransferPhase) → IsTransferPhase t span n m → acknowledges (suc n) ≡ is_acknowledged m old
+          new
       acknowledges_is m says = rw (is_answer_is t span facts.reads n from before m says, falls_is DTACK)
           (by_tests (is_unanswered (entered m old new)) (falls_between old new DTACK) (falls_between old new BERR))
         where
@@ -168,7 +169,8 @@ module _ (t : Trace) (span : Stretch) where
           within i n h = grind (arith, nat_tests)
 
       -- another starts
-      starts_here : (m : Acknowledgement) → SaysPending t span n m.transfer → m.acknowledged ≡ false → falls_between old
+      starts_here : (m : Acknowledgement) → IsTransferPhase t span n m.transfer → m.acknowledged ≡ false
+          → falls_between old
           new AS ≡ true → is_low (level_at new AS) ≡ true → IsOn (suc n) (acknowledged_after m old new)
       starts_here m says fresh fall on =
           let empty : any acknowledges (suc n) (suc n) ≡ false = fails-any acknowledges (suc n) (suc n)
@@ -221,14 +223,14 @@ module _ (t : Trace) (span : Stretch) where
       }
 
       -- no transfer is open where both strobes are high
-      closed_there : (p : Pending) → SaysPending t span n p → strobes_high_in old ≡ true → p ≡ Closed
+      closed_there : (p : TransferPhase) → IsTransferPhase t span n p → strobes_high_in old ≡ true → p ≡ Closed
       unfolding high
       closed_there Closed says h = refl
       closed_there Reading says h = absurd (clash (strobes_high t n) h (says.1.still n says.1.within (omega arith)))
       closed_there Writing says h = absurd (clash (strobes_high t n) h (says.1.still n says.1.within (omega arith)))
       closed_there Answered says h = absurd (clash (strobes_high t n) h (says.2.still n says.2.within (omega arith)))
 
-      same_transfer : (p q : Pending) (b l h a : Bool) → (b ≡ true → p ≡ Closed) → cond b l h ≡ false → a ≡ false
+      same_transfer : (p q : TransferPhase) (b l h a : Bool) → (b ≡ true → p ≡ Closed) → cond b l h ≡ false → a ≡ false
           → cond h Closed (answered_by a (cond (b && l) q p)) ≡ p
       same_transfer p q true l h a closed still none = let off : l ≡ false = still in
           rw (off, none) (either h (closed refl))

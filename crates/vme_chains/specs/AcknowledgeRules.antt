@@ -16,8 +16,8 @@ use Rattle.vme_monitor.specs.Tracking.{entered, tracked, is_unanswered}
 use Rattle.vme_monitor.specs.declared.mark.Fault.{Fault}
 use Rattle.vme_monitor.specs.declared.mark.StepMarks.{StepMarks}
 use Rattle.vme_monitor.specs.declared.mark.Next.{Next}
-use Rattle.vme_monitor.specs.declared.tracking.Pending.{Pending}
-use Rattle.vme_monitor.specs.declared.tracking.Pending.TheVariants.{Closed, Reading, Writing, Answered}
+use Rattle.vme_monitor.specs.declared.tracking.TransferPhase.{TransferPhase}
+use Rattle.vme_monitor.specs.declared.tracking.TransferPhase.TheVariants.{Closed, Reading, Writing, Answered}
 use Rattle.vme_chains.specs.declared.acknowledge.Acknowledgement.{Acknowledgement}
 use Rattle.vme_chains.specs.declared.acknowledge.PassingSlots.{PassingSlots}
 
@@ -25,22 +25,23 @@ abbrev pub acknowledge_rules : List Rule
 acknowledge_rules = I1 ∷ I2 ∷ I3 ∷ []
 
 -- the memories, counted: those of a cycle that wasn't acknowledged first
-abbrev pub pending_place : Pending → ℕ
-pending_place Closed = 0
-pending_place Reading = 1
-pending_place Writing = 2
-pending_place Answered = 3
+abbrev pub transfer_phase_place : TransferPhase → ℕ
+transfer_phase_place Closed = 0
+transfer_phase_place Reading = 1
+transfer_phase_place Writing = 2
+transfer_phase_place Answered = 3
 
-abbrev pub pending_nth : ℕ → Pending
-pending_nth k = if k == 0 then Closed else if k == 1 then Reading else if k == 2 then Writing else Answered
+abbrev pub transfer_phase_nth : ℕ → TransferPhase
+transfer_phase_nth k = if k == 0 then Closed else if k == 1 then Reading else if k == 2 then Writing else Answered
 
 abbrev pub acknowledgement_place : Acknowledgement → ℕ
-acknowledgement_place m = if m.acknowledged then 4 + pending_place m.transfer else pending_place m.transfer
+acknowledgement_place m = if m.acknowledged then 4 + transfer_phase_place m.transfer else transfer_phase_place
+    m.transfer
 
 abbrev pub acknowledgement_nth : ℕ → Acknowledgement
 acknowledgement_nth k =
-    if nat_lt k 4 then record { transfer = pending_nth k; acknowledged = false } else record {
-      transfer = pending_nth
+    if nat_lt k 4 then record { transfer = transfer_phase_nth k; acknowledged = false } else record {
+      transfer = transfer_phase_nth
           (k - 4);
       acknowledged = true;
     }
@@ -75,7 +76,7 @@ abbrev pub changes_memory : Levels → Levels → Bool
 changes_memory v w = changes_strobes v w || answer_between v w || (is_low (level_at v AS) && is_high (level_at w AS))
 
 -- a transfer is answered by DTACK*
-abbrev pub is_acknowledged : Pending → Levels → Levels → Bool
+abbrev pub is_acknowledged : TransferPhase → Levels → Levels → Bool
 is_acknowledged m v w = is_unanswered (entered m v w) && falls_between v w DTACK
 
 -- what is kept of the cycle that runs after the step
@@ -130,7 +131,7 @@ acknowledge_shown t span j = nothing
 pub acknowledgement_placed : (m : Acknowledgement) → acknowledgement_place m < 8
 acknowledgement_placed m = placed_at m.transfer m.acknowledged
   where
-    placed_at : (p : Pending) (b : Bool) → (if b then 4 + pending_place p else pending_place p) < 8
+    placed_at : (p : TransferPhase) (b : Bool) → (if b then 4 + transfer_phase_place p else transfer_phase_place p) < 8
     placed_at Closed true = lit< tt
     placed_at Reading true = lit< tt
     placed_at Writing true = lit< tt
@@ -143,7 +144,8 @@ acknowledgement_placed m = placed_at m.transfer m.acknowledged
 pub acknowledgement_found : (m : Acknowledgement) → acknowledgement_nth (acknowledgement_place m) ≡ m
 acknowledgement_found m = found_at m.transfer m.acknowledged
   where
-    found_at : (p : Pending) (b : Bool) → acknowledgement_nth (if b then 4 + pending_place p else pending_place p)
+    found_at : (p : TransferPhase) (b : Bool) → acknowledgement_nth
+        (if b then 4 + transfer_phase_place p else transfer_phase_place p)
         ≡ record { transfer = p; acknowledged = b }
     found_at Closed true = refl
     found_at Reading true = refl

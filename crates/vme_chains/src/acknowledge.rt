@@ -11,46 +11,47 @@ ghost use Rattle.vme_chains.specs.AcknowledgeRules.{changes_memory as changes_me
 ghost use Rattle.vme_chains.specs.AcknowledgeRules.{changes_strobes as changes_strobes_of, fault_among, first_changed};
 ghost use Rattle.vme_chains.specs.AcknowledgeRules.{is_acknowledged, is_addressed as addressed_near};
 ghost use Rattle.vme_chains.specs.AcknowledgeRules.{is_strobed as strobed_near, memory_after};
-ghost use Rattle.vme_chains.specs.AcknowledgeRules.{passes_on as passes, passes_unasked, pending_nth, pending_place};
+ghost use Rattle.vme_chains.specs.AcknowledgeRules.{passes_on as passes, passes_unasked, transfer_phase_nth};
+ghost use Rattle.vme_chains.specs.AcknowledgeRules.{transfer_phase_place};
 
 use vme_monitor::machine::{Enumerable, Small};
 use vme_monitor::mark::{Fault, NOTHING, Next, StepMarks};
 use vme_monitor::monitor::Monitor;
 use vme_monitor::over_stretches::{RuleMonitor, Rules};
-use vme_monitor::tracking::Pending;
+use vme_monitor::tracking::TransferPhase;
 use vme_trace::edges::{answer_falls, falls, has_strobe_low, has_strobes_high, is_low_near};
 use vme_trace::{Change, Line, Lines, Rule};
 
 /// What the transfer is doing, and whether AS* is low and a transfer of the cycle was answered by DTACK*.
 #[derive(Clone, Copy, PartialEq, Eq, Debug)]
 pub struct Acknowledgement {
-    pub transfer: Pending,
+    pub transfer: TransferPhase,
     pub acknowledged: bool,
 }
 
-fn transfer_place(transfer: Pending) -> usize
-    ensures place { result ≡ pending_place transfer }
+fn transfer_place(transfer: TransferPhase) -> usize
+    ensures place { result ≡ transfer_phase_place transfer }
     ensures few { result < 4 }
 {
     match transfer {
-        Pending::Closed => 0,
-        Pending::Reading => 1,
-        Pending::Writing => 2,
-        Pending::Answered => 3,
+        TransferPhase::Closed => 0,
+        TransferPhase::Reading => 1,
+        TransferPhase::Writing => 2,
+        TransferPhase::Answered => 3,
     }
 }
 
-fn nth_transfer(k: usize) -> Pending
-    ensures { result ≡ pending_nth k }
+fn nth_transfer(k: usize) -> TransferPhase
+    ensures { result ≡ transfer_phase_nth k }
 {
     if k == 0 {
-        Pending::Closed
+        TransferPhase::Closed
     } else if k == 1 {
-        Pending::Reading
+        TransferPhase::Reading
     } else if k == 2 {
-        Pending::Writing
+        TransferPhase::Writing
     } else {
-        Pending::Answered
+        TransferPhase::Answered
     }
 }
 
@@ -233,13 +234,13 @@ fn is_addressed(before: &Lines, after: &Lines) -> bool
 
 /// Whether a transfer is answered by DTACK*.
 #[inline(always)]
-fn acknowledges(transfer: Pending, before: &Lines, after: &Lines) -> bool
+fn acknowledges(transfer: TransferPhase, before: &Lines, after: &Lines) -> bool
     ensures { result ≡ is_acknowledged transfer before.now after.now }
 {
     falls(before, after, Line::DTACK)
         && matches!(
             transfer.entered(before, after),
-            Pending::Reading | Pending::Writing
+            TransferPhase::Reading | TransferPhase::Writing
         )
 }
 
@@ -303,7 +304,7 @@ impl Rules for AcknowledgeRules {
 
     fn at_start(_lines: &Lines) -> Acknowledgement {
         Acknowledgement {
-            transfer: Pending::Closed,
+            transfer: TransferPhase::Closed,
             acknowledged: false,
         }
     }

@@ -18,14 +18,14 @@ use Rattle.vme_trace.specs.declared.rule.Rule.TheVariants.{C1, C2, I4, I5}
 use Rattle.vme_trace.proofs.OpenTransfers.{ReadsStrobes}
 use Rattle.vme_monitor.specs.Run.{break_at}
 use Rattle.vme_monitor.specs.Tracking.{entered, is_unanswered, is_writing}
-use Rattle.vme_monitor.specs.declared.tracking.Pending.{Pending}
-use Rattle.vme_monitor.specs.declared.tracking.Pending.TheVariants.{Closed, Reading, Writing, Answered}
+use Rattle.vme_monitor.specs.declared.tracking.TransferPhase.{TransferPhase}
+use Rattle.vme_monitor.specs.declared.tracking.TransferPhase.TheVariants.{Closed, Reading, Writing, Answered}
 use Rattle.vme_monitor.proofs.TrackedTransfers.{answers_write_is}
 use Rattle.vme_dtb.specs.CycleState.{cycle_entered, is_interrupt_acknowledge, is_answered_interrupt_acknowledge}
 use Rattle.vme_dtb.specs.CycleState.{is_read_modify_write_broken, is_direction_changed}
 use Rattle.vme_dtb.specs.Edge.{cycle_start_of, edges_between}
 use Rattle.vme_dtb.specs.Machine.{answer_in, broken, cycle_faults, cycle_rules}
-use Rattle.vme_dtb.specs.declared.cycle.Cycle.{Cycle}
+use Rattle.vme_dtb.specs.declared.cycle.CyclePhase.{CyclePhase}
 use Rattle.vme_dtb.specs.declared.edges.Edges.{Edges}
 use Rattle.vme_dtb.specs.declared.memory.HandshakeMemory.{HandshakeMemory}
 use Rattle.vme_dtb.proofs.Faults.{AreOf}
@@ -54,7 +54,7 @@ by_direction f false true (Some l) = nowhere (f true)
 by_direction f false false (Some l) = nowhere (f false)
 
 -- what the answer of a write breaks
-by_write : (e : Pending) (x : Bool) (o : Option ℕ) → cond ((is_writing e && is_some o) && x) o None
+by_write : (e : TransferPhase) (x : Bool) (o : Option ℕ) → cond ((is_writing e && is_some o) && x) o None
     ≡ cond (x && is_writing e) (cond (is_unanswered e) o None) None
 by_write Closed true o = refl
 by_write Closed false o = refl
@@ -72,11 +72,11 @@ module _ (t : Trace) (span : Stretch) (reads : ReadsStrobes t span) (n : ℕ) (f
   abbrev seen : Edges
   seen = edges_between (old t n) (new t n)
 
-  abbrev within : Pending
-  within = entered m.pending (old t n) (new t n)
+  abbrev within : TransferPhase
+  within = entered m.transfer (old t n) (new t n)
 
   -- the cycle in which the next instant is
-  abbrev here : Cycle
+  abbrev here : CyclePhase
   here = cycle_entered m.cycle seen.shown.cycle
 
   pub cycle_starts_is : cycle_starts t span (suc n) ≡ falls_between (old t n) (new t n) AS
@@ -89,7 +89,7 @@ module _ (t : Trace) (span : Stretch) (reads : ReadsStrobes t span) (n : ℕ) (f
       ∙ same_entered _ _ (cycle_starts t span (suc n)) (falls_between (old t n) (new t n) AS) (sym holds.cycle)
       cycle_starts_is
     where
-      same_entered : (c d : Cycle) (a b : Bool) → c ≡ d → a ≡ b
+      same_entered : (c d : CyclePhase) (a b : Bool) → c ≡ d → a ≡ b
           → cycle_entered c (cond a (Some (cycle_start_of (new t n)))
           None) ≡ cycle_entered d (cond b (Some (cycle_start_of (new t n))) None)
       same_entered c d a b e f = rw (e, f) refl
@@ -97,12 +97,12 @@ module _ (t : Trace) (span : Stretch) (reads : ReadsStrobes t span) (n : ℕ) (f
   -- the answer of a write, by the state of the transfer
   pub write_is : answers_write t span (suc n) ≡ (is_writing within && is_some seen.answer_fall)
   write_is =
-      answers_write_is t span reads n from before m.pending holds.transfer
+      answers_write_is t span reads n from before m.transfer holds.transfer
       ∙ ap (λ b. is_writing within && b) (some_of (falls_between (old t n) (new t n) DTACK)
       (falls_between (old t n) (new t n) BERR) DTACK BERR)
 
   -- a rule of answers whose cycle the direction spoils
-  from_cycle : (r : Rule) (x : Bool) (f : Cycle → Bool → Bool)
+  from_cycle : (r : Rule) (x : Bool) (f : CyclePhase → Bool → Bool)
       → ((l : ℕ) → breaks t span r (suc n) l ≡ (is_judged span (suc n) && has_line t.opening.slots l
       && (is_answer_line l && falls t l (suc n) && (is_answer t span (suc n) && x))))
       → x ≡ f (cycle_before t span (suc n)) (answers_write t span (suc n))
@@ -119,7 +119,7 @@ module _ (t : Trace) (span : Stretch) (reads : ReadsStrobes t span) (n : ℕ) (f
       same_and : (a b c d : Bool) → a ≡ c → b ≡ d → (a && b) ≡ (c && d)
       same_and a b c d e f = rw (e, f) refl
 
-      same_test : (c : Cycle) (w : Bool) → c ≡ here → w ≡ (is_writing within && is_some seen.answer_fall) → f c w
+      same_test : (c : CyclePhase) (w : Bool) → c ≡ here → w ≡ (is_writing within && is_some seen.answer_fall) → f c w
           ≡ f here (is_writing within && is_some seen.answer_fall)
       same_test c w e g = rw (e, g) refl
 

@@ -16,14 +16,15 @@ use Rattle.vme_dtb.specs.CycleState.{unanswered_of, cycle_entered, after_answer,
 use Rattle.vme_dtb.specs.CycleState.{is_direction_changed}
 use Rattle.vme_dtb.specs.CycleState.{is_interrupt_acknowledge, is_answered_interrupt_acknowledge}
 use Rattle.vme_dtb.specs.Edge.{cycle_start_of}
-use Rattle.vme_dtb.specs.declared.cycle.Cycle.{Cycle}
-use Rattle.vme_dtb.specs.declared.cycle.Cycle.TheVariants.{Free, Single, SingleRead, SingleDone, Block, BlockReading}
-use Rattle.vme_dtb.specs.declared.cycle.Cycle.TheVariants.{BlockWriting, Interrupt, InterruptDone}
+use Rattle.vme_dtb.specs.declared.cycle.CyclePhase.{CyclePhase}
+use Rattle.vme_dtb.specs.declared.cycle.CyclePhase.TheVariants.{Free, Single, SingleRead, SingleDone, Block}
+use Rattle.vme_dtb.specs.declared.cycle.CyclePhase.TheVariants.{BlockReading}
+use Rattle.vme_dtb.specs.declared.cycle.CyclePhase.TheVariants.{BlockWriting, Interrupt, InterruptDone}
 use Rattle.vme_dtb.proofs.Searches.{greatest_more, greatest_before, greatest_within, those_before, those_more}
 
 module _ (t : Trace) (span : Stretch) where
   -- a cycle of the class with these answers
-  abbrev pub told : Class → List ℕ → Cycle
+  abbrev pub told : Class → List ℕ → CyclePhase
   told class.F rs = Free
   told class.S [] = Single
   told class.S (r ∷ []) = cond (answers_write t span r) SingleDone SingleRead
@@ -34,16 +35,16 @@ module _ (t : Trace) (span : Stretch) where
   told class.I (r ∷ rs) = InterruptDone
 
   -- the cycle that starts at an instant, by its answers before n
-  abbrev pub told_of : Option ℕ → ℕ → Cycle
+  abbrev pub told_of : Option ℕ → ℕ → CyclePhase
   told_of None n = Free
   told_of (Some i) n = told (class_at t span i) (answers_of t span i n)
 
   -- the cycle to which an answer at j belongs, by the answers before j
-  abbrev pub cycle_before : ℕ → Cycle
+  abbrev pub cycle_before : ℕ → CyclePhase
   cycle_before j = told_of (cycle_of t span j) j
 
   -- the same with an answer at j
-  abbrev pub cycle_after : ℕ → Cycle
+  abbrev pub cycle_after : ℕ → CyclePhase
   cycle_after j = told_of (cycle_of t span j) (suc j)
 
   told_none : (c : Class) → told c [] ≡ unanswered_of c

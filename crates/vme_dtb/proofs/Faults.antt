@@ -10,7 +10,7 @@ use Rattle.vme_monitor.specs.declared.mark.Fault.{Fault}
 use Rattle.vme_dtb.specs.CycleState.{is_interrupt_acknowledge, is_answered_interrupt_acknowledge}
 use Rattle.vme_dtb.specs.CycleState.{is_read_modify_write_broken, is_direction_changed}
 use Rattle.vme_dtb.specs.Machine.{broken, cycle_fault, cycle_faults, first_of_faults, or_first}
-use Rattle.vme_dtb.specs.declared.cycle.Cycle.{Cycle}
+use Rattle.vme_dtb.specs.declared.cycle.CyclePhase.{CyclePhase}
 
 -- what names no line breaks no rule, nor does what doesn't apply
 pub unnamed : (r : Rule) (applies : Bool) → broken r applies None ≡ None
@@ -30,7 +30,7 @@ none-first [] h = refl
 none-first (f ∷ fs) h = ap (λ (o : Option Fault). or_first o fs) h.0 ∙ none-first fs h.1
 
 -- no rule of a cycle is broken where there is no answer
-pub unanswered : (c : Cycle) (w : Bool) → None ≡ cycle_fault c w None
+pub unanswered : (c : CyclePhase) (w : Bool) → None ≡ cycle_fault c w None
 unanswered c w =
     sym (none-first (cycle_faults c w None) (
       unnamed C1 (is_read_modify_write_broken c w),

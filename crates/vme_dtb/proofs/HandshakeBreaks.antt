@@ -16,7 +16,7 @@ use Rattle.vme_trace.specs.declared.rule.Rule.TheVariants.{H1, H2, H3, H4, H5, H
 use Rattle.vme_trace.proofs.OpenTransfers.{ReadsStrobes}
 use Rattle.vme_monitor.specs.Run.{break_at}
 use Rattle.vme_monitor.specs.Tracking.{entered, is_unanswered, is_within}
-use Rattle.vme_monitor.specs.declared.tracking.Pending.{Pending}
+use Rattle.vme_monitor.specs.declared.tracking.TransferPhase.{TransferPhase}
 use Rattle.vme_monitor.proofs.TrackedTransfers.{in_transfer_is, is_answer_is}
 use Rattle.vme_dtb.specs.Edge.{edges_between}
 use Rattle.vme_dtb.specs.Machine.{answer_in, broken, early_rise, may_rise, is_doubled, is_replied, is_left_unanswered}
@@ -61,8 +61,8 @@ module _ (t : Trace) (span : Stretch) (reads : ReadsStrobes t span) (n : ℕ) (f
   abbrev seen : Edges
   seen = edges_between (old t n) (new t n)
 
-  abbrev within : Pending
-  within = entered m.pending (old t n) (new t n)
+  abbrev within : TransferPhase
+  within = entered m.transfer (old t n) (new t n)
 
   -- a rule, by the tests that it is of
   form_1 : (l : ℕ) → breaks t span H1 (suc n) l ≡ (is_judged span (suc n) && has_line t.opening.slots l
@@ -82,9 +82,9 @@ module _ (t : Trace) (span : Stretch) (reads : ReadsStrobes t span) (n : ℕ) (f
   abbrev left_unanswered_at : ℕ → Bool
   left_unanswered_at i = nat_lt i (suc n) && not (is_answered t span i (suc n + 1))
 
-  left_unanswered : in_transfer t span left_unanswered_at (suc n) ≡ is_left_unanswered m.pending seen
-  left_unanswered = left_unanswered_is t span reads n from before m.pending holds.transfer
-      ∙ ap (λ b. is_unanswered m.pending
+  left_unanswered : in_transfer t span left_unanswered_at (suc n) ≡ is_left_unanswered m.transfer seen
+  left_unanswered = left_unanswered_is t span reads n from before m.transfer holds.transfer
+      ∙ ap (λ b. is_unanswered m.transfer
       && not b) (answer_falls_is t n)
 
   form_2 : (l : ℕ) → breaks t span H2 (suc n) l ≡ (is_judged span (suc n) && has_line t.opening.slots l
@@ -93,10 +93,10 @@ module _ (t : Trace) (span : Stretch) (reads : ReadsStrobes t span) (n : ℕ) (f
   form_2 l = refl
 
   h2 : option_map (break_at (suc n) (time_at t (suc n)))
-      (broken H2 (is_left_unanswered m.pending seen) seen.strobe_rise)
+      (broken H2 (is_left_unanswered m.transfer seen) seen.strobe_rise)
       ≡ rule_break t span (suc n) H2
   h2 =
-      rule_from t n span from before H2 (is_left_unanswered m.pending seen) seen.strobe_rise
+      rule_from t n span from before H2 (is_left_unanswered m.transfer seen) seen.strobe_rise
       (on_strobes t n span from before H2 (λ l. rises t l (suc n)) (in_transfer t span left_unanswered_at (suc n))
       form_2
       ∙ same_cond _ _ _ _ left_unanswered (strobe_rise_is t n))
@@ -109,12 +109,12 @@ module _ (t : Trace) (span : Stretch) (reads : ReadsStrobes t span) (n : ℕ) (f
   unfolding breaks is_broken
   form_3 l = refl
 
-  h3 : option_map (break_at (suc n) (time_at t (suc n))) (broken H3 (is_replied m.pending) seen.strobe_fall)
+  h3 : option_map (break_at (suc n) (time_at t (suc n))) (broken H3 (is_replied m.transfer) seen.strobe_fall)
       ≡ rule_break t span (suc n) H3
   h3 =
-      rule_from t n span from before H3 (is_replied m.pending) seen.strobe_fall
+      rule_from t n span from before H3 (is_replied m.transfer) seen.strobe_fall
       (on_strobes t n span from before H3 (λ l. falls t l (suc n)) (in_transfer t span replied_at (suc n)) form_3
-      ∙ same_cond _ _ _ _ (replied_is t span reads n from before m.pending holds.transfer) (strobe_fall_is t n))
+      ∙ same_cond _ _ _ _ (replied_is t span reads n from before m.transfer holds.transfer) (strobe_fall_is t n))
 
   form_4 : (l : ℕ) → breaks t span H4 (suc n) l ≡ (is_judged span (suc n) && has_line t.opening.slots l
       && (is_answer_line l && falls t l (suc n) && not (in_transfer t span (λ i. true) (suc n))))
@@ -126,7 +126,7 @@ module _ (t : Trace) (span : Stretch) (reads : ReadsStrobes t span) (n : ℕ) (f
   h4 =
       rule_from t n span from before H4 (not (is_within within)) seen.answer_fall
       (on_answers t n span from before H4 (λ l. falls t l (suc n)) (not (in_transfer t span (λ i. true) (suc n))) form_4
-      ∙ same_cond _ _ _ _ (ap not (in_transfer_is t span reads n from before m.pending holds.transfer))
+      ∙ same_cond _ _ _ _ (ap not (in_transfer_is t span reads n from before m.transfer holds.transfer))
       (answer_fall_is t n))
 
   abbrev twice_at : ℕ → Bool
@@ -140,7 +140,7 @@ module _ (t : Trace) (span : Stretch) (reads : ReadsStrobes t span) (n : ℕ) (f
 
   doubled : in_transfer t span twice_at (suc n) ≡ is_doubled within seen
   doubled =
-      doubled_is t span reads n from before m.pending holds.transfer
+      doubled_is t span reads n from before m.transfer holds.transfer
       ∙ same_both (falls t DTACK (suc n)) (falls t BERR (suc n)) (falls_between (old t n) (new t n) DTACK)
       (falls_between (old t n) (new t n) BERR) (falls_is t n DTACK) (falls_is t n BERR)
     where
@@ -197,14 +197,14 @@ module _ (t : Trace) (span : Stretch) (reads : ReadsStrobes t span) (n : ℕ) (f
   form_7 l = refl
 
   h7 : option_map (break_at (suc n) (time_at t (suc n)))
-      (broken H7 (is_left_unanswered m.pending seen && seen.shown.cycle_end)
+      (broken H7 (is_left_unanswered m.transfer seen && seen.shown.cycle_end)
       (Some AS)) ≡ rule_break t span (suc n) H7
   h7 =
-      rule_from t n span from before H7 (is_left_unanswered m.pending seen && seen.shown.cycle_end) (Some AS)
+      rule_from t n span from before H7 (is_left_unanswered m.transfer seen && seen.shown.cycle_end) (Some AS)
       (on_address t n span from before H7 (λ l. rises t l (suc n)) (in_transfer t span left_unanswered_at (suc n))
       form_7
       ∙ ap (λ b. cond b (Some AS) None) (swapped (rises t AS (suc n)) (in_transfer t span left_unanswered_at (suc n))
-      (rises_between (old t n) (new t n) AS) (is_left_unanswered m.pending seen) (rises_is t n AS) left_unanswered))
+      (rises_between (old t n) (new t n) AS) (is_left_unanswered m.transfer seen) (rises_is t n AS) left_unanswered))
     where
       swap : (a b : Bool) → (a && b) ≡ (b && a)
       swap true true = refl
@@ -218,7 +218,7 @@ module _ (t : Trace) (span : Stretch) (reads : ReadsStrobes t span) (n : ℕ) (f
   -- an answer, by the state of the transfer
   pub answer_is : is_answer t span (suc n) ≡ (is_unanswered within && is_some seen.answer_fall)
   answer_is =
-      is_answer_is t span reads n from before m.pending holds.transfer
+      is_answer_is t span reads n from before m.transfer holds.transfer
       ∙ ap (λ b. is_unanswered within && b) (some_of (falls_between (old t n) (new t n) DTACK)
       (falls_between (old t n) (new t n) BERR) DTACK BERR)
 

@@ -13,14 +13,14 @@ use Rattle.vme_monitor.specs.Along.{changes_of, memory_from}
 use Rattle.vme_monitor.specs.Run.{machine_step}
 use Rattle.vme_monitor.specs.Tracking.{entered, is_unanswered, is_writing}
 use Rattle.vme_monitor.specs.declared.mark.Next.{Next}
-use Rattle.vme_monitor.specs.declared.tracking.Pending.{Pending}
+use Rattle.vme_monitor.specs.declared.tracking.TransferPhase.{TransferPhase}
 use Rattle.vme_monitor.proofs.SpanFacts.{IsSpan}
 use Rattle.vme_monitor.proofs.Alongside.{memory_early}
 use Rattle.vme_monitor.proofs.TrackedTransfers.{says_start, tracked_is}
 use Rattle.vme_dtb.specs.CycleState.{after_answer, cycle_entered}
 use Rattle.vme_dtb.specs.Edge.{edges_between}
 use Rattle.vme_dtb.specs.Machine.{answer_in, dtb_begin, dtb_observation, dtb_step, may_rise, memory_after}
-use Rattle.vme_dtb.specs.declared.cycle.Cycle.{Cycle}
+use Rattle.vme_dtb.specs.declared.cycle.CyclePhase.{CyclePhase}
 use Rattle.vme_dtb.specs.declared.edges.Edges.{Edges}
 use Rattle.vme_dtb.specs.declared.memory.HandshakeMemory.{HandshakeMemory}
 use Rattle.vme_dtb.proofs.CycleBreaks.{here_is, write_is}
@@ -46,7 +46,7 @@ idle_line v l below idle = true_of_not _ (any-fails (λ k. not (is_idle_on v k))
     (omega arith) below)
 
 -- an answer counts where an answer line falls
-counted : (u w : Bool) (o : Option ℕ) (c : Cycle) → cond (u && is_some o) (after_answer c (w && is_some o)) c
+counted : (u w : Bool) (o : Option ℕ) (c : CyclePhase) → cond (u && is_some o) (after_answer c (w && is_some o)) c
     ≡ cond (is_some (cond u o None)) (after_answer c w) c
 counted true true None c = refl
 counted true true (Some l) c = refl
@@ -72,10 +72,10 @@ module _ (t : Trace) (span : Stretch) (facts : IsSpan t span) where
       abbrev seen : Edges
       seen = edges_between (old t n) (new t n)
 
-      abbrev within : Pending
-      within = entered m.pending (old t n) (new t n)
+      abbrev within : TransferPhase
+      within = entered m.transfer (old t n) (new t n)
 
-      abbrev here : Cycle
+      abbrev here : CyclePhase
       here = cycle_entered m.cycle seen.shown.cycle
 
       cycle_next : cond (is_some (answer_in within seen)) (after_answer here (is_writing within)) here
@@ -90,7 +90,8 @@ module _ (t : Trace) (span : Stretch) (facts : IsSpan t span) where
           (write_is t span facts.reads n from before m holds)
           ∙ counted (is_unanswered within) (is_writing within) seen.answer_fall here)
         where
-          same_counted : (a b : Bool) (c d : Cycle) (w x : Bool) → a ≡ b → c ≡ d → w ≡ x → cond a (after_answer c w) c
+          same_counted : (a b : Bool) (c d : CyclePhase) (w x : Bool) → a ≡ b → c ≡ d → w ≡ x
+              → cond a (after_answer c w) c
               ≡ cond b (after_answer d x) d
           same_counted a b c d w x e f g = rw (e, f, g) refl
 
@@ -108,7 +109,7 @@ module _ (t : Trace) (span : Stretch) (facts : IsSpan t span) where
       pub holds_next : Holds t span (suc n) (memory_after m (old t n) (new t n) (edges_between (old t n) (new t n)))
       holds_next =
           record {
-            transfer = tracked_is t span facts.reads n from before m.pending holds.transfer;
+            transfer = tracked_is t span facts.reads n from before m.transfer holds.transfer;
             cycle = cycle_next;
             dtack = may_rise_next DTACK m.dtack_may_rise holds.dtack
                 (facts.known n 3 from (omega (arith, before)) (lit< tt)

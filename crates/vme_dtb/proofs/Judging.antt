@@ -22,15 +22,15 @@ use Rattle.vme_trace.proofs.Ranges.{fails-any}
 use Rattle.vme_monitor.specs.Along.{changes_of, next_at}
 use Rattle.vme_monitor.specs.Run.{break_at, machine_step, nothing, run_of}
 use Rattle.vme_monitor.specs.OverStretches.{observed, phase_step, start_in}
-use Rattle.vme_monitor.specs.Tracked.{SaysPending}
+use Rattle.vme_monitor.specs.Tracked.{IsTransferPhase}
 use Rattle.vme_monitor.specs.Tracking.{entered, is_unanswered, is_within, is_writing}
 use Rattle.vme_monitor.specs.Whole.{FindsLeast, ShowsAll}
 use Rattle.vme_monitor.specs.declared.mark.TransferAnswer.{TransferAnswer as Answer}
 use Rattle.vme_monitor.specs.declared.mark.CycleStart.{CycleStart}
 use Rattle.vme_monitor.specs.declared.mark.Fault.{Fault}
 use Rattle.vme_monitor.specs.declared.mark.Next.{Next}
-use Rattle.vme_monitor.specs.declared.tracking.Pending.{Pending}
-use Rattle.vme_monitor.specs.declared.tracking.Pending.TheVariants.{Closed, Reading, Writing, Answered}
+use Rattle.vme_monitor.specs.declared.tracking.TransferPhase.{TransferPhase}
+use Rattle.vme_monitor.specs.declared.tracking.TransferPhase.TheVariants.{Closed, Reading, Writing, Answered}
 use Rattle.vme_monitor.proofs.LeastLines.{least_answer}
 use Rattle.vme_monitor.proofs.OwnRules.{own_first_break, own_marks}
 use Rattle.vme_monitor.proofs.SpanFacts.{IsSpan}
@@ -38,7 +38,7 @@ use Rattle.vme_dtb.specs.Edge.{cycle_start_of, edges_between}
 use Rattle.vme_dtb.specs.Machine.{answer_in, answered_in, cycle_faults, cycle_rules, dtb_begin, dtb_end_fault, dtb_next}
 use Rattle.vme_dtb.specs.Machine.{dtb_start_marks, dtb_observation, dtb_step, fault_in, handshake_rules, strobe_faults}
 use Rattle.vme_dtb.specs.Machine.{strobe_rules}
-use Rattle.vme_dtb.specs.declared.cycle.Cycle.{Cycle}
+use Rattle.vme_dtb.specs.declared.cycle.CyclePhase.{CyclePhase}
 use Rattle.vme_dtb.specs.CycleState.{cycle_entered}
 use Rattle.vme_dtb.specs.Shown.{answer_line, answered, closes, handshake_shown}
 use Rattle.vme_dtb.specs.declared.edges.Edges.{Edges}
@@ -62,7 +62,7 @@ abbrev told : Option Lanes → Option ℕ → Option Answer
 told d o = option_map (λ l. record { line = l; lanes = d }) o
 
 -- an answer of a write is one that falls
-told_by_write : (e : Pending) (o : Option ℕ) (d : Lanes) → told (cond (is_writing e && is_some o) (Some d) None)
+told_by_write : (e : TransferPhase) (o : Option ℕ) (d : Lanes) → told (cond (is_writing e && is_some o) (Some d) None)
     (cond (is_unanswered e) o None) ≡ told (cond (is_writing e) (Some d) None) (cond (is_unanswered e) o None)
 told_by_write Closed o d = refl
 told_by_write Reading o d = refl
@@ -75,10 +75,10 @@ module _ (t : Trace) (span : Stretch) (facts : IsSpan t span) (n : ℕ) (from : 
   abbrev seen : Edges
   seen = edges_between (old t n) (new t n)
 
-  abbrev within : Pending
-  within = entered m.pending (old t n) (new t n)
+  abbrev within : TransferPhase
+  within = entered m.transfer (old t n) (new t n)
 
-  abbrev here : Cycle
+  abbrev here : CyclePhase
   here = cycle_entered m.cycle seen.shown.cycle
 
   -- what the machine finds broken is the first rule that is
@@ -131,7 +131,7 @@ module _ (t : Trace) (span : Stretch) (facts : IsSpan t span) (n : ℕ) (from : 
           ≡ told (cond b (Some e) None) q
       same_told a b d e o q x y z = rw (x, y, z) refl
 
-  open_unless : (p : Pending) → SaysPending t span n p → is_within p ≡ not (strobes_high t n)
+  open_unless : (p : TransferPhase) → IsTransferPhase t span n p → is_within p ≡ not (strobes_high t n)
   open_unless Closed h = rw h refl
   open_unless Reading o = rw (o.1.still n o.1.within (omega arith)) refl
   open_unless Writing o = rw (o.1.still n o.1.within (omega arith)) refl
@@ -139,8 +139,8 @@ module _ (t : Trace) (span : Stretch) (facts : IsSpan t span) (n : ℕ) (from : 
 
   closes_is : closes t span (suc n) ≡ (strobes_high_in (new t n) && not (strobes_high_in (old t n)))
   unfolding closes high
-  closes_is = ap (λ b. strobes_high t (suc n) && b) (started_is t span facts.reads n from before m.pending
-      holds.transfer ∙ open_unless m.pending holds.transfer)
+  closes_is = ap (λ b. strobes_high t (suc n) && b) (started_is t span facts.reads n from before m.transfer
+      holds.transfer ∙ open_unless m.transfer holds.transfer)
 
   cycle_end_is : (is_judged span (suc n) && rises t AS (suc n)) ≡ rises_between (old t n) (new t n) AS
   cycle_end_is = rw (judged t n span from before, rises_is t n AS) refl

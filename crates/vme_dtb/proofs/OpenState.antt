@@ -12,10 +12,10 @@ use Rattle.vme_trace.specs.Transfers.{in_transfer}
 use Rattle.vme_trace.proofs.Ranges.{any-fails, fails-any, clash}
 use Rattle.vme_trace.proofs.OpenTransfers.{suc-sub-one, is_judged-holds, ReadsStrobes, in_transfer-is}
 use Rattle.vme_trace.proofs.OpenTransfers.{in_transfer-levels}
-use Rattle.vme_monitor.specs.Tracked.{StaysOpen, SaysPending}
+use Rattle.vme_monitor.specs.Tracked.{StaysOpen, IsTransferPhase}
 use Rattle.vme_monitor.specs.Tracking.{is_unanswered, is_within}
-use Rattle.vme_monitor.specs.declared.tracking.Pending.{Pending}
-use Rattle.vme_monitor.specs.declared.tracking.Pending.TheVariants.{Closed, Reading, Writing, Answered}
+use Rattle.vme_monitor.specs.declared.tracking.TransferPhase.{TransferPhase}
+use Rattle.vme_monitor.specs.declared.tracking.TransferPhase.TheVariants.{Closed, Reading, Writing, Answered}
 use Rattle.vme_monitor.proofs.TrackedTransfers.{IsIn, Enters, entered_is}
 use Rattle.vme_monitor.specs.Tracking.{entered}
 use Rattle.vme_trace.specs.Trace.{levels_at}
@@ -71,7 +71,7 @@ module _ (t : Trace) (span : Stretch) (reads : ReadsStrobes t span) (n : ℕ) (f
   in_one : (p : ℕ → Bool) (i : ℕ) (w a : Bool) → IsIn t span (suc n) i w a → in_transfer t span p (suc n) ≡ p i
   in_one p i w a o = in_transfer-is t span p i (suc n) o.later o.within o.starts o.last
 
-  closed_by : (p : ℕ → Bool) (e : Pending) → Enters t span (suc n) e → strobes_high t n ≡ true → p (suc n) ≡ false
+  closed_by : (p : ℕ → Bool) (e : TransferPhase) → Enters t span (suc n) e → strobes_high t n ≡ true → p (suc n) ≡ false
       → in_transfer t span p (suc n) ≡ false
   closed_by p Closed o high_before fails = none_in p high_before o.1
   closed_by p Reading o high_before fails = in_one p o.0 false false o.1
@@ -98,7 +98,7 @@ module _ (t : Trace) (span : Stretch) (reads : ReadsStrobes t span) (n : ℕ) (f
   not_yet b = rw (lt_fails (suc n) (suc n) (omega arith)) refl
 
   -- a transfer that started before stays without an answer
-  pub left_unanswered_is : (m : Pending) → SaysPending t span n m → in_transfer t span (λ i. nat_lt i (suc n)
+  pub left_unanswered_is : (m : TransferPhase) → IsTransferPhase t span n m → in_transfer t span (λ i. nat_lt i (suc n)
       && not (is_answered t span i (suc n + 1))) (suc n) ≡ (is_unanswered m && not (answer_falls t (suc n)))
   left_unanswered_is Closed high_before = closed_is (λ i. nat_lt i (suc n) && not (is_answered t span i (suc n + 1)))
       high_before (not_yet (not (is_answered t span (suc n) (suc n + 1))))
@@ -113,7 +113,7 @@ module _ (t : Trace) (span : Stretch) (reads : ReadsStrobes t span) (n : ℕ) (f
       ∙ rw (lt_holds o.0 (suc n) (omega (arith, o.2.within)), open_answered o.0 o.1 true o.2) refl
 
   -- a transfer that started before has its answer
-  pub replied_is : (m : Pending) → SaysPending t span n m → in_transfer t span (λ i. nat_lt i (suc n)
+  pub replied_is : (m : TransferPhase) → IsTransferPhase t span n m → in_transfer t span (λ i. nat_lt i (suc n)
       && is_answered t span i (suc n)) (suc n) ≡ is_replied m
   replied_is Closed high_before = closed_is (λ i. nat_lt i (suc n) && is_answered t span i (suc n)) high_before
       (not_yet (is_answered t span (suc n) (suc n)))
@@ -125,7 +125,7 @@ module _ (t : Trace) (span : Stretch) (reads : ReadsStrobes t span) (n : ℕ) (f
       ∙ rw (lt_holds o.0 (suc n) (omega (arith, o.2.within)), o.2.reply) refl
 
   -- a transfer that started before is open
-  pub started_is : (m : Pending) → SaysPending t span n m → in_transfer t span (λ i. nat_lt i (suc n)) (suc n)
+  pub started_is : (m : TransferPhase) → IsTransferPhase t span n m → in_transfer t span (λ i. nat_lt i (suc n)) (suc n)
       ≡ is_within m
   started_is Closed high_before = closed_is (λ i. nat_lt i (suc n)) high_before (lt_fails (suc n) (suc n) (omega arith))
   started_is Reading o = open_is (λ i. nat_lt i (suc n)) o.0 false false o.1 ∙ lt_holds o.0 (suc n)
@@ -144,7 +144,7 @@ module _ (t : Trace) (span : Stretch) (reads : ReadsStrobes t span) (n : ℕ) (f
   unfolding answers
   twice_one i w o = rw (o.last, o.reply) (both_alone (falls t DTACK (suc n)) (falls t BERR (suc n)))
 
-  doubled_by : (e : Pending) → Enters t span (suc n) e → in_transfer t span answered_twice (suc n)
+  doubled_by : (e : TransferPhase) → Enters t span (suc n) e → in_transfer t span answered_twice (suc n)
       ≡ (is_replied e || (is_unanswered e && (falls t DTACK (suc n) && falls t BERR (suc n))))
   doubled_by Closed o = none_in answered_twice (ap (strobes_high t) (sym (suc-sub-one n)) ∙ o.0) o.1
   doubled_by Reading o = in_one answered_twice o.0 false false o.1 ∙ twice_one o.0 false o.1
@@ -152,7 +152,8 @@ module _ (t : Trace) (span : Stretch) (reads : ReadsStrobes t span) (n : ℕ) (f
   doubled_by Answered o = in_one answered_twice o.0 o.1 true o.2 ∙ rw o.2.reply refl
 
   -- it is answered again, or by both lines
-  pub doubled_is : (m : Pending) → SaysPending t span n m → let e = entered m (levels_at t n) (levels_at t (suc n)) in
+  pub doubled_is : (m : TransferPhase) → IsTransferPhase t span n m → let e = entered m (levels_at t n)
+      (levels_at t (suc n)) in
       in_transfer t span answered_twice (suc n)
       ≡ (is_replied e || (is_unanswered e && (falls t DTACK (suc n) && falls t BERR (suc n))))
   doubled_is m says = doubled_by (entered m (levels_at t n) (levels_at t (suc n)))

@@ -15,20 +15,20 @@ use Rattle.vme_trace.specs.declared.level.Level.TheVariants.{Low, High, Unknown}
 use Rattle.vme_trace.specs.declared.rule.Rule.TheVariants.{H2, H3, H4, H5, H7, H8}
 use Rattle.vme_trace.specs.declared.step.Change.{Change}
 use Rattle.vme_monitor.specs.Run.{machine_step, nothing, quiet}
-use Rattle.vme_monitor.specs.Tracked.{SaysPending}
+use Rattle.vme_monitor.specs.Tracked.{IsTransferPhase}
 use Rattle.vme_monitor.specs.Tracking.{answered_by, entered, is_unanswered, is_within, is_writing, tracked}
 use Rattle.vme_monitor.specs.declared.mark.TransferAnswer.{TransferAnswer as Answer}
 use Rattle.vme_monitor.specs.declared.mark.CycleStart.{CycleStart}
 use Rattle.vme_monitor.specs.declared.mark.Fault.{Fault}
-use Rattle.vme_monitor.specs.declared.tracking.Pending.{Pending}
-use Rattle.vme_monitor.specs.declared.tracking.Pending.TheVariants.{Closed, Reading, Writing, Answered}
+use Rattle.vme_monitor.specs.declared.tracking.TransferPhase.{TransferPhase}
+use Rattle.vme_monitor.specs.declared.tracking.TransferPhase.TheVariants.{Closed, Reading, Writing, Answered}
 use Rattle.vme_dtb.specs.CycleState.{after_answer}
 use Rattle.vme_dtb.specs.Edge.{cycle_start_of, edges_between, first_of, is_still, is_answer_not_high}
 use Rattle.vme_dtb.specs.Machine.{answer_in, answered_in, broken, cycle_fault, data_in, dtb_next, dtb_observation}
 use Rattle.vme_dtb.specs.Machine.{dtb_step}
 use Rattle.vme_dtb.specs.Machine.{handshake_fault, is_doubled, is_replied, is_left_unanswered, memory_after}
 use Rattle.vme_dtb.specs.Machine.{strobe_faults}
-use Rattle.vme_dtb.specs.declared.cycle.Cycle.{Cycle}
+use Rattle.vme_dtb.specs.declared.cycle.CyclePhase.{CyclePhase}
 use Rattle.vme_dtb.specs.declared.edges.Edges.{Edges}
 use Rattle.vme_dtb.specs.declared.memory.HandshakeMemory.{HandshakeMemory}
 use Rattle.vme_dtb.proofs.Faults.{none-first, not_applied, unanswered, unnamed}
@@ -190,7 +190,7 @@ module _ (v w : Levels) (still : is_still v w ≡ true) where
       (no_rise DS0 each.1) (no_rise DS1 each.2) (no_fall DS0 each.1) (no_fall DS1 each.2) (no_fall DTACK each.3)
       (no_fall BERR each.4) (no_rise DTACK each.3) (no_rise BERR each.4)
 
-  same_tracked : (h a s x : Bool) (p : Pending) (q : Pending) → h ≡ x → a ≡ false → s ≡ false
+  same_tracked : (h a s x : Bool) (p : TransferPhase) (q : TransferPhase) → h ≡ x → a ≡ false → s ≡ false
       → cond h Closed (answered_by a (cond s q p)) ≡ cond x Closed p
   same_tracked h a s x p q e f g = rw (e, f, g) refl
 
@@ -200,17 +200,17 @@ module _ (v w : Levels) (still : is_still v w ≡ true) where
       neither : (a b : Bool) → a ≡ false → b ≡ false → (a || b) ≡ false
       neither a b e f = rw (e, f) refl
 
-  tracked_still : (p : Pending) → tracked p v w ≡ cond (strobes_high_in v) Closed p
+  tracked_still : (p : TransferPhase) → tracked p v w ≡ cond (strobes_high_in v) Closed p
   tracked_still p = same_tracked (strobes_high_in w) (answer_between v w) (starts_between v w) (strobes_high_in v) p
       (cond (is_low (level_at w WRITE)) Writing Reading) high_kept no_answer no_start
 
 module _ (t : Trace) (span : Stretch) (n : ℕ) (m : HandshakeMemory) (holds : Holds t span n m) where
-  pending_kept : (p : Pending) → SaysPending t span n p → cond (strobes_high_in (old t n)) Closed p ≡ p
+  transfer_kept : (p : TransferPhase) → IsTransferPhase t span n p → cond (strobes_high_in (old t n)) Closed p ≡ p
   unfolding high
-  pending_kept Closed h = rw h refl
-  pending_kept Reading o = rw (o.1.still n o.1.within (omega arith)) refl
-  pending_kept Writing o = rw (o.1.still n o.1.within (omega arith)) refl
-  pending_kept Answered o = rw (o.2.still n o.2.within (omega arith)) refl
+  transfer_kept Closed h = rw h refl
+  transfer_kept Reading o = rw (o.1.still n o.1.within (omega arith)) refl
+  transfer_kept Writing o = rw (o.1.still n o.1.within (omega arith)) refl
+  transfer_kept Answered o = rw (o.2.still n o.2.within (omega arith)) refl
 
   may_rise_kept : (after before rest was : Bool) → after ≡ before → was ≡ (before && rest) → (after && (was || false))
       ≡ was
@@ -225,11 +225,12 @@ module _ (t : Trace) (span : Stretch) (n : ℕ) (m : HandshakeMemory) (holds : H
       → record { memory = k; fault = f; shown = record nothing { answer = a } } ≡ quiet m
   same_next k f a x y z = rw (x, y, z) refl
 
-  same_memory : (p : Pending) (c : Cycle) (a b : Bool) → p ≡ m.pending → c ≡ m.cycle → a ≡ m.dtack_may_rise → b
-      ≡ m.berr_may_rise → record { pending = p; cycle = c; dtack_may_rise = a; berr_may_rise = b } ≡ m
+  same_memory : (p : TransferPhase) (c : CyclePhase) (a b : Bool) → p ≡ m.transfer → c ≡ m.cycle → a ≡ m.dtack_may_rise
+      → b
+      ≡ m.berr_may_rise → record { transfer = p; cycle = c; dtack_may_rise = a; berr_may_rise = b } ≡ m
   same_memory p c a b x y z u = rw (x, y, z, u) refl
 
-  abbrev told : Pending → ℕ → Answer
+  abbrev told : TransferPhase → ℕ → Answer
   told e l = record { line = l; lanes = data_in e (old t n) (new t n) }
 
   -- a step without edges leaves all as it is
@@ -240,7 +241,7 @@ module _ (t : Trace) (span : Stretch) (n : ℕ) (m : HandshakeMemory) (holds : H
       let v = old t n in
       let w = new t n in
       let u = not (is_low (level_at v AS) || is_low (level_at w AS)) in
-      let e = entered m.pending v w in
+      let e = entered m.transfer v w in
       let kept = each v w still in
       let none : answer_in e (silent u) ≡ None = nowhere (is_unanswered e) None refl in
       let no_mark : answered_in e v w (silent u) ≡ None = ap (λ (o : Option ℕ). option_map (λ (l : ℕ). told e l) o)
@@ -248,10 +249,10 @@ module _ (t : Trace) (span : Stretch) (n : ℕ) (m : HandshakeMemory) (holds : H
       ap (dtb_next m v w) (edges_still v w still)
       ∙ same_next (memory_after m v w (silent u)) (option_or (handshake_fault m e (silent u))
       (cycle_fault m.cycle (is_writing e) (answer_in e (silent u)))) (answered_in e v w (silent u))
-      (same_memory (tracked m.pending v w) (cond (is_some (answer_in e (silent u)))
+      (same_memory (tracked m.transfer v w) (cond (is_some (answer_in e (silent u)))
       (after_answer m.cycle (is_writing e)) m.cycle) (is_low (level_at w DTACK) && (m.dtack_may_rise || false))
       (is_low (level_at w BERR) && (m.berr_may_rise || false))
-      (tracked_still v w still m.pending ∙ pending_kept m.pending holds.transfer)
+      (tracked_still v w still m.transfer ∙ transfer_kept m.transfer holds.transfer)
       (ap (λ o. cond (is_some o) (after_answer m.cycle (is_writing e)) m.cycle) none)
       (may_rise_kept (is_low (level_at w DTACK)) (is_low (level_at v DTACK)) _ m.dtack_may_rise (ap is_low kept.3)
       holds.dtack) (may_rise_kept (is_low (level_at w BERR)) (is_low (level_at v BERR)) _ m.berr_may_rise
@@ -261,9 +262,9 @@ module _ (t : Trace) (span : Stretch) (n : ℕ) (m : HandshakeMemory) (holds : H
       (none-first (strobe_faults m e (silent u)) (
         refl,
         (
-          unnamed H2 (is_left_unanswered m.pending (silent u)),
+          unnamed H2 (is_left_unanswered m.transfer (silent u)),
           (
-            unnamed H3 (is_replied m.pending),
+            unnamed H3 (is_replied m.transfer),
             (
               unnamed H4 (not (is_within e)),
               (
@@ -271,7 +272,7 @@ module _ (t : Trace) (span : Stretch) (n : ℕ) (m : HandshakeMemory) (holds : H
                 (
                   refl,
                   (
-                    not_applied H7 _ (Some AS) (and_false (is_left_unanswered m.pending (silent u))),
+                    not_applied H7 _ (Some AS) (and_false (is_left_unanswered m.transfer (silent u))),
                     (ap (broken H8 u) none ∙ unnamed H8 u, tt),
                   ),
                 ),

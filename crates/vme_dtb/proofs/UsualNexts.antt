@@ -16,30 +16,31 @@ use Rattle.vme_monitor.specs.declared.mark.TransferAnswer.{TransferAnswer as Ans
 use Rattle.vme_monitor.specs.declared.mark.Fault.{Fault}
 use Rattle.vme_monitor.specs.declared.mark.StepMarks.{StepMarks}
 use Rattle.vme_monitor.specs.declared.mark.Next.{Next}
-use Rattle.vme_monitor.specs.declared.tracking.Pending.{Pending}
-use Rattle.vme_monitor.specs.declared.tracking.Pending.TheVariants.{Closed, Reading, Writing, Answered}
+use Rattle.vme_monitor.specs.declared.tracking.TransferPhase.{TransferPhase}
+use Rattle.vme_monitor.specs.declared.tracking.TransferPhase.TheVariants.{Closed, Reading, Writing, Answered}
 use Rattle.vme_dtb.specs.CycleState.{after_answer, unanswered_of}
 use Rattle.vme_dtb.specs.Machine.{broken, cycle_fault, data_in, dtb_next, handshake_fault, is_doubled, is_replied}
 use Rattle.vme_dtb.specs.Machine.{is_left_unanswered, strobe_faults}
 use Rattle.vme_dtb.specs.Edge.{cycle_start_of, closes_between, edges_between, first_of, is_addressed, stays_on}
 use Rattle.vme_dtb.specs.UsualSteps.{is_answer_alone, strobes_break_rule, is_start_alone, is_strobes_alone, memory_left}
-use Rattle.vme_dtb.specs.declared.cycle.Cycle.{Cycle}
+use Rattle.vme_dtb.specs.declared.cycle.CyclePhase.{CyclePhase}
 use Rattle.vme_dtb.specs.declared.memory.HandshakeMemory.{HandshakeMemory}
 use Rattle.vme_dtb.proofs.Faults.{none-first, not_applied, unanswered, unnamed}
 use Rattle.vme_dtb.proofs.StillSteps.{all_five}
 use Rattle.vme_dtb.proofs.UsualEdges.{all_four, answer_edges, answer_is, no_fall, no_start, ready_edges, ready_is}
 use Rattle.vme_dtb.proofs.UsualEdges.{rises_alone, start_edges, start_is, strobes_are, strobes_here}
 
-same_next : (p l : Pending) (k : StepMarks) (c d : Cycle) (x y : Bool) (h q r : Option Fault) (a b : Option Answer) → p
+same_next : (p l : TransferPhase) (k : StepMarks) (c d : CyclePhase) (x y : Bool) (h q r : Option Fault)
+    (a b : Option Answer) → p
     ≡ l → c ≡ d → h ≡ None → q ≡ r → a ≡ b
     → ◌≡◌ {A = Next HandshakeMemory}
     (record {
-      memory = record { pending = p; cycle = c; dtack_may_rise = x; berr_may_rise = y };
+      memory = record { transfer = p; cycle = c; dtack_may_rise = x; berr_may_rise = y };
       fault = option_or h q;
       shown = record k { answer = a };
     })
     (record {
-      memory = record { pending = l; cycle = d; dtack_may_rise = x; berr_may_rise = y };
+      memory = record { transfer = l; cycle = d; dtack_may_rise = x; berr_may_rise = y };
       fault = r;
       shown = record k
           { answer = b };
@@ -69,7 +70,7 @@ neither false false h = (refl, refl)
 neither true b h = absurd (cc)
 neither false true h = absurd (cc)
 
-broken_by_rise : (p : Pending) (a b e f : Bool) → strobes_break_rule p (a || b) e f ≡ false
+broken_by_rise : (p : TransferPhase) (a b e f : Bool) → strobes_break_rule p (a || b) e f ≡ false
     → broken H2 (is_unanswered p && true)
     (first_of a DS0 b DS1) ≡ None
 broken_by_rise Closed a b e f h = refl
@@ -77,14 +78,16 @@ broken_by_rise Answered a b e f h = refl
 broken_by_rise Reading a b e f h = calm_line H2 a b DS0 DS1 (neither (a || b) e h).0
 broken_by_rise Writing a b e f h = calm_line H2 a b DS0 DS1 (neither (a || b) e h).0
 
-broken_by_fall : (p : Pending) (r e a b : Bool) → strobes_break_rule p r e (a || b) ≡ false → broken H3 (is_replied p)
+broken_by_fall : (p : TransferPhase) (r e a b : Bool) → strobes_break_rule p r e (a || b) ≡ false
+    → broken H3 (is_replied p)
     (first_of a DS0 b DS1) ≡ None
 broken_by_fall Closed r e a b h = refl
 broken_by_fall Reading r e a b h = refl
 broken_by_fall Writing r e a b h = refl
 broken_by_fall Answered r e a b h = calm_line H3 a b DS0 DS1 h
 
-broken_by_end : (p : Pending) (r e f : Bool) → strobes_break_rule p r e f ≡ false → ((is_unanswered p && true) && e)
+broken_by_end : (p : TransferPhase) (r e f : Bool) → strobes_break_rule p r e f ≡ false
+    → ((is_unanswered p && true) && e)
     ≡ false
 broken_by_end Closed r e f h = refl
 broken_by_end Answered r e f h = refl
@@ -92,27 +95,27 @@ broken_by_end Reading r e f h = (neither r e h).1
 broken_by_end Writing r e f h = (neither r e h).1
 
 -- the answer of a transfer without one is one line alone
-one_answer : (e : Pending) → is_unanswered e ≡ true → (not (is_within e) ≡ false)
+one_answer : (e : TransferPhase) → is_unanswered e ≡ true → (not (is_within e) ≡ false)
     × ((is_replied e || (is_unanswered e && false)) ≡ false) × (cond (is_unanswered e) (Some DTACK) None ≡ Some DTACK)
 one_answer Reading h = (refl, refl, refl)
 one_answer Writing h = (refl, refl, refl)
 one_answer Closed h = absurd (cc)
 one_answer Answered h = absurd (cc)
 
-pub closed_twice : (h : Bool) (p : Pending) → cond h Closed (cond h Closed p) ≡ cond h Closed p
+pub closed_twice : (h : Bool) (p : TransferPhase) → cond h Closed (cond h Closed p) ≡ cond h Closed p
 closed_twice true p = refl
 closed_twice false p = refl
 
 module _ (m : HandshakeMemory) (v w : Levels) where
-  abbrev within : Pending
-  within = entered m.pending v w
+  abbrev within : TransferPhase
+  within = entered m.transfer v w
 
   -- where no answer comes, nothing is broken by one
-  unanswered_here : (c : Cycle) → cycle_fault c (is_writing within) (cond (is_unanswered within) None None) ≡ None
+  unanswered_here : (c : CyclePhase) → cycle_fault c (is_writing within) (cond (is_unanswered within) None None) ≡ None
   unanswered_here c = ap (cycle_fault c (is_writing within)) (nowhere (is_unanswered within))
       ∙ sym (unanswered c (is_writing within))
 
-  kept_cycle : (c : Cycle) → (let none : Option ℕ = None in cond (is_some (cond (is_unanswered within) none none))
+  kept_cycle : (c : CyclePhase) → (let none : Option ℕ = None in cond (is_some (cond (is_unanswered within) none none))
       (after_answer c (is_writing within)) c) ≡ c
   kept_cycle c = ap (λ (o : Option ℕ). cond (is_some o) (after_answer c (is_writing within)) c)
       (nowhere (is_unanswered within))
@@ -121,28 +124,29 @@ module _ (m : HandshakeMemory) (v w : Levels) where
   no_h8 u = ap (broken H8 u) (nowhere (is_unanswered within)) ∙ unnamed H8 u
 
   -- what is left open, by whether an answer line falls
-  unanswered_left : (o : Pending) → falls_between v w DTACK ≡ false → falls_between v w BERR ≡ false → within ≡ o
-      → tracked m.pending v w ≡ cond (strobes_high_in w) Closed o
+  unanswered_left : (o : TransferPhase) → falls_between v w DTACK ≡ false → falls_between v w BERR ≡ false → within ≡ o
+      → tracked m.transfer v w ≡ cond (strobes_high_in w) Closed o
   unanswered_left o d b e = left_by (strobes_high_in w) (falls_between v w DTACK) (falls_between v w BERR) within o d b
       e
     where
-      left_by : (h d b : Bool) (e o : Pending) → d ≡ false → b ≡ false → e ≡ o → cond h Closed (answered_by (d || b) e)
+      left_by : (h d b : Bool) (e o : TransferPhase) → d ≡ false → b ≡ false → e ≡ o
+          → cond h Closed (answered_by (d || b) e)
           ≡ cond h Closed o
       left_by h d b e o x y z = rw (x, y, z) refl
 
-  answered_left : falls_between v w DTACK ≡ true → is_unanswered within ≡ true → tracked m.pending v w
+  answered_left : falls_between v w DTACK ≡ true → is_unanswered within ≡ true → tracked m.transfer v w
       ≡ cond (strobes_high_in w) Closed Answered
   answered_left d u = ap (λ (b : Bool). cond (strobes_high_in w) Closed (answered_by (b || falls_between v w BERR)
       within)) d ∙ ap (cond (strobes_high_in w) Closed) (has_answer within u)
     where
-      has_answer : (e : Pending) → is_unanswered e ≡ true → answered_by true e ≡ Answered
+      has_answer : (e : TransferPhase) → is_unanswered e ≡ true → answered_by true e ≡ Answered
       has_answer Reading h = refl
       has_answer Writing h = refl
       has_answer Closed h = absurd (cc)
       has_answer Answered h = absurd (cc)
 
-  within_is : starts_between v w ≡ false → within ≡ m.pending
-  within_is s = ap (λ (b : Bool). cond b (cond (is_low (level_at w WRITE)) Writing Reading) m.pending) s
+  within_is : starts_between v w ≡ false → within ≡ m.transfer
+  within_is s = ap (λ (b : Bool). cond b (cond (is_low (level_at w WRITE)) Writing Reading) m.transfer) s
 
   abbrev told_with : Option Lanes → ℕ → Answer
   told_with d l = record { line = l; lanes = d }
@@ -155,18 +159,19 @@ module _ (m : HandshakeMemory) (v w : Levels) where
 
   -- the answer of a transfer that started earlier
   abbrev pub plain_answer : ℕ → Answer
-  plain_answer = told_with (cond (is_writing m.pending) (Some (lanes_at v)) None)
+  plain_answer = told_with (cond (is_writing m.transfer) (Some (lanes_at v)) None)
 
-  plain_data : starts_between v w ≡ false → data_in within v w ≡ cond (is_writing m.pending) (Some (lanes_at v)) None
-  plain_data s = by_start (starts_between v w) within m.pending s (within_is s)
+  plain_data : starts_between v w ≡ false → data_in within v w ≡ cond (is_writing m.transfer) (Some (lanes_at v)) None
+  plain_data s = by_start (starts_between v w) within m.transfer s (within_is s)
     where
-      by_start : (b : Bool) (e p : Pending) → b ≡ false → e ≡ p → cond (is_writing e) (Some (lanes_at (cond b w v)))
+      by_start : (b : Bool) (e p : TransferPhase) → b ≡ false → e ≡ p → cond (is_writing e)
+          (Some (lanes_at (cond b w v)))
           None ≡ cond (is_writing p) (Some (lanes_at v)) None
       by_start b e p x y = rw (x, y) refl
 
   pub start_next : is_start_alone v w ≡ true
       → record {
-        memory = memory_left m w m.pending (unanswered_of (cycle_start_of w).class) false;
+        memory = memory_left m w m.transfer (unanswered_of (cycle_start_of w).class) false;
         fault = None;
         shown
             = record nothing { cycle = Some (cycle_start_of w) };
@@ -177,20 +182,20 @@ module _ (m : HandshakeMemory) (v w : Levels) where
       let s = start_edges (cycle_start_of w) in
       let c = unanswered_of (cycle_start_of w).class in
       sym
-      (same_next (tracked m.pending v w) _ s.shown _ c _ _ (handshake_fault m within s) _ None _ None
-      (unanswered_left m.pending (no_fall v w DTACK all.3) (no_fall v w BERR all.4)
+      (same_next (tracked m.transfer v w) _ s.shown _ c _ _ (handshake_fault m within s) _ None _ None
+      (unanswered_left m.transfer (no_fall v w DTACK all.3) (no_fall v w BERR all.4)
       (within_is (no_start v w all.1 all.2))) (kept_cycle c)
       (none-first (strobe_faults m within s) (
         refl,
         (
-          unnamed H2 (is_left_unanswered m.pending s),
+          unnamed H2 (is_left_unanswered m.transfer s),
           (
-            unnamed H3 (is_replied m.pending),
+            unnamed H3 (is_replied m.transfer),
             (
               unnamed H4 (not (is_within within)),
               (
                 unnamed H5 (is_doubled within s),
-                (refl, (not_applied H7 _ (Some AS) (and_false (is_left_unanswered m.pending s)), (no_h8 false, tt))),
+                (refl, (not_applied H7 _ (Some AS) (and_false (is_left_unanswered m.transfer s)), (no_h8 false, tt))),
               ),
             ),
           ),
@@ -199,7 +204,7 @@ module _ (m : HandshakeMemory) (v w : Levels) where
       (unanswered_here c) no_mark)
       ∙ ap (dtb_next m v w) (start_is v w alone)
 
-  pub strobes_next : is_strobes_alone v w ≡ true → strobes_break_rule m.pending (strobe_rises_between v w)
+  pub strobes_next : is_strobes_alone v w ≡ true → strobes_break_rule m.transfer (strobe_rises_between v w)
       (rises_between v w AS)
       (strobe_falls_between v w) ≡ false
       → record {
@@ -220,15 +225,15 @@ module _ (m : HandshakeMemory) (v w : Levels) where
       ap (λ (b : Bool). by_rise (memory_left m w within m.cycle b))
       (sym (any_of (rises_between v w DS0) (rises_between v w DS1) DS0 DS1))
       ∙ sym
-      (same_next (tracked m.pending v w) _ s.shown _ m.cycle _ _ (handshake_fault m within s) _ None _ None
+      (same_next (tracked m.transfer v w) _ s.shown _ m.cycle _ _ (handshake_fault m within s) _ None _ None
       (unanswered_left within (no_fall v w DTACK all.1) (no_fall v w BERR all.2) refl) (kept_cycle m.cycle)
       (none-first (strobe_faults m within s) (
         refl,
         (
-          broken_by_rise m.pending (rises_between v w DS0) (rises_between v w DS1) (rises_between v w AS)
+          broken_by_rise m.transfer (rises_between v w DS0) (rises_between v w DS1) (rises_between v w AS)
               (strobe_falls_between v w) unbroken,
           (
-            broken_by_fall m.pending (strobe_rises_between v w) (rises_between v w AS)
+            broken_by_fall m.transfer (strobe_rises_between v w) (rises_between v w AS)
                 (falls_between v w DS0) (falls_between v w DS1) unbroken,
             (
               unnamed H4 (not (is_within within)),
@@ -237,7 +242,7 @@ module _ (m : HandshakeMemory) (v w : Levels) where
                 (
                   refl,
                   (
-                    not_applied H7 _ (Some AS) (broken_by_end m.pending (strobe_rises_between v w)
+                    not_applied H7 _ (Some AS) (broken_by_end m.transfer (strobe_rises_between v w)
                         (rises_between v w AS)
                         (strobe_falls_between v w) unbroken),
                     (no_h8 false, tt),
@@ -263,11 +268,11 @@ module _ (m : HandshakeMemory) (v w : Levels) where
       }
 
   pub answer_next : is_answer_alone v w ≡ true → falls_between v w DTACK ≡ true → is_addressed v w ≡ true
-      → is_unanswered m.pending ≡ true
+      → is_unanswered m.transfer ≡ true
       → record {
-        memory = memory_left m w Answered (after_answer m.cycle (is_writing m.pending)) false;
+        memory = memory_left m w Answered (after_answer m.cycle (is_writing m.transfer)) false;
         fault
-            = cycle_fault m.cycle (is_writing m.pending) (Some DTACK);
+            = cycle_fault m.cycle (is_writing m.transfer) (Some DTACK);
         shown = record nothing
             { answer = Some (plain_answer DTACK) };
       } ≡ dtb_next m v w (edges_between v w)
@@ -277,48 +282,49 @@ module _ (m : HandshakeMemory) (v w : Levels) where
       let same = within_is (no_start v w all.1 all.2) in
       let one = one_answer within (ap is_unanswered same ∙ waits) in
       sym
-      (same_next (tracked m.pending v w) _ s.shown _ (after_answer m.cycle (is_writing m.pending)) _ _
-      (handshake_fault m within s) _ (cycle_fault m.cycle (is_writing m.pending) (Some DTACK)) _
+      (same_next (tracked m.transfer v w) _ s.shown _ (after_answer m.cycle (is_writing m.transfer)) _ _
+      (handshake_fault m within s) _ (cycle_fault m.cycle (is_writing m.transfer) (Some DTACK)) _
       (Some (plain_answer DTACK)) (answered_left falls (ap is_unanswered same ∙ waits))
       (ap (λ (o : Option ℕ). cond (is_some o) (after_answer m.cycle (is_writing within)) m.cycle) one.2
-      ∙ ap (λ (p : Pending). after_answer m.cycle (is_writing p)) same)
+      ∙ ap (λ (p : TransferPhase). after_answer m.cycle (is_writing p)) same)
       (none-first (strobe_faults m within s) (
         refl,
         (
-          unnamed H2 (is_left_unanswered m.pending s),
+          unnamed H2 (is_left_unanswered m.transfer s),
           (
-            unnamed H3 (is_replied m.pending),
+            unnamed H3 (is_replied m.transfer),
             (
               not_applied H4 _ (Some DTACK) one.0,
               (
                 not_applied H5 _ (Some DTACK) one.1,
-                (refl, (not_applied H7 _ (Some AS) (and_false (is_left_unanswered m.pending s)), (refl, tt))),
+                (refl, (not_applied H7 _ (Some AS) (and_false (is_left_unanswered m.transfer s)), (refl, tt))),
               ),
             ),
           ),
         ),
       ))
-      (ap (cycle_fault m.cycle (is_writing within)) one.2 ∙ ap (λ (p : Pending). cycle_fault m.cycle (is_writing p)
+      (ap (cycle_fault m.cycle (is_writing within)) one.2
+      ∙ ap (λ (p : TransferPhase). cycle_fault m.cycle (is_writing p)
       (Some DTACK)) same)
       (ap (option_map told) one.2 ∙ ap (λ (d : Option Lanes). Some (told_with d DTACK))
       (plain_data (no_start v w all.1 all.2))))
       ∙ ap (dtb_next m v w) (answer_is v w alone falls addressed)
 
   pub ready_next : is_answer_alone v w ≡ true → rises_between v w DTACK ≡ true → m.dtack_may_rise ≡ true
-      → quiet (memory_left m w m.pending m.cycle false) ≡ dtb_next m v w (edges_between v w)
+      → quiet (memory_left m w m.transfer m.cycle false) ≡ dtb_next m v w (edges_between v w)
   ready_next alone rises gone =
       let all = all_four (stays_on v w AS) (stays_on v w DS0) (stays_on v w DS1) (stays_on v w BERR) alone in
       let s = ready_edges (not (is_addressed v w)) in
       sym
-      (same_next (tracked m.pending v w) _ s.shown _ m.cycle _ _ (handshake_fault m within s) _ None _ None
-      (unanswered_left m.pending (rises_alone (level_at v DTACK) (level_at w DTACK) rises) (no_fall v w BERR all.3)
+      (same_next (tracked m.transfer v w) _ s.shown _ m.cycle _ _ (handshake_fault m within s) _ None _ None
+      (unanswered_left m.transfer (rises_alone (level_at v DTACK) (level_at w DTACK) rises) (no_fall v w BERR all.3)
       (within_is (no_start v w all.1 all.2))) (kept_cycle m.cycle)
       (none-first (strobe_faults m within s) (
         refl,
         (
-          unnamed H2 (is_left_unanswered m.pending s),
+          unnamed H2 (is_left_unanswered m.transfer s),
           (
-            unnamed H3 (is_replied m.pending),
+            unnamed H3 (is_replied m.transfer),
             (
               unnamed H4 (not (is_within within)),
               (
@@ -326,7 +332,7 @@ module _ (m : HandshakeMemory) (v w : Levels) where
                 (
                   rw gone refl,
                   (
-                    not_applied H7 _ (Some AS) (and_false (is_left_unanswered m.pending s)),
+                    not_applied H7 _ (Some AS) (and_false (is_left_unanswered m.transfer s)),
                     (no_h8 (not (is_addressed v w)), tt),
                   ),
                 ),

@@ -16,19 +16,19 @@ use Rattle.vme_monitor.specs.declared.mark.TransferAnswer.{TransferAnswer as Ans
 use Rattle.vme_monitor.specs.declared.mark.Fault.{Fault}
 use Rattle.vme_monitor.specs.declared.mark.StepMarks.{StepMarks}
 use Rattle.vme_monitor.specs.declared.mark.Next.{Next}
-use Rattle.vme_monitor.specs.declared.tracking.Pending.{Pending}
-use Rattle.vme_monitor.specs.declared.tracking.Pending.TheVariants.{Closed, Answered}
+use Rattle.vme_monitor.specs.declared.tracking.TransferPhase.{TransferPhase}
+use Rattle.vme_monitor.specs.declared.tracking.TransferPhase.TheVariants.{Closed, Answered}
 use Rattle.vme_dtb.specs.CycleState.{after_answer, cycle_entered, is_interrupt_acknowledge}
 use Rattle.vme_dtb.specs.CycleState.{is_answered_interrupt_acknowledge, is_read_modify_write_broken}
 use Rattle.vme_dtb.specs.CycleState.{is_direction_changed}
 use Rattle.vme_dtb.specs.Edge.{edges_between, first_of, is_still}
-use Rattle.vme_dtb.specs.declared.cycle.Cycle.{Cycle}
-use Rattle.vme_dtb.specs.declared.cycle.Cycle.TheVariants.{Free}
+use Rattle.vme_dtb.specs.declared.cycle.CyclePhase.{CyclePhase}
+use Rattle.vme_dtb.specs.declared.cycle.CyclePhase.TheVariants.{Free}
 use Rattle.vme_dtb.specs.declared.edges.Edges.{Edges}
 use Rattle.vme_dtb.specs.declared.handshake.HandshakeEdge.{HandshakeEdge}
 use Rattle.vme_dtb.specs.declared.memory.HandshakeMemory.{HandshakeMemory}
 
-abbrev pub is_replied : Pending → Bool
+abbrev pub is_replied : TransferPhase → Bool
 is_replied Answered = true
 is_replied e = false
 
@@ -37,16 +37,16 @@ abbrev pub broken : Rule → Bool → Option ℕ → Option Fault
 broken r applies line = if applies then option_map (λ l. record { rule = r; line = l }) line else None
 
 -- the line that answers the transfer in which the step ends, if any
-abbrev pub answer_in : Pending → Edges → Option ℕ
+abbrev pub answer_in : TransferPhase → Edges → Option ℕ
 answer_in e s = if is_unanswered e then s.answer_fall else None
 
 -- the data that an answer takes, if the transfer is a write: what the lines say before the step, or after it where the
 -- transfer starts there
-abbrev pub data_in : Pending → Levels → Levels → Option Lanes
+abbrev pub data_in : TransferPhase → Levels → Levels → Option Lanes
 data_in e v w = if is_writing e then Some (lanes_at (if starts_between v w then w else v)) else None
 
 -- the answer of the transfer in which the step ends, if any
-abbrev pub answered_in : Pending → Levels → Levels → Edges → Option Answer
+abbrev pub answered_in : TransferPhase → Levels → Levels → Edges → Option Answer
 answered_in e v w s = option_map (λ l. record { line = l; lanes = data_in e v w }) (answer_in e s)
 
 -- a strobe has risen since the answer line fell
@@ -54,11 +54,11 @@ abbrev pub may_rise : Bool → Edges → Bool
 may_rise was s = was || is_some s.strobe_rise
 
 -- the transfer that was open before the step stays without an answer
-abbrev pub is_left_unanswered : Pending → Edges → Bool
+abbrev pub is_left_unanswered : TransferPhase → Edges → Bool
 is_left_unanswered p s = is_unanswered p && not (is_some s.answer_fall)
 
 -- an answer line falls in a transfer that has its answer, or both fall in one
-abbrev pub is_doubled : Pending → Edges → Bool
+abbrev pub is_doubled : TransferPhase → Edges → Bool
 is_doubled e s = is_replied e || (is_unanswered e && s.both_fall)
 
 -- the first answer line that rises while no strobe has risen since it fell
@@ -78,15 +78,15 @@ first_of_faults = or_first None
 abbrev pub strobe_rules : List Rule
 strobe_rules = H1 ∷ H2 ∷ H3 ∷ H4 ∷ H5 ∷ H6 ∷ H7 ∷ H8 ∷ []
 
-abbrev pub strobe_faults : HandshakeMemory → Pending → Edges → List (Option Fault)
+abbrev pub strobe_faults : HandshakeMemory → TransferPhase → Edges → List (Option Fault)
 strobe_faults m e s =
     broken H1 true s.answer_not_high
-    ∷ broken H2 (is_left_unanswered m.pending s) s.strobe_rise
-    ∷ broken H3 (is_replied m.pending) s.strobe_fall
+    ∷ broken H2 (is_left_unanswered m.transfer s) s.strobe_rise
+    ∷ broken H3 (is_replied m.transfer) s.strobe_fall
     ∷ broken H4 (not (is_within e)) s.answer_fall
     ∷ broken H5 (is_doubled e s) s.answer_fall
     ∷ broken H6 true (early_rise m s)
-    ∷ broken H7 (is_left_unanswered m.pending s && s.shown.cycle_end) (Some AS)
+    ∷ broken H7 (is_left_unanswered m.transfer s && s.shown.cycle_end) (Some AS)
     ∷ broken H8 s.unaddressed (answer_in e s)
     ∷ []
 
@@ -94,7 +94,7 @@ strobe_faults m e s =
 abbrev pub cycle_rules : List Rule
 cycle_rules = C1 ∷ C2 ∷ I4 ∷ I5 ∷ []
 
-abbrev pub cycle_faults : Cycle → Bool → Option ℕ → List (Option Fault)
+abbrev pub cycle_faults : CyclePhase → Bool → Option ℕ → List (Option Fault)
 cycle_faults c w answer =
     broken C1 (is_read_modify_write_broken c w) answer
     ∷ broken C2 (is_direction_changed c w) answer
@@ -105,18 +105,18 @@ cycle_faults c w answer =
 abbrev pub handshake_rules : List Rule
 handshake_rules = strobe_rules ++ cycle_rules
 
-abbrev pub handshake_fault : HandshakeMemory → Pending → Edges → Option Fault
+abbrev pub handshake_fault : HandshakeMemory → TransferPhase → Edges → Option Fault
 handshake_fault m e s = first_of_faults (strobe_faults m e s)
 
-abbrev pub cycle_fault : Cycle → Bool → Option ℕ → Option Fault
+abbrev pub cycle_fault : CyclePhase → Bool → Option ℕ → Option Fault
 cycle_fault c w answer = first_of_faults (cycle_faults c w answer)
 
 abbrev pub memory_after : HandshakeMemory → Levels → Levels → Edges → HandshakeMemory
 memory_after m v w s =
-    let e = entered m.pending v w in
+    let e = entered m.transfer v w in
     let c = cycle_entered m.cycle s.shown.cycle in
     record {
-      pending = tracked m.pending v w;
+      transfer = tracked m.transfer v w;
       cycle = (if is_some (answer_in e s) then after_answer c (is_writing e) else c);
       dtack_may_rise = (is_low (level_at w DTACK) && may_rise m.dtack_may_rise s);
       berr_may_rise = (is_low (level_at w BERR) && may_rise m.berr_may_rise s);
@@ -124,11 +124,11 @@ memory_after m v w s =
 
 abbrev pub fault_in : HandshakeMemory → Levels → Levels → Edges → Option Fault
 fault_in m v w s =
-    let e = entered m.pending v w in
+    let e = entered m.transfer v w in
     option_or (handshake_fault m e s) (cycle_fault (cycle_entered m.cycle s.shown.cycle) (is_writing e) (answer_in e s))
 
 abbrev pub dtb_begin : Levels → HandshakeMemory
-dtb_begin v = record { pending = Closed; cycle = Free; dtack_may_rise = false; berr_may_rise = false }
+dtb_begin v = record { transfer = Closed; cycle = Free; dtack_may_rise = false; berr_may_rise = false }
 
 abbrev pub dtb_start_marks : Levels → StepMarks
 dtb_start_marks v = nothing
@@ -145,7 +145,7 @@ dtb_next m v w s =
     record {
       memory = memory_after m v w s;
       fault = fault_in m v w s;
-      shown = record s.shown { answer = answered_in (entered m.pending v w) v w s };
+      shown = record s.shown { answer = answered_in (entered m.transfer v w) v w s };
     }
 
 abbrev pub dtb_step : HandshakeMemory → Levels → Levels → HandshakeEdge → Next HandshakeMemory

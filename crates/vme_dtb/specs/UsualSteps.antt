@@ -3,10 +3,10 @@ use Rattle.std.specs.Prelude.{Bool, false, not, ◌&&◌, ◌||◌, if◌then◌
 use Rattle.vme_trace.specs.Edges.{falls_between, starts_between, strobes_high_in}
 use Rattle.vme_trace.specs.LineNumbers.{AS, DS0, DS1, DTACK, BERR}
 use Rattle.vme_trace.specs.Levels.{Levels, level_at, is_low, is_high}
-use Rattle.vme_monitor.specs.declared.tracking.Pending.{Pending}
-use Rattle.vme_monitor.specs.declared.tracking.Pending.TheVariants.{Closed, Reading, Writing, Answered}
+use Rattle.vme_monitor.specs.declared.tracking.TransferPhase.{TransferPhase}
+use Rattle.vme_monitor.specs.declared.tracking.TransferPhase.TheVariants.{Closed, Reading, Writing, Answered}
 use Rattle.vme_dtb.specs.Edge.{stays_on}
-use Rattle.vme_dtb.specs.declared.cycle.Cycle.{Cycle}
+use Rattle.vme_dtb.specs.declared.cycle.CyclePhase.{CyclePhase}
 use Rattle.vme_dtb.specs.declared.memory.HandshakeMemory.{HandshakeMemory}
 
 module _ (v w : Levels) where
@@ -26,17 +26,17 @@ module _ (v w : Levels) where
 
 -- the memory after a step to the levels w in which no answer line falls, or where p has its answer: in the cycle c, the
 -- transfer being p unless it closes, and a strobe rises or none does
-abbrev pub memory_left : HandshakeMemory → Levels → Pending → Cycle → Bool → HandshakeMemory
+abbrev pub memory_left : HandshakeMemory → Levels → TransferPhase → CyclePhase → Bool → HandshakeMemory
 memory_left m w p c rises =
     record {
-      pending = (if strobes_high_in w then Closed else p);
+      transfer = (if strobes_high_in w then Closed else p);
       cycle = c;
       dtack_may_rise = (is_low (level_at w DTACK) && (m.dtack_may_rise || rises));
       berr_may_rise = (is_low (level_at w BERR) && (m.berr_may_rise || rises));
     }
 
 -- a strobe rises or the cycle ends before the answer has come, or a strobe falls after it
-abbrev pub strobes_break_rule : Pending → Bool → Bool → Bool → Bool
+abbrev pub strobes_break_rule : TransferPhase → Bool → Bool → Bool → Bool
 strobes_break_rule Closed rises ends falls = false
 strobes_break_rule Reading rises ends falls = rises || ends
 strobes_break_rule Writing rises ends falls = rises || ends

@@ -11,7 +11,7 @@ use vme_trace::Class;
 
 /// The cycle that started last, as far as its class and the answers so far say which answers may follow.
 #[derive(Clone, Copy, PartialEq, Eq, Debug)]
-pub enum Cycle {
+pub enum CyclePhase {
     /// None has started, or one of a free code: any transfers may be in it.
     Free,
     /// A single cycle without an answer.
@@ -32,41 +32,42 @@ pub enum Cycle {
     InterruptDone,
 }
 
-impl Cycle {
+impl CyclePhase {
     /// A cycle of the class, without an answer.
-    pub(crate) fn of_class(class: Class) -> Cycle
+    pub(crate) fn of_class(class: Class) -> CyclePhase
         ensures { result ≡ unanswered_of class }
     {
         match class {
-            Class::S => Cycle::Single,
-            Class::K => Cycle::Block,
-            Class::I => Cycle::Interrupt,
-            Class::F => Cycle::Free,
+            Class::S => CyclePhase::Single,
+            Class::K => CyclePhase::Block,
+            Class::I => CyclePhase::Interrupt,
+            Class::F => CyclePhase::Free,
         }
     }
 
     /// The cycle in which an instant is: this one, unless another starts there.
-    pub(crate) fn entered(self, cycle_start: Option<CycleStart>) -> Cycle
+    pub(crate) fn entered(self, cycle_start: Option<CycleStart>) -> CyclePhase
         ensures { result ≡ cycle_entered self cycle_start }
     {
         match cycle_start {
-            Some(cycle_start) => Cycle::of_class(cycle_start.class),
+            Some(cycle_start) => CyclePhase::of_class(cycle_start.class),
             None => self,
         }
     }
 
     /// The cycle after one more answer, of a write or of a read.
-    pub(crate) fn answered(self, write: bool) -> Cycle
+    pub(crate) fn answered(self, write: bool) -> CyclePhase
         ensures { result ≡ after_answer self write }
     {
         match self {
-            Cycle::Free => Cycle::Free,
-            Cycle::Single if !write => Cycle::SingleRead,
-            Cycle::Single | Cycle::SingleRead | Cycle::SingleDone => Cycle::SingleDone,
-            Cycle::Block if write => Cycle::BlockWriting,
-            Cycle::Block | Cycle::BlockReading => Cycle::BlockReading,
-            Cycle::BlockWriting => Cycle::BlockWriting,
-            Cycle::Interrupt | Cycle::InterruptDone => Cycle::InterruptDone,
+            CyclePhase::Free => CyclePhase::Free,
+            CyclePhase::Single if !write => CyclePhase::SingleRead,
+            CyclePhase::Single | CyclePhase::SingleRead | CyclePhase::SingleDone =>
+                CyclePhase::SingleDone,
+            CyclePhase::Block if write => CyclePhase::BlockWriting,
+            CyclePhase::Block | CyclePhase::BlockReading => CyclePhase::BlockReading,
+            CyclePhase::BlockWriting => CyclePhase::BlockWriting,
+            CyclePhase::Interrupt | CyclePhase::InterruptDone => CyclePhase::InterruptDone,
         }
     }
 
@@ -75,8 +76,8 @@ impl Cycle {
         ensures { result ≡ is_read_modify_write_broken self write }
     {
         match self {
-            Cycle::SingleRead => !write,
-            Cycle::SingleDone => true,
+            CyclePhase::SingleRead => !write,
+            CyclePhase::SingleDone => true,
             _ => false,
         }
     }
@@ -86,8 +87,8 @@ impl Cycle {
         ensures { result ≡ is_direction_changed self write }
     {
         match self {
-            Cycle::BlockReading => write,
-            Cycle::BlockWriting => !write,
+            CyclePhase::BlockReading => write,
+            CyclePhase::BlockWriting => !write,
             _ => false,
         }
     }
@@ -96,14 +97,14 @@ impl Cycle {
     pub(crate) fn is_interrupt_acknowledge(self) -> bool
         ensures { result ≡ is_interrupt_acknowledge self }
     {
-        matches!(self, Cycle::Interrupt | Cycle::InterruptDone)
+        matches!(self, CyclePhase::Interrupt | CyclePhase::InterruptDone)
     }
 
     /// Whether it is an interrupt acknowledge that was answered.
     pub(crate) fn is_answered_interrupt_acknowledge(self) -> bool
         ensures { result ≡ is_answered_interrupt_acknowledge self }
     {
-        matches!(self, Cycle::InterruptDone)
+        matches!(self, CyclePhase::InterruptDone)
     }
 
     /// Where the value stands among all nine, from 0.
@@ -112,32 +113,32 @@ impl Cycle {
         ensures below { result < 9 }
     {
         match self {
-            Cycle::Free => 0,
-            Cycle::Single => 1,
-            Cycle::SingleRead => 2,
-            Cycle::SingleDone => 3,
-            Cycle::Block => 4,
-            Cycle::BlockReading => 5,
-            Cycle::BlockWriting => 6,
-            Cycle::Interrupt => 7,
-            Cycle::InterruptDone => 8,
+            CyclePhase::Free => 0,
+            CyclePhase::Single => 1,
+            CyclePhase::SingleRead => 2,
+            CyclePhase::SingleDone => 3,
+            CyclePhase::Block => 4,
+            CyclePhase::BlockReading => 5,
+            CyclePhase::BlockWriting => 6,
+            CyclePhase::Interrupt => 7,
+            CyclePhase::InterruptDone => 8,
         }
     }
 
     /// The value at a place, the last one past them.
-    pub(crate) fn nth(place: usize) -> Cycle
+    pub(crate) fn nth(place: usize) -> CyclePhase
         ensures { result ≡ cycle_nth place }
     {
         match place {
-            0 => Cycle::Free,
-            1 => Cycle::Single,
-            2 => Cycle::SingleRead,
-            3 => Cycle::SingleDone,
-            4 => Cycle::Block,
-            5 => Cycle::BlockReading,
-            6 => Cycle::BlockWriting,
-            7 => Cycle::Interrupt,
-            _ => Cycle::InterruptDone,
+            0 => CyclePhase::Free,
+            1 => CyclePhase::Single,
+            2 => CyclePhase::SingleRead,
+            3 => CyclePhase::SingleDone,
+            4 => CyclePhase::Block,
+            5 => CyclePhase::BlockReading,
+            6 => CyclePhase::BlockWriting,
+            7 => CyclePhase::Interrupt,
+            _ => CyclePhase::InterruptDone,
         }
     }
 }

@@ -21,7 +21,7 @@ ghost use Rattle.vme_dtb.specs.UsualSteps.{is_answer_alone, strobes_break_rule, 
 ghost use Rattle.vme_dtb.specs.UsualSteps.{memory_left};
 ghost use Rattle.vme_dtb.specs.Shown.{handshake_shown};
 
-use crate::cycle::Cycle;
+use crate::cycle::CyclePhase;
 use crate::edges::{
     Edges, closes, cycle_start, first_answer, is_addressed, is_answer_alone, is_handshake_still,
     is_start_alone, is_strobes_alone, transfer_started,
@@ -30,7 +30,7 @@ use crate::memory::HandshakeMemory;
 use vme_monitor::mark::{Fault, NOTHING, Next, StepMarks, TransferAnswer, quiet};
 use vme_monitor::monitor::Monitor;
 use vme_monitor::over_stretches::{RuleMonitor, Rules};
-use vme_monitor::tracking::Pending;
+use vme_monitor::tracking::TransferPhase;
 use vme_trace::edges::{
     falls, has_strobes_high, rises, starts_transfer, strobe_falls, strobe_rises,
 };
@@ -44,31 +44,31 @@ pub struct HandshakeRules;
 pub struct HandshakeEdge;
 
 /// Whether a transfer is open and has no answer.
-fn is_unanswered(pending: Pending) -> bool
-    ensures { result ≡ is_unanswered pending }
+fn is_unanswered(transfer: TransferPhase) -> bool
+    ensures { result ≡ is_unanswered transfer }
 {
-    matches!(pending, Pending::Reading | Pending::Writing)
+    matches!(transfer, TransferPhase::Reading | TransferPhase::Writing)
 }
 
 /// Whether a transfer is open and has its answer.
-fn is_answered(pending: Pending) -> bool
-    ensures { result ≡ is_replied pending }
+fn is_answered(transfer: TransferPhase) -> bool
+    ensures { result ≡ is_replied transfer }
 {
-    matches!(pending, Pending::Answered)
+    matches!(transfer, TransferPhase::Answered)
 }
 
 /// Whether a transfer is open.
-fn is_open(pending: Pending) -> bool
-    ensures { result ≡ is_within pending }
+fn is_open(transfer: TransferPhase) -> bool
+    ensures { result ≡ is_within transfer }
 {
-    !matches!(pending, Pending::Closed)
+    !matches!(transfer, TransferPhase::Closed)
 }
 
 /// Whether a write is open and has no answer.
-fn is_writing(pending: Pending) -> bool
-    ensures { result ≡ is_writing pending }
+fn is_writing(transfer: TransferPhase) -> bool
+    ensures { result ≡ is_writing transfer }
 {
-    matches!(pending, Pending::Writing)
+    matches!(transfer, TransferPhase::Writing)
 }
 
 /// The fault that a rule is broken on a line, if there is one and the rule applies.
@@ -82,7 +82,7 @@ fn broken(rule: Rule, applies: bool, line: Option<Line>) -> Option<Fault>
 }
 
 /// The line that answers the transfer in which a step ends, if any.
-fn answer_of(entered: Pending, seen: &Edges) -> Option<Line>
+fn answer_of(entered: TransferPhase, seen: &Edges) -> Option<Line>
     ensures { result ≡ answer_in entered seen.now }
 {
     if is_unanswered(entered) {
@@ -101,7 +101,7 @@ fn taken(write: bool, lines: &Lines) -> Option<Lanes>
 }
 
 /// The data that an answer takes, if the transfer in which the step ends is a write.
-fn data_of(entered: Pending, before: &Lines, after: &Lines) -> Option<Lanes>
+fn data_of(entered: TransferPhase, before: &Lines, after: &Lines) -> Option<Lanes>
     ensures { result ≡ data_in entered before.now after.now }
 {
     if starts_transfer(before, after) {
@@ -112,7 +112,12 @@ fn data_of(entered: Pending, before: &Lines, after: &Lines) -> Option<Lanes>
 }
 
 /// The answer of the transfer in which a step ends, if any.
-fn answered(entered: Pending, before: &Lines, after: &Lines, seen: &Edges) -> Option<TransferAnswer>
+fn answered(
+    entered: TransferPhase,
+    before: &Lines,
+    after: &Lines,
+    seen: &Edges,
+) -> Option<TransferAnswer>
     ensures { result ≡ answered_in entered before.now after.now seen.now }
 {
     match answer_of(entered, seen) {
@@ -125,7 +130,7 @@ fn answered(entered: Pending, before: &Lines, after: &Lines, seen: &Edges) -> Op
 }
 
 /// Whether an answer line falls in a transfer that has its answer, or both fall in one.
-fn is_doubled(entered: Pending, seen: &Edges) -> bool
+fn is_doubled(entered: TransferPhase, seen: &Edges) -> bool
     ensures { result ≡ is_doubled entered seen.now }
 {
     is_answered(entered) || (is_unanswered(entered) && seen.both_fall)
@@ -141,9 +146,9 @@ fn may_rise(was: bool, seen: &Edges) -> bool
 impl HandshakeMemory {
     /// Whether the transfer that was open before the step stays without an answer.
     fn is_left_unanswered(self, seen: &Edges) -> bool
-        ensures { result ≡ is_left_unanswered self.pending seen.now }
+        ensures { result ≡ is_left_unanswered self.transfer seen.now }
     {
-        is_unanswered(self.pending) && !seen.answer_fall.is_some()
+        is_unanswered(self.transfer) && !seen.answer_fall.is_some()
     }
 
     /// The first answer line that rises while no strobe has risen since it fell.
@@ -157,14 +162,14 @@ impl HandshakeMemory {
     }
 
     /// The first rule of the handshake that is broken, where the step ends in the transfer `entered`.
-    fn handshake_fault(self, entered: Pending, seen: &Edges) -> Option<Fault>
+    fn handshake_fault(self, entered: TransferPhase, seen: &Edges) -> Option<Fault>
         ensures { result ≡ fault_of_handshake self entered seen.now }
     {
         let left_unanswered = self.is_left_unanswered(seen);
         let doubled = is_doubled(entered, seen);
         broken(Rule::H1, true, seen.answer_not_high)
             .or(broken(Rule::H2, left_unanswered, seen.strobe_rise))
-            .or(broken(Rule::H3, is_answered(self.pending), seen.strobe_fall))
+            .or(broken(Rule::H3, is_answered(self.transfer), seen.strobe_fall))
             .or(broken(Rule::H4, !is_open(entered), seen.answer_fall))
             .or(broken(Rule::H5, doubled, seen.answer_fall))
             .or(broken(Rule::H6, true, self.early_rise(seen)))
@@ -179,7 +184,7 @@ impl HandshakeMemory {
 
 /// The first rule that an answer in a cycle breaks.
 #[inline(always)]
-fn cycle_fault(cycle: Cycle, write: bool, answer: Option<Line>) -> Option<Fault>
+fn cycle_fault(cycle: CyclePhase, write: bool, answer: Option<Line>) -> Option<Fault>
     ensures { result ≡ fault_of_cycle cycle write answer }
 {
     match answer {
@@ -200,7 +205,7 @@ impl HandshakeMemory {
         ensures { result ≡ dtb_next self before.now after.now (edges_between before.now after.now) }
     {
         let seen = Edges::between(before, after);
-        let entered = self.pending.entered(before, after);
+        let entered = self.transfer.entered(before, after);
         let write = is_writing(entered);
         let cycle = self.cycle.entered(seen.shown.cycle);
         let answer = answer_of(entered, &seen);
@@ -212,9 +217,9 @@ impl HandshakeMemory {
         } else {
             cycle
         };
-        let pending = self.pending.tracked(before, after);
+        let transfer = self.transfer.tracked(before, after);
         Next {
-            memory: self.left(after, pending, cycle, seen.strobe_rise.is_some()),
+            memory: self.left(after, transfer, cycle, seen.strobe_rise.is_some()),
             fault,
             shown: StepMarks {
                 answer: answered(entered, before, after, &seen),
@@ -242,14 +247,20 @@ impl HandshakeMemory {
 
     /// What is remembered after a step, by the transfer and the cycle that it leaves and whether a strobe rises.
     #[inline(always)]
-    fn left(self, after: &Lines, pending: Pending, cycle: Cycle, rises: bool) -> HandshakeMemory
-        ensures { result ≡ memory_left self after.now pending cycle rises }
+    fn left(
+        self,
+        after: &Lines,
+        transfer: TransferPhase,
+        cycle: CyclePhase,
+        rises: bool,
+    ) -> HandshakeMemory
+        ensures { result ≡ memory_left self after.now transfer cycle rises }
     {
         HandshakeMemory {
-            pending: if has_strobes_high(after) {
-                Pending::Closed
+            transfer: if has_strobes_high(after) {
+                TransferPhase::Closed
             } else {
-                pending
+                transfer
             },
             cycle,
             dtack_may_rise: after.level(Line::DTACK).is_low() && (self.dtack_may_rise || rises),
@@ -267,8 +278,8 @@ impl HandshakeMemory {
         Next {
             memory: self.left(
                 after,
-                self.pending,
-                Cycle::of_class(cycle_start.class),
+                self.transfer,
+                CyclePhase::of_class(cycle_start.class),
                 false,
             ),
             fault: None,
@@ -281,12 +292,12 @@ impl HandshakeMemory {
 
     /// Whether strobes that move break a rule: one rises or the cycle ends before the answer, or one falls after it.
     fn strobes_break_rule(self, rises: bool, ends: bool, falls: bool) -> bool
-        ensures { result ≡ strobes_break_rule self.pending rises ends falls }
+        ensures { result ≡ strobes_break_rule self.transfer rises ends falls }
     {
-        match self.pending {
-            Pending::Closed => false,
-            Pending::Reading | Pending::Writing => rises || ends,
-            Pending::Answered => falls,
+        match self.transfer {
+            TransferPhase::Closed => false,
+            TransferPhase::Reading | TransferPhase::Writing => rises || ends,
+            TransferPhase::Answered => falls,
         }
     }
 
@@ -301,7 +312,7 @@ impl HandshakeMemory {
         if self.strobes_break_rule(strobe_rises, cycle_end, strobe_falls(before, after)) {
             return self.at_any(before, after);
         }
-        let entered = self.pending.entered(before, after);
+        let entered = self.transfer.entered(before, after);
         Next {
             memory: self.left(after, entered, self.cycle, strobe_rises),
             fault: None,
@@ -322,12 +333,17 @@ impl HandshakeMemory {
         requires addressed { is_addressed before.now after.now ≡ true }
         ensures { result ≡ dtb_next self before.now after.now (edges_between before.now after.now) }
     {
-        if !is_unanswered(self.pending) {
+        if !is_unanswered(self.transfer) {
             return self.at_any(before, after);
         }
-        let write = is_writing(self.pending);
+        let write = is_writing(self.transfer);
         Next {
-            memory: self.left(after, Pending::Answered, self.cycle.answered(write), false),
+            memory: self.left(
+                after,
+                TransferPhase::Answered,
+                self.cycle.answered(write),
+                false,
+            ),
             fault: cycle_fault(self.cycle, write, Some(Line::DTACK)),
             shown: StepMarks {
                 answer: Some(TransferAnswer {
@@ -349,7 +365,7 @@ impl HandshakeMemory {
         if !self.dtack_may_rise {
             return self.at_any(before, after);
         }
-        quiet(self.left(after, self.pending, self.cycle, false))
+        quiet(self.left(after, self.transfer, self.cycle, false))
     }
 
     /// What follows where neither AS*, the strobes nor BERR* move.
@@ -390,8 +406,8 @@ impl Rules for HandshakeRules {
 
     fn at_start(_lines: &Lines) -> HandshakeMemory {
         HandshakeMemory {
-            pending: Pending::Closed,
-            cycle: Cycle::Free,
+            transfer: TransferPhase::Closed,
+            cycle: CyclePhase::Free,
             dtack_may_rise: false,
             berr_may_rise: false,
         }

@@ -1,19 +1,19 @@
 //! What is remembered from one step to the next.
 
 ghost use Rattle.std.specs.Prelude.{◌≡◌, ◌<◌};
-ghost use Rattle.vme_dtb.specs.MemoryNumbers.{bit, pending_nth, pending_place};
+ghost use Rattle.vme_dtb.specs.MemoryNumbers.{bit, transfer_phase_nth, transfer_phase_place};
 
-use crate::cycle::Cycle;
+use crate::cycle::CyclePhase;
 use vme_monitor::machine::{Enumerable, Small};
-use vme_monitor::tracking::Pending;
+use vme_monitor::tracking::TransferPhase;
 
 /// What the levels before a step don't show of the handshake.
 #[derive(Clone, Copy, PartialEq, Eq, Debug)]
 pub struct HandshakeMemory {
     /// What the transfer is doing.
-    pub pending: Pending,
+    pub transfer: TransferPhase,
     /// The cycle that started last.
-    pub cycle: Cycle,
+    pub cycle: CyclePhase,
     /// Whether DTACK* is low, and a strobe has risen since it fell.
     pub dtack_may_rise: bool,
     /// Whether BERR* is low, and a strobe has risen since it fell.
@@ -21,27 +21,27 @@ pub struct HandshakeMemory {
 }
 
 /// Where a state of the transfer stands among all four, from 0.
-fn pending_to_place(pending: Pending) -> usize
-    ensures place { result ≡ pending_place pending }
+fn transfer_phase_to_place(transfer: TransferPhase) -> usize
+    ensures place { result ≡ transfer_phase_place transfer }
     ensures below { result < 4 }
 {
-    match pending {
-        Pending::Closed => 0,
-        Pending::Reading => 1,
-        Pending::Writing => 2,
-        Pending::Answered => 3,
+    match transfer {
+        TransferPhase::Closed => 0,
+        TransferPhase::Reading => 1,
+        TransferPhase::Writing => 2,
+        TransferPhase::Answered => 3,
     }
 }
 
 /// The state at a place, the last one past them.
-fn pending_at(place: usize) -> Pending
-    ensures { result ≡ pending_nth place }
+fn transfer_phase_at(place: usize) -> TransferPhase
+    ensures { result ≡ transfer_phase_nth place }
 {
     match place {
-        0 => Pending::Closed,
-        1 => Pending::Reading,
-        2 => Pending::Writing,
-        _ => Pending::Answered,
+        0 => TransferPhase::Closed,
+        1 => TransferPhase::Reading,
+        2 => TransferPhase::Writing,
+        _ => TransferPhase::Answered,
     }
 }
 
@@ -69,7 +69,7 @@ impl Enumerable for HandshakeMemory {
     const COUNT: usize = 144;
 
     fn place(self) -> usize {
-        36 * pending_to_place(self.pending)
+        36 * transfer_phase_to_place(self.transfer)
             + 4 * self.cycle.place()
             + 2 * bit_of(self.dtack_may_rise)
             + bit_of(self.berr_may_rise)
@@ -77,8 +77,8 @@ impl Enumerable for HandshakeMemory {
 
     fn nth(k: usize) -> HandshakeMemory {
         HandshakeMemory {
-            pending: pending_at(k / 36),
-            cycle: Cycle::nth(k / 4 % 9),
+            transfer: transfer_phase_at(k / 36),
+            cycle: CyclePhase::nth(k / 4 % 9),
             dtack_may_rise: k / 2 % 2 == 1,
             berr_may_rise: k % 2 == 1,
         }

@@ -25,8 +25,8 @@ use Rattle.vme_trace.proofs.OpenTransfers.{ReadsStrobes, suc-sub-one, in_transfe
 use Rattle.vme_trace.proofs.Ranges.{any-fails, any-step, clash, fails-any, least-alike, least-none}
 use Rattle.vme_trace.proofs.SpanEnds.{slots_at}
 use Rattle.vme_monitor.specs.Tracking.{entered, is_writing}
-use Rattle.vme_monitor.specs.declared.tracking.Pending.{Pending}
-use Rattle.vme_monitor.specs.declared.tracking.Pending.TheVariants.{Closed, Reading, Writing, Answered}
+use Rattle.vme_monitor.specs.declared.tracking.TransferPhase.{TransferPhase}
+use Rattle.vme_monitor.specs.declared.tracking.TransferPhase.TheVariants.{Closed, Reading, Writing, Answered}
 use Rattle.vme_monitor.proofs.TrackedTransfers.{IsIn, Enters, entered_is}
 use Rattle.vme_stability.specs.HoldingNumbers.{has_risen, writes_of}
 use Rattle.vme_stability.specs.StabilityRules.{is_shifted, is_undriven, keeps_data, kept, may_write, shifted_fault}
@@ -165,7 +165,7 @@ module _ (t : Trace) (span : Stretch) (reads : ReadsStrobes t span) (n : ℕ) (f
   abbrev is_asked : ℕ → Bool
   is_asked i = is_write t span i && not (is_answered t span i (suc n))
 
-  asks_by : (e : Pending) → Enters t span (suc n) e → in_transfer t span is_asked (suc n) ≡ is_writing e
+  asks_by : (e : TransferPhase) → Enters t span (suc n) e → in_transfer t span is_asked (suc n) ≡ is_writing e
   asks_by Closed o = in_none is_asked o.0 o.1
   asks_by Reading o = in_one is_asked o.0 false false o.1 ∙ rw o.1.direction refl
   asks_by Writing o = in_one is_asked o.0 true false o.1 ∙ rw (o.1.direction, o.1.reply) refl
@@ -227,7 +227,7 @@ module _ (t : Trace) (span : Stretch) (reads : ReadsStrobes t span) (n : ℕ) (f
         | inr earlier ↦ absurd (clash (strobes_high t n) highs (o.still n earlier (omega arith)))
       ]
 
-  held_from_high : (e : Pending) → Enters t span (suc n) e → strobes_high t n ≡ true → in_transfer t span is_held
+  held_from_high : (e : TransferPhase) → Enters t span (suc n) e → strobes_high t n ≡ true → in_transfer t span is_held
       (suc n) ≡ false
   held_from_high Closed o h = in_none is_held o.0 o.1
   held_from_high Reading o h = in_one is_held o.0 false false o.1 ∙ just_started o.0 false false o.1 h
@@ -264,7 +264,7 @@ module _ (t : Trace) (span : Stretch) (reads : ReadsStrobes t span) (n : ℕ) (f
             before,
       ) refl
 
-  held_from_low : (e : Pending) → Enters t span (suc n) e → is_closed e ≡ false → strobes_high_in old ≡ false
+  held_from_low : (e : TransferPhase) → Enters t span (suc n) e → is_closed e ≡ false → strobes_high_in old ≡ false
       → in_transfer t span is_held (suc n) ≡ (is_writing e && not (answer_between old new)
       && (not (has_risen m.transfer) && not (strobe_rises_between old new)))
   held_from_low Closed o c low = absurd (cc)

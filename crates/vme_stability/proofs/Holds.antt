@@ -19,10 +19,10 @@ use Rattle.vme_trace.specs.declared.level.Level.{Level}
 use Rattle.vme_trace.specs.declared.level.Level.TheVariants.{Low, High, Unknown}
 use Rattle.vme_trace.proofs.OpenTransfers.{suc-sub-one, is_judged-holds, ReadsStrobes}
 use Rattle.vme_trace.proofs.Ranges.{any-step, clash, fails-any}
-use Rattle.vme_monitor.specs.Tracked.{SaysPending}
+use Rattle.vme_monitor.specs.Tracked.{IsTransferPhase}
 use Rattle.vme_monitor.specs.Tracking.{answered_by, is_unanswered, is_writing, tracked}
-use Rattle.vme_monitor.specs.declared.tracking.Pending.{Pending}
-use Rattle.vme_monitor.specs.declared.tracking.Pending.TheVariants.{Closed, Reading, Writing, Answered}
+use Rattle.vme_monitor.specs.declared.tracking.TransferPhase.{TransferPhase}
+use Rattle.vme_monitor.specs.declared.tracking.TransferPhase.TheVariants.{Closed, Reading, Writing, Answered}
 use Rattle.vme_monitor.proofs.TrackedTransfers.{says_start, tracked_is, is_answer_is}
 use Rattle.vme_stability.specs.StabilityRules.{answers_in, awaits_answer, holds_direction as holds_direction_of}
 use Rattle.vme_stability.specs.StabilityRules.{keeps_address, keeps_direction, stability_begin, stability_rules}
@@ -35,7 +35,8 @@ use Rattle.vme_stability.proofs.Edges.{and_true, or_false}
 use Rattle.vme_stability.proofs.Lasting.{le_holds, none_more, none_empty, none_one, lasts_on}
 
 -- the transfer that the step enters, or that was open, has had no answer
-unanswered_is : (p : Pending) (h l w : Bool) → h ≡ is_closed p → is_unanswered (cond (h && l) (cond w Writing Reading)
+unanswered_is : (p : TransferPhase) (h l w : Bool) → h ≡ is_closed p
+    → is_unanswered (cond (h && l) (cond w Writing Reading)
     p) ≡ (not (is_answered_state p) && (not h || l))
 unanswered_is Closed h l w e = rw e (by_tests l w)
   where
@@ -47,7 +48,7 @@ unanswered_is Reading h l w e = rw e refl
 unanswered_is Writing h l w e = rw e refl
 unanswered_is Answered h l w e = rw e refl
 
-answered_next : (p : Pending) (h l w k a : Bool) → h ≡ is_closed p → l ≡ not k → is_answered_state
+answered_next : (p : TransferPhase) (h l w k a : Bool) → h ≡ is_closed p → l ≡ not k → is_answered_state
     (cond k Closed (answered_by a (cond (h && l) (cond w Writing Reading) p))) ≡ (not k && (is_answered_state p || a))
 answered_next p h l w true a e low = refl
 answered_next Closed h l w false a e low = rw (e, low) (by_tests w a)
@@ -126,8 +127,8 @@ module _ (t : Trace) (span : Stretch) where
   holds_direction n i = transfer_starts t span i && none (strobe_rises t) (i + 1) (n + 1)
 
   pub record Holds (n : ℕ) (m : Holding) : Type 0 where
-    pub state : Pending
-    pub says : SaysPending t span n state
+    pub state : TransferPhase
+    pub says : IsTransferPhase t span n state
     pub transfer : is_answered_state state ≡ was_answered m.transfer
     pub closed : strobes_high_in (levels_at t n) ≡ true → has_risen m.transfer ≡ false
     pub fresh : (i : ℕ) → i ≤ n → transfer_starts t span i ≡ true → ((r : ℕ) → i ≤ r → r ≤ n → strobes_high t r ≡ false)
@@ -192,7 +193,7 @@ module _ (t : Trace) (span : Stretch) where
     cycle_starts_is = rw (judged, falls_is AS) refl
 
     -- both strobes are high where no transfer is open
-    pub high_is : (p : Pending) → SaysPending t span n p → strobes_high_in old ≡ is_closed p
+    pub high_is : (p : TransferPhase) → IsTransferPhase t span n p → strobes_high_in old ≡ is_closed p
     unfolding high
     high_is Closed says = says
     high_is Reading says = says.1.still n says.1.within (omega arith)

@@ -3,25 +3,25 @@ use Rattle.std.proofs.Common.{◌≡◌, Bool, true, false, ◌||◌, ◌&&◌, 
 use Rattle.std.specs.Prelude.{Option, None, Some, ℕ}
 use Rattle.vme_trace.proofs.Ranges.{clash}
 use Rattle.vme_monitor.specs.Tracking.{answered_by, is_writing}
-use Rattle.vme_monitor.specs.declared.tracking.Pending.{Pending}
-use Rattle.vme_monitor.specs.declared.tracking.Pending.TheVariants as pending
+use Rattle.vme_monitor.specs.declared.tracking.TransferPhase.{TransferPhase}
+use Rattle.vme_monitor.specs.declared.tracking.TransferPhase.TheVariants as phase
 use Rattle.vme_stability.specs.HoldingNumbers.{has_risen, passed, was_answered, writes_of}
 use Rattle.vme_stability.specs.StabilityRules.{kept}
 use Rattle.vme_stability.specs.declared.holding.TransferState.{TransferState}
 use Rattle.vme_stability.specs.declared.holding.TransferState.TheVariants.{Fresh, RisenInRead, RisenInWrite, Answered}
 use Rattle.vme_stability.specs.declared.holding.TransferState.TheVariants.{Over}
 
-abbrev pub is_answered_state : Pending → Bool
-is_answered_state pending.Answered = true
-is_answered_state pending.Closed = false
-is_answered_state pending.Reading = false
-is_answered_state pending.Writing = false
+abbrev pub is_answered_state : TransferPhase → Bool
+is_answered_state phase.Answered = true
+is_answered_state phase.Closed = false
+is_answered_state phase.Reading = false
+is_answered_state phase.Writing = false
 
-abbrev pub is_closed : Pending → Bool
-is_closed pending.Closed = true
-is_closed pending.Reading = false
-is_closed pending.Writing = false
-is_closed pending.Answered = false
+abbrev pub is_closed : TransferPhase → Bool
+is_closed phase.Closed = true
+is_closed phase.Reading = false
+is_closed phase.Writing = false
+is_closed phase.Answered = false
 
 pub was_passed : (a r w : Bool) → was_answered (passed a r w) ≡ a
 was_passed true true true = refl
@@ -63,65 +63,66 @@ fresh_here true r s h j = refl
 fresh_here false r s h j = rw (h, j) refl
 
 -- a write that has had no answer, by what the memory and the levels say, from one instant to the next
-pub directed_next : (p : Pending) (x : TransferState) (a s d e : Bool) → is_answered_state p ≡ was_answered x
+pub directed_next : (p : TransferPhase) (x : TransferState) (a s d e : Bool) → is_answered_state p ≡ was_answered x
     → (is_closed p ≡ true → has_risen x ≡ false) → (is_closed p ≡ true → s ≡ false)
     → (is_closed p ≡ false → writes_of x d ≡ is_writing p)
     → (((not (is_closed p) && not (has_risen x)) && not s) ≡ true → e ≡ d)
     → writes_of (passed (was_answered x || a) (has_risen x || s) (writes_of x d)) e
-    ≡ is_writing (answered_by a (cond (is_closed p) (cond e pending.Writing pending.Reading) p))
-directed_next pending.Closed RisenInRead a s d e h r j w t = absurd (clash true refl (r refl))
-directed_next pending.Closed RisenInWrite a s d e h r j w t = absurd (clash true refl (r refl))
-directed_next pending.Closed Answered a s d e h r j w t = absurd (cc)
-directed_next pending.Closed Over a s d e h r j w t = absurd (clash true refl (r refl))
-directed_next pending.Closed Fresh a true d e h r j w t = absurd (clash true refl (j refl))
-directed_next pending.Closed Fresh true false d true h r j w t = refl
-directed_next pending.Closed Fresh true false d false h r j w t = refl
-directed_next pending.Closed Fresh false false d true h r j w t = refl
-directed_next pending.Closed Fresh false false d false h r j w t = refl
-directed_next pending.Reading Fresh true true d e h r j w t = refl
-directed_next pending.Reading Fresh true false d e h r j w t = refl
-directed_next pending.Reading Fresh false true true e h r j w t = absurd (clash true refl (w refl))
-directed_next pending.Reading Fresh false true false e h r j w t = refl
-directed_next pending.Reading Fresh false false d e h r j w t = t refl ∙ w refl
-directed_next pending.Reading RisenInRead true s d e h r j w t = refl
-directed_next pending.Reading RisenInRead false s d e h r j w t = refl
-directed_next pending.Reading RisenInWrite a s d e h r j w t = absurd (clash true refl (w refl))
-directed_next pending.Reading Answered a s d e h r j w t = absurd (cc)
-directed_next pending.Reading Over a s d e h r j w t = absurd (cc)
-directed_next pending.Writing Fresh true true d e h r j w t = refl
-directed_next pending.Writing Fresh true false d e h r j w t = refl
-directed_next pending.Writing Fresh false true true e h r j w t = refl
-directed_next pending.Writing Fresh false true false e h r j w t = absurd (clash false (w refl) refl)
-directed_next pending.Writing Fresh false false d e h r j w t = t refl ∙ w refl
-directed_next pending.Writing RisenInRead a s d e h r j w t = absurd (clash false (w refl) refl)
-directed_next pending.Writing RisenInWrite true s d e h r j w t = refl
-directed_next pending.Writing RisenInWrite false s d e h r j w t = refl
-directed_next pending.Writing Answered a s d e h r j w t = absurd (cc)
-directed_next pending.Writing Over a s d e h r j w t = absurd (cc)
-directed_next pending.Answered Fresh a s d e h r j w t = absurd (cc)
-directed_next pending.Answered RisenInRead a s d e h r j w t = absurd (cc)
-directed_next pending.Answered RisenInWrite a s d e h r j w t = absurd (cc)
-directed_next pending.Answered Answered true true d e h r j w t = refl
-directed_next pending.Answered Answered true false d e h r j w t = refl
-directed_next pending.Answered Answered false true d e h r j w t = refl
-directed_next pending.Answered Answered false false d e h r j w t = refl
-directed_next pending.Answered Over true s d e h r j w t = refl
-directed_next pending.Answered Over false s d e h r j w t = refl
+    ≡ is_writing (answered_by a (cond (is_closed p) (cond e phase.Writing phase.Reading) p))
+directed_next phase.Closed RisenInRead a s d e h r j w t = absurd (clash true refl (r refl))
+directed_next phase.Closed RisenInWrite a s d e h r j w t = absurd (clash true refl (r refl))
+directed_next phase.Closed Answered a s d e h r j w t = absurd (cc)
+directed_next phase.Closed Over a s d e h r j w t = absurd (clash true refl (r refl))
+directed_next phase.Closed Fresh a true d e h r j w t = absurd (clash true refl (j refl))
+directed_next phase.Closed Fresh true false d true h r j w t = refl
+directed_next phase.Closed Fresh true false d false h r j w t = refl
+directed_next phase.Closed Fresh false false d true h r j w t = refl
+directed_next phase.Closed Fresh false false d false h r j w t = refl
+directed_next phase.Reading Fresh true true d e h r j w t = refl
+directed_next phase.Reading Fresh true false d e h r j w t = refl
+directed_next phase.Reading Fresh false true true e h r j w t = absurd (clash true refl (w refl))
+directed_next phase.Reading Fresh false true false e h r j w t = refl
+directed_next phase.Reading Fresh false false d e h r j w t = t refl ∙ w refl
+directed_next phase.Reading RisenInRead true s d e h r j w t = refl
+directed_next phase.Reading RisenInRead false s d e h r j w t = refl
+directed_next phase.Reading RisenInWrite a s d e h r j w t = absurd (clash true refl (w refl))
+directed_next phase.Reading Answered a s d e h r j w t = absurd (cc)
+directed_next phase.Reading Over a s d e h r j w t = absurd (cc)
+directed_next phase.Writing Fresh true true d e h r j w t = refl
+directed_next phase.Writing Fresh true false d e h r j w t = refl
+directed_next phase.Writing Fresh false true true e h r j w t = refl
+directed_next phase.Writing Fresh false true false e h r j w t = absurd (clash false (w refl) refl)
+directed_next phase.Writing Fresh false false d e h r j w t = t refl ∙ w refl
+directed_next phase.Writing RisenInRead a s d e h r j w t = absurd (clash false (w refl) refl)
+directed_next phase.Writing RisenInWrite true s d e h r j w t = refl
+directed_next phase.Writing RisenInWrite false s d e h r j w t = refl
+directed_next phase.Writing Answered a s d e h r j w t = absurd (cc)
+directed_next phase.Writing Over a s d e h r j w t = absurd (cc)
+directed_next phase.Answered Fresh a s d e h r j w t = absurd (cc)
+directed_next phase.Answered RisenInRead a s d e h r j w t = absurd (cc)
+directed_next phase.Answered RisenInWrite a s d e h r j w t = absurd (cc)
+directed_next phase.Answered Answered true true d e h r j w t = refl
+directed_next phase.Answered Answered true false d e h r j w t = refl
+directed_next phase.Answered Answered false true d e h r j w t = refl
+directed_next phase.Answered Answered false false d e h r j w t = refl
+directed_next phase.Answered Over true s d e h r j w t = refl
+directed_next phase.Answered Over false s d e h r j w t = refl
 
-closed_unanswered : (p : Pending) (x : TransferState) → true ≡ is_closed p → is_answered_state p ≡ was_answered x
+closed_unanswered : (p : TransferPhase) (x : TransferState) → true ≡ is_closed p → is_answered_state p ≡ was_answered x
     → false ≡ was_answered x
-closed_unanswered pending.Closed x c h = h
-closed_unanswered pending.Reading x c h = absurd (cc)
-closed_unanswered pending.Writing x c h = absurd (cc)
-closed_unanswered pending.Answered x c h = absurd (cc)
+closed_unanswered phase.Closed x c h = h
+closed_unanswered phase.Reading x c h = absurd (cc)
+closed_unanswered phase.Writing x c h = absurd (cc)
+closed_unanswered phase.Answered x c h = absurd (cc)
 
 -- the same as the levels say it, where the strobes aren't both high after the step
-pub directed_by : (p : Pending) (x : TransferState) (h l k a s d e : Bool) → h ≡ is_closed p → l ≡ not k → k ≡ false
+pub directed_by : (p : TransferPhase) (x : TransferState) (h l k a s d e : Bool) → h ≡ is_closed p → l ≡ not k → k
+    ≡ false
     → is_answered_state p ≡ was_answered x
     → (h ≡ true → has_risen x ≡ false) → (h ≡ true → s ≡ false) → (h ≡ false → writes_of x d ≡ is_writing p)
     → (((not h && not (has_risen x)) && not s) ≡ true → e ≡ d)
     → writes_of (passed (not k && (was_answered x || a)) (not k && (has_risen x || s)) (writes_of x d)) e
-    ≡ is_writing (cond k pending.Closed (answered_by a (cond (h && l) (cond e pending.Writing pending.Reading) p)))
+    ≡ is_writing (cond k phase.Closed (answered_by a (cond (h && l) (cond e phase.Writing phase.Reading) p)))
 directed_by p x true l true a s d e c low inside answered risen rises directed still = absurd (cc)
 directed_by p x false l true a s d e c low inside answered risen rises directed still = absurd (cc)
 directed_by p x true l false a s d e c low inside answered risen rises directed still = rw low (by_state p c)
@@ -129,39 +130,39 @@ directed_by p x true l false a s d e c low inside answered risen rises directed 
     unanswered : false ≡ was_answered x
     unanswered = closed_unanswered p x c answered
 
-    by_state : (p : Pending) → true ≡ is_closed p → writes_of (passed (was_answered x || a) (has_risen x || s)
-        (writes_of x d)) e ≡ is_writing (answered_by a (cond true (cond e pending.Writing pending.Reading) p))
-    by_state pending.Closed c = directed_next pending.Closed x a s d e unanswered (λ y. risen refl) (λ y. rises refl)
+    by_state : (p : TransferPhase) → true ≡ is_closed p → writes_of (passed (was_answered x || a) (has_risen x || s)
+        (writes_of x d)) e ≡ is_writing (answered_by a (cond true (cond e phase.Writing phase.Reading) p))
+    by_state phase.Closed c = directed_next phase.Closed x a s d e unanswered (λ y. risen refl) (λ y. rises refl)
         (λ y. absurd (clash true refl y)) (λ y. absurd (clash false y refl))
-    by_state pending.Reading c = absurd (cc)
-    by_state pending.Writing c = absurd (cc)
-    by_state pending.Answered c = absurd (cc)
+    by_state phase.Reading c = absurd (cc)
+    by_state phase.Writing c = absurd (cc)
+    by_state phase.Answered c = absurd (cc)
 directed_by p x false l false a s d e c low inside answered risen rises directed still = by_state p c answered directed
   where
-    by_state : (p : Pending) → false ≡ is_closed p → is_answered_state p ≡ was_answered x
+    by_state : (p : TransferPhase) → false ≡ is_closed p → is_answered_state p ≡ was_answered x
         → (false ≡ false → writes_of x d ≡ is_writing p) → writes_of (passed (was_answered x || a) (has_risen x || s)
         (writes_of x d)) e ≡ is_writing (answered_by a p)
-    by_state pending.Closed c h w = absurd (cc)
-    by_state pending.Reading c h w = directed_next pending.Reading x a s d e h (λ y. absurd (clash false y refl))
+    by_state phase.Closed c h w = absurd (cc)
+    by_state phase.Reading c h w = directed_next phase.Reading x a s d e h (λ y. absurd (clash false y refl))
         (λ y. absurd (clash false y refl)) w still
-    by_state pending.Writing c h w = directed_next pending.Writing x a s d e h (λ y. absurd (clash false y refl))
+    by_state phase.Writing c h w = directed_next phase.Writing x a s d e h (λ y. absurd (clash false y refl))
         (λ y. absurd (clash false y refl)) w still
-    by_state pending.Answered c h w = directed_next pending.Answered x a s d e h (λ y. absurd (clash false y refl))
+    by_state phase.Answered c h w = directed_next phase.Answered x a s d e h (λ y. absurd (clash false y refl))
         (λ y. absurd (clash false y refl)) w still
 
 -- the instant after the step is in a write that had no answer, by what the memory and the levels say
-pub writes_entered : (p : Pending) (h l e z : Bool) → h ≡ is_closed p → (h ≡ false → z ≡ is_writing p)
-    → is_writing (cond (h && l) (cond e pending.Writing pending.Reading) p) ≡ cond h (l && e) z
-writes_entered pending.Closed true true true z c d = refl
-writes_entered pending.Closed true true false z c d = refl
-writes_entered pending.Closed true false e z c d = refl
-writes_entered pending.Closed false l e z c d = absurd (cc)
-writes_entered pending.Reading true l e z c d = absurd (cc)
-writes_entered pending.Reading false l e z c d = sym (d refl)
-writes_entered pending.Writing true l e z c d = absurd (cc)
-writes_entered pending.Writing false l e z c d = sym (d refl)
-writes_entered pending.Answered true l e z c d = absurd (cc)
-writes_entered pending.Answered false l e z c d = sym (d refl)
+pub writes_entered : (p : TransferPhase) (h l e z : Bool) → h ≡ is_closed p → (h ≡ false → z ≡ is_writing p)
+    → is_writing (cond (h && l) (cond e phase.Writing phase.Reading) p) ≡ cond h (l && e) z
+writes_entered phase.Closed true true true z c d = refl
+writes_entered phase.Closed true true false z c d = refl
+writes_entered phase.Closed true false e z c d = refl
+writes_entered phase.Closed false l e z c d = absurd (cc)
+writes_entered phase.Reading true l e z c d = absurd (cc)
+writes_entered phase.Reading false l e z c d = sym (d refl)
+writes_entered phase.Writing true l e z c d = absurd (cc)
+writes_entered phase.Writing false l e z c d = sym (d refl)
+writes_entered phase.Answered true l e z c d = absurd (cc)
+writes_entered phase.Answered false l e z c d = sym (d refl)
 
 -- the data of an open write are held where nothing has come of it
 pub held_data : (x : TransferState) (a s d : Bool) → (writes_of x d && not a && (not (has_risen x) && not s))

@@ -14,8 +14,8 @@ use Rattle.vme_trace.specs.declared.rule.Rule.TheVariants.{S1, S2}
 use Rattle.vme_trace.specs.declared.step.Change.{Change}
 use Rattle.vme_trace.proofs.Ranges.{clash}
 use Rattle.vme_monitor.specs.Run.{quiet}
-use Rattle.vme_monitor.specs.declared.tracking.Pending.{Pending}
-use Rattle.vme_monitor.specs.declared.tracking.Pending.TheVariants.{Closed, Reading, Writing, Answered}
+use Rattle.vme_monitor.specs.declared.tracking.TransferPhase.{TransferPhase}
+use Rattle.vme_monitor.specs.declared.tracking.TransferPhase.TheVariants.{Closed, Reading, Writing, Answered}
 use Rattle.vme_monitor.proofs.SpanFacts.{IsSpan}
 use Rattle.vme_stability.specs.StabilityRules.{address_moved, changes_holding, direction_turned, fault_on}
 use Rattle.vme_stability.specs.StabilityRules.{faults_unknown, held_fault, is_observed, keeps_address, keeps_direction}
@@ -83,7 +83,8 @@ module _ (t : Trace) (span : Stretch) (facts : IsSpan t span) (n : ℕ) (from : 
   new = levels_at t (suc n)
 
   -- no transfer is open where both strobes are high
-  closed_there : (p : Pending) → strobes_high_in old ≡ is_closed p → strobes_high_in old ≡ true → is_answered_state p
+  closed_there : (p : TransferPhase) → strobes_high_in old ≡ is_closed p → strobes_high_in old ≡ true
+      → is_answered_state p
       ≡ false
   closed_there Closed e h = refl
   closed_there Reading e h = refl

@@ -5,7 +5,7 @@ use Rattle.vme_dtb.proofs.memory.HandshakeMemory.at_dtack_fall.Goals as goal
 
 pub returns : goal.returns
 returns c =
-    let waits : is_unanswered c.args.self.pending ≡ true = grind arith in
+    let waits : is_unanswered c.args.self.transfer ≡ true = grind arith in
     rw (c.left.ensures, c.cycle_fault.ensures, c.answered.ensures, c.taken.ensures, c.is_writing-write.ensures)
     (answer_next c.args.self c.args.before.now c.args.after.now c.requires.alone c.requires.falls c.requires.addressed
     waits)

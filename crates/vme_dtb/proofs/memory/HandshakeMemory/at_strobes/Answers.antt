@@ -9,7 +9,7 @@ pub returns : goal.returns
 returns c =
     let v = c.args.before.now in
     let w = c.args.after.now in
-    let unbroken : strobes_break_rule c.args.self.pending (strobe_rises_between v w) (rises_between v w AS)
+    let unbroken : strobes_break_rule c.args.self.transfer (strobe_rises_between v w) (rises_between v w AS)
     (strobe_falls_between v w)
     ≡ false = grind arith in
     rw (
