@@ -10,7 +10,7 @@ use Rattle.vme_auditor.specs.JoinedMarks.{kinds_shown}
 use Rattle.vme_auditor.specs.Memories.{AllGoOn, first_fault_of, memories_next}
 use Rattle.vme_auditor.specs.declared.memories.AllShown.{AllShown}
 use Rattle.vme_auditor.specs.declared.memories.Memories.{Memories}
-use Rattle.vme_monitor.specs.Run.{break_at, kinds_of, mark_at}
+use Rattle.vme_monitor.specs.Run.{break_of_fault, kinds_of, mark_at}
 use Rattle.vme_monitor.specs.StepRuns.{seen_in}
 use Rattle.vme_monitor.specs.declared.mark.Fault.{Fault}
 use Rattle.vme_monitor.specs.declared.mark.Mark.{Mark}
@@ -218,13 +218,13 @@ module _ (o : Levels) (x : List Step) (s : Step) (j : FollowedSteps) (f : Follow
   found_is : n.found ≡ (judged r s).found
   found_is =
       noted.found
-      ∙ (ap (λ (i : ℕ). option_map (break_at i s.time) shown.fault) here
-      ∙ ap (option_map (break_at (r.instant + 1) s.time)) fault_is)
+      ∙ (ap (λ (i : ℕ). option_map (break_of_fault i s.time) shown.fault) here
+      ∙ ap (option_map (break_of_fault (r.instant + 1) s.time)) fault_is)
 
   by_fault : (g : Option Fault) → n.marked
       ≡ (if is_some g then j.noted.marked else fold marked_next j.noted.marked (map (mark_at instant) kinds))
       → n.marked ≡ marked
-      (if is_some (option_map (break_at (r.instant + 1) s.time) g) then r.marks else r.marks ++ marks_in r s)
+      (if is_some (option_map (break_of_fault (r.instant + 1) s.time) g) then r.marks else r.marks ++ marks_in r s)
   by_fault (Some g) e = e ∙ f.marked
   by_fault None e =
       e
@@ -240,7 +240,7 @@ module _ (o : Levels) (x : List Step) (s : Step) (j : FollowedSteps) (f : Follow
       (map (mark_at instant) kinds)) fault_is)
 
   broken_by : (g : Option Fault) → IfSome g (λ f. is_some n.events.before ≡ true)
-      → IfSome (option_map (break_at instant s.time) g)
+      → IfSome (option_map (break_of_fault instant s.time) g)
       (λ b. (b.instant ≡ n.events.seen) × (is_some n.events.before ≡ true))
   broken_by None h = tt
   broken_by (Some g) h = (sym noted.seen, h)

@@ -10,7 +10,7 @@ use Rattle.vme_trace.specs.Trace.{changed}
 use Rattle.vme_trace.specs.declared.step.Step.{Step}
 use Rattle.vme_trace.specs.declared.verdict.Break.{Break}
 use Rattle.vme_monitor.specs.Outcome.{earlier, shifted_break, shifted_mark}
-use Rattle.vme_monitor.specs.Run.{break_at, mark_at}
+use Rattle.vme_monitor.specs.Run.{break_of_fault, mark_at}
 use Rattle.vme_monitor.specs.declared.mark.Fault.{Fault}
 use Rattle.vme_monitor.specs.declared.mark.Mark.{Mark}
 use Rattle.vme_monitor.specs.declared.mark.MarkKind.{MarkKind}
@@ -33,8 +33,8 @@ reached-more o x s = more x (reached_at o)
 
 -- ---- breaks
 
-fault_moved : (n time : ℕ) (f : Option Fault) → option_map (break_at (n + 1) time) f
-    ≡ option_map (shifted_break n) (option_map (break_at 1 time) f)
+fault_moved : (n time : ℕ) (f : Option Fault) → option_map (break_of_fault (n + 1) time) f
+    ≡ option_map (shifted_break n) (option_map (break_of_fault 1 time) f)
 fault_moved n time None = refl
 fault_moved n time (Some f) = ap
     (λ (i : ℕ). Some (record { instant = i; time = time; rule = f.rule; line = f.line })) (turned n)
@@ -63,7 +63,7 @@ first_behind (s ∷ x) m o =
     (first_break_from (memories_next m o (changed o s.changes) s.changes) (changed o s.changes) x)
   where
     by_fault : (f : Option Fault) (rest : Option Break)
-        → Behind (earlier (option_map (break_at 1 s.time) f) (option_map (shifted_break 1) rest))
+        → Behind (earlier (option_map (break_of_fault 1 s.time) f) (option_map (shifted_break 1) rest))
     by_fault (Some f) rest = omega arith
     by_fault None None = tt
     by_fault None (Some b) = omega arith
@@ -180,17 +180,18 @@ module _ (s : Step) (o : Levels) (m : Memories) where
 
   -- the first break of the step, and of those behind it
   abbrev first_with : Option Fault → List Step → Option Break
-  first_with f x = earlier (option_map (break_at 1 s.time) f)
+  first_with f x = earlier (option_map (break_of_fault 1 s.time) f)
       (option_map (shifted_break 1) (first_break_from later next x))
 
   found_by : (x : List Step) (n : ℕ) (ms : List Mark)
       → (fold with_step (at next (n + 1) later (ms ++ map (mark_at (n + 1)) kinds)) x).found
       ≡ option_map (shifted_break (n + 1)) (first_break_from later next x) → (f : Option Fault)
-      → (fold with_step (found_then n ms (option_map (shifted_break n) (option_map (break_at 1 s.time) f))) x).found
+      → (fold with_step (found_then n ms (option_map (shifted_break n) (option_map (break_of_fault 1 s.time) f)))
+      x).found
       ≡ option_map (shifted_break n) (first_with f x)
   found_by x n ms rest (Some f) =
-      found_stays x (found_then n ms (Some (shifted_break n (break_at 1 s.time f))))
-      (shifted_break n (break_at 1 s.time f)) refl
+      found_stays x (found_then n ms (Some (shifted_break n (break_of_fault 1 s.time f))))
+      (shifted_break n (break_of_fault 1 s.time f)) refl
   found_by x n ms rest None = rest ∙ twice_moved n (first_break_from later next x)
 
   marks_by : (x : List Step) (n : ℕ) (ms : List Mark)
@@ -198,12 +199,13 @@ module _ (s : Step) (o : Levels) (m : Memories) where
       ≡ (ms ++ map (mark_at (n + 1)) kinds)
       ++ map (shifted_mark (n + 1)) (marks_listed (first_break_from later next x) (joined_marks later next x))
       → (f : Option Fault)
-      → (fold with_step (found_then n ms (option_map (shifted_break n) (option_map (break_at 1 s.time) f))) x).marks
+      → (fold with_step (found_then n ms (option_map (shifted_break n) (option_map (break_of_fault 1 s.time) f)))
+      x).marks
       ≡ ms ++ map (shifted_mark n) (marks_listed (first_with f x)
       (map (mark_at 1) kinds ++ map (shifted_mark 1) (joined_marks later next x)))
   marks_by x n ms rest (Some f) =
-      marks_stay x (found_then n ms (Some (shifted_break n (break_at 1 s.time f))))
-      (shifted_break n (break_at 1 s.time f)) refl
+      marks_stay x (found_then n ms (Some (shifted_break n (break_of_fault 1 s.time f))))
+      (shifted_break n (break_of_fault 1 s.time f)) refl
       ∙ (sym (append-nil ms)
       ∙ ap (λ (l : List Mark). ms ++ map (shifted_mark n) l) (sym (none_before kinds (joined_marks later next x))))
   marks_by x n ms rest None =

@@ -3,7 +3,7 @@ use Rattle.std.specs.Prelude.{◌≡◌, ◌+◌, ◌++◌, ℕ, List, map, leng
 use Rattle.std.specs.List.{fold}
 use Rattle.std.specs.Option.{option_map}
 use Rattle.vme_auditor.specs.declared.memories.AllShown.{AllShown}
-use Rattle.vme_monitor.specs.Run.{break_at, kinds_of, mark_at}
+use Rattle.vme_monitor.specs.Run.{break_of_fault, kinds_of, mark_at}
 use Rattle.vme_summary.specs.MarkedRows.{opening_marks}
 use Rattle.vme_trace.specs.Levels.{Levels}
 use Rattle.vme_trace.specs.Trace.{Trace, levels_at, time_at}
@@ -29,7 +29,7 @@ pub record IsNotedAtOpening (o : Levels) (n : Noted) : Type 0 where
 
 -- this is noted of a step at an instant and a time, between these levels, that shows this
 pub record AreNoted (v w : Levels) (instant time : ℕ) (shown : AllShown) (old new : Noted) : Type 0 where
-  pub found : new.found ≡ option_map (break_at instant time) shown.fault
+  pub found : new.found ≡ option_map (break_of_fault instant time) shown.fault
   pub marked : new.marked
       ≡ (if is_some shown.fault then old.marked
       else fold marked_next old.marked (map (mark_at instant)

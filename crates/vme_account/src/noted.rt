@@ -1,7 +1,7 @@
 //! What is noted of the steps of a recording up to its first break.
 
 ghost use Rattle.std.specs.Prelude.{◌≡◌, OnOk, None};
-ghost use Rattle.vme_monitor.specs.Run.{break_at};
+ghost use Rattle.vme_monitor.specs.Run.{break_of_fault};
 ghost use Rattle.vme_monitor.specs.StepRuns.{seen_in};
 ghost use Rattle.vme_account.specs.Judging.{AreNoted, IsNotedAtOpening};
 
@@ -98,7 +98,7 @@ impl Noted {
 
 /// A break by its fault.
 fn break_of(fault: Fault, instant: u32, time: u64) -> Break
-    ensures { result ≡ break_at instant time fault }
+    ensures { result ≡ break_of_fault instant time fault }
 {
     Break {
         instant,

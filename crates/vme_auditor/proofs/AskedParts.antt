@@ -24,7 +24,7 @@ use Rattle.vme_monitor.specs.Ends.{end_among}
 use Rattle.vme_monitor.specs.KnownRules.{known_begin}
 use Rattle.vme_monitor.specs.Outcome.{BreakWithin, earlier, shifted_break}
 use Rattle.vme_monitor.specs.OverStretches.{has_started, start_in}
-use Rattle.vme_monitor.specs.Run.{break_at}
+use Rattle.vme_monitor.specs.Run.{break_of_fault}
 use Rattle.vme_monitor.specs.Whole.{has_span}
 use Rattle.vme_monitor.specs.declared.known.Stateless.{Stateless}
 use Rattle.vme_monitor.specs.declared.mark.Fault.{Fault}
@@ -136,7 +136,7 @@ module _ (m : Memories) (o : Levels) (s : Step) (x : List Step) (e : AskedEvents
       ≡ events_to next after more x (first_break_from next after x)
       → events_from (memories_behind f after next) after (events_behind f after more) x
       ≡ events_to m o e (s ∷ x)
-      (earlier (option_map (break_at 1 time) f) (option_map (shifted_break 1) (first_break_from next after x)))
+      (earlier (option_map (break_of_fault 1 time) f) (option_map (shifted_break 1) (first_break_from next after x)))
   unfolding levels_at quiet_events
   to_stepped None time so_far = so_far ∙ to_later (first_break_from next after x)
   to_stepped (Some f) time so_far = refl
@@ -302,14 +302,14 @@ break_judged t b e = spans_named t (judged_spans t) b e
 -- the first break is that of the steps up to it
 module _ (s : Step) (x : List Step) (m next : Memories) (o after : Levels) (b : Break) where
   cut_stepped : (f : Option Fault) (found : Option Break)
-      → earlier (option_map (break_at 1 s.time) f) (option_map (shifted_break 1) found) ≡ Some b
+      → earlier (option_map (break_of_fault 1 s.time) f) (option_map (shifted_break 1) found) ≡ Some b
       → ((c : Break) → found ≡ Some c → first_break_from next after (take c.instant x) ≡ Some c)
       → ((k : ℕ) → first_break_from m o (s ∷ take k x)
-      ≡ earlier (option_map (break_at 1 s.time) f)
+      ≡ earlier (option_map (break_of_fault 1 s.time) f)
       (option_map (shifted_break 1) (first_break_from next after (take k x))))
       → first_break_from m o (take b.instant (s ∷ x)) ≡ Some b
   cut_stepped (Some f) found h so_far step =
-      let same : break_at 1 s.time f ≡ b = cc in
+      let same : break_of_fault 1 s.time f ≡ b = cc in
       ap (λ (b : Break). first_break_from m o (take b.instant (s ∷ x))) (sym same) ∙ step 0 ∙ h
   cut_stepped None None h so_far step = absurd (cc)
   cut_stepped None (Some c) h so_far step =

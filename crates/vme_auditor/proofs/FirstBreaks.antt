@@ -13,7 +13,7 @@ use Rattle.vme_trace.specs.declared.verdict.Verdict.TheVariants.{Broken, Unreada
 use Rattle.vme_monitor.specs.BothMonitors.{least, least_joined, sooner}
 use Rattle.vme_monitor.specs.Outcome.{BreakWithin, earlier, shifted_break}
 use Rattle.vme_monitor.specs.RuleMonitors.{run_within}
-use Rattle.vme_monitor.specs.Run.{break_at}
+use Rattle.vme_monitor.specs.Run.{break_of_fault}
 use Rattle.vme_monitor.specs.declared.mark.Fault.{Fault}
 use Rattle.vme_audit.specs.Parts.{named_break}
 use Rattle.vme_summary.specs.Runs.{acknowledge_run, grant_run, handshake_run, known_run, stability_run}
@@ -24,7 +24,7 @@ use Rattle.vme_auditor.specs.declared.memories.Memories.{Memories}
 
 -- a fault at the first instant
 abbrev first_at : ℕ → Option Fault → Option Break
-first_at time f = option_map (break_at 1 time) f
+first_at time f = option_map (break_of_fault 1 time) f
 
 abbrev later : Option Break → Option Break
 later e = option_map (shifted_break 1) e
@@ -57,7 +57,7 @@ faults_least time None g = refl
 faults_least time (Some f) None = refl
 faults_least time (Some f) (Some g) = chosen (comes_before g f)
   where
-    chosen : (t : Bool) → cond t (Some (break_at 1 time g)) (Some (break_at 1 time f))
+    chosen : (t : Bool) → cond t (Some (break_of_fault 1 time g)) (Some (break_of_fault 1 time f))
         ≡ first_at time (cond t (Some g) (Some f))
     chosen true = refl
     chosen false = refl

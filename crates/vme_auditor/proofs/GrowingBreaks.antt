@@ -12,7 +12,7 @@ use Rattle.vme_trace.specs.Trace.{Trace, changed}
 use Rattle.vme_trace.specs.WellFormed.{malformed_step}
 use Rattle.vme_trace.specs.declared.step.Step.{Step}
 use Rattle.vme_trace.specs.declared.verdict.Break.{Break}
-use Rattle.vme_monitor.specs.Run.{break_at}
+use Rattle.vme_monitor.specs.Run.{break_of_fault}
 use Rattle.vme_monitor.specs.declared.mark.Fault.{Fault}
 use Rattle.vme_audit.specs.Parts.{breaks}
 use Rattle.vme_summary.proofs.Sound.{sound_apart}
@@ -21,15 +21,15 @@ use Rattle.vme_auditor.specs.Growth.{StepBreaks}
 use Rattle.vme_auditor.specs.Memories.{first_fault_of}
 use Rattle.vme_auditor.proofs.ToldBreaks.{FindsFirst, told_are_breaks}
 
-own_instant : (n time : ℕ) (f : Option Fault) → IfSome (option_map (break_at n time) f) (λ b. b.instant ≡ n)
+own_instant : (n time : ℕ) (f : Option Fault) → IfSome (option_map (break_of_fault n time) f) (λ b. b.instant ≡ n)
 own_instant n time None = tt
 own_instant n time (Some f) = refl
 
 own_within : (n m time : ℕ) → n ≤ m → (f : Option Fault)
-    → All (λ (b : Break). b.instant ≤ m) (option_to_list (option_map (break_at n time) f))
+    → All (λ (b : Break). b.instant ≤ m) (option_to_list (option_map (break_of_fault n time) f))
 own_within n m time le None = All-nil (λ (b : Break). b.instant ≤ m)
 own_within n m time le (Some f) =
-    All-cons (λ (b : Break). b.instant ≤ m) (break_at n time f) [] le (All-nil (λ (b : Break). b.instant ≤ m))
+    All-cons (λ (b : Break). b.instant ≤ m) (break_of_fault n time f) [] le (All-nil (λ (b : Break). b.instant ≤ m))
 
 -- what was told is at the instants of the steps
 told_within : (x : List Step) (r : AuditReached) → All (λ (b : Break). b.instant ≤ r.instant) r.told
@@ -42,7 +42,8 @@ told_within (s ∷ x) r so_far =
     let found = first_fault_of r.audit.memories r.levels (changed r.levels s.changes) s.changes in
     let before = All-weaker (λ (b : Break). b.instant ≤ r.instant) (λ (b : Break). b.instant ≤ n) (λ b le. omega arith)
     r.told so_far in
-    let next = All-append (λ (b : Break). b.instant ≤ n) r.told (option_to_list (option_map (break_at n s.time) found))
+    let next = All-append (λ (b : Break). b.instant ≤ n) r.told
+    (option_to_list (option_map (break_of_fault n s.time) found))
     before (own_within n n s.time (omega arith) found) in
     All-weaker (λ (b : Break). b.instant ≤ n + length x) (λ (b : Break). b.instant ≤ r.instant + length (s ∷ x))
     (λ b le. omega arith) (fold with_step (with_step r s) x).told (told_within x (with_step r s) next)
@@ -76,13 +77,13 @@ module _ (finds : FindsFirst) where
       let more : reached_after t.opening (t.steps ++ s ∷ []) ≡ with_step r s =
       fold-append with_step (reached_at t.opening) t.steps (s ∷ []) in
       record {
-        found = option_map (break_at (r.instant + 1) s.time) fault;
+        found = option_map (break_of_fault (r.instant + 1) s.time) fault;
         own =
-            subst (λ k. IfSome (option_map (break_at (r.instant + 1) s.time) fault) (λ b. b.instant ≡ k + 1)) n
+            subst (λ k. IfSome (option_map (break_of_fault (r.instant + 1) s.time) fault) (λ b. b.instant ≡ k + 1)) n
             (own_instant (r.instant + 1) s.time fault);
         grown =
             told_are_breaks finds (with_steps t (s ∷ [])) ok few
             ∙ ap (λ (r : AuditReached). r.told) more
-            ∙ ap (λ (bs : List Break). bs ++ option_to_list (option_map (break_at (r.instant + 1) s.time) fault))
+            ∙ ap (λ (bs : List Break). bs ++ option_to_list (option_map (break_of_fault (r.instant + 1) s.time) fault))
             (sym (told_are_breaks finds t (sound_apart t.opening t.steps (s ∷ []) ok).first few));
       }

@@ -13,7 +13,7 @@ use Rattle.vme_trace.specs.declared.step.Step.{Step}
 use Rattle.vme_trace.specs.declared.verdict.Break.{Break}
 use Rattle.vme_monitor.specs.Outcome.{BreakWithin, earlier, shifted_break}
 use Rattle.vme_monitor.specs.OverStretches.{has_started}
-use Rattle.vme_monitor.specs.Run.{break_at}
+use Rattle.vme_monitor.specs.Run.{break_of_fault}
 use Rattle.vme_monitor.specs.Whole.{has_span}
 use Rattle.vme_monitor.specs.declared.mark.Fault.{Fault}
 use Rattle.vme_audit.specs.Covered.{has_stretch, is_judged_part}
@@ -70,7 +70,7 @@ module _ (m : Memories) (o : Levels) (s : Step) (x : List Step) where
       ≡ memories_to next after x (first_break_from next after x)
       → memories_from (memories_behind f after next) after x
       ≡ memories_to m o (s ∷ x)
-      (earlier (option_map (break_at 1 time) f) (option_map (shifted_break 1) (first_break_from next after x)))
+      (earlier (option_map (break_of_fault 1 time) f) (option_map (shifted_break 1) (first_break_from next after x)))
   unfolding levels_at quiet_memories
   to_stepped None time so_far = so_far ∙ to_later (first_break_from next after x)
   to_stepped (Some f) time so_far = refl
@@ -141,7 +141,7 @@ last_stepped r s so_far =
     by_fault : (f : Option Fault) → first_fault_of r.audit.memories r.levels (changed r.levels s.changes) s.changes ≡ f
         → KeepsLast (with_step r s)
     by_fault None e = rw e (so_far ∙ ap last_instant_of (sym (append-nil r.told)))
-    by_fault (Some f) e = rw e (sym (last_told r.told (break_at (r.instant + 1) s.time f)))
+    by_fault (Some f) e = rw e (sym (last_told r.told (break_of_fault (r.instant + 1) s.time f)))
 
 pub last_along : (x : List Step) (r : AuditReached) → KeepsLast r → KeepsLast (fold with_step r x)
 last_along [] r so_far = so_far

@@ -12,7 +12,8 @@ use Rattle.vme_trace.specs.declared.data.Lanes.{Lanes}
 use Rattle.vme_trace.specs.declared.step.Step.{Step}
 use Rattle.vme_trace.specs.declared.verdict.Break.{Break}
 use Rattle.vme_monitor.specs.Outcome.{BreakWithin, earlier, shifted_break, shifted_mark}
-use Rattle.vme_monitor.specs.Run.{answer_kind, answered_kind, break_at, cycle_kind, kinds_of, mark_at, tenure_kind}
+use Rattle.vme_monitor.specs.Run.{answer_kind, answered_kind, break_of_fault, cycle_kind, kinds_of, mark_at}
+use Rattle.vme_monitor.specs.Run.{tenure_kind}
 use Rattle.vme_monitor.specs.Run.{when}
 use Rattle.vme_monitor.specs.declared.mark.BusGrant.{BusGrant}
 use Rattle.vme_monitor.specs.declared.mark.CycleStart.{CycleStart}
@@ -254,7 +255,7 @@ module _ (m : Memories) (o : Levels) (s : Step) (x : List Step) (n : ℕ) (a : T
       (tally_behind suc f a (n + 1) s.time (known_at m.known o after s.changes).shown
       (grant_at m.grant o after s.changes).shown (handshake_at m.handshake o after s.changes).shown) x
       ≡ tally_from m o n a (s ∷ x)
-      (earlier (option_map (break_at 1 s.time) f) (option_map (shifted_break 1) (first_break_from next after x)))
+      (earlier (option_map (break_of_fault 1 s.time) f) (option_map (shifted_break 1) (first_break_from next after x)))
   unfolding levels_at quiet_tally
   from_stepped None so_far = so_far ∙ from_later (first_break_from next after x) (first_within x next after)
   from_stepped (Some f) so_far = refl

@@ -13,7 +13,7 @@ use Rattle.vme_trace.specs.declared.verdict.Break.{Break}
 use Rattle.vme_trace.proofs.Changing.{slots-kept}
 use Rattle.vme_trace.proofs.CutBlocks.{levels_at-taken}
 use Rattle.vme_monitor.specs.Outcome.{BreakWithin, earlier, shifted_break}
-use Rattle.vme_monitor.specs.Run.{break_at}
+use Rattle.vme_monitor.specs.Run.{break_of_fault}
 use Rattle.vme_monitor.specs.declared.mark.Fault.{Fault}
 use Rattle.vme_audit.specs.Parts.{breaks, breaks_of, moved_by, named_break, own_break, part_behind, parts}
 use Rattle.vme_audit.specs.Parts.{parts_from}
@@ -96,9 +96,9 @@ module _ (o : Levels) (s : Step) (x : List Step) (n : ℕ) where
   -- where what is told behind a step is so
   first_stepped : (f : Option Fault) (m : Memories) → told_by m after (n + 1) x
       ≡ told_behind after (n + 1) x (first_break_from m after x)
-      → option_to_list (option_map (break_at (n + 1) s.time) f)
+      → option_to_list (option_map (break_of_fault (n + 1) s.time) f)
       ++ told_by (memories_behind f after m) after (n + 1) x ≡ told_behind o n (s ∷ x)
-      (earlier (option_map (break_at 1 s.time) f) (option_map (shifted_break 1) (first_break_from m after x)))
+      (earlier (option_map (break_of_fault 1 s.time) f) (option_map (shifted_break 1) (first_break_from m after x)))
   unfolding levels_at
   first_stepped None m so_far = so_far ∙ behind_later o n s x (first_break_from m after x)
   first_stepped (Some f) m so_far = refl

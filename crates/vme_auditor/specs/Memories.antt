@@ -6,7 +6,7 @@ use Rattle.vme_trace.specs.declared.step.Change.{Change}
 use Rattle.vme_trace.specs.Names.{rule_number}
 use Rattle.vme_trace.specs.declared.verdict.Break.{Break}
 use Rattle.vme_monitor.specs.OverStretches.{observed, phase_step, start_in}
-use Rattle.vme_monitor.specs.Run.{break_at, nothing, machine_step}
+use Rattle.vme_monitor.specs.Run.{break_of_fault, nothing, machine_step}
 use Rattle.vme_monitor.specs.KnownRules.{known_begin, known_end_fault, known_next, known_start_marks, known_reset_marks}
 use Rattle.vme_monitor.specs.KnownRules.{known_observation}
 use Rattle.vme_monitor.specs.declared.known.Stateless.{Stateless}
@@ -94,7 +94,7 @@ first_fault_of m before after changes =
 
 -- the same as a break, at an instant and a time
 abbrev pub fault_at : Memories → Levels → Levels → List Change → ℕ → ℕ → Option Break
-fault_at m before after changes n time = option_map (break_at n time) (first_fault_of m before after changes)
+fault_at m before after changes n time = option_map (break_of_fault n time) (first_fault_of m before after changes)
 
 -- all monitors go on past a step, and this is what it shows to them
 pub record AllGoOn (old : Memories) (before after : Levels) (changes : List Change) (new : Memories) (shown : AllShown)

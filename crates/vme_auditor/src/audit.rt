@@ -1,7 +1,7 @@
 //! What an audit has come to.
 
 ghost use Rattle.std.specs.Prelude.{◌≡◌, option_map};
-ghost use Rattle.vme_monitor.specs.Run.{break_at};
+ghost use Rattle.vme_monitor.specs.Run.{break_of_fault};
 ghost use Rattle.vme_monitor.specs.StepRuns.{seen_in};
 ghost use Rattle.vme_auditor.specs.Audited.{begun_anew, begun_at, ended_with, events_by, stepped};
 ghost use Rattle.vme_auditor.specs.Breaks.{as_break};
@@ -93,7 +93,7 @@ impl Audit {
     ) -> Option<AuditBreak>
         ensures audit { self.new ≡ ended_with self.old after.now instant time shown.now.stretch shown.now.tenure
             shown.now.transfer shown.now.fault }
-        ensures found { option_map as_break result ≡ option_map (break_at instant time) shown.now.fault }
+        ensures found { option_map as_break result ≡ option_map (break_of_fault instant time) shown.now.fault }
     {
         match shown.fault {
             Some(Fault { rule, line }) => {

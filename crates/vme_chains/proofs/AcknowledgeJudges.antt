@@ -10,12 +10,12 @@ use Rattle.vme_trace.specs.Levels.{Levels}
 use Rattle.vme_trace.specs.Trace.{Trace, levels_at, time_at, changed}
 use Rattle.vme_trace.specs.WellFormed.{malformed_step}
 use Rattle.vme_trace.specs.Judged.{Stretch}
-use Rattle.vme_trace.specs.Verdict.{break_at as rules_break_at, rule_break}
+use Rattle.vme_trace.specs.Verdict.{break_at, rule_break}
 use Rattle.vme_trace.specs.declared.rule.Rule.TheVariants.{I1, I2, I3}
 use Rattle.vme_trace.specs.declared.step.Change.{Change}
 use Rattle.vme_trace.proofs.SpanEnds.{slots_at}
 use Rattle.vme_monitor.specs.Along.{changes_of, next_at, memory_from}
-use Rattle.vme_monitor.specs.Run.{break_at, machine_step, nothing, run_of}
+use Rattle.vme_monitor.specs.Run.{break_of_fault, machine_step, nothing, run_of}
 use Rattle.vme_monitor.specs.OverStretches.{observed, phase_step, start_in}
 use Rattle.vme_monitor.specs.Whole.{FindsLeast, ShowsAll}
 use Rattle.vme_monitor.specs.declared.mark.Next.{Next}
@@ -106,11 +106,11 @@ module _ (t : Trace) (span : Stretch) (ok : malformed_step t ≡ None) (few : t.
         (holds_next t span facts n from before m h)
 
     -- the first of the rules that is broken
-    fault_is : (m : Acknowledgement) → Holds t span n m → option_map (break_at (suc n) (time_at t (suc n)))
-        (next_at step t m n).fault ≡ rules_break_at t span acknowledge_rules (suc n)
-    unfolding rules_break_at rule_break
+    fault_is : (m : Acknowledgement) → Holds t span n m → option_map (break_of_fault (suc n) (time_at t (suc n)))
+        (next_at step t m n).fault ≡ break_at t span acknowledge_rules (suc n)
+    unfolding break_at rule_break
     fault_is m h =
-        ap (λ (x : Next Acknowledgement). option_map (break_at (suc n) (time_at t (suc n))) x.fault) (next_is m h)
+        ap (λ (x : Next Acknowledgement). option_map (break_of_fault (suc n) (time_at t (suc n))) x.fault) (next_is m h)
         ∙ rw (
           least_input t span n from before,
           least_strobes t span n from before,
@@ -122,7 +122,7 @@ module _ (t : Trace) (span : Stretch) (ok : malformed_step t ≡ None) (few : t.
         (by_lines (least (passes_unasked old new) 0 line_count) (least (passes_on old new) 0 line_count))
       where
         by_tests : (l : ℕ) (strobed late : Bool)
-            → option_map (break_at (suc n) (time_at t (suc n))) (cond (not strobed) (Some (fault_on I2 l))
+            → option_map (break_of_fault (suc n) (time_at t (suc n))) (cond (not strobed) (Some (fault_on I2 l))
             (cond late (Some (fault_on I3 l)) None))
             ≡ option_or (option_map (λ l. record { instant = suc n; time = time_at t (suc n); rule = I2; line = l })
             (cond (not strobed) (Some l) None))
@@ -133,7 +133,7 @@ module _ (t : Trace) (span : Stretch) (ok : malformed_step t ≡ None) (few : t.
         by_tests l true false = refl
 
         none_left : (strobed late : Bool)
-            → option_map (break_at (suc n) (time_at t (suc n))) None
+            → option_map (break_of_fault (suc n) (time_at t (suc n))) None
             ≡ option_or (option_map (λ l. record { instant = suc n; time = time_at t (suc n); rule = I2; line = l })
             (cond (not strobed) None None))
             (option_or (option_map (λ l. record { instant = suc n; time = time_at t (suc n); rule = I3; line = l })
@@ -144,7 +144,7 @@ module _ (t : Trace) (span : Stretch) (ok : malformed_step t ≡ None) (few : t.
         none_left true false = refl
 
         by_lines : (unasked first : Option ℕ)
-            → option_map (break_at (suc n) (time_at t (suc n))) (fault_among m old new unasked first)
+            → option_map (break_of_fault (suc n) (time_at t (suc n))) (fault_among m old new unasked first)
             ≡ option_or (option_map (λ l. record { instant = suc n; time = time_at t (suc n); rule = I1; line = l })
             unasked)
             (option_or (option_map (λ l. record { instant = suc n; time = time_at t (suc n); rule = I2; line = l })
@@ -176,7 +176,7 @@ module _ (t : Trace) (span : Stretch) (ok : malformed_step t ≡ None) (few : t.
       ]
 
   pub acknowledge_inside : (n : ℕ) → span.start ≤ n → suc n < span.end → n < length t.steps
-      → option_map (break_at (suc n) (time_at t (suc n))) (next_at step t (memory_at n) n).fault ≡ rules_break_at t span
+      → option_map (break_of_fault (suc n) (time_at t (suc n))) (next_at step t (memory_at n) n).fault ≡ break_at t span
       acknowledge_rules (suc n)
   acknowledge_inside n from before within = fault_is n from before within (memory_at n)
       (holds_at n from (omega arith) (omega arith))

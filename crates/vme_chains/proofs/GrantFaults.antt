@@ -10,12 +10,12 @@ use Rattle.vme_trace.specs.Trace.{Trace, levels_at, time_at, changed}
 use Rattle.vme_trace.specs.WellFormed.{are_changes}
 use Rattle.vme_trace.specs.Judged.{Stretch}
 use Rattle.vme_trace.specs.Rules.{breaks, is_option_equal}
-use Rattle.vme_trace.specs.Verdict.{break_at as rules_break_at, rule_break}
+use Rattle.vme_trace.specs.Verdict.{break_at, rule_break}
 use Rattle.vme_trace.specs.declared.rule.Rule.{Rule}
 use Rattle.vme_trace.specs.declared.rule.Rule.TheVariants.{G1, G2, G3, G4, G5, B1, B2, B3, B4}
 use Rattle.vme_trace.specs.declared.step.Change.{Change}
 use Rattle.vme_trace.specs.declared.verdict.Break.{Break}
-use Rattle.vme_monitor.specs.Run.{break_at}
+use Rattle.vme_monitor.specs.Run.{break_of_fault}
 use Rattle.vme_chains.specs.GrantLevels.{falls_between, first_changed, is_net_broken, grant_begins, requested_in}
 use Rattle.vme_chains.specs.GrantLevels.{taken_between, is_ungranted, is_cycle_unowned}
 use Rattle.vme_chains.specs.GrantMemory.{union}
@@ -43,7 +43,7 @@ first_broken j time g1 g2 g3 g4 g5 b1 b2 b3 b4 =
     (option_or (broken_on j time B4 b4) None))))))))
 
 first_of_nine : (j time : ℕ) (g1 g2 g3 g4 g5 b1 b2 b3 b4 : Option ℕ)
-    → option_map (break_at j time)
+    → option_map (break_of_fault j time)
     (option_or (option_or (fault_on G1 g1) (option_or (fault_on G2 g2) (option_or (fault_on G3 g3) (fault_on G4 g4))))
     (option_or (fault_on G5 g5)
     (option_or (fault_on B1 b1) (option_or (fault_on B2 b2) (option_or (fault_on B3 b3) (fault_on B4 b4))))))
@@ -66,8 +66,8 @@ module _ (t : Trace) (span : Stretch) where
       → least (breaks t span G5 j) 0 line_count ≡ g5 → least (breaks t span B1 j) 0 line_count ≡ b1
       → least (breaks t span B2 j) 0 line_count ≡ b2 → least (breaks t span B3 j) 0 line_count ≡ b3
       → least (breaks t span B4 j) 0 line_count ≡ b4
-      → rules_break_at t span grant_rules j ≡ first_broken j (time_at t j) g1 g2 g3 g4 g5 b1 b2 b3 b4
-  unfolding rules_break_at rule_break
+      → break_at t span grant_rules j ≡ first_broken j (time_at t j) g1 g2 g3 g4 g5 b1 b2 b3 b4
+  unfolding break_at rule_break
   rules_first j g1 g2 g3 g4 g5 b1 b2 b3 b4 e1 e2 e3 e4 e5 f1 f2 f3 f4 = rw (e1, e2, e3, e4, e5, f1, f2, f3, f4) refl
 
   module _ (few : t.opening.slots ≤ 21) (n : ℕ) (from : span.start ≤ n) (before : suc n < span.end) (cs : List Change)
@@ -83,9 +83,9 @@ module _ (t : Trace) (span : Stretch) where
     requests = cond (grant_begins old new)
         (option_map (λ n. grant n 0) (unrequested old new (union m.requests (requested_in new)))) None
 
-    pub fault-is : option_map (break_at (suc n) (time_at t (suc n)))
+    pub fault-is : option_map (break_of_fault (suc n) (time_at t (suc n)))
         (step_fault old new (union m.requests (requested_in new)) (m.granted || grant_begins old new)
-        (seen_between old new cs)) ≡ rules_break_at t span grant_rules (suc n)
+        (seen_between old new cs)) ≡ break_at t span grant_rules (suc n)
     fault-is =
         first_of_nine (suc n) (time_at t (suc n)) (first_changed (is_net_broken G1 old new) cs)
         (first_changed (is_net_broken G2 old new) cs) (first_changed (is_net_broken G3 old new) cs)

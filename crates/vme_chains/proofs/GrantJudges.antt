@@ -11,11 +11,11 @@ use Rattle.vme_trace.specs.WellFormed.{malformed_step, are_changes}
 use Rattle.vme_trace.specs.Signals.{low, falls, rises}
 use Rattle.vme_trace.specs.Judged.{Stretch, is_judged}
 use Rattle.vme_trace.specs.Tenures.{grant_falls, tenure_starts}
-use Rattle.vme_trace.specs.Verdict.{break_at as rules_break_at}
+use Rattle.vme_trace.specs.Verdict.{break_at}
 use Rattle.vme_trace.specs.declared.step.Change.{Change}
 use Rattle.vme_trace.proofs.OpenTransfers.{is_judged-holds}
 use Rattle.vme_monitor.specs.Along.{changes_of, next_at, memory_from}
-use Rattle.vme_monitor.specs.Run.{break_at, machine_step, run_of, nothing, quiet}
+use Rattle.vme_monitor.specs.Run.{break_of_fault, machine_step, run_of, nothing, quiet}
 use Rattle.vme_monitor.specs.OverStretches.{observed, phase_step, start_in}
 use Rattle.vme_monitor.specs.Whole.{FindsLeast, ShowsAll}
 use Rattle.vme_monitor.specs.declared.mark.BusGrant.{BusGrant}
@@ -150,11 +150,11 @@ module _ (t : Trace) (span : Stretch) (few : t.opening.slots ≤ 21) where
         (takes-none t span few n from before cs step fit none.0) none.1)
 
     fault_here : (m : Arbitration) → Holds t span n m
-        → option_map (break_at (suc n) (time_at t (suc n)))
+        → option_map (break_of_fault (suc n) (time_at t (suc n)))
         (machine_step grant_observation grant_next m old new cs).fault
-        ≡ rules_break_at t span grant_rules (suc n)
+        ≡ break_at t span grant_rules (suc n)
     fault_here m held =
-        ap (option_map (break_at (suc n) (time_at t (suc n))))
+        ap (option_map (break_of_fault (suc n) (time_at t (suc n))))
         (fault_by m (touches_arbitration cs || is_cycle_unowned old new) refl)
         ∙ fault-is t span few n from before cs step fit m held
 
@@ -220,9 +220,9 @@ module _ (t : Trace) (span : Stretch) (few : t.opening.slots ≤ 21) where
         ]
 
     pub grant_inside : (n : ℕ) → span.start ≤ n → suc n < span.end → n < length t.steps
-        → option_map (break_at (suc n) (time_at t (suc n))) (next_at (machine_step grant_observation grant_next) t
+        → option_map (break_of_fault (suc n) (time_at t (suc n))) (next_at (machine_step grant_observation grant_next) t
         (memory n)
-        n).fault ≡ rules_break_at t span grant_rules (suc n)
+        n).fault ≡ break_at t span grant_rules (suc n)
     grant_inside n from before within =
         fault_here n from before (changes_of (slice_get t.steps n)) (levels_step t n within) (changes_fit t n ok within)
         (memory n) (holds_along n from (omega arith) (omega arith))

@@ -16,7 +16,7 @@ use Rattle.vme_trace.specs.Verdict.{rule_break}
 use Rattle.vme_trace.specs.declared.rule.Rule.{Rule}
 use Rattle.vme_trace.specs.declared.rule.Rule.TheVariants.{C1, C2, I4, I5}
 use Rattle.vme_trace.proofs.OpenTransfers.{ReadsStrobes}
-use Rattle.vme_monitor.specs.Run.{break_at}
+use Rattle.vme_monitor.specs.Run.{break_of_fault}
 use Rattle.vme_monitor.specs.Tracking.{entered, is_unanswered, is_writing}
 use Rattle.vme_monitor.specs.declared.tracking.TransferPhase.{TransferPhase}
 use Rattle.vme_monitor.specs.declared.tracking.TransferPhase.TheVariants.{Closed, Reading, Writing, Answered}
@@ -24,11 +24,11 @@ use Rattle.vme_monitor.proofs.TrackedTransfers.{answers_write_is}
 use Rattle.vme_dtb.specs.CycleState.{cycle_entered, is_interrupt_acknowledge, is_answered_interrupt_acknowledge}
 use Rattle.vme_dtb.specs.CycleState.{is_read_modify_write_broken, is_direction_changed}
 use Rattle.vme_dtb.specs.Edge.{cycle_start_of, edges_between}
-use Rattle.vme_dtb.specs.Machine.{answer_in, broken, cycle_faults, cycle_rules}
+use Rattle.vme_dtb.specs.Machine.{answer_in, fault_if, cycle_faults, cycle_rules}
 use Rattle.vme_dtb.specs.declared.cycle.CyclePhase.{CyclePhase}
 use Rattle.vme_dtb.specs.declared.edges.Edges.{Edges}
 use Rattle.vme_dtb.specs.declared.memory.HandshakeMemory.{HandshakeMemory}
-use Rattle.vme_dtb.proofs.Faults.{AreOf}
+use Rattle.vme_dtb.proofs.Faults.{AreBreaksOf}
 use Rattle.vme_dtb.proofs.CycleMemory.{before_is, cycle_before, in_interrupt_acknowledge}
 use Rattle.vme_dtb.proofs.CycleMemory.{in_answered_interrupt_acknowledge, in_broken_read_modify_write}
 use Rattle.vme_dtb.proofs.CycleMemory.{in_changed_direction}
@@ -106,7 +106,7 @@ module _ (t : Trace) (span : Stretch) (reads : ReadsStrobes t span) (n : ℕ) (f
       → ((l : ℕ) → breaks t span r (suc n) l ≡ (is_judged span (suc n) && has_line t.opening.slots l
       && (is_answer_line l && falls t l (suc n) && (is_answer t span (suc n) && x))))
       → x ≡ f (cycle_before t span (suc n)) (answers_write t span (suc n))
-      → option_map (break_at (suc n) (time_at t (suc n))) (broken r (f here (is_writing within))
+      → option_map (break_of_fault (suc n) (time_at t (suc n))) (fault_if r (f here (is_writing within))
       (answer_in within seen)) ≡ rule_break t span (suc n) r
   from_cycle r x f form e =
       rule_from t n span from before r (f here (is_writing within)) (answer_in within seen)
@@ -134,8 +134,8 @@ module _ (t : Trace) (span : Stretch) (reads : ReadsStrobes t span) (n : ℕ) (f
   form_c1 l = ap (λ b. is_judged span (suc n) && has_line t.opening.slots l && b)
       (gathered (is_answer_line l && falls t l (suc n)) (is_answer t span (suc n)) read_modify_write_broken)
 
-  c1 : option_map (break_at (suc n) (time_at t (suc n)))
-      (broken C1 (is_read_modify_write_broken here (is_writing within))
+  c1 : option_map (break_of_fault (suc n) (time_at t (suc n)))
+      (fault_if C1 (is_read_modify_write_broken here (is_writing within))
       (answer_in within seen)) ≡ rule_break t span (suc n) C1
   c1 = from_cycle C1 read_modify_write_broken is_read_modify_write_broken form_c1
       (in_broken_read_modify_write t span (suc n))
@@ -151,7 +151,8 @@ module _ (t : Trace) (span : Stretch) (reads : ReadsStrobes t span) (n : ℕ) (f
   form_c2 l = ap (λ b. is_judged span (suc n) && has_line t.opening.slots l && b)
       (gathered (is_answer_line l && falls t l (suc n)) (is_answer t span (suc n)) direction_changed)
 
-  c2 : option_map (break_at (suc n) (time_at t (suc n))) (broken C2 (is_direction_changed here (is_writing within))
+  c2 : option_map (break_of_fault (suc n) (time_at t (suc n)))
+      (fault_if C2 (is_direction_changed here (is_writing within))
       (answer_in within seen)) ≡ rule_break t span (suc n) C2
   c2 = from_cycle C2 direction_changed is_direction_changed form_c2 (in_changed_direction t span (suc n))
 
@@ -165,7 +166,7 @@ module _ (t : Trace) (span : Stretch) (reads : ReadsStrobes t span) (n : ℕ) (f
   form_i5 l = ap (λ b. is_judged span (suc n) && has_line t.opening.slots l && b)
       (gathered (is_answer_line l && falls t l (suc n)) (is_answer t span (suc n)) answered_interrupt_acknowledge)
 
-  i5 : option_map (break_at (suc n) (time_at t (suc n))) (broken I5 (is_answered_interrupt_acknowledge here)
+  i5 : option_map (break_of_fault (suc n) (time_at t (suc n))) (fault_if I5 (is_answered_interrupt_acknowledge here)
       (answer_in within seen))
       ≡ rule_break t span (suc n) I5
   i5 = from_cycle I5 answered_interrupt_acknowledge (λ c w. is_answered_interrupt_acknowledge c) form_i5
@@ -180,7 +181,8 @@ module _ (t : Trace) (span : Stretch) (reads : ReadsStrobes t span) (n : ℕ) (f
   form_i4 l = ap (λ b. is_judged span (suc n) && has_line t.opening.slots l && b)
       (gathered (is_answer_line l && falls t l (suc n)) (answers_write t span (suc n)) interrupt_acknowledge)
 
-  i4 : option_map (break_at (suc n) (time_at t (suc n))) (broken I4 (is_interrupt_acknowledge here && is_writing within)
+  i4 : option_map (break_of_fault (suc n) (time_at t (suc n)))
+      (fault_if I4 (is_interrupt_acknowledge here && is_writing within)
       (answer_in within seen)) ≡ rule_break t span (suc n) I4
   i4 =
       rule_from t n span from before I4 (is_interrupt_acknowledge here && is_writing within) (answer_in within seen)
@@ -197,6 +199,7 @@ module _ (t : Trace) (span : Stretch) (reads : ReadsStrobes t span) (n : ℕ) (f
       same_and a b c d e f = rw (e, f) refl
 
   -- each fault is that of its rule
-  pub cycles-broken : AreOf (break_at (suc n) (time_at t (suc n))) (rule_break t span (suc n)) cycle_rules
+  pub cycle_faults-are-breaks : AreBreaksOf (break_of_fault (suc n) (time_at t (suc n))) (rule_break t span (suc n))
+      cycle_rules
       (cycle_faults here (is_writing within) (answer_in within seen))
-  cycles-broken = (c1, (c2, (i4, (i5, tt))))
+  cycle_faults-are-breaks = (c1, (c2, (i4, (i5, tt))))

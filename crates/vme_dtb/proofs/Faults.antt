@@ -9,15 +9,15 @@ use Rattle.vme_trace.specs.declared.verdict.Break.{Break}
 use Rattle.vme_monitor.specs.declared.mark.Fault.{Fault}
 use Rattle.vme_dtb.specs.CycleState.{is_interrupt_acknowledge, is_answered_interrupt_acknowledge}
 use Rattle.vme_dtb.specs.CycleState.{is_read_modify_write_broken, is_direction_changed}
-use Rattle.vme_dtb.specs.Machine.{broken, cycle_fault, cycle_faults, first_of_faults, or_first}
+use Rattle.vme_dtb.specs.Machine.{fault_if, cycle_fault, cycle_faults, first_of_faults, or_first}
 use Rattle.vme_dtb.specs.declared.cycle.CyclePhase.{CyclePhase}
 
 -- what names no line breaks no rule, nor does what doesn't apply
-pub unnamed : (r : Rule) (applies : Bool) → broken r applies None ≡ None
+pub unnamed : (r : Rule) (applies : Bool) → fault_if r applies None ≡ None
 unnamed r true = refl
 unnamed r false = refl
 
-pub not_applied : (r : Rule) (b : Bool) (o : Option ℕ) → b ≡ false → broken r b o ≡ None
+pub not_applied : (r : Rule) (b : Bool) (o : Option ℕ) → b ≡ false → fault_if r b o ≡ None
 not_applied r b o e = rw e refl
 
 -- each of some faults is none
@@ -56,13 +56,13 @@ module _ (at : Fault → Break) (of : Rule → Option Break) where
   or_break (r ∷ rs) later = option_or (of r) (or_break rs later)
 
   -- each of some faults is that of its rule
-  abbrev pub AreOf : List Rule → List (Option Fault) → Type 0
-  AreOf [] [] = Unit {0}
-  AreOf [] (f ∷ fs) = ⊥
-  AreOf (r ∷ rs) [] = ⊥
-  AreOf (r ∷ rs) (f ∷ fs) = (option_map at f ≡ of r) × AreOf rs fs
+  abbrev pub AreBreaksOf : List Rule → List (Option Fault) → Type 0
+  AreBreaksOf [] [] = Unit {0}
+  AreBreaksOf [] (f ∷ fs) = ⊥
+  AreBreaksOf (r ∷ rs) [] = ⊥
+  AreBreaksOf (r ∷ rs) (f ∷ fs) = (option_map at f ≡ of r) × AreBreaksOf rs fs
 
-  or_first-is : (rs : List Rule) (fs : List (Option Fault)) → AreOf rs fs → (earlier : Option Fault)
+  or_first-is : (rs : List Rule) (fs : List (Option Fault)) → AreBreaksOf rs fs → (earlier : Option Fault)
       (later : Option Break)
       → option_or (option_map at (or_first earlier fs)) later ≡ option_or (option_map at earlier) (or_break rs later)
   or_first-is [] [] h earlier later = refl
@@ -74,12 +74,12 @@ module _ (at : Fault → Break) (of : Rule → Option Break) where
       ∙ (or_assoc (option_map at earlier) (option_map at f) (or_break rs later)
       ∙ ap (λ (o : Option Break). option_or (option_map at earlier) (option_or o (or_break rs later))) h.0))
 
-  pub first-is : (rs : List Rule) (fs : List (Option Fault)) → AreOf rs fs → (later : Option Break)
+  pub first-is : (rs : List Rule) (fs : List (Option Fault)) → AreBreaksOf rs fs → (later : Option Break)
       → option_or (option_map at (first_of_faults fs)) later ≡ or_break rs later
   first-is rs fs h later = or_first-is rs fs h None later
 
   -- the same of two lists
-  pub both-first : (rs qs : List Rule) (fs gs : List (Option Fault)) → AreOf rs fs → AreOf qs gs
+  pub both-first : (rs qs : List Rule) (fs gs : List (Option Fault)) → AreBreaksOf rs fs → AreBreaksOf qs gs
       → option_map at (option_or (first_of_faults fs) (first_of_faults gs)) ≡ or_break rs (or_break qs None)
   both-first rs qs fs gs h k =
       map_or at (first_of_faults fs) (first_of_faults gs)

@@ -14,17 +14,17 @@ use Rattle.vme_trace.specs.Rules.{breaks, is_broken}
 use Rattle.vme_trace.specs.Verdict.{rule_break}
 use Rattle.vme_trace.specs.declared.rule.Rule.TheVariants.{H1, H2, H3, H4, H5, H6, H7, H8}
 use Rattle.vme_trace.proofs.OpenTransfers.{ReadsStrobes}
-use Rattle.vme_monitor.specs.Run.{break_at}
+use Rattle.vme_monitor.specs.Run.{break_of_fault}
 use Rattle.vme_monitor.specs.Tracking.{entered, is_unanswered, is_within}
 use Rattle.vme_monitor.specs.declared.tracking.TransferPhase.{TransferPhase}
 use Rattle.vme_monitor.proofs.TrackedTransfers.{in_transfer_is, is_answer_is}
 use Rattle.vme_dtb.specs.Edge.{edges_between}
-use Rattle.vme_dtb.specs.Machine.{answer_in, broken, early_rise, may_rise, is_doubled, is_replied, is_left_unanswered}
+use Rattle.vme_dtb.specs.Machine.{answer_in, fault_if, early_rise, may_rise, is_doubled, is_replied, is_left_unanswered}
 use Rattle.vme_dtb.specs.Machine.{strobe_faults}
 use Rattle.vme_dtb.specs.Machine.{strobe_rules}
 use Rattle.vme_dtb.specs.declared.edges.Edges.{Edges}
 use Rattle.vme_dtb.specs.declared.memory.HandshakeMemory.{HandshakeMemory}
-use Rattle.vme_dtb.proofs.Faults.{AreOf}
+use Rattle.vme_dtb.proofs.Faults.{AreBreaksOf}
 use Rattle.vme_dtb.proofs.AnswerRises.{may_rise_at, held_is}
 use Rattle.vme_dtb.proofs.Held.{Holds}
 use Rattle.vme_dtb.proofs.OpenState.{doubled_is, replied_is, left_unanswered_is}
@@ -71,7 +71,7 @@ module _ (t : Trace) (span : Stretch) (reads : ReadsStrobes t span) (n : ℕ) (f
   form_1 l = ap (λ b. is_judged span (suc n) && has_line t.opening.slots l && b)
       (turned_round (is_answer_line l) (transfer_starts t span (suc n)) (not (near (high t l) (suc n))))
 
-  h1 : option_map (break_at (suc n) (time_at t (suc n))) (broken H1 true seen.answer_not_high)
+  h1 : option_map (break_of_fault (suc n) (time_at t (suc n))) (fault_if H1 true seen.answer_not_high)
       ≡ rule_break t span (suc n) H1
   h1 =
       rule_from t n span from before H1 true seen.answer_not_high
@@ -92,8 +92,8 @@ module _ (t : Trace) (span : Stretch) (reads : ReadsStrobes t span) (n : ℕ) (f
   unfolding breaks is_broken
   form_2 l = refl
 
-  h2 : option_map (break_at (suc n) (time_at t (suc n)))
-      (broken H2 (is_left_unanswered m.transfer seen) seen.strobe_rise)
+  h2 : option_map (break_of_fault (suc n) (time_at t (suc n)))
+      (fault_if H2 (is_left_unanswered m.transfer seen) seen.strobe_rise)
       ≡ rule_break t span (suc n) H2
   h2 =
       rule_from t n span from before H2 (is_left_unanswered m.transfer seen) seen.strobe_rise
@@ -109,7 +109,7 @@ module _ (t : Trace) (span : Stretch) (reads : ReadsStrobes t span) (n : ℕ) (f
   unfolding breaks is_broken
   form_3 l = refl
 
-  h3 : option_map (break_at (suc n) (time_at t (suc n))) (broken H3 (is_replied m.transfer) seen.strobe_fall)
+  h3 : option_map (break_of_fault (suc n) (time_at t (suc n))) (fault_if H3 (is_replied m.transfer) seen.strobe_fall)
       ≡ rule_break t span (suc n) H3
   h3 =
       rule_from t n span from before H3 (is_replied m.transfer) seen.strobe_fall
@@ -121,7 +121,7 @@ module _ (t : Trace) (span : Stretch) (reads : ReadsStrobes t span) (n : ℕ) (f
   unfolding breaks is_broken
   form_4 l = refl
 
-  h4 : option_map (break_at (suc n) (time_at t (suc n))) (broken H4 (not (is_within within)) seen.answer_fall)
+  h4 : option_map (break_of_fault (suc n) (time_at t (suc n))) (fault_if H4 (not (is_within within)) seen.answer_fall)
       ≡ rule_break t span (suc n) H4
   h4 =
       rule_from t n span from before H4 (not (is_within within)) seen.answer_fall
@@ -148,7 +148,7 @@ module _ (t : Trace) (span : Stretch) (reads : ReadsStrobes t span) (n : ℕ) (f
           ≡ (is_replied within || (is_unanswered within && (c && d)))
       same_both a b c d e f = rw (e, f) refl
 
-  h5 : option_map (break_at (suc n) (time_at t (suc n))) (broken H5 (is_doubled within seen) seen.answer_fall)
+  h5 : option_map (break_of_fault (suc n) (time_at t (suc n))) (fault_if H5 (is_doubled within seen) seen.answer_fall)
       ≡ rule_break t span (suc n) H5
   h5 =
       rule_from t n span from before H5 (is_doubled within seen) seen.answer_fall
@@ -183,7 +183,7 @@ module _ (t : Trace) (span : Stretch) (reads : ReadsStrobes t span) (n : ℕ) (f
       same_held : (a b c d e f : Bool) → a ≡ d → b ≡ e → c ≡ f → (a && not (b || c)) ≡ (d && not (e || f))
       same_held a b c d e f x y z = rw (x, y, z) refl
 
-  h6 : option_map (break_at (suc n) (time_at t (suc n))) (broken H6 true (early_rise m seen))
+  h6 : option_map (break_of_fault (suc n) (time_at t (suc n))) (fault_if H6 true (early_rise m seen))
       ≡ rule_break t span (suc n)
       H6
   h6 =
@@ -196,8 +196,8 @@ module _ (t : Trace) (span : Stretch) (reads : ReadsStrobes t span) (n : ℕ) (f
   unfolding breaks is_broken
   form_7 l = refl
 
-  h7 : option_map (break_at (suc n) (time_at t (suc n)))
-      (broken H7 (is_left_unanswered m.transfer seen && seen.shown.cycle_end)
+  h7 : option_map (break_of_fault (suc n) (time_at t (suc n)))
+      (fault_if H7 (is_left_unanswered m.transfer seen && seen.shown.cycle_end)
       (Some AS)) ≡ rule_break t span (suc n) H7
   h7 =
       rule_from t n span from before H7 (is_left_unanswered m.transfer seen && seen.shown.cycle_end) (Some AS)
@@ -228,7 +228,7 @@ module _ (t : Trace) (span : Stretch) (reads : ReadsStrobes t span) (n : ℕ) (f
   form_8 l = ap (λ b. is_judged span (suc n) && has_line t.opening.slots l && b)
       (gathered (is_answer_line l && falls t l (suc n)) (is_answer t span (suc n)) (not (near (low t AS) (suc n))))
 
-  h8 : option_map (break_at (suc n) (time_at t (suc n))) (broken H8 seen.unaddressed (answer_in within seen))
+  h8 : option_map (break_of_fault (suc n) (time_at t (suc n))) (fault_if H8 seen.unaddressed (answer_in within seen))
       ≡ rule_break t span (suc n) H8
   h8 =
       rule_from t n span from before H8 seen.unaddressed (answer_in within seen)
@@ -242,6 +242,7 @@ module _ (t : Trace) (span : Stretch) (reads : ReadsStrobes t span) (n : ℕ) (f
       same_and a b c d e f = rw (e, f) refl
 
   -- each fault is that of its rule
-  pub strobes-broken : AreOf (break_at (suc n) (time_at t (suc n))) (rule_break t span (suc n)) strobe_rules
+  pub handshake_faults-are-breaks : AreBreaksOf (break_of_fault (suc n) (time_at t (suc n))) (rule_break t span (suc n))
+      strobe_rules
       (strobe_faults m within seen)
-  strobes-broken = (h1, (h2, (h3, (h4, (h5, (h6, (h7, (h8, tt))))))))
+  handshake_faults-are-breaks = (h1, (h2, (h3, (h4, (h5, (h6, (h7, (h8, tt))))))))

@@ -14,13 +14,13 @@ use Rattle.vme_trace.specs.Judged.{Stretch, is_judged}
 use Rattle.vme_trace.specs.Transfers.{strobes_high, transfer_starts, lasts, in_transfer, answers, is_answer, is_write}
 use Rattle.vme_trace.specs.Transfers.{answers_write, data_at}
 use Rattle.vme_trace.specs.Cycles.{cycle_starts}
-use Rattle.vme_trace.specs.Verdict.{break_at as rules_break_at, rule_break}
+use Rattle.vme_trace.specs.Verdict.{break_at, rule_break}
 use Rattle.vme_trace.specs.declared.data.Lanes.{Lanes}
 use Rattle.vme_trace.specs.declared.verdict.Break.{Break}
 use Rattle.vme_trace.proofs.OpenTransfers.{suc-sub-one}
 use Rattle.vme_trace.proofs.Ranges.{fails-any}
 use Rattle.vme_monitor.specs.Along.{changes_of, next_at}
-use Rattle.vme_monitor.specs.Run.{break_at, machine_step, nothing, run_of}
+use Rattle.vme_monitor.specs.Run.{break_of_fault, machine_step, nothing, run_of}
 use Rattle.vme_monitor.specs.OverStretches.{observed, phase_step, start_in}
 use Rattle.vme_monitor.specs.Tracked.{IsTransferPhase}
 use Rattle.vme_monitor.specs.Tracking.{entered, is_unanswered, is_within, is_writing}
@@ -43,9 +43,9 @@ use Rattle.vme_dtb.specs.CycleState.{cycle_entered}
 use Rattle.vme_dtb.specs.Shown.{answer_line, answered, closes, handshake_shown}
 use Rattle.vme_dtb.specs.declared.edges.Edges.{Edges}
 use Rattle.vme_dtb.specs.declared.memory.HandshakeMemory.{HandshakeMemory}
-use Rattle.vme_dtb.proofs.CycleBreaks.{cycle_starts_is, cycles-broken, write_is}
+use Rattle.vme_dtb.proofs.CycleBreaks.{cycle_starts_is, cycle_faults-are-breaks, write_is}
 use Rattle.vme_dtb.proofs.Faults.{both-first}
-use Rattle.vme_dtb.proofs.HandshakeBreaks.{answer_is, strobes-broken}
+use Rattle.vme_dtb.proofs.HandshakeBreaks.{answer_is, handshake_faults-are-breaks}
 use Rattle.vme_dtb.proofs.Held.{Holds}
 use Rattle.vme_dtb.proofs.Holding.{holds_at, memory_at}
 use Rattle.vme_dtb.proofs.OpenState.{started_is}
@@ -82,18 +82,19 @@ module _ (t : Trace) (span : Stretch) (facts : IsSpan t span) (n : ℕ) (from : 
   here = cycle_entered m.cycle seen.shown.cycle
 
   -- what the machine finds broken is the first rule that is
-  breaks_are : option_map (break_at (suc n) (time_at t (suc n))) (fault_in m (old t n) (new t n) seen)
-      ≡ rules_break_at t span handshake_rules (suc n)
-  unfolding rules_break_at
+  breaks_are : option_map (break_of_fault (suc n) (time_at t (suc n))) (fault_in m (old t n) (new t n) seen)
+      ≡ break_at t span handshake_rules (suc n)
+  unfolding break_at
   breaks_are =
-      both-first (break_at (suc n) (time_at t (suc n))) (rule_break t span (suc n)) strobe_rules cycle_rules
+      both-first (break_of_fault (suc n) (time_at t (suc n))) (rule_break t span (suc n)) strobe_rules cycle_rules
       (strobe_faults m within seen) (cycle_faults here (is_writing within) (answer_in within seen))
-      (strobes-broken t span facts.reads n from before m holds) (cycles-broken t span facts.reads n from before m holds)
+      (handshake_faults-are-breaks t span facts.reads n from before m holds)
+      (cycle_faults-are-breaks t span facts.reads n from before m holds)
 
-  pub dtb_inside : option_map (break_at (suc n) (time_at t (suc n)))
+  pub dtb_inside : option_map (break_of_fault (suc n) (time_at t (suc n)))
       (next_at (machine_step dtb_observation dtb_step) t m n).fault
-      ≡ rules_break_at t span handshake_rules (suc n)
-  dtb_inside = ap (λ (x : Next HandshakeMemory). option_map (break_at (suc n) (time_at t (suc n))) x.fault)
+      ≡ break_at t span handshake_rules (suc n)
+  dtb_inside = ap (λ (x : Next HandshakeMemory). option_map (break_of_fault (suc n) (time_at t (suc n))) x.fault)
       (machine_step_is t span n m holds (changes_of (slice_get t.steps n))) ∙ breaks_are
 
   least_fall : least (λ l. is_answer_line l && falls t l (suc n)) 0 line_count ≡ seen.answer_fall

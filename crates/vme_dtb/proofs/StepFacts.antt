@@ -16,10 +16,10 @@ use Rattle.vme_trace.specs.Verdict.{rule_break}
 use Rattle.vme_trace.specs.declared.rule.Rule.{Rule}
 use Rattle.vme_trace.proofs.Ranges.{any-empty, fails-any, least-is, least-none}
 use Rattle.vme_trace.proofs.OpenTransfers.{is_judged-holds, suc-sub-one}
-use Rattle.vme_monitor.specs.Run.{break_at}
+use Rattle.vme_monitor.specs.Run.{break_of_fault}
 use Rattle.vme_monitor.proofs.LeastLines.{least_answer, least_strobe}
 use Rattle.vme_dtb.specs.Edge.{first_of, is_answer_not_high}
-use Rattle.vme_dtb.specs.Machine.{broken}
+use Rattle.vme_dtb.specs.Machine.{fault_if}
 
 applied : (j h a e c : Bool) → j ≡ true → h ≡ true → a ≡ true → (j && h && (a && e && c)) ≡ (e && c)
 applied j h a e c x y z = rw (x, y, z) refl
@@ -166,12 +166,13 @@ module _ (t : Trace) (n : ℕ) where
         (AS == AS) (edge AS) c judged refl refl)
 
     pub rule_from : (r : Rule) (c : Bool) (line : Option ℕ) → least (breaks t span r (suc n)) 0 line_count
-        ≡ cond c line None → option_map (break_at (suc n) (time_at t (suc n))) (broken r c line) ≡ rule_break t span
+        ≡ cond c line None → option_map (break_of_fault (suc n) (time_at t (suc n))) (fault_if r c line)
+        ≡ rule_break t span
         (suc n) r
     unfolding rule_break
     rule_from r c line e = rw e (by_case c line)
       where
-        by_case : (c : Bool) (o : Option ℕ) → option_map (break_at (suc n) (time_at t (suc n))) (broken r c o)
+        by_case : (c : Bool) (o : Option ℕ) → option_map (break_of_fault (suc n) (time_at t (suc n))) (fault_if r c o)
             ≡ option_map (λ l. record { instant = suc n; time = time_at t (suc n); rule = r; line = l }) (cond c o None)
         by_case true None = refl
         by_case true (Some l) = refl

@@ -24,7 +24,7 @@ use Rattle.vme_monitor.specs.declared.tracking.TransferPhase.{TransferPhase}
 use Rattle.vme_monitor.specs.declared.tracking.TransferPhase.TheVariants.{Closed, Reading, Writing, Answered}
 use Rattle.vme_dtb.specs.CycleState.{after_answer}
 use Rattle.vme_dtb.specs.Edge.{cycle_start_of, edges_between, first_of, is_still, is_answer_not_high}
-use Rattle.vme_dtb.specs.Machine.{answer_in, answered_in, broken, cycle_fault, data_in, dtb_next, dtb_observation}
+use Rattle.vme_dtb.specs.Machine.{answer_in, answered_in, fault_if, cycle_fault, data_in, dtb_next, dtb_observation}
 use Rattle.vme_dtb.specs.Machine.{dtb_step}
 use Rattle.vme_dtb.specs.Machine.{handshake_fault, is_doubled, is_replied, is_left_unanswered, memory_after}
 use Rattle.vme_dtb.specs.Machine.{strobe_faults}
@@ -273,7 +273,7 @@ module _ (t : Trace) (span : Stretch) (n : ℕ) (m : HandshakeMemory) (holds : H
                   refl,
                   (
                     not_applied H7 _ (Some AS) (and_false (is_left_unanswered m.transfer (silent u))),
-                    (ap (broken H8 u) none ∙ unnamed H8 u, tt),
+                    (ap (fault_if H8 u) none ∙ unnamed H8 u, tt),
                   ),
                 ),
               ),

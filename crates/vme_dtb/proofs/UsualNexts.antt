@@ -19,7 +19,7 @@ use Rattle.vme_monitor.specs.declared.mark.Next.{Next}
 use Rattle.vme_monitor.specs.declared.tracking.TransferPhase.{TransferPhase}
 use Rattle.vme_monitor.specs.declared.tracking.TransferPhase.TheVariants.{Closed, Reading, Writing, Answered}
 use Rattle.vme_dtb.specs.CycleState.{after_answer, unanswered_of}
-use Rattle.vme_dtb.specs.Machine.{broken, cycle_fault, data_in, dtb_next, handshake_fault, is_doubled, is_replied}
+use Rattle.vme_dtb.specs.Machine.{fault_if, cycle_fault, data_in, dtb_next, handshake_fault, is_doubled, is_replied}
 use Rattle.vme_dtb.specs.Machine.{is_left_unanswered, strobe_faults}
 use Rattle.vme_dtb.specs.Edge.{cycle_start_of, closes_between, edges_between, first_of, is_addressed, stays_on}
 use Rattle.vme_dtb.specs.UsualSteps.{is_answer_alone, strobes_break_rule, is_start_alone, is_strobes_alone, memory_left}
@@ -60,7 +60,7 @@ any_of true b k l = refl
 any_of false true k l = refl
 any_of false false k l = refl
 
-calm_line : (r : Rule) (a b : Bool) (k l : ℕ) → (a || b) ≡ false → broken r true (first_of a k b l) ≡ None
+calm_line : (r : Rule) (a b : Bool) (k l : ℕ) → (a || b) ≡ false → fault_if r true (first_of a k b l) ≡ None
 calm_line r false false k l h = refl
 calm_line r true b k l h = absurd (cc)
 calm_line r false true k l h = absurd (cc)
@@ -71,7 +71,7 @@ neither true b h = absurd (cc)
 neither false true h = absurd (cc)
 
 broken_by_rise : (p : TransferPhase) (a b e f : Bool) → strobes_break_rule p (a || b) e f ≡ false
-    → broken H2 (is_unanswered p && true)
+    → fault_if H2 (is_unanswered p && true)
     (first_of a DS0 b DS1) ≡ None
 broken_by_rise Closed a b e f h = refl
 broken_by_rise Answered a b e f h = refl
@@ -79,7 +79,7 @@ broken_by_rise Reading a b e f h = calm_line H2 a b DS0 DS1 (neither (a || b) e 
 broken_by_rise Writing a b e f h = calm_line H2 a b DS0 DS1 (neither (a || b) e h).0
 
 broken_by_fall : (p : TransferPhase) (r e a b : Bool) → strobes_break_rule p r e (a || b) ≡ false
-    → broken H3 (is_replied p)
+    → fault_if H3 (is_replied p)
     (first_of a DS0 b DS1) ≡ None
 broken_by_fall Closed r e a b h = refl
 broken_by_fall Reading r e a b h = refl
@@ -120,8 +120,8 @@ module _ (m : HandshakeMemory) (v w : Levels) where
   kept_cycle c = ap (λ (o : Option ℕ). cond (is_some o) (after_answer c (is_writing within)) c)
       (nowhere (is_unanswered within))
 
-  no_h8 : (u : Bool) → broken H8 u (cond (is_unanswered within) None None) ≡ None
-  no_h8 u = ap (broken H8 u) (nowhere (is_unanswered within)) ∙ unnamed H8 u
+  no_h8 : (u : Bool) → fault_if H8 u (cond (is_unanswered within) None None) ≡ None
+  no_h8 u = ap (fault_if H8 u) (nowhere (is_unanswered within)) ∙ unnamed H8 u
 
   -- what is left open, by whether an answer line falls
   unanswered_left : (o : TransferPhase) → falls_between v w DTACK ≡ false → falls_between v w BERR ≡ false → within ≡ o

@@ -33,8 +33,8 @@ is_replied Answered = true
 is_replied e = false
 
 -- a rule is broken on a line, if there is one, where it applies
-abbrev pub broken : Rule → Bool → Option ℕ → Option Fault
-broken r applies line = if applies then option_map (λ l. record { rule = r; line = l }) line else None
+abbrev pub fault_if : Rule → Bool → Option ℕ → Option Fault
+fault_if r applies line = if applies then option_map (λ l. record { rule = r; line = l }) line else None
 
 -- the line that answers the transfer in which the step ends, if any
 abbrev pub answer_in : TransferPhase → Edges → Option ℕ
@@ -80,14 +80,14 @@ strobe_rules = H1 ∷ H2 ∷ H3 ∷ H4 ∷ H5 ∷ H6 ∷ H7 ∷ H8 ∷ []
 
 abbrev pub strobe_faults : HandshakeMemory → TransferPhase → Edges → List (Option Fault)
 strobe_faults m e s =
-    broken H1 true s.answer_not_high
-    ∷ broken H2 (is_left_unanswered m.transfer s) s.strobe_rise
-    ∷ broken H3 (is_replied m.transfer) s.strobe_fall
-    ∷ broken H4 (not (is_within e)) s.answer_fall
-    ∷ broken H5 (is_doubled e s) s.answer_fall
-    ∷ broken H6 true (early_rise m s)
-    ∷ broken H7 (is_left_unanswered m.transfer s && s.shown.cycle_end) (Some AS)
-    ∷ broken H8 s.unaddressed (answer_in e s)
+    fault_if H1 true s.answer_not_high
+    ∷ fault_if H2 (is_left_unanswered m.transfer s) s.strobe_rise
+    ∷ fault_if H3 (is_replied m.transfer) s.strobe_fall
+    ∷ fault_if H4 (not (is_within e)) s.answer_fall
+    ∷ fault_if H5 (is_doubled e s) s.answer_fall
+    ∷ fault_if H6 true (early_rise m s)
+    ∷ fault_if H7 (is_left_unanswered m.transfer s && s.shown.cycle_end) (Some AS)
+    ∷ fault_if H8 s.unaddressed (answer_in e s)
     ∷ []
 
 -- the rules on the answers of a cycle, and what breaks each; w: the transfer is a write
@@ -96,10 +96,10 @@ cycle_rules = C1 ∷ C2 ∷ I4 ∷ I5 ∷ []
 
 abbrev pub cycle_faults : CyclePhase → Bool → Option ℕ → List (Option Fault)
 cycle_faults c w answer =
-    broken C1 (is_read_modify_write_broken c w) answer
-    ∷ broken C2 (is_direction_changed c w) answer
-    ∷ broken I4 (is_interrupt_acknowledge c && w) answer
-    ∷ broken I5 (is_answered_interrupt_acknowledge c) answer
+    fault_if C1 (is_read_modify_write_broken c w) answer
+    ∷ fault_if C2 (is_direction_changed c w) answer
+    ∷ fault_if I4 (is_interrupt_acknowledge c && w) answer
+    ∷ fault_if I5 (is_answered_interrupt_acknowledge c) answer
     ∷ []
 
 abbrev pub handshake_rules : List Rule

@@ -12,7 +12,7 @@ ghost use Rattle.vme_trace.specs.LineNumbers.{DTACK};
 ghost use Rattle.vme_monitor.specs.Tracking.{is_unanswered, is_within, is_writing};
 ghost use Rattle.vme_monitor.specs.Run.{nothing};
 ghost use Rattle.vme_monitor.specs.Whole.{FindsLeast, ShowsAll};
-ghost use Rattle.vme_dtb.specs.Machine.{answer_in, answered_in, broken as broken_on, cycle_fault as fault_of_cycle};
+ghost use Rattle.vme_dtb.specs.Machine.{answer_in, answered_in, fault_if as fault_if_on, cycle_fault as fault_of_cycle};
 ghost use Rattle.vme_dtb.specs.Machine.{data_in, early_rise as early_rise_line, dtb_next, may_rise as may_rise_by};
 ghost use Rattle.vme_dtb.specs.Machine.{handshake_fault as fault_of_handshake, handshake_rules, is_doubled, is_replied};
 ghost use Rattle.vme_dtb.specs.Machine.{is_left_unanswered};
@@ -72,8 +72,8 @@ fn is_writing(transfer: TransferPhase) -> bool
 }
 
 /// The fault that a rule is broken on a line, if there is one and the rule applies.
-fn broken(rule: Rule, applies: bool, line: Option<Line>) -> Option<Fault>
-    ensures { result ≡ broken_on rule applies line }
+fn fault_if(rule: Rule, applies: bool, line: Option<Line>) -> Option<Fault>
+    ensures { result ≡ fault_if_on rule applies line }
 {
     match line {
         Some(line) if applies => Some(Fault { rule, line }),
@@ -167,18 +167,18 @@ impl HandshakeMemory {
     {
         let left_unanswered = self.is_left_unanswered(seen);
         let doubled = is_doubled(entered, seen);
-        broken(Rule::H1, true, seen.answer_not_high)
-            .or(broken(Rule::H2, left_unanswered, seen.strobe_rise))
-            .or(broken(Rule::H3, is_answered(self.transfer), seen.strobe_fall))
-            .or(broken(Rule::H4, !is_open(entered), seen.answer_fall))
-            .or(broken(Rule::H5, doubled, seen.answer_fall))
-            .or(broken(Rule::H6, true, self.early_rise(seen)))
-            .or(broken(
+        fault_if(Rule::H1, true, seen.answer_not_high)
+            .or(fault_if(Rule::H2, left_unanswered, seen.strobe_rise))
+            .or(fault_if(Rule::H3, is_answered(self.transfer), seen.strobe_fall))
+            .or(fault_if(Rule::H4, !is_open(entered), seen.answer_fall))
+            .or(fault_if(Rule::H5, doubled, seen.answer_fall))
+            .or(fault_if(Rule::H6, true, self.early_rise(seen)))
+            .or(fault_if(
                 Rule::H7,
                 left_unanswered && seen.shown.cycle_end,
                 Some(Line::AS),
             ))
-            .or(broken(Rule::H8, seen.unaddressed, answer_of(entered, seen)))
+            .or(fault_if(Rule::H8, seen.unaddressed, answer_of(entered, seen)))
     }
 }
 
@@ -189,10 +189,10 @@ fn cycle_fault(cycle: CyclePhase, write: bool, answer: Option<Line>) -> Option<F
 {
     match answer {
         None => None,
-        Some(_) => broken(Rule::C1, cycle.is_read_modify_write_broken(write), answer)
-            .or(broken(Rule::C2, cycle.is_direction_changed(write), answer))
-            .or(broken(Rule::I4, cycle.is_interrupt_acknowledge() && write, answer))
-            .or(broken(Rule::I5, cycle.is_answered_interrupt_acknowledge(), answer)),
+        Some(_) => fault_if(Rule::C1, cycle.is_read_modify_write_broken(write), answer)
+            .or(fault_if(Rule::C2, cycle.is_direction_changed(write), answer))
+            .or(fault_if(Rule::I4, cycle.is_interrupt_acknowledge() && write, answer))
+            .or(fault_if(Rule::I5, cycle.is_answered_interrupt_acknowledge(), answer)),
     }
 }
 

@@ -7,7 +7,7 @@ use Rattle.std.proofs.lemmas.Bool.Decides.{nat_tests}
 use Rattle.vme_trace.specs.Instants.{those}
 use Rattle.vme_trace.specs.Trace.{Trace, last_instant}
 use Rattle.vme_trace.specs.Judged.{Stretch, judged_spans, span_from, span_starts}
-use Rattle.vme_trace.specs.Verdict.{break_at as rules_break_at, break_before, least_break, least_of}
+use Rattle.vme_trace.specs.Verdict.{break_at, break_before, least_break, least_of}
 use Rattle.vme_trace.specs.declared.rule.Rule.{Rule}
 use Rattle.vme_trace.specs.declared.verdict.Break.{Break}
 use Rattle.vme_trace.proofs.JudgedSpans.{end-after, spans_all, spans_before, spans_kept, spans_more}
@@ -96,7 +96,7 @@ module _ (t : Trace) (rules : List Rule) where
       (sym (or_apart (break_before t x rules n) (breaks_to t rules n spans) (break_before t span rules n)))
 
   pub before_next : (span : Stretch) (n : ℕ) → break_before t span rules (suc n)
-      ≡ option_or (break_before t span rules n) (rules_break_at t span rules n)
+      ≡ option_or (break_before t span rules n) (break_at t span rules n)
   unfolding break_before
   before_next span n = refl
 

@@ -9,7 +9,7 @@ use Rattle.vme_trace.specs.declared.verdict.Break.{Break}
 use Rattle.vme_monitor.specs.declared.mark.Fault.{Fault}
 use Rattle.vme_monitor.specs.Outcome.{Outcome, StandsFor, BreakWithin, MarksWithin, IsWithin, earlier, followed}
 use Rattle.vme_monitor.specs.Outcome.{shifted_break, shifted_mark}
-use Rattle.vme_monitor.specs.Run.{run_of, extended, break_at, mark_at, kinds_of}
+use Rattle.vme_monitor.specs.Run.{run_of, extended, break_of_fault, mark_at, kinds_of}
 use Rattle.vme_monitor.specs.Walk.{later, later_break, later_mark, later_outcome}
 use Rattle.vme_monitor.specs.declared.mark.MarkKind.{MarkKind}
 use Rattle.vme_monitor.specs.declared.mark.Mark.{Mark}
@@ -19,7 +19,7 @@ break_earlier : (n : ℕ) (a b : Option Break) → BreakWithin n a → BreakWith
 break_earlier n None b p q = q
 break_earlier n (Some x) b p q = p
 
-break_there : (n time : ℕ) (f : Option Fault) → BreakWithin (suc n) (option_map (break_at 1 time) f)
+break_there : (n time : ℕ) (f : Option Fault) → BreakWithin (suc n) (option_map (break_of_fault 1 time) f)
 break_there n time None = tt
 break_there n time (Some f) = (omega arith, omega arith)
 
@@ -47,7 +47,7 @@ run_within next (s ∷ x) p o =
     let m = next p o after s.changes in
     let r = run_of next m.memory after x in
     let w = run_within next x m.memory after in (
-      break_earlier (suc (length x)) (option_map (break_at 1 s.time) m.fault)
+      break_earlier (suc (length x)) (option_map (break_of_fault 1 s.time) m.fault)
           (option_map (shifted_break 1) r.first_break)
           (break_there (length x) s.time m.fault) (break_shifted (length x) r.first_break w.0),
       marks_append (suc (length x)) (map (mark_at 1) (kinds_of m.shown)) (map (shifted_mark 1) r.marks)

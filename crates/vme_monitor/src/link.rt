@@ -5,7 +5,8 @@ ghost use Rattle.std.specs.List.{sum_by};
 ghost use Rattle.std.specs.Option.{option_map, option_to_list};
 ghost use Rattle.vme_monitor.specs.Meeting.{link_marks, row_marks};
 ghost use Rattle.vme_monitor.specs.Outcome.{nothing_shown};
-ghost use Rattle.vme_monitor.specs.Run.{answer_kind as answer_kind_of, answered_kind as answered_kind_of, break_at};
+ghost use Rattle.vme_monitor.specs.Run.{answer_kind as answer_kind_of, answered_kind as answered_kind_of};
+ghost use Rattle.vme_monitor.specs.Run.{break_of_fault};
 ghost use Rattle.vme_monitor.specs.Run.{cycle_kind as cycle_kind_of, extended, kinds_of, mark_at, outcome_at};
 ghost use Rattle.vme_monitor.specs.Run.{tenure_kind as tenure_kind_of, when as when_shown};
 ghost use Rattle.vme_monitor.specs.declared.mark.MarkKind.TheVariants.{Transfer};
@@ -320,7 +321,7 @@ fn show_all(marks: &mut Vec<Mark>, instant: u32, shown: StepMarks) -> Result<(),
 }
 
 fn break_of(fault: Fault, instant: u32, time: u64) -> Break
-    ensures { result ≡ break_at instant time fault }
+    ensures { result ≡ break_of_fault instant time fault }
 {
     Break {
         instant,

@@ -9,14 +9,14 @@ use Rattle.vme_trace.specs.Levels.{Levels, level_at, is_low, is_high, is_idle, i
 use Rattle.vme_trace.specs.Trace.{Trace, levels_at, time_at}
 use Rattle.vme_trace.specs.WellFormed.{malformed_step}
 use Rattle.vme_trace.specs.Judged.{Stretch}
-use Rattle.vme_trace.specs.Verdict.{break_at as rules_break_at, break_before, rule_break}
+use Rattle.vme_trace.specs.Verdict.{break_at, break_before, rule_break}
 use Rattle.vme_trace.specs.declared.level.Level.{Level}
 use Rattle.vme_trace.specs.declared.level.Level.TheVariants.{Low, High, Unknown}
 use Rattle.vme_trace.specs.declared.rule.Rule.TheVariants.{U2, U3, U4, S1, S2, S3}
 use Rattle.vme_trace.specs.declared.step.Change.{Change}
 use Rattle.vme_trace.proofs.Ranges.{any-fails}
 use Rattle.vme_monitor.specs.Along.{changes_of, memory_from, next_at}
-use Rattle.vme_monitor.specs.Run.{break_at, nothing, machine_step, quiet, run_of}
+use Rattle.vme_monitor.specs.Run.{break_of_fault, nothing, machine_step, quiet, run_of}
 use Rattle.vme_monitor.specs.OverStretches.{observed, phase_step, start_in}
 use Rattle.vme_monitor.specs.Whole.{FindsLeast, ShowsAll}
 use Rattle.vme_monitor.specs.declared.mark.Next.{Next}
@@ -43,7 +43,7 @@ step = machine_step stability_observation stability_next
 
 -- the least rule, of six, that is broken on a line
 first_fault : (n time : ℕ) (a b c d e f : Option ℕ)
-    → option_map (break_at n time) (option_or (option_or (fault_on U2 a) (fault_on U3 b))
+    → option_map (break_of_fault n time) (option_or (option_or (fault_on U2 a) (fault_on U3 b))
     (option_or (fault_on U4 c) (option_or (option_or (fault_on S1 d) (fault_on S2 e)) (fault_on S3 f))))
     ≡ option_or (option_map (λ (l : ℕ). record { instant = n; time = time; rule = U2; line = l }) a)
     (option_or (option_map (λ (l : ℕ). record { instant = n; time = time; rule = U3; line = l }) b)
@@ -82,9 +82,10 @@ module _ (t : Trace) (span : Stretch) (ok : malformed_step t ≡ None) (facts : 
         by_test true e = refl
         by_test false e = sym (quiet_there t span facts n from before m (changes_at n) holds e)
 
-    fault_is : break_before t span stability_rules (suc n) ≡ None → option_map (break_at (suc n) (time_at t (suc n)))
-        full.fault ≡ rules_break_at t span stability_rules (suc n)
-    unfolding rules_break_at rule_break
+    fault_is : break_before t span stability_rules (suc n) ≡ None
+        → option_map (break_of_fault (suc n) (time_at t (suc n)))
+        full.fault ≡ break_at t span stability_rules (suc n)
+    unfolding break_at rule_break
     fault_is unbroken =
         rw (
           address_least t span facts.reads n from before,
@@ -185,7 +186,7 @@ module _ (t : Trace) (span : Stretch) (ok : malformed_step t ≡ None) (facts : 
 
   judges_inside : (n : ℕ) → span.start ≤ n → suc n < span.end → n < length t.steps → break_before t span stability_rules
       (suc n) ≡ None
-      → option_map (break_at (suc n) (time_at t (suc n))) (next_at step t (memory_at n) n).fault ≡ rules_break_at t span
+      → option_map (break_of_fault (suc n) (time_at t (suc n))) (next_at step t (memory_at n) n).fault ≡ break_at t span
       stability_rules (suc n)
   judges_inside n from before within unbroken =
       let holds = holds_at n from (omega arith) (omega arith) in

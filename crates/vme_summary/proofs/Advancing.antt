@@ -12,7 +12,7 @@ use Rattle.vme_monitor.specs.Outcome.{Outcome, earlier}
 use Rattle.vme_trace.specs.Changes.{touches_control}
 use Rattle.vme_monitor.specs.Ends.{end_among}
 use Rattle.vme_monitor.specs.OverStretches.{observed, phase_step}
-use Rattle.vme_monitor.specs.Run.{break_at, nothing, machine_step, quiet, run_of}
+use Rattle.vme_monitor.specs.Run.{break_of_fault, nothing, machine_step, quiet, run_of}
 use Rattle.vme_monitor.specs.Runs.{run_more}
 use Rattle.vme_monitor.specs.StepRuns.{seen_in}
 use Rattle.vme_monitor.specs.WithoutMarks.{unmarked_next}
@@ -35,12 +35,12 @@ pub led_on : {P : Type 0} (next : P → Levels → Levels → List Change → Ne
     → after ≡ changed before s.changes → n ≡ length x + 1
     → b.memory ≡ (next a.memory before after s.changes).memory
     → b.first_break ≡ earlier a.first_break
-    (option_map (break_at n s.time) (next a.memory before after s.changes).fault)
+    (option_map (break_of_fault n s.time) (next a.memory before after s.changes).fault)
     → HasMonitorState (run_of next) begin a o x → HasMonitorState (run_of next) begin b o (x ++ s ∷ [])
 led_on {P} next begin a b o x s before after n here there count m e seen =
     let so_far = run_of next (begin o) o x in
     let whole = run_more next x s (begin o) o before after here there in
-    let later = λ (k : ℕ) (f : Option Fault). option_map (break_at k s.time) f in
+    let later = λ (k : ℕ) (f : Option Fault). option_map (break_of_fault k s.time) f in
     record {
       memory = m ∙ ap (λ (p : P). (next p before after s.changes).memory) seen.memory
           ∙ sym (ap (λ (r : Outcome P). r.leaving) whole);

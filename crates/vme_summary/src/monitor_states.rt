@@ -3,7 +3,7 @@
 ghost use Rattle.std.specs.Prelude.{◌≡◌, ◌+◌, ◌^◌, ◌<◌, ◌≤◌, ◌++◌, List, None, length, option_map, unwrap_or};
 ghost use Rattle.vme_monitor.specs.Outcome.{earlier, shifted_break};
 ghost use Rattle.vme_monitor.specs.OverStretches.{observed, phase_step};
-ghost use Rattle.vme_monitor.specs.Run.{break_at, machine_step, quiet as quiet_next};
+ghost use Rattle.vme_monitor.specs.Run.{break_of_fault, machine_step, quiet as quiet_next};
 ghost use Rattle.vme_monitor.specs.StepRuns.{seen_in};
 ghost use Rattle.vme_monitor.specs.Tables.{outcome};
 ghost use Rattle.vme_monitor.specs.WithoutMarks.{unmarked_next};
@@ -140,7 +140,8 @@ pub(crate) fn advance<R: Rules>(
     ensures memory { state.new.memory
         ≡ (machine_step (observed R.observation) (phase_step R.begin R.start_marks R.reset_marks R.end_fault R.next)
         state.old.memory view.now.before view.now.after changes.now).memory }
-    ensures first_break { state.new.first_break ≡ earlier state.old.first_break (option_map (break_at instant time)
+    ensures first_break { state.new.first_break ≡ earlier state.old.first_break
+        (option_map (break_of_fault instant time)
         (machine_step (observed R.observation) (phase_step R.begin R.start_marks R.reset_marks R.end_fault R.next)
         state.old.memory view.now.before view.now.after changes.now).fault) }
 {
