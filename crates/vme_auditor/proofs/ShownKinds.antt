@@ -36,12 +36,14 @@ use Rattle.vme_auditor.specs.Memories.{acknowledge_at, grant_at, handshake_at, k
 use Rattle.vme_auditor.specs.declared.memories.Memories.{Memories}
 
 -- what a machine shows that is led over stretches is what it shows as it starts, where it is reset, or by its rules
-module _ {P S : Type 0} (begin : Levels → P) (opens : Levels → StepMarks) (resets : StepMarks) (ends : ℕ → Option Fault)
+module _ {P S : Type 0} (begin : Levels → P) (start_marks : Levels → StepMarks) (reset_marks : StepMarks)
+    (end_fault : ℕ → Option Fault)
     (next : P → Levels → Levels → S → Next P) (IsOwn : StepMarks → Type 0) (none : IsOwn nothing)
-    (opened : (v : Levels) → IsOwn (opens v)) (reset : IsOwn resets)
+    (opened : (v : Levels) → IsOwn (start_marks v)) (reset : IsOwn reset_marks)
     (stepped : (p : P) (v w : Levels) (s : S) → IsOwn (next p v w s).shown) where
   waiting_own : (m : StretchPhase P) (w : Levels) (b : Bool)
-      → IsOwn (cond b (record { memory = phase.Judging (begin w); fault = None; shown = opens w }) (quiet m)).shown
+      → IsOwn (cond b (record { memory = phase.Judging (begin w); fault = None; shown = start_marks w })
+      (quiet m)).shown
   waiting_own m w true = opened w
   waiting_own m w false = none
 
@@ -50,14 +52,14 @@ module _ {P S : Type 0} (begin : Levels → P) (opens : Levels → StepMarks) (r
   seen_own p v w (Some s) = stepped p v w s
 
   judging_own : (p : P) (v w : Levels) (e : Option End) (s : Option S)
-      → IsOwn (judging begin opens resets ends next p v w e s).shown
+      → IsOwn (judging begin start_marks reset_marks end_fault next p v w e s).shown
   judging_own p v w (Some end.Reset) s = reset
   judging_own p v w (Some (end.Lost l)) s = none
   judging_own p v w None s = seen_own p v w s
 
   module _ (observation : Levels → Levels → List Change → Option S) (v w : Levels) (cs : List Change) where
     phase_step_own : (m : StretchPhase P)
-        → IsOwn (phase_step begin opens resets ends next m v w
+        → IsOwn (phase_step begin start_marks reset_marks end_fault next m v w
         (record { end = end_among w cs; inner = observation v w cs })).shown
     phase_step_own phase.Waiting = waiting_own phase.Waiting w (is_idle w)
     phase_step_own (phase.Judging p) = judging_own p v w (end_among w cs) (observation v w cs)
@@ -65,13 +67,14 @@ module _ {P S : Type 0} (begin : Levels → P) (opens : Levels → StepMarks) (r
     phase_step_own phase.Ended = none
 
     observed_own : (m : StretchPhase P) (b : Bool)
-        → IsOwn (option_map_or (phase_step begin opens resets ends next m v w)
+        → IsOwn (option_map_or (phase_step begin start_marks reset_marks end_fault next m v w)
         (cond b (Some (record { end = end_among w cs; inner = observation v w cs })) None) (quiet m)).shown
     observed_own m true = phase_step_own m
     observed_own m false = none
 
     pub shown_own : (m : StretchPhase P)
-        → IsOwn (machine_step (observed observation) (phase_step begin opens resets ends next) m v w cs).shown
+        → IsOwn (machine_step (observed observation) (phase_step begin start_marks reset_marks end_fault next) m v w
+        cs).shown
     shown_own m = observed_own m (touches_control w.slots cs || is_some (observation v w cs))
 
 -- the kinds of the stretch, of the tenure, and of the cycle and the transfer

@@ -19,7 +19,7 @@ use Rattle.vme_monitor.specs.Run.{break_of_fault, machine_step, nothing, run_of}
 use Rattle.vme_monitor.specs.OverStretches.{observed, phase_step, start_in}
 use Rattle.vme_monitor.specs.Whole.{FindsLeast, ShowsAll}
 use Rattle.vme_monitor.specs.declared.mark.Next.{Next}
-use Rattle.vme_monitor.proofs.OwnRules.{own_first_break, own_marks}
+use Rattle.vme_monitor.proofs.InsideRules.{inside_first_break, inside_marks}
 use Rattle.vme_monitor.proofs.SpanFacts.{IsSpan}
 use Rattle.vme_monitor.proofs.Alongside.{levels_step, changes_fit, memory_early}
 use Rattle.vme_chains.specs.AcknowledgeRules.{acknowledge_begin, acknowledge_end_fault, acknowledge_next}
@@ -185,7 +185,7 @@ pub acknowledge_first_break : FindsLeast
     (run_of (machine_step (observed acknowledge_observation) (phase_step acknowledge_begin acknowledge_start_marks
     nothing (λ l. None)
     acknowledge_next))) (start_in acknowledge_begin) acknowledge_rules
-acknowledge_first_break = own_first_break acknowledge_begin acknowledge_start_marks acknowledge_observation
+acknowledge_first_break = inside_first_break acknowledge_begin acknowledge_start_marks acknowledge_observation
     acknowledge_next
     acknowledge_rules
     refl (λ t span ok few facts n from before within unbroken. acknowledge_inside t span ok few facts n from before
@@ -196,7 +196,8 @@ pub acknowledge_marks : ShowsAll
     (phase_step acknowledge_begin acknowledge_start_marks nothing acknowledge_end_fault
     acknowledge_next))) (start_in acknowledge_begin) nothing acknowledge_shown
 acknowledge_marks =
-    own_marks acknowledge_begin acknowledge_start_marks acknowledge_observation acknowledge_next acknowledge_end_fault
+    inside_marks acknowledge_begin acknowledge_start_marks acknowledge_observation acknowledge_next
+    acknowledge_end_fault
     acknowledge_shown
     (λ t span ok few facts. record {
       at_start = refl;

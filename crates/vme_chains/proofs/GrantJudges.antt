@@ -19,7 +19,7 @@ use Rattle.vme_monitor.specs.Run.{break_of_fault, machine_step, run_of, nothing,
 use Rattle.vme_monitor.specs.OverStretches.{observed, phase_step, start_in}
 use Rattle.vme_monitor.specs.Whole.{FindsLeast, ShowsAll}
 use Rattle.vme_monitor.specs.declared.mark.BusGrant.{BusGrant}
-use Rattle.vme_monitor.proofs.OwnRules.{own_first_break, own_marks}
+use Rattle.vme_monitor.proofs.InsideRules.{inside_first_break, inside_marks}
 use Rattle.vme_monitor.proofs.Alongside.{levels_step, changes_fit, memory_early}
 use Rattle.vme_chains.specs.GrantLevels.{falls_between, rises_between, is_low_in, grant_begins, requested_in}
 use Rattle.vme_chains.specs.GrantLevels.{taken_between, touches_arbitration, is_cycle_unowned, is_ungranted}
@@ -256,7 +256,7 @@ pub grant_first_break : FindsLeast
     (run_of (machine_step (observed grant_observation)
     (phase_step grant_begin grant_start_marks nothing (λ l. None) grant_next)))
     (start_in grant_begin) grant_rules
-grant_first_break = own_first_break grant_begin grant_start_marks grant_observation grant_next grant_rules refl
+grant_first_break = inside_first_break grant_begin grant_start_marks grant_observation grant_next grant_rules refl
     (λ t span ok few facts n from before within unbroken. grant_inside t span few ok n from before within)
 
 pub grant_marks : ShowsAll
@@ -264,7 +264,7 @@ pub grant_marks : ShowsAll
     (phase_step grant_begin grant_start_marks nothing grant_end_fault grant_next)))
     (start_in grant_begin) nothing tenures_shown
 grant_marks =
-    own_marks grant_begin grant_start_marks grant_observation grant_next grant_end_fault tenures_shown
+    inside_marks grant_begin grant_start_marks grant_observation grant_next grant_end_fault tenures_shown
     (λ t span ok few facts. record {
       at_start = open_at t span few;
       inside = λ n from before within. grant_shows t span few ok n from before within;

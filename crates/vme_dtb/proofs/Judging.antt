@@ -32,7 +32,7 @@ use Rattle.vme_monitor.specs.declared.mark.Next.{Next}
 use Rattle.vme_monitor.specs.declared.tracking.TransferPhase.{TransferPhase}
 use Rattle.vme_monitor.specs.declared.tracking.TransferPhase.TheVariants.{Closed, Reading, Writing, Answered}
 use Rattle.vme_monitor.proofs.LeastLines.{least_answer}
-use Rattle.vme_monitor.proofs.OwnRules.{own_first_break, own_marks}
+use Rattle.vme_monitor.proofs.InsideRules.{inside_first_break, inside_marks}
 use Rattle.vme_monitor.proofs.SpanFacts.{IsSpan}
 use Rattle.vme_dtb.specs.Edge.{cycle_start_of, edges_between}
 use Rattle.vme_dtb.specs.Machine.{answer_in, answered_in, cycle_faults, cycle_rules, dtb_begin, dtb_end_fault, dtb_next}
@@ -197,7 +197,7 @@ pub dtb_first_break : FindsLeast
     dtb_step))) (start_in dtb_begin)
     handshake_rules
 dtb_first_break =
-    own_first_break dtb_begin dtb_start_marks dtb_observation dtb_step handshake_rules refl
+    inside_first_break dtb_begin dtb_start_marks dtb_observation dtb_step handshake_rules refl
     (λ t span ok few facts n from before within unbroken. dtb_inside t span facts n from before
     (memory_at t span facts n) (holds_at t span facts n from (omega (arith, before))))
 
@@ -205,7 +205,7 @@ pub dtb_marks : ShowsAll
     (run_of (machine_step (observed dtb_observation) (phase_step dtb_begin dtb_start_marks nothing dtb_end_fault
     dtb_step))) (start_in dtb_begin) nothing handshake_shown
 dtb_marks =
-    own_marks dtb_begin dtb_start_marks dtb_observation dtb_step dtb_end_fault handshake_shown
+    inside_marks dtb_begin dtb_start_marks dtb_observation dtb_step dtb_end_fault handshake_shown
     (λ t span ok few facts. record {
       at_start = shown_start t span;
       inside = λ n from before within. dtb_kinds t span facts n from before (memory_at t span facts n)

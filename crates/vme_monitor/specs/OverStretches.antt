@@ -66,18 +66,20 @@ threshold_by None None = 2
 abbrev pub stretch_threshold : {S : Type 0} → StretchObservation S → ℕ
 stretch_threshold seen = threshold_by seen.end seen.inner
 
-module _ {P S : Type 0} (begin : Levels → P) (opens : Levels → StepMarks) (resets : StepMarks) (ends : ℕ → Option Fault)
+module _ {P S : Type 0} (begin : Levels → P) (start_marks : Levels → StepMarks) (reset_marks : StepMarks)
+    (end_fault : ℕ → Option Fault)
     (next : P → Levels → Levels → S → Next P) where
   -- in the memory of one who waits
   abbrev pub waiting : StretchPhase P → Levels → Next (StretchPhase P)
   waiting m after =
-      if is_idle after then record { memory = Judging (begin after); fault = None; shown = opens after } else quiet m
+      if is_idle after then record { memory = Judging (begin after); fault = None; shown = start_marks after }
+      else quiet m
 
   abbrev pub resetting : Next (StretchPhase P)
-  resetting = record { memory = Reset; fault = None; shown = resets }
+  resetting = record { memory = Reset; fault = None; shown = reset_marks }
 
   abbrev pub ending : ℕ → Next (StretchPhase P)
-  ending l = record { memory = Ended; fault = ends l; shown = nothing }
+  ending l = record { memory = Ended; fault = end_fault l; shown = nothing }
 
   abbrev pub judging : P → Levels → Levels → Option End → Option S → Next (StretchPhase P)
   judging p before after (Some end.Reset) s = resetting

@@ -33,7 +33,8 @@ phase_found place nth h (Judging p) = ap Judging (h p)
 pub phases_few : (count : ℕ) → count ≤ 509 → count + 3 ≤ 512
 phases_few count h = omega arith
 
-module _ {P S : Type 0} (begin : Levels → P) (opens : Levels → StepMarks) (resets : StepMarks) (ends : ℕ → Option Fault)
+module _ {P S : Type 0} (begin : Levels → P) (start_marks : Levels → StepMarks) (reset_marks : StepMarks)
+    (end_fault : ℕ → Option Fault)
     (next : P → Levels → Levels → S → Next P) where
   -- a machine that waits reacts to all that is seen
   never_waiting : (end : Option End) (seen : Option S) → ¬ (2 < threshold_by end seen)
@@ -42,14 +43,14 @@ module _ {P S : Type 0} (begin : Levels → P) (opens : Levels → StepMarks) (r
   never_waiting None None h = omega arith
 
   judging_unchanged : (p : P) (before after : Levels) (end : Option End) (seen : Option S) → 1 < threshold_by end seen
-      → judging begin opens resets ends next p before after end seen ≡ quiet (Judging p)
+      → judging begin start_marks reset_marks end_fault next p before after end seen ≡ quiet (Judging p)
   judging_unchanged p before after (Some what) seen h = absurd (omega arith)
   judging_unchanged p before after None (Some s) h = absurd (omega arith)
   judging_unchanged p before after None None h = refl
 
   pub phase_step_unchanged : (m : StretchPhase P) (before after : Levels) (seen : StretchObservation S)
       → phase_sensitivity m < stretch_threshold seen
-      → phase_step begin opens resets ends next m before after seen ≡ quiet m
+      → phase_step begin start_marks reset_marks end_fault next m before after seen ≡ quiet m
   phase_step_unchanged Waiting before after seen h = absurd (never_waiting seen.end seen.inner h)
   phase_step_unchanged (Judging p) before after seen h = judging_unchanged p before after seen.end seen.inner h
   phase_step_unchanged Reset before after seen h = absurd (never_waiting seen.end seen.inner (omega (arith, h)))
@@ -63,13 +64,14 @@ module _ {P S : Type 0} (begin : Levels → P) (opens : Levels → StepMarks) (r
   either false x y n h k = k
 
   waiting_calm : (m : StretchPhase P) (after : Levels) → 1 ≤ phase_sensitivity m
-      → phase_sensitivity (waiting begin opens resets ends next m after).memory ≤ phase_sensitivity m
+      → phase_sensitivity (waiting begin start_marks reset_marks end_fault next m after).memory ≤ phase_sensitivity m
   waiting_calm m after h =
-      either (is_idle after) (record { memory = Judging (begin after); fault = None; shown = opens after }) (quiet m)
+      either (is_idle after) (record { memory = Judging (begin after); fault = None; shown = start_marks after })
+      (quiet m)
       (phase_sensitivity m) h (omega arith)
 
   judging_calm : (p : P) (before after : Levels) (end : Option End) (seen : Option S) → 0 < threshold_by end seen
-      → phase_sensitivity (judging begin opens resets ends next p before after end seen).memory ≤ 1
+      → phase_sensitivity (judging begin start_marks reset_marks end_fault next p before after end seen).memory ≤ 1
   judging_calm p before after (Some what) seen h = absurd (omega arith)
   judging_calm p before after None None h = omega arith
   judging_calm p before after None (Some s) h = omega arith
@@ -78,7 +80,8 @@ module _ {P S : Type 0} (begin : Levels → P) (opens : Levels → StepMarks) (r
   pub phase_step_sensitivity : (m : StretchPhase P) (before after : Levels) (seen : StretchObservation S)
       → 0 < stretch_threshold
       seen
-      → phase_sensitivity (phase_step begin opens resets ends next m before after seen).memory ≤ phase_sensitivity m
+      → phase_sensitivity (phase_step begin start_marks reset_marks end_fault next m before after seen).memory
+      ≤ phase_sensitivity m
   phase_step_sensitivity Waiting before after seen h = waiting_calm Waiting after (omega arith)
   phase_step_sensitivity (Judging p) before after seen h = judging_calm p before after seen.end seen.inner h
   phase_step_sensitivity Reset before after seen h = waiting_calm Reset after (omega arith)

@@ -20,7 +20,7 @@ use Rattle.vme_monitor.specs.Run.{break_of_fault, nothing, machine_step, quiet, 
 use Rattle.vme_monitor.specs.OverStretches.{observed, phase_step, start_in}
 use Rattle.vme_monitor.specs.Whole.{FindsLeast, ShowsAll}
 use Rattle.vme_monitor.specs.declared.mark.Next.{Next}
-use Rattle.vme_monitor.proofs.OwnRules.{own_first_break, own_marks}
+use Rattle.vme_monitor.proofs.InsideRules.{inside_first_break, inside_marks}
 use Rattle.vme_monitor.proofs.SpanFacts.{IsSpan}
 use Rattle.vme_monitor.proofs.Alongside.{changes_fit, levels_step, memory_early}
 use Rattle.vme_stability.specs.StabilityRules.{fault_on, is_observed, shifted_fault, undriven_fault, keeps_direction}
@@ -196,7 +196,7 @@ pub stability_first_break : FindsLeast
     (run_of (machine_step (observed stability_observation) (phase_step stability_begin stability_start_marks nothing
     (λ l. None)
     stability_next))) (start_in stability_begin) stability_rules
-stability_first_break = own_first_break stability_begin stability_start_marks stability_observation stability_next
+stability_first_break = inside_first_break stability_begin stability_start_marks stability_observation stability_next
     stability_rules
     refl
     (λ t span ok few facts n from before within unbroken. judges_inside t span ok facts n from before within unbroken)
@@ -206,7 +206,7 @@ pub stability_marks : ShowsAll
     (phase_step stability_begin stability_start_marks nothing stability_end_fault
     stability_next))) (start_in stability_begin) nothing stability_shown
 stability_marks =
-    own_marks stability_begin stability_start_marks stability_observation stability_next stability_end_fault
+    inside_marks stability_begin stability_start_marks stability_observation stability_next stability_end_fault
     stability_shown (λ t span ok few facts. record {
       at_start = refl;
       inside = λ n from before within. by_observation (stability_observation (levels_at t n) (levels_at t (suc n))
