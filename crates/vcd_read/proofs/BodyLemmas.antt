@@ -20,7 +20,7 @@ use Rattle.vcd_read.specs.Body.{code_of_vector, code_of_foreign, in_comment, bod
 use Rattle.vcd_read.specs.Meaning.{ReadFailsAs, ReadGives}
 use Rattle.vcd_read.specs.declared.dump.Bit.{Bit}
 use Rattle.vcd_read.specs.declared.stopped.Stopped.{Stopped}
-use Rattle.vcd_read.specs.Taking.{Taking, State, ended, reached_before, state_of, step, steps}
+use Rattle.vcd_read.specs.BodyFold.{BodyFold, State, ended, reached_before, state_of, step, steps}
 use Rattle.vcd_read.specs.Bodies.{BodyContinuesAs, GivesOrStops, KeepsTaken, KeepsAs, Stops, StoppedAs, UntilFault}
 use Rattle.vcd_read.specs.Bodies.{finished}
 use Rattle.vcd_read.specs.Bodies.{place_of, unfinished, until_fault}
@@ -83,7 +83,7 @@ comment_more line before ts t cut e = ap (body_from (in_comment line)) cut ∙ c
 -- ---- what reading gives
 
 -- what reading gives stays as it was, or it stops
-abbrev LeavesOne : {A X : Type 0} → UntilFault A → UntilFault A → Taking A → Result X VcdFault → Type 0
+abbrev LeavesOne : {A X : Type 0} → UntilFault A → UntilFault A → BodyFold A → Result X VcdFault → Type 0
 LeavesOne before after timed (Ok _) = before ≡ after
 LeavesOne before after timed (Err fault) = Stops fault timed.taken timed.time before
 
@@ -95,13 +95,13 @@ pub outcome_same : {A : Type 0} (a b : UntilFault A) → a ≡ b → a.outcome �
 outcome_same {A = A} a b e = ap (λ (read : UntilFault A). read.outcome) e
 
 -- where reading stops, it fails
-pub stopped_fails : {A Y : Type 0} (line : ℕ) (kind : FaultKind) (taken : A) (time : ℕ) (before : Taking A)
+pub stopped_fails : {A Y : Type 0} (line : ℕ) (kind : FaultKind) (taken : A) (time : ℕ) (before : BodyFold A)
     (read : Result Y VcdFault) → StoppedAs line kind taken time before read → ReadFailsAs line kind read
 stopped_fails line Memory taken time before read h = h
 stopped_fails line kind taken time before read h = h.0
 
 -- the same for each text that goes on
-leaves_each : {A X : Type 0} (before after : List Token → UntilFault A) (timed : Taking A) (r : Result X VcdFault)
+leaves_each : {A X : Type 0} (before after : List Token → UntilFault A) (timed : BodyFold A) (r : Result X VcdFault)
     → ((more : List Token) → LeavesOne (before more) (after more) timed r)
     → BodyContinuesAs before after timed.taken timed.time r
 leaves_each before after timed (Ok x) h = h
@@ -144,7 +144,7 @@ keeps_memory before taken (Ok x) is = tt
 keeps_memory before taken (Err fault) is = subst (λ (f : VcdFault). KeepsAs f.kind before taken) (sym is) tt
 
 -- what the end of a body comes to, where only memory may run out
-pub gives_or_stops : {A T : Type 0} (taken : T → A) (before : Taking A) (end : A) (r : Result T (Stopped T))
+pub gives_or_stops : {A T : Type 0} (taken : T → A) (before : BodyFold A) (end : A) (r : Result T (Stopped T))
     (read : Result A VcdFault) → IfOk r (λ visitor. taken visitor ≡ end)
     → IfErr r (λ stopped. stopped.fault ≡ record { line = 0; kind = Memory }) → read ≡ Ok end
     → GivesOrStops taken before r read
@@ -187,7 +187,7 @@ module _ {A : Type 0} (with_change : A → ℕ → List Bit → A) (with_instant
       }) e
 
   -- the state before a fault is what was taken
-  stops_at : (nets : List Net) (s : State A) (items : List BodyItem) (line : ℕ) (kind : FaultKind) (timed : Taking A)
+  stops_at : (nets : List Net) (s : State A) (items : List BodyItem) (line : ℕ) (kind : FaultKind) (timed : BodyFold A)
       → until_fault with_change with_instant nets s items
       ≡ record { outcome = Err (record { line = line; kind = kind }); reached = s }
       → timed ≡ s.progress
@@ -198,12 +198,12 @@ module _ {A : Type 0} (with_change : A → ℕ → List Bit → A) (with_instant
       let same : timed ≡ (reached_before with_change with_instant nets s items).progress =
       kept ∙ sym (ap (λ (read : UntilFault A). read.reached.progress) e) in (
         outcome_same _ _ e,
-        ap (λ (p : Taking A). p.taken) same,
-        ap (λ (p : Taking A). p.time) same,
+        ap (λ (p : BodyFold A). p.taken) same,
+        ap (λ (p : BodyFold A). p.time) same,
       )
 
   fails_more : (nets : List Net) (s : State A) (item : BodyItem) (items : List BodyItem) (line : ℕ) (kind : FaultKind)
-      (timed : Taking A) → ReadFailsAs line kind (step with_change with_instant nets s item)
+      (timed : BodyFold A) → ReadFailsAs line kind (step with_change with_instant nets s item)
       → KeepsAs kind s.progress timed
       → StoppedAs line kind timed.taken timed.time
       (reached_before with_change with_instant nets s (item ∷ items)).progress
@@ -239,7 +239,7 @@ module _ {A : Type 0} (with_change : A → ℕ → List Bit → A) (with_instant
       (item_leaves nets s s2 item (body_from ready (left_at text at ++ more)) r h kept))
 
   -- the same by a reader of its own
-  pub read_on : {X : Type 0} (nets nets2 : List Net) (timed timed2 : Taking A) (bracket bracket2 : Option Start)
+  pub read_on : {X : Type 0} (nets nets2 : List Net) (timed timed2 : BodyFold A) (bracket bracket2 : Option Start)
       (text text2 : BodyPiece) (after : ℕ) (item : BodyItem) (before : List Token → List BodyItem)
       (r : Result X VcdFault)
       → nets2 ≡ nets → text2 ≡ text
@@ -275,7 +275,7 @@ module _ {A : Type 0} (with_change : A → ℕ → List Bit → A) (with_instant
   nothing_left nets s place before after e e2 more = rw (e, e2) refl
 
   -- what is ahead where what was read to is the same
-  pub same_left : (nets nets2 : List Net) (text text2 : BodyPiece) (timed visitor2 : Taking A)
+  pub same_left : (nets nets2 : List Net) (text text2 : BodyPiece) (timed visitor2 : BodyFold A)
       (bracket bracket2 : Option Start) (place place2 : BodyPlace) (at : ℕ) → nets2 ≡ nets → text2 ≡ text → visitor2
       ≡ timed
       → bracket2 ≡ bracket → place2 ≡ place
@@ -294,7 +294,7 @@ module _ {A : Type 0} (with_change : A → ℕ → List Bit → A) (with_instant
   nothing_behind nets nets2 s place left n e more = rw (n, e) refl
 
   -- a token is at hand, and then it is read
-  pub token_left : (nets : List Net) (text text2 : BodyPiece) (timed : Taking A) (bracket : Option Start)
+  pub token_left : (nets : List Net) (text text2 : BodyPiece) (timed : BodyFold A) (bracket : Option Start)
       (at at2 after : ℕ) (bytes : List ℕ) → text2 ≡ text → at2 ≡ at
       → left_at text at ≡ token_at text at bytes ∷ left_at text after
       → (more : List Token) → until_fault with_change with_instant nets (state_of text timed bracket)
@@ -306,7 +306,7 @@ module _ {A : Type 0} (with_change : A → ℕ → List Bit → A) (with_instant
       (body_from ready (ts ++ more))) cut)
 
   -- the digits of a vector are at hand, and then they are read
-  pub vector_left : (nets : List Net) (text text2 : BodyPiece) (timed : Taking A) (bracket : Option Start)
+  pub vector_left : (nets : List Net) (text text2 : BodyPiece) (timed : BodyFold A) (bracket : Option Start)
       (at at2 after : ℕ) (bytes digits : List ℕ) → text2 ≡ text → at2 ≡ at
       → shape_of bytes ≡ vector digits → left_at text at ≡ token_at text at bytes ∷ left_at text after
       → (more : List Token) → until_fault with_change with_instant nets (state_of text timed bracket)
@@ -322,7 +322,7 @@ module _ {A : Type 0} (with_change : A → ℕ → List Bit → A) (with_instant
       (left_at text after ++ more) (vector digits) (sym shape)))
 
   -- what isn't ended is met at the end
-  pub unfinished_fails : (nets : List Net) (timed : Taking A) (bracket : Option ℕ) (place : OpenItem) (line : ℕ)
+  pub unfinished_fails : (nets : List Net) (timed : BodyFold A) (bracket : Option ℕ) (place : OpenItem) (line : ℕ)
       → unfinished place bracket ≡ Some line
       → finished with_change with_instant nets timed bracket (place_of place)
       ≡ Err (record { line = line; kind = UnfinishedSection })
@@ -333,7 +333,7 @@ module _ {A : Type 0} (with_change : A → ℕ → List Bit → A) (with_instant
   unfinished_fails nets timed bracket (Foreign at) line e = ap unfinished_at (same_some at line e)
   unfinished_fails nets timed bracket (Comment at) line e = ap unfinished_at (same_some at line e)
 
-  pub finished-ok : (nets : List Net) (timed : Taking A) (bracket : Option ℕ) (place : OpenItem) → unfinished place
+  pub finished-ok : (nets : List Net) (timed : BodyFold A) (bracket : Option ℕ) (place : OpenItem) → unfinished place
       bracket ≡ None
       → finished with_change with_instant nets timed bracket (place_of place) ≡ Ok (ended with_instant timed)
   unfolding steps body_from

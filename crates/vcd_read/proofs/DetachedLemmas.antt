@@ -19,7 +19,7 @@ use Rattle.vcd_read.specs.Body.{BodyItem, time_item, change, skipped, bracket_op
 use Rattle.vcd_read.specs.Body.{ready, code_of_vector, code_of_foreign, in_comment, Shape, time_shape, scalar, vector}
 use Rattle.vcd_read.specs.Body.{foreign, comment, open_shape, end_shape, none, BodyContext, context_after, time_after}
 use Rattle.vcd_read.specs.Body.{body_from, shape_of}
-use Rattle.vcd_read.specs.Taking.{Taking, State, advanced, progress_after, reached_before, state_at, step, steps}
+use Rattle.vcd_read.specs.BodyFold.{BodyFold, State, advanced, progress_after, reached_before, state_at, step, steps}
 use Rattle.vcd_read.specs.Reached.{Reached, rest_of}
 use Rattle.vcd_read.specs.DetachedPieces.{MayFollow, IsReadDetached, ReadDetached, before_piece, behind_piece, ended_at}
 use Rattle.vcd_read.specs.DetachedPieces.{entered, detached_items, time_first, with_taken}
@@ -86,13 +86,13 @@ module _ {A : Type 0} (with_change : A → ℕ → List Bit → A) (with_instant
   -- items
   module _ (R : A → Type 0) (on_change : (a : A) (net : ℕ) (bits : List Bit) → R a → R (with_change a net bits))
       (on_instant : (a : A) (time : ℕ) → R a → R (with_instant a time)) where
-    advanced-keeps : (p : Taking A) (time : ℕ) (test : Bool) → R p.taken
+    advanced-keeps : (p : BodyFold A) (time : ℕ) (test : Bool) → R p.taken
         → R (cond test (record { taken = with_instant p.taken p.time; time = time; begun = true })
         (record p { time = time; begun = true })).taken
     advanced-keeps p time true r = on_instant p.taken p.time r
     advanced-keeps p time false r = r
 
-    item-keeps : (p : Taking A) (item : BodyItem) → R p.taken → R (progress_after with_change with_instant nets p
+    item-keeps : (p : BodyFold A) (item : BodyItem) → R p.taken → R (progress_after with_change with_instant nets p
         item).taken
     item-keeps p (time_item line digits) r = advanced-keeps p (number digits) (p.begun && not (number digits == p.time))
         r
@@ -103,7 +103,7 @@ module _ {A : Type 0} (with_change : A → ℕ → List Bit → A) (with_instant
     item-keeps p (bracket_end line) r = r
     item-keeps p (wrong line kind) r = r
 
-    then-keeps : (items : List BodyItem) (p : Taking A) (stood : Result BodyContext VcdFault) (end : State A)
+    then-keeps : (items : List BodyItem) (p : BodyFold A) (stood : Result BodyContext VcdFault) (end : State A)
         → ((next : State A) → R next.progress.taken → steps with_change with_instant nets next items ≡ Ok end
         → R end.progress.taken)
         → R p.taken → ((stood >>= λ next. Ok (record { context = next; progress = p })) >>= λ next. steps with_change
@@ -200,7 +200,7 @@ module _ {A : Type 0} (with_change : A → ℕ → List Bit → A) (with_instant
 
   -- ---- a first time
 
-  time-met : (s : BodyContext) (line : ℕ) (digits : List ℕ) (p : Taking A) (items : List BodyItem) (end : State A)
+  time-met : (s : BodyContext) (line : ℕ) (digits : List ℕ) (p : BodyFold A) (items : List BodyItem) (end : State A)
       (read : Result ℕ FaultKind) → time_of digits ≡ read
       → ((at_line line (read >>= λ n. time_after s.now n >>= λ now. Ok (record s { now = now })) >>= λ next. Ok
       (record { context = next; progress = p })) >>= λ next. steps with_change with_instant nets next items) ≡ Ok end
@@ -241,31 +241,31 @@ module _ {A : Type 0} (with_change : A → ℕ → List Bit → A) (with_instant
       (stood >>= λ next. Ok (record { context = next; progress = advanced with_instant s.progress (number digits) }))
       >>= λ next. steps with_change with_instant nets next items) (stand-time s.context line n digits is low)
 
--- ---- what one taker tells another
+-- ---- what one visitor tells another
 
 module _ {A B : Type 0} (with_change : A → ℕ → List Bit → A) (with_instant : A → ℕ → A) (other_change : B → ℕ → List Bit
     → B) (other_instant : B → ℕ → B) (learned : A → B)
     (on_change : (a : A) (net : ℕ) (bits : List Bit) → learned (with_change a net bits) ≡ other_change (learned a) net
     bits)
     (on_instant : (a : A) (time : ℕ) → learned (with_instant a time) ≡ other_instant (learned a) time) where
-  abbrev pub learned_taking : Taking A → Taking B
-  learned_taking p = record { taken = learned p.taken; time = p.time; begun = p.begun }
+  abbrev pub learned_fold : BodyFold A → BodyFold B
+  learned_fold p = record { taken = learned p.taken; time = p.time; begun = p.begun }
 
   abbrev pub learned_state : State A → State B
-  learned_state s = record { context = s.context; progress = learned_taking s.progress }
+  learned_state s = record { context = s.context; progress = learned_fold s.progress }
 
-  time-learned : (p : Taking A) (time : ℕ) (test : Bool)
+  time-learned : (p : BodyFold A) (time : ℕ) (test : Bool)
       → cond test (record { taken = other_instant (learned p.taken) p.time; time = time; begun = true })
       (record { taken = learned p.taken; time = time; begun = true })
-      ≡ learned_taking (cond test (record { taken = with_instant p.taken p.time; time = time; begun = true })
+      ≡ learned_fold (cond test (record { taken = with_instant p.taken p.time; time = time; begun = true })
       (record p { time = time; begun = true }))
   time-learned p time true = ap (λ (b : B). record { taken = b; time = time; begun = true })
       (sym (on_instant p.taken p.time))
   time-learned p time false = refl
 
   module _ (nets : List Net) where
-    item-learned : (p : Taking A) (item : BodyItem) → progress_after other_change other_instant nets (learned_taking p)
-        item ≡ learned_taking (progress_after with_change with_instant nets p item)
+    item-learned : (p : BodyFold A) (item : BodyItem) → progress_after other_change other_instant nets (learned_fold p)
+        item ≡ learned_fold (progress_after with_change with_instant nets p item)
     item-learned p (time_item line digits) = time-learned p (number digits) (p.begun && not (number digits == p.time))
     item-learned p (change line digits code) =
         ap (λ (b : B). record { taken = b; time = p.time; begun = true })
@@ -276,36 +276,36 @@ module _ {A B : Type 0} (with_change : A → ℕ → List Bit → A) (with_insta
     item-learned p (bracket_end line) = refl
     item-learned p (wrong line kind) = refl
 
-    then-learned : (items : List BodyItem) (p : Taking A) (stood : Result BodyContext VcdFault)
+    then-learned : (items : List BodyItem) (p : BodyFold A) (stood : Result BodyContext VcdFault)
         → ((s : State A) → steps other_change other_instant nets (learned_state s) items
         ≡ (steps with_change with_instant nets s items >>= λ end. Ok (learned_state end)))
-        → ((stood >>= λ next. Ok (record { context = next; progress = learned_taking p })) >>= λ next. steps
+        → ((stood >>= λ next. Ok (record { context = next; progress = learned_fold p })) >>= λ next. steps
         other_change other_instant nets next items)
         ≡ (((stood >>= λ next. Ok (record { context = next; progress = p })) >>= λ next. steps with_change with_instant
         nets next items) >>= λ end. Ok (learned_state end))
     then-learned items p (Ok next) rest = rest (record { context = next; progress = p })
     then-learned items p (Err fault) rest = refl
 
-    -- what a taker learns from another is what it would take itself
+    -- what a visitor learns from another is what it would take itself
     pub steps-learned : (s : State A) (items : List BodyItem)
         → steps other_change other_instant nets (learned_state s) items
         ≡ (steps with_change with_instant nets s items >>= λ end. Ok (learned_state end))
     unfolding steps
     steps-learned s [] = refl
     steps-learned s (item ∷ items) =
-        ap (λ (p : Taking B). (context_after nets s.context item >>= λ next. Ok
+        ap (λ (p : BodyFold B). (context_after nets s.context item >>= λ next. Ok
         (record { context = next; progress = p })) >>= λ next. steps other_change other_instant nets next items)
         (item-learned s.progress item)
         ∙ then-learned items (progress_after with_change with_instant nets s.progress item)
         (context_after nets s.context item) (λ s2. steps-learned s2 items)
 
-    abbrev stand_at : {C : Type 0} → Taking C → Result BodyContext VcdFault → Result (State C) VcdFault
+    abbrev stand_at : {C : Type 0} → BodyFold C → Result BodyContext VcdFault → Result (State C) VcdFault
     stand_at p stood = stood >>= λ next. Ok (record { context = next; progress = p })
 
-    before-learned : (items : List BodyItem) (s : State A) (p : Taking A) (stood : Result BodyContext VcdFault)
+    before-learned : (items : List BodyItem) (s : State A) (p : BodyFold A) (stood : Result BodyContext VcdFault)
         → ((s2 : State A) → reached_before other_change other_instant nets (learned_state s2) items
         ≡ learned_state (reached_before with_change with_instant nets s2 items))
-        → elim (stand_at (learned_taking p) stood) as (λ _. State B) [
+        → elim (stand_at (learned_fold p) stood) as (λ _. State B) [
           | Ok next ↦ reached_before other_change other_instant nets next items
           | Err fault ↦ learned_state s
         ]
@@ -323,14 +323,14 @@ module _ {A B : Type 0} (with_change : A → ℕ → List Bit → A) (with_insta
     unfolding reached_before
     reached-learned s [] = refl
     reached-learned s (item ∷ items) =
-        ap (λ (p : Taking B). elim (stand_at p (context_after nets s.context item)) as (λ _. State B) [
+        ap (λ (p : BodyFold B). elim (stand_at p (context_after nets s.context item)) as (λ _. State B) [
           | Ok next ↦ reached_before other_change other_instant nets next items
           | Err fault ↦ learned_state s
         ]) (item-learned s.progress item)
         ∙ before-learned items s (progress_after with_change with_instant nets s.progress item)
         (context_after nets s.context item) (λ s2. reached-learned s2 items)
 
-    entered-by : (p : Taking B) (time : ℕ) (test : Bool)
+    entered-by : (p : BodyFold B) (time : ℕ) (test : Bool)
         → cond test (record { taken = other_instant p.taken p.time; time = time; begun = true })
         (record p { time = time; begun = true })
         ≡ record { taken = entered other_instant p.taken (cond test (Some p.time) None); time = time; begun = true }
@@ -341,7 +341,7 @@ module _ {A B : Type 0} (with_change : A → ℕ → List Bit → A) (with_insta
     same_time a b e = cc
 
     -- items that begin with a time tell the same, from an earlier time on
-    first-learned : (items : List BodyItem) (before : A) (time : ℕ) (end : State A) (p : Taking B) → time_first items
+    first-learned : (items : List BodyItem) (before : A) (time : ℕ) (end : State A) (p : BodyFold B) → time_first items
         ≡ Some time → steps with_change with_instant nets (before_piece before time) items ≡ Ok end
         → p.time ≤ time → learned before ≡ entered other_instant p.taken (ended_at p time)
         → steps other_change other_instant nets (state_at p None) items ≡ Ok (learned_state end)
@@ -361,11 +361,11 @@ module _ {A B : Type 0} (with_change : A → ℕ → List Bit → A) (with_insta
         (omega (arith, same))) ∙ whole in
         let told2 : learned before ≡ entered other_instant p.taken (ended_at p n) = subst (λ (t : ℕ). learned before
         ≡ entered other_instant p.taken (ended_at p t)) (sym same) told in
-        let there : advanced other_instant p n ≡ learned_taking behind.progress =
+        let there : advanced other_instant p n ≡ learned_fold behind.progress =
         entered-by p n (p.begun && not (n == p.time)) ∙ ap (λ (b : B). record { taken = b; time = n; begun = true })
         (sym told2) in
         time-step other_change other_instant nets (state_at p None) line n digits items is (omega (arith, same, low))
-        ∙ ap (λ (q : Taking B). steps other_change other_instant nets
+        ∙ ap (λ (q : BodyFold B). steps other_change other_instant nets
         (record { context = record { now = n; bracket = None }; progress = q }) items) there
         ∙ steps-learned behind items
         ∙ ap (λ (r : Result (State A) VcdFault). r >>= λ end. Ok (learned_state end)) own

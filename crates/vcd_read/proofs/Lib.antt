@@ -4,11 +4,12 @@ pub mod BodyLemmas
 pub mod CodesLemmas
 pub mod CodeIndexLemmas
 pub mod Fill
-pub mod TimedVisitorLemmas
+pub mod CurrentValues
+pub mod ChangedNetLemmas
 pub mod InstantsLaw
 pub mod BeforeFaultLemmas
 pub mod ReadLemmas
-pub mod TakingLemmas
+pub mod BodyFoldLemmas
 pub mod TimeLemmas
 pub mod DumpLemmas
 pub mod DefinedLemmas

@@ -9,19 +9,19 @@ use Rattle.vcd_read.specs.Header.{◌>>=◌, Net}
 use Rattle.vcd_read.specs.Body.{BodyItem, time_item, change, skipped, bracket_open, bracket_end, wrong, BodyContext}
 use Rattle.vcd_read.specs.Body.{context_after}
 use Rattle.vcd_read.specs.Meaning.{items_before_fault, last_time}
-use Rattle.vcd_read.specs.Taking.{State, Taking, progress_after, reached_before}
+use Rattle.vcd_read.specs.BodyFold.{State, BodyFold, progress_after, reached_before}
 
 module _ {A : Type 0} (with_change : A → ℕ → List Bit → A) (with_instant : A → ℕ → A) (nets : List Net) where
-  abbrev time_in : Taking A → ℕ
+  abbrev time_in : BodyFold A → ℕ
   time_in p = p.time
 
-  at_time : (test : Bool) (p : Taking A) (t : ℕ) → time_in (cond test
+  at_time : (test : Bool) (p : BodyFold A) (t : ℕ) → time_in (cond test
       (record { taken = with_instant p.taken p.time; time = t; begun = true }) (record p { time = t; begun = true }))
       ≡ t
   at_time true p t = refl
   at_time false p t = refl
 
-  item_time : (p : Taking A) (item : BodyItem) (items : List BodyItem)
+  item_time : (p : BodyFold A) (item : BodyItem) (items : List BodyItem)
       → last_time (progress_after with_change with_instant nets p item).time items
       ≡ last_time p.time (item ∷ items)
   unfolding last_time
@@ -33,7 +33,7 @@ module _ {A : Type 0} (with_change : A → ℕ → List Bit → A) (with_instant
   item_time p (bracket_end line) items = refl
   item_time p (wrong line kind) items = refl
 
-  abbrev state_of : Taking A → Result BodyContext VcdFault → Result (State A) VcdFault
+  abbrev state_of : BodyFold A → Result BodyContext VcdFault → Result (State A) VcdFault
   state_of p stood = stood >>= λ next. Ok (record { context = next; progress = p })
 
   time_step : (s : State A) (item : BodyItem) (items : List BodyItem) (stood : Result BodyContext VcdFault)

@@ -13,7 +13,7 @@ use Rattle.vcd_read.specs.Tokens.{Token}
 use Rattle.vcd_read.specs.Reading.{left_at, token_at}
 use Rattle.vcd_read.specs.Header.{◌>>=◌, Net}
 use Rattle.vcd_read.specs.Body.{BodyItem, BodyPlace, ready, code_of_vector, code_of_foreign, in_comment, body_from}
-use Rattle.vcd_read.specs.Taking.{Taking, State, at_end, state_at, state_of, steps, reached_before}
+use Rattle.vcd_read.specs.BodyFold.{BodyFold, State, at_end, state_at, state_of, steps, reached_before}
 use Rattle.vcd_read.specs.Meaning.{ReadFails}
 
 -- the place in the grammar
@@ -37,12 +37,12 @@ pub record UntilFault (A : Type 0) : Type 0 where
 
 module _ {A : Type 0} (with_change : A → ℕ → List Bit → A) (with_instant : A → ℕ → A) where
   -- what reading gives from here on: these tokens, and more behind them
-  abbrev pub ahead : List Net → Taking A → Option ℕ → BodyPlace → List Token → List Token → Result (State A) VcdFault
+  abbrev pub ahead : List Net → BodyFold A → Option ℕ → BodyPlace → List Token → List Token → Result (State A) VcdFault
   ahead nets timed bracket place tokens more = steps with_change with_instant nets (state_at timed bracket)
       (body_from place (tokens ++ more))
 
   -- the same where nothing is left of the body
-  abbrev pub finished : List Net → Taking A → Option ℕ → BodyPlace → Result A VcdFault
+  abbrev pub finished : List Net → BodyFold A → Option ℕ → BodyPlace → Result A VcdFault
   finished nets timed bracket place = ahead nets timed bracket place [] [] >>= at_end with_instant
 
   -- what reading these items gives, and how far it comes
@@ -53,17 +53,17 @@ module _ {A : Type 0} (with_change : A → ℕ → List Bit → A) (with_instant
   }
 
   -- the same from here on: these tokens, and more behind them
-  abbrev pub ahead_until_fault : List Net → Taking A → Option ℕ → BodyPlace → List Token → List Token → UntilFault A
+  abbrev pub ahead_until_fault : List Net → BodyFold A → Option ℕ → BodyPlace → List Token → List Token → UntilFault A
   ahead_until_fault nets timed bracket place tokens more =
       until_fault nets (state_at timed bracket) (body_from place (tokens ++ more))
 
   -- what reading the rest of a piece gives, from a place in the grammar on
-  abbrev pub remaining_in : BodyPlace → List Net → Reader → Taking A → Option Start → List Token → UntilFault A
+  abbrev pub remaining_in : BodyPlace → List Net → Reader → BodyFold A → Option Start → List Token → UntilFault A
   remaining_in place nets reader timed bracket more =
       until_fault nets (state_of reader.text timed bracket) (body_from place (left_at reader.text reader.at ++ more))
 
   -- the same with a token before it
-  abbrev pub from_token : ℕ → List ℕ → List Net → Reader → Taking A → Option Start → List Token → UntilFault A
+  abbrev pub from_token : ℕ → List ℕ → List Net → Reader → BodyFold A → Option Start → List Token → UntilFault A
   from_token at bytes nets reader timed bracket more =
       until_fault nets (state_of reader.text timed bracket)
       (body_from ready (token_at reader.text at bytes ∷ (left_at reader.text reader.at ++ more)))
@@ -72,7 +72,7 @@ module _ {A : Type 0} (with_change : A → ℕ → List Bit → A) (with_instant
 
 -- the fault is what reading gives, and what was taken, and the time, are those of what stands before it, unless memory
 -- ran out
-abbrev pub StoppedAs : {A Y : Type 0} → ℕ → FaultKind → A → ℕ → Taking A → Result Y VcdFault → Type 0
+abbrev pub StoppedAs : {A Y : Type 0} → ℕ → FaultKind → A → ℕ → BodyFold A → Result Y VcdFault → Type 0
 StoppedAs line Memory taken time before read = line ≡ 0
 StoppedAs line kind taken time before read =
     (read ≡ Err (record { line = line; kind = kind })) × (taken ≡ before.taken) × (time ≡ before.time)
@@ -103,7 +103,7 @@ ContinuesOrStops view taken (Err stopped) before = (more : List Token) → Stops
     stopped.time (before more)
 
 -- what a reading that ends comes to, where this was taken before its end
-abbrev pub GivesOrStops : {A T : Type 0} → (T → A) → Taking A → Result T (Stopped T) → Result A VcdFault → Type 0
+abbrev pub GivesOrStops : {A T : Type 0} → (T → A) → BodyFold A → Result T (Stopped T) → Result A VcdFault → Type 0
 GivesOrStops taken before (Ok visitor) read = read ≡ Ok (taken visitor)
 GivesOrStops taken before (Err stopped) read = StoppedAs stopped.fault.line stopped.fault.kind (taken stopped.visitor)
     stopped.time before read

@@ -7,7 +7,7 @@ use Rattle.vcd_read.specs.Numbers.{number}
 use Rattle.vcd_read.specs.Reading.{line_behind}
 use Rattle.vcd_read.specs.Header.{Net}
 use Rattle.vcd_read.specs.Body.{BodyItem, time_item, ready, body_from}
-use Rattle.vcd_read.specs.Taking.{Taking, State, taking, state_at, steps}
+use Rattle.vcd_read.specs.BodyFold.{BodyFold, State, body_fold, state_at, steps}
 use Rattle.vcd_read.specs.Reached.{Reached}
 
 -- What came of a piece that was read as if between two items, outside of brackets, at the time that it begins with.
@@ -16,7 +16,7 @@ pub record ReadDetached (A : Type 0) : Type 0 where
   pub time : ℕ
   -- the line that it begins on
   pub first_line : ℕ
-  pub progress : Taking A
+  pub progress : BodyFold A
   -- the line of the bracket that is open behind it
   pub bracket : Option ℕ
   -- the line that it ends on
@@ -28,7 +28,7 @@ read_detached taken a =
     record {
       time = a.time;
       first_line = a.first_line;
-      progress = taking (taken a.timed.visitor) a.timed.clock;
+      progress = body_fold (taken a.timed.visitor) a.timed.clock;
       bracket = a.bracket;
       line = a.line;
     }
@@ -47,7 +47,7 @@ before_piece before time = state_at (record { taken = before; time = time; begun
 abbrev pub detached_items : ℕ → List ℕ → List BodyItem
 detached_items line bytes = body_from ready (tokens_from line bytes)
 
--- these bytes were read by themselves, by a taker that had taken this before
+-- these bytes were read by themselves, by a visitor that had taken this before
 pub record IsReadDetached {A : Type 0} (with_change : A → ℕ → List Bit → A) (with_instant : A → ℕ → A)
     (nets : List Net) (bytes : List ℕ) (before : A) (detached : ReadDetached A) : Type 0 where
   pub begins : time_first (detached_items detached.first_line bytes) ≡ Some detached.time
@@ -64,7 +64,7 @@ pub record MayFollow {A B : Type 0} (r : Reached B) (detached : ReadDetached A) 
   pub line : r.line ≡ detached.first_line
 
 -- the time of the instant that a time ends, where it ends one
-abbrev pub ended_at : {A : Type 0} → Taking A → ℕ → Option ℕ
+abbrev pub ended_at : {A : Type 0} → BodyFold A → ℕ → Option ℕ
 ended_at p time = if p.begun && not (time == p.time) then Some p.time else None
 
 -- what is taken behind the end of such an instant

@@ -7,9 +7,9 @@ pub mod Meaning
 pub mod WorkedDumps
 pub mod Reading
 pub mod DumpProgress
-pub mod Taking
+pub mod BodyFold
 pub mod Collected
-pub mod Touched
+pub mod ChangedNets
 pub mod OneByteCodes
 pub mod Nets
 pub mod CodeNumbers

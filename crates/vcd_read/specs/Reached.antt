@@ -6,13 +6,13 @@ use Rattle.vcd_read.specs.declared.pieces.Pieces.{Pieces}
 use Rattle.vcd_read.specs.Tokens.{Token}
 use Rattle.vcd_read.specs.Header.{Net}
 use Rattle.vcd_read.specs.Body.{BodyPlace}
-use Rattle.vcd_read.specs.Taking.{Taking, State, taking}
+use Rattle.vcd_read.specs.BodyFold.{BodyFold, State, body_fold}
 use Rattle.vcd_read.specs.Bodies.{UntilFault, ahead, ahead_until_fault, finished, place_of}
 
 -- How far a body is read: what came of it, and where reading goes on.
 pub record Reached (A : Type 0) : Type 0 where
   pub nets : List Net
-  pub progress : Taking A
+  pub progress : BodyFold A
   -- the line of the bracket that is open
   pub bracket : Option ℕ
   pub place : BodyPlace
@@ -24,7 +24,7 @@ abbrev pub reached : {T A : Type 0} → (T → A) → Pieces T → Reached A
 reached taken p =
     record {
       nets = p.codes;
-      progress = taking (taken p.state.timed.visitor) p.state.timed.clock;
+      progress = body_fold (taken p.state.timed.visitor) p.state.timed.clock;
       bracket = p.state.bracket;
       place = place_of p.state.place;
       line = p.line;

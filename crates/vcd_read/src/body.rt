@@ -9,7 +9,7 @@ ghost use Rattle.vcd_read.specs.Reading.{IsStart, left_at, line_of};
 ghost use Rattle.vcd_read.specs.declared.body_piece.BodyPiece.{BodyPiece};
 ghost use Rattle.vcd_read.specs.Body.{time_item, change, skipped, bracket_open, bracket_end, ready, code_of_vector};
 ghost use Rattle.vcd_read.specs.Body.{code_of_foreign, in_comment};
-ghost use Rattle.vcd_read.specs.Taking.{taking, state_of, step};
+ghost use Rattle.vcd_read.specs.BodyFold.{body_fold, state_of, step};
 ghost use Rattle.vcd_read.specs.Bodies.{BodyContinuesTo, BodyContinuesAs, ContinuesOrStops, KeepsTaken, ahead};
 ghost use Rattle.vcd_read.specs.Bodies.{place_of};
 ghost use Rattle.vcd_read.specs.Bodies.{ahead_until_fault, remaining_in, from_token};
@@ -55,9 +55,9 @@ impl<'a, 'c, T: ChangeVisitor> Body<'a, 'c, T> {
         ensures end { result ≡ Ok false → left_at self.new.reader.text self.new.reader.at ≡ [] }
         ensures rest { BodyContinuesAs
             (remaining_in T.with_change T.with_instant (place_of self.old.place) self.old.codes.now self.old.reader
-            (taking (T.taken self.old.timed.visitor) self.old.timed.clock) self.old.bracket)
+            (body_fold (T.taken self.old.timed.visitor) self.old.timed.clock) self.old.bracket)
             (remaining_in T.with_change T.with_instant (place_of self.new.place) self.new.codes.now self.new.reader
-            (taking (T.taken self.new.timed.visitor) self.new.timed.clock) self.new.bracket)
+            (body_fold (T.taken self.new.timed.visitor) self.new.timed.clock) self.new.bracket)
             (T.taken self.new.timed.visitor) self.new.timed.clock.time result }
     {
         if !self.reader.finds_token() {
@@ -79,9 +79,9 @@ impl<'a, 'c, T: ChangeVisitor> Body<'a, 'c, T> {
         ensures between { self.new.place ≡ Ready }
         ensures rest { BodyContinuesAs
             (remaining_in T.with_change T.with_instant ready self.old.codes.now self.old.reader
-            (taking (T.taken self.old.timed.visitor) self.old.timed.clock) self.old.bracket)
+            (body_fold (T.taken self.old.timed.visitor) self.old.timed.clock) self.old.bracket)
             (remaining_in T.with_change T.with_instant ready self.new.codes.now self.new.reader
-            (taking (T.taken self.new.timed.visitor) self.new.timed.clock) self.new.bracket)
+            (body_fold (T.taken self.new.timed.visitor) self.new.timed.clock) self.new.bracket)
             (T.taken self.new.timed.visitor) self.new.timed.clock.time result }
     {
         let mut reader = self.reader.again();
@@ -101,9 +101,9 @@ impl<'a, 'c, T: ChangeVisitor> Body<'a, 'c, T> {
         ensures moves { result ≡ Ok true → reader.old.at < reader.new.at }
         ensures rest { BodyContinuesAs
             (remaining_in T.with_change T.with_instant ready self.old.codes.now reader.old
-            (taking (T.taken self.old.timed.visitor) self.old.timed.clock) self.old.bracket)
+            (body_fold (T.taken self.old.timed.visitor) self.old.timed.clock) self.old.bracket)
             (remaining_in T.with_change T.with_instant ready self.new.codes.now reader.new
-            (taking (T.taken self.new.timed.visitor) self.new.timed.clock) self.new.bracket)
+            (body_fold (T.taken self.new.timed.visitor) self.new.timed.clock) self.new.bracket)
             (T.taken self.new.timed.visitor) self.new.timed.clock.time result }
     {
         if !reader.finds_token() {
@@ -127,9 +127,9 @@ impl<'a, 'c, T: ChangeVisitor> Body<'a, 'c, T> {
         ensures moves { result ≡ Ok true → reader.old.at < reader.new.at }
         ensures rest { BodyContinuesAs
             (remaining_in T.with_change T.with_instant ready self.old.codes.now reader.old
-            (taking (T.taken self.old.timed.visitor) self.old.timed.clock) self.old.bracket)
+            (body_fold (T.taken self.old.timed.visitor) self.old.timed.clock) self.old.bracket)
             (remaining_in T.with_change T.with_instant ready self.new.codes.now reader.new
-            (taking (T.taken self.new.timed.visitor) self.new.timed.clock) self.new.bracket)
+            (body_fold (T.taken self.new.timed.visitor) self.new.timed.clock) self.new.bracket)
             (T.taken self.new.timed.visitor) self.new.timed.clock.time result }
     {
         let at = reader.at;
@@ -152,9 +152,9 @@ impl<'a, 'c, T: ChangeVisitor> Body<'a, 'c, T> {
         ensures moves { result ≡ Ok true → reader.old.at < reader.new.at }
         ensures rest { BodyContinuesAs
             (remaining_in T.with_change T.with_instant ready self.old.codes.now reader.old
-            (taking (T.taken self.old.timed.visitor) self.old.timed.clock) self.old.bracket)
+            (body_fold (T.taken self.old.timed.visitor) self.old.timed.clock) self.old.bracket)
             (remaining_in T.with_change T.with_instant ready self.new.codes.now reader.new
-            (taking (T.taken self.new.timed.visitor) self.new.timed.clock) self.new.bracket)
+            (body_fold (T.taken self.new.timed.visitor) self.new.timed.clock) self.new.bracket)
             (T.taken self.new.timed.visitor) self.new.timed.clock.time result }
     {
         let at = reader.at;
@@ -181,9 +181,9 @@ impl<'a, 'c, T: ChangeVisitor> Body<'a, 'c, T> {
         ensures end { result ≡ Ok false → left_at self.new.reader.text self.new.reader.at ≡ [] }
         ensures rest { BodyContinuesAs
             (from_token T.with_change T.with_instant token.entry.at token.entry.bytes.now self.old.codes.now
-            self.old.reader (taking (T.taken self.old.timed.visitor) self.old.timed.clock) self.old.bracket)
+            self.old.reader (body_fold (T.taken self.old.timed.visitor) self.old.timed.clock) self.old.bracket)
             (remaining_in T.with_change T.with_instant (place_of self.new.place) self.new.codes.now self.new.reader
-            (taking (T.taken self.new.timed.visitor) self.new.timed.clock) self.new.bracket)
+            (body_fold (T.taken self.new.timed.visitor) self.new.timed.clock) self.new.bracket)
             (T.taken self.new.timed.visitor) self.new.timed.clock.time result }
     {
         let start = Start::Here(token.at);
@@ -203,13 +203,13 @@ impl<'a, 'c, T: ChangeVisitor> Body<'a, 'c, T> {
         requires { IsStart self.old.reader.text start }
         ensures same { (self.new.reader ≡ self.old.reader) × (self.new.codes ≡ self.old.codes)
             × (self.new.place ≡ self.old.place) }
-        ensures kept { KeepsTaken (taking (T.taken self.old.timed.visitor) self.old.timed.clock)
-            (taking (T.taken self.new.timed.visitor) self.new.timed.clock) result }
+        ensures kept { KeepsTaken (body_fold (T.taken self.old.timed.visitor) self.old.timed.clock)
+            (body_fold (T.taken self.new.timed.visitor) self.new.timed.clock) result }
         ensures goes_on { IfOk result (λ goes_on. goes_on ≡ true) }
         ensures step { ReadGives (λ _. state_of self.new.reader.text
-            (taking (T.taken self.new.timed.visitor) self.new.timed.clock) self.new.bracket) result
+            (body_fold (T.taken self.new.timed.visitor) self.new.timed.clock) self.new.bracket) result
             (step T.with_change T.with_instant self.old.codes.now (state_of self.old.reader.text
-            (taking (T.taken self.old.timed.visitor) self.old.timed.clock) self.old.bracket)
+            (body_fold (T.taken self.old.timed.visitor) self.old.timed.clock) self.old.bracket)
             (time_item (line_of self.old.reader.text start) digits.now)) }
     {
         match decimal(digits, u64::MAX, FaultKind::BadToken) {
@@ -224,13 +224,13 @@ impl<'a, 'c, T: ChangeVisitor> Body<'a, 'c, T> {
         requires { IsStart self.old.reader.text start }
         ensures same { (self.new.reader ≡ self.old.reader) × (self.new.codes ≡ self.old.codes)
             × (self.new.place ≡ self.old.place) }
-        ensures kept { KeepsTaken (taking (T.taken self.old.timed.visitor) self.old.timed.clock)
-            (taking (T.taken self.new.timed.visitor) self.new.timed.clock) result }
+        ensures kept { KeepsTaken (body_fold (T.taken self.old.timed.visitor) self.old.timed.clock)
+            (body_fold (T.taken self.new.timed.visitor) self.new.timed.clock) result }
         ensures goes_on { IfOk result (λ goes_on. goes_on ≡ true) }
         ensures step { (digits : List ℕ) → time_of digits ≡ Ok time → ReadGives (λ _. state_of self.new.reader.text
-            (taking (T.taken self.new.timed.visitor) self.new.timed.clock) self.new.bracket) result
+            (body_fold (T.taken self.new.timed.visitor) self.new.timed.clock) self.new.bracket) result
             (step T.with_change T.with_instant self.old.codes.now (state_of self.old.reader.text
-            (taking (T.taken self.old.timed.visitor) self.old.timed.clock) self.old.bracket)
+            (body_fold (T.taken self.old.timed.visitor) self.old.timed.clock) self.old.bracket)
             (time_item (line_of self.old.reader.text start) digits)) }
     {
         if time < self.timed.clock.time {
@@ -252,13 +252,13 @@ impl<'a, 'c, T: ChangeVisitor> Body<'a, 'c, T> {
         requires digits { 0 < length digits.now }
         ensures same { (self.new.reader ≡ self.old.reader) × (self.new.codes ≡ self.old.codes)
             × (self.new.place ≡ self.old.place) }
-        ensures kept { KeepsTaken (taking (T.taken self.old.timed.visitor) self.old.timed.clock)
-            (taking (T.taken self.new.timed.visitor) self.new.timed.clock) result }
+        ensures kept { KeepsTaken (body_fold (T.taken self.old.timed.visitor) self.old.timed.clock)
+            (body_fold (T.taken self.new.timed.visitor) self.new.timed.clock) result }
         ensures goes_on { IfOk result (λ goes_on. goes_on ≡ true) }
         ensures step { ReadGives (λ _. state_of self.new.reader.text
-            (taking (T.taken self.new.timed.visitor) self.new.timed.clock) self.new.bracket) result
+            (body_fold (T.taken self.new.timed.visitor) self.new.timed.clock) self.new.bracket) result
             (step T.with_change T.with_instant self.old.codes.now (state_of self.old.reader.text
-            (taking (T.taken self.old.timed.visitor) self.old.timed.clock) self.old.bracket)
+            (body_fold (T.taken self.old.timed.visitor) self.old.timed.clock) self.old.bracket)
             (change (line_of self.old.reader.text start) digits.now code.now)) }
     {
         let net = match self.codes.find(code) {
@@ -285,9 +285,9 @@ impl<'a, 'c, T: ChangeVisitor> Body<'a, 'c, T> {
         ensures rest { BodyContinuesAs
             (remaining_in T.with_change T.with_instant (code_of_vector (line_of self.old.reader.text start) digits.now)
             self.old.codes.now self.old.reader
-            (taking (T.taken self.old.timed.visitor) self.old.timed.clock) self.old.bracket)
+            (body_fold (T.taken self.old.timed.visitor) self.old.timed.clock) self.old.bracket)
             (remaining_in T.with_change T.with_instant (place_of self.new.place) self.new.codes.now self.new.reader
-            (taking (T.taken self.new.timed.visitor) self.new.timed.clock) self.new.bracket)
+            (body_fold (T.taken self.new.timed.visitor) self.new.timed.clock) self.new.bracket)
             (T.taken self.new.timed.visitor) self.new.timed.clock.time result }
     {
         match self.reader.next() {
@@ -312,9 +312,9 @@ impl<'a, 'c, T: ChangeVisitor> Body<'a, 'c, T> {
         ensures rest { BodyContinuesAs
             (remaining_in T.with_change T.with_instant (code_of_foreign (line_of self.old.reader.text start))
             self.old.codes.now self.old.reader
-            (taking (T.taken self.old.timed.visitor) self.old.timed.clock) self.old.bracket)
+            (body_fold (T.taken self.old.timed.visitor) self.old.timed.clock) self.old.bracket)
             (remaining_in T.with_change T.with_instant (place_of self.new.place) self.new.codes.now self.new.reader
-            (taking (T.taken self.new.timed.visitor) self.new.timed.clock) self.new.bracket)
+            (body_fold (T.taken self.new.timed.visitor) self.new.timed.clock) self.new.bracket)
             (T.taken self.new.timed.visitor) self.new.timed.clock.time result }
     {
         match self.reader.next() {
@@ -330,9 +330,9 @@ impl<'a, 'c, T: ChangeVisitor> Body<'a, 'c, T> {
         requires { IsStart self.now.reader.text start }
         ensures goes_on { IfOk result (λ goes_on. goes_on ≡ true) }
         ensures step { ReadGives (λ _. state_of self.entry.now.reader.text
-            (taking (T.taken self.entry.now.timed.visitor) self.entry.now.timed.clock) self.entry.now.bracket) result
+            (body_fold (T.taken self.entry.now.timed.visitor) self.entry.now.timed.clock) self.entry.now.bracket) result
             (step T.with_change T.with_instant self.entry.now.codes.now (state_of self.entry.now.reader.text
-            (taking (T.taken self.entry.now.timed.visitor) self.entry.now.timed.clock) self.entry.now.bracket)
+            (body_fold (T.taken self.entry.now.timed.visitor) self.entry.now.timed.clock) self.entry.now.bracket)
             (skipped (line_of self.entry.now.reader.text start) code.now)) }
     {
         match self.codes.net(code) {
@@ -353,9 +353,9 @@ impl<'a, 'c, T: ChangeVisitor> Body<'a, 'c, T> {
         ensures rest { BodyContinuesAs
             (remaining_in T.with_change T.with_instant (in_comment (line_of self.old.reader.text start))
             self.old.codes.now self.old.reader
-            (taking (T.taken self.old.timed.visitor) self.old.timed.clock) self.old.bracket)
+            (body_fold (T.taken self.old.timed.visitor) self.old.timed.clock) self.old.bracket)
             (remaining_in T.with_change T.with_instant (place_of self.new.place) self.new.codes.now self.new.reader
-            (taking (T.taken self.new.timed.visitor) self.new.timed.clock) self.new.bracket)
+            (body_fold (T.taken self.new.timed.visitor) self.new.timed.clock) self.new.bracket)
             (T.taken self.new.timed.visitor) self.new.timed.clock.time result }
     {
         while let Some(word) = self.reader.next() {
@@ -371,13 +371,13 @@ impl<'a, 'c, T: ChangeVisitor> Body<'a, 'c, T> {
         requires { IsStart self.old.reader.text start }
         ensures same { (self.new.reader ≡ self.old.reader) × (self.new.codes ≡ self.old.codes)
             × (self.new.place ≡ self.old.place) }
-        ensures kept { KeepsTaken (taking (T.taken self.old.timed.visitor) self.old.timed.clock)
-            (taking (T.taken self.new.timed.visitor) self.new.timed.clock) result }
+        ensures kept { KeepsTaken (body_fold (T.taken self.old.timed.visitor) self.old.timed.clock)
+            (body_fold (T.taken self.new.timed.visitor) self.new.timed.clock) result }
         ensures goes_on { IfOk result (λ goes_on. goes_on ≡ true) }
         ensures step { ReadGives (λ _. state_of self.new.reader.text
-            (taking (T.taken self.new.timed.visitor) self.new.timed.clock) self.new.bracket) result
+            (body_fold (T.taken self.new.timed.visitor) self.new.timed.clock) self.new.bracket) result
             (step T.with_change T.with_instant self.old.codes.now (state_of self.old.reader.text
-            (taking (T.taken self.old.timed.visitor) self.old.timed.clock) self.old.bracket)
+            (body_fold (T.taken self.old.timed.visitor) self.old.timed.clock) self.old.bracket)
             (bracket_open (line_of self.old.reader.text start))) }
     {
         if self.bracket.is_some() {
@@ -391,13 +391,13 @@ impl<'a, 'c, T: ChangeVisitor> Body<'a, 'c, T> {
         requires { IsStart self.old.reader.text start }
         ensures same { (self.new.reader ≡ self.old.reader) × (self.new.codes ≡ self.old.codes)
             × (self.new.place ≡ self.old.place) }
-        ensures kept { KeepsTaken (taking (T.taken self.old.timed.visitor) self.old.timed.clock)
-            (taking (T.taken self.new.timed.visitor) self.new.timed.clock) result }
+        ensures kept { KeepsTaken (body_fold (T.taken self.old.timed.visitor) self.old.timed.clock)
+            (body_fold (T.taken self.new.timed.visitor) self.new.timed.clock) result }
         ensures goes_on { IfOk result (λ goes_on. goes_on ≡ true) }
         ensures step { ReadGives (λ _. state_of self.new.reader.text
-            (taking (T.taken self.new.timed.visitor) self.new.timed.clock) self.new.bracket) result
+            (body_fold (T.taken self.new.timed.visitor) self.new.timed.clock) self.new.bracket) result
             (step T.with_change T.with_instant self.old.codes.now (state_of self.old.reader.text
-            (taking (T.taken self.old.timed.visitor) self.old.timed.clock) self.old.bracket)
+            (body_fold (T.taken self.old.timed.visitor) self.old.timed.clock) self.old.bracket)
             (bracket_end (line_of self.old.reader.text start))) }
     {
         if self.bracket.is_none() {
@@ -415,9 +415,9 @@ impl<'a, 'c, T: ChangeVisitor> Body<'a, 'c, T> {
         ensures end { result ≡ Ok false → left_at self.new.reader.text self.new.reader.at ≡ [] }
         ensures rest { BodyContinuesAs
             (remaining_in T.with_change T.with_instant (place_of self.old.place) self.old.codes.now self.old.reader
-            (taking (T.taken self.old.timed.visitor) self.old.timed.clock) self.old.bracket)
+            (body_fold (T.taken self.old.timed.visitor) self.old.timed.clock) self.old.bracket)
             (remaining_in T.with_change T.with_instant (place_of self.new.place) self.new.codes.now self.new.reader
-            (taking (T.taken self.new.timed.visitor) self.new.timed.clock) self.new.bracket)
+            (body_fold (T.taken self.new.timed.visitor) self.new.timed.clock) self.new.bracket)
             (T.taken self.new.timed.visitor) self.new.timed.clock.time result }
     {
         match mem::replace(&mut self.place, OpenItem::Ready) {
@@ -437,9 +437,9 @@ impl<'a, 'c, T: ChangeVisitor> Body<'a, 'c, T> {
         ensures end { OnOk result (left_at self.new.reader.text self.new.reader.at ≡ []) }
         ensures rest { BodyContinuesAs
             (remaining_in T.with_change T.with_instant (place_of self.old.place) self.old.codes.now self.old.reader
-            (taking (T.taken self.old.timed.visitor) self.old.timed.clock) self.old.bracket)
+            (body_fold (T.taken self.old.timed.visitor) self.old.timed.clock) self.old.bracket)
             (remaining_in T.with_change T.with_instant (place_of self.new.place) self.new.codes.now self.new.reader
-            (taking (T.taken self.new.timed.visitor) self.new.timed.clock) self.new.bracket)
+            (body_fold (T.taken self.new.timed.visitor) self.new.timed.clock) self.new.bracket)
             (T.taken self.new.timed.visitor) self.new.timed.clock.time result }
     {
         if !self.resume(alloc)? {
@@ -503,9 +503,9 @@ pub(crate) fn read_until_fault<T: ChangeVisitor>(
     state: BodyState<T>,
 ) -> Result<BodyState<T>, Stopped<T>>
     ensures { ContinuesOrStops (λ u. ahead_until_fault T.with_change T.with_instant codes.now
-        (taking (T.taken u.timed.visitor) u.timed.clock) u.bracket (place_of u.place) []) (λ t. T.taken t) result
+        (body_fold (T.taken u.timed.visitor) u.timed.clock) u.bracket (place_of u.place) []) (λ t. T.taken t) result
         (ahead_until_fault T.with_change T.with_instant codes.now
-        (taking (T.taken state.timed.visitor) state.timed.clock)
+        (body_fold (T.taken state.timed.visitor) state.timed.clock)
         state.bracket (place_of state.place) (left_at reader.entry.text reader.entry.at)) }
 {
     let BodyState {
@@ -534,9 +534,9 @@ pub(crate) fn read_piece<T: ChangeVisitor>(
     state: BodyState<T>,
 ) -> Result<BodyState<T>, VcdFault>
     ensures { BodyContinuesTo (λ u. ahead T.with_change T.with_instant codes.now
-        (taking (T.taken u.timed.visitor) u.timed.clock)
+        (body_fold (T.taken u.timed.visitor) u.timed.clock)
         u.bracket (place_of u.place) []) result
-        (ahead T.with_change T.with_instant codes.now (taking (T.taken state.timed.visitor) state.timed.clock)
+        (ahead T.with_change T.with_instant codes.now (body_fold (T.taken state.timed.visitor) state.timed.clock)
         state.bracket (place_of state.place) (left_at reader.entry.text reader.entry.at)) }
 {
     match read_until_fault(alloc, reader, codes, state) {

@@ -3,7 +3,7 @@
 ghost use Rattle.std.specs.Prelude.{◌≡◌, false, List, None};
 ghost use Rattle.vcd_read.specs.Header.{Net};
 ghost use Rattle.vcd_read.specs.Bodies.{GivesOrStops, finished, place_of, unfinished};
-ghost use Rattle.vcd_read.specs.Taking.{taking};
+ghost use Rattle.vcd_read.specs.BodyFold.{body_fold};
 ghost use Rattle.vcd_read.specs.Meaning.{ReadGives};
 ghost use Rattle.vcd_read.specs.declared.open_item.OpenItem.TheVariants.{Ready};
 
@@ -42,8 +42,8 @@ impl<T: ChangeVisitor> BodyState<T> {
     /// here: the instant at hand isn't ended then, and what took those before it comes with the fault.
     pub fn finish_or_stop(self, alloc: Global) -> Result<T, Stopped<T>>
         ensures { (nets : List Net) → GivesOrStops (λ t. T.taken t)
-            (taking (T.taken self.timed.visitor) self.timed.clock) result
-            (finished T.with_change T.with_instant nets (taking (T.taken self.timed.visitor) self.timed.clock)
+            (body_fold (T.taken self.timed.visitor) self.timed.clock) result
+            (finished T.with_change T.with_instant nets (body_fold (T.taken self.timed.visitor) self.timed.clock)
             self.bracket (place_of self.place)) }
     {
         if let Some(line) = self.unfinished() {
@@ -62,7 +62,7 @@ impl<T: ChangeVisitor> BodyState<T> {
     /// The same, where only the fault is told.
     pub fn finish(self, alloc: Global) -> Result<T, VcdFault>
         ensures { (nets : List Net) → ReadGives (λ t. T.taken t) result
-            (finished T.with_change T.with_instant nets (taking (T.taken self.timed.visitor) self.timed.clock)
+            (finished T.with_change T.with_instant nets (body_fold (T.taken self.timed.visitor) self.timed.clock)
             self.bracket (place_of self.place)) }
     {
         match self.finish_or_stop(alloc) {

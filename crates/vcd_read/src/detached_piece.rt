@@ -51,7 +51,7 @@ fn first_time(text: BodyPiece<'_>) -> Option<u64>
 }
 
 impl<T: ChangeVisitor> DetachedPiece<T> {
-    /// The same piece, with another taker. The one before is handed back.
+    /// The same piece, with another visitor. The one before is handed back.
     pub fn with_visitor<N: ChangeVisitor>(self, visitor: N) -> (DetachedPiece<N>, T)
         ensures detached { read_detached N.taken result.0
             ≡ detached_with (N.taken visitor) (read_detached T.taken self) }
@@ -82,7 +82,7 @@ impl<T: ChangeVisitor> DetachedPiece<T> {
 
 impl<T: ChangeVisitor> Pieces<T> {
     /// Reads a piece that begins on this line and ends behind a space, or where the text does, and gives its changes to
-    /// a taker of its own. None is given of a piece that begins with no time, has a fault or ends within an item, nor
+    /// a visitor of its own. None is given of a piece that begins with no time, has a fault or ends within an item, nor
     /// where memory runs out.
     pub fn detached<N: ChangeVisitor>(
         &self,
@@ -161,8 +161,9 @@ impl<T: ChangeVisitor> Pieces<T> {
         }
     }
 
-    /// Goes on behind a piece that was read by itself, with the taker of that. The taker of what stands before it is
-    /// handed back; it was told nothing of the piece, nor of the end of an instant that the piece ends.
+    /// Goes on behind a piece that was read by itself, with the visitor of that piece. The visitor of what is
+    /// before the piece is handed back; it was told nothing of the piece, nor of the end of an instant that the piece
+    /// ends.
     pub fn join<N: ChangeVisitor>(self, detached: DetachedPiece<N>) -> (Pieces<N>, T)
         requires { MayFollow (reached T.taken self) (read_detached N.taken detached) }
         ensures behind { reached N.taken result.0
@@ -191,7 +192,7 @@ impl<T: ChangeVisitor> Pieces<T> {
         (joined, visitor)
     }
 
-    /// Goes on with another taker. The one before is handed back.
+    /// Goes on with another visitor. The one before is handed back.
     pub fn with_visitor<N: ChangeVisitor>(self, visitor: N) -> (Pieces<N>, T)
         ensures pieces { reached N.taken result.0 ≡ with_taken (N.taken visitor) (reached T.taken self) }
         ensures visitor { T.taken result.1 ≡ (reached T.taken self).progress.taken }

@@ -5,7 +5,7 @@ ghost use Rattle.vcd_read.specs.Header.{nothing_declared};
 ghost use Rattle.vcd_read.specs.Tokens.{tokens};
 ghost use Rattle.vcd_read.specs.Meaning.{ReadGives};
 ghost use Rattle.vcd_read.specs.Sections.{defined, header_of};
-ghost use Rattle.vcd_read.specs.Taking.{taken_from};
+ghost use Rattle.vcd_read.specs.BodyFold.{fold_body};
 
 use crate::body::read_piece;
 use crate::body_state::BodyState;
@@ -61,9 +61,9 @@ impl<'a> Head<'a> {
         self.codes.len()
     }
 
-    /// Gives the changes of the body to a taker, and ends the last instant. The first fault met is named.
+    /// Gives the changes of the body to a visitor, and ends the last instant. The first fault met is named.
     pub fn read_body<T: ChangeVisitor>(&self, alloc: Global, visitor: T) -> Result<T, VcdFault>
-        ensures { ReadGives (λ t. T.taken t) result (taken_from T.with_change T.with_instant self.now.nets
+        ensures { ReadGives (λ t. T.taken t) result (fold_body T.with_change T.with_instant self.now.nets
             (T.taken visitor) self.now.body) }
     {
         let reader = Reader {

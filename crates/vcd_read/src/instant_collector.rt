@@ -3,7 +3,7 @@
 ghost use Rattle.std.specs.Prelude.{◌≡◌, None, ◌≤◌, length, replicate, [], OnOk, IfOk, vec_capacity};
 ghost use Rattle.std.specs.List.Sorted.{IsNonDecreasing};
 ghost use Rattle.vcd_read.specs.DumpProgress.{values_from};
-ghost use Rattle.vcd_read.specs.Touched.{ListsTouchedNets};
+ghost use Rattle.vcd_read.specs.ChangedNets.{ListsChangedNets};
 ghost use Rattle.vcd_read.specs.Collected.{collected_change, collected_instant};
 
 use crate::bits::extended;
@@ -19,7 +19,7 @@ pub(crate) struct InstantCollector {
     /// The last value of each net at the instant at hand.
     current: Vec<Option<Bits>>,
     /// The nets that have one.
-    touched: Vec<u32>,
+    changed_nets: Vec<u32>,
 }
 
 impl Model for InstantCollector {
@@ -27,11 +27,11 @@ impl Model for InstantCollector {
 
     ghost Value = { Collected };
 
-    ghost use Rattle.vcd_read.specs.Touched.{ListsTouchedNets};
+    ghost use Rattle.vcd_read.specs.ChangedNets.{ListsChangedNets};
 
     ghost view = { λ c. record { done = c.done.items; current = c.current.items } };
 
-    ghost invariant = { λ c. ListsTouchedNets c.touched.items c.current.items };
+    ghost invariant = { λ c. ListsChangedNets c.changed_nets.items c.current.items };
 }
 
 impl InstantCollector {
@@ -46,7 +46,7 @@ impl InstantCollector {
         Ok(InstantCollector {
             done: Vec::new(alloc),
             current,
-            touched: Vec::new(alloc),
+            changed_nets: Vec::new(alloc),
         })
     }
 
@@ -66,7 +66,7 @@ impl InstantCollector {
             return Ok(());
         }
         if self.current[place].is_none() {
-            self.touched.push(net)?;
+            self.changed_nets.push(net)?;
         }
         self.current[place] = Some(bits);
         Ok(())
@@ -97,11 +97,11 @@ impl ChangeVisitor for InstantCollector {
 
     /// Ends the instant at hand. All memory is taken before the first value moves.
     fn end_instant(&mut self, alloc: Global, time: u64) -> Result<(), AllocError> {
-        let mut values = Vec::with_capacity(alloc, self.touched.len())?;
+        let mut values = Vec::with_capacity(alloc, self.changed_nets.len())?;
         self.done.reserve(1)?;
-        self.touched.sort_unstable();
-        move_values(&self.touched, &mut self.current, &mut values);
-        self.touched.clear();
+        self.changed_nets.sort_unstable();
+        move_values(&self.changed_nets, &mut self.current, &mut values);
+        self.changed_nets.clear();
         self.done.push_reserved(Instant {
             time,
             values: Values::from_vec(values),
@@ -111,15 +111,15 @@ impl ChangeVisitor for InstantCollector {
 }
 
 /// Moves the values of the nets that have one, in the order of the nets.
-fn move_values(touched: &[u32], current: &mut Vec<Option<Bits>>, values: &mut Vec<Value>)
-    requires touched { ListsTouchedNets touched.now current.old.items }
-    requires sorted { IsNonDecreasing touched.now }
+fn move_values(changed_nets: &[u32], current: &mut Vec<Option<Bits>>, values: &mut Vec<Value>)
+    requires changed_nets { ListsChangedNets changed_nets.now current.old.items }
+    requires sorted { IsNonDecreasing changed_nets.now }
     requires none { values.old.items ≡ [] }
-    requires room { length touched.now ≤ vec_capacity values.old }
+    requires room { length changed_nets.now ≤ vec_capacity values.old }
     ensures values { values.new.items ≡ values_from 0 current.old.items }
     ensures left { current.new.items ≡ replicate (length current.old.items) None }
 {
-    for net in touched {
+    for net in changed_nets {
         if let Some(bits) = current[*net as usize].take() {
             values.push_reserved(Value { net: *net, bits });
         }

@@ -24,7 +24,7 @@ pub(crate) struct TimedVisitor<T: ChangeVisitor> {
 }
 
 impl<T: ChangeVisitor> TimedVisitor<T> {
-    ghost use Rattle.vcd_read.specs.Taking.{taking, advanced, changed, ended};
+    ghost use Rattle.vcd_read.specs.BodyFold.{body_fold, advanced, changed, ended};
 
     /// Time 0, at which there is no instant yet.
     pub fn new(visitor: T) -> TimedVisitor<T>
@@ -43,8 +43,8 @@ impl<T: ChangeVisitor> TimedVisitor<T> {
     /// Goes on to a time, or stays at it.
     #[inline(always)]
     pub fn advance(&mut self, alloc: Global, time: u64) -> Result<(), AllocError>
-        ensures { OnOk result (taking (T.taken self.new.visitor) self.new.clock
-            ≡ advanced T.with_instant (taking (T.taken self.old.visitor) self.old.clock) time) }
+        ensures { OnOk result (body_fold (T.taken self.new.visitor) self.new.clock
+            ≡ advanced T.with_instant (body_fold (T.taken self.old.visitor) self.old.clock) time) }
     {
         if self.clock.begun && time != self.clock.time {
             self.visitor.end_instant(alloc, self.clock.time)?;
@@ -65,8 +65,9 @@ impl<T: ChangeVisitor> TimedVisitor<T> {
     ) -> Result<(), AllocError>
         requires some { 0 < length digits.now }
         requires fits { length digits.now ≤ size }
-        ensures { OnOk result (taking (T.taken self.new.visitor) self.new.clock
-            ≡ changed T.with_change (taking (T.taken self.old.visitor) self.old.clock) net (extended size digits.now)) }
+        ensures { OnOk result (body_fold (T.taken self.new.visitor) self.new.clock
+            ≡ changed T.with_change (body_fold (T.taken self.old.visitor) self.old.clock) net
+            (extended size digits.now)) }
     {
         self.visitor.change(alloc, net, size, digits)?;
         self.clock.begun = true;
@@ -76,7 +77,7 @@ impl<T: ChangeVisitor> TimedVisitor<T> {
     /// What took all changes, the instant at the current time being ended.
     pub fn finish(mut self, alloc: Global) -> Result<T, Stopped<T>>
         ensures visitor { IfOk result (λ visitor. T.taken visitor
-            ≡ ended T.with_instant (taking (T.taken self.visitor) self.clock)) }
+            ≡ ended T.with_instant (body_fold (T.taken self.visitor) self.clock)) }
         ensures memory { IfErr result (λ stopped. stopped.fault ≡ record { line = 0; kind = Memory }) }
     {
         if !self.clock.begun {

@@ -9,16 +9,16 @@ use Rattle.vcd_read.specs.Contents.{Contents}
 use Rattle.vcd_read.specs.Header.{◌>>=◌, Net}
 use Rattle.vcd_read.specs.Numbers.{number}
 use Rattle.vcd_read.specs.Reached.{Reached}
-use Rattle.vcd_read.specs.Taking.{State, Taking, advanced, at_end, ended, progress_after, state_at, steps}
+use Rattle.vcd_read.specs.BodyFold.{State, BodyFold, advanced, at_end, ended, progress_after, state_at, steps}
 use Rattle.vcd_read.specs.Tokens.{Token}
 use Rattle.vcd_start.specs.Starts.{start_of}
 use Rattle.vcd_start.specs.Taken.{StartComesTo, or_time, unchanged}
 
 module _ (nets : List Net) (time : ℕ) where
-  abbrev HasTime : Taking (Option ℕ) → Type 0
+  abbrev HasTime : BodyFold (Option ℕ) → Type 0
   HasTime p = p.taken ≡ Some time
 
-  advanced_has : (p : Taking (Option ℕ)) (t : ℕ) → HasTime p → HasTime (advanced or_time p t)
+  advanced_has : (p : BodyFold (Option ℕ)) (t : ℕ) → HasTime p → HasTime (advanced or_time p t)
   advanced_has p t h = by_case (p.begun && not (t == p.time))
     where
       by_case : (b : Bool)
@@ -27,7 +27,7 @@ module _ (nets : List Net) (time : ℕ) where
       by_case true = ap (λ (s : Option ℕ). or_time s p.time) h
       by_case false = h
 
-  item_has : (p : Taking (Option ℕ)) (item : BodyItem) → HasTime p
+  item_has : (p : BodyFold (Option ℕ)) (item : BodyItem) → HasTime p
       → HasTime (progress_after unchanged or_time nets p item)
   item_has p (time_item line digits) h = advanced_has p (number digits) h
   item_has p (change line digits code) h = h
@@ -36,7 +36,7 @@ module _ (nets : List Net) (time : ℕ) where
   item_has p (bracket_end line) h = h
   item_has p (wrong line kind) h = h
 
-  abbrev stepped : Taking (Option ℕ) → Result BodyContext VcdFault → Result (State (Option ℕ)) VcdFault
+  abbrev stepped : BodyFold (Option ℕ) → Result BodyContext VcdFault → Result (State (Option ℕ)) VcdFault
   stepped p c = c >>= λ next. Ok (record { context = next; progress = p })
 
   step_has : (items : List BodyItem) (item : BodyItem) (s : State (Option ℕ)) (end : State (Option ℕ))
@@ -59,7 +59,7 @@ module _ (nets : List Net) (time : ℕ) where
       step_has items item s end h (context_after nets s.context item)
       (λ next has e. steps_have items next end has e) is
 
-  ended_is : (p : Taking (Option ℕ)) → HasTime p → ended or_time p ≡ Some time
+  ended_is : (p : BodyFold (Option ℕ)) → HasTime p → ended or_time p ≡ Some time
   ended_is p h = by_case p.begun
     where
       by_case : (b : Bool) → (if b then or_time p.taken p.time else p.taken) ≡ Some time

@@ -16,11 +16,12 @@ use Rattle.vcd_read.specs.Meaning.{ReadFails, ReadFailsAs, dump_of, instants_fro
 use Rattle.vcd_read.specs.Reached.{Reached, outcome_of, rest_of}
 use Rattle.vcd_read.specs.Reading.{line_behind}
 use Rattle.vcd_read.specs.Sections.{Defined, Headed, defined, header_of}
-use Rattle.vcd_read.specs.Taking.{State, Taking, at_end, taken_from}
+use Rattle.vcd_read.specs.BodyFold.{State, BodyFold, at_end, fold_body}
 use Rattle.vcd_read.specs.Tokens.{Token, tokens, tokens_from}
 use Rattle.vcd_read.proofs.DefinedLemmas.{header_taken, taken_head}
 use Rattle.vcd_read.proofs.DumpLemmas.{contents_behind, dump_behind, dump_of-header, whole_header, with_variables}
-use Rattle.vcd_read.proofs.TakingLemmas.{Current, Ends, Follows, fails-followed, taken-follows}
+use Rattle.vcd_read.proofs.CurrentValues.{CurrentValues}
+use Rattle.vcd_read.proofs.BodyFoldLemmas.{Ends, Follows, fails-followed, taken-follows}
 use Rattle.vcd_start.specs.Starts.{first_time_of, start_of}
 use Rattle.vcd_start.specs.Taken.{StartComesTo, or_time, unchanged}
 
@@ -31,11 +32,11 @@ first_more : (done : List Instant) (i : Instant)
 first_more [] i = refl
 first_more (x ∷ xs) i = refl
 
-abbrev HasFirst : List Instant → Current → Option ℕ → Type 0
+abbrev HasFirst : List Instant → CurrentValues → Option ℕ → Type 0
 HasFirst done current start = start ≡ first_time_of done
 
 body_follows : (nets : List Net) (body : List Token)
-    → Follows (Ends HasFirst) (instants_from nets body) (taken_from unchanged or_time nets None body)
+    → Follows (Ends HasFirst) (instants_from nets body) (fold_body unchanged or_time nets None body)
 body_follows nets body =
     taken-follows unchanged or_time nets HasFirst (λ done current a net bits within h. h)
     (λ done current a time h. ap (λ (s : Option ℕ). or_time s time) h
@@ -78,11 +79,11 @@ module _ (text : List ℕ) (ts : List Token) (same : tokens text ≡ ts) where
 
     -- the instants of the dump are those of its body
     pub taken-start : header_of passed text (nothing_declared tt) ts ≡ Ok (defined h tt) → (dump : Contents)
-        → dump_of text ≡ Ok dump → taken_from unchanged or_time h.nets None h.body ≡ Ok (start_of dump)
+        → dump_of text ≡ Ok dump → fold_body unchanged or_time h.nets None h.body ≡ Ok (start_of dump)
     taken-start is dump whole =
         let (variables, found) = by_whole (whole_header text) (sym header_is ∙ is) in
         let behind = dump_behind text (defined h variables) found in
-        first_of (instants_from h.nets h.body) (taken_from unchanged or_time h.nets None h.body) dump.instants
+        first_of (instants_from h.nets h.body) (fold_body unchanged or_time h.nets None h.body) dump.instants
         (by_instants variables dump (instants_from h.nets h.body) (sym behind ∙ whole)) (body_follows h.nets h.body)
 
     fails_on : {X Y : Type 0} (line : ℕ) (kind : FaultKind) (r : Result X VcdFault) (f : X → Result Y VcdFault)
@@ -92,13 +93,13 @@ module _ (text : List ℕ) (ts : List Token) (same : tokens text ≡ ts) where
 
     -- what fails for its first time, fails
     pub body-fails : header_of passed text (nothing_declared tt) ts ≡ Ok (defined h tt) → (fault : VcdFault)
-        → ReadFails fault (taken_from unchanged or_time h.nets None h.body) → ReadFails fault (dump_of text)
+        → ReadFails fault (fold_body unchanged or_time h.nets None h.body) → ReadFails fault (dump_of text)
     body-fails is fault fails =
         let (variables, found) = by_whole (whole_header text) (sym header_is ∙ is) in
         subst (ReadFailsAs fault.line fault.kind) (sym (dump_behind text (defined h variables) found))
         (fails_on fault.line fault.kind (instants_from h.nets h.body) (with_variables variables)
         (fails-followed (Ends HasFirst) (instants_from h.nets h.body)
-        (taken_from unchanged or_time h.nets None h.body) fault (body_follows h.nets h.body) fails))
+        (fold_body unchanged or_time h.nets None h.body) fault (body_follows h.nets h.body) fails))
 
   fails_back : (line : ℕ) (kind : FaultKind) (w : Result (Defined (List Variable)) VcdFault)
       → ReadFailsAs line kind (w >>= λ (d : Defined (List Variable)). Ok (taken_head passed tt d))
@@ -134,17 +135,17 @@ module _ (text : List ℕ) (ts : List Token) (same : tokens text ≡ ts) where
 module _ (r : Reached (Option ℕ)) (head : Headed) (nets : r.nets ≡ head.nets)
     (progress : r.progress ≡ record { taken = None; time = 0; begun = false }) (bracket : r.bracket ≡ None)
     (place : r.place ≡ ready) where
-  abbrev none_read : Taking (Option ℕ)
+  abbrev none_read : BodyFold (Option ℕ)
   none_read = record { taken = None; time = 0; begun = false }
 
-  abbrev come_from : List Token → List Net → Taking (Option ℕ) → Option ℕ → BodyPlace → Result (Option ℕ) VcdFault
+  abbrev come_from : List Token → List Net → BodyFold (Option ℕ) → Option ℕ → BodyPlace → Result (Option ℕ) VcdFault
   come_from more n p b l = ahead unchanged or_time n p b l head.body more >>= at_end or_time
 
   unread_rest : (more : List Token) → (rest_of unchanged or_time r head.body more >>= at_end or_time)
-      ≡ taken_from unchanged or_time head.nets None (head.body ++ more)
+      ≡ fold_body unchanged or_time head.nets None (head.body ++ more)
   unread_rest more =
       ap (λ (n : List Net). come_from more n r.progress r.bracket r.place) nets
-      ∙ ap (λ (p : Taking (Option ℕ)). come_from more head.nets p r.bracket r.place) progress
+      ∙ ap (λ (p : BodyFold (Option ℕ)). come_from more head.nets p r.bracket r.place) progress
       ∙ ap (λ (b : Option ℕ). come_from more head.nets none_read b r.place) bracket
       ∙ ap (λ (l : BodyPlace). come_from more head.nets none_read None l) place
 

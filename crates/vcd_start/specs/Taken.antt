@@ -6,7 +6,7 @@ use Rattle.vcd_read.specs.Contents.{Contents}
 use Rattle.vcd_read.specs.Header.{◌>>=◌}
 use Rattle.vcd_read.specs.Meaning.{dump_of}
 use Rattle.vcd_read.specs.Reached.{Reached, rest_of}
-use Rattle.vcd_read.specs.Taking.{at_end}
+use Rattle.vcd_read.specs.BodyFold.{at_end}
 use Rattle.vcd_read.specs.Tokens.{Token, tokens}
 use Rattle.vcd_start.specs.Starts.{start_of}
 

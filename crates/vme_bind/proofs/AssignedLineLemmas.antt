@@ -15,7 +15,7 @@ use Rattle.vcd_read.specs.DetachedPieces.{IsReadDetached, ReadDetached, detached
 use Rattle.vcd_read.specs.DetachedPieces.{time_first}
 use Rattle.vcd_read.specs.Body.{BodyItem}
 use Rattle.vcd_read.specs.Header.{◌>>=◌, Net}
-use Rattle.vcd_read.specs.Taking.{State, state_at, steps}
+use Rattle.vcd_read.specs.BodyFold.{State, state_at, steps}
 use Rattle.vcd_read.specs.declared.dump.Bit.{Bit}
 use Rattle.vcd_read.specs.declared.fault.VcdFault.{VcdFault}
 use Rattle.vcd_read.proofs.DetachedLemmas.{kept-detached, learned_state, steps-keep, steps-learned}

@@ -17,6 +17,7 @@ use Rattle.vcd_read.specs.declared.dump.Bit.{Bit}
 use Rattle.vcd_read.specs.declared.dump.Instant.{Instant}
 use Rattle.vcd_read.specs.declared.dump.Value.{Value}
 use Rattle.vcd_read.specs.DumpProgress.{values_from}
+use Rattle.vcd_read.proofs.CurrentValues.{CurrentValues}
 use Rattle.vme_bind.specs.declared.net_lines.NetLines.{NetLines}
 use Rattle.vme_bind.specs.declared.bound_groups.BoundGroup.{BoundGroup}
 use Rattle.vme_bind.specs.declared.bound_groups.LineSource.{LineSource}
@@ -31,9 +32,6 @@ use Rattle.vme_bind.proofs.CaptureLemmas.{AreLineBits, by_values, valued-more, l
 use Rattle.vme_bind.proofs.CaptureLemmas.{one_valued-at}
 use Rattle.vme_bind.proofs.CaptureLemmas.{length-valued, slots-valued, valued-at, levels-all, length-changed}
 use Rattle.vme_bind.proofs.OpeningLemmas.{recording-first, recording-more}
-
-abbrev pub Current : Type 0
-Current = List (Option (List Bit))
 
 abbrev no_bits : Option (List Bit)
 no_bits = None
@@ -53,7 +51,7 @@ other_net v values net ne =
     eqb-no : (a b : ℕ) → a ≢ b → eqb a b ≡ false
     eqb-no a b ne = grind (arith, nat_tests)
 
-last-below : (net n : ℕ) (current : Current) → net < n → last_bits net (values_from n current) ≡ None
+last-below : (net n : ℕ) (current : CurrentValues) → net < n → last_bits net (values_from n current) ≡ None
 last-below net n [] lt = refl
 last-below net n (None ∷ current) lt = last-below net (n + 1) current (omega (arith, lt))
 last-below net n (Some bits ∷ current) lt =
@@ -67,7 +65,7 @@ same_net n net bits values e none =
     ap (λ (o : Option (List Bit)). option_or o (cond (eqb n net) (Some bits) None)) none
     ∙ ap (λ (b : Bool). cond b (Some bits) None) (eq-eqb n net e)
 
-pub last-from : (current : Current) (n k net : ℕ) → n + k ≡ net → last_bits net (values_from n current)
+pub last-from : (current : CurrentValues) (n k net : ℕ) → n + k ≡ net → last_bits net (values_from n current)
     ≡ get_or current k None
 last-from [] n k net e = refl
 last-from (None ∷ current) n zero net e = last-below net (n + 1) current (omega (arith, e))
@@ -81,7 +79,7 @@ last-from (Some bits ∷ current) n (suc k) net e =
 
 -- ---- one change more
 
-last-set : (current : Current) (net at : ℕ) (bits : List Bit) → net < length current
+last-set : (current : CurrentValues) (net at : ℕ) (bits : List Bit) → net < length current
     → last_bits at (values_from 0 (slice_set current net (Some bits))) ≡ cond (net == at) (Some bits)
     (last_bits at (values_from 0 current))
 last-set current net at bits lt =
@@ -100,7 +98,7 @@ last-set current net at bits lt =
     not_eqb : (a b : ℕ) → a ≢ b → eqb a b ≡ false
     not_eqb a b ne = grind (arith, nat_tests)
 
-one_more : (l net : ℕ) (source : Option LineSource) (current : Current) (bits : List Bit) (base : Level)
+one_more : (l net : ℕ) (source : Option LineSource) (current : CurrentValues) (bits : List Bit) (base : Level)
     → net < length current
     → cond (is_on net source) (line_bit_level l source bits) (by_values l source (values_from 0 current) base)
     ≡ by_values l source (values_from 0 (slice_set current net (Some bits))) base
@@ -119,7 +117,8 @@ one_more l net (Some (AtBit bit)) current bits base lt =
 module _ (slots : ℕ) (bound_groups : List BoundGroup) (line_bits : NetLines)
     (all : AreLineBits slots bound_groups line_bits) where
   -- a change of a net, after others of the instant
-  pub valued-set : (current : Current) (net : ℕ) (bits : List Bit) (v : Levels) → net < length current → length v.levels
+  pub valued-set : (current : CurrentValues) (net : ℕ) (bits : List Bit) (v : Levels) → net < length current
+      → length v.levels
       ≡ line_count
       → changed (valued line_bits (values_from 0 current) v) (map (line_change bits) (line_bits_of line_bits net))
       ≡ valued line_bits (values_from 0 (slice_set current net (Some bits))) v
@@ -154,7 +153,7 @@ next_in (y ∷ done) rest x = next_in done rest x
 
 -- what is made, with so many instants ended and these values at the one at hand
 pub record IsMade (slots : ℕ) (bound_groups : List BoundGroup) (count : ℕ) (instants : List Instant) (n : ℕ)
-    (current : Current) (m : BuilderState) : Type 0 where
+    (current : CurrentValues) (m : BuilderState) : Type 0 where
   pub line_bits : AreLineBits slots bound_groups m.line_bits
   pub room : length current ≡ count
   pub shown : m.progress.shown ≡ levels_after slots bound_groups instants n
@@ -163,11 +162,11 @@ pub record IsMade (slots : ℕ) (bound_groups : List BoundGroup) (count : ℕ) (
 
 module _ (slots : ℕ) (bound_groups : List BoundGroup) (count : ℕ) (instants : List Instant) where
   -- where the instants so far are the first of all
-  abbrev pub Makes : List Instant → Current → BuilderState → Type 0
+  abbrev pub Makes : List Instant → CurrentValues → BuilderState → Type 0
   Makes done current m = (rest : List Instant) → instants ≡ done ++ rest → IsMade slots bound_groups count instants
       (length done) current m
 
-  pub makes-change : (done : List Instant) (current : Current) (m : BuilderState) (net : ℕ) (bits : List Bit)
+  pub makes-change : (done : List Instant) (current : CurrentValues) (m : BuilderState) (net : ℕ) (bits : List Bit)
       → net < count
       → Makes done current m → Makes done (slice_set current net (Some bits)) (builder_change m net bits)
   makes-change done current m net bits lt made rest e =
@@ -188,7 +187,8 @@ module _ (slots : ℕ) (bound_groups : List BoundGroup) (count : ℕ) (instants 
   none_said : (line_bits : NetLines) (n : ℕ) (v : Levels) → v ≡ valued line_bits (values_from 0 (replicate n no_bits)) v
   none_said line_bits n v = sym (ap (λ (values : List Value). valued line_bits values v) (none_from n 0))
 
-  pub makes-instant : (done : List Instant) (current : Current) (m : BuilderState) (time : ℕ) → Makes done current m
+  pub makes-instant : (done : List Instant) (current : CurrentValues) (m : BuilderState) (time : ℕ) → Makes done current
+      m
       → Makes (done ++ record { time = time; values = values_from 0 current } ∷ []) (replicate (length current) None)
       (builder_instant m time)
   makes-instant done current m time made rest e =

@@ -8,18 +8,18 @@ use Rattle.vme_trace.specs.declared.step.Step.{Step}
 use Rattle.vcd_read.specs.Bodies.{until_fault}
 use Rattle.vcd_read.specs.Body.{BodyItem, BodyContext, at_the_end, body_from}
 use Rattle.vcd_read.specs.Header.{◌>>=◌, Net}
-use Rattle.vcd_read.specs.Taking.{State, Taking, at_end, ended, reached_before, state_at, steps}
+use Rattle.vcd_read.specs.BodyFold.{State, BodyFold, at_end, ended, reached_before, state_at, steps}
 use Rattle.vcd_read.specs.Tokens.{Token}
 use Rattle.vcd_read.specs.declared.fault.VcdFault.{VcdFault}
-use Rattle.vcd_read.proofs.DetachedLemmas.{learned_state, learned_taking, reached-learned, steps-learned}
+use Rattle.vcd_read.proofs.DetachedLemmas.{learned_state, learned_fold, reached-learned, steps-learned}
 use Rattle.vme_bind.specs.BuilderState.{BuilderState, builder_change, builder_instant}
 use Rattle.vme_bind.specs.SpeculativeReading.{SpeculativeReached, with_recording}
 use Rattle.vme_bind.specs.TextReading.{following, reading_ahead, reading_made, reading_until_fault}
 use Rattle.vme_bind.proofs.SpeculativeReadingLemmas.{behind, behind-change, behind-instant}
 
 module _ (t : Trace) where
-  abbrev taking_behind : Taking BuilderState → Taking BuilderState
-  taking_behind p = learned_taking builder_change builder_instant builder_change builder_instant (behind t)
+  abbrev fold_behind : BodyFold BuilderState → BodyFold BuilderState
+  fold_behind p = learned_fold builder_change builder_instant builder_change builder_instant (behind t)
       (behind-change t)
       (behind-instant t) p
 
@@ -36,8 +36,8 @@ module _ (t : Trace) where
   ended-behind true m time = sym (behind-instant t m time)
   ended-behind false m time = refl
 
-  stood-behind : (p : Taking BuilderState) (stood : Result BodyContext VcdFault)
-      → (stood >>= λ end. Ok (ended builder_instant (taking_behind p)))
+  stood-behind : (p : BodyFold BuilderState) (stood : Result BodyContext VcdFault)
+      → (stood >>= λ end. Ok (ended builder_instant (fold_behind p)))
       ≡ ((stood >>= λ end. Ok (ended builder_instant p)) >>= λ made. Ok (behind t made))
   stood-behind p (Ok end) = ap Ok (ended-behind p.begun p.taken p.time)
   stood-behind p (Err fault) = refl

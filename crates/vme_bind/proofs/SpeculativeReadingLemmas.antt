@@ -15,7 +15,7 @@ use Rattle.vcd_read.specs.DetachedPieces.{with_taken}
 use Rattle.vcd_read.specs.Header.{◌>>=◌, Net}
 use Rattle.vcd_read.specs.Reached.{Reached, rest_of}
 use Rattle.vcd_read.specs.Reading.{line_behind}
-use Rattle.vcd_read.specs.Taking.{State, at_end}
+use Rattle.vcd_read.specs.BodyFold.{State, at_end}
 use Rattle.vcd_read.specs.Tokens.{Token, tokens_from}
 use Rattle.vcd_read.specs.declared.dump.Bit.{Bit}
 use Rattle.vcd_read.specs.declared.fault.VcdFault.{VcdFault}

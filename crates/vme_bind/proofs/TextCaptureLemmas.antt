@@ -17,11 +17,12 @@ use Rattle.vcd_read.specs.Tokens.{tokens}
 use Rattle.vcd_read.specs.Header.{◌>>=◌, nothing_declared}
 use Rattle.vcd_read.specs.Sections.{Headed, Defined, defined, header_of}
 use Rattle.vcd_read.specs.Meaning.{ReadFails, ReadFailsAs, dump_of, instants_from}
-use Rattle.vcd_read.specs.Taking.{taken_from}
+use Rattle.vcd_read.specs.BodyFold.{fold_body}
 use Rattle.vcd_read.proofs.ReadLemmas.{fails_first, body_rises}
 use Rattle.vcd_read.proofs.DumpLemmas.{contents_behind, with_variables, whole_header, dump_of-header, dump_behind}
 use Rattle.vcd_read.proofs.DefinedLemmas.{taken_head, header_taken}
-use Rattle.vcd_read.proofs.TakingLemmas.{Current, Ends, Follows, taken-follows, fails-followed, gives-followed}
+use Rattle.vcd_read.proofs.CurrentValues.{CurrentValues}
+use Rattle.vcd_read.proofs.BodyFoldLemmas.{Ends, Follows, taken-follows, fails-followed, gives-followed}
 use Rattle.vme_bind.specs.declared.fault.BindFault.{BindFault}
 use Rattle.vme_bind.specs.declared.fault.BindKind.{BindKind}
 use Rattle.vme_bind.specs.declared.fault.BindKind.TheVariants.{TooManySteps, Memory as NoMemory}
@@ -59,12 +60,12 @@ abbrev refused : BindFault → Result (List Instant) VcdFault → Result Trace C
 refused own r = or_dump r >>= λ instants. Err (Binding own)
 
 module _ (slots : ℕ) (bound_groups : List BoundGroup) (h : Headed) where
-  abbrev pub IsMadeOf : List Instant → Current → BuilderState → Type 0
+  abbrev pub IsMadeOf : List Instant → CurrentValues → BuilderState → Type 0
   IsMadeOf = Makes slots bound_groups (length h.nets) (instants_in (instants_from h.nets h.body))
 
   pub builder-follows : (m : BuilderState) → IsBegun slots bound_groups m
       → Follows (Ends IsMadeOf) (instants_from h.nets h.body)
-      (taken_from builder_change builder_instant h.nets m h.body)
+      (fold_body builder_change builder_instant h.nets m h.body)
   builder-follows m begun =
       let all : List Instant = instants_in (instants_from h.nets h.body) in
       taken-follows builder_change builder_instant h.nets IsMadeOf
@@ -75,7 +76,7 @@ module _ (slots : ℕ) (bound_groups : List BoundGroup) (h : Headed) where
 
   -- a fault of the body, met by what makes the recording
   pub body-fails : (m : BuilderState) (fault : VcdFault) → IsBegun slots bound_groups m
-      → ReadFails fault (taken_from builder_change builder_instant h.nets m h.body) → CaptureFailsBy (Dump fault)
+      → ReadFails fault (fold_body builder_change builder_instant h.nets m h.body) → CaptureFailsBy (Dump fault)
       (body_recording slots bound_groups h)
   body-fails m fault begun fails =
       dump_fails fault.line fault.kind (fails-followed (Ends IsMadeOf) (instants_from h.nets h.body) _ fault
@@ -89,7 +90,7 @@ module _ (slots : ℕ) (bound_groups : List BoundGroup) (h : Headed) where
 
   -- what is made of the whole body
   pub body-recorded : (m end : BuilderState) → IsBegun slots bound_groups m
-      → taken_from builder_change builder_instant h.nets m
+      → fold_body builder_change builder_instant h.nets m
       h.body ≡ Ok end → body_recording slots bound_groups h ≡ Ok end.recorded
   body-recorded m end begun ok =
       let gives = gives-followed (Ends IsMadeOf) (instants_from h.nets h.body) _ end (builder-follows m begun) ok in
@@ -112,11 +113,11 @@ module _ (slots : ℕ) (bound_groups : List BoundGroup) (h : Headed) where
   -- a body comes to what is made of it, or to its fault, or to that of the binding
   pub body-outcome : (fault : Option BindFault) (m : BuilderState) → IsBegun slots bound_groups m
       → body_outcome fault slots
-      bound_groups h ≡ outcome fault (taken_from builder_change builder_instant h.nets m h.body)
-  body-outcome fault m begun = by_taken fault (taken_from builder_change builder_instant h.nets m h.body) refl
+      bound_groups h ≡ outcome fault (fold_body builder_change builder_instant h.nets m h.body)
+  body-outcome fault m begun = by_taken fault (fold_body builder_change builder_instant h.nets m h.body) refl
     where
       by_taken : (fault : Option BindFault) (taken : Result BuilderState VcdFault)
-          → taken_from builder_change builder_instant h.nets
+          → fold_body builder_change builder_instant h.nets
           m h.body ≡ taken → body_outcome fault slots bound_groups h ≡ outcome fault taken
       by_taken None (Ok end) e = body-recorded m end begun e
       by_taken (Some own) (Ok end) e =
@@ -244,11 +245,11 @@ passed_change u net bits = u
 abbrev passed_instant : Unit {0} → ℕ → Unit {0}
 passed_instant u time = u
 
-abbrev Passes : List Instant → Current → Unit {0} → Type 0
+abbrev Passes : List Instant → CurrentValues → Unit {0} → Type 0
 Passes done current u = Unit {0}
 
 passing-follows : (h : Headed) (u : Unit {0}) → Follows (Ends Passes) (instants_from h.nets h.body)
-    (taken_from passed_change passed_instant h.nets u h.body)
+    (fold_body passed_change passed_instant h.nets u h.body)
 passing-follows h u = taken-follows passed_change passed_instant h.nets Passes (λ done current a net bits lt made. tt)
     (λ done current a time made. tt) h.body u tt
 
@@ -260,7 +261,7 @@ behind_dump b h variables line kind e = ap (λ (r : Result (List Instant) VcdFau
 
 -- a fault of the body comes first
 pub behind-first : (b : BoundLines) (h : Headed) (variables : List Variable) (u : Unit {0}) (fault : VcdFault)
-    → ReadFails fault (taken_from passed_change passed_instant h.nets u h.body)
+    → ReadFails fault (fold_body passed_change passed_instant h.nets u h.body)
     → CaptureFailsBy (Dump fault) (recording_behind b (defined h variables))
 behind-first b h variables u fault fails = behind_dump b h variables fault.line fault.kind
     (fails-followed (Ends Passes) (instants_from h.nets h.body) _ fault (passing-follows h u) fails)
@@ -275,7 +276,7 @@ by_binding line kind b dump answer is e =
 
 -- the binding's own fault, where the body has none
 pub behind-binding : (b : BoundLines) (h : Headed) (variables : List Variable) (u end : Unit {0}) (fault : BindFault)
-    → taken_from passed_change passed_instant h.nets u h.body ≡ Ok end
+    → fold_body passed_change passed_instant h.nets u h.body ≡ Ok end
     → BindFails fault (bound_groups_in variables b.assignments) → CaptureFailsBy (Binding fault)
     (recording_behind b (defined h variables))
 behind-binding b h variables u end fault ok fails =

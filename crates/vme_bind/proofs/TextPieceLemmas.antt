@@ -7,7 +7,7 @@ use Rattle.vcd_read.specs.Header.{◌>>=◌, nothing_declared}
 use Rattle.vcd_read.specs.Meaning.{ReadFails, ReadFailsAs, instants_from}
 use Rattle.vcd_read.specs.Sections.{Headed, defined, header_of}
 use Rattle.vcd_read.specs.Reached.{Reached, rest_of}
-use Rattle.vcd_read.specs.Taking.{State, at_end}
+use Rattle.vcd_read.specs.BodyFold.{State, at_end}
 use Rattle.vcd_read.specs.Tokens.{Token, tokens}
 use Rattle.vcd_read.specs.declared.dump.Variable.{Variable}
 use Rattle.vcd_read.specs.declared.fault.FaultKind.{FaultKind}

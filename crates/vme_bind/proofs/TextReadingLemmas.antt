@@ -14,7 +14,7 @@ use Rattle.vcd_read.specs.Meaning.{ReadFails, ReadFailsAs, instants_before_fault
 use Rattle.vcd_read.specs.Meaning.{last_time_before_fault}
 use Rattle.vcd_read.specs.Reached.{Reached, rest_until_fault}
 use Rattle.vcd_read.specs.Sections.{Headed, Defined, defined, header_of}
-use Rattle.vcd_read.specs.Taking.{State, Taking, at_end, at_first, reached_before, state_at, taken_from}
+use Rattle.vcd_read.specs.BodyFold.{State, BodyFold, at_end, at_first, reached_before, state_at, fold_body}
 use Rattle.vcd_read.specs.Tokens.{Token, tokens}
 use Rattle.vcd_read.specs.declared.dump.Instant.{Instant}
 use Rattle.vcd_read.specs.declared.dump.Variable.{Variable}
@@ -25,7 +25,7 @@ use Rattle.vcd_read.proofs.BeforeFaultLemmas.{before_fault, before_fault_rises}
 use Rattle.vcd_read.proofs.DumpLemmas.{whole_header}
 use Rattle.vcd_read.proofs.DefinedLemmas.{header_taken, taken_head}
 use Rattle.vcd_read.proofs.InstantsLaw.{at_start}
-use Rattle.vcd_read.proofs.TakingLemmas.{Ends, gives-followed, reached-follows}
+use Rattle.vcd_read.proofs.BodyFoldLemmas.{Ends, gives-followed, reached-follows}
 use Rattle.vcd_read.proofs.ReadLemmas.{body_rises}
 use Rattle.vcd_read.proofs.TimeLemmas.{reached_time}
 use Rattle.vme_bind.specs.declared.bound_groups.BoundGroup.{BoundGroup}
@@ -66,7 +66,7 @@ piece_stops line kind made recorded time read e h =
     (sym h.2)
 
 -- nothing more is taken where nothing is left
-pub none_ahead : (nets : List Net) (timed : Taking BuilderState) (bracket : Option ℕ) (place : BodyPlace)
+pub none_ahead : (nets : List Net) (timed : BodyFold BuilderState) (bracket : Option ℕ) (place : BodyPlace)
     → (reached_before builder_change builder_instant nets (state_at timed bracket) (body_from place [])).progress
     ≡ timed
 unfolding reached_before body_from
@@ -88,8 +88,9 @@ end_stops line kind made recorded time r e h =
     let none : read.reached.progress ≡ r.progress = none_ahead r.nets r.progress r.bracket r.place in
     ap (reading_made read.reached.progress.taken.recorded read.reached.progress.time) h.0
     ∙ stopped_as (record { line = line; kind = kind }) _ _ _ _
-    (ap (λ (p : Taking BuilderState). p.taken.recorded) none ∙ ap (λ (m : BuilderState). m.recorded) (sym h.1) ∙ sym e)
-    (ap (λ (p : Taking BuilderState). p.time) none ∙ sym h.2)
+    (ap (λ (p : BodyFold BuilderState). p.taken.recorded) none ∙ ap (λ (m : BuilderState). m.recorded) (sym h.1)
+    ∙ sym e)
+    (ap (λ (p : BodyFold BuilderState). p.time) none ∙ sym h.2)
 
 -- no fault at the end
 pub ended_reading : (recorded : Trace) (made : BuilderState) (r : Reached BuilderState) → recorded ≡ made.recorded
@@ -99,7 +100,7 @@ pub ended_reading : (recorded : Trace) (made : BuilderState) (r : Reached Builde
 ended_reading recorded made r e is =
     let read : UntilFault BuilderState = rest_until_fault builder_change builder_instant r [] [] in
     ap (reading_made read.reached.progress.taken.recorded read.reached.progress.time) is
-    ∙ ap (λ (p : Taking BuilderState). record { recorded = made.recorded; fault = None; time = p.time })
+    ∙ ap (λ (p : BodyFold BuilderState). record { recorded = made.recorded; fault = None; time = p.time })
     (none_ahead r.nets r.progress r.bracket r.place)
     ∙ ap (λ (t : Trace). record { recorded = t; fault = None; time = r.progress.time }) (sym e)
 
@@ -138,7 +139,7 @@ module _ (slots : ℕ) (bound_groups : List BoundGroup) (h : Headed) (m : Builde
     abbrev whole_reading : Trace → ℕ → TextReading
     whole_reading t time = record { recorded = t; fault = None; time = time }
 
-    by_taken : (taken : Result BuilderState VcdFault) → taken_from builder_change builder_instant h.nets m h.body
+    by_taken : (taken : Result BuilderState VcdFault) → fold_body builder_change builder_instant h.nets m h.body
         ≡ taken
         → body_reading slots bound_groups h
         ≡ reading_made read.reached.progress.taken.recorded read.reached.progress.time taken
@@ -161,7 +162,7 @@ module _ (slots : ℕ) (bound_groups : List BoundGroup) (h : Headed) (m : Builde
 
     -- a body comes to what is made of it
     pub body_read : body_reading slots bound_groups h ≡ reading_until_fault read
-    body_read = by_taken (taken_from builder_change builder_instant h.nets m h.body) refl
+    body_read = by_taken (fold_body builder_change builder_instant h.nets m h.body) refl
 
 -- what it comes to are steps that follow one another
 body_formed : (slots : ℕ) (bound_groups : List BoundGroup) (h : Headed) → malformed_step

@@ -7,7 +7,7 @@ use Rattle.vcd_read.specs.Header.{◌>>=◌}
 use Rattle.vcd_read.specs.Meaning.{instants_from}
 use Rattle.vcd_read.specs.Sections.{Headed}
 use Rattle.vcd_read.specs.Reached.{Reached, reached, rest_of}
-use Rattle.vcd_read.specs.Taking.{at_end}
+use Rattle.vcd_read.specs.BodyFold.{at_end}
 use Rattle.vcd_read.specs.Tokens.{Token, tokens, tokens_from}
 use Rattle.vcd_read.specs.declared.fault.VcdFault.{VcdFault}
 use Rattle.vme_bind.specs.declared.fault.BindFault.{BindFault}

@@ -8,7 +8,7 @@ use Rattle.vcd_read.specs.Header.{◌>>=◌, appended, nothing_declared}
 use Rattle.vcd_read.specs.Meaning.{instants_before_fault, instants_from, last_time_before_fault}
 use Rattle.vcd_read.specs.Reached.{rest_until_fault}
 use Rattle.vcd_read.specs.Sections.{Defined, Headed, header_of}
-use Rattle.vcd_read.specs.Taking.{at_end}
+use Rattle.vcd_read.specs.BodyFold.{at_end}
 use Rattle.vcd_read.specs.Tokens.{Token, tokens, tokens_from}
 use Rattle.vcd_read.specs.declared.dump.Instant.{Instant}
 use Rattle.vcd_read.specs.declared.dump.Variable.{Variable}

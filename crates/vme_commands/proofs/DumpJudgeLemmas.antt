@@ -4,7 +4,7 @@ use Rattle.vme_trace.specs.Trace.{Trace}
 use Rattle.vcd_read.specs.Header.{◌>>=◌}
 use Rattle.vcd_read.specs.Body.{body_from}
 use Rattle.vcd_read.specs.Reading.{line_behind}
-use Rattle.vcd_read.specs.Taking.{at_end, state_at, steps}
+use Rattle.vcd_read.specs.BodyFold.{at_end, state_at, steps}
 use Rattle.vcd_read.specs.Tokens.{Token, tokens, tokens_from}
 use Rattle.vcd_read.specs.declared.fault.FaultKind.{FaultKind}
 use Rattle.vcd_read.specs.declared.fault.FaultKind.TheVariants.{Memory}

@@ -9,7 +9,7 @@ use Rattle.vcd_read.specs.Meaning.{ReadFails, ReadFailsAs, dump_of, instants_fro
 use Rattle.vcd_read.specs.Reached.{Reached, rest_of}
 use Rattle.vcd_read.specs.Reading.{line_behind}
 use Rattle.vcd_read.specs.Sections.{Defined, Headed, defined, header_of}
-use Rattle.vcd_read.specs.Taking.{State, at_end, state_at, steps, taken_from}
+use Rattle.vcd_read.specs.BodyFold.{State, at_end, state_at, steps, fold_body}
 use Rattle.vcd_read.specs.Tokens.{Token, tokens, tokens_from}
 use Rattle.vcd_read.specs.declared.dump.Instant.{Instant}
 use Rattle.vcd_read.specs.declared.dump.Variable.{Variable}
@@ -20,7 +20,8 @@ use Rattle.vcd_read.proofs.DefinedLemmas.{header_taken, taken_head}
 use Rattle.vcd_read.proofs.DumpLemmas.{contents_behind, dump_behind, dump_of-header, with_variables}
 use Rattle.vcd_read.proofs.FrontLemmas.{found-front}
 use Rattle.vcd_read.proofs.ReadLemmas.{fails_first}
-use Rattle.vcd_read.proofs.TakingLemmas.{Current, Ends, Follows, fails-followed, gives-followed, taken-follows}
+use Rattle.vcd_read.proofs.CurrentValues.{CurrentValues}
+use Rattle.vcd_read.proofs.BodyFoldLemmas.{Ends, Follows, fails-followed, gives-followed, taken-follows}
 use Rattle.vme_declarations.specs.Surveys.{EndsBetweenTokens, IsSurveyOf, Survey, body_ahead, count_ahead, count_behind}
 use Rattle.vme_declarations.specs.Surveys.{counted, definitions_of, is_want_of_memory, survey_of, uncounted}
 use Rattle.vme_declarations.specs.Surveys.{variables_by, variables_in, with_count}
@@ -72,7 +73,7 @@ definitions-fail text fault fails =
     fails_first fault (definitions_of text) surveyed (survey_of text) refl own
 
 pub behind-counts : (text : List ℕ) (h : Headed) (n : ℕ) → header text (tokens text) ≡ Ok (defined h tt)
-    → taken_from uncounted counted h.nets 0 h.body ≡ Ok n
+    → fold_body uncounted counted h.nets 0 h.body ≡ Ok n
     → survey_of text ≡ Ok (record { variables = variables_in text; instants = n })
 unfolding survey_of
 behind-counts text h n is counts =
@@ -82,25 +83,25 @@ behind-counts text h n is counts =
     ∙ ap (λ (vs : List Variable). Ok (record { variables = vs; instants = n })) (sym (ap variables_by taken.1))
 
 pub behind-fails : (text : List ℕ) (h : Headed) (fault : VcdFault) → header text (tokens text) ≡ Ok (defined h tt)
-    → ReadFails fault (taken_from uncounted counted h.nets 0 h.body) → ReadFails fault (survey_of text)
+    → ReadFails fault (fold_body uncounted counted h.nets 0 h.body) → ReadFails fault (survey_of text)
 unfolding survey_of
 behind-fails text h fault is fails =
     let taken = is-taken passed text h tt tt is in
-    fails_first fault (taken_from uncounted counted h.nets 0 h.body)
+    fails_first fault (fold_body uncounted counted h.nets 0 h.body)
     (λ n. Ok (record { variables = taken.0; instants = n })) (survey_of text)
     (ap (λ (r : Result (Defined (List Variable)) VcdFault). r >>= surveyed) taken.1) fails
 
 -- ---- the dump
 
 -- so many instants are behind
-abbrev Counts : List Instant → Current → ℕ → Type 0
+abbrev Counts : List Instant → CurrentValues → ℕ → Type 0
 Counts done current n = length done ≡ n
 
 one_more : (done : List Instant) (n : ℕ) (x : Instant) → length done ≡ n → length (done ++ x ∷ []) ≡ n + 1
 one_more done n x e = omega (arith, e, length-append done (x ∷ []))
 
 follows : (h : Headed) → Follows (Ends Counts) (instants_from h.nets h.body)
-    (taken_from uncounted counted h.nets 0 h.body)
+    (fold_body uncounted counted h.nets 0 h.body)
 follows h = taken-follows uncounted counted h.nets Counts (λ done current n net bits lt counts. counts)
     (λ done current n time counts. one_more done n _ counts) h.body 0 refl
 
@@ -238,7 +239,7 @@ pub record IsBegun (front left : List ℕ) (h : Headed) (r : Reached ℕ) : Type
 
 module _ (front left : List ℕ) (h : Headed) (r : Reached ℕ) (begun : IsBegun front left h r)
     (ends : EndsBetweenTokens front) where
-  whole_count : (more : List Token) → taken_from uncounted counted h.nets 0 (h.body ++ more)
+  whole_count : (more : List Token) → fold_body uncounted counted h.nets 0 (h.body ++ more)
       ≡ ends_as (rest_of uncounted counted r (tokens_from r.line left) more)
   whole_count more = rw (begun.nets, begun.progress, begun.bracket, begun.place, begun.body) refl
 
@@ -255,7 +256,7 @@ module _ (front left : List ℕ) (h : Headed) (r : Reached ℕ) (begun : IsBegun
       (defined (going_on h []) taken.0) taken.1 in
       of_front front rest ends ∙ ap (λ (d : Result (Defined (List Variable)) VcdFault). d >>= surveyed) found
       ∙ ap (with_count taken.0)
-      (ap (λ (body : List Token). taken_from uncounted counted h.nets 0 (body ++ more)) (append-nil h.body)
+      (ap (λ (body : List Token). fold_body uncounted counted h.nets 0 (body ++ more)) (append-nil h.body)
       ∙ whole_count more)
       ∙ ap (λ (vs : List Variable). with_count vs
       (ends_as (rest_of uncounted counted r (tokens_from r.line left) more))) (sym (ap variables_by taken.1))

@@ -6,7 +6,7 @@ use Rattle.vcd_read.specs.Meaning.{dump_of}
 use Rattle.vcd_read.specs.Reached.{Reached, outcome_of, rest_of}
 use Rattle.vcd_read.specs.Reading.{line_behind}
 use Rattle.vcd_read.specs.Sections.{Defined, header_of}
-use Rattle.vcd_read.specs.Taking.{at_end, taken_from}
+use Rattle.vcd_read.specs.BodyFold.{at_end, fold_body}
 use Rattle.vcd_read.specs.Tokens.{tokens, tokens_from}
 use Rattle.vcd_read.specs.declared.dump.Bit.{Bit}
 use Rattle.vcd_read.specs.declared.dump.Variable.{Variable}
@@ -24,7 +24,7 @@ counted count time = count + 1
 
 -- how many instants there are behind some definitions, or else the first fault of the body
 abbrev pub count_behind : {V : Type 0} → Defined V → Result ℕ VcdFault
-count_behind d = taken_from uncounted counted d.head.nets 0 d.head.body
+count_behind d = fold_body uncounted counted d.head.nets 0 d.head.body
 
 -- ---- the definitions
 

@@ -2,7 +2,7 @@
 
 ghost use Rattle.std.specs.Prelude.{◌≡◌, ◌≤◌};
 ghost use Rattle.vcd_read.specs.Meaning.{ReadGives};
-ghost use Rattle.vcd_read.specs.Taking.{taken_from};
+ghost use Rattle.vcd_read.specs.BodyFold.{fold_body};
 ghost use Rattle.vme_declarations.specs.Surveys.{counted, uncounted};
 
 use std::alloc::{AllocError, Global};
@@ -87,7 +87,7 @@ impl ChangeVisitor for LevelsSeen {
 /// The levels that the nets have in the body behind some definitions.
 pub(crate) fn levels_in(alloc: Global, head: &Head<'_>) -> Result<LevelsSeen, VcdFault>
     ensures { ReadGives (λ levels. levels.instants) result
-        (taken_from uncounted counted head.now.nets 0 head.now.body) }
+        (fold_body uncounted counted head.now.nets 0 head.now.body) }
 {
     head.read_body(alloc, LevelsSeen::none(alloc))
 }

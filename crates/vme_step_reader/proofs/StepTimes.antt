@@ -13,7 +13,7 @@ use Rattle.vcd_read.specs.Body.{BodyItem, BodyContext, at_the_end, body_from, br
 use Rattle.vcd_read.specs.Body.{closed, fitting, opened_at, skipped, context_after, time_after, time_item, wrong}
 use Rattle.vcd_read.specs.Header.{◌>>=◌, Net, at_line, net_of}
 use Rattle.vcd_read.specs.Numbers.{number, time_of}
-use Rattle.vcd_read.specs.Taking.{State, Taking, at_end, ended, progress_after, reached_before, state_at, steps}
+use Rattle.vcd_read.specs.BodyFold.{State, BodyFold, at_end, ended, progress_after, reached_before, state_at, steps}
 use Rattle.vcd_read.specs.Tokens.{tokens_from}
 use Rattle.vcd_read.specs.declared.fault.FaultKind.{FaultKind}
 use Rattle.vcd_read.specs.declared.fault.VcdFault.{VcdFault}
@@ -104,12 +104,12 @@ module _ (from : ℕ) where
 
   -- ---- what is made so far
 
-  record IsMade (p : Taking BuilderState) : Type 0 where
+  record IsMade (p : BodyFold BuilderState) : Type 0 where
     late : from ≤ p.time
     before : AreBefore p.time p.taken.recorded.steps
 
   -- another time is told
-  at-next : (test : Bool) (p : Taking BuilderState) (t : ℕ) → IsMade p → p.time ≤ t → (test ≡ true → p.time < t)
+  at-next : (test : Bool) (p : BodyFold BuilderState) (t : ℕ) → IsMade p → p.time ≤ t → (test ≡ true → p.time < t)
       → IsMade (cond test (record { taken = builder_instant p.taken p.time; time = t; begun = true })
       (record p { time = t; begun = true }))
   at-next true p t h le later = record {
@@ -123,7 +123,7 @@ module _ (from : ℕ) where
     before = before-later p.time t le p.taken.recorded.steps h.before;
   }
 
-  time-next : (test : Bool) (p : Taking BuilderState) (t : ℕ)
+  time-next : (test : Bool) (p : BodyFold BuilderState) (t : ℕ)
       → (cond test (record { taken = builder_instant p.taken p.time; time = t; begun = true })
       (record p { time = t; begun = true })).time ≡ t
   time-next true p t = refl
@@ -134,13 +134,14 @@ module _ (from : ℕ) where
     made : IsMade s.progress
 
   module _ (nets : List Net) where
-    abbrev after : Taking BuilderState → BodyItem → Taking BuilderState
+    abbrev after : BodyFold BuilderState → BodyItem → BodyFold BuilderState
     after p item = progress_after builder_change builder_instant nets p item
 
     abbrev state_after : State BuilderState → BodyItem → BodyContext → State BuilderState
     state_after s item next = record { context = next; progress = after s.progress item }
 
-    still : (s : State BuilderState) (p : Taking BuilderState) (next : BodyContext) → IsAt s → p.time ≡ s.progress.time
+    still : (s : State BuilderState) (p : BodyFold BuilderState) (next : BodyContext) → IsAt s → p.time
+        ≡ s.progress.time
         → p.taken.recorded.steps ≡ s.progress.taken.recorded.steps → next.now ≡ s.context.now
         → IsAt (record { context = next; progress = p })
     still s p next h same steps now = record {
@@ -182,7 +183,7 @@ module _ (from : ℕ) where
 
     -- ---- items
 
-    abbrev state_of : Taking BuilderState → Result BodyContext VcdFault → Result (State BuilderState) VcdFault
+    abbrev state_of : BodyFold BuilderState → Result BodyContext VcdFault → Result (State BuilderState) VcdFault
     state_of p stood = stood >>= λ next. Ok (record { context = next; progress = p })
 
     step-at : (s : State BuilderState) (item : BodyItem) (items : List BodyItem) (stood : Result BodyContext VcdFault)
@@ -233,7 +234,7 @@ module _ (from : ℕ) where
     pub up_to : AreUpTo reading.time reading.recorded.steps
     pub before : (fault : VcdFault) → reading.fault ≡ Some fault → AreBefore reading.time reading.recorded.steps
 
-  faulty-times : (p : Taking BuilderState) (fault : VcdFault) → IsMade p
+  faulty-times : (p : BodyFold BuilderState) (fault : VcdFault) → IsMade p
       → TimesOf (reading_made p.taken.recorded p.time (Err fault))
   faulty-times p fault h = record {
     late = h.late;
@@ -242,7 +243,7 @@ module _ (from : ℕ) where
   }
 
   -- the instant at hand is the last
-  ended-up-to : (begun : Bool) (p : Taking BuilderState) → IsMade p
+  ended-up-to : (begun : Bool) (p : BodyFold BuilderState) → IsMade p
       → AreUpTo p.time (cond begun (builder_instant p.taken p.time) p.taken).recorded.steps
   ended-up-to true p h =
       All-append (λ (s : Step). (from ≤ s.time) × (s.time ≤ p.time)) p.taken.recorded.steps
@@ -253,7 +254,7 @@ module _ (from : ℕ) where
       }) h.late)
   ended-up-to false p h = up-to p.time p.taken.recorded.steps h.before
 
-  end-times : (p : Taking BuilderState) (stood : Result BodyContext VcdFault) → IsMade p
+  end-times : (p : BodyFold BuilderState) (stood : Result BodyContext VcdFault) → IsMade p
       → TimesOf (reading_made p.taken.recorded p.time (stood >>= λ end. Ok (ended builder_instant p)))
   end-times p (Ok end) h = record {
     late = h.late;

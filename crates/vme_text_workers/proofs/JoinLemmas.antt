@@ -11,7 +11,7 @@ use Rattle.vme_trace.proofs.CutBlocks.{levels_after-append}
 use Rattle.vcd_read.specs.Body.{body_from}
 use Rattle.vcd_read.specs.Header.{◌>>=◌, Net}
 use Rattle.vcd_read.specs.Reading.{line_behind}
-use Rattle.vcd_read.specs.Taking.{at_end, state_at, steps}
+use Rattle.vcd_read.specs.BodyFold.{at_end, state_at, steps}
 use Rattle.vcd_read.specs.Tokens.{Token, tokens_from}
 use Rattle.vme_bind.specs.BuilderState.{builder_change, builder_instant}
 use Rattle.vme_bind.specs.TextCapture.{CaptureFailsBy}

@@ -7,43 +7,44 @@ use Rattle.vcd_read.specs.declared.dump.Variable.{Variable}
 use Rattle.vcd_read.specs.Header.{◌>>=◌}
 use Rattle.vcd_read.specs.Meaning.{ReadFails, ReadGives, dump_of, instants_from}
 use Rattle.vcd_read.specs.Sections.{Defined, Headed}
-use Rattle.vcd_read.specs.Taking.{taken_from}
+use Rattle.vcd_read.specs.BodyFold.{fold_body}
 use Rattle.vcd_read.proofs.DumpLemmas.{contents_behind, with_variables, whole_header, dump_of-header, dump_behind}
 use Rattle.vcd_read.proofs.ReadLemmas.{fails_first}
-use Rattle.vcd_read.proofs.TakingLemmas.{Current, Ends, Follows, fails-followed, gives-followed, taken-follows}
+use Rattle.vcd_read.proofs.CurrentValues.{CurrentValues}
+use Rattle.vcd_read.proofs.BodyFoldLemmas.{Ends, Follows, fails-followed, gives-followed, taken-follows}
 use Rattle.vme_declarations.specs.Dumps.{IsDump}
 
 module _ {T : Type 0} (with_change : T → ℕ → List Bit → T) (with_instant : T → ℕ → T) where
-  abbrev Any : List Instant → Current → T → Type 0
+  abbrev Any : List Instant → CurrentValues → T → Type 0
   Any done current t = Unit {0}
 
   follows : (h : Headed) (t : T) → Follows (Ends Any) (instants_from h.nets h.body)
-      (taken_from with_change with_instant h.nets t h.body)
+      (fold_body with_change with_instant h.nets t h.body)
   follows h t = taken-follows with_change with_instant h.nets Any (λ done current a net bits lt made. tt)
       (λ done current a time made. tt) h.body t tt
 
-  taking_fails : (h : Headed) (t : T) (fault : VcdFault) → ReadFails fault
-      (taken_from with_change with_instant h.nets t h.body) → ReadFails fault (instants_from h.nets h.body)
-  taking_fails h t fault fails = fails-followed (Ends Any) (instants_from h.nets h.body) _ fault (follows h t) fails
+  fold_fails : (h : Headed) (t : T) (fault : VcdFault) → ReadFails fault
+      (fold_body with_change with_instant h.nets t h.body) → ReadFails fault (instants_from h.nets h.body)
+  fold_fails h t fault fails = fails-followed (Ends Any) (instants_from h.nets h.body) _ fault (follows h t) fails
 
-  taking_ends : (h : Headed) (t end : T) → taken_from with_change with_instant h.nets t h.body ≡ Ok end
+  fold_ends : (h : Headed) (t end : T) → fold_body with_change with_instant h.nets t h.body ≡ Ok end
       → (instants : List Instant) × (instants_from h.nets h.body ≡ Ok instants)
-  taking_ends h t end ok =
+  fold_ends h t end ok =
       let gives = gives-followed (Ends Any) (instants_from h.nets h.body) _ end (follows h t) ok in
       (gives.0, gives.1)
 
   -- what reading the body answers
   pub taken-ok : {X : Type 0} (view : X → T) (h : Headed) (t : T) (r : Result X VcdFault) → ReadGives view r
-      (taken_from with_change with_instant h.nets t h.body)
+      (fold_body with_change with_instant h.nets t h.body)
       → OnOk r ((instants : List Instant) × (instants_from h.nets h.body ≡ Ok instants))
-  taken-ok view h t (Ok x) gives = taking_ends h t (view x) gives
+  taken-ok view h t (Ok x) gives = fold_ends h t (view x) gives
   taken-ok view h t (Err fault) gives = tt
 
   pub taken-err : {X : Type 0} (view : X → T) (h : Headed) (t : T) (r : Result X VcdFault) → ReadGives view r
-      (taken_from with_change with_instant h.nets t h.body)
+      (fold_body with_change with_instant h.nets t h.body)
       → IfErr r (λ fault. ReadFails fault (instants_from h.nets h.body))
   taken-err view h t (Ok x) gives = tt
-  taken-err view h t (Err fault) gives = taking_fails h t fault gives
+  taken-err view h t (Err fault) gives = fold_fails h t fault gives
 
 -- ---- the whole text
 

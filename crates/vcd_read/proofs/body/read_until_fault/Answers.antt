@@ -3,7 +3,7 @@ use denote.Ref.{Bor}
 use Rattle.vcd_read.specs.Header.{Net}
 use Rattle.vcd_read.specs.Bodies.{place_of}
 use Rattle.vcd_read.specs.Reading.{left_at}
-use Rattle.vcd_read.specs.Taking.{taking, state_of}
+use Rattle.vcd_read.specs.BodyFold.{body_fold, state_of}
 use Rattle.vcd_read.proofs.BodyLemmas.{nothing_behind}
 use Rattle.vcd_read.proofs.body.read_until_fault.Goals as goal
 
@@ -14,7 +14,7 @@ returns-in-Ok g c =
     rw (c.end.ensures.taken, c.end.ensures.clock, c.end.ensures.bracket, c.end.ensures.place) (
     (rw (c.on_line.ensures.line c.args.reader.text) at c.in-Ok.ensures.rest more)
     ∙ nothing_behind g.T.ChangeVisitor.with_change g.T.ChangeVisitor.with_instant c.args.codes.now end.codes.now
-    (state_of end.reader.text (taking (g.T.ChangeVisitor.taken end.timed.visitor) end.timed.clock) end.bracket)
+    (state_of end.reader.text (body_fold (g.T.ChangeVisitor.taken end.timed.visitor) end.timed.clock) end.bracket)
     (place_of end.place) (left_at end.reader.text end.reader.at) (ap (λ (codes : Bor (List Net)). codes.now)
     c.in-Ok.ensures.codes) c.in-Ok.ensures.end more)
 

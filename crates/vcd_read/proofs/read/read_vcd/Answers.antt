@@ -7,7 +7,7 @@ use Rattle.vcd_read.specs.Sections.{defined}
 use Rattle.vcd_read.specs.Collected.{Collected}
 use Rattle.vcd_read.proofs.ReadLemmas.{fails_first, gives_err, body_rises}
 use Rattle.vcd_read.proofs.DumpLemmas.{contents_behind, with_variables, whole_header, dump_of-header, dump_behind}
-use Rattle.vcd_read.proofs.TakingLemmas.{AreCollected, collected-follows, fails-followed, gives-followed}
+use Rattle.vcd_read.proofs.BodyFoldLemmas.{AreCollected, collected-follows, fails-followed, gives-followed}
 use Rattle.vcd_read.proofs.read.read_vcd.Goals as goal
 
 pub returns-in_err-head : goal.returns-in_err-head

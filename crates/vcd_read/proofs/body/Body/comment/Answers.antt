@@ -4,7 +4,7 @@ use Rattle.vcd_read.specs.Reading.{line_of, left_at, token_at}
 use Rattle.vcd_read.specs.Bodies.{place_of, until_fault}
 use Rattle.vcd_read.specs.Body.{in_comment}
 use Rattle.vcd_read.specs.declared.body_piece.BodyPiece.{BodyPiece}
-use Rattle.vcd_read.specs.Taking.{taking, state_of}
+use Rattle.vcd_read.specs.BodyFold.{body_fold, state_of}
 use Rattle.vcd_read.proofs.BodyLemmas.{comment_end, comment_more, nothing_left, same_left}
 use Rattle.vcd_read.proofs.body.Body.comment.Goals as goal
 
@@ -21,11 +21,11 @@ returns-then-is_end-clause-rest g c =
     let ended = comment_end line (left_at text c.loop-word.self.reader.at ++ more) (left_at text after ++ more) t
     (ap (λ (ts : List Token). ts ++ more) cut) (sym c.is_end.ensures ∙ c.if-is_end.true) in
     ap (until_fault g.T.ChangeVisitor.with_change g.T.ChangeVisitor.with_instant old.codes.now
-    (state_of old.reader.text (taking (g.T.ChangeVisitor.taken old.timed.visitor) old.timed.clock) old.bracket))
+    (state_of old.reader.text (body_fold (g.T.ChangeVisitor.taken old.timed.visitor) old.timed.clock) old.bracket))
     (inv.rest more ∙ ended)
     ∙ same_left g.T.ChangeVisitor.with_change g.T.ChangeVisitor.with_instant old.codes.now c.loop-word.self.codes.now
-    text c.next.new.self.text (taking (g.T.ChangeVisitor.taken old.timed.visitor) old.timed.clock)
-    (taking (g.T.ChangeVisitor.taken c.loop-word.self.timed.visitor) c.loop-word.self.timed.clock) old.bracket
+    text c.next.new.self.text (body_fold (g.T.ChangeVisitor.taken old.timed.visitor) old.timed.clock)
+    (body_fold (g.T.ChangeVisitor.taken c.loop-word.self.timed.visitor) c.loop-word.self.timed.clock) old.bracket
     c.loop-word.self.bracket _ (place_of c.loop-word.self.place) after (cc) (cc) (rw inv.timed refl) inv.bracket
     (ap place_of (inv.place ∙ c.requires.between)) more
 
@@ -59,13 +59,13 @@ returns-clause-rest g c =
     let later = c.in_default.ensures.text ∙ inv.text in
     let none = rw inv.text at c.in_default.ensures.token in
     let end = rw inv.text at c.in_default.ensures.end in
-    let s = state_of text (taking (g.T.ChangeVisitor.taken old.timed.visitor) old.timed.clock) old.bracket in
+    let s = state_of text (body_fold (g.T.ChangeVisitor.taken old.timed.visitor) old.timed.clock) old.bracket in
     λ more.
     ap (until_fault g.T.ChangeVisitor.with_change g.T.ChangeVisitor.with_instant old.codes.now s) (inv.rest more)
     ∙ nothing_left g.T.ChangeVisitor.with_change g.T.ChangeVisitor.with_instant old.codes.now s place
     (left_at text c.loop-word.self.reader.at) (left_at text after) none end more
     ∙ same_left g.T.ChangeVisitor.with_change g.T.ChangeVisitor.with_instant old.codes.now c.loop-word.self.codes.now
-    text c.next.new.self.text (taking (g.T.ChangeVisitor.taken old.timed.visitor) old.timed.clock)
-    (taking (g.T.ChangeVisitor.taken c.loop-word.self.timed.visitor) c.loop-word.self.timed.clock) old.bracket
+    text c.next.new.self.text (body_fold (g.T.ChangeVisitor.taken old.timed.visitor) old.timed.clock)
+    (body_fold (g.T.ChangeVisitor.taken c.loop-word.self.timed.visitor) c.loop-word.self.timed.clock) old.bracket
     c.loop-word.self.bracket place (in_comment c.line.result) after (cc) later (rw inv.timed refl) inv.bracket
     (ap in_comment (c.line.ensures ∙ ap (λ (x : BodyPiece). line_of x c.args.start) later)) more

@@ -5,7 +5,7 @@ use Rattle.vcd_read.specs.Body.{time_item, change, bracket_open, bracket_end, ti
 use Rattle.vcd_read.specs.Body.{comment, open_shape, end_shape, none}
 use Rattle.vcd_read.specs.Shapes.{found_shape}
 use Rattle.vcd_read.specs.Bodies.{until_fault}
-use Rattle.vcd_read.specs.Taking.{taking, state_of}
+use Rattle.vcd_read.specs.BodyFold.{body_fold, state_of}
 use Rattle.vcd_read.proofs.BodyLemmas.{read_item, shape_read, leaves_same, read_wrong}
 use Rattle.vcd_read.proofs.body.Body.item.Goals as goal
 
@@ -18,8 +18,8 @@ returns-in-Time-clause-rest g c =
     (sym (ap found_shape c.in-Time.is) ∙ c.shape_of.ensures) in
     let new = c.time.new.self in
     read_item g.T.ChangeVisitor.with_change g.T.ChangeVisitor.with_instant old.codes.now new.codes.now
-    (state_of old.reader.text (taking (g.T.ChangeVisitor.taken old.timed.visitor) old.timed.clock) old.bracket)
-    (state_of new.reader.text (taking (g.T.ChangeVisitor.taken new.timed.visitor) new.timed.clock) new.bracket) text
+    (state_of old.reader.text (body_fold (g.T.ChangeVisitor.taken old.timed.visitor) old.timed.clock) old.bracket)
+    (state_of new.reader.text (body_fold (g.T.ChangeVisitor.taken new.timed.visitor) new.timed.clock) new.bracket) text
     new.reader.text old.reader.at new.reader.at new.place (time_item t.line c.in-Time.digits.now) _ c.time.result
     (cc) (cc) (cc) (cc) is c.time.ensures.step c.time.ensures.kept
 
@@ -32,8 +32,8 @@ returns-in-Scalar-clause-rest g c =
     (scalar c.in-Scalar.digit.now c.in-Scalar.code.now) (sym (ap found_shape c.in-Scalar.is) ∙ c.shape_of.ensures) in
     let new = c.change.new.self in
     read_item g.T.ChangeVisitor.with_change g.T.ChangeVisitor.with_instant old.codes.now new.codes.now
-    (state_of old.reader.text (taking (g.T.ChangeVisitor.taken old.timed.visitor) old.timed.clock) old.bracket)
-    (state_of new.reader.text (taking (g.T.ChangeVisitor.taken new.timed.visitor) new.timed.clock) new.bracket) text
+    (state_of old.reader.text (body_fold (g.T.ChangeVisitor.taken old.timed.visitor) old.timed.clock) old.bracket)
+    (state_of new.reader.text (body_fold (g.T.ChangeVisitor.taken new.timed.visitor) new.timed.clock) new.bracket) text
     new.reader.text old.reader.at new.reader.at new.place (change t.line c.in-Scalar.digit.now c.in-Scalar.code.now) _
     c.change.result
     (cc) (cc) (cc) (cc) is c.change.ensures.step c.change.ensures.kept
@@ -47,8 +47,8 @@ returns-in-Opens-clause-rest g c =
     (sym (ap found_shape c.in-Opens.is) ∙ c.shape_of.ensures) in
     let new = c.open.new.self in
     read_item g.T.ChangeVisitor.with_change g.T.ChangeVisitor.with_instant old.codes.now new.codes.now
-    (state_of old.reader.text (taking (g.T.ChangeVisitor.taken old.timed.visitor) old.timed.clock) old.bracket)
-    (state_of new.reader.text (taking (g.T.ChangeVisitor.taken new.timed.visitor) new.timed.clock) new.bracket) text
+    (state_of old.reader.text (body_fold (g.T.ChangeVisitor.taken old.timed.visitor) old.timed.clock) old.bracket)
+    (state_of new.reader.text (body_fold (g.T.ChangeVisitor.taken new.timed.visitor) new.timed.clock) new.bracket) text
     new.reader.text old.reader.at new.reader.at new.place (bracket_open t.line) _ c.open.result
     (cc) (cc) (cc) (cc) is c.open.ensures.step c.open.ensures.kept
 
@@ -61,8 +61,8 @@ returns-in-Ends-clause-rest g c =
     (sym (ap found_shape c.in-Ends.is) ∙ c.shape_of.ensures) in
     let new = c.close.new.self in
     read_item g.T.ChangeVisitor.with_change g.T.ChangeVisitor.with_instant old.codes.now new.codes.now
-    (state_of old.reader.text (taking (g.T.ChangeVisitor.taken old.timed.visitor) old.timed.clock) old.bracket)
-    (state_of new.reader.text (taking (g.T.ChangeVisitor.taken new.timed.visitor) new.timed.clock) new.bracket) text
+    (state_of old.reader.text (body_fold (g.T.ChangeVisitor.taken old.timed.visitor) old.timed.clock) old.bracket)
+    (state_of new.reader.text (body_fold (g.T.ChangeVisitor.taken new.timed.visitor) new.timed.clock) new.bracket) text
     new.reader.text old.reader.at new.reader.at new.place (bracket_end t.line) _ c.close.result
     (cc) (cc) (cc) (cc) is c.close.ensures.step c.close.ensures.kept
 
@@ -74,7 +74,7 @@ returns-in-Vector-clause-rest g c =
     let is = λ (more : List Token). shape_read t (left_at text old.reader.at ++ more) (vector c.in-Vector.digits.now)
     (sym (ap found_shape c.in-Vector.is) ∙ c.shape_of.ensures) in
     leaves_same _ _ _ _ _ c.vector.result (λ more. ap (until_fault g.T.ChangeVisitor.with_change
-    g.T.ChangeVisitor.with_instant old.codes.now (state_of old.reader.text (taking
+    g.T.ChangeVisitor.with_instant old.codes.now (state_of old.reader.text (body_fold
     (g.T.ChangeVisitor.taken old.timed.visitor) old.timed.clock)
     old.bracket)) (is more)) c.vector.ensures.rest
 
@@ -86,7 +86,7 @@ returns-in-Foreign-clause-rest g c =
     let is = λ (more : List Token). shape_read t (left_at text old.reader.at ++ more) foreign
     (sym (ap found_shape c.in-Foreign.is) ∙ c.shape_of.ensures) in
     leaves_same _ _ _ _ _ c.foreign.result (λ more. ap (until_fault g.T.ChangeVisitor.with_change
-    g.T.ChangeVisitor.with_instant old.codes.now (state_of old.reader.text (taking
+    g.T.ChangeVisitor.with_instant old.codes.now (state_of old.reader.text (body_fold
     (g.T.ChangeVisitor.taken old.timed.visitor) old.timed.clock)
     old.bracket)) (is more)) c.foreign.ensures.rest
 
@@ -98,7 +98,7 @@ returns-in-Comment-clause-rest g c =
     let is = λ (more : List Token). shape_read t (left_at text old.reader.at ++ more) comment
     (sym (ap found_shape c.in-Comment.is) ∙ c.shape_of.ensures) in
     leaves_same _ _ _ _ _ c.comment.result (λ more. ap (until_fault g.T.ChangeVisitor.with_change
-    g.T.ChangeVisitor.with_instant old.codes.now (state_of old.reader.text (taking
+    g.T.ChangeVisitor.with_instant old.codes.now (state_of old.reader.text (body_fold
     (g.T.ChangeVisitor.taken old.timed.visitor) old.timed.clock)
     old.bracket)) (is more)) c.comment.ensures.rest
 
@@ -110,5 +110,6 @@ returns-in-Unknown-clause-rest g c =
     let is = λ (more : List Token). shape_read t (left_at text old.reader.at ++ more) none
     (sym (ap found_shape c.in-Unknown.is) ∙ c.shape_of.ensures) in
     rw c.fault.ensures (λ more. read_wrong g.T.ChangeVisitor.with_change g.T.ChangeVisitor.with_instant old.codes.now
-    (state_of old.reader.text (taking (g.T.ChangeVisitor.taken old.timed.visitor) old.timed.clock) old.bracket) t.line
+    (state_of old.reader.text (body_fold (g.T.ChangeVisitor.taken old.timed.visitor) old.timed.clock) old.bracket)
+    t.line
     _ _ _ (is more))

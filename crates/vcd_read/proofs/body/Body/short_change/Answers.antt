@@ -2,7 +2,7 @@ use Rattle.std.proofs.Common.{◌≡◌, ◌∷◌, ◌++◌, ◌∙◌, List, s
 use Rattle.vcd_read.specs.Tokens.{Token}
 use Rattle.vcd_read.specs.Reading.{left_at, token_at}
 use Rattle.vcd_read.specs.Body.{change, scalar, vector, ready, body_from}
-use Rattle.vcd_read.specs.Taking.{taking}
+use Rattle.vcd_read.specs.BodyFold.{body_fold}
 use Rattle.vcd_read.proofs.BodyLemmas.{read_on, shape_read, vector_read}
 use Rattle.vcd_read.proofs.body.Body.short_change.Goals as goal
 
@@ -23,8 +23,8 @@ returns-in-Some-clause-rest g c =
     (scalar digit code) (sym c.in-Some.ensures.shape) in
     let step = rw (c.change.ensures.same.0, ← c.requires.text) at c.change.ensures.step in
     read_on g.T.ChangeVisitor.with_change g.T.ChangeVisitor.with_instant old.codes.now new.codes.now
-    (taking (g.T.ChangeVisitor.taken old.timed.visitor) old.timed.clock)
-    (taking (g.T.ChangeVisitor.taken new.timed.visitor) new.timed.clock)
+    (body_fold (g.T.ChangeVisitor.taken old.timed.visitor) old.timed.clock)
+    (body_fold (g.T.ChangeVisitor.taken new.timed.visitor) new.timed.clock)
     old.bracket new.bracket text c.short_change.new.self.text after
     (change t.line digit code) _ c.change.result (cc) c.in-Some.ensures.text is step c.change.ensures.kept
 
@@ -54,8 +54,8 @@ returns-in-Some-next-clause-rest g c =
     (ap (λ (ts : List Token). ts ++ more) behind) in
     let step = rw (c.change-in-Some-next.ensures.same.0, ← c.requires.text) at c.change-in-Some-next.ensures.step in
     read_on g.T.ChangeVisitor.with_change g.T.ChangeVisitor.with_instant old.codes.now new.codes.now
-    (taking (g.T.ChangeVisitor.taken old.timed.visitor) old.timed.clock)
-    (taking (g.T.ChangeVisitor.taken new.timed.visitor) new.timed.clock)
+    (body_fold (g.T.ChangeVisitor.taken old.timed.visitor) old.timed.clock)
+    (body_fold (g.T.ChangeVisitor.taken new.timed.visitor) new.timed.clock)
     old.bracket new.bracket text c.next.new.self.text after
     (change t.line digits code.bytes) _ c.change-in-Some-next.result (cc)
     (c.in-Some-next.ensures.text ∙ text_is) is step c.change-in-Some-next.ensures.kept

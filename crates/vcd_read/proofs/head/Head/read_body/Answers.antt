@@ -1,6 +1,6 @@
 use Rattle.std.proofs.Common.{[], refl}
 use Rattle.std.proofs.lemmas.List.{append-nil}
-use Rattle.vcd_read.specs.Taking.{at_end}
+use Rattle.vcd_read.specs.BodyFold.{at_end}
 use Rattle.vcd_read.proofs.ReadLemmas.{fails_first, gives_err}
 use Rattle.vcd_read.proofs.head.Head.read_body.Goals as goal
 

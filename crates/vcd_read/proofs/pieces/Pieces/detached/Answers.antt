@@ -3,7 +3,7 @@ use Rattle.std.proofs.Math.Seq.{take-length}
 use Rattle.vcd_read.specs.Tokens.{tokens_from}
 use Rattle.vcd_read.specs.Reading.{left_from, line_behind}
 use Rattle.vcd_read.specs.Body.{body_from, ready}
-use Rattle.vcd_read.specs.Taking.{state_at, taking}
+use Rattle.vcd_read.specs.BodyFold.{state_at, body_fold}
 use Rattle.vcd_read.specs.DetachedPieces.{before_piece, time_first}
 use Rattle.vcd_read.proofs.DetachedLemmas.{left-whole, read-whole}
 use Rattle.vcd_read.proofs.pieces.Pieces.detached.Goals as goal
@@ -17,7 +17,7 @@ returns-in-Ready-clause-read g c =
       whole =
           read-whole g.N.ChangeVisitor.with_change g.N.ChangeVisitor.with_instant c.args.self.now.codes
           (before_piece (g.N.ChangeVisitor.taken c.args.visitor) c.in_ok-time.time)
-          (state_at (taking (g.N.ChangeVisitor.taken c.in-Ok.field-0.timed.visitor) c.in-Ok.field-0.timed.clock)
+          (state_at (body_fold (g.N.ChangeVisitor.taken c.in-Ok.field-0.timed.visitor) c.in-Ok.field-0.timed.clock)
           c.in-Ok.field-0.bracket) c.in-Ok.field-0.place (left_from line piece 0) (tokens_from line piece)
           (left-whole line piece) c.in-Ready.is (c.in-Ok.ensures []);
       line = c.line-behind.ensures ∙ ap (line_behind line) (take-length piece);

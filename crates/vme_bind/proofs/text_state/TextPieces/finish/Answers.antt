@@ -1,6 +1,6 @@
 use Rattle.std.proofs.Common.{◌∙◌, Some, None, Ok, ap, sym}
 use Rattle.vcd_read.specs.Bodies.{finished, place_of}
-use Rattle.vcd_read.specs.Taking.{taking}
+use Rattle.vcd_read.specs.BodyFold.{body_fold}
 use Rattle.vme_bind.specs.BuilderState.{builder_change, builder_instant}
 use Rattle.vme_bind.specs.TextPieces.{outcome}
 use Rattle.vme_bind.proofs.TextPieceLemmas.{fails-whole, assigned-own}
@@ -19,5 +19,5 @@ pub returns-in-Err : goal.returns-in-Err
 returns-in-Err g c =
     let p = c.args.self.pieces in
     fails-whole c.args.self.fault c.in-Err.fault (finished builder_change builder_instant p.codes
-    (taking p.state.timed.visitor p.state.timed.clock) p.state.bracket (place_of p.state.place))
+    (body_fold p.state.timed.visitor p.state.timed.clock) p.state.bracket (place_of p.state.place))
     c.in-Err.ensures

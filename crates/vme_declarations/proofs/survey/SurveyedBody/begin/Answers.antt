@@ -1,6 +1,6 @@
 use Rattle.std.proofs.Common.{◌∙◌, ℕ, ap, false}
 use Rattle.vcd_read.specs.Reached.{Reached, reached}
-use Rattle.vcd_read.specs.Taking.{Taking}
+use Rattle.vcd_read.specs.BodyFold.{BodyFold}
 use Rattle.vme_declarations.specs.declared.levels_seen.LevelsSeen.{LevelsSeen}
 use Rattle.vme_declarations.proofs.SurveyLemmas.{IsBegun, begun-fails, begun-read, front-fails}
 use Rattle.vme_declarations.proofs.survey.SurveyedBody.begin.Goals as goal
@@ -8,7 +8,7 @@ use Rattle.vme_declarations.proofs.survey.SurveyedBody.begin.Goals as goal
 abbrev seen : LevelsSeen → ℕ
 seen l = l.instants
 
-abbrev progress_of : ℕ → Taking ℕ
+abbrev progress_of : ℕ → BodyFold ℕ
 progress_of n = record { taken = n; time = 0; begun = false }
 
 pub returns-in_ok-from_slice-in-Ok-clause-begun : goal.returns-in_ok-from_slice-in-Ok-clause-begun

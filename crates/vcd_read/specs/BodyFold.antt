@@ -1,4 +1,4 @@
--- What comes of the items of a body, for whatever takes its changes: a fold, whose parts the taker says.
+-- The fold over the items of a body. A visitor says what a change and the end of an instant make of its accumulator.
 use Rattle.std.specs.Prelude.{ℕ, Bool, true, false, ◌&&◌, not, ◌==◌, if◌then◌else◌, List, [], ◌∷◌, Option, None}
 use Rattle.std.specs.Prelude.{option_map, unwrap_or, Result, Ok, Err}
 use Rattle.vcd_read.specs.declared.dump.Bit.{Bit}
@@ -12,26 +12,26 @@ use Rattle.vcd_read.specs.declared.body_piece.Start.{Start}
 use Rattle.vcd_read.specs.Header.{◌>>=◌, Net, net_of, size_of}
 use Rattle.vcd_read.specs.Body.{BodyItem, time_item, change, BodyContext, context_after, at_the_end, ready, body_from}
 
--- what came of the changes, with the current time
-pub record Taking (A : Type 0) : Type 0 where
+-- the accumulator, with the current time
+pub record BodyFold (A : Type 0) : Type 0 where
   pub taken : A
   pub time : ℕ
   -- whether there is an instant at the current time
   pub begun : Bool
 
-abbrev pub taking : {A : Type 0} → A → Clock → Taking A
-taking a clock = record { taken = a; time = clock.time; begun = clock.begun }
+abbrev pub body_fold : {A : Type 0} → A → Clock → BodyFold A
+body_fold a clock = record { taken = a; time = clock.time; begun = clock.begun }
 
 pub record State (A : Type 0) : Type 0 where
   pub context : BodyContext
-  pub progress : Taking A
+  pub progress : BodyFold A
 
 -- how far a body is read, with the line of the bracket that is open
-abbrev pub state_at : {A : Type 0} → Taking A → Option ℕ → State A
+abbrev pub state_at : {A : Type 0} → BodyFold A → Option ℕ → State A
 state_at timed bracket = record { context = record { now = timed.time; bracket = bracket }; progress = timed }
 
 -- the same, where it starts in the piece that is read, or before it
-abbrev pub state_of : {A : Type 0} → BodyPiece → Taking A → Option Start → State A
+abbrev pub state_of : {A : Type 0} → BodyPiece → BodyFold A → Option Start → State A
 state_of text timed bracket = state_at timed (option_map (line_of text) bracket)
 
 -- before any item
@@ -43,23 +43,23 @@ at_first a = record {
 
 -- the end of an instant
 module _ {A : Type 0} (with_instant : A → ℕ → A) where
-  abbrev pub advanced : Taking A → ℕ → Taking A
+  abbrev pub advanced : BodyFold A → ℕ → BodyFold A
   advanced p t =
       if p.begun && not (t == p.time) then record { taken = with_instant p.taken p.time; time = t; begun = true }
       else record p { time = t; begun = true }
 
-  abbrev pub ended : Taking A → A
+  abbrev pub ended : BodyFold A → A
   ended p = if p.begun then with_instant p.taken p.time else p.taken
 
   -- what comes of a body that is read to its end
   abbrev pub at_end : State A → Result A VcdFault
   at_end s = at_the_end s.context >>= λ stood. Ok (ended s.progress)
 
-abbrev pub changed : {A : Type 0} → (A → ℕ → List Bit → A) → Taking A → ℕ → List Bit → Taking A
+abbrev pub changed : {A : Type 0} → (A → ℕ → List Bit → A) → BodyFold A → ℕ → List Bit → BodyFold A
 changed with_change p net bits = record p { taken = with_change p.taken net bits; begun = true }
 
 module _ {A : Type 0} (with_change : A → ℕ → List Bit → A) (with_instant : A → ℕ → A) (nets : List Net) where
-  abbrev pub progress_after : Taking A → BodyItem → Taking A
+  abbrev pub progress_after : BodyFold A → BodyItem → BodyFold A
   progress_after p (time_item line digits) = advanced with_instant p (number digits)
   progress_after p (change line digits code) =
       let net = unwrap_or (net_of nets code) 0 in
@@ -82,6 +82,6 @@ module _ {A : Type 0} (with_change : A → ℕ → List Bit → A) (with_instant
     | Err fault ↦ s
   ]
 
-  -- what comes of a whole body, or else its first fault
-  abbrev pub taken_from : A → List Token → Result A VcdFault
-  taken_from a body = steps (at_first a) (body_from ready body) >>= at_end with_instant
+  -- the fold over a whole body, or its first fault
+  abbrev pub fold_body : A → List Token → Result A VcdFault
+  fold_body a body = steps (at_first a) (body_from ready body) >>= at_end with_instant

@@ -1,4 +1,4 @@
--- What is taken of a body follows its instants, whatever takes it.
+-- Any fold over a body is related to the instants of the body.
 use Rattle.std.proofs.Common.{◌≡◌, ℕ, ◌<◌, Bool, true, false, cond, ◌&&◌, List, [], ◌∷◌, ◌++◌, length, replicate}
 use Rattle.std.proofs.Common.{slice_set, Option, Some, None, IsSome, Result, Ok, Err, refl, sym, ap, subst}
 use Rattle.std.specs.Prelude.{not, ◌==◌, unwrap_or}
@@ -16,31 +16,29 @@ use Rattle.vcd_read.specs.Meaning.{ReadFails, ReadFailsAs, instants_from}
 use Rattle.vcd_read.specs.DumpProgress.{DumpProgress, values_from, flushed}
 use Rattle.vcd_read.specs.DumpProgress.{DumpState as Whole, ended as instants_at, steps as whole_steps}
 use Rattle.vcd_read.specs.DumpProgress.{progress_after as whole_after}
-use Rattle.vcd_read.specs.Taking.{Taking, State, ended, at_end, at_first, progress_after, reached_before, steps}
-use Rattle.vcd_read.specs.Taking.{taken_from}
+use Rattle.vcd_read.specs.BodyFold.{BodyFold, State, ended, at_end, at_first, progress_after, reached_before, steps}
+use Rattle.vcd_read.specs.BodyFold.{fold_body}
 use Rattle.vcd_read.specs.Collected.{Collected, collected_change, collected_instant}
+use Rattle.vcd_read.proofs.CurrentValues.{CurrentValues}
 use Rattle.vcd_read.proofs.BeforeFaultLemmas.{whole_before}
 use Rattle.vcd_read.proofs.InstantsLaw.{at_start}
 use Rattle.vcd_read.proofs.CodesLemmas.{net_within}
 use Rattle.vcd_read.proofs.ReadLemmas.{read_whole}
-
-abbrev pub Current : Type 0
-Current = List (Option (List Bit))
 
 some_net : (nets : List Net) (digits line : ℕ) (found : Option ℕ) (s next : BodyContext)
     → at_line line (fitting nets digits found >>= λ net. Ok s) ≡ Ok next → IsSome found
 some_net nets digits line None s next h = absurd cc
 some_net nets digits line (Some net) s next h = refl
 
--- how a result of some taker follows one of instants: the same fault, or what is taken is in a relation to them
+-- a result of a fold follows one of instants: the same fault, or an accumulator that is related to the instants
 abbrev pub Follows : {A : Type 0} → (List Instant → A → Type 0) → Result (List Instant) VcdFault → Result A VcdFault
     → Type 0
 Follows {A = A} R (Ok instants) r = (a : A) × (r ≡ Ok a) × R instants a
 Follows R (Err fault) r = r ≡ Err fault
 
--- something is in a relation to all instants, with some values behind them
-abbrev pub Ends : {A : Type 0} → (List Instant → Current → A → Type 0) → List Instant → A → Type 0
-Ends R instants a = (current : Current) × R instants current a
+-- an accumulator is related to all instants, and to some current values after them
+abbrev pub Ends : {A : Type 0} → (List Instant → CurrentValues → A → Type 0) → List Instant → A → Type 0
+Ends R instants a = (current : CurrentValues) × R instants current a
 
 ok_same : {A E : Type 0} (x y : A) (r : Result A E) → r ≡ Ok x → r ≡ Ok y → x ≡ y
 ok_same x y r e h = cc
@@ -57,12 +55,12 @@ fails_as R w r line Memory f h = h
 fails_as R (Ok instants) r line kind f h = absurd (ok_or_err f.0 _ r f.1 h)
 fails_as R (Err fault) r line kind f h = ap Err (err_same fault _ r f h)
 
--- what fails for the taker, fails
+-- a fault of the fold is a fault of the reading
 pub fails-followed : {A : Type 0} (R : List Instant → A → Type 0) (w : Result (List Instant) VcdFault)
     (r : Result A VcdFault) (fault : VcdFault) → Follows R w r → ReadFails fault r → ReadFails fault w
 fails-followed R w r fault f h = fails_as R w r fault.line fault.kind f h
 
--- what is taken is taken of instants
+-- what the fold gives is related to instants
 pub gives-followed : {A : Type 0} (R : List Instant → A → Type 0) (w : Result (List Instant) VcdFault)
     (r : Result A VcdFault) (a : A) → Follows R w r → r ≡ Ok a → (instants : List Instant) × (w ≡ Ok instants)
     × R instants a
@@ -70,21 +68,21 @@ gives-followed R (Ok instants) r a f h = (instants, refl, subst (R instants) (ok
 gives-followed R (Err fault) r a f h = absurd (ok_or_err a fault r h f)
 
 module _ {A : Type 0} (with_change : A → ℕ → List Bit → A) (with_instant : A → ℕ → A) (nets : List Net)
-    (R : List Instant → Current → A → Type 0)
-    (on_change : (done : List Instant) (current : Current) (a : A) (net : ℕ) (bits : List Bit) → net < length nets
+    (R : List Instant → CurrentValues → A → Type 0)
+    (on_change : (done : List Instant) (current : CurrentValues) (a : A) (net : ℕ) (bits : List Bit) → net < length nets
     → R done current a → R done (slice_set current net (Some bits)) (with_change a net bits))
-    (on_instant : (done : List Instant) (current : Current) (a : A) (time : ℕ) → R done current a
+    (on_instant : (done : List Instant) (current : CurrentValues) (a : A) (time : ℕ) → R done current a
     → R (done ++ record { time = time; values = values_from 0 current } ∷ []) (replicate (length current) None)
     (with_instant a time)) where
-  -- what is taken, where the instants are so far read
-  abbrev taking_at : DumpProgress → A → Taking A
-  taking_at p a = record { taken = a; time = p.time; begun = p.begun }
+  -- the state of the fold where the reading has come this far
+  abbrev fold_at : DumpProgress → A → BodyFold A
+  fold_at p a = record { taken = a; time = p.time; begun = p.begun }
 
   abbrev state_at : Whole → A → State A
-  state_at s a = record { context = s.context; progress = taking_at s.progress a }
+  state_at s a = record { context = s.context; progress = fold_at s.progress a }
 
-  abbrev Keeps : DumpProgress → Taking A → Type 0
-  Keeps p t = (a : A) × (t ≡ taking_at p a) × R p.done p.current a
+  abbrev Keeps : DumpProgress → BodyFold A → Type 0
+  Keeps p t = (a : A) × (t ≡ fold_at p a) × R p.done p.current a
 
   abbrev KeepsState : Result Whole VcdFault → Result (State A) VcdFault → Type 0
   KeepsState (Ok s) r = (a : A) × (r ≡ Ok (state_at s a)) × R s.progress.done s.progress.current a
@@ -99,7 +97,7 @@ module _ {A : Type 0} (with_change : A → ℕ → List Bit → A) (with_instant
 
   on_item : (item : BodyItem) (s next : BodyContext) (p : DumpProgress) (a : A) → context_after nets s item ≡ Ok next
       → R p.done p.current a
-      → Keeps (whole_after nets p item) (progress_after with_change with_instant nets (taking_at p a) item)
+      → Keeps (whole_after nets p item) (progress_after with_change with_instant nets (fold_at p a) item)
   on_item (time_item line digits) s next p a ok r = on_time (p.begun && not (number digits == p.time)) p a
       (number digits) r
   on_item (change line digits code) s next p a ok r =
@@ -118,7 +116,7 @@ module _ {A : Type 0} (with_change : A → ℕ → List Bit → A) (with_instant
   abbrev whole_of : DumpProgress → Result BodyContext VcdFault → Result Whole VcdFault
   whole_of p r = r >>= λ next. Ok (record { context = next; progress = p })
 
-  abbrev taken_of : Taking A → Result BodyContext VcdFault → Result (State A) VcdFault
+  abbrev taken_of : BodyFold A → Result BodyContext VcdFault → Result (State A) VcdFault
   taken_of t r = r >>= λ next. Ok (record { context = next; progress = t })
 
   step-follows : (items : List BodyItem) (item : BodyItem) (s : Whole) (a : A) (stood : Result BodyContext VcdFault)
@@ -126,12 +124,12 @@ module _ {A : Type 0} (with_change : A → ℕ → List Bit → A) (with_instant
       → ((s2 : Whole) (b : A) → R s2.progress.done s2.progress.current b → KeepsState (whole_steps nets s2 items)
       (steps with_change with_instant nets (state_at s2 b) items))
       → KeepsState (whole_of (whole_after nets s.progress item) stood >>= λ next. whole_steps nets next items)
-      (taken_of (progress_after with_change with_instant nets (taking_at s.progress a) item) stood >>= λ next. steps
+      (taken_of (progress_after with_change with_instant nets (fold_at s.progress a) item) stood >>= λ next. steps
       with_change with_instant nets next items)
   step-follows items item s a (Ok next) e r rest =
       let kept = on_item item s.context next s.progress a e r in
       let after : Whole = record { context = next; progress = whole_after nets s.progress item } in
-      subst (λ (t : Taking A). KeepsState (whole_steps nets after items) (steps with_change with_instant nets
+      subst (λ (t : BodyFold A). KeepsState (whole_steps nets after items) (steps with_change with_instant nets
       (record { context = next; progress = t }) items)) (sym kept.1) (rest after kept.0 kept.2)
   step-follows items item s a (Err fault) e r rest = refl
 
@@ -154,14 +152,15 @@ module _ {A : Type 0} (with_change : A → ℕ → List Bit → A) (with_instant
         | Ok next ↦ whole_before nets next items
         | Err fault ↦ s
       ])
-      (elim (taken_of (progress_after with_change with_instant nets (taking_at s.progress a) item) stood) [
+      (elim (taken_of (progress_after with_change with_instant nets (fold_at s.progress a) item) stood) [
         | Ok next ↦ reached_before with_change with_instant nets next items
         | Err fault ↦ state_at s a
       ])
   before-follows items item s a (Ok next) e r rest =
       let kept = on_item item s.context next s.progress a e r in
       let after : Whole = record { context = next; progress = whole_after nets s.progress item } in
-      subst (λ (t : Taking A). KeepsBefore (whole_before nets after items) (reached_before with_change with_instant nets
+      subst (λ (t : BodyFold A). KeepsBefore (whole_before nets after items)
+      (reached_before with_change with_instant nets
       (record { context = next; progress = t }) items)) (sym kept.1) (rest after kept.0 kept.2)
   before-follows items item s a (Err fault) e r rest = (a, refl, r)
 
@@ -174,7 +173,7 @@ module _ {A : Type 0} (with_change : A → ℕ → List Bit → A) (with_instant
 
   on_end : (begun : Bool) (p : DumpProgress) (a : A) → R p.done p.current a
       → (b : A) × (cond begun (with_instant a p.time) a ≡ b)
-      × ((current : Current) × R (cond begun (flushed p).done p.done) current b)
+      × ((current : CurrentValues) × R (cond begun (flushed p).done p.done) current b)
   on_end true p a r = (
     with_instant a p.time,
     refl,
@@ -188,7 +187,7 @@ module _ {A : Type 0} (with_change : A → ℕ → List Bit → A) (with_instant
 
   end-follows : (s : Whole) (a : A) (stood : Result BodyContext VcdFault) → R s.progress.done s.progress.current a
       → Follows (Ends R) (stood >>= λ end. Ok (instants_at s.progress))
-      (stood >>= λ end. Ok (ended with_instant (taking_at s.progress a)))
+      (stood >>= λ end. Ok (ended with_instant (fold_at s.progress a)))
   end-follows s a (Ok stood) r = let e = on_end s.progress.begun s.progress a r in (e.0, ap Ok e.1, e.2)
   end-follows s a (Err fault) r = refl
 
@@ -200,19 +199,19 @@ module _ {A : Type 0} (with_change : A → ℕ → List Bit → A) (with_instant
       (instants_at s.progress)) (t >>= at_end with_instant)) (sym k.1) (end-follows s k.0 (at_the_end s.context) k.2)
   ends-follow (Err fault) t k = ap (λ (t : Result (State A) VcdFault). t >>= at_end with_instant) k
 
-  -- what is taken of a body and its instants
+  -- the fold over a body and the instants of the body
   pub taken-follows : (body : List Token) (a : A) → R [] (replicate (length nets) None) a → Follows (Ends R)
-      (instants_from nets body) (taken_from with_change with_instant nets a body)
+      (instants_from nets body) (fold_body with_change with_instant nets a body)
   taken-follows body a r =
       let items : List BodyItem = body_from ready body in
-      subst (λ (w : Result (List Instant) VcdFault). Follows (Ends R) w (taken_from with_change with_instant nets a
+      subst (λ (w : Result (List Instant) VcdFault). Follows (Ends R) w (fold_body with_change with_instant nets a
       body)) (sym (read_whole nets body (at_start nets) refl))
       (ends-follow (whole_steps nets (at_start nets) items) (steps with_change with_instant nets (at_first a) items)
       (steps-follow items (at_start nets) a r))
 
 -- ---- what is collected
 
-abbrev pub IsCollected : List Instant → Current → Collected → Type 0
+abbrev pub IsCollected : List Instant → CurrentValues → Collected → Type 0
 IsCollected done current c = c ≡ record { done = done; current = current }
 
 abbrev pub AreCollected : List Instant → Collected → Type 0
@@ -220,7 +219,7 @@ AreCollected = Ends IsCollected
 
 pub collected-follows : (nets : List Net) (body : List Token) (c : Collected) → c
     ≡ record { done = []; current = replicate (length nets) None }
-    → Follows AreCollected (instants_from nets body) (taken_from collected_change collected_instant nets c body)
+    → Follows AreCollected (instants_from nets body) (fold_body collected_change collected_instant nets c body)
 collected-follows nets body c e =
     taken-follows collected_change collected_instant nets IsCollected
     (λ done current a net bits lt is. ap (λ (c : Collected). collected_change c net bits) is)

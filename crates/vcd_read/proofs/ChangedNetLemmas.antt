@@ -1,0 +1,195 @@
+-- The values of the nets that have one, taken in the order of the nets.
+use Rattle.std.proofs.Common.{◌≡◌, ◌≢◌, ℕ, zero, suc, ◌+◌, ◌<◌, ◌≤◌, List, [], ◌∷◌, ◌++◌, length, get_or, replicate}
+use Rattle.std.proofs.Common.{slice_set, Option, Some, None, IsSome, refl, sym, ap, ◌∙◌, arith, inl, inr}
+use Rattle.std.specs.Prelude.{Contains}
+use Rattle.std.specs.List.Sorted.{IsNonDecreasing, IsPermutation}
+use Rattle.std.proofs.lemmas.List.Sorted.{All-permutation, Contains-permutation}
+use Rattle.std.proofs.lemmas.List.{append-nil, append_assoc, length-set, get_or_default, get_or-set_other}
+use Rattle.std.proofs.lemmas.Bool.{cases_eq}
+use Rattle.vcd_read.specs.declared.dump.Bit.{Bit}
+use Rattle.vcd_read.specs.declared.dump.Value.{Value}
+use Rattle.vcd_read.specs.DumpProgress.{values_from}
+use Rattle.vcd_read.specs.ChangedNets.{ListsChangedNets}
+use Rattle.vcd_read.proofs.CurrentValues.{CurrentValues}
+
+abbrev pub no_bits : Option (List Bit)
+no_bits = None
+
+none_at : (n net : ℕ) → get_or (replicate n no_bits) net None ≡ None
+none_at zero net = refl
+none_at (suc n) zero = refl
+none_at (suc n) (suc net) = none_at n net
+
+some_is_none : (bits : Option (List Bit)) → bits ≡ None → IsSome bits → ⊥
+some_is_none None e h = cc
+some_is_none (Some bits) e h = cc
+
+-- nothing is listed where no net has a value
+pub no_changed_nets : (n : ℕ) → ListsChangedNets [] (replicate n no_bits)
+no_changed_nets n = record {
+  below = λ k d lt. absurd (omega (arith, lt));
+  listed = λ net some. absurd (some_is_none (get_or (replicate n no_bits) net None) (none_at n net) some);
+}
+
+-- a net stands in the list from a place on
+pub record StandsFrom (changed_nets : List ℕ) (place net : ℕ) : Type 0 where
+  pub at : ℕ
+  pub low : place ≤ at
+  pub high : at < length changed_nets
+  pub is : get_or changed_nets at 0 ≡ net
+
+-- what is moved out and what is left, with the nets before this place done
+pub record IsMoved (changed_nets : List ℕ) (place : ℕ) (start current : CurrentValues) (moved : List Value) : Type 0
+  where
+    pub values : moved ++ values_from 0 current ≡ values_from 0 start
+    pub room : length current ≡ length start
+    pub listed : (net : ℕ) → IsSome (get_or current net None) → StandsFrom changed_nets place net
+
+stands_from : (changed_nets : List ℕ) (net : ℕ) → Contains changed_nets net → StandsFrom changed_nets 0 net
+stands_from changed_nets net h = record {
+  at = h.0;
+  low = omega arith;
+  high = h.1;
+  is = get_or_default changed_nets h.0 0 net h.1
+      ∙ h.2;
+}
+
+pub moved_first : (changed_nets : List ℕ) (start : CurrentValues) → ListsChangedNets changed_nets start
+    → IsMoved changed_nets 0 start start
+    []
+moved_first changed_nets start h = record {
+  values = refl;
+  room = refl;
+  listed = λ net some. stands_from changed_nets net (h.listed net some);
+}
+
+-- with no value below a net, its value is the first
+values_first : (base net : ℕ) (current : CurrentValues) (bits : List Bit) → get_or current net None ≡ Some bits
+    → ((k : ℕ) → k < net → get_or current k None ≡ no_bits)
+    → values_from base current ≡ record { net = base + net; bits = bits } ∷ values_from base
+    (slice_set current net None)
+values_first base net [] bits e none = absurd (cc)
+values_first base zero (Some b ∷ current) bits e none =
+    let same : b ≡ bits = cc in
+    let at : base + 0 ≡ base = omega arith in
+    rw (at, same) refl
+values_first base zero (None ∷ current) bits e none = absurd (cc)
+values_first base (suc net) (Some b ∷ current) bits e none = let h : Some b ≡ no_bits = none 0 (omega arith) in
+    absurd (cc)
+values_first base (suc net) (None ∷ current) bits e none =
+    let h = values_first (base + 1) net current bits e (λ k lt. none (suc k) (omega (arith, lt))) in
+    let at : (base + 1) + net ≡ base + suc net = omega arith in
+    rw (← at) h
+
+-- a net has a value or none
+none_or_some : (bits : Option (List Bit)) → (IsSome bits → ⊥) → bits ≡ None
+none_or_some None h = refl
+none_or_some (Some bits) h = absurd (h refl)
+
+some_of : (bits : Option (List Bit)) (b : List Bit) → bits ≡ Some b → IsSome bits
+some_of None b e = absurd (cc)
+some_of (Some bits) b e = refl
+
+set_none : (current : CurrentValues) (net : ℕ) → get_or current net None ≡ no_bits → slice_set current net None
+    ≡ current
+set_none [] net e = refl
+set_none (c ∷ current) zero e = ap (λ (x : Option (List Bit)). x ∷ current) (sym e)
+set_none (c ∷ current) (suc net) e = ap (λ (xs : CurrentValues). c ∷ xs) (set_none current net e)
+
+-- what is taken is gone
+taken_none : (current : CurrentValues) (net : ℕ) → get_or (slice_set current net None) net None ≡ no_bits
+taken_none [] net = refl
+taken_none (c ∷ current) zero = refl
+taken_none (c ∷ current) (suc net) = taken_none current net
+
+-- no net below the next one has a value
+below_next : (changed_nets : List ℕ) (place : ℕ) (start current : CurrentValues) (moved : List Value)
+    → IsNonDecreasing changed_nets
+    → IsMoved changed_nets place start current moved
+    → (k : ℕ) → k < get_or changed_nets place 0 → get_or current k None ≡ no_bits
+below_next changed_nets place start current moved up h k lt =
+    none_or_some (get_or current k None) (λ some.
+    let s = h.listed k some in
+    let le : get_or changed_nets place 0 ≤ get_or changed_nets s.at 0 = up place s.at 0 s.low s.high in
+    omega (arith, s.is))
+
+listed_next : (changed_nets : List ℕ) (place : ℕ) (start current : CurrentValues) (moved : List Value)
+    → IsMoved changed_nets place
+    start current moved
+    → (net : ℕ) → IsSome (get_or (slice_set current (get_or changed_nets place 0) None) net None)
+    → StandsFrom changed_nets
+    (place + 1) net
+listed_next changed_nets place start current moved h net some =
+    elim (cases_eq net (get_or changed_nets place 0)) [
+      | inl e ↦ absurd (some_is_none (get_or (slice_set current (get_or changed_nets place 0) None) net None)
+          (rw e (taken_none current (get_or changed_nets place 0))) some)
+      | inr ne ↦
+          let other : get_or (slice_set current (get_or changed_nets place 0) None) net None ≡ get_or current net None
+          = get_or-set_other current (get_or changed_nets place 0) net None None ne in
+          let s = h.listed net (rw other at some) in
+          let apart : place ≢ s.at = λ e. ne (sym s.is ∙ ap (λ (i : ℕ). get_or changed_nets i 0) (sym e)) in
+          record { at = s.at; low = omega (arith, s.low, apart); high = s.high; is = s.is }
+    ]
+
+-- the next net is done
+pub moved_some : (changed_nets : List ℕ) (place : ℕ) (start current : CurrentValues) (moved : List Value)
+    (bits : List Bit)
+    → IsNonDecreasing changed_nets → IsMoved changed_nets place start current moved
+    → get_or current (get_or changed_nets place 0) None ≡ Some bits
+    → IsMoved changed_nets (place + 1) start (slice_set current (get_or changed_nets place 0) None)
+    (moved ++ record { net = get_or changed_nets place 0; bits = bits } ∷ [])
+moved_some changed_nets place start current moved bits up h e =
+    let t : ℕ = get_or changed_nets place 0 in
+    let left : CurrentValues = slice_set current t None in
+    let first = values_first 0 t current bits e (below_next changed_nets place start current moved up h) in
+    let zero_first : 0 + t ≡ t = omega arith in
+    let first2 : values_from 0 current ≡ record { net = t; bits = bits } ∷ values_from 0 left = rw zero_first at
+    first in
+    record {
+      values = append_assoc moved (record { net = t; bits = bits } ∷ []) (values_from 0 left)
+          ∙ ap (λ (xs : List Value). moved ++ xs) (sym first2) ∙ h.values;
+      room = length-set current t None ∙ h.room;
+      listed = listed_next changed_nets place start current moved h;
+    }
+
+pub moved_none : (changed_nets : List ℕ) (place : ℕ) (start current : CurrentValues) (moved : List Value)
+    → IsMoved changed_nets place
+    start current moved
+    → get_or current (get_or changed_nets place 0) None ≡ no_bits
+    → IsMoved changed_nets (place + 1) start (slice_set current (get_or changed_nets place 0) None) moved
+moved_none changed_nets place start current moved h e =
+    let same = set_none current (get_or changed_nets place 0) e in
+    record {
+      values = ap (λ (xs : CurrentValues). moved ++ values_from 0 xs) same ∙ h.values;
+      room = ap (λ (xs : CurrentValues). length xs) same ∙ h.room;
+      listed = listed_next changed_nets place start current moved h;
+    }
+
+all_none : (base : ℕ) (current : CurrentValues) → ((net : ℕ) → get_or current net None ≡ no_bits)
+    → (values_from base current ≡ []) × (current ≡ replicate (length current) None)
+all_none base [] none = (refl, refl)
+all_none base (Some bits ∷ current) none = let h : Some bits ≡ no_bits = none 0 in absurd (cc)
+all_none base (None ∷ current) none =
+    let h = all_none (base + 1) current (λ net. none (suc net)) in
+    (h.0, ap (λ (xs : CurrentValues). None ∷ xs) h.1)
+
+-- at the end nothing is left
+pub moved_all : (changed_nets : List ℕ) (place : ℕ) (start current : CurrentValues) (moved : List Value)
+    → IsMoved changed_nets place
+    start current moved → length changed_nets ≤ place
+    → (moved ≡ values_from 0 start) × (current ≡ replicate (length start) None)
+moved_all changed_nets place start current moved h past =
+    let none : (net : ℕ) → get_or current net None ≡ no_bits =
+    λ net. none_or_some (get_or current net None) (λ some. let s = h.listed net some in omega (arith, s.low, s.high)) in
+    let all = all_none 0 current none in (
+      sym (append-nil moved) ∙ ap (λ (xs : List Value). moved ++ xs) (sym all.0) ∙ h.values,
+      all.1 ∙ ap (λ (n : ℕ). replicate n no_bits) h.room,
+    )
+
+-- the order of the list doesn't matter
+pub changed_nets_sorted : (xs ys : List ℕ) (current : CurrentValues) → IsPermutation xs ys → ListsChangedNets xs current
+    → ListsChangedNets ys current
+changed_nets_sorted xs ys current same h = record {
+  below = All-permutation (λ (net : ℕ). net < length current) xs ys same h.below;
+  listed = λ net some. Contains-permutation xs ys net same (h.listed net some);
+}
