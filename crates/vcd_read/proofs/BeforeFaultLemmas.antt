@@ -55,15 +55,16 @@ steps_before nets s (item ∷ items) = before_step nets s item items (context_af
 -- ---- where no instant is begun, none stands before it
 
 abbrev Starts : DumpProgress → Type 0
-Starts p = p.begun ≡ false → p.done ≡ []
+Starts p = p.has_instant ≡ false → p.done ≡ []
 
 time_starts : (test : Bool) (p : DumpProgress) (t : ℕ) → Starts (cond test (record (flushed p)
-    { time = t; begun = true }) (record p { time = t; begun = true }))
+    { time = t; has_instant = true }) (record p { time = t; has_instant = true }))
 time_starts true p t e = absurd (cc e)
 time_starts false p t e = absurd (cc e)
 
 item_starts : (nets : List Net) (p : DumpProgress) (item : BodyItem) → Starts p → Starts (progress_after nets p item)
-item_starts nets p (time_item line digits) h = time_starts (p.begun && not (number digits == p.time)) p (number digits)
+item_starts nets p (time_item line digits) h = time_starts (p.has_instant && not (number digits == p.time)) p
+    (number digits)
 item_starts nets p (change line digits code) h = λ e. absurd (cc e)
 item_starts nets p (skipped line code) h = h
 item_starts nets p (bracket_open line) h = h
@@ -90,9 +91,9 @@ begins nets s (item ∷ items) h = begins_step nets s item items (context_after 
 
 -- ---- the instant at hand is the last
 
-at_hand : (begun : Bool) (done : List Instant) (x : Instant) → (begun ≡ false → done ≡ [])
-    → (rest : List Instant) × (cond begun (done ++ x ∷ []) done ≡ done ++ rest)
-    × (length done ≡ length (cond begun (done ++ x ∷ []) done) - 1)
+at_hand : (has_instant : Bool) (done : List Instant) (x : Instant) → (has_instant ≡ false → done ≡ [])
+    → (rest : List Instant) × (cond has_instant (done ++ x ∷ []) done ≡ done ++ rest)
+    × (length done ≡ length (cond has_instant (done ++ x ∷ []) done) - 1)
 at_hand true done x h = (x ∷ [], refl, omega (arith, length_push done x))
 at_hand false done x h = let e = ap (λ (xs : List Instant). length xs) (h refl) in
     ([], sym (append-nil done), omega (arith, e))
@@ -107,7 +108,7 @@ before_fault nets items =
     let w : DumpState = whole_before nets (at_start nets) items in
     let law : ended w.progress ≡ instants_of nets (items_before_fault nets first_context items) = instants_law nets
     (items_before_fault nets first_context items) w (steps_before nets (at_start nets) items) in
-    let hand = at_hand w.progress.begun w.progress.done
+    let hand = at_hand w.progress.has_instant w.progress.done
     (record { time = w.progress.time; values = values_from 0 w.progress.current })
     (begins nets (at_start nets) items (λ e. refl)) in (
       hand.0,

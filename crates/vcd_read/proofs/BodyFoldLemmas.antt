@@ -76,7 +76,7 @@ module _ {A : Type 0} (with_change : A → ℕ → List Bit → A) (with_instant
     (with_instant a time)) where
   -- the state of the fold where the reading has come this far
   abbrev fold_at : DumpProgress → A → BodyFold A
-  fold_at p a = record { taken = a; time = p.time; begun = p.begun }
+  fold_at p a = record { taken = a; time = p.time; has_instant = p.has_instant }
 
   abbrev state_at : Whole → A → State A
   state_at s a = record { context = s.context; progress = fold_at s.progress a }
@@ -89,16 +89,17 @@ module _ {A : Type 0} (with_change : A → ℕ → List Bit → A) (with_instant
   KeepsState (Err fault) r = r ≡ Err fault
 
   on_time : (test : Bool) (p : DumpProgress) (a : A) (t : ℕ) → R p.done p.current a
-      → Keeps (cond test (record (flushed p) { time = t; begun = true }) (record p { time = t; begun = true }))
-      (cond test (record { taken = with_instant a p.time; time = t; begun = true })
-      (record { taken = a; time = t; begun = true }))
+      → Keeps (cond test (record (flushed p) { time = t; has_instant = true })
+      (record p { time = t; has_instant = true }))
+      (cond test (record { taken = with_instant a p.time; time = t; has_instant = true })
+      (record { taken = a; time = t; has_instant = true }))
   on_time true p a t r = (with_instant a p.time, refl, on_instant p.done p.current a p.time r)
   on_time false p a t r = (a, refl, r)
 
   on_item : (item : BodyItem) (s next : BodyContext) (p : DumpProgress) (a : A) → context_after nets s item ≡ Ok next
       → R p.done p.current a
       → Keeps (whole_after nets p item) (progress_after with_change with_instant nets (fold_at p a) item)
-  on_item (time_item line digits) s next p a ok r = on_time (p.begun && not (number digits == p.time)) p a
+  on_item (time_item line digits) s next p a ok r = on_time (p.has_instant && not (number digits == p.time)) p a
       (number digits) r
   on_item (change line digits code) s next p a ok r =
       let net : ℕ = unwrap_or (net_of nets code) 0 in
@@ -171,9 +172,9 @@ module _ {A : Type 0} (with_change : A → ℕ → List Bit → A) (with_instant
   reached-follows (item ∷ items) s a r = before-follows items item s a (context_after nets s.context item) refl r
       (λ s2 b kept. reached-follows items s2 b kept)
 
-  on_end : (begun : Bool) (p : DumpProgress) (a : A) → R p.done p.current a
-      → (b : A) × (cond begun (with_instant a p.time) a ≡ b)
-      × ((current : CurrentValues) × R (cond begun (flushed p).done p.done) current b)
+  on_end : (has_instant : Bool) (p : DumpProgress) (a : A) → R p.done p.current a
+      → (b : A) × (cond has_instant (with_instant a p.time) a ≡ b)
+      × ((current : CurrentValues) × R (cond has_instant (flushed p).done p.done) current b)
   on_end true p a r = (
     with_instant a p.time,
     refl,
@@ -188,7 +189,7 @@ module _ {A : Type 0} (with_change : A → ℕ → List Bit → A) (with_instant
   end-follows : (s : Whole) (a : A) (stood : Result BodyContext VcdFault) → R s.progress.done s.progress.current a
       → Follows (Ends R) (stood >>= λ end. Ok (instants_at s.progress))
       (stood >>= λ end. Ok (ended with_instant (fold_at s.progress a)))
-  end-follows s a (Ok stood) r = let e = on_end s.progress.begun s.progress a r in (e.0, ap Ok e.1, e.2)
+  end-follows s a (Ok stood) r = let e = on_end s.progress.has_instant s.progress a r in (e.0, ap Ok e.1, e.2)
   end-follows s a (Err fault) r = refl
 
   ends-follow : (w : Result Whole VcdFault) (t : Result (State A) VcdFault) → KeepsState w t

@@ -87,14 +87,15 @@ module _ {A : Type 0} (with_change : A → ℕ → List Bit → A) (with_instant
   module _ (R : A → Type 0) (on_change : (a : A) (net : ℕ) (bits : List Bit) → R a → R (with_change a net bits))
       (on_instant : (a : A) (time : ℕ) → R a → R (with_instant a time)) where
     advanced-keeps : (p : BodyFold A) (time : ℕ) (test : Bool) → R p.taken
-        → R (cond test (record { taken = with_instant p.taken p.time; time = time; begun = true })
-        (record p { time = time; begun = true })).taken
+        → R (cond test (record { taken = with_instant p.taken p.time; time = time; has_instant = true })
+        (record p { time = time; has_instant = true })).taken
     advanced-keeps p time true r = on_instant p.taken p.time r
     advanced-keeps p time false r = r
 
     item-keeps : (p : BodyFold A) (item : BodyItem) → R p.taken → R (progress_after with_change with_instant nets p
         item).taken
-    item-keeps p (time_item line digits) r = advanced-keeps p (number digits) (p.begun && not (number digits == p.time))
+    item-keeps p (time_item line digits) r = advanced-keeps p (number digits)
+        (p.has_instant && not (number digits == p.time))
         r
     item-keeps p (change line digits code) r = on_change p.taken (unwrap_or (net_of nets code) 0)
         (extended (size_of nets (unwrap_or (net_of nets code) 0)) digits) r
@@ -249,26 +250,27 @@ module _ {A B : Type 0} (with_change : A → ℕ → List Bit → A) (with_insta
     bits)
     (on_instant : (a : A) (time : ℕ) → learned (with_instant a time) ≡ other_instant (learned a) time) where
   abbrev pub learned_fold : BodyFold A → BodyFold B
-  learned_fold p = record { taken = learned p.taken; time = p.time; begun = p.begun }
+  learned_fold p = record { taken = learned p.taken; time = p.time; has_instant = p.has_instant }
 
   abbrev pub learned_state : State A → State B
   learned_state s = record { context = s.context; progress = learned_fold s.progress }
 
   time-learned : (p : BodyFold A) (time : ℕ) (test : Bool)
-      → cond test (record { taken = other_instant (learned p.taken) p.time; time = time; begun = true })
-      (record { taken = learned p.taken; time = time; begun = true })
-      ≡ learned_fold (cond test (record { taken = with_instant p.taken p.time; time = time; begun = true })
-      (record p { time = time; begun = true }))
-  time-learned p time true = ap (λ (b : B). record { taken = b; time = time; begun = true })
+      → cond test (record { taken = other_instant (learned p.taken) p.time; time = time; has_instant = true })
+      (record { taken = learned p.taken; time = time; has_instant = true })
+      ≡ learned_fold (cond test (record { taken = with_instant p.taken p.time; time = time; has_instant = true })
+      (record p { time = time; has_instant = true }))
+  time-learned p time true = ap (λ (b : B). record { taken = b; time = time; has_instant = true })
       (sym (on_instant p.taken p.time))
   time-learned p time false = refl
 
   module _ (nets : List Net) where
     item-learned : (p : BodyFold A) (item : BodyItem) → progress_after other_change other_instant nets (learned_fold p)
         item ≡ learned_fold (progress_after with_change with_instant nets p item)
-    item-learned p (time_item line digits) = time-learned p (number digits) (p.begun && not (number digits == p.time))
+    item-learned p (time_item line digits) = time-learned p (number digits)
+        (p.has_instant && not (number digits == p.time))
     item-learned p (change line digits code) =
-        ap (λ (b : B). record { taken = b; time = p.time; begun = true })
+        ap (λ (b : B). record { taken = b; time = p.time; has_instant = true })
         (sym (on_change p.taken (unwrap_or (net_of nets code) 0)
         (extended (size_of nets (unwrap_or (net_of nets code) 0)) digits)))
     item-learned p (skipped line code) = refl
@@ -331,9 +333,13 @@ module _ {A B : Type 0} (with_change : A → ℕ → List Bit → A) (with_insta
         (context_after nets s.context item) (λ s2. reached-learned s2 items)
 
     entered-by : (p : BodyFold B) (time : ℕ) (test : Bool)
-        → cond test (record { taken = other_instant p.taken p.time; time = time; begun = true })
-        (record p { time = time; begun = true })
-        ≡ record { taken = entered other_instant p.taken (cond test (Some p.time) None); time = time; begun = true }
+        → cond test (record { taken = other_instant p.taken p.time; time = time; has_instant = true })
+        (record p { time = time; has_instant = true })
+        ≡ record {
+          taken = entered other_instant p.taken (cond test (Some p.time) None);
+          time = time;
+          has_instant = true;
+        }
     entered-by p time true = refl
     entered-by p time false = refl
 
@@ -354,7 +360,7 @@ module _ {A B : Type 0} (with_change : A → ℕ → List Bit → A) (with_insta
         let behind : State A = record {
           context = record { now = n; bracket = None };
           progress = record
-              { taken = before; time = n; begun = true };
+              { taken = before; time = n; has_instant = true };
         } in
         let own : steps with_change with_instant nets behind items
         ≡ Ok end = sym (time-step with_change with_instant nets (before_piece before time) line n digits items is
@@ -362,7 +368,8 @@ module _ {A B : Type 0} (with_change : A → ℕ → List Bit → A) (with_insta
         let told2 : learned before ≡ entered other_instant p.taken (ended_at p n) = subst (λ (t : ℕ). learned before
         ≡ entered other_instant p.taken (ended_at p t)) (sym same) told in
         let there : advanced other_instant p n ≡ learned_fold behind.progress =
-        entered-by p n (p.begun && not (n == p.time)) ∙ ap (λ (b : B). record { taken = b; time = n; begun = true })
+        entered-by p n (p.has_instant && not (n == p.time))
+        ∙ ap (λ (b : B). record { taken = b; time = n; has_instant = true })
         (sym told2) in
         time-step other_change other_instant nets (state_at p None) line n digits items is (omega (arith, same, low))
         ∙ ap (λ (q : BodyFold B). steps other_change other_instant nets

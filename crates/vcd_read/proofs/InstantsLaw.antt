@@ -283,15 +283,16 @@ same_at_others f g (wrong line kind ∷ items) first now up le same = same_at_ot
 
 -- ---- the fold
 
-abbrev begun_at : List Instant → ℕ → List (Option (List Bit)) → DumpProgress
-begun_at done now current = record { done = done; time = now; begun = true; current = current }
+abbrev has_instant_at : List Instant → ℕ → List (Option (List Bit)) → DumpProgress
+has_instant_at done now current = record { done = done; time = now; has_instant = true; current = current }
 
 advanced_same : (done : List Instant) (now t : ℕ) (current : List (Option (List Bit))) → eqb t now ≡ true
-    → advanced (begun_at done now current) t ≡ begun_at done t current
+    → advanced (has_instant_at done now current) t ≡ has_instant_at done t current
 advanced_same done now t current e = rw e refl
 
 advanced_next : (done : List Instant) (now t : ℕ) (current : List (Option (List Bit))) → eqb t now ≡ false
-    → advanced (begun_at done now current) t ≡ begun_at (done ++ record { time = now; values = values_from 0 current }
+    → advanced (has_instant_at done now current) t
+    ≡ has_instant_at (done ++ record { time = now; values = values_from 0 current }
     ∷ []) t (none_of (length current))
 advanced_next done now t current e = rw e refl
 
@@ -346,7 +347,8 @@ at_change nets items now current c here up =
 -- what comes of a time that has an instant
 begun_law : (nets : List Net) (items : List BodyItem) (done : List Instant) (now : ℕ)
     (current : List (Option (List Bit))) → length current ≡ length nets → Ascends now items
-    → ended (progress_after_all nets (begun_at done now current) items) ≡ done ++ instants_at (length nets) current
+    → ended (progress_after_all nets (has_instant_at done now current) items) ≡ done ++ instants_at (length nets)
+    current
     (changes_from nets now items) now (times_from now items)
 unfolding changes_from times_from
 begun_law nets [] done now current len up = refl
@@ -380,7 +382,8 @@ begun_law nets (wrong line kind ∷ items) done now current len up = begun_law n
 
 -- what comes of the start
 start_law : (nets : List Net) (items : List BodyItem) (now : ℕ) → Ascends now items
-    → ended (progress_after_all nets (record { done = []; time = now; begun = false; current = none_of (length nets) })
+    → ended (progress_after_all nets
+    (record { done = []; time = now; has_instant = false; current = none_of (length nets) })
     items)
     ≡ map (fresh (length nets) (changes_from nets now items)) (dedup nat_eq (times_from now items))
 unfolding changes_from times_from
@@ -464,7 +467,7 @@ abbrev pub at_start : List Net → DumpState
 at_start nets =
     record {
       context = record { now = 0; bracket = None };
-      progress = record { done = []; time = 0; begun = false; current = replicate (length nets) None };
+      progress = record { done = []; time = 0; has_instant = false; current = replicate (length nets) None };
     }
 
 abbrev pub reached : DumpState → Result DumpState VcdFault

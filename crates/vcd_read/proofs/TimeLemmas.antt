@@ -16,7 +16,8 @@ module _ {A : Type 0} (with_change : A → ℕ → List Bit → A) (with_instant
   time_in p = p.time
 
   at_time : (test : Bool) (p : BodyFold A) (t : ℕ) → time_in (cond test
-      (record { taken = with_instant p.taken p.time; time = t; begun = true }) (record p { time = t; begun = true }))
+      (record { taken = with_instant p.taken p.time; time = t; has_instant = true })
+      (record p { time = t; has_instant = true }))
       ≡ t
   at_time true p t = refl
   at_time false p t = refl
@@ -26,7 +27,7 @@ module _ {A : Type 0} (with_change : A → ℕ → List Bit → A) (with_instant
       ≡ last_time p.time (item ∷ items)
   unfolding last_time
   item_time p (time_item line digits) items = ap (λ (t : ℕ). last_time t items)
-      (at_time (p.begun && not (number digits == p.time)) p (number digits))
+      (at_time (p.has_instant && not (number digits == p.time)) p (number digits))
   item_time p (change line digits code) items = refl
   item_time p (skipped line code) items = refl
   item_time p (bracket_open line) items = refl

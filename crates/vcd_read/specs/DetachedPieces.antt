@@ -41,7 +41,7 @@ time_first (item ∷ items) = None
 
 -- before a piece: no bracket, and no instant at the time that it begins with
 abbrev pub before_piece : {A : Type 0} → A → ℕ → State A
-before_piece before time = state_at (record { taken = before; time = time; begun = false }) None
+before_piece before time = state_at (record { taken = before; time = time; has_instant = false }) None
 
 -- the items of a piece that begins on this line, between two items
 abbrev pub detached_items : ℕ → List ℕ → List BodyItem
@@ -65,7 +65,7 @@ pub record MayFollow {A B : Type 0} (r : Reached B) (detached : ReadDetached A) 
 
 -- the time of the instant that a time ends, where it ends one
 abbrev pub ended_at : {A : Type 0} → BodyFold A → ℕ → Option ℕ
-ended_at p time = if p.begun && not (time == p.time) then Some p.time else None
+ended_at p time = if p.has_instant && not (time == p.time) then Some p.time else None
 
 -- what is taken behind the end of such an instant
 abbrev pub entered : {A : Type 0} → (A → ℕ → A) → A → Option ℕ → A
@@ -89,7 +89,7 @@ abbrev pub with_taken : {A B : Type 0} → B → Reached A → Reached B
 with_taken b r =
     record {
       nets = r.nets;
-      progress = record { taken = b; time = r.progress.time; begun = r.progress.begun };
+      progress = record { taken = b; time = r.progress.time; has_instant = r.progress.has_instant };
       bracket = r.bracket;
       place = r.place;
       line = r.line;
@@ -101,7 +101,7 @@ detached_with b a =
     record {
       time = a.time;
       first_line = a.first_line;
-      progress = record { taken = b; time = a.progress.time; begun = a.progress.begun };
+      progress = record { taken = b; time = a.progress.time; has_instant = a.progress.has_instant };
       bracket = a.bracket;
       line = a.line;
     }

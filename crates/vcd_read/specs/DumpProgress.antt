@@ -14,7 +14,7 @@ pub record DumpProgress : Type 0 where
   pub done : List Instant
   pub time : ℕ
   -- whether there is an instant at the current time
-  pub begun : Bool
+  pub has_instant : Bool
   pub current : List (Option (List Bit))
 
 abbrev pub values_from : ℕ → List (Option (List Bit)) → List Value
@@ -26,20 +26,20 @@ abbrev pub flushed : DumpProgress → DumpProgress
 flushed p =
     record p {
       done = p.done ++ record { time = p.time; values = values_from 0 p.current } ∷ [];
-      begun = false;
+      has_instant = false;
       current = replicate (length p.current) None;
     }
 
 abbrev pub advanced : DumpProgress → ℕ → DumpProgress
 advanced p t =
-    if p.begun && not (t == p.time) then record
-    (flushed p) { time = t; begun = true } else record p { time = t; begun = true }
+    if p.has_instant && not (t == p.time) then record
+    (flushed p) { time = t; has_instant = true } else record p { time = t; has_instant = true }
 
 abbrev pub changed : DumpProgress → ℕ → List Bit → DumpProgress
-changed p net bits = record p { begun = true; current = slice_set p.current net (Some bits) }
+changed p net bits = record p { has_instant = true; current = slice_set p.current net (Some bits) }
 
 abbrev pub ended : DumpProgress → List Instant
-ended p = if p.begun then (flushed p).done else p.done
+ended p = if p.has_instant then (flushed p).done else p.done
 
 abbrev pub progress_after : List Net → DumpProgress → BodyItem → DumpProgress
 progress_after nets p (time_item line digits) = advanced p (number digits)

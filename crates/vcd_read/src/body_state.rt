@@ -27,7 +27,7 @@ impl<T: ChangeVisitor> BodyState<T> {
     /// Before any item.
     pub fn new(visitor: T) -> BodyState<T>
         ensures visitor { T.taken result.timed.visitor ≡ T.taken visitor }
-        ensures clock { result.timed.clock ≡ record { time = 0; begun = false } }
+        ensures clock { result.timed.clock ≡ record { time = 0; has_instant = false } }
         ensures bracket { result.bracket ≡ None }
         ensures place { result.place ≡ Ready }
     {

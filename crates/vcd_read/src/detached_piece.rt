@@ -102,7 +102,10 @@ impl<T: ChangeVisitor> Pieces<T> {
         let time = first_time(text)?;
         let reader = Reader { text, at: 0 };
         let behind = reader.line(Start::Here(piece.len()));
-        let clock = Clock { time, begun: false };
+        let clock = Clock {
+            time,
+            has_instant: false,
+        };
         let before = BodyState {
             timed: TimedVisitor { visitor, clock },
             bracket: None,
@@ -154,7 +157,7 @@ impl<T: ChangeVisitor> Pieces<T> {
         ensures { result ≡ ended_at (reached T.taken self.now).progress (read_detached N.taken detached.now).time }
     {
         let clock = self.state.timed.clock;
-        if clock.begun && detached.time != clock.time {
+        if clock.has_instant && detached.time != clock.time {
             Some(clock.time)
         } else {
             None

@@ -100,7 +100,7 @@ impl<'a> Front<'a> {
     pub fn before_body<T: ChangeVisitor>(self, visitor: T) -> (Pieces<T>, &'a [u8])
         ensures nets { (reached T.taken result.0).nets ≡ self.entry.head.nets }
         ensures progress { (reached T.taken result.0).progress
-            ≡ record { taken = T.taken visitor; time = 0; begun = false } }
+            ≡ record { taken = T.taken visitor; time = 0; has_instant = false } }
         ensures bracket { (reached T.taken result.0).bracket ≡ None }
         ensures place { (reached T.taken result.0).place ≡ ready }
         ensures body { tokens_from (reached T.taken result.0).line result.1.now ≡ self.entry.head.body }

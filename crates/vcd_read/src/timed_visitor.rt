@@ -13,7 +13,7 @@ use std::alloc::{AllocError, Global};
 pub(crate) struct Clock {
     pub time: u64,
     /// Whether there is an instant at it.
-    pub begun: bool,
+    pub has_instant: bool,
 }
 
 /// The current time, and what takes the changes.
@@ -29,13 +29,13 @@ impl<T: ChangeVisitor> TimedVisitor<T> {
     /// Time 0, at which there is no instant yet.
     pub fn new(visitor: T) -> TimedVisitor<T>
         ensures visitor { T.taken result.visitor ≡ T.taken visitor }
-        ensures clock { result.clock ≡ record { time = 0; begun = false } }
+        ensures clock { result.clock ≡ record { time = 0; has_instant = false } }
     {
         TimedVisitor {
             visitor,
             clock: Clock {
                 time: 0,
-                begun: false,
+                has_instant: false,
             },
         }
     }
@@ -46,11 +46,11 @@ impl<T: ChangeVisitor> TimedVisitor<T> {
         ensures { OnOk result (body_fold (T.taken self.new.visitor) self.new.clock
             ≡ advanced T.with_instant (body_fold (T.taken self.old.visitor) self.old.clock) time) }
     {
-        if self.clock.begun && time != self.clock.time {
+        if self.clock.has_instant && time != self.clock.time {
             self.visitor.end_instant(alloc, self.clock.time)?;
         }
         self.clock.time = time;
-        self.clock.begun = true;
+        self.clock.has_instant = true;
         Ok(())
     }
 
@@ -70,7 +70,7 @@ impl<T: ChangeVisitor> TimedVisitor<T> {
             (extended size digits.now)) }
     {
         self.visitor.change(alloc, net, size, digits)?;
-        self.clock.begun = true;
+        self.clock.has_instant = true;
         Ok(())
     }
 
@@ -80,7 +80,7 @@ impl<T: ChangeVisitor> TimedVisitor<T> {
             ≡ ended T.with_instant (body_fold (T.taken self.visitor) self.clock)) }
         ensures memory { IfErr result (λ stopped. stopped.fault ≡ record { line = 0; kind = Memory }) }
     {
-        if !self.clock.begun {
+        if !self.clock.has_instant {
             return Ok(self.visitor);
         }
         match self.visitor.end_instant(alloc, self.clock.time) {

@@ -19,11 +19,11 @@ module _ (nets : List Net) (time : ℕ) where
   HasTime p = p.taken ≡ Some time
 
   advanced_has : (p : BodyFold (Option ℕ)) (t : ℕ) → HasTime p → HasTime (advanced or_time p t)
-  advanced_has p t h = by_case (p.begun && not (t == p.time))
+  advanced_has p t h = by_case (p.has_instant && not (t == p.time))
     where
       by_case : (b : Bool)
-          → HasTime (if b then record { taken = or_time p.taken p.time; time = t; begun = true } else record p
-          { time = t; begun = true })
+          → HasTime (if b then record { taken = or_time p.taken p.time; time = t; has_instant = true } else record p
+          { time = t; has_instant = true })
       by_case true = ap (λ (s : Option ℕ). or_time s p.time) h
       by_case false = h
 
@@ -60,7 +60,7 @@ module _ (nets : List Net) (time : ℕ) where
       (λ next has e. steps_have items next end has e) is
 
   ended_is : (p : BodyFold (Option ℕ)) → HasTime p → ended or_time p ≡ Some time
-  ended_is p h = by_case p.begun
+  ended_is p h = by_case p.has_instant
     where
       by_case : (b : Bool) → (if b then or_time p.taken p.time else p.taken) ≡ Some time
       by_case true = ap (λ (s : Option ℕ). or_time s p.time) h

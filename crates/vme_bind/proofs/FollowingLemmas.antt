@@ -30,16 +30,17 @@ module _ (t : Trace) where
 
   -- ---- at the end of a body
 
-  ended-behind : (begun : Bool) (m : BuilderState) (time : ℕ) → cond begun (builder_instant (behind t m) time)
+  ended-behind : (has_instant : Bool) (m : BuilderState) (time : ℕ)
+      → cond has_instant (builder_instant (behind t m) time)
       (behind t m)
-      ≡ behind t (cond begun (builder_instant m time) m)
+      ≡ behind t (cond has_instant (builder_instant m time) m)
   ended-behind true m time = sym (behind-instant t m time)
   ended-behind false m time = refl
 
   stood-behind : (p : BodyFold BuilderState) (stood : Result BodyContext VcdFault)
       → (stood >>= λ end. Ok (ended builder_instant (fold_behind p)))
       ≡ ((stood >>= λ end. Ok (ended builder_instant p)) >>= λ made. Ok (behind t made))
-  stood-behind p (Ok end) = ap Ok (ended-behind p.begun p.taken p.time)
+  stood-behind p (Ok end) = ap Ok (ended-behind p.has_instant p.taken p.time)
   stood-behind p (Err fault) = refl
 
   outcome-behind : (read : Result (State BuilderState) VcdFault)

@@ -181,7 +181,7 @@ body_formed slots bound_groups h = by_instants (instants_from h.nets h.body) ref
 -- so are they whatever follows a place of which nothing is read yet
 pub begun_formed : (slots : ℕ) (bound_groups : List BoundGroup) (made : BuilderState) (r : Reached BuilderState)
     (tokens more : List Token) → IsBegun slots bound_groups made
-    → r.progress ≡ record { taken = made; time = 0; begun = false } → r.bracket ≡ None → r.place ≡ ready
+    → r.progress ≡ record { taken = made; time = 0; has_instant = false } → r.bracket ≡ None → r.place ≡ ready
     → malformed_step (reading_until_fault (rest_until_fault builder_change builder_instant r tokens more)).recorded
     ≡ None
 begun_formed slots bound_groups made r tokens more begun progress bracket place =
@@ -193,7 +193,7 @@ begun_formed slots bound_groups made r tokens more begun progress bracket place 
 pub begun_reading : (own : Option BindFault) (slots : ℕ) (bound_groups : List BoundGroup) (head : Headed)
     (made : BuilderState)
     (r : Reached BuilderState) (first more : List Token) → IsBegun slots bound_groups made → r.nets ≡ head.nets
-    → r.progress ≡ record { taken = made; time = 0; begun = false } → r.bracket ≡ None → r.place ≡ ready
+    → r.progress ≡ record { taken = made; time = 0; has_instant = false } → r.bracket ≡ None → r.place ≡ ready
     → first ≡ head.body
     → or_fault own (body_reading slots bound_groups (going_on head more))
     ≡ or_fault own (reading_until_fault (rest_until_fault builder_change builder_instant r first more))

@@ -65,7 +65,7 @@ at-time nets s next line digits h =
     let e : record s { now = b.0 } ≡ next = cc in
     (sym (ap (λ (s : BodyContext). s.now) e) ∙ sym (n ∙ t.1), omega (arith, not_less a.0 s.now t.0, n))
 
-is-later : (begun : Bool) (t now : ℕ) → now ≤ t → (begun && not (t == now)) ≡ true → now < t
+is-later : (has_instant : Bool) (t now : ℕ) → now ≤ t → (has_instant && not (t == now)) ≡ true → now < t
 is-later true t now le e = grind (arith, nat_tests)
 is-later false t now le e = absurd cc
 
@@ -110,8 +110,8 @@ module _ (from : ℕ) where
 
   -- another time is told
   at-next : (test : Bool) (p : BodyFold BuilderState) (t : ℕ) → IsMade p → p.time ≤ t → (test ≡ true → p.time < t)
-      → IsMade (cond test (record { taken = builder_instant p.taken p.time; time = t; begun = true })
-      (record p { time = t; begun = true }))
+      → IsMade (cond test (record { taken = builder_instant p.taken p.time; time = t; has_instant = true })
+      (record p { time = t; has_instant = true }))
   at-next true p t h le later = record {
     late = omega (arith, h.late, le);
     before = All-append (λ (s : Step). (from ≤ s.time) × (s.time < t)) p.taken.recorded.steps
@@ -124,8 +124,8 @@ module _ (from : ℕ) where
   }
 
   time-next : (test : Bool) (p : BodyFold BuilderState) (t : ℕ)
-      → (cond test (record { taken = builder_instant p.taken p.time; time = t; begun = true })
-      (record p { time = t; begun = true })).time ≡ t
+      → (cond test (record { taken = builder_instant p.taken p.time; time = t; has_instant = true })
+      (record p { time = t; has_instant = true })).time ≡ t
   time-next true p t = refl
   time-next false p t = refl
 
@@ -158,11 +158,11 @@ module _ (from : ℕ) where
     item-at s (time_item line digits) next h ok =
         let (now, le) = at-time nets s.context next line digits ok in
         let p = s.progress in
-        let test : Bool = p.begun && not (number digits == p.time) in
+        let test : Bool = p.has_instant && not (number digits == p.time) in
         let late : p.time ≤ number digits = omega (arith, le, h.at) in
         record {
           at = now ∙ sym (time-next test p (number digits));
-          made = at-next test p (number digits) h.made late (is-later p.begun (number digits) p.time late);
+          made = at-next test p (number digits) h.made late (is-later p.has_instant (number digits) p.time late);
         }
     item-at s (change line digits code) next h ok =
         still s (after s.progress (change line digits code)) next h refl refl
@@ -243,8 +243,8 @@ module _ (from : ℕ) where
   }
 
   -- the instant at hand is the last
-  ended-up-to : (begun : Bool) (p : BodyFold BuilderState) → IsMade p
-      → AreUpTo p.time (cond begun (builder_instant p.taken p.time) p.taken).recorded.steps
+  ended-up-to : (has_instant : Bool) (p : BodyFold BuilderState) → IsMade p
+      → AreUpTo p.time (cond has_instant (builder_instant p.taken p.time) p.taken).recorded.steps
   ended-up-to true p h =
       All-append (λ (s : Step). (from ≤ s.time) × (s.time ≤ p.time)) p.taken.recorded.steps
       (step_between p.time p.taken.progress.shown p.taken.progress.now)
@@ -258,7 +258,7 @@ module _ (from : ℕ) where
       → TimesOf (reading_made p.taken.recorded p.time (stood >>= λ end. Ok (ended builder_instant p)))
   end-times p (Ok end) h = record {
     late = h.late;
-    up_to = ended-up-to p.begun p h;
+    up_to = ended-up-to p.has_instant p h;
     before = λ fault is. absurd cc;
   }
   end-times p (Err fault) h = faulty-times p fault h
