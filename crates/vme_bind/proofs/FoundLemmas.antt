@@ -22,7 +22,7 @@ use Rattle.vme_bind.specs.declared.path_search.PathMatch.{PathMatch}
 use Rattle.vme_bind.specs.declared.path_search.PathMatch.TheVariants.{Nothing, Only, Several}
 use Rattle.vme_bind.specs.declared.bound_groups.BitRange.{BitRange}
 use Rattle.vme_bind.specs.declared.bound_groups.BoundGroup.{BoundGroup}
-use Rattle.vme_bind.specs.PathSearch.{Searched, with_bits, only_found, path_sought, scopes_begun, candidate_of}
+use Rattle.vme_bind.specs.PathSearch.{Searched, with_bits, only_found, path_to_find, scopes_matched, candidate_of}
 use Rattle.vme_bind.specs.PathSearch.{with_candidate, with_variable, seen_in, unseen, source_of, bound_group_of}
 use Rattle.vme_bind.specs.PathSearch.{bound_groups_of}
 use Rattle.vme_bind.specs.BoundGroups.{bits_meant, candidate, same_bits, only, source_by, source_in, bound_group_by}
@@ -111,19 +111,20 @@ bound_groups_found vs as' seen e = ap bound_groups_of (e ∙ seen_each vs (map u
 module _ (named : VariableSelector) (scopes : List (List ℕ)) (net size : ℕ) (r : Reference) (some : 0 < length r.name)
   where
     candidate_by : candidate named (variable_in scopes net size r)
-        ≡ cond (eqb (scopes_begun named.path scopes) (length scopes)
+        ≡ cond (eqb (scopes_matched named.path scopes) (length scopes)
         && bytes_eq (drop (length (path_in scopes)) named.path) r.name) (bits_meant named.selection net size r.index)
         None
     candidate_by = ap (λ (b : Bool). cond b (bits_meant named.selection net size r.index) None)
         (path_test named.path r.name scopes some)
 
     -- it has the path
-    pub candidate-here : (begun : ℕ) (rest : List ℕ) → begun ≡ scopes_begun named.path scopes → begun ≡ length scopes
+    pub candidate-here : (matched_scopes : ℕ) (rest : List ℕ) → matched_scopes ≡ scopes_matched named.path scopes
+        → matched_scopes ≡ length scopes
         → rest ≡ drop (length (path_in scopes)) named.path → bytes_eq rest r.name ≡ true
         → bits_meant named.selection net size r.index ≡ candidate named (variable_in scopes net size r)
-    candidate-here begun rest is all e same =
+    candidate-here matched_scopes rest is all e same =
         sym (candidate_by ∙ ap (λ (b : Bool). cond b (bits_meant named.selection net size r.index) None)
-        (both (eq-eqb (scopes_begun named.path scopes) (length scopes) (sym is ∙ all)) (rw e at same)))
+        (both (eq-eqb (scopes_matched named.path scopes) (length scopes) (sym is ∙ all)) (rw e at same)))
       where
         both : {a b : Bool} → a ≡ true → b ≡ true → (a && b) ≡ true
         both p q = rw (p, q) refl
@@ -133,29 +134,31 @@ module _ (named : VariableSelector) (scopes : List (List ℕ)) (net size : ℕ) 
         ≡ false → None ≡ candidate named (variable_in scopes net size r)
     candidate-named rest e other =
         sym (candidate_by ∙ ap (λ (b : Bool). cond b (bits_meant named.selection net size r.index) None)
-        (second (eqb (scopes_begun named.path scopes) (length scopes)) (rw e at other)))
+        (second (eqb (scopes_matched named.path scopes) (length scopes)) (rw e at other)))
       where
         second : (a : Bool) {b : Bool} → b ≡ false → (a && b) ≡ false
         second true q = q
         second false q = refl
 
     -- it stands in other scopes
-    candidate-other : (begun : ℕ) → begun ≡ scopes_begun named.path scopes → (begun ≡ length scopes → ⊥) → None
+    candidate-other : (matched_scopes : ℕ) → matched_scopes ≡ scopes_matched named.path scopes
+        → (matched_scopes ≡ length scopes → ⊥) → None
         ≡ candidate named (variable_in scopes net size r)
-    candidate-other begun is other =
+    candidate-other matched_scopes is other =
         sym (candidate_by ∙ ap (λ (b : Bool). cond (b && bytes_eq (drop (length (path_in scopes)) named.path) r.name)
         (bits_meant named.selection net size r.index) None) none)
       where
-        none : eqb (scopes_begun named.path scopes) (length scopes) ≡ false
+        none : eqb (scopes_matched named.path scopes) (length scopes) ≡ false
         none = grind (arith, nat_tests, is, other)
 
 -- what is sought in other scopes is found no more of
 pub found-other : (source : LevelSource) (found : PathMatch) (scopes : List (List ℕ)) (net size : ℕ) (r : Reference)
-    (begun : ℕ) → 0 < length r.name → begun ≡ scopes_begun (path_sought source) scopes → (begun ≡ length scopes → ⊥)
+    (matched_scopes : ℕ) → 0 < length r.name → matched_scopes ≡ scopes_matched (path_to_find source) scopes
+    → (matched_scopes ≡ length scopes → ⊥)
     → found ≡ with_bits found (candidate_of source (variable_in scopes net size r))
-found-other (Constant level) found scopes net size r begun some is other = refl
-found-other (Named named) found scopes net size r begun some is other = ap (with_bits found)
-    (candidate-other named scopes net size r some begun is other)
+found-other (Constant level) found scopes net size r matched_scopes some is other = refl
+found-other (Named named) found scopes net size r matched_scopes some is other = ap (with_bits found)
+    (candidate-other named scopes net size r some matched_scopes is other)
 
 -- ---- the bound groups one after the other
 

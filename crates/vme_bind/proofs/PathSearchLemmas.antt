@@ -18,7 +18,8 @@ use Rattle.vcd_read.proofs.ScopesLemmas.{path_of-is}
 use denote.Ref.{Bor}
 use Rattle.vme_bind.specs.declared.assignment.Assignment.{Assignment}
 use Rattle.vme_bind.specs.declared.path_search.PathSearch.{PathSearch}
-use Rattle.vme_bind.specs.PathSearch.{begins_with, scopes_begun, begun_behind, path_sought, HasOpened, opened, closed}
+use Rattle.vme_bind.specs.PathSearch.{begins_with, scopes_matched, matched_behind, path_to_find, HasOpened, opened}
+use Rattle.vme_bind.specs.PathSearch.{closed}
 use Rattle.vme_bind.specs.PathSearch.{Searched, seen_in}
 
 -- ---- the front of a text
@@ -93,82 +94,87 @@ behind-Decides front name text =
 -- ---- the open scopes
 
 -- it begins with no more of them than there are
-begun-at_most : (path : List ℕ) (scopes : List (List ℕ)) → scopes_begun path scopes ≤ length scopes
-unfolding scopes_begun
-begun-at_most path [] = omega arith
-begun-at_most path (name ∷ scopes) = by_test (begins_with (path_in (name ∷ scopes)) path) (begun-at_most path scopes)
+matched_scopes-at_most : (path : List ℕ) (scopes : List (List ℕ)) → scopes_matched path scopes ≤ length scopes
+unfolding scopes_matched
+matched_scopes-at_most path [] = omega arith
+matched_scopes-at_most path (name ∷ scopes) = by_test (begins_with (path_in (name ∷ scopes)) path)
+    (matched_scopes-at_most path scopes)
   where
-    by_test : (b : Bool) → scopes_begun path scopes ≤ length scopes → cond b (length scopes + 1)
-        (scopes_begun path scopes) ≤ length (name ∷ scopes)
+    by_test : (b : Bool) → scopes_matched path scopes ≤ length scopes → cond b (length scopes + 1)
+        (scopes_matched path scopes) ≤ length (name ∷ scopes)
     by_test true le = omega arith
     by_test false le = omega (arith, le)
 
 -- it begins with all of them exactly where it begins with their path
-pub begun-all : (path : List ℕ) (scopes : List (List ℕ)) → eqb (scopes_begun path scopes) (length scopes)
+pub matched_scopes-all : (path : List ℕ) (scopes : List (List ℕ)) → eqb (scopes_matched path scopes) (length scopes)
     ≡ begins_with (path_in scopes) path
-unfolding scopes_begun path_in
-begun-all path [] = refl
-begun-all path (name ∷ scopes) = by_test (begins_with (path_in scopes ++ with_dot name) path)
-    (begun-at_most path scopes)
+unfolding scopes_matched path_in
+matched_scopes-all path [] = refl
+matched_scopes-all path (name ∷ scopes) = by_test (begins_with (path_in scopes ++ with_dot name) path)
+    (matched_scopes-at_most path scopes)
   where
-    by_test : (b : Bool) → scopes_begun path scopes ≤ length scopes
-        → eqb (cond b (length scopes + 1) (scopes_begun path scopes)) (length (name ∷ scopes)) ≡ b
+    by_test : (b : Bool) → scopes_matched path scopes ≤ length scopes
+        → eqb (cond b (length scopes + 1) (scopes_matched path scopes)) (length (name ∷ scopes)) ≡ b
     by_test true le = grind (arith, nat_tests)
     by_test false le = grind (arith, nat_tests)
 
 -- a scope opens
-pub begun-open : (path name : List ℕ) (scopes : List (List ℕ)) → begun_behind (length scopes) (length (path_in scopes))
-    (with_dot name) path (scopes_begun path scopes) ≡ scopes_begun path (name ∷ scopes)
-unfolding scopes_begun path_in
-begun-open path name scopes =
+pub matched_scopes-open : (path name : List ℕ) (scopes : List (List ℕ)) → matched_behind (length scopes)
+    (length (path_in scopes))
+    (with_dot name) path (scopes_matched path scopes) ≡ scopes_matched path (name ∷ scopes)
+unfolding scopes_matched path_in
+matched_scopes-open path name scopes =
     ap (λ (b : Bool). cond (b && begins_with (with_dot name) (drop (length (path_in scopes)) path)) (length scopes + 1)
-    (scopes_begun path scopes)) (begun-all path scopes)
-    ∙ ap (λ (b : Bool). cond b (length scopes + 1) (scopes_begun path scopes))
+    (scopes_matched path scopes)) (matched_scopes-all path scopes)
+    ∙ ap (λ (b : Bool). cond b (length scopes + 1) (scopes_matched path scopes))
     (sym (begins_with-append (path_in scopes) (with_dot name) path))
 
 -- a scope closes
-pub begun-close : (path name : List ℕ) (scopes : List (List ℕ)) → min (scopes_begun path (name ∷ scopes))
-    (length scopes) ≡ scopes_begun path scopes
-unfolding scopes_begun path_in
-begun-close path name scopes =
+pub matched_scopes-close : (path name : List ℕ) (scopes : List (List ℕ)) → min (scopes_matched path (name ∷ scopes))
+    (length scopes) ≡ scopes_matched path scopes
+unfolding scopes_matched path_in
+matched_scopes-close path name scopes =
     by_tests (begins_with (path_in scopes ++ with_dot name) path) (begins_with (path_in scopes) path)
     (begins_with (with_dot name) (drop (length (path_in scopes)) path))
-    (begins_with-append (path_in scopes) (with_dot name) path) (begun-all path scopes) (begun-at_most path scopes)
+    (begins_with-append (path_in scopes) (with_dot name) path) (matched_scopes-all path scopes)
+    (matched_scopes-at_most path scopes)
   where
-    by_tests : (b outer own : Bool) → b ≡ (outer && own) → eqb (scopes_begun path scopes) (length scopes) ≡ outer
-        → scopes_begun path scopes ≤ length scopes
-        → min (cond b (length scopes + 1) (scopes_begun path scopes)) (length scopes) ≡ scopes_begun path scopes
+    by_tests : (b outer own : Bool) → b ≡ (outer && own) → eqb (scopes_matched path scopes) (length scopes) ≡ outer
+        → scopes_matched path scopes ≤ length scopes
+        → min (cond b (length scopes + 1) (scopes_matched path scopes)) (length scopes) ≡ scopes_matched path scopes
     by_tests true true own both all le = grind (arith, nat_tests)
     by_tests true false own both all le = absurd (cc both)
     by_tests false outer own both all le = omega (arith, le)
 
 -- a variable in the open scopes has the path
 pub path_test : (path name : List ℕ) (scopes : List (List ℕ)) → 0 < length name
-    → bytes_eq (path_of scopes name) path ≡ (eqb (scopes_begun path scopes) (length scopes)
+    → bytes_eq (path_of scopes name) path ≡ (eqb (scopes_matched path scopes) (length scopes)
     && bytes_eq (drop (length (path_in scopes)) path) name)
 path_test path name scopes some =
     ap (λ (p : List ℕ). bytes_eq p path) (path_of-is scopes name some)
     ∙ same_from_decides (bytes_eq (path_in scopes ++ name) path) (begins_with (path_in scopes) path
     && bytes_eq (drop (length (path_in scopes)) path) name) (bytes_eq-Decides (path_in scopes ++ name) path)
     (behind-Decides (path_in scopes) name path)
-    ∙ ap (λ (b : Bool). b && bytes_eq (drop (length (path_in scopes)) path) name) (sym (begun-all path scopes))
+    ∙ ap (λ (b : Bool). b && bytes_eq (drop (length (path_in scopes)) path) name) (sym (matched_scopes-all path scopes))
 
 -- ---- all that is sought
 
-pub begun_none : (s : PathSearch) → s.begun ≡ 0 → HasOpened [] s
-unfolding scopes_begun
-begun_none s e = e
+pub matched_none : (s : PathSearch) → s.matched_scopes ≡ 0 → HasOpened [] s
+unfolding scopes_matched
+matched_none s e = e
 
 opened-one : (name : List ℕ) (scopes : List (List ℕ)) (s : PathSearch) → HasOpened scopes s → HasOpened (name ∷ scopes)
     (opened (length scopes) (length (path_in scopes)) (with_dot name) s)
-opened-one name scopes s begun =
-    let path : List ℕ = path_sought s.assignment.now.source in
-    ap (begun_behind (length scopes) (length (path_in scopes)) (with_dot name) path) begun ∙ begun-open path name scopes
+opened-one name scopes s matched_scopes =
+    let path : List ℕ = path_to_find s.assignment.now.source in
+    ap (matched_behind (length scopes) (length (path_in scopes)) (with_dot name) path) matched_scopes
+    ∙ matched_scopes-open path name scopes
 
-pub same_begun : (scopes : List (List ℕ)) (s s' : PathSearch) → s'.begun ≡ s.begun → s'.assignment ≡ s.assignment
+pub same_matched : (scopes : List (List ℕ)) (s s' : PathSearch) → s'.matched_scopes ≡ s.matched_scopes → s'.assignment
+    ≡ s.assignment
     → HasOpened scopes s → HasOpened scopes s'
-same_begun scopes s s' begun same is = begun ∙ is
-    ∙ sym (ap (λ (a : Bor Assignment). scopes_begun (path_sought a.now.source) scopes) same)
+same_matched scopes s s' matched_scopes same is = matched_scopes ∙ is
+    ∙ sym (ap (λ (a : Bor Assignment). scopes_matched (path_to_find a.now.source) scopes) same)
 
 pub opened-all : (name : List ℕ) (scopes : List (List ℕ)) (searches : List PathSearch) → All (HasOpened scopes) searches
     → All (HasOpened (name ∷ scopes)) (map (opened (length scopes) (length (path_in scopes)) (with_dot name)) searches)
@@ -178,8 +184,8 @@ opened-all name scopes searches all =
 
 closed-one : (name : List ℕ) (scopes : List (List ℕ)) (s : PathSearch) → HasOpened (name ∷ scopes) s → HasOpened scopes
     (closed (length scopes) s)
-closed-one name scopes s begun = ap (λ (n : ℕ). min n (length scopes)) begun
-    ∙ begun-close (path_sought s.assignment.now.source) name scopes
+closed-one name scopes s matched_scopes = ap (λ (n : ℕ). min n (length scopes)) matched_scopes
+    ∙ matched_scopes-close (path_to_find s.assignment.now.source) name scopes
 
 pub closed-all : (name : List ℕ) (scopes : List (List ℕ)) (searches : List PathSearch) → All (HasOpened (name ∷ scopes))
     searches → All (HasOpened scopes) (map (closed (length scopes)) searches)

@@ -80,30 +80,30 @@ abbrev pub begins_with : List ℕ → List ℕ → Bool
 begins_with front text = bytes_eq (take (length front) text) front
 
 -- the path that is sought, if one is
-abbrev pub path_sought : LevelSource → List ℕ
-path_sought (Constant level) = []
-path_sought (Named named) = named.path
+abbrev pub path_to_find : LevelSource → List ℕ
+path_to_find (Constant level) = []
+path_to_find (Named named) = named.path
 
 -- with how many of the open scopes, from the outermost, a path begins
-unfoldable pub scopes_begun : List ℕ → List (List ℕ) → ℕ
-scopes_begun path [] = 0
-scopes_begun path (name ∷ scopes) = if begins_with (path_in (name ∷ scopes)) path then length scopes
-    + 1 else scopes_begun path scopes
+unfoldable pub scopes_matched : List ℕ → List (List ℕ) → ℕ
+scopes_matched path [] = 0
+scopes_matched path (name ∷ scopes) = if begins_with (path_in (name ∷ scopes)) path then length scopes
+    + 1 else scopes_matched path scopes
 
 abbrev pub HasOpened : List (List ℕ) → PathSearch → Type 0
-HasOpened scopes s = s.begun ≡ scopes_begun (path_sought s.assignment.now.source) scopes
+HasOpened scopes s = s.matched_scopes ≡ scopes_matched (path_to_find s.assignment.now.source) scopes
 
 -- how many, where a scope opens behind so many others: this part of the path is its own, from this place on
-abbrev pub begun_behind : ℕ → ℕ → List ℕ → List ℕ → ℕ → ℕ
-begun_behind depth start part path begun = if begun == depth
-    && begins_with part (drop start path) then depth + 1 else begun
+abbrev pub matched_behind : ℕ → ℕ → List ℕ → List ℕ → ℕ → ℕ
+matched_behind depth start part path matched_scopes = if matched_scopes == depth
+    && begins_with part (drop start path) then depth + 1 else matched_scopes
 
 abbrev pub opened : ℕ → ℕ → List ℕ → PathSearch → PathSearch
 opened depth start part s = record s {
-  begun = begun_behind depth start part
-      (path_sought s.assignment.now.source) s.begun;
+  matched_scopes = matched_behind depth start part
+      (path_to_find s.assignment.now.source) s.matched_scopes;
 }
 
 -- the innermost scope closes, and so many are left
 abbrev pub closed : ℕ → PathSearch → PathSearch
-closed depth s = record s { begun = min s.begun depth }
+closed depth s = record s { matched_scopes = min s.matched_scopes depth }

@@ -24,8 +24,8 @@ pub(crate) enum PathMatch {
 #[derive(Drop)]
 pub(crate) struct PathSearch<'b> {
     pub assignment: &'b Assignment,
-    /// With how many of the open scopes, from the outermost, its path begins.
-    pub begun: usize,
+    /// How many of the open scopes, from the outermost, its path matches.
+    pub matched_scopes: usize,
     pub found: PathMatch,
 }
 
@@ -70,25 +70,25 @@ pub(crate) fn rest_of(text: &[u8], start: usize) -> &[u8]
 }
 
 impl<'b> PathSearch<'b> {
-    ghost use Rattle.vme_bind.specs.PathSearch.{closed, opened, seen_in, unseen, scopes_begun, path_sought};
+    ghost use Rattle.vme_bind.specs.PathSearch.{closed, opened, seen_in, unseen, scopes_matched, path_to_find};
     ghost use Rattle.vme_bind.specs.PathSearch.{with_candidate};
     ghost use Rattle.vme_bind.specs.PathSearch.{bound_group_of};
 
     /// Nothing is found yet, and no scope is open.
     pub fn new(assignment: &'b Assignment) -> PathSearch<'b>
         ensures seen { seen_in result ≡ unseen assignment.now }
-        ensures begun { result.begun ≡ 0 }
+        ensures matched_scopes { result.matched_scopes ≡ 0 }
     {
         PathSearch {
             assignment,
-            begun: 0,
+            matched_scopes: 0,
             found: PathMatch::Nothing,
         }
     }
 
-    /// The path that is sought, which is empty where none is.
+    /// The path to find; empty for a constant.
     fn path(&self) -> &'b [u8]
-        ensures { result.now ≡ path_sought self.now.assignment.now.source }
+        ensures { result.now ≡ path_to_find self.now.assignment.now.source }
     {
         match &self.assignment.source {
             LevelSource::Constant(_) => &[],
@@ -101,8 +101,8 @@ impl<'b> PathSearch<'b> {
         requires { depth + 1 < 2 ^ 64 }
         ensures { self.new ≡ opened depth start part.now self.old }
     {
-        if self.begun == depth && begins_with(rest_of(self.path(), start), part) {
-            self.begun = depth + 1;
+        if self.matched_scopes == depth && begins_with(rest_of(self.path(), start), part) {
+            self.matched_scopes = depth + 1;
         }
     }
 
@@ -110,19 +110,20 @@ impl<'b> PathSearch<'b> {
     pub fn close(&mut self, depth: usize)
         ensures { self.new ≡ closed depth self.old }
     {
-        self.begun = self.begun.min(depth);
+        self.matched_scopes = self.matched_scopes.min(depth);
     }
 
     /// Looks at a variable that is declared in these scopes.
     pub fn visit(&mut self, scopes: &Scopes, variable: Declaration<'_>)
-        requires begun { self.old.begun ≡ scopes_begun (path_sought self.old.assignment.now.source) scopes.now }
+        requires matched_scopes { self.old.matched_scopes ≡ scopes_matched (path_to_find self.old.assignment.now.source)
+            scopes.now }
         requires name { 0 < length variable.name.now }
-        ensures begun { self.new.begun ≡ self.old.begun }
+        ensures matched_scopes { self.new.matched_scopes ≡ self.old.matched_scopes }
         ensures assignment { self.new.assignment ≡ self.old.assignment }
         ensures seen { seen_in self.new ≡ with_candidate (variable_in scopes.now variable.entry.net variable.entry.size
             (record { name = variable.entry.name.now; index = variable.entry.index })) (seen_in self.old) }
     {
-        if self.begun != scopes.depth() {
+        if self.matched_scopes != scopes.depth() {
             return;
         }
         if let LevelSource::Variable(named) = &self.assignment.source {

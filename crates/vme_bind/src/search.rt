@@ -20,7 +20,7 @@ pub(crate) struct Search<'b> {
     /// In the order of the binding's text.
     searches: Vec<PathSearch<'b>>,
     scopes: Scopes,
-    ghost begun: { All (HasOpened scopes) searches.items },
+    ghost matched_scopes: { All (HasOpened scopes) searches.items },
 }
 
 /// Opens a scope behind so many others: this part of the path is its own, from this place on.
@@ -44,9 +44,9 @@ fn close_all(searches: &mut [PathSearch<'_>], depth: usize)
 
 /// Looks at a variable that is declared in these scopes.
 fn visit_all(searches: &mut [PathSearch<'_>], scopes: &Scopes, variable: Declaration<'_>)
-    requires begun { All (HasOpened scopes.now) searches.old }
+    requires matched_scopes { All (HasOpened scopes.now) searches.old }
     requires name { 0 < length variable.name.now }
-    ensures begun { All (HasOpened scopes.now) searches.new }
+    ensures matched_scopes { All (HasOpened scopes.now) searches.new }
     ensures seen { map seen_in searches.new ≡ map (with_candidate
         (variable_in scopes.now variable.entry.net variable.entry.size
         (record { name = variable.entry.name.now; index = variable.entry.index }))) (map seen_in searches.old) }

@@ -3,11 +3,11 @@ use Rattle.std.proofs.lemmas.List.Elements.{All-set}
 use Rattle.vcd_read.specs.Header.{variable_in}
 use Rattle.vme_bind.specs.declared.path_search.PathSearch.{PathSearch}
 use Rattle.vme_bind.specs.PathSearch.{HasOpened, seen_in, with_candidate}
-use Rattle.vme_bind.proofs.PathSearchLemmas.{same_begun, stepped_by, stepped_rest}
+use Rattle.vme_bind.proofs.PathSearchLemmas.{same_matched, stepped_by, stepped_rest}
 use Rattle.vme_bind.proofs.search.visit_all.Goals as goal
 
-pub visit-requires-clause-begun : goal.visit-requires-clause-begun
-visit-requires-clause-begun c = c.loop-s.invariant.begun c.loop-s.s-index c.s-item.result
+pub visit-requires-clause-matched_scopes : goal.visit-requires-clause-matched_scopes
+visit-requires-clause-matched_scopes c = c.loop-s.invariant.matched_scopes c.loop-s.s-index c.s-item.result
     (omega (arith, c.loop-s.auto.searches))
 
 pub loop-s-preserved : goal.loop-s-preserved
@@ -16,12 +16,15 @@ loop-s-preserved c =
     let step = with_candidate (variable_in c.args.scopes.now v.net v.size
     (record { name = v.name.now; index = v.index })) in
     let scopes = c.args.scopes.now in
-    let before = c.loop-s.invariant.begun c.loop-s.s-index c.s-item.result (omega (arith, c.loop-s.auto.searches)) in
-    let begun : HasOpened scopes c.visit.new.self = same_begun scopes (get_or c.loop-s.searches c.loop-s.s-index
-    c.s-item.result) c.visit.new.self c.visit.ensures.begun c.visit.ensures.assignment before in
+    let before = c.loop-s.invariant.matched_scopes c.loop-s.s-index c.s-item.result
+    (omega (arith, c.loop-s.auto.searches)) in
+    let matched_scopes : HasOpened scopes c.visit.new.self = same_matched scopes
+    (get_or c.loop-s.searches c.loop-s.s-index
+    c.s-item.result) c.visit.new.self c.visit.ensures.matched_scopes c.visit.ensures.assignment before in
     record {
-      begun = All-set (HasOpened c.args.scopes.now) c.loop-s.searches c.loop-s.s-index c.visit.new.self begun
-          c.loop-s.invariant.begun;
+      matched_scopes = All-set (HasOpened c.args.scopes.now) c.loop-s.searches c.loop-s.s-index c.visit.new.self
+          matched_scopes
+          c.loop-s.invariant.matched_scopes;
       done = stepped_by seen_in step c.loop-s.searches c.args.searches.now c.loop-s.s-index c.s-item.result
           c.visit.new.self
           (search rules) (search rules) (search rules) (c.visit.ensures.seen ∙ ap (λ (s : PathSearch). step (seen_in s))

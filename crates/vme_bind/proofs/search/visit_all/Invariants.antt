@@ -9,7 +9,7 @@ invariant-loop-s l =
     let variable = variable_in l.scopes l.variable.net l.variable.size
     (record { name = l.variable.name.now; index = l.variable.index }) in
     record {
-      begun : All (HasOpened l.scopes) l.searches;
+      matched_scopes : All (HasOpened l.scopes) l.searches;
       done : map seen_in (take l.s-index l.searches) ≡ map (with_candidate variable)
           (map seen_in (take l.s-index l.fn.searches));
       rest : drop l.s-index l.searches ≡ drop l.s-index l.fn.searches;

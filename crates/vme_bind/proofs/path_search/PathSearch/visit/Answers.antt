@@ -12,8 +12,8 @@ returns-then-self-depth-clause-seen c =
     let v = c.args.variable in
     let r : Reference = record { name = v.name.now; index = v.index } in
     ap (λ (found : PathMatch). let seen : Searched = record { assignment = s.assignment.now; found = found } in seen)
-    (found-other s.assignment.now.source s.found c.args.scopes.now v.net v.size r s.begun c.requires.name
-    c.requires.begun (λ e. c.if-self-depth.true (e ∙ sym c.depth.ensures)))
+    (found-other s.assignment.now.source s.found c.args.scopes.now v.net v.size r s.matched_scopes c.requires.name
+    c.requires.matched_scopes (λ e. c.if-self-depth.true (e ∙ sym c.depth.ensures)))
 
 pub returns-then-eq-clause-seen : goal.returns-then-eq-clause-seen
 returns-then-eq-clause-seen c =
@@ -22,10 +22,11 @@ returns-then-eq-clause-seen c =
     let named = c.in-Variable.named in
     let scopes = c.args.scopes.now in
     let r : Reference = record { name = v.name.now; index = v.index } in
-    let begun = rw c.in-Variable.is at c.requires.begun in
+    let matched_scopes = rw c.in-Variable.is at c.requires.matched_scopes in
     let rest = rw (c.as_bytes.ensures, c.path.ensures) at c.rest_of.ensures in
     let same = sym c.eq.ensures ∙ c.if-eq.true in
-    let here = candidate-here named scopes v.net v.size r c.requires.name s.begun c.rest_of.result.now begun
+    let here = candidate-here named scopes v.net v.size r c.requires.name s.matched_scopes c.rest_of.result.now
+    matched_scopes
     (c.if-self-depth.false ∙ c.depth.ensures) rest same in
     let is = ap (λ (source : LevelSource). candidate_of source (variable_in scopes v.net v.size r)) c.in-Variable.is in
     ap (λ (found : PathMatch). let seen : Searched = record { assignment = s.assignment.now; found = found } in seen)

@@ -2,7 +2,7 @@ use Rattle.std.proofs.Common.{sym, ◌∙◌, [], ◌∷◌, arith}
 use Rattle.std.proofs.lemmas.List.{map-append, take_more}
 use Rattle.std.proofs.lemmas.List.Elements.{All-push}
 use Rattle.vme_bind.specs.PathSearch.{HasOpened, seen_in, unseen}
-use Rattle.vme_bind.proofs.PathSearchLemmas.{begun_none}
+use Rattle.vme_bind.proofs.PathSearchLemmas.{matched_none}
 use Rattle.vme_bind.proofs.search.Search.new.Goals as goal
 
 pub loop-assignment-preserved : goal.loop-assignment-preserved
@@ -19,8 +19,9 @@ loop-assignment-preserved c =
         c.new.ensures.seen,
         l.invariant.seen,
       ) (sym (map-append unseen _ (a ∷ [])));
-      begun = rw c.push_reserved.ensures.items (All-push (HasOpened []) l.searches.items c.new.result l.invariant.begun
-          (begun_none c.new.result c.new.ensures.begun));
+      matched_scopes = rw c.push_reserved.ensures.items (All-push (HasOpened []) l.searches.items c.new.result
+          l.invariant.matched_scopes
+          (matched_none c.new.result c.new.ensures.matched_scopes));
       count = omega (arith, c.push_reserved.ensures.len, l.invariant.count);
       capacity = c.push_reserved.ensures.capacity ∙ l.invariant.capacity;
     }

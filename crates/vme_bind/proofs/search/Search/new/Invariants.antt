@@ -7,7 +7,7 @@ abbrev pub invariant-loop-assignment : goal.invariant-loop-assignment
 invariant-loop-assignment l =
     record {
       seen : map seen_in l.searches.items ≡ map unseen (take l.assignment-index l.assignments);
-      begun : All (HasOpened []) l.searches.items;
+      matched_scopes : All (HasOpened []) l.searches.items;
       count : vec_len l.searches ≡ l.assignment-index;
       capacity : vec_capacity l.searches ≡ length l.assignments;
     }

@@ -7,8 +7,8 @@ pub invariant_of-self-2 : goal.invariant_of-self-2
 invariant_of-self-2 c =
     let s = c.args.self.now in
     record {
-      begun = closed-back c.if-not-close.ensures.0 s.scopes c.close.new.self s.searches.items
-          c.as_mut_slice.result.now c.close_all.new.searches s.searches.len c.depth.result s.begun
+      matched_scopes = closed-back c.if-not-close.ensures.0 s.scopes c.close.new.self s.searches.items
+          c.as_mut_slice.result.now c.close_all.new.searches s.searches.len c.depth.result s.matched_scopes
           c.if-not-close.ensures.1
           (omega (arith, s.searches.ok.0)) c.as_mut_slice.ensures.value c.close_all.ensures c.depth.ensures;
     }

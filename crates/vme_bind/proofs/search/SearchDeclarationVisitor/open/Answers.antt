@@ -13,9 +13,10 @@ invariant_of-self-2 c =
       ap (λ (names : List (List ℕ)). length names) c.in_ok-open.ensures.ok,
     ) in
     record {
-      begun =
+      matched_scopes =
           opened-back c.args.name.now s.scopes c.«open».new.self s.searches.items c.as_mut_slice.result.now
-          c.open_all.new.searches s.searches.len (c.depth-depth.result - 1) start c.rest_of-part.result.now s.begun
+          c.open_all.new.searches s.searches.len (c.depth-depth.result - 1) start c.rest_of-part.result.now
+          s.matched_scopes
           c.in_ok-open.ensures.ok (omega (arith, s.searches.ok.0)) c.as_mut_slice.ensures.value c.open_all.ensures depth
           (ap (λ (path : List ℕ). length path) c.path-start.ensures)
           (c.rest_of-part.ensures ∙ ap (drop start) c.path.ensures);
