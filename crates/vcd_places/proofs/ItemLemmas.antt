@@ -10,7 +10,7 @@ use Rattle.vcd_read.specs.Tokens.{Token, tokens}
 use Rattle.vcd_read.specs.Reading.{left_from}
 use Rattle.vcd_read.specs.Numbers.{is_number, number, time_of}
 use Rattle.vcd_read.specs.Header.{Header, between, header_from, is_end}
-use Rattle.vcd_read.specs.Body.{BodyItem, Shape, body_from, bracket_end, bracket_open, change}
+use Rattle.vcd_read.specs.Body.{BodyItem, Shape, body_from, dump_section_end, dump_section_open, change}
 use Rattle.vcd_read.specs.Body.{comment, end_shape, foreign, in_comment, none, open_shape, ready}
 use Rattle.vcd_read.specs.Body.{scalar}
 use Rattle.vcd_read.specs.Body.{shape_of, skipped, time_item, time_shape, vector, wrong}
@@ -51,8 +51,8 @@ last_behind [] now line digits = refl
 last_behind (time_item l ds ∷ items) now line digits = last_behind items (number ds) line digits
 last_behind (change l ds c ∷ items) now line digits = last_behind items now line digits
 last_behind (skipped l c ∷ items) now line digits = last_behind items now line digits
-last_behind (bracket_open l ∷ items) now line digits = last_behind items now line digits
-last_behind (bracket_end l ∷ items) now line digits = last_behind items now line digits
+last_behind (dump_section_open l ∷ items) now line digits = last_behind items now line digits
+last_behind (dump_section_end l ∷ items) now line digits = last_behind items now line digits
 last_behind (wrong l kind ∷ items) now line digits = last_behind items now line digits
 
 pub times_none : times_told [] ≡ []
@@ -120,8 +120,14 @@ module _ (t : Token) where
   single_read (vector ds) e is = absurd cc
   single_read foreign e is = absurd cc
   single_read comment e is = absurd cc
-  single_read open_shape e is = (bracket_open t.line, record { told = refl; read = λ ts. shape_read t ts open_shape e })
-  single_read end_shape e is = (bracket_end t.line, record { told = refl; read = λ ts. shape_read t ts end_shape e })
+  single_read open_shape e is = (
+    dump_section_open t.line,
+    record { told = refl; read = λ ts. shape_read t ts open_shape e },
+  )
+  single_read end_shape e is = (
+    dump_section_end t.line,
+    record { told = refl; read = λ ts. shape_read t ts end_shape e },
+  )
   single_read none e is = (wrong t.line _, record { told = refl; read = λ ts. shape_read t ts none e })
 
   pub single_is_item : kind_of (shape_of t.bytes) ≡ single → IsItem (t ∷ []) []

@@ -21,7 +21,8 @@ use Rattle.vcd_read.specs.declared.fault.FaultKind.TheVariants.{TooWide}
 use Rattle.vcd_read.specs.declared.fault.VcdFault.{VcdFault}
 use Rattle.vcd_read.specs.Numbers.{extended, number}
 use Rattle.vcd_read.specs.Header.{◌>>=◌, Net, at_line, has_code, net_of, size_of}
-use Rattle.vcd_read.specs.Body.{BodyItem, BodyContext, at_the_end, bracket_end, bracket_open, change, first_context}
+use Rattle.vcd_read.specs.Body.{BodyItem, BodyContext, at_the_end, dump_section_end, dump_section_open, change}
+use Rattle.vcd_read.specs.Body.{first_context}
 use Rattle.vcd_read.specs.Body.{fitting, skipped, context_after, context_after_all, time_item, wrong}
 use Rattle.vcd_read.specs.Meaning.{NetChange, change_of, changes_from, instant_at, instants_of, last_at, times_from}
 use Rattle.vcd_read.specs.Meaning.{value_at, values_at}
@@ -156,8 +157,8 @@ module _ (nets : List Net) (code : List ℕ) (size : ℕ) (none : net_of nets co
   item_stays s next (skipped line other) e =
       let found = has_net 0 line (net_of nets other) s next e in
       ap (λ (r : Result ℕ FaultKind). at_line line (r >>= λ net. Ok s)) (fits_same 0 other found.0 found.1) ∙ e
-  item_stays s next (bracket_open line) e = e
-  item_stays s next (bracket_end line) e = e
+  item_stays s next (dump_section_open line) e = e
+  item_stays s next (dump_section_end line) e = e
   item_stays s next (wrong line kind) e = absurd cc
 
   -- items without a fault: the first is read, and then the others
@@ -214,12 +215,14 @@ module _ (nets : List Net) (code : List ℕ) (size : ℕ) (none : net_of nets co
       let read = first_read (context_after nets s (skipped line other))
       (λ next. context_after_all nets next items) end e in
       changes_stay items read.0 end now read.2
-  changes_stay (bracket_open line ∷ items) s end now e =
-      let read = first_read (context_after nets s (bracket_open line)) (λ next. context_after_all nets next items) end e
+  changes_stay (dump_section_open line ∷ items) s end now e =
+      let read = first_read (context_after nets s (dump_section_open line)) (λ next. context_after_all nets next items)
+      end e
       in
       changes_stay items read.0 end now read.2
-  changes_stay (bracket_end line ∷ items) s end now e =
-      let read = first_read (context_after nets s (bracket_end line)) (λ next. context_after_all nets next items) end e
+  changes_stay (dump_section_end line ∷ items) s end now e =
+      let read = first_read (context_after nets s (dump_section_end line)) (λ next. context_after_all nets next items)
+      end e
       in
       changes_stay items read.0 end now read.2
   changes_stay (wrong line kind ∷ items) s end now e = absurd cc
@@ -258,12 +261,14 @@ module _ (nets : List Net) (code : List ℕ) (size : ℕ) (none : net_of nets co
       let read = first_read (context_after nets s (skipped line other))
       (λ next. context_after_all nets next items) end e in
       none_of t items read.0 end now read.2
-  none_of t (bracket_open line ∷ items) s end now e =
-      let read = first_read (context_after nets s (bracket_open line)) (λ next. context_after_all nets next items) end e
+  none_of t (dump_section_open line ∷ items) s end now e =
+      let read = first_read (context_after nets s (dump_section_open line)) (λ next. context_after_all nets next items)
+      end e
       in
       none_of t items read.0 end now read.2
-  none_of t (bracket_end line ∷ items) s end now e =
-      let read = first_read (context_after nets s (bracket_end line)) (λ next. context_after_all nets next items) end e
+  none_of t (dump_section_end line ∷ items) s end now e =
+      let read = first_read (context_after nets s (dump_section_end line)) (λ next. context_after_all nets next items)
+      end e
       in
       none_of t items read.0 end now read.2
   none_of t (wrong line kind ∷ items) s end now e = absurd cc

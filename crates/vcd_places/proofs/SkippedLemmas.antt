@@ -9,7 +9,8 @@ use Rattle.vcd_read.specs.declared.fault.FaultKind.TheVariants.{TooWide}
 use Rattle.vcd_read.specs.declared.fault.VcdFault.{VcdFault}
 use Rattle.vcd_read.specs.Numbers.{number}
 use Rattle.vcd_read.specs.Header.{◌>>=◌, Net, at_line, net_of, size_of}
-use Rattle.vcd_read.specs.Body.{BodyItem, BodyContext, at_the_end, bracket_end, bracket_open, change, first_context}
+use Rattle.vcd_read.specs.Body.{BodyItem, BodyContext, at_the_end, dump_section_end, dump_section_open, change}
+use Rattle.vcd_read.specs.Body.{first_context}
 use Rattle.vcd_read.specs.Body.{fitting, skipped, context_after, context_after_all, time_item, wrong}
 use Rattle.vcd_read.specs.Meaning.{NetChange, change_of, changes_from, instant_at, instants_of, times_from}
 
@@ -47,8 +48,8 @@ module _ (nets : List Net) (line net : ℕ) (code : List ℕ) (is : net_of nets 
   changes_same (change l digits c ∷ xs) ys now =
       ap (λ (cs : List NetChange). change_of nets now digits c ∷ cs) (changes_same xs ys now)
   changes_same (skipped l c ∷ xs) ys now = changes_same xs ys now
-  changes_same (bracket_open l ∷ xs) ys now = changes_same xs ys now
-  changes_same (bracket_end l ∷ xs) ys now = changes_same xs ys now
+  changes_same (dump_section_open l ∷ xs) ys now = changes_same xs ys now
+  changes_same (dump_section_end l ∷ xs) ys now = changes_same xs ys now
   changes_same (wrong l kind ∷ xs) ys now = changes_same xs ys now
 
   pub times_same : (xs ys : List BodyItem) (now : ℕ)
@@ -59,8 +60,8 @@ module _ (nets : List Net) (line net : ℕ) (code : List ℕ) (is : net_of nets 
       ap (λ (ts : List ℕ). number digits ∷ ts) (times_same xs ys (number digits))
   times_same (change l digits c ∷ xs) ys now = ap (λ (ts : List ℕ). now ∷ ts) (times_same xs ys now)
   times_same (skipped l c ∷ xs) ys now = times_same xs ys now
-  times_same (bracket_open l ∷ xs) ys now = times_same xs ys now
-  times_same (bracket_end l ∷ xs) ys now = times_same xs ys now
+  times_same (dump_section_open l ∷ xs) ys now = times_same xs ys now
+  times_same (dump_section_end l ∷ xs) ys now = times_same xs ys now
   times_same (wrong l kind ∷ xs) ys now = times_same xs ys now
 
   pub instants_same : (xs ys : List BodyItem)

@@ -10,7 +10,8 @@ use Rattle.vcd_read.specs.declared.fault.FaultKind.{FaultKind}
 use Rattle.vcd_read.specs.declared.fault.FaultKind.TheVariants.{TimeBackwards}
 use Rattle.vcd_read.specs.Numbers.{number, time_of}
 use Rattle.vcd_read.specs.Header.{◌>>=◌, Net, at_line, net_of}
-use Rattle.vcd_read.specs.Body.{BodyContext, BodyItem, bracket_end, bracket_open, change, closed, context_after}
+use Rattle.vcd_read.specs.Body.{BodyContext, BodyItem, dump_section_end, dump_section_open, change, closed}
+use Rattle.vcd_read.specs.Body.{context_after}
 use Rattle.vcd_read.specs.Body.{context_after_all, fitting, opened_at, skipped, time_after, time_item}
 use Rattle.vcd_read.specs.Body.{wrong}
 use Rattle.vcd_read.specs.Meaning.{times_from}
@@ -62,18 +63,23 @@ fitting_context nets s next line count found e =
     ap now_in (read_both (fitting nets count found) (λ net. Ok s) next read).2
 
 opened_context : (s next : BodyContext) (line : ℕ)
-    → at_line line (opened_at line s.bracket >>= λ bracket. Ok (record s { bracket = bracket })) ≡ Ok next
+    → at_line line (opened_at line s.dump_section >>= λ dump_section. Ok (record s { dump_section = dump_section }))
+    ≡ Ok next
     → s.now ≡ next.now
 opened_context s next line e =
-    let read = read_at line (opened_at line s.bracket >>= λ bracket. Ok (record s { bracket = bracket })) next e in
-    ap now_in (read_both (opened_at line s.bracket) (λ bracket. Ok (record s { bracket = bracket })) next read).2
+    let read = read_at line (opened_at line s.dump_section >>= λ dump_section. Ok
+    (record s { dump_section = dump_section })) next e in
+    ap now_in (read_both (opened_at line s.dump_section) (λ dump_section. Ok (record s { dump_section = dump_section }))
+    next read).2
 
 closed_context : (s next : BodyContext) (line : ℕ)
-    → at_line line (closed s.bracket >>= λ bracket. Ok (record s { bracket = bracket })) ≡ Ok next
+    → at_line line (closed s.dump_section >>= λ dump_section. Ok (record s { dump_section = dump_section })) ≡ Ok next
     → s.now ≡ next.now
 closed_context s next line e =
-    let read = read_at line (closed s.bracket >>= λ bracket. Ok (record s { bracket = bracket })) next e in
-    ap now_in (read_both (closed s.bracket) (λ bracket. Ok (record s { bracket = bracket })) next read).2
+    let read = read_at line (closed s.dump_section >>= λ dump_section. Ok (record s { dump_section = dump_section }))
+    next e in
+    ap now_in (read_both (closed s.dump_section) (λ dump_section. Ok (record s { dump_section = dump_section })) next
+    read).2
 
 module _ (nets : List Net) where
   -- the first of these items is read, and then the others
@@ -105,11 +111,11 @@ module _ (nets : List Net) where
       let read = first_read (skipped line code) items s end e in
       at_now s read.0 (times_told items) (fitting_context nets s read.0 line 0 (net_of nets code) read.1)
       (times_rise items read.0 end read.2)
-  times_rise (bracket_open line ∷ items) s end e =
-      let read = first_read (bracket_open line) items s end e in
+  times_rise (dump_section_open line ∷ items) s end e =
+      let read = first_read (dump_section_open line) items s end e in
       at_now s read.0 (times_told items) (opened_context s read.0 line read.1) (times_rise items read.0 end read.2)
-  times_rise (bracket_end line ∷ items) s end e =
-      let read = first_read (bracket_end line) items s end e in
+  times_rise (dump_section_end line ∷ items) s end e =
+      let read = first_read (dump_section_end line) items s end e in
       at_now s read.0 (times_told items) (closed_context s read.0 line read.1) (times_rise items read.0 end read.2)
   times_rise (wrong line kind ∷ items) s end e = absurd cc
 
@@ -156,10 +162,10 @@ module _ (nets : List Net) where
   times_known (skipped line code ∷ items) s end now time e among =
       times_known items (first_read (skipped line code) items s end e).0 end now time
       (first_read (skipped line code) items s end e).2 among
-  times_known (bracket_open line ∷ items) s end now time e among =
-      times_known items (first_read (bracket_open line) items s end e).0 end now time
-      (first_read (bracket_open line) items s end e).2 among
-  times_known (bracket_end line ∷ items) s end now time e among =
-      times_known items (first_read (bracket_end line) items s end e).0 end now time
-      (first_read (bracket_end line) items s end e).2 among
+  times_known (dump_section_open line ∷ items) s end now time e among =
+      times_known items (first_read (dump_section_open line) items s end e).0 end now time
+      (first_read (dump_section_open line) items s end e).2 among
+  times_known (dump_section_end line ∷ items) s end now time e among =
+      times_known items (first_read (dump_section_end line) items s end e).0 end now time
+      (first_read (dump_section_end line) items s end e).2 among
   times_known (wrong line kind ∷ items) s end now time e among = absurd cc

@@ -8,7 +8,7 @@ use Rattle.vcd_read.specs.Tokens.{Token, is_space, tokens}
 use Rattle.vcd_read.specs.Numbers.{time_of}
 use Rattle.vcd_read.specs.declared.fault.FaultKind.{FaultKind}
 use Rattle.vcd_read.specs.Header.{HeaderItem, whole, unfinished, stray, between, header_from}
-use Rattle.vcd_read.specs.Body.{BodyItem, time_item, change, skipped, bracket_open, bracket_end, wrong, ready}
+use Rattle.vcd_read.specs.Body.{BodyItem, time_item, change, skipped, dump_section_open, dump_section_end, wrong, ready}
 use Rattle.vcd_read.specs.Body.{body_from}
 use Rattle.vcd_read.specs.Meaning.{last_time}
 
@@ -59,8 +59,8 @@ abbrev pub time_told : BodyItem → Option ℕ
 time_told (time_item line digits) = if_time (time_of digits)
 time_told (change line digits code) = None
 time_told (skipped line code) = None
-time_told (bracket_open line) = None
-time_told (bracket_end line) = None
+time_told (dump_section_open line) = None
+time_told (dump_section_end line) = None
 time_told (wrong line kind) = None
 
 -- the times that the items of a body tell, in their order

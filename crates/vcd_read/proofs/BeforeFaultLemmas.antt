@@ -8,7 +8,8 @@ use Rattle.vcd_read.specs.declared.fault.VcdFault.{VcdFault}
 use Rattle.vcd_read.specs.Contents.{TimesAscend}
 use Rattle.vcd_read.specs.Numbers.{number}
 use Rattle.vcd_read.specs.Header.{◌>>=◌, Net}
-use Rattle.vcd_read.specs.Body.{BodyItem, time_item, change, skipped, bracket_open, bracket_end, wrong, BodyContext}
+use Rattle.vcd_read.specs.Body.{BodyItem, time_item, change, skipped, dump_section_open, dump_section_end, wrong}
+use Rattle.vcd_read.specs.Body.{BodyContext}
 use Rattle.vcd_read.specs.Body.{first_context, context_after}
 use Rattle.vcd_read.specs.Meaning.{instants_of, items_before_fault}
 use Rattle.vcd_read.specs.DumpProgress.{DumpProgress, DumpState, ended, flushed, progress_after, step, steps}
@@ -67,8 +68,8 @@ item_starts nets p (time_item line digits) h = time_starts (p.has_instant && not
     (number digits)
 item_starts nets p (change line digits code) h = λ e. absurd (cc e)
 item_starts nets p (skipped line code) h = h
-item_starts nets p (bracket_open line) h = h
-item_starts nets p (bracket_end line) h = h
+item_starts nets p (dump_section_open line) h = h
+item_starts nets p (dump_section_end line) h = h
 item_starts nets p (wrong line kind) h = h
 
 begins_step : (nets : List Net) (s : DumpState) (item : BodyItem) (items : List BodyItem)

@@ -10,7 +10,8 @@ use Rattle.vcd_read.specs.declared.fault.VcdFault.{VcdFault}
 use Rattle.vcd_read.specs.Tokens.{Token}
 use Rattle.vcd_read.specs.Numbers.{number, extended}
 use Rattle.vcd_read.specs.Header.{◌>>=◌, at_line, Net, net_of, size_of}
-use Rattle.vcd_read.specs.Body.{BodyItem, time_item, change, skipped, bracket_open, bracket_end, wrong, BodyContext}
+use Rattle.vcd_read.specs.Body.{BodyItem, time_item, change, skipped, dump_section_open, dump_section_end, wrong}
+use Rattle.vcd_read.specs.Body.{BodyContext}
 use Rattle.vcd_read.specs.Body.{context_after, at_the_end, fitting, ready, body_from}
 use Rattle.vcd_read.specs.Meaning.{ReadFails, ReadFailsAs, instants_from}
 use Rattle.vcd_read.specs.DumpProgress.{DumpProgress, values_from, flushed}
@@ -110,8 +111,8 @@ module _ {A : Type 0} (with_change : A → ℕ → List Bit → A) (with_instant
             (net_within nets code (some_net nets (length digits) line (net_of nets code) s next ok)) r,
       )
   on_item (skipped line code) s next p a ok r = (a, refl, r)
-  on_item (bracket_open line) s next p a ok r = (a, refl, r)
-  on_item (bracket_end line) s next p a ok r = (a, refl, r)
+  on_item (dump_section_open line) s next p a ok r = (a, refl, r)
+  on_item (dump_section_end line) s next p a ok r = (a, refl, r)
   on_item (wrong line kind) s next p a ok r = (a, refl, r)
 
   abbrev whole_of : DumpProgress → Result BodyContext VcdFault → Result Whole VcdFault

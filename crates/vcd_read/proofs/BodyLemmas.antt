@@ -14,7 +14,8 @@ use Rattle.vcd_read.specs.declared.body_piece.Start.TheVariants.{Here}
 use Rattle.vcd_read.specs.declared.open_item.OpenItem.{OpenItem}
 use Rattle.vcd_read.specs.declared.open_item.OpenItem.TheVariants.{Ready, Vector, Foreign, Comment}
 use Rattle.vcd_read.specs.Header.{◌>>=◌, Net, is_end}
-use Rattle.vcd_read.specs.Body.{BodyItem, time_item, change, skipped, bracket_open, bracket_end, wrong, BodyPlace}
+use Rattle.vcd_read.specs.Body.{BodyItem, time_item, change, skipped, dump_section_open, dump_section_end, wrong}
+use Rattle.vcd_read.specs.Body.{BodyPlace}
 use Rattle.vcd_read.specs.Body.{Shape, time_shape, scalar, vector, foreign, comment, open_shape, end_shape, none, ready}
 use Rattle.vcd_read.specs.Body.{code_of_vector, code_of_foreign, in_comment, body_from, shape_of}
 use Rattle.vcd_read.specs.Meaning.{ReadFailsAs, ReadGives}
@@ -33,8 +34,8 @@ items_of (scalar digits code) line ts = change line digits code ∷ body_from re
 items_of (vector digits) line ts = body_from (code_of_vector line digits) ts
 items_of foreign line ts = body_from (code_of_foreign line) ts
 items_of comment line ts = body_from (in_comment line) ts
-items_of open_shape line ts = bracket_open line ∷ body_from ready ts
-items_of end_shape line ts = bracket_end line ∷ body_from ready ts
+items_of open_shape line ts = dump_section_open line ∷ body_from ready ts
+items_of end_shape line ts = dump_section_end line ∷ body_from ready ts
 items_of none line ts = wrong line BadToken ∷ body_from ready ts
 
 pub shape_read : (t : Token) (ts : List Token) (shape : Shape) → shape ≡ shape_of t.bytes → body_from ready (t ∷ ts)
@@ -239,22 +240,25 @@ module _ {A : Type 0} (with_change : A → ℕ → List Bit → A) (with_instant
       (item_leaves nets s s2 item (body_from ready (left_at text at ++ more)) r h kept))
 
   -- the same by a reader of its own
-  pub read_on : {X : Type 0} (nets nets2 : List Net) (timed timed2 : BodyFold A) (bracket bracket2 : Option Start)
+  pub read_on : {X : Type 0} (nets nets2 : List Net) (timed timed2 : BodyFold A)
+      (dump_section dump_section2 : Option Start)
       (text text2 : BodyPiece) (after : ℕ) (item : BodyItem) (before : List Token → List BodyItem)
       (r : Result X VcdFault)
       → nets2 ≡ nets → text2 ≡ text
       → ((more : List Token) → before more ≡ item ∷ body_from ready (left_at text after ++ more))
-      → ReadGives (λ _. state_of text timed2 bracket2) r
-      (step with_change with_instant nets (state_of text timed bracket) item)
+      → ReadGives (λ _. state_of text timed2 dump_section2) r
+      (step with_change with_instant nets (state_of text timed dump_section) item)
       → KeepsTaken timed timed2 r
-      → BodyContinuesAs (λ more. until_fault with_change with_instant nets (state_of text timed bracket) (before more))
-      (λ more. until_fault with_change with_instant nets2 (state_of text2 timed2 bracket2)
+      → BodyContinuesAs (λ more. until_fault with_change with_instant nets (state_of text timed dump_section)
+      (before more))
+      (λ more. until_fault with_change with_instant nets2 (state_of text2 timed2 dump_section2)
       (body_from ready (left_at text2 after ++ more))) timed2.taken timed2.time r
-  read_on nets nets2 timed timed2 bracket bracket2 text text2 after item before r n t is h kept =
+  read_on nets nets2 timed timed2 dump_section dump_section2 text text2 after item before r n t is h kept =
       subst (λ (p : BodyPiece). BodyContinuesAs (λ more. until_fault with_change with_instant nets
-      (state_of text timed bracket) (before more)) (λ more. until_fault with_change with_instant nets2
-      (state_of p timed2 bracket2) (body_from ready (left_at p after ++ more))) timed2.taken timed2.time r) (sym t)
-      (read_item nets nets2 (state_of text timed bracket) (state_of text timed2 bracket2) text text after after Ready
+      (state_of text timed dump_section) (before more)) (λ more. until_fault with_change with_instant nets2
+      (state_of p timed2 dump_section2) (body_from ready (left_at p after ++ more))) timed2.taken timed2.time r) (sym t)
+      (read_item nets nets2 (state_of text timed dump_section) (state_of text timed2 dump_section2) text text after
+      after Ready
       item before r n refl refl refl is h kept)
 
   -- an item that is none
@@ -276,14 +280,15 @@ module _ {A : Type 0} (with_change : A → ℕ → List Bit → A) (with_instant
 
   -- what is ahead where what was read to is the same
   pub same_left : (nets nets2 : List Net) (text text2 : BodyPiece) (timed visitor2 : BodyFold A)
-      (bracket bracket2 : Option Start) (place place2 : BodyPlace) (at : ℕ) → nets2 ≡ nets → text2 ≡ text → visitor2
+      (dump_section dump_section2 : Option Start) (place place2 : BodyPlace) (at : ℕ) → nets2 ≡ nets → text2 ≡ text
+      → visitor2
       ≡ timed
-      → bracket2 ≡ bracket → place2 ≡ place
-      → (more : List Token) → until_fault with_change with_instant nets (state_of text timed bracket)
+      → dump_section2 ≡ dump_section → place2 ≡ place
+      → (more : List Token) → until_fault with_change with_instant nets (state_of text timed dump_section)
       (body_from place (left_at text at ++ more))
-      ≡ until_fault with_change with_instant nets2 (state_of text2 visitor2 bracket2)
+      ≡ until_fault with_change with_instant nets2 (state_of text2 visitor2 dump_section2)
       (body_from place2 (left_at text2 at ++ more))
-  same_left nets nets2 text text2 timed visitor2 bracket bracket2 place place2 at n t w b p more =
+  same_left nets nets2 text text2 timed visitor2 dump_section dump_section2 place place2 at n t w b p more =
       rw (n, t, w, b, p) refl
 
   -- a piece that is read to its end leaves what is behind it
@@ -294,50 +299,53 @@ module _ {A : Type 0} (with_change : A → ℕ → List Bit → A) (with_instant
   nothing_behind nets nets2 s place left n e more = rw (n, e) refl
 
   -- a token is at hand, and then it is read
-  pub token_left : (nets : List Net) (text text2 : BodyPiece) (timed : BodyFold A) (bracket : Option Start)
+  pub token_left : (nets : List Net) (text text2 : BodyPiece) (timed : BodyFold A) (dump_section : Option Start)
       (at at2 after : ℕ) (bytes : List ℕ) → text2 ≡ text → at2 ≡ at
       → left_at text at ≡ token_at text at bytes ∷ left_at text after
-      → (more : List Token) → until_fault with_change with_instant nets (state_of text timed bracket)
+      → (more : List Token) → until_fault with_change with_instant nets (state_of text timed dump_section)
       (body_from ready (left_at text at ++ more))
-      ≡ until_fault with_change with_instant nets (state_of text2 timed bracket)
+      ≡ until_fault with_change with_instant nets (state_of text2 timed dump_section)
       (body_from ready (token_at text2 at2 bytes ∷ (left_at text2 after ++ more)))
-  token_left nets text text2 timed bracket at at2 after bytes t a cut more =
-      rw (t, a) (ap (λ (ts : List Token). until_fault with_change with_instant nets (state_of text timed bracket)
+  token_left nets text text2 timed dump_section at at2 after bytes t a cut more =
+      rw (t, a) (ap (λ (ts : List Token). until_fault with_change with_instant nets (state_of text timed dump_section)
       (body_from ready (ts ++ more))) cut)
 
   -- the digits of a vector are at hand, and then they are read
-  pub vector_left : (nets : List Net) (text text2 : BodyPiece) (timed : BodyFold A) (bracket : Option Start)
+  pub vector_left : (nets : List Net) (text text2 : BodyPiece) (timed : BodyFold A) (dump_section : Option Start)
       (at at2 after : ℕ) (bytes digits : List ℕ) → text2 ≡ text → at2 ≡ at
       → shape_of bytes ≡ vector digits → left_at text at ≡ token_at text at bytes ∷ left_at text after
-      → (more : List Token) → until_fault with_change with_instant nets (state_of text timed bracket)
+      → (more : List Token) → until_fault with_change with_instant nets (state_of text timed dump_section)
       (body_from ready (left_at text at ++ more))
-      ≡ until_fault with_change with_instant nets (state_of text2 timed bracket)
+      ≡ until_fault with_change with_instant nets (state_of text2 timed dump_section)
       (body_from (code_of_vector (line_of text2 (Here at2)) digits) (left_at text2 after ++ more))
-  vector_left nets text text2 timed bracket at at2 after bytes digits t a shape cut more =
+  vector_left nets text text2 timed dump_section at at2 after bytes digits t a shape cut more =
       rw (t, a)
-      (ap (λ (ts : List Token). until_fault with_change with_instant nets (state_of text timed bracket)
+      (ap (λ (ts : List Token). until_fault with_change with_instant nets (state_of text timed dump_section)
       (body_from ready (ts ++ more))) cut
-      ∙ ap (until_fault with_change with_instant nets (state_of text timed bracket)) (shape_read
+      ∙ ap (until_fault with_change with_instant nets (state_of text timed dump_section)) (shape_read
       (token_at text at bytes)
       (left_at text after ++ more) (vector digits) (sym shape)))
 
   -- what isn't ended is met at the end
-  pub unfinished_fails : (nets : List Net) (timed : BodyFold A) (bracket : Option ℕ) (place : OpenItem) (line : ℕ)
-      → unfinished place bracket ≡ Some line
-      → finished with_change with_instant nets timed bracket (place_of place)
+  pub unfinished_fails : (nets : List Net) (timed : BodyFold A) (dump_section : Option ℕ) (place : OpenItem) (line : ℕ)
+      → unfinished place dump_section ≡ Some line
+      → finished with_change with_instant nets timed dump_section (place_of place)
       ≡ Err (record { line = line; kind = UnfinishedSection })
   unfolding steps body_from
-  unfinished_fails nets timed bracket Ready line e = ap (λ (b : Option ℕ). finished with_change with_instant nets timed
+  unfinished_fails nets timed dump_section Ready line e = ap (λ (b : Option ℕ). finished with_change with_instant nets
+      timed
       b ready) e
-  unfinished_fails nets timed bracket (Vector digits) line e = ap unfinished_at (same_some digits.line line e)
-  unfinished_fails nets timed bracket (Foreign at) line e = ap unfinished_at (same_some at line e)
-  unfinished_fails nets timed bracket (Comment at) line e = ap unfinished_at (same_some at line e)
+  unfinished_fails nets timed dump_section (Vector digits) line e = ap unfinished_at (same_some digits.line line e)
+  unfinished_fails nets timed dump_section (Foreign at) line e = ap unfinished_at (same_some at line e)
+  unfinished_fails nets timed dump_section (Comment at) line e = ap unfinished_at (same_some at line e)
 
-  pub finished-ok : (nets : List Net) (timed : BodyFold A) (bracket : Option ℕ) (place : OpenItem) → unfinished place
-      bracket ≡ None
-      → finished with_change with_instant nets timed bracket (place_of place) ≡ Ok (ended with_instant timed)
+  pub finished-ok : (nets : List Net) (timed : BodyFold A) (dump_section : Option ℕ) (place : OpenItem)
+      → unfinished place
+      dump_section ≡ None
+      → finished with_change with_instant nets timed dump_section (place_of place) ≡ Ok (ended with_instant timed)
   unfolding steps body_from
-  finished-ok nets timed bracket Ready e = ap (λ (b : Option ℕ). finished with_change with_instant nets timed b ready) e
-  finished-ok nets timed bracket (Vector digits) e = absurd (cc e)
-  finished-ok nets timed bracket (Foreign at) e = absurd (cc e)
-  finished-ok nets timed bracket (Comment at) e = absurd (cc e)
+  finished-ok nets timed dump_section Ready e = ap (λ (b : Option ℕ). finished with_change with_instant nets timed b
+      ready) e
+  finished-ok nets timed dump_section (Vector digits) e = absurd (cc e)
+  finished-ok nets timed dump_section (Foreign at) e = absurd (cc e)
+  finished-ok nets timed dump_section (Comment at) e = absurd (cc e)

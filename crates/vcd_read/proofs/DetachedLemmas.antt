@@ -15,7 +15,8 @@ use Rattle.vcd_read.specs.declared.open_item.OpenItem.{OpenItem}
 use Rattle.vcd_read.specs.declared.open_item.OpenItem.TheVariants.{Ready}
 use Rattle.vcd_read.specs.Bodies.{place_of}
 use Rattle.vcd_read.specs.Header.{◌>>=◌, at_line, is_end, Net, net_of, size_of}
-use Rattle.vcd_read.specs.Body.{BodyItem, time_item, change, skipped, bracket_open, bracket_end, wrong, BodyPlace}
+use Rattle.vcd_read.specs.Body.{BodyItem, time_item, change, skipped, dump_section_open, dump_section_end, wrong}
+use Rattle.vcd_read.specs.Body.{BodyPlace}
 use Rattle.vcd_read.specs.Body.{ready, code_of_vector, code_of_foreign, in_comment, Shape, time_shape, scalar, vector}
 use Rattle.vcd_read.specs.Body.{foreign, comment, open_shape, end_shape, none, BodyContext, context_after, time_after}
 use Rattle.vcd_read.specs.Body.{body_from, shape_of}
@@ -100,8 +101,8 @@ module _ {A : Type 0} (with_change : A → ℕ → List Bit → A) (with_instant
     item-keeps p (change line digits code) r = on_change p.taken (unwrap_or (net_of nets code) 0)
         (extended (size_of nets (unwrap_or (net_of nets code) 0)) digits) r
     item-keeps p (skipped line code) r = r
-    item-keeps p (bracket_open line) r = r
-    item-keeps p (bracket_end line) r = r
+    item-keeps p (dump_section_open line) r = r
+    item-keeps p (dump_section_end line) r = r
     item-keeps p (wrong line kind) r = r
 
     then-keeps : (items : List BodyItem) (p : BodyFold A) (stood : Result BodyContext VcdFault) (end : State A)
@@ -129,7 +130,7 @@ module _ {A : Type 0} (with_change : A → ℕ → List Bit → A) (with_instant
         → IsReadDetached with_change with_instant nets
         bytes before detached → R before → R detached.progress.taken
     kept-detached bytes before detached is r = steps-keep (before_piece before detached.time)
-        (detached_items detached.first_line bytes) (state_at detached.progress detached.bracket) r is.whole
+        (detached_items detached.first_line bytes) (state_at detached.progress detached.dump_section) r is.whole
 
   -- ---- tokens whose items are all whole, and others behind them
 
@@ -162,8 +163,8 @@ module _ {A : Type 0} (with_change : A → ℕ → List Bit → A) (with_instant
     shape-whole (vector digits) line ts s end rest h = rest (code_of_vector line digits) s end h
     shape-whole foreign line ts s end rest h = rest (code_of_foreign line) s end h
     shape-whole comment line ts s end rest h = rest (in_comment line) s end h
-    shape-whole open_shape line ts s end rest h = one-whole (bracket_open line) ts s end (rest ready) h
-    shape-whole end_shape line ts s end rest h = one-whole (bracket_end line) ts s end (rest ready) h
+    shape-whole open_shape line ts s end rest h = one-whole (dump_section_open line) ts s end (rest ready) h
+    shape-whole end_shape line ts s end rest h = one-whole (dump_section_end line) ts s end (rest ready) h
     shape-whole none line ts s end rest h = one-whole (wrong line BadToken) ts s end (rest ready) h
 
     comment-whole : (test : Bool) (line : ℕ) (ts : List Token) (s end : State A)
@@ -233,7 +234,7 @@ module _ {A : Type 0} (with_change : A → ℕ → List Bit → A) (with_instant
       → s.context.now ≤ n
       → steps with_change with_instant nets s (time_item line digits ∷ items)
       ≡ steps with_change with_instant nets (record {
-        context = record { now = n; bracket = s.context.bracket };
+        context = record { now = n; dump_section = s.context.dump_section };
         progress = advanced with_instant s.progress (number digits);
       }) items
   unfolding steps
@@ -274,8 +275,8 @@ module _ {A B : Type 0} (with_change : A → ℕ → List Bit → A) (with_insta
         (sym (on_change p.taken (unwrap_or (net_of nets code) 0)
         (extended (size_of nets (unwrap_or (net_of nets code) 0)) digits)))
     item-learned p (skipped line code) = refl
-    item-learned p (bracket_open line) = refl
-    item-learned p (bracket_end line) = refl
+    item-learned p (dump_section_open line) = refl
+    item-learned p (dump_section_end line) = refl
     item-learned p (wrong line kind) = refl
 
     then-learned : (items : List BodyItem) (p : BodyFold A) (stood : Result BodyContext VcdFault)
@@ -358,7 +359,7 @@ module _ {A B : Type 0} (with_change : A → ℕ → List Bit → A) (with_insta
         let is : time_of digits ≡ Ok n = time-read with_change with_instant nets (before_piece before time) end line
         digits items whole in
         let behind : State A = record {
-          context = record { now = n; bracket = None };
+          context = record { now = n; dump_section = None };
           progress = record
               { taken = before; time = n; has_instant = true };
         } in
@@ -373,7 +374,7 @@ module _ {A B : Type 0} (with_change : A → ℕ → List Bit → A) (with_insta
         (sym told2) in
         time-step other_change other_instant nets (state_at p None) line n digits items is (omega (arith, same, low))
         ∙ ap (λ (q : BodyFold B). steps other_change other_instant nets
-        (record { context = record { now = n; bracket = None }; progress = q }) items) there
+        (record { context = record { now = n; dump_section = None }; progress = q }) items) there
         ∙ steps-learned behind items
         ∙ ap (λ (r : Result (State A) VcdFault). r >>= λ end. Ok (learned_state end)) own
     first-learned (item ∷ items) before time end p first whole low told = absurd cc
@@ -389,17 +390,17 @@ module _ {A B : Type 0} (with_change : A → ℕ → List Bit → A) (with_insta
       more
   joined-leads r bytes before detached is fits told more =
       let ts : List Token = tokens_from detached.first_line bytes in
-      let end : State A = state_at detached.progress detached.bracket in
+      let end : State A = state_at detached.progress detached.dump_section in
       let s : State B = state_at r.progress None in
       let whole : body_from ready (ts ++ more) ≡ detached_items detached.first_line bytes ++ body_from ready more =
       are-whole
       with_change with_instant r.nets more ts ready (before_piece before detached.time) end is.whole in
-      ap (λ (line : ℕ). steps other_change other_instant r.nets (state_at r.progress r.bracket)
+      ap (λ (line : ℕ). steps other_change other_instant r.nets (state_at r.progress r.dump_section)
       (body_from r.place (tokens_from line bytes ++ more))) fits.line
-      ∙ ap (λ (place : BodyPlace). steps other_change other_instant r.nets (state_at r.progress r.bracket)
+      ∙ ap (λ (place : BodyPlace). steps other_change other_instant r.nets (state_at r.progress r.dump_section)
       (body_from place (ts ++ more))) fits.place
-      ∙ ap (λ (bracket : Option ℕ). steps other_change other_instant r.nets (state_at r.progress bracket)
-      (body_from ready (ts ++ more))) fits.bracket
+      ∙ ap (λ (dump_section : Option ℕ). steps other_change other_instant r.nets (state_at r.progress dump_section)
+      (body_from ready (ts ++ more))) fits.dump_section
       ∙ ap (steps other_change other_instant r.nets s) whole
       ∙ steps-append other_change other_instant r.nets s (detached_items detached.first_line bytes)
       (body_from ready more)

@@ -16,7 +16,8 @@ use Rattle.vcd_read.specs.declared.fault.VcdFault.{VcdFault}
 use Rattle.vcd_read.specs.Contents.{TimesAscend}
 use Rattle.vcd_read.specs.Numbers.{number, time_of}
 use Rattle.vcd_read.specs.Header.{◌>>=◌, at_line, Net, net_of}
-use Rattle.vcd_read.specs.Body.{BodyItem, time_item, change, skipped, bracket_open, bracket_end, wrong, BodyContext}
+use Rattle.vcd_read.specs.Body.{BodyItem, time_item, change, skipped, dump_section_open, dump_section_end, wrong}
+use Rattle.vcd_read.specs.Body.{BodyContext}
 use Rattle.vcd_read.specs.Body.{context_after, time_after, fitting, opened_at, closed}
 use Rattle.vcd_read.specs.Meaning.{NetChange, change_of, changes_from, times_from, last_at, value_of, value_at}
 use Rattle.vcd_read.specs.Meaning.{instant_at, instants_of}
@@ -70,10 +71,10 @@ stands nets s next (change line digits code) h = stays (fitting nets (length dig
     (λ net. s) (λ net. refl) h
 stands nets s next (skipped line code) h = stays (fitting nets 0 (net_of nets code)) line s next (λ net. s)
     (λ net. refl) h
-stands nets s next (bracket_open line) h = stays (opened_at line s.bracket) line s next
-    (λ bracket. record s { bracket = bracket }) (λ bracket. refl) h
-stands nets s next (bracket_end line) h = stays (closed s.bracket) line s next
-    (λ bracket. record s { bracket = bracket }) (λ bracket. refl) h
+stands nets s next (dump_section_open line) h = stays (opened_at line s.dump_section) line s next
+    (λ dump_section. record s { dump_section = dump_section }) (λ dump_section. refl) h
+stands nets s next (dump_section_end line) h = stays (closed s.dump_section) line s next
+    (λ dump_section. record s { dump_section = dump_section }) (λ dump_section. refl) h
 stands nets s next (wrong line kind) h = absurd cc
 
 step_is : (nets : List Net) (s next : DumpState) (item : BodyItem) → step nets s item ≡ Ok next
@@ -252,8 +253,8 @@ untouched nets (change line digits code ∷ items) now t current up lt =
     ap (applied t (changes_from nets now items)) (cond-false (eqb now t) _ current (eqb-earlier now t lt))
     ∙ untouched nets items now t current up.1 lt
 untouched nets (skipped line code ∷ items) now t current up lt = untouched nets items now t current up.1 lt
-untouched nets (bracket_open line ∷ items) now t current up lt = untouched nets items now t current up.1 lt
-untouched nets (bracket_end line ∷ items) now t current up lt = untouched nets items now t current up.1 lt
+untouched nets (dump_section_open line ∷ items) now t current up lt = untouched nets items now t current up.1 lt
+untouched nets (dump_section_end line ∷ items) now t current up lt = untouched nets items now t current up.1 lt
 untouched nets (wrong line kind ∷ items) now t current up lt = untouched nets items now t current up.1 lt
 
 -- two functions that are the same at later times
@@ -277,8 +278,10 @@ same_at_others f g (change line digits code ∷ items) first now up le same =
     let o = others_again now (times_from now items) in
     ap (map f) o ∙ same_at_others f g items first now up.1 le same ∙ sym (ap (map g) o)
 same_at_others f g (skipped line code ∷ items) first now up le same = same_at_others f g items first now up.1 le same
-same_at_others f g (bracket_open line ∷ items) first now up le same = same_at_others f g items first now up.1 le same
-same_at_others f g (bracket_end line ∷ items) first now up le same = same_at_others f g items first now up.1 le same
+same_at_others f g (dump_section_open line ∷ items) first now up le same = same_at_others f g items first now up.1 le
+    same
+same_at_others f g (dump_section_end line ∷ items) first now up le same = same_at_others f g items first now up.1 le
+    same
 same_at_others f g (wrong line kind ∷ items) first now up le same = same_at_others f g items first now up.1 le same
 
 -- ---- the fold
@@ -376,8 +379,8 @@ begun_law nets (change line digits code ∷ items) done now current len up =
     up.1
     ∙ ap (λ (is : List Instant). done ++ is) (at_change nets items now current c refl up.1)
 begun_law nets (skipped line code ∷ items) done now current len up = begun_law nets items done now current len up.1
-begun_law nets (bracket_open line ∷ items) done now current len up = begun_law nets items done now current len up.1
-begun_law nets (bracket_end line ∷ items) done now current len up = begun_law nets items done now current len up.1
+begun_law nets (dump_section_open line ∷ items) done now current len up = begun_law nets items done now current len up.1
+begun_law nets (dump_section_end line ∷ items) done now current len up = begun_law nets items done now current len up.1
 begun_law nets (wrong line kind ∷ items) done now current len up = begun_law nets items done now current len up.1
 
 -- what comes of the start
@@ -402,8 +405,8 @@ start_law nets (change line digits code ∷ items) now up =
     ∙ ap (map (fresh (length nets) (c ∷ changes_from nets now items)))
     (ap (λ (ts : List ℕ). now ∷ ts) (others_again now times) ∙ sym (dedup_is now times))
 start_law nets (skipped line code ∷ items) now up = start_law nets items now up.1
-start_law nets (bracket_open line ∷ items) now up = start_law nets items now up.1
-start_law nets (bracket_end line ∷ items) now up = start_law nets items now up.1
+start_law nets (dump_section_open line ∷ items) now up = start_law nets items now up.1
+start_law nets (dump_section_end line ∷ items) now up = start_law nets items now up.1
 start_law nets (wrong line kind ∷ items) now up = start_law nets items now up.1
 
 -- ---- the times ascend
@@ -440,8 +443,8 @@ others_rise (change line digits code ∷ items) now up =
     (λ (ts : List ℕ). now ∷ ts) (sym (others_again now (times_from now items))) in
     subst IsStrictlyIncreasing same (others_rise items now up.1)
 others_rise (skipped line code ∷ items) now up = others_rise items now up.1
-others_rise (bracket_open line ∷ items) now up = others_rise items now up.1
-others_rise (bracket_end line ∷ items) now up = others_rise items now up.1
+others_rise (dump_section_open line ∷ items) now up = others_rise items now up.1
+others_rise (dump_section_end line ∷ items) now up = others_rise items now up.1
 others_rise (wrong line kind ∷ items) now up = others_rise items now up.1
 
 times_rise : (items : List BodyItem) (now : ℕ) → Ascends now items → IsStrictlyIncreasing
@@ -453,8 +456,8 @@ times_rise (time_item line digits ∷ items) now up = subst IsStrictlyIncreasing
 times_rise (change line digits code ∷ items) now up = subst IsStrictlyIncreasing
     (sym (dedup_is now (times_from now items))) (others_rise items now up.1)
 times_rise (skipped line code ∷ items) now up = times_rise items now up.1
-times_rise (bracket_open line ∷ items) now up = times_rise items now up.1
-times_rise (bracket_end line ∷ items) now up = times_rise items now up.1
+times_rise (dump_section_open line ∷ items) now up = times_rise items now up.1
+times_rise (dump_section_end line ∷ items) now up = times_rise items now up.1
 times_rise (wrong line kind ∷ items) now up = times_rise items now up.1
 
 times_of : (f : ℕ → Instant) → ((t : ℕ) → (f t).time ≡ t) → (times : List ℕ) → map (λ (i : Instant). i.time)
@@ -466,7 +469,7 @@ times_of f same (t ∷ times) = ap (λ (u : ℕ). u ∷ map (λ (i : Instant). i
 abbrev pub at_start : List Net → DumpState
 at_start nets =
     record {
-      context = record { now = 0; bracket = None };
+      context = record { now = 0; dump_section = None };
       progress = record { done = []; time = 0; has_instant = false; current = replicate (length nets) None };
     }
 

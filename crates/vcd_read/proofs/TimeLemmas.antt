@@ -6,7 +6,8 @@ use Rattle.vcd_read.specs.declared.dump.Bit.{Bit}
 use Rattle.vcd_read.specs.declared.fault.VcdFault.{VcdFault}
 use Rattle.vcd_read.specs.Numbers.{number}
 use Rattle.vcd_read.specs.Header.{◌>>=◌, Net}
-use Rattle.vcd_read.specs.Body.{BodyItem, time_item, change, skipped, bracket_open, bracket_end, wrong, BodyContext}
+use Rattle.vcd_read.specs.Body.{BodyItem, time_item, change, skipped, dump_section_open, dump_section_end, wrong}
+use Rattle.vcd_read.specs.Body.{BodyContext}
 use Rattle.vcd_read.specs.Body.{context_after}
 use Rattle.vcd_read.specs.Meaning.{items_before_fault, last_time}
 use Rattle.vcd_read.specs.BodyFold.{State, BodyFold, progress_after, reached_before}
@@ -30,8 +31,8 @@ module _ {A : Type 0} (with_change : A → ℕ → List Bit → A) (with_instant
       (at_time (p.has_instant && not (number digits == p.time)) p (number digits))
   item_time p (change line digits code) items = refl
   item_time p (skipped line code) items = refl
-  item_time p (bracket_open line) items = refl
-  item_time p (bracket_end line) items = refl
+  item_time p (dump_section_open line) items = refl
+  item_time p (dump_section_end line) items = refl
   item_time p (wrong line kind) items = refl
 
   abbrev state_of : BodyFold A → Result BodyContext VcdFault → Result (State A) VcdFault

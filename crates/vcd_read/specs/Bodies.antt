@@ -23,12 +23,12 @@ place_of (Vector digits) = code_of_vector digits.line digits.bytes.items
 place_of (Foreign line) = code_of_foreign line
 place_of (Comment line) = in_comment line
 
--- the line of what isn't ended there: an item, or else the bracket that is open
+-- the line of what isn't ended there: an item, or else the dump section that is open
 abbrev pub unfinished : OpenItem → Option ℕ → Option ℕ
-unfinished Ready bracket = bracket
-unfinished (Vector digits) bracket = Some digits.line
-unfinished (Foreign line) bracket = Some line
-unfinished (Comment line) bracket = Some line
+unfinished Ready dump_section = dump_section
+unfinished (Vector digits) dump_section = Some digits.line
+unfinished (Foreign line) dump_section = Some line
+unfinished (Comment line) dump_section = Some line
 
 -- what reading gives, and how far it comes: up to the first fault, or behind all that is read
 pub record UntilFault (A : Type 0) : Type 0 where
@@ -38,12 +38,12 @@ pub record UntilFault (A : Type 0) : Type 0 where
 module _ {A : Type 0} (with_change : A → ℕ → List Bit → A) (with_instant : A → ℕ → A) where
   -- what reading gives from here on: these tokens, and more behind them
   abbrev pub ahead : List Net → BodyFold A → Option ℕ → BodyPlace → List Token → List Token → Result (State A) VcdFault
-  ahead nets timed bracket place tokens more = steps with_change with_instant nets (state_at timed bracket)
+  ahead nets timed dump_section place tokens more = steps with_change with_instant nets (state_at timed dump_section)
       (body_from place (tokens ++ more))
 
   -- the same where nothing is left of the body
   abbrev pub finished : List Net → BodyFold A → Option ℕ → BodyPlace → Result A VcdFault
-  finished nets timed bracket place = ahead nets timed bracket place [] [] >>= at_end with_instant
+  finished nets timed dump_section place = ahead nets timed dump_section place [] [] >>= at_end with_instant
 
   -- what reading these items gives, and how far it comes
   abbrev pub until_fault : List Net → State A → List BodyItem → UntilFault A
@@ -54,18 +54,19 @@ module _ {A : Type 0} (with_change : A → ℕ → List Bit → A) (with_instant
 
   -- the same from here on: these tokens, and more behind them
   abbrev pub ahead_until_fault : List Net → BodyFold A → Option ℕ → BodyPlace → List Token → List Token → UntilFault A
-  ahead_until_fault nets timed bracket place tokens more =
-      until_fault nets (state_at timed bracket) (body_from place (tokens ++ more))
+  ahead_until_fault nets timed dump_section place tokens more =
+      until_fault nets (state_at timed dump_section) (body_from place (tokens ++ more))
 
   -- what reading the rest of a piece gives, from a place in the grammar on
   abbrev pub remaining_in : BodyPlace → List Net → Reader → BodyFold A → Option Start → List Token → UntilFault A
-  remaining_in place nets reader timed bracket more =
-      until_fault nets (state_of reader.text timed bracket) (body_from place (left_at reader.text reader.at ++ more))
+  remaining_in place nets reader timed dump_section more =
+      until_fault nets (state_of reader.text timed dump_section)
+      (body_from place (left_at reader.text reader.at ++ more))
 
   -- the same with a token before it
   abbrev pub from_token : ℕ → List ℕ → List Net → Reader → BodyFold A → Option Start → List Token → UntilFault A
-  from_token at bytes nets reader timed bracket more =
-      until_fault nets (state_of reader.text timed bracket)
+  from_token at bytes nets reader timed dump_section more =
+      until_fault nets (state_of reader.text timed dump_section)
       (body_from ready (token_at reader.text at bytes ∷ (left_at reader.text reader.at ++ more)))
 
 -- ---- where reading stops

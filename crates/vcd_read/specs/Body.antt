@@ -1,4 +1,4 @@
--- The body: times, changes and brackets, and their first fault.
+-- The body: times, changes and dump sections, and their first fault.
 use Rattle.std.specs.Prelude.{ℕ, nat_lt, Bool, true, false, ◌&&◌, ◌||◌, not, ◌==◌, if◌then◌else◌, List, [], ◌∷◌, length}
 use Rattle.std.specs.Prelude.{Option, Some, None, Result, Ok, Err, codes, bytes_eq}
 use Rattle.std.specs.List.{list_all}
@@ -19,8 +19,8 @@ pub data BodyItem : Type 0 where
   change : ℕ → List ℕ → List ℕ → BodyItem
   -- a code whose value is none of bits
   skipped : ℕ → List ℕ → BodyItem
-  bracket_open : ℕ → BodyItem
-  bracket_end : ℕ → BodyItem
+  dump_section_open : ℕ → BodyItem
+  dump_section_end : ℕ → BodyItem
   -- what is no item
   wrong : ℕ → FaultKind → BodyItem
 
@@ -36,14 +36,14 @@ pub data Shape : Type 0 where
   end_shape : Shape
   none : Shape
 
-abbrev pub opens_bracket : List ℕ → Bool
-opens_bracket word =
+abbrev pub opens_dump_section : List ℕ → Bool
+opens_dump_section word =
     bytes_eq word (codes "$dumpvars") || bytes_eq word (codes "$dumpall") || bytes_eq word (codes "$dumpon")
     || bytes_eq word (codes "$dumpoff")
 
 abbrev pub keyword_shape : List ℕ → Shape
 keyword_shape word =
-    if is_end word then end_shape else if opens_bracket word then open_shape
+    if is_end word then end_shape else if opens_dump_section word then open_shape
     else if bytes_eq word (codes "$comment") then comment else none
 
 abbrev pub are_bits : List ℕ → Bool
@@ -78,8 +78,8 @@ body_from ready (t ∷ ts) =
       | vector digits ↦ body_from (code_of_vector t.line digits) ts
       | foreign ↦ body_from (code_of_foreign t.line) ts
       | comment ↦ body_from (in_comment t.line) ts
-      | open_shape ↦ bracket_open t.line ∷ body_from ready ts
-      | end_shape ↦ bracket_end t.line ∷ body_from ready ts
+      | open_shape ↦ dump_section_open t.line ∷ body_from ready ts
+      | end_shape ↦ dump_section_end t.line ∷ body_from ready ts
       | none ↦ wrong t.line BadToken ∷ body_from ready ts
     ]
 body_from (code_of_vector line digits) [] = wrong line UnfinishedSection ∷ []
@@ -95,10 +95,10 @@ body_from (in_comment line) (t ∷ ts) = elim (is_end t.bytes) [
 
 -- ---- the first fault
 
--- the current time, and the line of the bracket that is open
+-- the current time, and the line of the dump section that is open
 pub record BodyContext : Type 0 where
   pub now : ℕ
-  pub bracket : Option ℕ
+  pub dump_section : Option ℕ
 
 abbrev pub time_after : ℕ → ℕ → Result ℕ FaultKind
 time_after now time = if nat_lt time now then Err TimeBackwards else Ok time
@@ -122,20 +122,20 @@ context_after nets s (time_item line digits) = at_line line
 context_after nets s (change line digits code) = at_line line
     (fitting nets (length digits) (net_of nets code) >>= λ net. Ok s)
 context_after nets s (skipped line code) = at_line line (fitting nets 0 (net_of nets code) >>= λ net. Ok s)
-context_after nets s (bracket_open line) = at_line line
-    (opened_at line s.bracket >>= λ bracket. Ok (record s { bracket = bracket }))
-context_after nets s (bracket_end line) = at_line line
-    (closed s.bracket >>= λ bracket. Ok (record s { bracket = bracket }))
+context_after nets s (dump_section_open line) = at_line line
+    (opened_at line s.dump_section >>= λ dump_section. Ok (record s { dump_section = dump_section }))
+context_after nets s (dump_section_end line) = at_line line
+    (closed s.dump_section >>= λ dump_section. Ok (record s { dump_section = dump_section }))
 context_after nets s (wrong line kind) = Err (record { line = line; kind = kind })
 
 unfoldable pub context_after_all : List Net → BodyContext → List BodyItem → Result BodyContext VcdFault
 context_after_all nets s [] = Ok s
 context_after_all nets s (item ∷ items) = context_after nets s item >>= λ next. context_after_all nets next items
 
--- an open bracket is met at the end of the text
+-- an open dump section is met at the end of the text
 abbrev pub at_the_end : BodyContext → Result BodyContext VcdFault
-at_the_end s = elim s.bracket [ None ↦ Ok s | Some line ↦ Err (record { line = line; kind = UnfinishedSection }) ]
+at_the_end s = elim s.dump_section [ None ↦ Ok s | Some line ↦ Err (record { line = line; kind = UnfinishedSection }) ]
 
--- a body is read from time 0, with no bracket open
+-- a body is read from time 0, with no dump section open
 abbrev pub first_context : BodyContext
-first_context = record { now = 0; bracket = None }
+first_context = record { now = 0; dump_section = None }

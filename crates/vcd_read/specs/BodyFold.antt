@@ -26,18 +26,21 @@ pub record State (A : Type 0) : Type 0 where
   pub context : BodyContext
   pub progress : BodyFold A
 
--- how far a body is read, with the line of the bracket that is open
+-- how far a body is read, with the line of the dump section that is open
 abbrev pub state_at : {A : Type 0} → BodyFold A → Option ℕ → State A
-state_at timed bracket = record { context = record { now = timed.time; bracket = bracket }; progress = timed }
+state_at timed dump_section = record {
+  context = record { now = timed.time; dump_section = dump_section };
+  progress = timed;
+}
 
 -- the same, where it starts in the piece that is read, or before it
 abbrev pub state_of : {A : Type 0} → BodyPiece → BodyFold A → Option Start → State A
-state_of text timed bracket = state_at timed (option_map (line_of text) bracket)
+state_of text timed dump_section = state_at timed (option_map (line_of text) dump_section)
 
 -- before any item
 abbrev pub at_first : {A : Type 0} → A → State A
 at_first a = record {
-  context = record { now = 0; bracket = None };
+  context = record { now = 0; dump_section = None };
   progress = record { taken = a; time = 0; has_instant = false };
 }
 

@@ -10,15 +10,16 @@ use Rattle.vcd_read.specs.Body.{BodyItem, time_item, ready, body_from}
 use Rattle.vcd_read.specs.BodyFold.{BodyFold, State, body_fold, state_at, steps}
 use Rattle.vcd_read.specs.Reached.{Reached}
 
--- What came of a piece that was read as if between two items, outside of brackets, at the time that it begins with.
+-- What came of a piece that was read as if between two items, outside of dump sections, at the time that it begins
+-- with.
 pub record ReadDetached (A : Type 0) : Type 0 where
   -- the time that it begins with
   pub time : ℕ
   -- the line that it begins on
   pub first_line : ℕ
   pub progress : BodyFold A
-  -- the line of the bracket that is open behind it
-  pub bracket : Option ℕ
+  -- the line of the dump section that is open behind it
+  pub dump_section : Option ℕ
   -- the line that it ends on
   pub line : ℕ
 
@@ -29,7 +30,7 @@ read_detached taken a =
       time = a.time;
       first_line = a.first_line;
       progress = body_fold (taken a.timed.visitor) a.timed.clock;
-      bracket = a.bracket;
+      dump_section = a.dump_section;
       line = a.line;
     }
 
@@ -39,7 +40,7 @@ time_first [] = None
 time_first (time_item line digits ∷ items) = Some (number digits)
 time_first (item ∷ items) = None
 
--- before a piece: no bracket, and no instant at the time that it begins with
+-- before a piece: no dump section, and no instant at the time that it begins with
 abbrev pub before_piece : {A : Type 0} → A → ℕ → State A
 before_piece before time = state_at (record { taken = before; time = time; has_instant = false }) None
 
@@ -52,14 +53,14 @@ pub record IsReadDetached {A : Type 0} (with_change : A → ℕ → List Bit →
     (nets : List Net) (bytes : List ℕ) (before : A) (detached : ReadDetached A) : Type 0 where
   pub begins : time_first (detached_items detached.first_line bytes) ≡ Some detached.time
   pub whole : steps with_change with_instant nets (before_piece before detached.time)
-      (detached_items detached.first_line bytes) ≡ Ok (state_at detached.progress detached.bracket)
+      (detached_items detached.first_line bytes) ≡ Ok (state_at detached.progress detached.dump_section)
   pub line : detached.line ≡ line_behind detached.first_line bytes
 
--- a piece that was read by itself fits behind what is read so far: between two items, outside of brackets, at no later
--- time
+-- a piece that was read by itself fits behind what is read so far: between two items, outside of dump sections, at no
+-- later time
 pub record MayFollow {A B : Type 0} (r : Reached B) (detached : ReadDetached A) : Type 0 where
   pub place : r.place ≡ ready
-  pub bracket : r.bracket ≡ None
+  pub dump_section : r.dump_section ≡ None
   pub time : r.progress.time ≤ detached.time
   pub line : r.line ≡ detached.first_line
 
@@ -78,7 +79,7 @@ behind_piece nets detached =
     record {
       nets = nets;
       progress = detached.progress;
-      bracket = detached.bracket;
+      dump_section = detached.dump_section;
       place = ready;
       line =
           detached.line;
@@ -90,7 +91,7 @@ with_taken b r =
     record {
       nets = r.nets;
       progress = record { taken = b; time = r.progress.time; has_instant = r.progress.has_instant };
-      bracket = r.bracket;
+      dump_section = r.dump_section;
       place = r.place;
       line = r.line;
     }
@@ -102,6 +103,6 @@ detached_with b a =
       time = a.time;
       first_line = a.first_line;
       progress = record { taken = b; time = a.progress.time; has_instant = a.progress.has_instant };
-      bracket = a.bracket;
+      dump_section = a.dump_section;
       line = a.line;
     }

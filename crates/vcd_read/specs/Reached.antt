@@ -13,8 +13,8 @@ use Rattle.vcd_read.specs.Bodies.{UntilFault, ahead, ahead_until_fault, finished
 pub record Reached (A : Type 0) : Type 0 where
   pub nets : List Net
   pub progress : BodyFold A
-  -- the line of the bracket that is open
-  pub bracket : Option ℕ
+  -- the line of the dump section that is open
+  pub dump_section : Option ℕ
   pub place : BodyPlace
   -- the line that the next piece begins on
   pub line : ℕ
@@ -25,7 +25,7 @@ reached taken p =
     record {
       nets = p.codes;
       progress = body_fold (taken p.state.timed.visitor) p.state.timed.clock;
-      bracket = p.state.bracket;
+      dump_section = p.state.dump_section;
       place = place_of p.state.place;
       line = p.line;
     }
@@ -33,13 +33,14 @@ reached taken p =
 module _ {A : Type 0} (with_change : A → ℕ → List Bit → A) (with_instant : A → ℕ → A) where
   -- what reading gives from there on: these tokens, and more behind them
   abbrev pub rest_of : Reached A → List Token → List Token → Result (State A) VcdFault
-  rest_of r tokens more = ahead with_change with_instant r.nets r.progress r.bracket r.place tokens more
+  rest_of r tokens more = ahead with_change with_instant r.nets r.progress r.dump_section r.place tokens more
 
   -- the same, and how far it comes
   abbrev pub rest_until_fault : Reached A → List Token → List Token → UntilFault A
-  rest_until_fault r tokens more = ahead_until_fault with_change with_instant r.nets r.progress r.bracket r.place tokens
+  rest_until_fault r tokens more = ahead_until_fault with_change with_instant r.nets r.progress r.dump_section r.place
+      tokens
       more
 
   -- what comes of it where nothing is left of the body
   abbrev pub outcome_of : Reached A → Result A VcdFault
-  outcome_of r = finished with_change with_instant r.nets r.progress r.bracket r.place
+  outcome_of r = finished with_change with_instant r.nets r.progress r.dump_section r.place

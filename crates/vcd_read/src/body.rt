@@ -1,4 +1,4 @@
-//! The body: times, changes and brackets.
+//! The body: times, changes and dump sections.
 
 ghost use Rattle.std.specs.Prelude.{◌≡◌, ℕ, List, [], ◌<◌, ◌≤◌, length, slice_index, option_map, Ok, OnOk, IfOk, true};
 ghost use Rattle.std.specs.Prelude.{false};
@@ -7,7 +7,8 @@ ghost use Rattle.vcd_read.specs.Tokens.{is_space};
 ghost use Rattle.vcd_read.specs.Numbers.{time_of};
 ghost use Rattle.vcd_read.specs.Reading.{IsStart, left_at, line_of};
 ghost use Rattle.vcd_read.specs.declared.body_piece.BodyPiece.{BodyPiece};
-ghost use Rattle.vcd_read.specs.Body.{time_item, change, skipped, bracket_open, bracket_end, ready, code_of_vector};
+ghost use Rattle.vcd_read.specs.Body.{time_item, change, skipped, dump_section_open, dump_section_end, ready};
+ghost use Rattle.vcd_read.specs.Body.{code_of_vector};
 ghost use Rattle.vcd_read.specs.Body.{code_of_foreign, in_comment};
 ghost use Rattle.vcd_read.specs.BodyFold.{body_fold, state_of, step};
 ghost use Rattle.vcd_read.specs.Bodies.{BodyContinuesTo, BodyContinuesAs, ContinuesOrStops, KeepsTaken, ahead};
@@ -36,10 +37,10 @@ pub(crate) struct Body<'a, 'c, T: ChangeVisitor> {
     reader: Reader<'a>,
     codes: &'c Codes,
     timed: TimedVisitor<T>,
-    /// Where the bracket that is open starts.
-    bracket: Option<Start>,
+    /// Where the dump section that is open starts.
+    dump_section: Option<Start>,
     place: OpenItem,
-    ghost bracket_within: { ForSome bracket (λ start. IsStart reader.text start) },
+    ghost dump_section_within: { ForSome dump_section (λ start. IsStart reader.text start) },
 }
 
 impl<'a, 'c, T: ChangeVisitor> Body<'a, 'c, T> {
@@ -55,9 +56,9 @@ impl<'a, 'c, T: ChangeVisitor> Body<'a, 'c, T> {
         ensures end { result ≡ Ok false → left_at self.new.reader.text self.new.reader.at ≡ [] }
         ensures rest { BodyContinuesAs
             (remaining_in T.with_change T.with_instant (place_of self.old.place) self.old.codes.now self.old.reader
-            (body_fold (T.taken self.old.timed.visitor) self.old.timed.clock) self.old.bracket)
+            (body_fold (T.taken self.old.timed.visitor) self.old.timed.clock) self.old.dump_section)
             (remaining_in T.with_change T.with_instant (place_of self.new.place) self.new.codes.now self.new.reader
-            (body_fold (T.taken self.new.timed.visitor) self.new.timed.clock) self.new.bracket)
+            (body_fold (T.taken self.new.timed.visitor) self.new.timed.clock) self.new.dump_section)
             (T.taken self.new.timed.visitor) self.new.timed.clock.time result }
     {
         if !self.reader.finds_token() {
@@ -79,9 +80,9 @@ impl<'a, 'c, T: ChangeVisitor> Body<'a, 'c, T> {
         ensures between { self.new.place ≡ Ready }
         ensures rest { BodyContinuesAs
             (remaining_in T.with_change T.with_instant ready self.old.codes.now self.old.reader
-            (body_fold (T.taken self.old.timed.visitor) self.old.timed.clock) self.old.bracket)
+            (body_fold (T.taken self.old.timed.visitor) self.old.timed.clock) self.old.dump_section)
             (remaining_in T.with_change T.with_instant ready self.new.codes.now self.new.reader
-            (body_fold (T.taken self.new.timed.visitor) self.new.timed.clock) self.new.bracket)
+            (body_fold (T.taken self.new.timed.visitor) self.new.timed.clock) self.new.dump_section)
             (T.taken self.new.timed.visitor) self.new.timed.clock.time result }
     {
         let mut reader = self.reader.again();
@@ -101,9 +102,9 @@ impl<'a, 'c, T: ChangeVisitor> Body<'a, 'c, T> {
         ensures moves { result ≡ Ok true → reader.old.at < reader.new.at }
         ensures rest { BodyContinuesAs
             (remaining_in T.with_change T.with_instant ready self.old.codes.now reader.old
-            (body_fold (T.taken self.old.timed.visitor) self.old.timed.clock) self.old.bracket)
+            (body_fold (T.taken self.old.timed.visitor) self.old.timed.clock) self.old.dump_section)
             (remaining_in T.with_change T.with_instant ready self.new.codes.now reader.new
-            (body_fold (T.taken self.new.timed.visitor) self.new.timed.clock) self.new.bracket)
+            (body_fold (T.taken self.new.timed.visitor) self.new.timed.clock) self.new.dump_section)
             (T.taken self.new.timed.visitor) self.new.timed.clock.time result }
     {
         if !reader.finds_token() {
@@ -127,9 +128,9 @@ impl<'a, 'c, T: ChangeVisitor> Body<'a, 'c, T> {
         ensures moves { result ≡ Ok true → reader.old.at < reader.new.at }
         ensures rest { BodyContinuesAs
             (remaining_in T.with_change T.with_instant ready self.old.codes.now reader.old
-            (body_fold (T.taken self.old.timed.visitor) self.old.timed.clock) self.old.bracket)
+            (body_fold (T.taken self.old.timed.visitor) self.old.timed.clock) self.old.dump_section)
             (remaining_in T.with_change T.with_instant ready self.new.codes.now reader.new
-            (body_fold (T.taken self.new.timed.visitor) self.new.timed.clock) self.new.bracket)
+            (body_fold (T.taken self.new.timed.visitor) self.new.timed.clock) self.new.dump_section)
             (T.taken self.new.timed.visitor) self.new.timed.clock.time result }
     {
         let at = reader.at;
@@ -152,9 +153,9 @@ impl<'a, 'c, T: ChangeVisitor> Body<'a, 'c, T> {
         ensures moves { result ≡ Ok true → reader.old.at < reader.new.at }
         ensures rest { BodyContinuesAs
             (remaining_in T.with_change T.with_instant ready self.old.codes.now reader.old
-            (body_fold (T.taken self.old.timed.visitor) self.old.timed.clock) self.old.bracket)
+            (body_fold (T.taken self.old.timed.visitor) self.old.timed.clock) self.old.dump_section)
             (remaining_in T.with_change T.with_instant ready self.new.codes.now reader.new
-            (body_fold (T.taken self.new.timed.visitor) self.new.timed.clock) self.new.bracket)
+            (body_fold (T.taken self.new.timed.visitor) self.new.timed.clock) self.new.dump_section)
             (T.taken self.new.timed.visitor) self.new.timed.clock.time result }
     {
         let at = reader.at;
@@ -181,9 +182,9 @@ impl<'a, 'c, T: ChangeVisitor> Body<'a, 'c, T> {
         ensures end { result ≡ Ok false → left_at self.new.reader.text self.new.reader.at ≡ [] }
         ensures rest { BodyContinuesAs
             (from_token T.with_change T.with_instant token.entry.at token.entry.bytes.now self.old.codes.now
-            self.old.reader (body_fold (T.taken self.old.timed.visitor) self.old.timed.clock) self.old.bracket)
+            self.old.reader (body_fold (T.taken self.old.timed.visitor) self.old.timed.clock) self.old.dump_section)
             (remaining_in T.with_change T.with_instant (place_of self.new.place) self.new.codes.now self.new.reader
-            (body_fold (T.taken self.new.timed.visitor) self.new.timed.clock) self.new.bracket)
+            (body_fold (T.taken self.new.timed.visitor) self.new.timed.clock) self.new.dump_section)
             (T.taken self.new.timed.visitor) self.new.timed.clock.time result }
     {
         let start = Start::Here(token.at);
@@ -207,9 +208,9 @@ impl<'a, 'c, T: ChangeVisitor> Body<'a, 'c, T> {
             (body_fold (T.taken self.new.timed.visitor) self.new.timed.clock) result }
         ensures goes_on { IfOk result (λ goes_on. goes_on ≡ true) }
         ensures step { ReadGives (λ _. state_of self.new.reader.text
-            (body_fold (T.taken self.new.timed.visitor) self.new.timed.clock) self.new.bracket) result
+            (body_fold (T.taken self.new.timed.visitor) self.new.timed.clock) self.new.dump_section) result
             (step T.with_change T.with_instant self.old.codes.now (state_of self.old.reader.text
-            (body_fold (T.taken self.old.timed.visitor) self.old.timed.clock) self.old.bracket)
+            (body_fold (T.taken self.old.timed.visitor) self.old.timed.clock) self.old.dump_section)
             (time_item (line_of self.old.reader.text start) digits.now)) }
     {
         match decimal(digits, u64::MAX, FaultKind::BadToken) {
@@ -228,9 +229,9 @@ impl<'a, 'c, T: ChangeVisitor> Body<'a, 'c, T> {
             (body_fold (T.taken self.new.timed.visitor) self.new.timed.clock) result }
         ensures goes_on { IfOk result (λ goes_on. goes_on ≡ true) }
         ensures step { (digits : List ℕ) → time_of digits ≡ Ok time → ReadGives (λ _. state_of self.new.reader.text
-            (body_fold (T.taken self.new.timed.visitor) self.new.timed.clock) self.new.bracket) result
+            (body_fold (T.taken self.new.timed.visitor) self.new.timed.clock) self.new.dump_section) result
             (step T.with_change T.with_instant self.old.codes.now (state_of self.old.reader.text
-            (body_fold (T.taken self.old.timed.visitor) self.old.timed.clock) self.old.bracket)
+            (body_fold (T.taken self.old.timed.visitor) self.old.timed.clock) self.old.dump_section)
             (time_item (line_of self.old.reader.text start) digits)) }
     {
         if time < self.timed.clock.time {
@@ -256,9 +257,9 @@ impl<'a, 'c, T: ChangeVisitor> Body<'a, 'c, T> {
             (body_fold (T.taken self.new.timed.visitor) self.new.timed.clock) result }
         ensures goes_on { IfOk result (λ goes_on. goes_on ≡ true) }
         ensures step { ReadGives (λ _. state_of self.new.reader.text
-            (body_fold (T.taken self.new.timed.visitor) self.new.timed.clock) self.new.bracket) result
+            (body_fold (T.taken self.new.timed.visitor) self.new.timed.clock) self.new.dump_section) result
             (step T.with_change T.with_instant self.old.codes.now (state_of self.old.reader.text
-            (body_fold (T.taken self.old.timed.visitor) self.old.timed.clock) self.old.bracket)
+            (body_fold (T.taken self.old.timed.visitor) self.old.timed.clock) self.old.dump_section)
             (change (line_of self.old.reader.text start) digits.now code.now)) }
     {
         let net = match self.codes.find(code) {
@@ -285,9 +286,9 @@ impl<'a, 'c, T: ChangeVisitor> Body<'a, 'c, T> {
         ensures rest { BodyContinuesAs
             (remaining_in T.with_change T.with_instant (code_of_vector (line_of self.old.reader.text start) digits.now)
             self.old.codes.now self.old.reader
-            (body_fold (T.taken self.old.timed.visitor) self.old.timed.clock) self.old.bracket)
+            (body_fold (T.taken self.old.timed.visitor) self.old.timed.clock) self.old.dump_section)
             (remaining_in T.with_change T.with_instant (place_of self.new.place) self.new.codes.now self.new.reader
-            (body_fold (T.taken self.new.timed.visitor) self.new.timed.clock) self.new.bracket)
+            (body_fold (T.taken self.new.timed.visitor) self.new.timed.clock) self.new.dump_section)
             (T.taken self.new.timed.visitor) self.new.timed.clock.time result }
     {
         match self.reader.next() {
@@ -312,9 +313,9 @@ impl<'a, 'c, T: ChangeVisitor> Body<'a, 'c, T> {
         ensures rest { BodyContinuesAs
             (remaining_in T.with_change T.with_instant (code_of_foreign (line_of self.old.reader.text start))
             self.old.codes.now self.old.reader
-            (body_fold (T.taken self.old.timed.visitor) self.old.timed.clock) self.old.bracket)
+            (body_fold (T.taken self.old.timed.visitor) self.old.timed.clock) self.old.dump_section)
             (remaining_in T.with_change T.with_instant (place_of self.new.place) self.new.codes.now self.new.reader
-            (body_fold (T.taken self.new.timed.visitor) self.new.timed.clock) self.new.bracket)
+            (body_fold (T.taken self.new.timed.visitor) self.new.timed.clock) self.new.dump_section)
             (T.taken self.new.timed.visitor) self.new.timed.clock.time result }
     {
         match self.reader.next() {
@@ -330,9 +331,10 @@ impl<'a, 'c, T: ChangeVisitor> Body<'a, 'c, T> {
         requires { IsStart self.now.reader.text start }
         ensures goes_on { IfOk result (λ goes_on. goes_on ≡ true) }
         ensures step { ReadGives (λ _. state_of self.entry.now.reader.text
-            (body_fold (T.taken self.entry.now.timed.visitor) self.entry.now.timed.clock) self.entry.now.bracket) result
+            (body_fold (T.taken self.entry.now.timed.visitor) self.entry.now.timed.clock) self.entry.now.dump_section)
+            result
             (step T.with_change T.with_instant self.entry.now.codes.now (state_of self.entry.now.reader.text
-            (body_fold (T.taken self.entry.now.timed.visitor) self.entry.now.timed.clock) self.entry.now.bracket)
+            (body_fold (T.taken self.entry.now.timed.visitor) self.entry.now.timed.clock) self.entry.now.dump_section)
             (skipped (line_of self.entry.now.reader.text start) code.now)) }
     {
         match self.codes.net(code) {
@@ -353,9 +355,9 @@ impl<'a, 'c, T: ChangeVisitor> Body<'a, 'c, T> {
         ensures rest { BodyContinuesAs
             (remaining_in T.with_change T.with_instant (in_comment (line_of self.old.reader.text start))
             self.old.codes.now self.old.reader
-            (body_fold (T.taken self.old.timed.visitor) self.old.timed.clock) self.old.bracket)
+            (body_fold (T.taken self.old.timed.visitor) self.old.timed.clock) self.old.dump_section)
             (remaining_in T.with_change T.with_instant (place_of self.new.place) self.new.codes.now self.new.reader
-            (body_fold (T.taken self.new.timed.visitor) self.new.timed.clock) self.new.bracket)
+            (body_fold (T.taken self.new.timed.visitor) self.new.timed.clock) self.new.dump_section)
             (T.taken self.new.timed.visitor) self.new.timed.clock.time result }
     {
         while let Some(word) = self.reader.next() {
@@ -375,15 +377,15 @@ impl<'a, 'c, T: ChangeVisitor> Body<'a, 'c, T> {
             (body_fold (T.taken self.new.timed.visitor) self.new.timed.clock) result }
         ensures goes_on { IfOk result (λ goes_on. goes_on ≡ true) }
         ensures step { ReadGives (λ _. state_of self.new.reader.text
-            (body_fold (T.taken self.new.timed.visitor) self.new.timed.clock) self.new.bracket) result
+            (body_fold (T.taken self.new.timed.visitor) self.new.timed.clock) self.new.dump_section) result
             (step T.with_change T.with_instant self.old.codes.now (state_of self.old.reader.text
-            (body_fold (T.taken self.old.timed.visitor) self.old.timed.clock) self.old.bracket)
-            (bracket_open (line_of self.old.reader.text start))) }
+            (body_fold (T.taken self.old.timed.visitor) self.old.timed.clock) self.old.dump_section)
+            (dump_section_open (line_of self.old.reader.text start))) }
     {
-        if self.bracket.is_some() {
+        if self.dump_section.is_some() {
             return Err(self.reader.fault(start, FaultKind::BadToken));
         }
-        self.bracket = Some(start);
+        self.dump_section = Some(start);
         Ok(true)
     }
 
@@ -395,15 +397,15 @@ impl<'a, 'c, T: ChangeVisitor> Body<'a, 'c, T> {
             (body_fold (T.taken self.new.timed.visitor) self.new.timed.clock) result }
         ensures goes_on { IfOk result (λ goes_on. goes_on ≡ true) }
         ensures step { ReadGives (λ _. state_of self.new.reader.text
-            (body_fold (T.taken self.new.timed.visitor) self.new.timed.clock) self.new.bracket) result
+            (body_fold (T.taken self.new.timed.visitor) self.new.timed.clock) self.new.dump_section) result
             (step T.with_change T.with_instant self.old.codes.now (state_of self.old.reader.text
-            (body_fold (T.taken self.old.timed.visitor) self.old.timed.clock) self.old.bracket)
-            (bracket_end (line_of self.old.reader.text start))) }
+            (body_fold (T.taken self.old.timed.visitor) self.old.timed.clock) self.old.dump_section)
+            (dump_section_end (line_of self.old.reader.text start))) }
     {
-        if self.bracket.is_none() {
+        if self.dump_section.is_none() {
             return Err(self.reader.fault(start, FaultKind::BadToken));
         }
-        self.bracket = None;
+        self.dump_section = None;
         Ok(true)
     }
 
@@ -415,9 +417,9 @@ impl<'a, 'c, T: ChangeVisitor> Body<'a, 'c, T> {
         ensures end { result ≡ Ok false → left_at self.new.reader.text self.new.reader.at ≡ [] }
         ensures rest { BodyContinuesAs
             (remaining_in T.with_change T.with_instant (place_of self.old.place) self.old.codes.now self.old.reader
-            (body_fold (T.taken self.old.timed.visitor) self.old.timed.clock) self.old.bracket)
+            (body_fold (T.taken self.old.timed.visitor) self.old.timed.clock) self.old.dump_section)
             (remaining_in T.with_change T.with_instant (place_of self.new.place) self.new.codes.now self.new.reader
-            (body_fold (T.taken self.new.timed.visitor) self.new.timed.clock) self.new.bracket)
+            (body_fold (T.taken self.new.timed.visitor) self.new.timed.clock) self.new.dump_section)
             (T.taken self.new.timed.visitor) self.new.timed.clock.time result }
     {
         match mem::replace(&mut self.place, OpenItem::Ready) {
@@ -437,9 +439,9 @@ impl<'a, 'c, T: ChangeVisitor> Body<'a, 'c, T> {
         ensures end { OnOk result (left_at self.new.reader.text self.new.reader.at ≡ []) }
         ensures rest { BodyContinuesAs
             (remaining_in T.with_change T.with_instant (place_of self.old.place) self.old.codes.now self.old.reader
-            (body_fold (T.taken self.old.timed.visitor) self.old.timed.clock) self.old.bracket)
+            (body_fold (T.taken self.old.timed.visitor) self.old.timed.clock) self.old.dump_section)
             (remaining_in T.with_change T.with_instant (place_of self.new.place) self.new.codes.now self.new.reader
-            (body_fold (T.taken self.new.timed.visitor) self.new.timed.clock) self.new.bracket)
+            (body_fold (T.taken self.new.timed.visitor) self.new.timed.clock) self.new.dump_section)
             (T.taken self.new.timed.visitor) self.new.timed.clock.time result }
     {
         if !self.resume(alloc)? {
@@ -468,16 +470,17 @@ impl<'a, 'c, T: ChangeVisitor> Body<'a, 'c, T> {
     fn end(self) -> BodyState<T>
         ensures taken { T.taken result.timed.visitor ≡ T.taken self.entry.timed.visitor }
         ensures clock { result.timed.clock ≡ self.entry.timed.clock }
-        ensures bracket { result.bracket ≡ option_map (line_of self.entry.reader.text) self.entry.bracket }
+        ensures dump_section { result.dump_section ≡ option_map (line_of self.entry.reader.text)
+            self.entry.dump_section }
         ensures place { result.place ≡ self.entry.place }
     {
-        let bracket = match self.bracket {
+        let dump_section = match self.dump_section {
             Some(start) => Some(self.reader.line(start)),
             None => None,
         };
         BodyState {
             timed: self.timed,
-            bracket,
+            dump_section,
             place: self.place,
         }
     }
@@ -503,21 +506,22 @@ pub(crate) fn read_until_fault<T: ChangeVisitor>(
     state: BodyState<T>,
 ) -> Result<BodyState<T>, Stopped<T>>
     ensures { ContinuesOrStops (λ u. ahead_until_fault T.with_change T.with_instant codes.now
-        (body_fold (T.taken u.timed.visitor) u.timed.clock) u.bracket (place_of u.place) []) (λ t. T.taken t) result
+        (body_fold (T.taken u.timed.visitor) u.timed.clock) u.dump_section (place_of u.place) []) (λ t. T.taken t)
+        result
         (ahead_until_fault T.with_change T.with_instant codes.now
         (body_fold (T.taken state.timed.visitor) state.timed.clock)
-        state.bracket (place_of state.place) (left_at reader.entry.text reader.entry.at)) }
+        state.dump_section (place_of state.place) (left_at reader.entry.text reader.entry.at)) }
 {
     let BodyState {
         timed,
-        bracket,
+        dump_section,
         place,
     } = state;
     let mut body = Body {
         reader,
         codes,
         timed,
-        bracket: on_line(bracket),
+        dump_section: on_line(dump_section),
         place,
     };
     match body.all(alloc) {
@@ -535,9 +539,9 @@ pub(crate) fn read_piece<T: ChangeVisitor>(
 ) -> Result<BodyState<T>, VcdFault>
     ensures { BodyContinuesTo (λ u. ahead T.with_change T.with_instant codes.now
         (body_fold (T.taken u.timed.visitor) u.timed.clock)
-        u.bracket (place_of u.place) []) result
+        u.dump_section (place_of u.place) []) result
         (ahead T.with_change T.with_instant codes.now (body_fold (T.taken state.timed.visitor) state.timed.clock)
-        state.bracket (place_of state.place) (left_at reader.entry.text reader.entry.at)) }
+        state.dump_section (place_of state.place) (left_at reader.entry.text reader.entry.at)) }
 {
     match read_until_fault(alloc, reader, codes, state) {
         Ok(state) => Ok(state),

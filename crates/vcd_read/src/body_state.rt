@@ -18,8 +18,8 @@ use std::alloc::Global;
 #[derive(Drop)]
 pub(crate) struct BodyState<T: ChangeVisitor> {
     pub timed: TimedVisitor<T>,
-    /// The line of the bracket that is open.
-    pub bracket: Option<u64>,
+    /// The line of the dump section that is open.
+    pub dump_section: Option<u64>,
     pub place: OpenItem,
 }
 
@@ -28,23 +28,23 @@ impl<T: ChangeVisitor> BodyState<T> {
     pub fn new(visitor: T) -> BodyState<T>
         ensures visitor { T.taken result.timed.visitor ≡ T.taken visitor }
         ensures clock { result.timed.clock ≡ record { time = 0; has_instant = false } }
-        ensures bracket { result.bracket ≡ None }
+        ensures dump_section { result.dump_section ≡ None }
         ensures place { result.place ≡ Ready }
     {
         BodyState {
             timed: TimedVisitor::new(visitor),
-            bracket: None,
+            dump_section: None,
             place: OpenItem::Ready,
         }
     }
 
-    /// What took the body, of which nothing is left. An item that isn't whole and a bracket that is still open are met
-    /// here: the instant at hand isn't ended then, and what took those before it comes with the fault.
+    /// What took the body, of which nothing is left. An item that isn't whole and a dump section that is still open are
+    /// met here: the instant at hand isn't ended then, and what took those before it comes with the fault.
     pub fn finish_or_stop(self, alloc: Global) -> Result<T, Stopped<T>>
         ensures { (nets : List Net) → GivesOrStops (λ t. T.taken t)
             (body_fold (T.taken self.timed.visitor) self.timed.clock) result
             (finished T.with_change T.with_instant nets (body_fold (T.taken self.timed.visitor) self.timed.clock)
-            self.bracket (place_of self.place)) }
+            self.dump_section (place_of self.place)) }
     {
         if let Some(line) = self.unfinished() {
             return Err(Stopped {
@@ -63,7 +63,7 @@ impl<T: ChangeVisitor> BodyState<T> {
     pub fn finish(self, alloc: Global) -> Result<T, VcdFault>
         ensures { (nets : List Net) → ReadGives (λ t. T.taken t) result
             (finished T.with_change T.with_instant nets (body_fold (T.taken self.timed.visitor) self.timed.clock)
-            self.bracket (place_of self.place)) }
+            self.dump_section (place_of self.place)) }
     {
         match self.finish_or_stop(alloc) {
             Ok(visitor) => Ok(visitor),
@@ -71,12 +71,12 @@ impl<T: ChangeVisitor> BodyState<T> {
         }
     }
 
-    /// The line of what isn't ended: an item, or else a bracket.
+    /// The line of what isn't ended: an item, or else a dump section.
     fn unfinished(&self) -> Option<u64>
-        ensures { result ≡ unfinished self.now.place self.now.bracket }
+        ensures { result ≡ unfinished self.now.place self.now.dump_section }
     {
         match &self.place {
-            OpenItem::Ready => self.bracket,
+            OpenItem::Ready => self.dump_section,
             OpenItem::Vector(digits) => Some(digits.line),
             OpenItem::Foreign(line) => Some(*line),
             OpenItem::Comment(line) => Some(*line),

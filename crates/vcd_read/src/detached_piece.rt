@@ -20,8 +20,8 @@ use crate::timed_visitor::{Clock, TimedVisitor};
 use crate::token::Reader;
 use std::alloc::Global;
 
-/// A piece of a body that was read as if it stood between two items, outside of brackets, at the time that it begins
-/// with.
+/// A piece of a body that was read as if it stood between two items, outside of dump sections, at the time that it
+/// begins with.
 #[derive(Drop)]
 pub struct DetachedPiece<T: ChangeVisitor> {
     /// The time that it begins with.
@@ -29,8 +29,8 @@ pub struct DetachedPiece<T: ChangeVisitor> {
     /// The line that it begins on.
     first_line: u64,
     timed: TimedVisitor<T>,
-    /// The line of the bracket that is open behind it.
-    bracket: Option<u64>,
+    /// The line of the dump section that is open behind it.
+    dump_section: Option<u64>,
     /// The line that it ends on.
     line: u64,
 }
@@ -61,7 +61,7 @@ impl<T: ChangeVisitor> DetachedPiece<T> {
             time,
             first_line,
             timed,
-            bracket,
+            dump_section,
             line,
         } = self;
         let TimedVisitor {
@@ -73,7 +73,7 @@ impl<T: ChangeVisitor> DetachedPiece<T> {
             time,
             first_line,
             timed,
-            bracket,
+            dump_section,
             line,
         };
         (detached, before)
@@ -108,13 +108,13 @@ impl<T: ChangeVisitor> Pieces<T> {
         };
         let before = BodyState {
             timed: TimedVisitor { visitor, clock },
-            bracket: None,
+            dump_section: None,
             place: OpenItem::Ready,
         };
         let Ok(
             BodyState {
                 timed,
-                bracket,
+                dump_section,
                 place,
             },
         ) = read_piece(alloc, reader, &self.codes, before)
@@ -126,24 +126,24 @@ impl<T: ChangeVisitor> Pieces<T> {
                 time,
                 first_line: line,
                 timed,
-                bracket,
+                dump_section,
                 line: behind,
             }),
             _ => None,
         }
     }
 
-    /// Whether what is read so far ends between two items, and outside of brackets. Elsewhere no piece that is read
-    /// by itself may be joined.
+    /// Whether what is read so far ends between two items, and outside of dump sections. Elsewhere no piece that is
+    /// read by itself may be joined.
     pub fn is_between_items(&self) -> bool
         ensures { IsTrue result ↔ ((reached T.taken self.now).place ≡ ready)
-            × ((reached T.taken self.now).bracket ≡ None) }
+            × ((reached T.taken self.now).dump_section ≡ None) }
     {
-        matches!(self.state.place, OpenItem::Ready) && self.state.bracket.is_none()
+        matches!(self.state.place, OpenItem::Ready) && self.state.dump_section.is_none()
     }
 
     /// Whether a piece that was read by itself may be joined: what is read so far ends on the line that it begins on,
-    /// between two items, outside of brackets and at no later time.
+    /// between two items, outside of dump sections and at no later time.
     pub fn may_join<N: ChangeVisitor>(&self, detached: &DetachedPiece<N>) -> bool
         ensures { IsTrue result ↔ MayFollow (reached T.taken self.now) (read_detached N.taken detached.now) }
     {
@@ -182,13 +182,13 @@ impl<T: ChangeVisitor> Pieces<T> {
             time: _,
             first_line: _,
             timed,
-            bracket,
+            dump_section,
             line,
         } = detached;
         let visitor = state.timed.visitor;
         let state = BodyState {
             timed,
-            bracket,
+            dump_section,
             place: OpenItem::Ready,
         };
         let joined = Pieces { codes, state, line };
@@ -203,7 +203,7 @@ impl<T: ChangeVisitor> Pieces<T> {
         let Pieces { codes, state, line } = self;
         let BodyState {
             timed,
-            bracket,
+            dump_section,
             place,
         } = state;
         let TimedVisitor {
@@ -212,7 +212,7 @@ impl<T: ChangeVisitor> Pieces<T> {
         } = timed;
         let state = BodyState {
             timed: TimedVisitor { visitor, clock },
-            bracket,
+            dump_section,
             place,
         };
         let pieces = Pieces { codes, state, line };

@@ -12,7 +12,7 @@ pub enum FaultKind {
     /// A token that may not stand where it stands.
     #[error("BadToken")]
     BadToken,
-    /// A section, a change or a bracket that the text ends in.
+    /// A section, a change or a dump section that the text ends in.
     #[error("UnfinishedSection")]
     UnfinishedSection,
     /// A `$var` section with fewer than four words, or a size or a code that is none.

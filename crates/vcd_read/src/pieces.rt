@@ -101,7 +101,7 @@ impl<'a> Front<'a> {
         ensures nets { (reached T.taken result.0).nets ≡ self.entry.head.nets }
         ensures progress { (reached T.taken result.0).progress
             ≡ record { taken = T.taken visitor; time = 0; has_instant = false } }
-        ensures bracket { (reached T.taken result.0).bracket ≡ None }
+        ensures dump_section { (reached T.taken result.0).dump_section ≡ None }
         ensures place { (reached T.taken result.0).place ≡ ready }
         ensures body { tokens_from (reached T.taken result.0).line result.1.now ≡ self.entry.head.body }
         ensures left { result.1.now ≡ self.entry.left }
@@ -161,8 +161,8 @@ impl<T: ChangeVisitor> Pieces<T> {
         }
     }
 
-    /// What took the body, of which nothing is left. An item that isn't whole and a bracket that is still open are met
-    /// here: the instant at hand isn't ended then, and what took those before it comes with the fault.
+    /// What took the body, of which nothing is left. An item that isn't whole and a dump section that is still open are
+    /// met here: the instant at hand isn't ended then, and what took those before it comes with the fault.
     pub fn finish_or_stop(self, alloc: Global) -> Result<T, Stopped<T>>
         ensures { GivesOrStops (λ t. T.taken t) (reached T.taken self).progress result
             (outcome_of T.with_change T.with_instant (reached T.taken self)) }

@@ -11,7 +11,7 @@ use std::alloc::Global;
 
 /// Reads the text of a four-state value change dump.
 ///
-/// The text is read from the left, and an error names the first fault met and its line; a bracket such as
+/// The text is read from the left, and an error names the first fault met and its line; a dump section such as
 /// `$dumpvars` that is never closed is met at the end of the text. Where memory runs out, that is the fault,
 /// at line 0.
 pub fn read_vcd(alloc: Global, text: &[u8]) -> Result<Dump, VcdFault>

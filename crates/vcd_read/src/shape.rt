@@ -4,7 +4,7 @@ ghost use Rattle.std.specs.Prelude.{◌≡◌};
 ghost use Rattle.std.specs.List.{list_all};
 ghost use Rattle.vcd_read.specs.Header.{is_end};
 ghost use Rattle.vcd_read.specs.Numbers.{is_bit};
-ghost use Rattle.vcd_read.specs.Body.{shape_of, keyword_shape, are_bits, opens_bracket};
+ghost use Rattle.vcd_read.specs.Body.{shape_of, keyword_shape, are_bits, opens_dump_section};
 ghost use Rattle.vcd_read.specs.Shapes.{found_shape};
 
 /// What a token of the body is, or begins.
@@ -20,7 +20,7 @@ pub(crate) enum Shape<'a> {
     Foreign,
     /// The first token of a `$comment`.
     Comment,
-    /// `$dumpvars` and the like, which open a bracket.
+    /// `$dumpvars` and the like, which open a dump section.
     Opens,
     /// `$end`.
     Ends,
@@ -61,7 +61,7 @@ fn keyword_shape(word: &[u8]) -> Shape<'_>
 {
     if is_end(word) {
         Shape::Ends
-    } else if opens_bracket(word) {
+    } else if opens_dump_section(word) {
         Shape::Opens
     } else if word == b"$comment".as_slice() {
         Shape::Comment
@@ -76,8 +76,8 @@ pub(crate) fn is_end(word: &[u8]) -> bool
     word == b"$end".as_slice()
 }
 
-fn opens_bracket(word: &[u8]) -> bool
-    ensures { result ≡ opens_bracket word.now }
+fn opens_dump_section(word: &[u8]) -> bool
+    ensures { result ≡ opens_dump_section word.now }
 {
     word == b"$dumpvars".as_slice()
         || word == b"$dumpall".as_slice()

@@ -3,7 +3,8 @@ use Rattle.std.proofs.Common.{◌≡◌, ℕ, Bool, true, false, ◌&&◌, List,
 use Rattle.std.proofs.Common.{sym, ap, subst, ◌∙◌}
 use Rattle.std.specs.Prelude.{◌==◌, if◌then◌else◌, not}
 use Rattle.vcd_read.specs.declared.fault.VcdFault.{VcdFault}
-use Rattle.vcd_read.specs.Body.{BodyContext, BodyItem, at_the_end, body_from, bracket_end, bracket_open, change}
+use Rattle.vcd_read.specs.Body.{BodyContext, BodyItem, at_the_end, body_from, dump_section_end, dump_section_open}
+use Rattle.vcd_read.specs.Body.{change}
 use Rattle.vcd_read.specs.Body.{context_after, skipped, time_item, wrong}
 use Rattle.vcd_read.specs.Contents.{Contents}
 use Rattle.vcd_read.specs.Header.{◌>>=◌, Net}
@@ -32,8 +33,8 @@ module _ (nets : List Net) (time : ℕ) where
   item_has p (time_item line digits) h = advanced_has p (number digits) h
   item_has p (change line digits code) h = h
   item_has p (skipped line code) h = h
-  item_has p (bracket_open line) h = h
-  item_has p (bracket_end line) h = h
+  item_has p (dump_section_open line) h = h
+  item_has p (dump_section_end line) h = h
   item_has p (wrong line kind) h = h
 
   abbrev stepped : BodyFold (Option ℕ) → Result BodyContext VcdFault → Result (State (Option ℕ)) VcdFault
@@ -76,12 +77,12 @@ module _ (nets : List Net) (time : ℕ) where
 pub kept-start : (r : Reached (Option ℕ)) (time : ℕ) → r.progress.taken ≡ Some time → (more : List Token)
     (dump : Contents) → StartComesTo r more dump → start_of dump ≡ Some time
 kept-start r time has more dump comes =
-    by_steps (steps unchanged or_time r.nets (state_at r.progress r.bracket) (body_from r.place more)) refl comes
+    by_steps (steps unchanged or_time r.nets (state_at r.progress r.dump_section) (body_from r.place more)) refl comes
   where
     by_steps : (w : Result (State (Option ℕ)) VcdFault)
-        → steps unchanged or_time r.nets (state_at r.progress r.bracket) (body_from r.place more) ≡ w
+        → steps unchanged or_time r.nets (state_at r.progress r.dump_section) (body_from r.place more) ≡ w
         → (w >>= at_end or_time) ≡ Ok (start_of dump) → start_of dump ≡ Some time
     by_steps (Ok end) is ends =
         end_is r.nets time end (start_of dump) (at_the_end end.context)
-        (steps_have r.nets time (body_from r.place more) (state_at r.progress r.bracket) end has is) ends
+        (steps_have r.nets time (body_from r.place more) (state_at r.progress r.dump_section) end has is) ends
     by_steps (Err fault) is ends = absurd (cc)

@@ -133,7 +133,8 @@ module _ (text : List ℕ) (ts : List Token) (same : tokens text ≡ ts) where
 
 -- nothing of it is read
 module _ (r : Reached (Option ℕ)) (head : Headed) (nets : r.nets ≡ head.nets)
-    (progress : r.progress ≡ record { taken = None; time = 0; has_instant = false }) (bracket : r.bracket ≡ None)
+    (progress : r.progress ≡ record { taken = None; time = 0; has_instant = false }) (dump_section : r.dump_section
+    ≡ None)
     (place : r.place ≡ ready) where
   abbrev none_read : BodyFold (Option ℕ)
   none_read = record { taken = None; time = 0; has_instant = false }
@@ -144,9 +145,9 @@ module _ (r : Reached (Option ℕ)) (head : Headed) (nets : r.nets ≡ head.nets
   unread_rest : (more : List Token) → (rest_of unchanged or_time r head.body more >>= at_end or_time)
       ≡ fold_body unchanged or_time head.nets None (head.body ++ more)
   unread_rest more =
-      ap (λ (n : List Net). come_from more n r.progress r.bracket r.place) nets
-      ∙ ap (λ (p : BodyFold (Option ℕ)). come_from more head.nets p r.bracket r.place) progress
-      ∙ ap (λ (b : Option ℕ). come_from more head.nets none_read b r.place) bracket
+      ap (λ (n : List Net). come_from more n r.progress r.dump_section r.place) nets
+      ∙ ap (λ (p : BodyFold (Option ℕ)). come_from more head.nets p r.dump_section r.place) progress
+      ∙ ap (λ (b : Option ℕ). come_from more head.nets none_read b r.place) dump_section
       ∙ ap (λ (l : BodyPlace). come_from more head.nets none_read None l) place
 
   module _ (text : List ℕ) (ts more : List Token) (same : tokens text ≡ ts ++ more)

@@ -228,18 +228,18 @@ module _ (nets : List Net) (bytes : List ℕ) (e : SpeculativeBuilderState) (a :
         (λ b time. refl) s
 
     ended : (r : Result (State Both) VcdFault) → (r >>= λ end. Ok (ahead_state end))
-        ≡ Ok (state_at a.progress a.bracket)
-        → (end : State Both) × (r ≡ Ok end) × (ahead_state end ≡ state_at a.progress a.bracket)
+        ≡ Ok (state_at a.progress a.dump_section)
+        → (end : State Both) × (r ≡ Ok end) × (ahead_state end ≡ state_at a.progress a.dump_section)
     ended (Ok end) h = (
       end,
       refl,
-      same_ok (ahead_state end) (state_at a.progress a.bracket) (Ok (ahead_state end)) refl
+      same_ok (ahead_state end) (state_at a.progress a.dump_section) (Ok (ahead_state end)) refl
           h,
     )
     ended (Err fault) h = absurd cc
 
     both-read : (end : State Both) × (steps both_change both_instant nets start items ≡ Ok end)
-        × (ahead_state end ≡ state_at a.progress a.bracket)
+        × (ahead_state end ≡ state_at a.progress a.dump_section)
     both-read =
         ended (steps both_change both_instant nets start items)
         (sym (steps-learned both_change both_instant speculative_change speculative_instant ahead_of_both
@@ -281,18 +281,18 @@ module _ (nets : List Net) (bytes : List ℕ) (e : SpeculativeBuilderState) (a :
         ∙ is.begins)
         in
         let whole : steps builder_change builder_instant nets (before_piece (builder_behind line_bits v t) a.time) items
-        ≡ Ok (state_at m.progress m.bracket) =
+        ≡ Ok (state_at m.progress m.dump_section) =
         subst (λ (n : ℕ). steps builder_change builder_instant nets (before_piece (builder_behind line_bits v t) n)
         items
-        ≡ Ok (state_at m.progress m.bracket)) time
+        ≡ Ok (state_at m.progress m.dump_section)) time
         (subst (λ (n : ℕ). steps builder_change builder_instant nets
         (before_piece (builder_behind line_bits v t) m.time)
-        (detached_items n bytes) ≡ Ok (state_at m.progress m.bracket)) line there.whole) in
+        (detached_items n bytes) ≡ Ok (state_at m.progress m.dump_section)) line there.whole) in
         let of_made : steps others_change others_instant nets
         (before_piece (record { line_bits = line_bits; levels = v }) a.time) items
         ≡ Ok (learned_state builder_change builder_instant others_change others_instant others_of_made
         (λ m net bits. refl)
-        (λ m time. refl) (state_at m.progress m.bracket)) =
+        (λ m time. refl) (state_at m.progress m.dump_section)) =
         steps-learned builder_change builder_instant others_change others_instant others_of_made (λ m net bits. refl)
         (λ m time. refl) nets (before_piece (builder_behind line_bits v t) a.time) items
         ∙ ap (λ (r : Result (State BuilderState) VcdFault). r >>= λ end. Ok

@@ -84,7 +84,7 @@ module _ (t : Trace) where
       ≡ following t (reading_ahead (with_recording (record { opening = opening; steps = [] }) w) tokens more)
   ahead-behind w opening tokens more =
       let none : Trace = record { opening = opening; steps = [] } in
-      let s : State BuilderState = state_at (with_recording none w).body.progress w.body.bracket in
+      let s : State BuilderState = state_at (with_recording none w).body.progress w.body.dump_section in
       ap (λ (x : List Step). reading_ahead (with_recording (record t { steps = x }) w) tokens more)
       (sym (append-nil t.steps))
       ∙ items-behind w.body.nets s (body_from w.body.place (tokens ++ more))

@@ -141,7 +141,7 @@ module _ (bytes : List ℕ) (recorded : Trace) (w : SpeculativeReached) (a : Rea
       bytes none_made (builder_ahead w.line_bits recorded a.detached) is.read
       (record {
         place = fits.place.place;
-        bracket = fits.place.bracket;
+        dump_section = fits.place.dump_section;
         time = fits.place.time;
         line = fits.place.line;
       }) (first-made t) more

@@ -56,12 +56,12 @@ fails-outcome own fault before read is fails more = same_fails fault.line fault.
 pub begun-outcome : (own : Option BindFault) (slots : ℕ) (bound_groups : List BoundGroup) (head : Headed)
     (made : BuilderState)
     (r : Reached BuilderState) (first more : List Token) → IsBegun slots bound_groups made → r.nets ≡ head.nets
-    → r.progress ≡ record { taken = made; time = 0; has_instant = false } → r.bracket ≡ None → r.place ≡ ready
+    → r.progress ≡ record { taken = made; time = 0; has_instant = false } → r.dump_section ≡ None → r.place ≡ ready
     → first ≡ head.body
     → body_outcome own slots bound_groups (going_on head more)
     ≡ outcome own (rest_of builder_change builder_instant r first more >>= at_end builder_instant)
-begun-outcome own slots bound_groups head made r first more begun nets progress bracket place body =
-    rw (nets, progress, bracket, place, body) (body-outcome slots bound_groups (going_on head more) own made begun)
+begun-outcome own slots bound_groups head made r first more begun nets progress dump_section place body =
+    rw (nets, progress, dump_section, place, body) (body-outcome slots bound_groups (going_on head more) own made begun)
 
 -- what it leads to where what comes of the text is the same
 pub leads-same : {X Y : Type 0} (view : X → List Token → Result Y CaptureFault) (r : Result X CaptureFault)

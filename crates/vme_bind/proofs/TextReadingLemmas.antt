@@ -66,14 +66,14 @@ piece_stops line kind made recorded time read e h =
     (sym h.2)
 
 -- nothing more is taken where nothing is left
-pub none_ahead : (nets : List Net) (timed : BodyFold BuilderState) (bracket : Option ℕ) (place : BodyPlace)
-    → (reached_before builder_change builder_instant nets (state_at timed bracket) (body_from place [])).progress
+pub none_ahead : (nets : List Net) (timed : BodyFold BuilderState) (dump_section : Option ℕ) (place : BodyPlace)
+    → (reached_before builder_change builder_instant nets (state_at timed dump_section) (body_from place [])).progress
     ≡ timed
 unfolding reached_before body_from
-none_ahead nets timed bracket ready = refl
-none_ahead nets timed bracket (code_of_vector line digits) = refl
-none_ahead nets timed bracket (code_of_foreign line) = refl
-none_ahead nets timed bracket (in_comment line) = refl
+none_ahead nets timed dump_section ready = refl
+none_ahead nets timed dump_section (code_of_vector line digits) = refl
+none_ahead nets timed dump_section (code_of_foreign line) = refl
+none_ahead nets timed dump_section (in_comment line) = refl
 
 -- a fault at the end
 pub end_stops : (line : ℕ) (kind : FaultKind) (made : BuilderState) (recorded : Trace) (time : ℕ)
@@ -85,7 +85,7 @@ pub end_stops : (line : ℕ) (kind : FaultKind) (made : BuilderState) (recorded 
 end_stops line Memory made recorded time r e h = h
 end_stops line kind made recorded time r e h =
     let read : UntilFault BuilderState = rest_until_fault builder_change builder_instant r [] [] in
-    let none : read.reached.progress ≡ r.progress = none_ahead r.nets r.progress r.bracket r.place in
+    let none : read.reached.progress ≡ r.progress = none_ahead r.nets r.progress r.dump_section r.place in
     ap (reading_made read.reached.progress.taken.recorded read.reached.progress.time) h.0
     ∙ stopped_as (record { line = line; kind = kind }) _ _ _ _
     (ap (λ (p : BodyFold BuilderState). p.taken.recorded) none ∙ ap (λ (m : BuilderState). m.recorded) (sym h.1)
@@ -101,7 +101,7 @@ ended_reading recorded made r e is =
     let read : UntilFault BuilderState = rest_until_fault builder_change builder_instant r [] [] in
     ap (reading_made read.reached.progress.taken.recorded read.reached.progress.time) is
     ∙ ap (λ (p : BodyFold BuilderState). record { recorded = made.recorded; fault = None; time = p.time })
-    (none_ahead r.nets r.progress r.bracket r.place)
+    (none_ahead r.nets r.progress r.dump_section r.place)
     ∙ ap (λ (t : Trace). record { recorded = t; fault = None; time = r.progress.time }) (sym e)
 
 -- ---- a body
@@ -181,24 +181,24 @@ body_formed slots bound_groups h = by_instants (instants_from h.nets h.body) ref
 -- so are they whatever follows a place of which nothing is read yet
 pub begun_formed : (slots : ℕ) (bound_groups : List BoundGroup) (made : BuilderState) (r : Reached BuilderState)
     (tokens more : List Token) → IsBegun slots bound_groups made
-    → r.progress ≡ record { taken = made; time = 0; has_instant = false } → r.bracket ≡ None → r.place ≡ ready
+    → r.progress ≡ record { taken = made; time = 0; has_instant = false } → r.dump_section ≡ None → r.place ≡ ready
     → malformed_step (reading_until_fault (rest_until_fault builder_change builder_instant r tokens more)).recorded
     ≡ None
-begun_formed slots bound_groups made r tokens more begun progress bracket place =
+begun_formed slots bound_groups made r tokens more begun progress dump_section place =
     let h : Headed = record { nets = r.nets; body = tokens ++ more } in
-    rw (progress, bracket, place) (subst (λ (reading : TextReading). malformed_step reading.recorded ≡ None)
+    rw (progress, dump_section, place) (subst (λ (reading : TextReading). malformed_step reading.recorded ≡ None)
     (body_read slots bound_groups h made begun) (body_formed slots bound_groups h))
 
 -- the same, where nothing of it is read yet
 pub begun_reading : (own : Option BindFault) (slots : ℕ) (bound_groups : List BoundGroup) (head : Headed)
     (made : BuilderState)
     (r : Reached BuilderState) (first more : List Token) → IsBegun slots bound_groups made → r.nets ≡ head.nets
-    → r.progress ≡ record { taken = made; time = 0; has_instant = false } → r.bracket ≡ None → r.place ≡ ready
+    → r.progress ≡ record { taken = made; time = 0; has_instant = false } → r.dump_section ≡ None → r.place ≡ ready
     → first ≡ head.body
     → or_fault own (body_reading slots bound_groups (going_on head more))
     ≡ or_fault own (reading_until_fault (rest_until_fault builder_change builder_instant r first more))
-begun_reading own slots bound_groups head made r first more begun nets progress bracket place body =
-    rw (nets, progress, bracket, place, body)
+begun_reading own slots bound_groups head made r first more begun nets progress dump_section place body =
+    rw (nets, progress, dump_section, place, body)
     (ap (or_fault own) (body_read slots bound_groups (going_on head more) made begun))
 
 -- ---- a text

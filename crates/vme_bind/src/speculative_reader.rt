@@ -176,7 +176,7 @@ impl SpeculativeReader {
     }
 
     /// Whether a piece that was read ahead may be joined: what is read so far ends on the line that it begins on,
-    /// between two items, outside of brackets and at no later time, and leaves the levels that it was read from.
+    /// between two items, outside of dump sections and at no later time, and leaves the levels that it was read from.
     pub fn may_join(&self, ahead: &SpeculativeChunk) -> bool
         ensures { IsTrue result ↔ MayFollowLevels self.now ahead.now }
     {

@@ -217,17 +217,17 @@ impl<F: StepVisitor> TextPieces<F> {
         }
     }
 
-    /// Whether what is read so far ends between two items, and outside of brackets. Elsewhere no piece that is read
-    /// ahead may be joined.
+    /// Whether what is read so far ends between two items, and outside of dump sections. Elsewhere no piece that is
+    /// read ahead may be joined.
     pub fn is_between_items(&self) -> bool
         ensures { IsTrue result ↔ ((text_reached self.now).body.place ≡ ready)
-            × ((text_reached self.now).body.bracket ≡ None) }
+            × ((text_reached self.now).body.dump_section ≡ None) }
     {
         self.pieces.is_between_items()
     }
 
     /// What took the recording of the dump, of which nothing is left, whatever its binding has. With a fault, an item
-    /// or a bracket that isn't ended, comes what took the steps of the instants that a later time follows.
+    /// or a dump section that isn't ended, comes what took the steps of the instants that a later time follows.
     pub fn finish_or_stop(self, alloc: Global) -> Result<F, Stopped<F>>
         ensures { ReadingEndsAs (λ f. F.recorded f) (text_reached self).body.progress.time result
             (reading_ahead (text_reached self) [] []) }

@@ -814,9 +814,9 @@ fn first_wrong_end(alloc: Global) -> Option<&'static str> {
     Some("")
 }
 
-/// What is read ends between two items unless an item or a bracket is open.
+/// What is read ends between two items unless an item or a dump section is open.
 #[test]
-fn a_text_is_between_items_outside_of_brackets(rt: HostRuntime) {
+fn a_text_is_between_items_outside_of_dump_sections(rt: HostRuntime) {
     let wrong = first_wrong_end(rt.alloc()).unwrap_or("not read");
     assert!(rt; wrong.is_empty(), "{wrong}");
 }

@@ -27,7 +27,7 @@ module _ (t : TextReached) where
   -- what comes of these tokens
   abbrev comes_of : List Token → Result Trace CaptureFault
   comes_of ts = outcome t.fault (steps builder_change builder_instant t.body.nets
-      (state_at t.body.progress t.body.bracket)
+      (state_at t.body.progress t.body.dump_section)
       (body_from t.body.place ts) >>= at_end builder_instant)
 
   ahead-later : (more : List Token) → outcome_ahead t [] more ≡ outcome_ahead t more []

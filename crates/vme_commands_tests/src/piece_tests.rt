@@ -181,7 +181,7 @@ static BODIES: [(&str, &str); 9] = [
         "#0 1p 1q 1r 1s 1t 1u\n#10 0p\n#20 0q\n#30 0s\n#40 1p 1q\n#50 1s",
         "",
     ),
-    // times in a comment, a value and its code on two lines, brackets, a time twice
+    // times in a comment, a value and its code on two lines, dump sections, a time twice
     (
         "#0 1p 1q 1r $comment #5 0p #7\n#8 b $end 1s 1t 1u\n#10 $dumpall b0\np\n$end\n#20 0q\n#20\n#30 r1.5\n\
                 q 0s\n#40 1p 1q\n#50 1s\n",

@@ -157,7 +157,7 @@ ends_as r = r >>= at_end counted
 module _ (r : Reached ℕ) where
   -- what comes of these tokens
   abbrev comes_of : List Token → Result ℕ VcdFault
-  comes_of ts = ends_as (steps uncounted counted r.nets (state_at r.progress r.bracket) (body_from r.place ts))
+  comes_of ts = ends_as (steps uncounted counted r.nets (state_at r.progress r.dump_section) (body_from r.place ts))
 
   -- these tokens and more, of a piece and what follows it
   parts : (piece rest : List ℕ) → EndsBetweenTokens piece → count_ahead r (piece ++ rest)
@@ -232,7 +232,7 @@ pub record IsBegun (front left : List ℕ) (h : Headed) (r : Reached ℕ) : Type
       ≡ Ok (defined (going_on h more) tt)
   pub nets : r.nets ≡ h.nets
   pub progress : r.progress ≡ record { taken = 0; time = 0; has_instant = false }
-  pub bracket : r.bracket ≡ None
+  pub dump_section : r.dump_section ≡ None
   pub place : r.place ≡ ready
   pub body : tokens_from r.line left ≡ h.body
   pub line : line_behind r.line left ≡ line_behind 1 front
@@ -241,7 +241,7 @@ module _ (front left : List ℕ) (h : Headed) (r : Reached ℕ) (begun : IsBegun
     (ends : EndsBetweenTokens front) where
   whole_count : (more : List Token) → fold_body uncounted counted h.nets 0 (h.body ++ more)
       ≡ ends_as (rest_of uncounted counted r (tokens_from r.line left) more)
-  whole_count more = rw (begun.nets, begun.progress, begun.bracket, begun.place, begun.body) refl
+  whole_count more = rw (begun.nets, begun.progress, begun.dump_section, begun.place, begun.body) refl
 
   -- what the definitions of the front say of each text that begins so
   begun_ahead : (rest : List ℕ) → survey_of (front ++ rest)

@@ -20,8 +20,8 @@ pub struct KeptLines {
     current: Vec<u8>,
     /// The line of the last token.
     last: Option<KeptLine>,
-    /// That of a bracket that is open, and of a comment.
-    bracket: Option<KeptLine>,
+    /// That of a dump section that is open, and of a comment.
+    dump_section: Option<KeptLine>,
     comment: Option<KeptLine>,
     faulty: Vec<u8>,
     /// Whether the line of the fault is read to its end.
@@ -35,7 +35,7 @@ impl KeptLines {
             next: 1,
             current: Vec::new(alloc),
             last: None,
-            bracket: None,
+            dump_section: None,
             comment: None,
             faulty: Vec::new(alloc),
             is_ended: false,
@@ -45,7 +45,7 @@ impl KeptLines {
     /// Passes over a piece without a fault, which ends behind a space. The only error is want of memory.
     pub fn pass(&mut self, alloc: Global, piece: &[u8]) -> Result<(), AllocError> {
         self.end_current(alloc, piece)?;
-        self.pass_brackets(alloc, piece)?;
+        self.pass_dump_sections(alloc, piece)?;
         if let Some(at) = last_word(piece) {
             self.last = Some(self.line_of(alloc, piece, at)?);
         }
@@ -67,7 +67,7 @@ impl KeptLines {
             Some(further) => self.stop_in(further, bytes),
             None => {
                 self.is_ended = true;
-                for kept in [&self.last, &self.bracket, &self.comment] {
+                for kept in [&self.last, &self.dump_section, &self.comment] {
                     if let Some(line) = kept {
                         if line.number == number {
                             self.faulty.clear();
@@ -143,8 +143,8 @@ impl KeptLines {
         if is_of(&self.last, self.next) {
             self.last = Some(self.line_of(alloc, piece, 0)?);
         }
-        if is_of(&self.bracket, self.next) {
-            self.bracket = Some(self.line_of(alloc, piece, 0)?);
+        if is_of(&self.dump_section, self.next) {
+            self.dump_section = Some(self.line_of(alloc, piece, 0)?);
         }
         if is_of(&self.comment, self.next) {
             self.comment = Some(self.line_of(alloc, piece, 0)?);
@@ -152,8 +152,8 @@ impl KeptLines {
         Ok(())
     }
 
-    /// Keeps the lines of the bracket and of the comment that are open behind a piece.
-    fn pass_brackets(&mut self, alloc: Global, piece: &[u8]) -> Result<(), AllocError> {
+    /// Keeps the lines of the dump section and of the comment that are open behind a piece.
+    fn pass_dump_sections(&mut self, alloc: Global, piece: &[u8]) -> Result<(), AllocError> {
         let mut from: usize = 0;
         for _ in 0..piece.len() {
             let Some(rest) = piece.get(from..) else {
@@ -171,7 +171,7 @@ impl KeptLines {
         Ok(())
     }
 
-    /// Opens or closes a bracket or a comment by a word of a piece.
+    /// Opens or closes a dump section or a comment by a word of a piece.
     fn pass_word(
         &mut self,
         alloc: Global,
@@ -181,12 +181,12 @@ impl KeptLines {
     ) -> Result<(), AllocError> {
         match word {
             b"$end" if self.comment.is_some() => self.comment = None,
-            b"$end" => self.bracket = None,
+            b"$end" => self.dump_section = None,
             b"$comment" if self.comment.is_none() => {
                 self.comment = Some(self.line_of(alloc, piece, at)?);
             }
             b"$dumpvars" | b"$dumpall" | b"$dumpon" | b"$dumpoff" if self.comment.is_none() => {
-                self.bracket = Some(self.line_of(alloc, piece, at)?);
+                self.dump_section = Some(self.line_of(alloc, piece, at)?);
             }
             _ => {}
         }

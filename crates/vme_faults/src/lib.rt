@@ -35,7 +35,7 @@
 //! # Limits
 //!
 //! A kind of file is known by its first bytes alone: what stands after them isn't looked at. Kept are
-//! the line that is read, the line of the last token, and those of a bracket and of a comment that
+//! the line that is read, the line of the last token, and those of a dump section and of a comment that
 //! are open; no fault that is met later is of another line. Memory is in proportion to the longest
 //! line. Start reading at `page`.
 #![tactic(auto)]

@@ -2,7 +2,7 @@ use std::alloc::{AllocError, Global};
 use std::test::Fail;
 use vme_faults::KeptLines;
 
-/// A dump with a bracket, and in it a comment; one of its lines ends with a carriage return.
+/// A dump with a dump section, and in it a comment; one of its lines ends with a carriage return.
 const DUMP: &str =
     "$var wire 1 a AS $end\n$enddefinitions $end\n#0\r\n$dumpvars 1a\n1b\n$comment here\nit is $end\n$end\n#1 0a\n";
 

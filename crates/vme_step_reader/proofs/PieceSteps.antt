@@ -77,7 +77,7 @@ module _ (is_front : IsPrefix) (w : SpeculativeReached) (none : Trace) (empty : 
 
 abbrev ahead_of : TextReached → List Token → TextReading
 ahead_of t ts = reading_until_fault (until_fault builder_change builder_instant t.body.nets
-    (state_at t.body.progress t.body.bracket) (body_from t.body.place ts))
+    (state_at t.body.progress t.body.dump_section) (body_from t.body.place ts))
 
 -- a piece that no token goes on behind, and the rest
 pub pieces-joined : (t : TextReached) (line : ℕ) (piece rest : List ℕ)
@@ -161,7 +161,7 @@ unfolding cut_from
 time-here r =
     made-time _ _ _
     ∙ ap (λ p. p.time) (none_ahead r.speculative.body.nets (with_recording r.given r.speculative).body.progress
-    r.speculative.body.bracket
+    r.speculative.body.dump_section
     r.speculative.body.place)
 
 -- what was given is the front of what is recorded, so it is well formed where that is

@@ -9,7 +9,8 @@ use Rattle.vme_trace.specs.Followed.{with_steps}
 use Rattle.vme_trace.specs.Trace.{Trace}
 use Rattle.vme_trace.specs.declared.step.Step.{Step}
 use Rattle.vcd_read.specs.Bodies.{until_fault}
-use Rattle.vcd_read.specs.Body.{BodyItem, BodyContext, at_the_end, body_from, bracket_end, bracket_open, change}
+use Rattle.vcd_read.specs.Body.{BodyItem, BodyContext, at_the_end, body_from, dump_section_end, dump_section_open}
+use Rattle.vcd_read.specs.Body.{change}
 use Rattle.vcd_read.specs.Body.{closed, fitting, opened_at, skipped, context_after, time_after, time_item, wrong}
 use Rattle.vcd_read.specs.Header.{◌>>=◌, Net, at_line, net_of}
 use Rattle.vcd_read.specs.Numbers.{number, time_of}
@@ -171,14 +172,14 @@ module _ (from : ℕ) where
     item-at s (skipped line code) next h ok =
         still s s.progress next h refl refl
         (stays (fitting nets 0 (net_of nets code)) line s.context next (λ net. s.context) (λ net. refl) ok)
-    item-at s (bracket_open line) next h ok =
+    item-at s (dump_section_open line) next h ok =
         still s s.progress next h refl refl
-        (stays (opened_at line s.context.bracket) line s.context next
-        (λ bracket. record s.context { bracket = bracket }) (λ bracket. refl) ok)
-    item-at s (bracket_end line) next h ok =
+        (stays (opened_at line s.context.dump_section) line s.context next
+        (λ dump_section. record s.context { dump_section = dump_section }) (λ dump_section. refl) ok)
+    item-at s (dump_section_end line) next h ok =
         still s s.progress next h refl refl
-        (stays (closed s.context.bracket) line s.context next
-        (λ bracket. record s.context { bracket = bracket }) (λ bracket. refl) ok)
+        (stays (closed s.context.dump_section) line s.context next
+        (λ dump_section. record s.context { dump_section = dump_section }) (λ dump_section. refl) ok)
     item-at s (wrong line kind) next h ok = absurd cc
 
     -- ---- items
@@ -292,7 +293,7 @@ behind-times r rest =
     let none : Trace = record { opening = r.given.opening; steps = [] } in
     let time = r.speculative.body.progress.time in
     items-times time r.speculative.body.nets
-    (state_at (with_recording none r.speculative).body.progress r.speculative.body.bracket)
+    (state_at (with_recording none r.speculative).body.progress r.speculative.body.dump_section)
     (body_from r.speculative.body.place (tokens_from r.speculative.body.line rest ++ [])) (record {
       at = refl;
       made = record {

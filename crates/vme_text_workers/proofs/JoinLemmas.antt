@@ -29,7 +29,7 @@ pub ahead-append : (t : TextReached) (first then' more : List Token) → outcome
     ≡ outcome_ahead t first (then' ++ more)
 ahead-append t first then' more =
     ap (λ (ts : List Token). outcome t.fault (steps builder_change builder_instant t.body.nets
-    (state_at t.body.progress t.body.bracket) (body_from t.body.place ts) >>= at_end builder_instant))
+    (state_at t.body.progress t.body.dump_section) (body_from t.body.place ts) >>= at_end builder_instant))
     (append_assoc first then' more)
 
 -- ---- the pieces that are left

@@ -119,8 +119,8 @@ fn read_body<R: Threads + Sync, J: ChunkJudge + Send>(
     }
 }
 
-/// The piece cut at its last time. Where an item or a bracket is open before it, no part of it would fit, and it isn't
-/// cut.
+/// The piece cut at its last time. Where an item or a dump section is open before it, no part of it would fit, and it
+/// isn't cut.
 fn cut_to_read_ahead<'a, F: StepVisitor>(
     text: &TextPieces<F>,
     piece: &'a [u8],

@@ -11,10 +11,10 @@ pub returns-in-Ok : goal.returns-in-Ok
 returns-in-Ok g c =
     let end = c.all.new.self in
     λ more.
-    rw (c.end.ensures.taken, c.end.ensures.clock, c.end.ensures.bracket, c.end.ensures.place) (
+    rw (c.end.ensures.taken, c.end.ensures.clock, c.end.ensures.dump_section, c.end.ensures.place) (
     (rw (c.on_line.ensures.line c.args.reader.text) at c.in-Ok.ensures.rest more)
     ∙ nothing_behind g.T.ChangeVisitor.with_change g.T.ChangeVisitor.with_instant c.args.codes.now end.codes.now
-    (state_of end.reader.text (body_fold (g.T.ChangeVisitor.taken end.timed.visitor) end.timed.clock) end.bracket)
+    (state_of end.reader.text (body_fold (g.T.ChangeVisitor.taken end.timed.visitor) end.timed.clock) end.dump_section)
     (place_of end.place) (left_at end.reader.text end.reader.at) (ap (λ (codes : Bor (List Net)). codes.now)
     c.in-Ok.ensures.codes) c.in-Ok.ensures.end more)
 

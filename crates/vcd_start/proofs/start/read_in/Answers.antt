@@ -13,7 +13,7 @@ returns-in-Ok-clause-read c text more dump same whole =
     let r = reached (λ v. v.time) c.before_body-pieces.result.0 in
     let next = reached (λ v. v.time) c.in-Ok.pieces in
     let header = rw c.in-Ok-Some.field-0-is at c.in-Ok-Some.ensures.header in
-    reads-start r c.in-Ok-Some.found.head begun.nets begun.progress begun.bracket begun.place text
+    reads-start r c.in-Ok-Some.found.head begun.nets begun.progress begun.dump_section begun.place text
     (tokens c.args.front.now) more same (header text more) next
     (subst (λ (b : List Token). rest_of unchanged or_time r b more ≡ rest_of unchanged or_time next [] more) begun.body
     (c.in-Ok.ensures.rest more)) dump whole
@@ -24,7 +24,7 @@ returns-in-Ok-Some-clause-fails c text more same =
     let r = reached (λ v. v.time) c.before_body-pieces.result.0 in
     let fault = c.in-Err-read.fault in
     let header = rw c.in-Ok-Some.field-0-is at c.in-Ok-Some.ensures.header in
-    fails-start r c.in-Ok-Some.found.head begun.nets begun.progress begun.bracket begun.place text
+    fails-start r c.in-Ok-Some.found.head begun.nets begun.progress begun.dump_section begun.place text
     (tokens c.args.front.now) more same (header text more) fault
     (subst (λ (b : List Token). ReadFails fault (rest_of unchanged or_time r b more)) begun.body
     (c.in-Err-read.ensures.rest more))

@@ -9,18 +9,18 @@ returns-in-Ok-clause-rest g c = λ more.
     let read = c.before_body-pieces.ensures in
     begun-outcome c.args.fault c.args.lines.now.slots c.args.bound_groups.now c.args.front.head c.in-Ok.made
     (reached (λ (made : BuilderState). made) c.before_body-pieces.result.0) _ more
-    c.in-Ok.ensures read.nets read.progress read.bracket read.place read.body
+    c.in-Ok.ensures read.nets read.progress read.dump_section read.place read.body
 
 pub returns-in-Ok-clause-reading : goal.returns-in-Ok-clause-reading
 returns-in-Ok-clause-reading g c = λ more.
     let read = c.before_body-pieces.ensures in
     begun_reading c.args.fault c.args.lines.now.slots c.args.bound_groups.now c.args.front.head c.in-Ok.made
     (reached (λ (made : BuilderState). made) c.before_body-pieces.result.0) _ more
-    c.in-Ok.ensures read.nets read.progress read.bracket read.place read.body
+    c.in-Ok.ensures read.nets read.progress read.dump_section read.place read.body
 
 pub returns-in-Ok-clause-formed : goal.returns-in-Ok-clause-formed
 returns-in-Ok-clause-formed g c = λ ts more.
     let read = c.before_body-pieces.ensures in
     begun_formed c.args.lines.now.slots c.args.bound_groups.now c.in-Ok.made
     (reached (λ (made : BuilderState). made) c.before_body-pieces.result.0) ts more
-    c.in-Ok.ensures read.progress read.bracket read.place
+    c.in-Ok.ensures read.progress read.dump_section read.place

@@ -13,10 +13,10 @@ invariant-loop-self g l = record {
   rest : (more : List Token)
       → remaining_in g.T.ChangeVisitor.with_change g.T.ChangeVisitor.with_instant (place_of l.fn.self.place)
       l.fn.self.codes.now l.fn.self.reader (body_fold (g.T.ChangeVisitor.taken l.fn.self.timed.visitor)
-      l.fn.self.timed.clock) l.fn.self.bracket more
+      l.fn.self.timed.clock) l.fn.self.dump_section more
       ≡ remaining_in g.T.ChangeVisitor.with_change g.T.ChangeVisitor.with_instant (place_of l.self.place)
       l.self.codes.now l.self.reader (body_fold (g.T.ChangeVisitor.taken l.self.timed.visitor) l.self.timed.clock)
-      l.self.bracket more;
+      l.self.dump_section more;
 }
 
 abbrev pub decreases-loop-self : goal.decreases-loop-self

@@ -21,12 +21,13 @@ returns-then-is_end-clause-rest g c =
     let ended = comment_end line (left_at text c.loop-word.self.reader.at ++ more) (left_at text after ++ more) t
     (ap (λ (ts : List Token). ts ++ more) cut) (sym c.is_end.ensures ∙ c.if-is_end.true) in
     ap (until_fault g.T.ChangeVisitor.with_change g.T.ChangeVisitor.with_instant old.codes.now
-    (state_of old.reader.text (body_fold (g.T.ChangeVisitor.taken old.timed.visitor) old.timed.clock) old.bracket))
+    (state_of old.reader.text (body_fold (g.T.ChangeVisitor.taken old.timed.visitor) old.timed.clock) old.dump_section))
     (inv.rest more ∙ ended)
     ∙ same_left g.T.ChangeVisitor.with_change g.T.ChangeVisitor.with_instant old.codes.now c.loop-word.self.codes.now
     text c.next.new.self.text (body_fold (g.T.ChangeVisitor.taken old.timed.visitor) old.timed.clock)
-    (body_fold (g.T.ChangeVisitor.taken c.loop-word.self.timed.visitor) c.loop-word.self.timed.clock) old.bracket
-    c.loop-word.self.bracket _ (place_of c.loop-word.self.place) after (cc) (cc) (rw inv.timed refl) inv.bracket
+    (body_fold (g.T.ChangeVisitor.taken c.loop-word.self.timed.visitor) c.loop-word.self.timed.clock) old.dump_section
+    c.loop-word.self.dump_section _ (place_of c.loop-word.self.place) after (cc) (cc) (rw inv.timed refl)
+    inv.dump_section
     (ap place_of (inv.place ∙ c.requires.between)) more
 
 pub loop-word-preserved : goal.loop-word-preserved
@@ -41,7 +42,7 @@ loop-word-preserved g c =
       codes = inv.codes;
       text = c.in-Some.ensures.text ∙ inv.text;
       timed = inv.timed;
-      bracket = inv.bracket;
+      dump_section = inv.dump_section;
       forward = omega (arith, c.in-Some.ensures.forward, inv.forward);
       place = inv.place;
       rest = λ more. inv.rest more ∙ comment_more line (left_at text c.loop-word.self.reader.at ++ more)
@@ -59,13 +60,13 @@ returns-clause-rest g c =
     let later = c.in_default.ensures.text ∙ inv.text in
     let none = rw inv.text at c.in_default.ensures.token in
     let end = rw inv.text at c.in_default.ensures.end in
-    let s = state_of text (body_fold (g.T.ChangeVisitor.taken old.timed.visitor) old.timed.clock) old.bracket in
+    let s = state_of text (body_fold (g.T.ChangeVisitor.taken old.timed.visitor) old.timed.clock) old.dump_section in
     λ more.
     ap (until_fault g.T.ChangeVisitor.with_change g.T.ChangeVisitor.with_instant old.codes.now s) (inv.rest more)
     ∙ nothing_left g.T.ChangeVisitor.with_change g.T.ChangeVisitor.with_instant old.codes.now s place
     (left_at text c.loop-word.self.reader.at) (left_at text after) none end more
     ∙ same_left g.T.ChangeVisitor.with_change g.T.ChangeVisitor.with_instant old.codes.now c.loop-word.self.codes.now
     text c.next.new.self.text (body_fold (g.T.ChangeVisitor.taken old.timed.visitor) old.timed.clock)
-    (body_fold (g.T.ChangeVisitor.taken c.loop-word.self.timed.visitor) c.loop-word.self.timed.clock) old.bracket
-    c.loop-word.self.bracket place (in_comment c.line.result) after (cc) later (rw inv.timed refl) inv.bracket
+    (body_fold (g.T.ChangeVisitor.taken c.loop-word.self.timed.visitor) c.loop-word.self.timed.clock) old.dump_section
+    c.loop-word.self.dump_section place (in_comment c.line.result) after (cc) later (rw inv.timed refl) inv.dump_section
     (ap in_comment (c.line.ensures ∙ ap (λ (x : BodyPiece). line_of x c.args.start) later)) more

@@ -9,7 +9,7 @@ invariant-loop-word g l = record {
   codes : l.self.codes ≡ l.fn.self.codes;
   text : l.self.reader.text ≡ l.fn.self.reader.text;
   timed : l.self.timed ≡ l.fn.self.timed;
-  bracket : l.self.bracket ≡ l.fn.self.bracket;
+  dump_section : l.self.dump_section ≡ l.fn.self.dump_section;
   forward : l.fn.self.reader.at ≤ l.self.reader.at;
   place : l.self.place ≡ l.fn.self.place;
   rest : (more : List Token) → body_from (in_comment (line_of l.fn.self.reader.text l.start))

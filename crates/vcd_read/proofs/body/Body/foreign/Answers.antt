@@ -17,13 +17,13 @@ returns-in-Some-clause-rest g c =
     let line = line_of text c.args.start in
     let after = c.next.new.self.at in
     let t = token_at text c.in-Some.code.at c.in-Some.code.bytes.now in
-    let h = subst (λ (x : BodyPiece). ReadGives (λ _. state_of later timed old.bracket) c.skip.result
-    (step g.T.ChangeVisitor.with_change g.T.ChangeVisitor.with_instant old.codes.now (state_of x timed old.bracket)
+    let h = subst (λ (x : BodyPiece). ReadGives (λ _. state_of later timed old.dump_section) c.skip.result
+    (step g.T.ChangeVisitor.with_change g.T.ChangeVisitor.with_instant old.codes.now (state_of x timed old.dump_section)
     (skipped (line_of x c.args.start) t.bytes))) c.in-Some.ensures.text c.skip.ensures.step in
     let is = λ (more : List Token). foreign_read line (left_at text old.reader.at ++ more) (left_at text after ++ more)
     t (ap (λ (ts : List Token). ts ++ more) c.in-Some.ensures.token) in
     read_item g.T.ChangeVisitor.with_change g.T.ChangeVisitor.with_instant old.codes.now old.codes.now
-    (state_of text timed old.bracket) (state_of later timed old.bracket) text later after after old.place
+    (state_of text timed old.dump_section) (state_of later timed old.dump_section) text later after after old.place
     (skipped line t.bytes) _ c.skip.result
     refl c.in-Some.ensures.text refl c.requires.between is h
     (keeps_same timed c.skip.result)

@@ -1,7 +1,8 @@
 use Rattle.std.proofs.Common.{◌∙◌, ◌++◌, List, sym, ap}
 use Rattle.vcd_read.specs.Tokens.{Token}
 use Rattle.vcd_read.specs.Reading.{left_at, token_at}
-use Rattle.vcd_read.specs.Body.{time_item, change, bracket_open, bracket_end, time_shape, scalar, vector, foreign}
+use Rattle.vcd_read.specs.Body.{time_item, change, dump_section_open, dump_section_end, time_shape, scalar, vector}
+use Rattle.vcd_read.specs.Body.{foreign}
 use Rattle.vcd_read.specs.Body.{comment, open_shape, end_shape, none}
 use Rattle.vcd_read.specs.Shapes.{found_shape}
 use Rattle.vcd_read.specs.Bodies.{until_fault}
@@ -18,8 +19,9 @@ returns-in-Time-clause-rest g c =
     (sym (ap found_shape c.in-Time.is) ∙ c.shape_of.ensures) in
     let new = c.time.new.self in
     read_item g.T.ChangeVisitor.with_change g.T.ChangeVisitor.with_instant old.codes.now new.codes.now
-    (state_of old.reader.text (body_fold (g.T.ChangeVisitor.taken old.timed.visitor) old.timed.clock) old.bracket)
-    (state_of new.reader.text (body_fold (g.T.ChangeVisitor.taken new.timed.visitor) new.timed.clock) new.bracket) text
+    (state_of old.reader.text (body_fold (g.T.ChangeVisitor.taken old.timed.visitor) old.timed.clock) old.dump_section)
+    (state_of new.reader.text (body_fold (g.T.ChangeVisitor.taken new.timed.visitor) new.timed.clock) new.dump_section)
+    text
     new.reader.text old.reader.at new.reader.at new.place (time_item t.line c.in-Time.digits.now) _ c.time.result
     (cc) (cc) (cc) (cc) is c.time.ensures.step c.time.ensures.kept
 
@@ -32,8 +34,9 @@ returns-in-Scalar-clause-rest g c =
     (scalar c.in-Scalar.digit.now c.in-Scalar.code.now) (sym (ap found_shape c.in-Scalar.is) ∙ c.shape_of.ensures) in
     let new = c.change.new.self in
     read_item g.T.ChangeVisitor.with_change g.T.ChangeVisitor.with_instant old.codes.now new.codes.now
-    (state_of old.reader.text (body_fold (g.T.ChangeVisitor.taken old.timed.visitor) old.timed.clock) old.bracket)
-    (state_of new.reader.text (body_fold (g.T.ChangeVisitor.taken new.timed.visitor) new.timed.clock) new.bracket) text
+    (state_of old.reader.text (body_fold (g.T.ChangeVisitor.taken old.timed.visitor) old.timed.clock) old.dump_section)
+    (state_of new.reader.text (body_fold (g.T.ChangeVisitor.taken new.timed.visitor) new.timed.clock) new.dump_section)
+    text
     new.reader.text old.reader.at new.reader.at new.place (change t.line c.in-Scalar.digit.now c.in-Scalar.code.now) _
     c.change.result
     (cc) (cc) (cc) (cc) is c.change.ensures.step c.change.ensures.kept
@@ -47,9 +50,10 @@ returns-in-Opens-clause-rest g c =
     (sym (ap found_shape c.in-Opens.is) ∙ c.shape_of.ensures) in
     let new = c.open.new.self in
     read_item g.T.ChangeVisitor.with_change g.T.ChangeVisitor.with_instant old.codes.now new.codes.now
-    (state_of old.reader.text (body_fold (g.T.ChangeVisitor.taken old.timed.visitor) old.timed.clock) old.bracket)
-    (state_of new.reader.text (body_fold (g.T.ChangeVisitor.taken new.timed.visitor) new.timed.clock) new.bracket) text
-    new.reader.text old.reader.at new.reader.at new.place (bracket_open t.line) _ c.open.result
+    (state_of old.reader.text (body_fold (g.T.ChangeVisitor.taken old.timed.visitor) old.timed.clock) old.dump_section)
+    (state_of new.reader.text (body_fold (g.T.ChangeVisitor.taken new.timed.visitor) new.timed.clock) new.dump_section)
+    text
+    new.reader.text old.reader.at new.reader.at new.place (dump_section_open t.line) _ c.open.result
     (cc) (cc) (cc) (cc) is c.open.ensures.step c.open.ensures.kept
 
 pub returns-in-Ends-clause-rest : goal.returns-in-Ends-clause-rest
@@ -61,9 +65,10 @@ returns-in-Ends-clause-rest g c =
     (sym (ap found_shape c.in-Ends.is) ∙ c.shape_of.ensures) in
     let new = c.close.new.self in
     read_item g.T.ChangeVisitor.with_change g.T.ChangeVisitor.with_instant old.codes.now new.codes.now
-    (state_of old.reader.text (body_fold (g.T.ChangeVisitor.taken old.timed.visitor) old.timed.clock) old.bracket)
-    (state_of new.reader.text (body_fold (g.T.ChangeVisitor.taken new.timed.visitor) new.timed.clock) new.bracket) text
-    new.reader.text old.reader.at new.reader.at new.place (bracket_end t.line) _ c.close.result
+    (state_of old.reader.text (body_fold (g.T.ChangeVisitor.taken old.timed.visitor) old.timed.clock) old.dump_section)
+    (state_of new.reader.text (body_fold (g.T.ChangeVisitor.taken new.timed.visitor) new.timed.clock) new.dump_section)
+    text
+    new.reader.text old.reader.at new.reader.at new.place (dump_section_end t.line) _ c.close.result
     (cc) (cc) (cc) (cc) is c.close.ensures.step c.close.ensures.kept
 
 pub returns-in-Vector-clause-rest : goal.returns-in-Vector-clause-rest
@@ -76,7 +81,7 @@ returns-in-Vector-clause-rest g c =
     leaves_same _ _ _ _ _ c.vector.result (λ more. ap (until_fault g.T.ChangeVisitor.with_change
     g.T.ChangeVisitor.with_instant old.codes.now (state_of old.reader.text (body_fold
     (g.T.ChangeVisitor.taken old.timed.visitor) old.timed.clock)
-    old.bracket)) (is more)) c.vector.ensures.rest
+    old.dump_section)) (is more)) c.vector.ensures.rest
 
 pub returns-in-Foreign-clause-rest : goal.returns-in-Foreign-clause-rest
 returns-in-Foreign-clause-rest g c =
@@ -88,7 +93,7 @@ returns-in-Foreign-clause-rest g c =
     leaves_same _ _ _ _ _ c.foreign.result (λ more. ap (until_fault g.T.ChangeVisitor.with_change
     g.T.ChangeVisitor.with_instant old.codes.now (state_of old.reader.text (body_fold
     (g.T.ChangeVisitor.taken old.timed.visitor) old.timed.clock)
-    old.bracket)) (is more)) c.foreign.ensures.rest
+    old.dump_section)) (is more)) c.foreign.ensures.rest
 
 pub returns-in-Comment-clause-rest : goal.returns-in-Comment-clause-rest
 returns-in-Comment-clause-rest g c =
@@ -100,7 +105,7 @@ returns-in-Comment-clause-rest g c =
     leaves_same _ _ _ _ _ c.comment.result (λ more. ap (until_fault g.T.ChangeVisitor.with_change
     g.T.ChangeVisitor.with_instant old.codes.now (state_of old.reader.text (body_fold
     (g.T.ChangeVisitor.taken old.timed.visitor) old.timed.clock)
-    old.bracket)) (is more)) c.comment.ensures.rest
+    old.dump_section)) (is more)) c.comment.ensures.rest
 
 pub returns-in-Unknown-clause-rest : goal.returns-in-Unknown-clause-rest
 returns-in-Unknown-clause-rest g c =
@@ -110,6 +115,6 @@ returns-in-Unknown-clause-rest g c =
     let is = λ (more : List Token). shape_read t (left_at text old.reader.at ++ more) none
     (sym (ap found_shape c.in-Unknown.is) ∙ c.shape_of.ensures) in
     rw c.fault.ensures (λ more. read_wrong g.T.ChangeVisitor.with_change g.T.ChangeVisitor.with_instant old.codes.now
-    (state_of old.reader.text (body_fold (g.T.ChangeVisitor.taken old.timed.visitor) old.timed.clock) old.bracket)
+    (state_of old.reader.text (body_fold (g.T.ChangeVisitor.taken old.timed.visitor) old.timed.clock) old.dump_section)
     t.line
     _ _ _ (is more))

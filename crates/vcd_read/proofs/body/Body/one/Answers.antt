@@ -16,7 +16,7 @@ returns-then-not-finds_token-clause-rest g c =
     λ more.
     rw c.finds_token.ensures.text
     (ap (λ (ts : List Token). until_fault g.T.ChangeVisitor.with_change g.T.ChangeVisitor.with_instant old.codes.now
-    (state_of old.reader.text (body_fold (g.T.ChangeVisitor.taken old.timed.visitor) old.timed.clock) old.bracket)
+    (state_of old.reader.text (body_fold (g.T.ChangeVisitor.taken old.timed.visitor) old.timed.clock) old.dump_section)
     (body_from (place_of old.place) (ts ++ more))) (sym c.finds_token.ensures.left))
 
 pub returns-clause-rest : goal.returns-clause-rest
@@ -28,6 +28,6 @@ returns-clause-rest g c =
     leaves_same _ _ _ _ _ c.item.result
     (λ more. rw (c.requires, c.word-bytes.ensures.text, c.finds_token.ensures.text)
     (ap (λ (ts : List Token). until_fault g.T.ChangeVisitor.with_change g.T.ChangeVisitor.with_instant old.codes.now
-    (state_of text (body_fold (g.T.ChangeVisitor.taken old.timed.visitor) old.timed.clock) old.bracket)
+    (state_of text (body_fold (g.T.ChangeVisitor.taken old.timed.visitor) old.timed.clock) old.dump_section)
     (body_from ready (ts ++ more))) cut))
     c.item.ensures.rest

@@ -11,7 +11,7 @@ returns-in-Ready-clause-rest g c =
     let old = c.args.self.now in
     λ more. ap (λ (p : BodyPlace). until_fault g.T.ChangeVisitor.with_change g.T.ChangeVisitor.with_instant
     old.codes.now
-    (state_of old.reader.text (body_fold (g.T.ChangeVisitor.taken old.timed.visitor) old.timed.clock) old.bracket)
+    (state_of old.reader.text (body_fold (g.T.ChangeVisitor.taken old.timed.visitor) old.timed.clock) old.dump_section)
     (body_from p (left_at old.reader.text old.reader.at ++ more)))
     (ap place_of (sym c.in-Ready.ensures.value ∙ sym c.replace.ensures.after))
 
@@ -21,7 +21,7 @@ returns-in-Vector-clause-rest g c =
     leaves_same _ _ _ _ _ c.vector.result
     (λ more. ap (λ (p : BodyPlace). until_fault g.T.ChangeVisitor.with_change g.T.ChangeVisitor.with_instant
     old.codes.now
-    (state_of old.reader.text (body_fold (g.T.ChangeVisitor.taken old.timed.visitor) old.timed.clock) old.bracket)
+    (state_of old.reader.text (body_fold (g.T.ChangeVisitor.taken old.timed.visitor) old.timed.clock) old.dump_section)
     (body_from p (left_at old.reader.text old.reader.at ++ more))) (ap place_of (sym c.in-Vector.ensures.value)
     ∙ ap (code_of_vector c.in-Vector.digits.line) (sym c.as_slice.ensures.value)))
     c.vector.ensures.rest
@@ -32,7 +32,7 @@ returns-in-Foreign-clause-rest g c =
     leaves_same _ _ _ _ _ c.foreign.result
     (λ more. ap (λ (p : BodyPlace). until_fault g.T.ChangeVisitor.with_change g.T.ChangeVisitor.with_instant
     old.codes.now
-    (state_of old.reader.text (body_fold (g.T.ChangeVisitor.taken old.timed.visitor) old.timed.clock) old.bracket)
+    (state_of old.reader.text (body_fold (g.T.ChangeVisitor.taken old.timed.visitor) old.timed.clock) old.dump_section)
     (body_from p (left_at old.reader.text old.reader.at ++ more))) (ap place_of (sym c.in-Foreign.ensures.value)))
     c.foreign.ensures.rest
 
@@ -42,6 +42,6 @@ returns-in-Comment-clause-rest g c =
     leaves_same _ _ _ _ _ c.comment.result
     (λ more. ap (λ (p : BodyPlace). until_fault g.T.ChangeVisitor.with_change g.T.ChangeVisitor.with_instant
     old.codes.now
-    (state_of old.reader.text (body_fold (g.T.ChangeVisitor.taken old.timed.visitor) old.timed.clock) old.bracket)
+    (state_of old.reader.text (body_fold (g.T.ChangeVisitor.taken old.timed.visitor) old.timed.clock) old.dump_section)
     (body_from p (left_at old.reader.text old.reader.at ++ more))) (ap place_of (sym c.in-Comment.ensures.value)))
     c.comment.ensures.rest

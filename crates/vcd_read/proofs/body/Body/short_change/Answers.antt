@@ -25,7 +25,7 @@ returns-in-Some-clause-rest g c =
     read_on g.T.ChangeVisitor.with_change g.T.ChangeVisitor.with_instant old.codes.now new.codes.now
     (body_fold (g.T.ChangeVisitor.taken old.timed.visitor) old.timed.clock)
     (body_fold (g.T.ChangeVisitor.taken new.timed.visitor) new.timed.clock)
-    old.bracket new.bracket text c.short_change.new.self.text after
+    old.dump_section new.dump_section text c.short_change.new.self.text after
     (change t.line digit code) _ c.change.result (cc) c.in-Some.ensures.text is step c.change.ensures.kept
 
 pub returns-in-Some-next-clause-rest : goal.returns-in-Some-next-clause-rest
@@ -56,6 +56,6 @@ returns-in-Some-next-clause-rest g c =
     read_on g.T.ChangeVisitor.with_change g.T.ChangeVisitor.with_instant old.codes.now new.codes.now
     (body_fold (g.T.ChangeVisitor.taken old.timed.visitor) old.timed.clock)
     (body_fold (g.T.ChangeVisitor.taken new.timed.visitor) new.timed.clock)
-    old.bracket new.bracket text c.next.new.self.text after
+    old.dump_section new.dump_section text c.next.new.self.text after
     (change t.line digits code.bytes) _ c.change-in-Some-next.result (cc)
     (c.in-Some-next.ensures.text ∙ text_is) is step c.change-in-Some-next.ensures.kept

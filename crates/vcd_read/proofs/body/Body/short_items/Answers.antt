@@ -15,7 +15,7 @@ loop-init g c =
     let again = c.again-reader.result in
     let s = λ (p : BodyPiece) (at : ℕ) (more : List Token). until_fault g.T.ChangeVisitor.with_change
     g.T.ChangeVisitor.with_instant old.codes.now
-    (state_of p (body_fold (g.T.ChangeVisitor.taken old.timed.visitor) old.timed.clock) old.bracket)
+    (state_of p (body_fold (g.T.ChangeVisitor.taken old.timed.visitor) old.timed.clock) old.dump_section)
     (body_from ready (left_at p at ++ more)) in
     record {
       codes = refl;
@@ -53,5 +53,5 @@ returns-clause-rest g c =
     ∙ sym (ap (λ (r : Reader). r.text) (read.same.0 ∙ c.loop.invariant.still)) in
     λ more. c.loop.invariant.rest more ∙ read.rest more
     ∙ ap (λ (p : BodyPiece). until_fault g.T.ChangeVisitor.with_change g.T.ChangeVisitor.with_instant new.codes.now
-    (state_of p (body_fold (g.T.ChangeVisitor.taken new.timed.visitor) new.timed.clock) new.bracket)
+    (state_of p (body_fold (g.T.ChangeVisitor.taken new.timed.visitor) new.timed.clock) new.dump_section)
     (body_from ready (left_at p c.short_item.new.reader.at ++ more))) same

@@ -23,5 +23,5 @@ returns-in-Some-clause-rest g c =
     read_on g.T.ChangeVisitor.with_change g.T.ChangeVisitor.with_instant old.codes.now new.codes.now
     (body_fold (g.T.ChangeVisitor.taken old.timed.visitor) old.timed.clock)
     (body_fold (g.T.ChangeVisitor.taken new.timed.visitor) new.timed.clock)
-    old.bracket new.bracket text c.short_time.new.self.text after
+    old.dump_section new.dump_section text c.short_time.new.self.text after
     (time_item t.line digits) _ c.go_to.result (cc) c.in-Some.ensures.text is step c.go_to.ensures.kept

@@ -18,7 +18,8 @@ returns-in-Some-clause-rest g c =
     let is = λ (more : List Token). vector_read line c.args.digits.now (left_at text old.reader.at ++ more)
     (left_at text after ++ more) t (ap (λ (ts : List Token). ts ++ more) c.in-Some.ensures.token) in
     read_item g.T.ChangeVisitor.with_change g.T.ChangeVisitor.with_instant old.codes.now new.codes.now
-    (state_of old.reader.text (body_fold (g.T.ChangeVisitor.taken old.timed.visitor) old.timed.clock) old.bracket)
-    (state_of new.reader.text (body_fold (g.T.ChangeVisitor.taken new.timed.visitor) new.timed.clock) new.bracket) text
+    (state_of old.reader.text (body_fold (g.T.ChangeVisitor.taken old.timed.visitor) old.timed.clock) old.dump_section)
+    (state_of new.reader.text (body_fold (g.T.ChangeVisitor.taken new.timed.visitor) new.timed.clock) new.dump_section)
+    text
     new.reader.text after new.reader.at new.place (change line c.args.digits.now t.bytes) _ c.change.result
     (cc) (cc) (cc) (cc) is h c.change.ensures.kept

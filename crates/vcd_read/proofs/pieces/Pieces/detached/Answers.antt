@@ -18,7 +18,7 @@ returns-in-Ready-clause-read g c =
           read-whole g.N.ChangeVisitor.with_change g.N.ChangeVisitor.with_instant c.args.self.now.codes
           (before_piece (g.N.ChangeVisitor.taken c.args.visitor) c.in_ok-time.time)
           (state_at (body_fold (g.N.ChangeVisitor.taken c.in-Ok.field-0.timed.visitor) c.in-Ok.field-0.timed.clock)
-          c.in-Ok.field-0.bracket) c.in-Ok.field-0.place (left_from line piece 0) (tokens_from line piece)
+          c.in-Ok.field-0.dump_section) c.in-Ok.field-0.place (left_from line piece 0) (tokens_from line piece)
           (left-whole line piece) c.in-Ready.is (c.in-Ok.ensures []);
       line = c.line-behind.ensures ∙ ap (line_behind line) (take-length piece);
     }

@@ -19,5 +19,5 @@ pub returns-in-Err : goal.returns-in-Err
 returns-in-Err g c =
     let p = c.args.self.pieces in
     fails-whole c.args.self.fault c.in-Err.fault (finished builder_change builder_instant p.codes
-    (body_fold p.state.timed.visitor p.state.timed.clock) p.state.bracket (place_of p.state.place))
+    (body_fold p.state.timed.visitor p.state.timed.clock) p.state.dump_section (place_of p.state.place))
     c.in-Err.ensures

@@ -17,6 +17,6 @@ pub returns-in-Err-clause-rest : goal.returns-in-Err-clause-rest
 returns-in-Err-clause-rest g c =
     let p = c.args.self.pieces in
     let read = ahead builder_change builder_instant p.codes (body_fold p.state.timed.visitor p.state.timed.clock)
-    p.state.bracket (place_of p.state.place) (tokens_from p.line c.args.piece.now) in
+    p.state.dump_section (place_of p.state.place) (tokens_from p.line c.args.piece.now) in
     fails-outcome c.args.self.fault c.in-Err.fault (λ more. outcome c.args.self.fault
     (read more >>= at_end builder_instant)) read (λ more. refl) c.in-Err.ensures.rest
