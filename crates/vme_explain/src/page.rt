@@ -1,7 +1,7 @@
 //! The text that explains a verdict.
 
 ghost use Rattle.std.specs.Prelude.{IfOk};
-ghost use Rattle.vme_text.specs.Visible.{IsVisible};
+ghost use Rattle.vme_text.specs.Escaping.{IsVisible};
 
 use crate::broken::{push_driver, push_others};
 use crate::driver::push_label;
@@ -17,7 +17,7 @@ use vcd_read::Variable;
 use vme_account::{Account, Part};
 use vme_listing::{AnswerLine, Direction, Row, data_digits};
 use vme_rules::push_rule;
-use vme_text::{Text, shown_text};
+use vme_text::{Text, escaped_text};
 use vme_trace::{Break, Class, Lanes, Line, Lines, Verdict};
 
 /// How many characters the names of rows take at least.
@@ -54,7 +54,7 @@ pub fn explanation(alloc: Global, subject: &Subject<'_>) -> Result<Text, AllocEr
     }
     // names are shown already, as lines are wrapped by what is shown; so is whatever else stands there
     let lines = wrapped(alloc, text.as_bytes())?;
-    shown_text(alloc, lines.as_bytes())
+    escaped_text(alloc, lines.as_bytes())
 }
 
 /// Why and where a rule is broken.

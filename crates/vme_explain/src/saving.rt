@@ -4,7 +4,7 @@ ghost use Rattle.std.specs.Prelude.{◌≡◌};
 ghost use Rattle.vme_explain.specs.Saving.{is_one_file, is_same, is_this_file, save_refusal};
 
 use std::alloc::{AllocError, Global};
-use vme_text::{Text, push_shown};
+use vme_text::{Text, push_escaped};
 
 /// Which file of the system a file is, whatever path or link leads to it: its device, and its number there.
 #[derive(Clone, Copy, Debug, PartialEq, Eq)]
@@ -93,7 +93,7 @@ pub fn save_refusal_text(
 ) -> Result<Text, AllocError> {
     let mut text = Text::new(alloc);
     text.push(b"vmecheck: nothing is written over ")?;
-    push_shown(&mut text, alloc, path.as_bytes())?;
+    push_escaped(&mut text, alloc, path.as_bytes())?;
     match refusal {
         SaveRefusal::Binding => text.push(b": it is the binding\n")?,
         SaveRefusal::Dump => text.push(b": it is the dump\n")?,

@@ -2,7 +2,7 @@
 
 use std::alloc::{AllocError, Global};
 use vcd_read::Variable;
-use vme_text::{Text, push_shown};
+use vme_text::{Text, push_escaped};
 use vme_trace::{Line, MOST_SLOTS};
 
 /// What a line is bound to.
@@ -161,7 +161,7 @@ pub(crate) fn push_variable(
     variables: &[Variable],
 ) -> Result<(), AllocError> {
     let (path, _) = path_of(bound.source);
-    push_shown(text, alloc, path)?;
+    push_escaped(text, alloc, path)?;
     match bit_of(bound, variables) {
         Some(bit) => {
             text.push(b"[")?;

@@ -8,7 +8,7 @@ use crate::page::{Subject, shown_time};
 use crate::sources::{assignment_in, bits_before, bound_to, path_of, variable_of};
 use std::alloc::{AllocError, Global};
 use vcd_read::Variable;
-use vme_text::{Text, push_shown};
+use vme_text::{Text, push_escaped};
 use vme_trace::{Break, Verdict};
 
 /// How many instants before the break the picture begins.
@@ -140,7 +140,7 @@ fn push_broken(text: &mut Text, alloc: Global, subject: &Subject<'_>) -> Result<
     let before = bits_before(&bound, subject.variables);
     text.push_decimal(alloc, u64::from(before))?;
     text.push(b")")?;
-    push_shown(text, alloc, path)?;
+    push_escaped(text, alloc, path)?;
     push_index(text, alloc, variable)?;
     text.push(b"\n")
 }
@@ -233,7 +233,7 @@ fn push_traces(
         if variable.path.as_bytes() == path {
             let form = if variable.size == 1 { "@28\n" } else { "@22\n" };
             text.push(form.as_bytes())?;
-            push_shown(text, alloc, path)?;
+            push_escaped(text, alloc, path)?;
             push_index(text, alloc, variable)?;
             text.push(b"\n")?;
         }

@@ -7,7 +7,7 @@ ghost use Rattle.vme_declarations.specs.Surveys.{variables_in};
 ghost use Rattle.vme_find.specs.Recordings.{AreSlots, HasSlots, IsFindFault, MakesRecording, MakesRecordings};
 ghost use Rattle.vme_find.specs.Recordings.{finds_all};
 ghost use Rattle.vme_find.specs.declared.writing.FindFault.TheVariants.{Memory};
-ghost use Rattle.vme_text.specs.Visible.{IsVisible};
+ghost use Rattle.vme_text.specs.Escaping.{IsVisible};
 
 use crate::constants::constant_text;
 use std::alloc::{AllocError, Global};

@@ -5,8 +5,8 @@ use Rattle.std.proofs.lemmas.Bool.{and_from, eqb-true}
 use Rattle.std.proofs.lemmas.List.{append-nil}
 use Rattle.std.proofs.lemmas.List.Folds.{list_all-append}
 use Rattle.std.specs.List.{list_all}
-use Rattle.vme_text.proofs.VisibleLemmas.{text_is_visible}
-use Rattle.vme_text.specs.Visible.{IsVisible, is_visible, shown_byte}
+use Rattle.vme_text.proofs.EscapingLemmas.{text_is_visible}
+use Rattle.vme_text.specs.Escaping.{IsVisible, is_visible, hex_escaped_byte}
 use Rattle.vme_picture.specs.Markup.{AreAttributes, IsMarkup, MarkupTree, nothing, characters, end_of_line, element}
 use Rattle.vme_picture.specs.Markup.{attribute_name, attribute_text, element_text, escaped, escaped_byte, markup_text}
 use Rattle.vme_picture.specs.Markup.{tag_name}
@@ -20,15 +20,15 @@ both : (xs ys : List ℕ) → IsVisible xs → IsVisible ys → IsVisible (xs ++
 both xs ys first second =
     list_all-append is_visible xs ys ∙ and_from (list_all is_visible xs) (list_all is_visible ys) first second
 
-shown : (b : ℕ) → IsVisible (shown_byte b)
+shown : (b : ℕ) → IsVisible (hex_escaped_byte b)
 shown b = by_test (b == 10) refl
   where
-    by_test : (t : Bool) → (b == 10) ≡ t → IsVisible (shown_byte b)
-    by_test true e = subst (λ (n : ℕ). IsVisible (shown_byte n)) (sym (eqb-true b 10 e)) refl
+    by_test : (t : Bool) → (b == 10) ≡ t → IsVisible (hex_escaped_byte b)
+    by_test true e = subst (λ (n : ℕ). IsVisible (hex_escaped_byte n)) (sym (eqb-true b 10 e)) refl
     by_test false e =
-        let in_text : IsVisible ((if false then b ∷ [] else shown_byte b) ++ []) = subst
-        (λ (t : Bool). IsVisible ((if t then b ∷ [] else shown_byte b) ++ [])) e (text_is_visible (b ∷ [])) in
-        subst IsVisible (append-nil (shown_byte b)) in_text
+        let in_text : IsVisible ((if false then b ∷ [] else hex_escaped_byte b) ++ []) = subst
+        (λ (t : Bool). IsVisible ((if t then b ∷ [] else hex_escaped_byte b) ++ [])) e (text_is_visible (b ∷ [])) in
+        subst IsVisible (append-nil (hex_escaped_byte b)) in_text
 
 escaped_one : (b : ℕ) → IsVisible (escaped_byte b)
 escaped_one b = by_tests (b == 38) (b == 60) (b == 62) (b == 34)
@@ -39,7 +39,7 @@ escaped_one b = by_tests (b == 38) (b == 60) (b == 62) (b == 34)
         else if u then codes "&lt;"
         else if v then codes "&gt;"
         else if w then codes "&quot;"
-        else shown_byte b)
+        else hex_escaped_byte b)
     by_tests true u v w = refl
     by_tests false true v w = refl
     by_tests false false true w = refl

@@ -1,6 +1,6 @@
 -- Markup: elements, characters and ends of lines, well nested, in which every name is escaped.
 use Rattle.std.specs.Prelude.{◌≡◌, ℕ, ◌==◌, ◌++◌, ◌∷◌, [], List, codes, flat_map, if◌then◌else◌}
-use Rattle.vme_text.specs.Visible.{shown_byte}
+use Rattle.vme_text.specs.Escaping.{hex_escaped_byte}
 use Rattle.vme_picture.specs.declared.markup.Attribute.{Attribute}
 use Rattle.vme_picture.specs.declared.markup.Attribute.TheVariants as attribute
 use Rattle.vme_picture.specs.declared.markup.Tag.{Tag}
@@ -13,7 +13,7 @@ escaped_byte b =
     else if b == 60 then codes "&lt;"
     else if b == 62 then codes "&gt;"
     else if b == 34 then codes "&quot;"
-    else shown_byte b
+    else hex_escaped_byte b
 
 abbrev pub escaped : List ℕ → List ℕ
 escaped bytes = flat_map escaped_byte bytes

@@ -4,7 +4,7 @@ ghost use Rattle.std.specs.Prelude.{◌≡◌, ◌++◌, IfOk, OnOk, OnErr};
 ghost use Rattle.vme_picture.specs.Markup.{escaped, escaped_byte};
 
 use std::alloc::{AllocError, Global};
-use vme_text::{Text, push_shown};
+use vme_text::{Text, push_escaped};
 
 /// Some bytes as characters of markup: `&`, `<`, `>` and `"` as entities, and any other as it is shown to people.
 pub(crate) fn escaped(alloc: Global, bytes: &[u8]) -> Result<Text, AllocError>
@@ -26,6 +26,6 @@ fn push_escaped_byte(text: &mut Text, alloc: Global, byte: u8) -> Result<(), All
         b'<' => text.push(b"&lt;"),
         b'>' => text.push(b"&gt;"),
         b'"' => text.push(b"&quot;"),
-        _ => push_shown(text, alloc, &[byte]),
+        _ => push_escaped(text, alloc, &[byte]),
     }
 }

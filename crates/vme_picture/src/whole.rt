@@ -3,7 +3,7 @@
 ghost use Rattle.std.specs.Prelude.{◌≡◌, IfOk, nat_eq};
 ghost use Rattle.std.specs.List.{starts_with};
 ghost use Rattle.vme_picture.specs.Pictures.{IsPicture, picture_first_line};
-ghost use Rattle.vme_text.specs.Visible.{IsVisible};
+ghost use Rattle.vme_text.specs.Escaping.{IsVisible};
 
 use crate::axis::{push_axis, push_events};
 use crate::buses::push_buses;

@@ -4,7 +4,7 @@ use crate::fitting::{AtRest, Fitted};
 use crate::paths::{Naming, Paths, selection_of};
 use std::alloc::{AllocError, Global};
 use vme_declarations::{FoundLines, VariableBit, group_of};
-use vme_text::{Text, push_shown};
+use vme_text::{Text, push_escaped};
 use vme_trace::{LINE_COUNT, Line, MOST_SLOTS};
 
 /// What to know of a line that wasn't found, by the beginning of its name.
@@ -450,7 +450,7 @@ impl<'a> Proposal<'a> {
         if let Some(variable) = paths.variable(variable) {
             let mut path = Text::new(self.alloc);
             paths.push_path(&mut path, variable)?;
-            push_shown(&mut self.text, self.alloc, path.as_bytes())?;
+            push_escaped(&mut self.text, self.alloc, path.as_bytes())?;
         }
         self.text.push(AMBIGUOUS.as_bytes())?;
         self.push_hint(name)
@@ -484,7 +484,7 @@ fn push_scope(text: &mut Text, alloc: Global, scope: &[u8]) -> Result<(), AllocE
     if scope.is_empty() {
         text.push(b"(none)")
     } else {
-        push_shown(text, alloc, scope)
+        push_escaped(text, alloc, scope)
     }
 }
 
@@ -500,6 +500,6 @@ pub(crate) fn push_searched(
         text.push(b"outside of all scopes")
     } else {
         text.push(b"in scope ")?;
-        push_shown(text, alloc, &found.scope)
+        push_escaped(text, alloc, &found.scope)
     }
 }

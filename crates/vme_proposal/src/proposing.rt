@@ -1,7 +1,7 @@
 //! A binding for the lines that were found, and what is said of it.
 
 ghost use Rattle.std.specs.Prelude.{IfOk};
-ghost use Rattle.vme_text.specs.Visible.{IsVisible};
+ghost use Rattle.vme_text.specs.Escaping.{IsVisible};
 
 use crate::fitting::Fitted;
 use crate::paths::Paths;

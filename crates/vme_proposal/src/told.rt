@@ -1,13 +1,13 @@
 //! What was found for the lines of a backplane, in one line for people.
 
 ghost use Rattle.std.specs.Prelude.{IfOk};
-ghost use Rattle.vme_text.specs.Visible.{IsVisible};
+ghost use Rattle.vme_text.specs.Escaping.{IsVisible};
 
 use crate::fitting::Fitted;
 use crate::proposal::{Proposal, push_searched};
 use std::alloc::{AllocError, Global};
 use vme_declarations::group_of;
-use vme_text::{Text, shown_text};
+use vme_text::{Text, escaped_text};
 use vme_trace::{Line, MOST_SLOTS};
 
 /// How many groups of lines a binding names.
@@ -111,7 +111,7 @@ pub(crate) fn told(alloc: Global, proposal: &Proposal<'_>, slots: u8) -> Result<
     ensures { IfOk result (λ text. IsVisible text) }
 {
     let line = line_told(alloc, proposal, slots)?;
-    shown_text(alloc, line.as_bytes())
+    escaped_text(alloc, line.as_bytes())
 }
 
 /// The same, with the path of a scope as it is.
@@ -154,7 +154,7 @@ pub fn told_constants(alloc: Global) -> Result<Text, AllocError>
     line.push(b"vmecheck: bound 0 of 19 groups: what was found makes no recording of the dump")?;
     line.push(REMEDY.as_bytes())?;
     line.push(b"\n")?;
-    shown_text(alloc, line.as_bytes())
+    escaped_text(alloc, line.as_bytes())
 }
 
 /// How many groups are bound so.

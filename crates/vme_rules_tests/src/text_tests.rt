@@ -1,6 +1,6 @@
 use crate::tests::is_text;
 use std::alloc::{AllocError, Global};
-use vme_text::{Text, push_shown, shown_text};
+use vme_text::{Text, escaped_text, push_escaped};
 
 /// Adds bytes, spaces and a number.
 fn push_all(alloc: Global, text: &mut Text) -> Result<(), AllocError> {
@@ -28,7 +28,7 @@ const BYTES: &[u8] = b"\x1F ~\x7F\x80\xFF\x00\x1B[31m\n\t\\\xE2\x80\xAE";
 fn are_shown(alloc: Global, shown: &[u8]) -> bool {
     let mut text = Text::new(alloc);
     text.push(b"as ").is_ok()
-        && push_shown(&mut text, alloc, BYTES).is_ok()
+        && push_escaped(&mut text, alloc, BYTES).is_ok()
         && text.as_bytes() == shown
 }
 
@@ -41,14 +41,14 @@ fn names_are_shown_by_visible_characters(rt: HostRuntime) {
 #[test]
 fn texts_keep_their_lines(rt: HostRuntime) {
     let shown = b"\\x1F ~\\x7F\\x80\\xFF\\x00\\x1B[31m\n\\x09\\\\xE2\\x80\\xAE";
-    assert!(rt; is_text(shown_text(rt.alloc(), BYTES), shown));
-    assert!(rt; is_text(shown_text(rt.alloc(), b""), b""));
+    assert!(rt; is_text(escaped_text(rt.alloc(), BYTES), shown));
+    assert!(rt; is_text(escaped_text(rt.alloc(), b""), b""));
 }
 
 /// Whether a text has what is shown of a tab, or is as it was.
 fn is_shown_or_as_before(alloc: Global) -> bool {
     let mut text = Text::new(alloc);
-    match push_shown(&mut text, alloc, b"a\t") {
+    match push_escaped(&mut text, alloc, b"a\t") {
         Ok(()) => text.as_bytes() == b"a\\x09".as_slice(),
         Err(_) => text.as_bytes().is_empty(),
     }
@@ -56,7 +56,7 @@ fn is_shown_or_as_before(alloc: Global) -> bool {
 
 /// Whether a text of two lines is shown, or memory is refused.
 fn are_lines_shown_or_refused(alloc: Global) -> bool {
-    match shown_text(alloc, b"a\n") {
+    match escaped_text(alloc, b"a\n") {
         Ok(lines) => lines.as_bytes() == b"a\n".as_slice(),
         Err(_) => true,
     }

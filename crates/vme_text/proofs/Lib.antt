@@ -1,1 +1,1 @@
-pub mod VisibleLemmas
+pub mod EscapingLemmas

@@ -1,1 +1,1 @@
-pub mod Visible
+pub mod Escaping

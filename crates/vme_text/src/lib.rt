@@ -3,13 +3,13 @@
 //! # Parts
 //!
 //! - `text`: a [`Text`] grows by bytes, decimal numbers and spaces.
-//! - `visible`: [`push_shown`], names as they are shown to people; [`shown_text`], whole texts.
+//! - `escaping`: [`push_escaped`], names as they are shown to people; [`escaped_text`], whole texts.
 //!
 //! # What is proved
 //!
 //! A text grows by exactly what was pushed (`ok`), and every call leaves it as it was where there
 //! is no memory (`err`). What isn't a visible character or a space is shown as `\xHH` (`ok` of
-//! `push_shown`, `items`), but for the line feeds of a whole text, which then has nothing else
+//! `push_escaped`, `items`), but for the line feeds of a whole text, which then has nothing else
 //! (`visible`).
 //!
 //! # What isn't proved
@@ -17,8 +17,8 @@
 //! That memory suffices. What a text says is for its callers. Start reading at [`Text::push`].
 #![tactic(auto)]
 
+mod escaping;
 mod text;
-mod visible;
 
+pub use escaping::{escaped_text, push_escaped};
 pub use text::Text;
-pub use visible::{push_shown, shown_text};

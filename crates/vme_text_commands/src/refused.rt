@@ -15,7 +15,7 @@ use vme_answer::{Refusal, refusal_line};
 use vme_bind::BindKind;
 use vme_faults::{FileKind, Kind, push_page};
 use vme_stream::complain;
-use vme_text::{Text, push_shown};
+use vme_text::{Text, push_escaped};
 use vme_trace::Sink;
 
 /// How many columns a line has, at most.
@@ -181,7 +181,7 @@ fn push_binding(
 
 /// Appends the name of a file and the number of a line.
 fn push_place(shown: &mut Text, alloc: Global, name: &[u8], number: u64) -> Result<(), AllocError> {
-    push_shown(shown, alloc, name)?;
+    push_escaped(shown, alloc, name)?;
     shown.push(b", line ")?;
     shown.push_decimal(alloc, number)?;
     shown.push(b":\n")
@@ -194,7 +194,7 @@ fn push_file(
     name: &[u8],
     kind: FileKind,
 ) -> Result<(), AllocError> {
-    push_shown(shown, alloc, name)?;
+    push_escaped(shown, alloc, name)?;
     shown.push(b" is ")?;
     shown.push(kind.name().as_bytes())?;
     shown.push(b":\n")?;
@@ -382,9 +382,9 @@ fn push_marked(
     if from > 0 {
         quoted.push(b".. ")?;
     }
-    push_shown(&mut quoted, alloc, front.get(from..).unwrap_or(b""))?;
+    push_escaped(&mut quoted, alloc, front.get(from..).unwrap_or(b""))?;
     let before = quoted.as_bytes().len();
-    push_shown(
+    push_escaped(
         &mut quoted,
         alloc,
         token.get(..fitting(token, SIDE)).unwrap_or(b""),
@@ -397,7 +397,7 @@ fn push_marked(
             .saturating_sub(quoted.as_bytes().len())
             .saturating_sub(8);
         let kept = fitting(rest, room);
-        push_shown(&mut quoted, alloc, rest.get(..kept).unwrap_or(b""))?;
+        push_escaped(&mut quoted, alloc, rest.get(..kept).unwrap_or(b""))?;
         if kept < rest.len() {
             quoted.push(b" ..")?;
         }

@@ -4,7 +4,7 @@
 use std::alloc::{AllocError, Global};
 use vcd_read::Variable;
 use vme_faults::nearest;
-use vme_text::{Text, push_shown};
+use vme_text::{Text, push_escaped};
 
 /// How many paths are told, at most.
 const MOST: usize = 3;
@@ -68,7 +68,7 @@ fn push_width(
     let (first, last) = numbers_of(faulty.name, faulty.slots);
     push_variable(shown, alloc, variable)?;
     shown.push(b", and ")?;
-    push_shown(shown, alloc, faulty.name)?;
+    push_escaped(shown, alloc, faulty.name)?;
     shown.push(b" has ")?;
     push_count(
         shown,
@@ -80,7 +80,7 @@ fn push_width(
     match variable.index {
         Some((left, right)) if last < first && first <= left && right <= last => {
             shown.push(b"these bits fit: ")?;
-            push_shown(shown, alloc, variable.path.as_bytes())?;
+            push_escaped(shown, alloc, variable.path.as_bytes())?;
             push_index(shown, alloc, first, last)?;
             shown.push(b"\n")
         }
@@ -90,7 +90,7 @@ fn push_width(
 
 /// Appends the path of a variable with its index, and how many bits it has.
 fn push_variable(shown: &mut Text, alloc: Global, variable: &Variable) -> Result<(), AllocError> {
-    push_shown(shown, alloc, variable.path.as_bytes())?;
+    push_escaped(shown, alloc, variable.path.as_bytes())?;
     if let Some((left, right)) = variable.index {
         push_index(shown, alloc, left, right)?;
     }

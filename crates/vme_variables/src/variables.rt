@@ -5,13 +5,13 @@ ghost use Rattle.vcd_read.specs.Meaning.{ReadFails, dump_of, instants_from};
 ghost use Rattle.vcd_read.specs.declared.dump.Instant.{Instant};
 ghost use Rattle.vcd_read.specs.declared.fault.FaultKind.TheVariants.{Memory};
 ghost use Rattle.vme_declarations.specs.Dumps.{IsDump};
-ghost use Rattle.vme_text.specs.Visible.{IsVisible};
+ghost use Rattle.vme_text.specs.Escaping.{IsVisible};
 
 use crate::changes::ChangeCounts;
 use crate::timescale::push_timescale;
 use std::alloc::{AllocError, Global};
 use vcd_read::{FaultKind, Head, Variable, Variables, VcdFault, read_definitions};
-use vme_text::{Text, shown_text};
+use vme_text::{Text, escaped_text};
 
 /// The variables of the text of a dump, one a line in the order of their declaration: how many changes the dump has of
 /// each, how many bits it has, and its path with its index, as a binding names it. Before them stand the time scale and
@@ -79,7 +79,7 @@ fn written(
     ensures { IfOk result (λ text. IsVisible text) }
 {
     let lines = lines_of(alloc, dump, variables, changes)?;
-    shown_text(alloc, lines.as_bytes())
+    escaped_text(alloc, lines.as_bytes())
 }
 
 /// The lines of the text, with the names as they are.

@@ -3,7 +3,7 @@ use Rattle.vme_picture.proofs.VisibleMarkup.{picture_is_visible}
 use Rattle.vme_picture.specs.Markup.{element_text}
 use Rattle.vme_picture.specs.Pictures.{picture_first_line}
 use Rattle.vme_picture.specs.declared.markup.Tag.TheVariants.{Svg}
-use Rattle.vme_text.specs.Visible.{IsVisible}
+use Rattle.vme_text.specs.Escaping.{IsVisible}
 use Rattle.vme_picture.proofs.whole.picture.Goals as goal
 
 pub returns-clause-visible : goal.returns-clause-visible

@@ -1,46 +1,46 @@
 //! Text as it is shown to people: no byte of it steers a terminal or turns the direction of a line.
 
 ghost use Rattle.std.specs.Prelude.{◌≡◌, ◌<◌, ◌++◌, IfOk, OnErr, OnOk, flat_map};
-ghost use Rattle.vme_text.specs.Visible.{IsVisible, digit_of, shown_byte, shown_in_text};
+ghost use Rattle.vme_text.specs.Escaping.{IsVisible, digit_of, hex_escaped_byte, hex_escaped_in_text};
 
 use crate::text::Text;
 use std::alloc::{AllocError, Global};
 
 /// Appends some bytes as they are shown to people: each that isn't a space or a visible character of ASCII, 20 to 7E,
 /// is written as `\xHH`. Without memory the text is as before.
-pub fn push_shown(text: &mut Text, alloc: Global, bytes: &[u8]) -> Result<(), AllocError>
-    ensures ok { OnOk result (text.new ≡ text.old ++ flat_map shown_byte bytes.now) }
+pub fn push_escaped(text: &mut Text, alloc: Global, bytes: &[u8]) -> Result<(), AllocError>
+    ensures ok { OnOk result (text.new ≡ text.old ++ flat_map hex_escaped_byte bytes.now) }
     ensures err { OnErr result (text.new ≡ text.old) }
 {
-    let shown = shown(alloc, bytes)?;
-    text.push(&shown)
+    let escaped = escaped(alloc, bytes)?;
+    text.push(&escaped)
 }
 
 /// A text of several lines as it is shown to people: its line feeds stay, and each other byte that isn't a space or a
 /// visible character of ASCII is written as `\xHH`. The only error is want of memory.
-#[tactic(auto, using(crate::proofs::VisibleLemmas::text_is_visible))]
-pub fn shown_text(alloc: Global, bytes: &[u8]) -> Result<Text, AllocError>
-    ensures items { IfOk result (λ text. text ≡ flat_map shown_in_text bytes.now) }
+#[tactic(auto, using(crate::proofs::EscapingLemmas::text_is_visible))]
+pub fn escaped_text(alloc: Global, bytes: &[u8]) -> Result<Text, AllocError>
+    ensures items { IfOk result (λ text. text ≡ flat_map hex_escaped_in_text bytes.now) }
     ensures visible { IfOk result (λ text. IsVisible text) }
 {
-    let shown = shown_lines(alloc, bytes)?;
-    Ok(Text::from_bytes(shown))
+    let escaped = escaped_lines(alloc, bytes)?;
+    Ok(Text::from_bytes(escaped))
 }
 
 /// Some bytes as they are shown to people.
-fn shown(alloc: Global, bytes: &[u8]) -> Result<Vec<u8>, AllocError>
-    ensures { IfOk result (λ all. all.items ≡ flat_map shown_byte bytes.now) }
+fn escaped(alloc: Global, bytes: &[u8]) -> Result<Vec<u8>, AllocError>
+    ensures { IfOk result (λ all. all.items ≡ flat_map hex_escaped_byte bytes.now) }
 {
     let mut all = Vec::with_capacity(alloc, bytes.len())?;
     for byte in bytes {
-        push_shown_byte(&mut all, *byte)?;
+        push_escaped_byte(&mut all, *byte)?;
     }
     Ok(all)
 }
 
 /// The same of several lines.
-fn shown_lines(alloc: Global, bytes: &[u8]) -> Result<Vec<u8>, AllocError>
-    ensures { IfOk result (λ all. all.items ≡ flat_map shown_in_text bytes.now) }
+fn escaped_lines(alloc: Global, bytes: &[u8]) -> Result<Vec<u8>, AllocError>
+    ensures { IfOk result (λ all. all.items ≡ flat_map hex_escaped_in_text bytes.now) }
 {
     let mut all = Vec::with_capacity(alloc, bytes.len())?;
     for byte in bytes {
@@ -50,17 +50,17 @@ fn shown_lines(alloc: Global, bytes: &[u8]) -> Result<Vec<u8>, AllocError>
 }
 
 fn push_byte_of_lines(all: &mut Vec<u8>, byte: u8) -> Result<(), AllocError>
-    ensures { OnOk result (all.new.items ≡ all.old.items ++ shown_in_text byte) }
+    ensures { OnOk result (all.new.items ≡ all.old.items ++ hex_escaped_in_text byte) }
 {
     if byte == b'\n' {
         all.extend_from_slice(&[byte])
     } else {
-        push_shown_byte(all, byte)
+        push_escaped_byte(all, byte)
     }
 }
 
-fn push_shown_byte(all: &mut Vec<u8>, byte: u8) -> Result<(), AllocError>
-    ensures { OnOk result (all.new.items ≡ all.old.items ++ shown_byte byte) }
+fn push_escaped_byte(all: &mut Vec<u8>, byte: u8) -> Result<(), AllocError>
+    ensures { OnOk result (all.new.items ≡ all.old.items ++ hex_escaped_byte byte) }
 {
     if 0x20 <= byte && byte <= 0x7E {
         all.extend_from_slice(&[byte])

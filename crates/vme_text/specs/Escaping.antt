@@ -8,13 +8,13 @@ abbrev pub digit_of : ℕ → ℕ
 digit_of n = if nat_lt n 10 then 48 + n else 55 + n
 
 -- a space or a visible character as it is, any other byte as a backslash, an x and its last two digits
-abbrev pub shown_byte : ℕ → List ℕ
-shown_byte b =
+abbrev pub hex_escaped_byte : ℕ → List ℕ
+hex_escaped_byte b =
     if nat_le 32 b && nat_le b 126 then b ∷ [] else 92 ∷ 120 ∷ digit_of (b / 16 % 16) ∷ digit_of (b % 16) ∷ []
 
 -- in a text of several lines their ends stay
-abbrev pub shown_in_text : ℕ → List ℕ
-shown_in_text b = if b == 10 then b ∷ [] else shown_byte b
+abbrev pub hex_escaped_in_text : ℕ → List ℕ
+hex_escaped_in_text b = if b == 10 then b ∷ [] else hex_escaped_byte b
 
 -- a byte is a space, a visible character or a line feed
 abbrev pub is_visible : ℕ → Bool

@@ -4,7 +4,7 @@ use Rattle.std.proofs.Common.{◌∙◌, arith, flat_map, if◌then◌else◌, l
 use Rattle.std.proofs.lemmas.Bool.{and_from, or_left, or_right}
 use Rattle.std.proofs.lemmas.List.Folds.{list_all-append}
 use Rattle.std.specs.List.{list_all}
-use Rattle.vme_text.specs.Visible.{digit_of, is_visible, shown_byte, shown_in_text}
+use Rattle.vme_text.specs.Escaping.{digit_of, is_visible, hex_escaped_byte, hex_escaped_in_text}
 
 visible-character : (b : ℕ) → 32 ≤ b → b ≤ 126 → is_visible b ≡ true
 visible-character b least most =
@@ -27,7 +27,7 @@ visible-both : (xs ys : List ℕ) → list_all is_visible xs ≡ true → list_a
 visible-both xs ys first rest =
     list_all-append is_visible xs ys ∙ and_from (list_all is_visible xs) (list_all is_visible ys) first rest
 
-visible-byte : (b : ℕ) → list_all is_visible (shown_byte b) ≡ true
+visible-byte : (b : ℕ) → list_all is_visible (hex_escaped_byte b) ≡ true
 visible-byte b = by_test (nat_le 32 b && nat_le b 126) refl
   where
     by_test : (t : Bool) → (nat_le 32 b && nat_le b 126) ≡ t
@@ -38,14 +38,14 @@ visible-byte b = by_test (nat_le 32 b && nat_le b 126) refl
         let last = visible-first (digit_of (b % 16)) [] (visible-digit (b % 16) (omega arith)) refl in
         visible-first (digit_of (b / 16 % 16)) (digit_of (b % 16) ∷ []) (visible-digit (b / 16 % 16) (omega arith)) last
 
-visible-in_text : (b : ℕ) → list_all is_visible (shown_in_text b) ≡ true
+visible-in_text : (b : ℕ) → list_all is_visible (hex_escaped_in_text b) ≡ true
 visible-in_text b = by_test (b == 10) refl
   where
-    by_test : (t : Bool) → (b == 10) ≡ t → list_all is_visible (if t then b ∷ [] else shown_byte b) ≡ true
+    by_test : (t : Bool) → (b == 10) ≡ t → list_all is_visible (if t then b ∷ [] else hex_escaped_byte b) ≡ true
     by_test true e = visible-first b [] (or_right (nat_le 32 b && nat_le b 126) (b == 10) e) refl
     by_test false e = visible-byte b
 
-pub text_is_visible : (bs : List ℕ) → list_all is_visible (flat_map shown_in_text bs) ≡ true
+pub text_is_visible : (bs : List ℕ) → list_all is_visible (flat_map hex_escaped_in_text bs) ≡ true
 text_is_visible [] = refl
 text_is_visible (b ∷ bs) =
-    visible-both (shown_in_text b) (flat_map shown_in_text bs) (visible-in_text b) (text_is_visible bs)
+    visible-both (hex_escaped_in_text b) (flat_map hex_escaped_in_text bs) (visible-in_text b) (text_is_visible bs)
