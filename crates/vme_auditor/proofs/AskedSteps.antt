@@ -22,7 +22,7 @@ use Rattle.vme_monitor.specs.Along.{changes_of, memory_from, next_at}
 use Rattle.vme_monitor.specs.Ends.{end_among}
 use Rattle.vme_monitor.specs.KnownRules.{known_begin, known_end_fault, known_next, known_start_marks, known_reset_marks}
 use Rattle.vme_monitor.specs.OverStretches.{has_started, judging, phase_step, start_in}
-use Rattle.vme_monitor.specs.Run.{nothing, quiet}
+use Rattle.vme_monitor.specs.Run.{no_step_marks, quiet}
 use Rattle.vme_monitor.specs.declared.known.Stateless.{Stateless}
 use Rattle.vme_monitor.specs.declared.mark.Next.{Next}
 use Rattle.vme_monitor.specs.declared.mark.StepMarks.{StepMarks}
@@ -120,7 +120,7 @@ waits_on e phase.Ended o v w cs kinds h = absurd (cc)
 
 -- what ends a span is what the step does to the phase
 ends_here : (p : HandshakeMemory) (v w : Levels) (o : Option End) (s : Option HandshakeEdge)
-    → waits (judging dtb_begin dtb_start_marks nothing dtb_end_fault dtb_step p v w o s).memory ≡ true
+    → waits (judging dtb_begin dtb_start_marks no_step_marks dtb_end_fault dtb_step p v w o s).memory ≡ true
     → (l : End) × (o ≡ Some l)
 ends_here p v w (Some e) s h = (e, refl)
 ends_here p v w None None h = absurd (cc)
@@ -133,7 +133,7 @@ is_over phase.Reset = false
 is_over phase.Ended = true
 
 lost_here : (p : HandshakeMemory) (v w : Levels) (o : Option End) (s : Option HandshakeEdge)
-    → is_over (judging dtb_begin dtb_start_marks nothing dtb_end_fault dtb_step p v w o s).memory ≡ true
+    → is_over (judging dtb_begin dtb_start_marks no_step_marks dtb_end_fault dtb_step p v w o s).memory ≡ true
     → (l : End) × (o ≡ Some l)
 lost_here p v w (Some e) s h = (e, refl)
 lost_here p v w None None h = absurd (cc)
@@ -146,7 +146,8 @@ is_judging phase.Reset = false
 is_judging phase.Ended = false
 
 goes_here : (p : HandshakeMemory) (v w : Levels) (o : Option End) (s : Option HandshakeEdge)
-    → is_judging (judging dtb_begin dtb_start_marks nothing dtb_end_fault dtb_step p v w o s).memory ≡ true → o ≡ None
+    → is_judging (judging dtb_begin dtb_start_marks no_step_marks dtb_end_fault dtb_step p v w o s).memory ≡ true → o
+    ≡ None
 goes_here p v w (Some end.Reset) s h = absurd (cc)
 goes_here p v w (Some (end.Lost l)) s h = absurd (cc)
 goes_here p v w None s h = refl
@@ -270,22 +271,24 @@ module _ (t : Trace) (ok : malformed_step t ≡ None) (few : t.opening.slots ≤
           ∙ ap (λ b. asks_by e r || b) (sym over ∙ sym (happened_more (suc n) n (omega arith)))
 
       step_of : (p : HandshakeMemory) → phase_at n ≡ phase.Judging p
-          → outer_next dtb_begin dtb_start_marks nothing dtb_end_fault dtb_observation dtb_step t few ok n
-          ≡ judging dtb_begin dtb_start_marks nothing dtb_end_fault dtb_step p v w ends (dtb_observation v w (cs_at n))
-      step_of p at = rw at (outer_judging dtb_begin dtb_start_marks nothing dtb_end_fault dtb_observation dtb_step v w
-          (cs_at n) p)
+          → outer_next dtb_begin dtb_start_marks no_step_marks dtb_end_fault dtb_observation dtb_step t few ok n
+          ≡ judging dtb_begin dtb_start_marks no_step_marks dtb_end_fault dtb_step p v w ends
+          (dtb_observation v w (cs_at n))
+      step_of p at = rw at (outer_judging dtb_begin dtb_start_marks no_step_marks dtb_end_fault dtb_observation dtb_step
+          v w (cs_at n) p)
 
       -- it ends the span
       ended : (p : HandshakeMemory) (l : End) → phase_at n ≡ phase.Judging p → ends ≡ Some l → now ≡ before
       ended p l at e = rw (at, e) refl
 
-      module _ (work : IsAtWork dtb_begin dtb_start_marks nothing dtb_end_fault dtb_observation dtb_step t few ok
+      module _ (work : IsAtWork dtb_begin dtb_start_marks no_step_marks dtb_end_fault dtb_observation dtb_step t few ok
           n) where
         abbrev here : Stretch
         here = span_from t work.start
 
         abbrev p : HandshakeMemory
-        p = inner_at dtb_begin dtb_start_marks nothing dtb_end_fault dtb_observation dtb_step t few ok work.start n
+        p = inner_at dtb_begin dtb_start_marks no_step_marks dtb_end_fault dtb_observation dtb_step t few ok work.start
+            n
 
         past_and_here : (k : ℕ) → list_any (happened_by k) (started t n)
             ≡ (list_any (happened_by k) work.past || happened_by k here)
@@ -308,7 +311,8 @@ module _ (t : Trace) (ok : malformed_step t ≡ None) (few : t.opening.slots ≤
           ends = refl;
         }
 
-        module _ (on : JudgesOn dtb_begin dtb_start_marks nothing dtb_end_fault dtb_observation dtb_step t few ok n
+        module _ (on : JudgesOn dtb_begin dtb_start_marks no_step_marks dtb_end_fault dtb_observation dtb_step t few ok
+            n
             work) where
           none_ends : ends ≡ None
           none_ends =
@@ -347,7 +351,7 @@ module _ (t : Trace) (ok : malformed_step t ≡ None) (few : t.opening.slots ≤
               ∙ ap (λ b. b || happened_by (suc n) here) (sym (all_over n work.past work.over))
               ∙ sym (past_and_here (suc n)) ∙ sym (happened_more (suc n) n (omega arith)))
 
-        reset_on : Resets dtb_begin dtb_start_marks nothing dtb_end_fault dtb_observation dtb_step t few ok n work
+        reset_on : Resets dtb_begin dtb_start_marks no_step_marks dtb_end_fault dtb_observation dtb_step t few ok n work
             → HaveHappened e (suc n)
         reset_on reset =
             let end = ends_here p v w ends (dtb_observation v w (cs_at n))
@@ -355,7 +359,7 @@ module _ (t : Trace) (ok : malformed_step t ≡ None) (few : t.opening.slots ≤
             (sym (step_of p work.memory) ∙ reset.step)) in
             stopped end.0 end.1 (omega (arith, reset.last))
 
-        lost_on : Loses dtb_begin dtb_start_marks nothing dtb_end_fault dtb_observation dtb_step t few ok n work
+        lost_on : Loses dtb_begin dtb_start_marks no_step_marks dtb_end_fault dtb_observation dtb_step t few ok n work
             → HaveHappened e (suc n)
         lost_on loses =
             let end = lost_here p v w ends (dtb_observation v w (cs_at n))
@@ -365,7 +369,7 @@ module _ (t : Trace) (ok : malformed_step t ≡ None) (few : t.opening.slots ≤
 
       -- no span runs
       idle_on : AreOver n (started t n)
-          → Stands dtb_begin dtb_start_marks nothing dtb_end_fault dtb_observation dtb_step t few ok n
+          → Stands dtb_begin dtb_start_marks no_step_marks dtb_end_fault dtb_observation dtb_step t few ok n
           → HaveHappened e (suc n)
       idle_on over (inl rest) =
           unjudged (waits_on before (phase_at n) ends v w (cs_at n) kinds rest.waiting) (all_over n (started t n) over)
@@ -376,14 +380,15 @@ module _ (t : Trace) (ok : malformed_step t ≡ None) (few : t.opening.slots ≤
 
       happened_next : HaveHappened e (suc n)
       happened_next =
-          elim (moves dtb_begin dtb_start_marks nothing dtb_end_fault dtb_observation dtb_step t few ok n within) [
+          elim (moves dtb_begin dtb_start_marks no_step_marks dtb_end_fault dtb_observation dtb_step t few ok n
+          within) [
             | inl stays ↦ idle_on stays.over
-                (stands dtb_begin dtb_start_marks nothing dtb_end_fault dtb_observation dtb_step t few ok n
+                (stands dtb_begin dtb_start_marks no_step_marks dtb_end_fault dtb_observation dtb_step t few ok n
                 (omega arith))
             | inr moving ↦
                 elim moving [
                   | inl starts ↦ idle_on starts.over
-                      (stands dtb_begin dtb_start_marks nothing dtb_end_fault dtb_observation dtb_step t few ok n
+                      (stands dtb_begin dtb_start_marks no_step_marks dtb_end_fault dtb_observation dtb_step t few ok n
                       (omega arith))
                   | inr works ↦
                       elim works.does [

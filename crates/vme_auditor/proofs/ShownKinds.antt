@@ -9,7 +9,7 @@ use Rattle.vme_trace.specs.declared.step.Change.{Change}
 use Rattle.vme_monitor.specs.BothMonitors.{kind_number}
 use Rattle.vme_monitor.specs.Ends.{end_among}
 use Rattle.vme_monitor.specs.OverStretches.{judging, observed, phase_step}
-use Rattle.vme_monitor.specs.Run.{answer_kind, answered_kind, cycle_kind, kinds_of, machine_step, nothing, quiet}
+use Rattle.vme_monitor.specs.Run.{answer_kind, answered_kind, cycle_kind, kinds_of, machine_step, no_step_marks, quiet}
 use Rattle.vme_monitor.specs.Run.{when}
 use Rattle.vme_monitor.specs.KnownRules.{known_begin, known_end_fault, known_next, known_start_marks, known_reset_marks}
 use Rattle.vme_monitor.specs.KnownRules.{known_observation}
@@ -38,7 +38,7 @@ use Rattle.vme_auditor.specs.declared.memories.Memories.{Memories}
 -- what a machine shows that is led over stretches is what it shows as it starts, where it is reset, or by its rules
 module _ {P S : Type 0} (begin : Levels → P) (start_marks : Levels → StepMarks) (reset_marks : StepMarks)
     (end_fault : ℕ → Option Fault)
-    (next : P → Levels → Levels → S → Next P) (IsOwn : StepMarks → Type 0) (none : IsOwn nothing)
+    (next : P → Levels → Levels → S → Next P) (IsOwn : StepMarks → Type 0) (none : IsOwn no_step_marks)
     (opened : (v : Levels) → IsOwn (start_marks v)) (reset : IsOwn reset_marks)
     (stepped : (p : P) (v w : Levels) (s : S) → IsOwn (next p v w s).shown) where
   waiting_own : (m : StretchPhase P) (w : Levels) (b : Bool)
@@ -79,13 +79,13 @@ module _ {P S : Type 0} (begin : Levels → P) (start_marks : Levels → StepMar
 
 -- the kinds of the stretch, of the tenure, and of the cycle and the transfer
 abbrev pub OfStretch : StepMarks → Type 0
-OfStretch k = k ≡ record nothing { reset = k.reset; start = k.start }
+OfStretch k = k ≡ record no_step_marks { reset = k.reset; start = k.start }
 
 abbrev pub OfTenure : StepMarks → Type 0
-OfTenure k = k ≡ record nothing { opened = k.opened; tenure = k.tenure; tenure_end = k.tenure_end }
+OfTenure k = k ≡ record no_step_marks { opened = k.opened; tenure = k.tenure; tenure_end = k.tenure_end }
 
 abbrev pub OfTransfer : StepMarks → Type 0
-OfTransfer k = k ≡ record nothing {
+OfTransfer k = k ≡ record no_step_marks {
   cycle = k.cycle;
   cycle_end = k.cycle_end;
   transfer = k.transfer;
@@ -94,7 +94,7 @@ OfTransfer k = k ≡ record nothing {
 }
 
 abbrev IsNothing : StepMarks → Type 0
-IsNothing k = k ≡ nothing
+IsNothing k = k ≡ no_step_marks
 
 module _ (m : Memories) (v w : Levels) (cs : List Change) where
   pub known_own : OfStretch (known_at m.known v w cs).shown
@@ -104,22 +104,23 @@ module _ (m : Memories) (v w : Levels) (cs : List Change) where
 
   pub grant_own : OfTenure (grant_at m.grant v w cs).shown
   grant_own =
-      shown_own grant_begin grant_start_marks nothing grant_end_fault grant_next OfTenure refl (λ v. refl) refl
+      shown_own grant_begin grant_start_marks no_step_marks grant_end_fault grant_next OfTenure refl (λ v. refl) refl
       (λ p v w s. refl) grant_observation v w cs m.grant
 
   pub handshake_own : OfTransfer (handshake_at m.handshake v w cs).shown
   handshake_own =
-      shown_own dtb_begin dtb_start_marks nothing dtb_end_fault dtb_step OfTransfer refl (λ v. refl) refl
+      shown_own dtb_begin dtb_start_marks no_step_marks dtb_end_fault dtb_step OfTransfer refl (λ v. refl) refl
       (λ p v w s. refl) dtb_observation v w cs m.handshake
 
   pub stability_own : IsNothing (stability_at m.stability v w cs).shown
   stability_own =
-      shown_own stability_begin stability_start_marks nothing stability_end_fault stability_next IsNothing refl
+      shown_own stability_begin stability_start_marks no_step_marks stability_end_fault stability_next IsNothing refl
       (λ v. refl) refl (λ p v w s. refl) stability_observation v w cs m.stability
 
   pub acknowledge_own : IsNothing (acknowledge_at m.acknowledge v w cs).shown
   acknowledge_own =
-      shown_own acknowledge_begin acknowledge_start_marks nothing acknowledge_end_fault acknowledge_next IsNothing refl
+      shown_own acknowledge_begin acknowledge_start_marks no_step_marks acknowledge_end_fault acknowledge_next IsNothing
+      refl
       (λ v. refl) refl (λ p v w s. refl) acknowledge_observation v w cs m.acknowledge
 
 -- numbers of kinds below a bound, and from one on
@@ -149,7 +150,7 @@ answer_from line None = lit≤ tt
 answer_from line (Some lanes) = lit≤ tt
 
 -- the kinds of the stretch come first
-stretch_pieces : (reset start : Bool) → AllBelow 2 (kinds_of (record nothing { reset = reset; start = start }))
+stretch_pieces : (reset start : Bool) → AllBelow 2 (kinds_of (record no_step_marks { reset = reset; start = start }))
 stretch_pieces true true = (lit< tt, (lit< tt, tt))
 stretch_pieces true false = (lit< tt, tt)
 stretch_pieces false true = (lit< tt, tt)
@@ -161,7 +162,7 @@ stretch_below k own = subst (λ (k : StepMarks). AllBelow 2 (kinds_of k)) (sym o
 -- then those of the tenure
 abbrev of_tenure : Bool → Option BusGrant → Bool → StepMarks
 of_tenure opened tenure tenure_end =
-    record nothing { opened = opened; tenure = tenure; tenure_end = tenure_end }
+    record no_step_marks { opened = opened; tenure = tenure; tenure_end = tenure_end }
 
 tenure_below_pieces : (opened : Bool) (tenure : Option BusGrant) (tenure_end : Bool)
     → AllBelow 5 (kinds_of (of_tenure opened tenure tenure_end))
@@ -201,7 +202,7 @@ module _ (n : ℕ) (few : n ≤ 5) where
   transfer_pieces : (cycle : Option CycleStart) (cycle_end : Bool) (transfer : Option Bool)
       (answer : Option TransferAnswer)
       (close : Bool)
-      → AllFrom n (kinds_of (record nothing {
+      → AllFrom n (kinds_of (record no_step_marks {
         cycle = cycle;
         cycle_end = cycle_end;
         transfer = transfer;

@@ -6,7 +6,7 @@ use Rattle.vme_trace.specs.declared.step.Change.{Change}
 use Rattle.vme_trace.specs.Names.{rule_number}
 use Rattle.vme_trace.specs.declared.verdict.Break.{Break}
 use Rattle.vme_monitor.specs.OverStretches.{observed, phase_step, start_in}
-use Rattle.vme_monitor.specs.Run.{break_of_fault, nothing, machine_step}
+use Rattle.vme_monitor.specs.Run.{break_of_fault, no_step_marks, machine_step}
 use Rattle.vme_monitor.specs.KnownRules.{known_begin, known_end_fault, known_next, known_start_marks, known_reset_marks}
 use Rattle.vme_monitor.specs.KnownRules.{known_observation}
 use Rattle.vme_monitor.specs.declared.known.Stateless.{Stateless}
@@ -33,23 +33,24 @@ known_at = machine_step (observed known_observation)
 
 abbrev pub handshake_at : StretchPhase HandshakeMemory → Levels → Levels → List Change
     → Next (StretchPhase HandshakeMemory)
-handshake_at = machine_step (observed dtb_observation) (phase_step dtb_begin dtb_start_marks nothing dtb_end_fault
+handshake_at = machine_step (observed dtb_observation) (phase_step dtb_begin dtb_start_marks no_step_marks dtb_end_fault
     dtb_step)
 
 abbrev pub stability_at : StretchPhase Holding → Levels → Levels → List Change → Next (StretchPhase Holding)
 stability_at =
     machine_step (observed stability_observation)
-    (phase_step stability_begin stability_start_marks nothing stability_end_fault stability_next)
+    (phase_step stability_begin stability_start_marks no_step_marks stability_end_fault stability_next)
 
 abbrev pub grant_at : StretchPhase Arbitration → Levels → Levels → List Change → Next (StretchPhase Arbitration)
-grant_at = machine_step (observed grant_observation) (phase_step grant_begin grant_start_marks nothing grant_end_fault
+grant_at = machine_step (observed grant_observation) (phase_step grant_begin grant_start_marks no_step_marks
+    grant_end_fault
     grant_next)
 
 abbrev pub acknowledge_at : StretchPhase Acknowledgement → Levels → Levels → List Change
     → Next (StretchPhase Acknowledgement)
 acknowledge_at =
     machine_step (observed acknowledge_observation)
-    (phase_step acknowledge_begin acknowledge_start_marks nothing acknowledge_end_fault acknowledge_next)
+    (phase_step acknowledge_begin acknowledge_start_marks no_step_marks acknowledge_end_fault acknowledge_next)
 
 -- where the monitors begin
 abbrev pub memories_at : Levels → Memories

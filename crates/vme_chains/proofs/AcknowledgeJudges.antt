@@ -15,7 +15,7 @@ use Rattle.vme_trace.specs.declared.rule.Rule.TheVariants.{I1, I2, I3}
 use Rattle.vme_trace.specs.declared.step.Change.{Change}
 use Rattle.vme_trace.proofs.SpanEnds.{slots_at}
 use Rattle.vme_monitor.specs.Along.{changes_of, next_at, memory_from}
-use Rattle.vme_monitor.specs.Run.{break_of_fault, machine_step, nothing, run_of}
+use Rattle.vme_monitor.specs.Run.{break_of_fault, machine_step, no_step_marks, run_of}
 use Rattle.vme_monitor.specs.OverStretches.{observed, phase_step, start_in}
 use Rattle.vme_monitor.specs.Whole.{FindsLeast, ShowsAll}
 use Rattle.vme_monitor.specs.declared.mark.Next.{Next}
@@ -75,7 +75,7 @@ module _ (t : Trace) (span : Stretch) (ok : malformed_step t ≡ None) (few : t.
           memory = memory_after m old new;
           fault = fault_among m old new
               (first_changed (passes_unasked old new) cs) (first_changed (passes_on old new) cs);
-          shown = nothing;
+          shown = no_step_marks;
         }
     next_is m h = by_observation (is_some (first_changed (passes_on old new) cs) || changes_memory old new) refl
       where
@@ -85,12 +85,12 @@ module _ (t : Trace) (span : Stretch) (ok : malformed_step t ≡ None) (few : t.
               first = first_changed (passes_on old new) cs;
               unasked = first_changed
                   (passes_unasked old new) cs;
-            })) None) (record { memory = m; fault = None; shown = nothing })
+            })) None) (record { memory = m; fault = None; shown = no_step_marks })
             ≡ record {
               memory = memory_after m old new;
               fault = fault_among m old new
                   (first_changed (passes_unasked old new) cs) (first_changed (passes_on old new) cs);
-              shown = nothing;
+              shown = no_step_marks;
             }
         by_observation true e = refl
         by_observation false e =
@@ -183,7 +183,7 @@ module _ (t : Trace) (span : Stretch) (ok : malformed_step t ≡ None) (few : t.
 
 pub acknowledge_first_break : FindsLeast
     (run_of (machine_step (observed acknowledge_observation) (phase_step acknowledge_begin acknowledge_start_marks
-    nothing (λ l. None)
+    no_step_marks (λ l. None)
     acknowledge_next))) (start_in acknowledge_begin) acknowledge_rules
 acknowledge_first_break = inside_first_break acknowledge_begin acknowledge_start_marks acknowledge_observation
     acknowledge_next
@@ -193,8 +193,8 @@ acknowledge_first_break = inside_first_break acknowledge_begin acknowledge_start
 
 pub acknowledge_marks : ShowsAll
     (run_of (machine_step (observed acknowledge_observation)
-    (phase_step acknowledge_begin acknowledge_start_marks nothing acknowledge_end_fault
-    acknowledge_next))) (start_in acknowledge_begin) nothing acknowledge_shown
+    (phase_step acknowledge_begin acknowledge_start_marks no_step_marks acknowledge_end_fault
+    acknowledge_next))) (start_in acknowledge_begin) no_step_marks acknowledge_shown
 acknowledge_marks =
     inside_marks acknowledge_begin acknowledge_start_marks acknowledge_observation acknowledge_next
     acknowledge_end_fault
@@ -207,7 +207,7 @@ acknowledge_marks =
     })
   where
     by_observation : (o : Option PassingSlots) (m : Acknowledgement) (v w : Levels)
-        → (option_map_or (acknowledge_next m v w) o (record { memory = m; fault = None; shown = nothing })).shown
-        ≡ nothing
+        → (option_map_or (acknowledge_next m v w) o (record { memory = m; fault = None; shown = no_step_marks })).shown
+        ≡ no_step_marks
     by_observation None m v w = refl
     by_observation (Some seen) m v w = refl

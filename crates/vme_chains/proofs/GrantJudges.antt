@@ -15,7 +15,7 @@ use Rattle.vme_trace.specs.Verdict.{break_at}
 use Rattle.vme_trace.specs.declared.step.Change.{Change}
 use Rattle.vme_trace.proofs.OpenTransfers.{is_judged-holds}
 use Rattle.vme_monitor.specs.Along.{changes_of, next_at, memory_from}
-use Rattle.vme_monitor.specs.Run.{break_of_fault, machine_step, run_of, nothing, quiet}
+use Rattle.vme_monitor.specs.Run.{break_of_fault, machine_step, run_of, no_step_marks, quiet}
 use Rattle.vme_monitor.specs.OverStretches.{observed, phase_step, start_in}
 use Rattle.vme_monitor.specs.Whole.{FindsLeast, ShowsAll}
 use Rattle.vme_monitor.specs.declared.mark.BusGrant.{BusGrant}
@@ -59,7 +59,7 @@ nothing_more f g true h k = rw h refl
 nothing_more f g false h k = rw (h, k) refl
 
 shown_alike : (opened : Bool) (x y : Option BusGrant) (ends ends' : Bool) → opened ≡ false → x ≡ y → ends ≡ ends'
-    → record nothing { tenure = x; tenure_end = ends } ≡ record nothing {
+    → record no_step_marks { tenure = x; tenure_end = ends } ≡ record no_step_marks {
       opened = opened;
       tenure = y;
       tenure_end = ends';
@@ -183,7 +183,8 @@ module _ (t : Trace) (span : Stretch) (few : t.opening.slots ≤ 21) where
         step fit none.0) (ends-none t span few n from before cs step fit none.0))
       where
         passed : (takes ends : Bool) → takes ≡ false → ends ≡ false
-            → record nothing { tenure = cond takes (taken_between old new) None; tenure_end = ends } ≡ nothing
+            → record no_step_marks { tenure = cond takes (taken_between old new) None; tenure_end = ends }
+            ≡ no_step_marks
         passed takes ends a b = rw (a, b) refl
 
     kinds_here : (m : Arbitration) → (machine_step grant_observation grant_next m old new cs).shown
@@ -245,7 +246,7 @@ module _ (t : Trace) (span : Stretch) (few : t.opening.slots ≤ 21) where
       not_judged s e = grind (arith, nat_tests)
 
       alike : (same judged x y falls rises : Bool) (o : Option BusGrant) → same ≡ true → x ≡ y → judged ≡ false
-          → record nothing { opened = x } ≡ record nothing {
+          → record no_step_marks { opened = x } ≡ record no_step_marks {
             opened = same && y;
             tenure = cond (judged && falls) o None;
             tenure_end = judged && rises;
@@ -254,15 +255,15 @@ module _ (t : Trace) (span : Stretch) (few : t.opening.slots ≤ 21) where
 
 pub grant_first_break : FindsLeast
     (run_of (machine_step (observed grant_observation)
-    (phase_step grant_begin grant_start_marks nothing (λ l. None) grant_next)))
+    (phase_step grant_begin grant_start_marks no_step_marks (λ l. None) grant_next)))
     (start_in grant_begin) grant_rules
 grant_first_break = inside_first_break grant_begin grant_start_marks grant_observation grant_next grant_rules refl
     (λ t span ok few facts n from before within unbroken. grant_inside t span few ok n from before within)
 
 pub grant_marks : ShowsAll
     (run_of (machine_step (observed grant_observation)
-    (phase_step grant_begin grant_start_marks nothing grant_end_fault grant_next)))
-    (start_in grant_begin) nothing tenures_shown
+    (phase_step grant_begin grant_start_marks no_step_marks grant_end_fault grant_next)))
+    (start_in grant_begin) no_step_marks tenures_shown
 grant_marks =
     inside_marks grant_begin grant_start_marks grant_observation grant_next grant_end_fault tenures_shown
     (λ t span ok few facts. record {

@@ -11,7 +11,7 @@ use Rattle.vme_trace.specs.Judged.{Stretch}
 use Rattle.vme_trace.specs.declared.step.Change.{Change}
 use Rattle.vme_trace.specs.declared.rule.Rule.{Rule}
 use Rattle.vme_trace.specs.declared.rule.Rule.TheVariants.{I1, I2, I3}
-use Rattle.vme_monitor.specs.Run.{nothing}
+use Rattle.vme_monitor.specs.Run.{no_step_marks}
 use Rattle.vme_monitor.specs.Tracking.{entered, tracked, is_unanswered}
 use Rattle.vme_monitor.specs.declared.mark.Fault.{Fault}
 use Rattle.vme_monitor.specs.declared.mark.StepMarks.{StepMarks}
@@ -103,7 +103,7 @@ abbrev pub acknowledge_begin : Levels → Acknowledgement
 acknowledge_begin v = record { transfer = Closed; acknowledged = false }
 
 abbrev pub acknowledge_start_marks : Levels → StepMarks
-acknowledge_start_marks v = nothing
+acknowledge_start_marks v = no_step_marks
 
 abbrev pub acknowledge_end_fault : ℕ → Option Fault
 acknowledge_end_fault l = None
@@ -121,12 +121,12 @@ abbrev pub acknowledge_next : Acknowledgement → Levels → Levels → PassingS
 acknowledge_next m v w seen = record {
   memory = memory_after m v w;
   fault = fault_among m v w seen.unasked seen.first;
-  shown = nothing;
+  shown = no_step_marks;
 }
 
 -- an acknowledge isn't shown
 abbrev pub acknowledge_shown : Trace → Stretch → ℕ → StepMarks
-acknowledge_shown t span j = nothing
+acknowledge_shown t span j = no_step_marks
 
 pub acknowledgement_placed : (m : Acknowledgement) → acknowledgement_place m < 8
 acknowledgement_placed m = placed_at m.transfer m.acknowledged

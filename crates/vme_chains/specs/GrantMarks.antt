@@ -5,7 +5,7 @@ use Rattle.vme_trace.specs.Signals.{low, rises}
 use Rattle.vme_trace.specs.Judged.{Stretch, is_judged}
 use Rattle.vme_trace.specs.Tenures.{tenure_level, tenure_slot, tenure_starts}
 use Rattle.vme_trace.specs.Trace.{Trace}
-use Rattle.vme_monitor.specs.Run.{nothing}
+use Rattle.vme_monitor.specs.Run.{no_step_marks}
 use Rattle.vme_monitor.specs.declared.mark.StepMarks.{StepMarks}
 use Rattle.vme_monitor.specs.declared.mark.BusGrant.{BusGrant}
 use Rattle.vme_chains.specs.GrantLevels.{taken_at}
@@ -26,7 +26,7 @@ module _ (t : Trace) (span : Stretch) where
 
 -- tenures at an instant: one that is open at the start, one that starts, by its level and slot, and an end
 abbrev pub tenures_shown : Trace → Stretch → ℕ → StepMarks
-tenures_shown t span j = record nothing {
+tenures_shown t span j = record no_step_marks {
   opened = is_tenure_open t span j;
   tenure = tenure_at t span j;
   tenure_end = tenure_ends t span j;

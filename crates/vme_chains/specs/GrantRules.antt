@@ -9,7 +9,7 @@ use Rattle.vme_trace.specs.Rules.{is_option_equal}
 use Rattle.vme_trace.specs.declared.step.Change.{Change}
 use Rattle.vme_trace.specs.declared.rule.Rule.{Rule}
 use Rattle.vme_trace.specs.declared.rule.Rule.TheVariants.{G1, G2, G3, G4, G5, B1, B2, B3, B4}
-use Rattle.vme_monitor.specs.Run.{nothing}
+use Rattle.vme_monitor.specs.Run.{no_step_marks}
 use Rattle.vme_monitor.specs.declared.mark.Fault.{Fault}
 use Rattle.vme_monitor.specs.declared.mark.StepMarks.{StepMarks}
 use Rattle.vme_monitor.specs.declared.mark.Next.{Next}
@@ -74,7 +74,7 @@ abbrev pub grant_begin : Levels → Arbitration
 grant_begin v = record { requests = requested_in v; granted = false }
 
 abbrev pub grant_start_marks : Levels → StepMarks
-grant_start_marks v = record nothing { opened = is_low_in v BBSY }
+grant_start_marks v = record no_step_marks { opened = is_low_in v BBSY }
 
 abbrev pub grant_end_fault : ℕ → Option Fault
 grant_end_fault l = None
@@ -90,5 +90,5 @@ grant_next m v w seen =
         granted = not seen.busy_falls && (m.granted || seen.grants);
       };
       fault = step_fault v w (union m.requests seen.requests) (m.granted || seen.grants) seen;
-      shown = record nothing { tenure = seen.tenure; tenure_end = seen.busy_rises };
+      shown = record no_step_marks { tenure = seen.tenure; tenure_end = seen.busy_rises };
     }

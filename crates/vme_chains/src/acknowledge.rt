@@ -4,7 +4,7 @@
 ghost use Rattle.std.specs.Prelude.{◌≡◌, ◌&&◌, ◌<◌, IsTrue};
 ghost use Rattle.vme_trace.specs.Edges.{falls_between};
 ghost use Rattle.vme_trace.specs.LineNumbers.{has_line, input_of as input_line, is_slot_iack};
-ghost use Rattle.vme_monitor.specs.Run.{nothing};
+ghost use Rattle.vme_monitor.specs.Run.{no_step_marks};
 ghost use Rattle.vme_monitor.specs.Whole.{FindsLeast, ShowsAll};
 ghost use Rattle.vme_chains.specs.AcknowledgeRules.{acknowledge_rules, acknowledge_shown};
 ghost use Rattle.vme_chains.specs.AcknowledgeRules.{changes_memory as changes_memory_of};
@@ -282,7 +282,7 @@ fn fault_of(
 pub struct AcknowledgeRules;
 
 impl Rules for AcknowledgeRules {
-    ghost use Rattle.vme_monitor.specs.Run.{nothing};
+    ghost use Rattle.vme_monitor.specs.Run.{no_step_marks};
     ghost use Rattle.vme_chains.specs.AcknowledgeRules.{acknowledge_begin, acknowledge_end_fault, acknowledge_next};
     ghost use Rattle.vme_chains.specs.AcknowledgeRules.{acknowledge_start_marks, acknowledge_observation};
 
@@ -294,7 +294,7 @@ impl Rules for AcknowledgeRules {
 
     ghost start_marks = { acknowledge_start_marks };
 
-    ghost reset_marks = { nothing };
+    ghost reset_marks = { no_step_marks };
 
     ghost end_fault = { acknowledge_end_fault };
 
@@ -353,5 +353,5 @@ pub type Iack = RuleMonitor<AcknowledgeRules>;
 /// Over a whole recording, the first break is the least break of I1, I2 and I3, and there are no marks.
 pub fn acknowledge_over_recordings()
     ensures first_break { FindsLeast ⟦<Iack as Monitor>⟧.run ⟦<Iack as Monitor>⟧.begin acknowledge_rules }
-    ensures marks { ShowsAll ⟦<Iack as Monitor>⟧.run ⟦<Iack as Monitor>⟧.begin nothing acknowledge_shown }
+    ensures marks { ShowsAll ⟦<Iack as Monitor>⟧.run ⟦<Iack as Monitor>⟧.begin no_step_marks acknowledge_shown }
 {}

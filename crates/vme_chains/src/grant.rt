@@ -3,7 +3,7 @@
 ghost use Rattle.std.specs.Prelude.{◌≡◌, ◌+◌, ◌≤◌, option_map};
 ghost use Rattle.vme_trace.specs.LineNumbers.{grant};
 ghost use Rattle.vme_trace.specs.Rules.{is_option_equal};
-ghost use Rattle.vme_monitor.specs.Run.{nothing};
+ghost use Rattle.vme_monitor.specs.Run.{no_step_marks};
 ghost use Rattle.vme_monitor.specs.Whole.{FindsLeast, ShowsAll};
 ghost use Rattle.vme_chains.specs.GrantMarks.{tenures_shown};
 ghost use Rattle.vme_chains.specs.GrantRules.{grant_rules, seen_between as seen_between_of, fault_on as fault_on_of};
@@ -153,7 +153,7 @@ impl GrantObservation {
 pub struct GrantRules;
 
 impl Rules for GrantRules {
-    ghost use Rattle.vme_monitor.specs.Run.{nothing};
+    ghost use Rattle.vme_monitor.specs.Run.{no_step_marks};
     ghost use Rattle.vme_chains.specs.GrantRules.{grant_begin, grant_end_fault, grant_next, grant_start_marks};
     ghost use Rattle.vme_chains.specs.GrantRules.{grant_observation};
 
@@ -165,7 +165,7 @@ impl Rules for GrantRules {
 
     ghost start_marks = { grant_start_marks };
 
-    ghost reset_marks = { nothing };
+    ghost reset_marks = { no_step_marks };
 
     ghost end_fault = { grant_end_fault };
 
@@ -235,5 +235,5 @@ pub type Grant = RuleMonitor<GrantRules>;
 /// tenures: one that is open at the start, each start with its level and slot, and each end.
 pub fn grants_over_recordings()
     ensures first_break { FindsLeast ⟦<Grant as Monitor>⟧.run ⟦<Grant as Monitor>⟧.begin grant_rules }
-    ensures marks { ShowsAll ⟦<Grant as Monitor>⟧.run ⟦<Grant as Monitor>⟧.begin nothing tenures_shown }
+    ensures marks { ShowsAll ⟦<Grant as Monitor>⟧.run ⟦<Grant as Monitor>⟧.begin no_step_marks tenures_shown }
 {}

@@ -20,7 +20,7 @@ use Rattle.vme_trace.specs.declared.verdict.Break.{Break}
 use Rattle.vme_trace.proofs.OpenTransfers.{suc-sub-one}
 use Rattle.vme_trace.proofs.Ranges.{fails-any}
 use Rattle.vme_monitor.specs.Along.{changes_of, next_at}
-use Rattle.vme_monitor.specs.Run.{break_of_fault, machine_step, nothing, run_of}
+use Rattle.vme_monitor.specs.Run.{break_of_fault, machine_step, no_step_marks, run_of}
 use Rattle.vme_monitor.specs.OverStretches.{observed, phase_step, start_in}
 use Rattle.vme_monitor.specs.Tracked.{IsTransferPhase}
 use Rattle.vme_monitor.specs.Tracking.{entered, is_unanswered, is_within, is_writing}
@@ -158,8 +158,8 @@ module _ (t : Trace) (span : Stretch) (facts : IsSpan t span) (n : ℕ) (from : 
 
   same_kinds : (a b : Option CycleStart) (c d : Bool) (e f : Option Bool) (g h : Option Answer) (i j : Bool) → a ≡ b → c
       ≡ d → e ≡ f → g ≡ h → i ≡ j
-      → record nothing { cycle = a; cycle_end = c; transfer = e; answer = g; close = i }
-      ≡ record nothing { cycle = b; cycle_end = d; transfer = f; answer = h; close = j }
+      → record no_step_marks { cycle = a; cycle_end = c; transfer = e; answer = g; close = i }
+      ≡ record no_step_marks { cycle = b; cycle_end = d; transfer = f; answer = h; close = j }
   same_kinds a b c d e f g h i j x y z u v = rw (x, y, z, u, v) refl
 
   kinds_are : (dtb_next m (old t n) (new t n) seen).shown ≡ handshake_shown t span (suc n)
@@ -183,7 +183,7 @@ module _ (t : Trace) (span : Stretch) where
   and_false true = refl
   and_false false = refl
 
-  shown_start : nothing ≡ handshake_shown t span span.start
+  shown_start : no_step_marks ≡ handshake_shown t span span.start
   unfolding cycle_starts transfer_starts answered answer_line is_answer closes
   shown_start = rw (
     unjudged,
@@ -193,7 +193,7 @@ module _ (t : Trace) (span : Stretch) where
   ) refl
 
 pub dtb_first_break : FindsLeast
-    (run_of (machine_step (observed dtb_observation) (phase_step dtb_begin dtb_start_marks nothing (λ l. None)
+    (run_of (machine_step (observed dtb_observation) (phase_step dtb_begin dtb_start_marks no_step_marks (λ l. None)
     dtb_step))) (start_in dtb_begin)
     handshake_rules
 dtb_first_break =
@@ -202,8 +202,8 @@ dtb_first_break =
     (memory_at t span facts n) (holds_at t span facts n from (omega (arith, before))))
 
 pub dtb_marks : ShowsAll
-    (run_of (machine_step (observed dtb_observation) (phase_step dtb_begin dtb_start_marks nothing dtb_end_fault
-    dtb_step))) (start_in dtb_begin) nothing handshake_shown
+    (run_of (machine_step (observed dtb_observation) (phase_step dtb_begin dtb_start_marks no_step_marks dtb_end_fault
+    dtb_step))) (start_in dtb_begin) no_step_marks handshake_shown
 dtb_marks =
     inside_marks dtb_begin dtb_start_marks dtb_observation dtb_step dtb_end_fault handshake_shown
     (λ t span ok few facts. record {

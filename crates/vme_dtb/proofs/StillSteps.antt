@@ -14,7 +14,7 @@ use Rattle.vme_trace.specs.declared.level.Level.{Level}
 use Rattle.vme_trace.specs.declared.level.Level.TheVariants.{Low, High, Unknown}
 use Rattle.vme_trace.specs.declared.rule.Rule.TheVariants.{H2, H3, H4, H5, H7, H8}
 use Rattle.vme_trace.specs.declared.step.Change.{Change}
-use Rattle.vme_monitor.specs.Run.{machine_step, nothing, quiet}
+use Rattle.vme_monitor.specs.Run.{machine_step, no_step_marks, quiet}
 use Rattle.vme_monitor.specs.Tracked.{IsTransferPhase}
 use Rattle.vme_monitor.specs.Tracking.{answered_by, entered, is_unanswered, is_within, is_writing, tracked}
 use Rattle.vme_monitor.specs.declared.mark.TransferAnswer.{TransferAnswer as Answer}
@@ -93,7 +93,7 @@ abbrev pub built : (as_falls as_rises starts closes rise0 rise1 fall0 fall1 dtac
 built as_falls as_rises starts closes rise0 rise1 fall0 fall1 dtack_falls berr_falls dtack_rises berr_rises unaddressed
     cycle_start write answer_not_high =
     record {
-      shown = record nothing {
+      shown = record no_step_marks {
         cycle = cond as_falls (Some cycle_start) None;
         cycle_end = as_rises;
         transfer = cond starts
@@ -113,7 +113,7 @@ built as_falls as_rises starts closes rise0 rise1 fall0 fall1 dtack_falls berr_f
 -- the edges of a step that has none
 abbrev silent : Bool → Edges
 silent u = record {
-  shown = nothing;
+  shown = no_step_marks;
   answer_not_high = None;
   strobe_rise = None;
   strobe_fall = None;
@@ -222,7 +222,7 @@ module _ (t : Trace) (span : Stretch) (n : ℕ) (m : HandshakeMemory) (holds : H
       by_level false b = refl
 
   same_next : (k : HandshakeMemory) (f : Option Fault) (a : Option Answer) → k ≡ m → f ≡ None → a ≡ None
-      → record { memory = k; fault = f; shown = record nothing { answer = a } } ≡ quiet m
+      → record { memory = k; fault = f; shown = record no_step_marks { answer = a } } ≡ quiet m
   same_next k f a x y z = rw (x, y, z) refl
 
   same_memory : (p : TransferPhase) (c : CyclePhase) (a b : Bool) → p ≡ m.transfer → c ≡ m.cycle → a ≡ m.dtack_may_rise

@@ -5,7 +5,7 @@ use Rattle.vme_trace.specs.LineNumbers.{AS, DS0, DS1, DTACK, BERR, WRITE}
 use Rattle.vme_trace.specs.Levels.{Levels, level_at, is_low, is_high}
 use Rattle.vme_trace.specs.declared.level.Level.{Level}
 use Rattle.vme_trace.specs.declared.level.Level.TheVariants.{Low, High, Unknown}
-use Rattle.vme_monitor.specs.Run.{nothing}
+use Rattle.vme_monitor.specs.Run.{no_step_marks}
 use Rattle.vme_monitor.specs.declared.mark.CycleStart.{CycleStart}
 use Rattle.vme_dtb.specs.Edge.{cycle_start_of, edges_between, closes_between, first_of, is_addressed}
 use Rattle.vme_dtb.specs.Edge.{is_answer_not_high, stays_on}
@@ -16,7 +16,7 @@ use Rattle.vme_dtb.proofs.StillSteps.{all_five, and_not, built, never_falls, nev
 -- the edges of a step that has none, while AS* is low
 abbrev no_edges : Edges
 no_edges = record {
-  shown = nothing;
+  shown = no_step_marks;
   answer_not_high = None;
   strobe_rise = None;
   strobe_fall = None;
@@ -29,7 +29,7 @@ no_edges = record {
 
 -- AS* alone falls
 abbrev pub start_edges : CycleStart → Edges
-start_edges cycle_start = record no_edges { shown = record nothing { cycle = Some cycle_start } }
+start_edges cycle_start = record no_edges { shown = record no_step_marks { cycle = Some cycle_start } }
 
 -- DTACK* alone falls while AS* is low
 abbrev pub answer_edges : Edges
@@ -42,7 +42,7 @@ ready_edges u = record no_edges { dtack_rises = true; unaddressed = u }
 -- strobes move, and the cycle may end: a strobe rises, one falls, a transfer starts or closes
 abbrev pub strobes_edges : Option ℕ → Option ℕ → Option Bool → Bool → Bool → Edges
 strobes_edges rise fall start close end = record no_edges {
-  shown = record nothing { cycle_end = end; transfer = start; close = close };
+  shown = record no_step_marks { cycle_end = end; transfer = start; close = close };
   strobe_rise = rise;
   strobe_fall = fall;
 }

@@ -10,7 +10,7 @@ use Rattle.vme_trace.specs.Levels.{Levels, level_at, is_low, is_high}
 use Rattle.vme_trace.specs.declared.data.Lanes.{Lanes}
 use Rattle.vme_trace.specs.declared.rule.Rule.{Rule}
 use Rattle.vme_trace.specs.declared.rule.Rule.TheVariants.{H2, H3, H4, H5, H7, H8}
-use Rattle.vme_monitor.specs.Run.{nothing, quiet}
+use Rattle.vme_monitor.specs.Run.{no_step_marks, quiet}
 use Rattle.vme_monitor.specs.Tracking.{answered_by, entered, is_unanswered, is_within, is_writing, tracked}
 use Rattle.vme_monitor.specs.declared.mark.TransferAnswer.{TransferAnswer as Answer}
 use Rattle.vme_monitor.specs.declared.mark.Fault.{Fault}
@@ -174,7 +174,7 @@ module _ (m : HandshakeMemory) (v w : Levels) where
         memory = memory_left m w m.transfer (unanswered_of (cycle_start_of w).class) false;
         fault = None;
         shown
-            = record nothing { cycle = Some (cycle_start_of w) };
+            = record no_step_marks { cycle = Some (cycle_start_of w) };
       } ≡ dtb_next m v w (edges_between v w)
   start_next alone =
       let all = all_five (falls_between v w AS) (stays_on v w DS0) (stays_on v w DS1) (stays_on v w DTACK)
@@ -211,7 +211,7 @@ module _ (m : HandshakeMemory) (v w : Levels) where
         memory = memory_left m w within m.cycle (strobe_rises_between v w);
         fault = None;
         shown = record
-            nothing {
+            no_step_marks {
               cycle_end = rises_between v w AS;
               transfer = cond (starts_between v w)
                   (Some (is_low (level_at w WRITE))) None;
@@ -260,7 +260,7 @@ module _ (m : HandshakeMemory) (v w : Levels) where
       by_rise left = record {
         memory = left;
         fault = None;
-        shown = record nothing {
+        shown = record no_step_marks {
           cycle_end = rises_between v w AS;
           transfer = cond (starts_between v w) (Some (is_low (level_at w WRITE))) None;
           close = closes_between v w;
@@ -273,7 +273,7 @@ module _ (m : HandshakeMemory) (v w : Levels) where
         memory = memory_left m w Answered (after_answer m.cycle (is_writing m.transfer)) false;
         fault
             = cycle_fault m.cycle (is_writing m.transfer) (Some DTACK);
-        shown = record nothing
+        shown = record no_step_marks
             { answer = Some (plain_answer DTACK) };
       } ≡ dtb_next m v w (edges_between v w)
   answer_next alone falls addressed waits =

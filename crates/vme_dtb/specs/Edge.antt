@@ -4,7 +4,7 @@ use Rattle.vme_trace.specs.Edges.{falls_between, rises_between, starts_between, 
 use Rattle.vme_trace.specs.LineNumbers.{AS, DS0, DS1, DTACK, BERR, WRITE, A}
 use Rattle.vme_trace.specs.Levels.{Levels, level_at, is_low, is_high, is_high_on, same_level}
 use Rattle.vme_trace.specs.Cycle.{class_of, modifier_of}
-use Rattle.vme_monitor.specs.Run.{nothing}
+use Rattle.vme_monitor.specs.Run.{no_step_marks}
 use Rattle.vme_monitor.specs.declared.mark.CycleStart.{CycleStart}
 use Rattle.vme_monitor.specs.declared.mark.StepMarks.{StepMarks}
 use Rattle.vme_dtb.specs.declared.edges.Edges.{Edges}
@@ -49,7 +49,7 @@ module _ (v w : Levels) where
   -- the marks of the step, but for the answer
   abbrev pub shown_between : StepMarks
   shown_between =
-      record nothing {
+      record no_step_marks {
         cycle = (if falls_between v w AS then Some (cycle_start_of w) else None);
         cycle_end = rises_between v w AS;
         transfer = (if starts_between v w then Some (is_low (level_at w WRITE)) else None);

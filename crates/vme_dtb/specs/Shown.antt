@@ -8,7 +8,7 @@ use Rattle.vme_trace.specs.Judged.{Stretch, is_judged}
 use Rattle.vme_trace.specs.Transfers.{strobes_high, transfer_starts, in_transfer, is_answer, is_write}
 use Rattle.vme_trace.specs.Transfers.{answers_write, data_at}
 use Rattle.vme_trace.specs.Cycles.{cycle_starts}
-use Rattle.vme_monitor.specs.Run.{nothing}
+use Rattle.vme_monitor.specs.Run.{no_step_marks}
 use Rattle.vme_monitor.specs.declared.mark.TransferAnswer.{TransferAnswer}
 use Rattle.vme_monitor.specs.declared.mark.StepMarks.{StepMarks}
 use Rattle.vme_dtb.specs.Edge.{cycle_start_of}
@@ -31,7 +31,7 @@ module _ (t : Trace) (span : Stretch) where
 -- cycles that start and end, and transfers that start, are answered and close
 abbrev pub handshake_shown : Trace → Stretch → ℕ → StepMarks
 handshake_shown t span j =
-    record nothing {
+    record no_step_marks {
       cycle = (if cycle_starts t span j then Some (cycle_start_of (levels_at t j)) else None);
       cycle_end = (is_judged span j && rises t AS j);
       transfer = (if transfer_starts t span j then Some (is_write t span j) else None);

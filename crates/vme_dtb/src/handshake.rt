@@ -10,7 +10,7 @@ ghost use Rattle.vme_trace.specs.Edges.{falls_between, rises_between};
 ghost use Rattle.vme_trace.specs.Lanes.{lanes_at};
 ghost use Rattle.vme_trace.specs.LineNumbers.{DTACK};
 ghost use Rattle.vme_monitor.specs.Tracking.{is_unanswered, is_within, is_writing};
-ghost use Rattle.vme_monitor.specs.Run.{nothing};
+ghost use Rattle.vme_monitor.specs.Run.{no_step_marks};
 ghost use Rattle.vme_monitor.specs.Whole.{FindsLeast, ShowsAll};
 ghost use Rattle.vme_dtb.specs.Machine.{answer_in, answered_in, fault_if as fault_if_on, cycle_fault as fault_of_cycle};
 ghost use Rattle.vme_dtb.specs.Machine.{data_in, early_rise as early_rise_line, dtb_next, may_rise as may_rise_by};
@@ -385,7 +385,7 @@ impl HandshakeMemory {
 }
 
 impl Rules for HandshakeRules {
-    ghost use Rattle.vme_monitor.specs.Run.{nothing};
+    ghost use Rattle.vme_monitor.specs.Run.{no_step_marks};
     ghost use Rattle.vme_dtb.specs.Machine.{dtb_begin, dtb_end_fault, dtb_start_marks, dtb_observation, dtb_step};
 
     type Memory = HandshakeMemory;
@@ -396,7 +396,7 @@ impl Rules for HandshakeRules {
 
     ghost start_marks = { dtb_start_marks };
 
-    ghost reset_marks = { nothing };
+    ghost reset_marks = { no_step_marks };
 
     ghost end_fault = { dtb_end_fault };
 
@@ -463,5 +463,5 @@ pub type Dtb = RuleMonitor<HandshakeRules>;
 /// starts and ends of cycles, and the starts, answers and closes of transfers.
 pub fn handshake_over_recordings()
     ensures first_break { FindsLeast ⟦<Dtb as Monitor>⟧.run ⟦<Dtb as Monitor>⟧.begin handshake_rules }
-    ensures marks { ShowsAll ⟦<Dtb as Monitor>⟧.run ⟦<Dtb as Monitor>⟧.begin nothing handshake_shown }
+    ensures marks { ShowsAll ⟦<Dtb as Monitor>⟧.run ⟦<Dtb as Monitor>⟧.begin no_step_marks handshake_shown }
 {}

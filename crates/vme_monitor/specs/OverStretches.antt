@@ -6,7 +6,7 @@ use Rattle.vme_trace.specs.Levels.{Levels, is_idle}
 use Rattle.vme_trace.specs.Changes.{touches_control}
 use Rattle.vme_trace.specs.declared.step.Change.{Change}
 use Rattle.vme_monitor.specs.Ends.{end_among}
-use Rattle.vme_monitor.specs.Run.{quiet, nothing}
+use Rattle.vme_monitor.specs.Run.{quiet, no_step_marks}
 use Rattle.vme_monitor.specs.declared.mark.Fault.{Fault}
 use Rattle.vme_monitor.specs.declared.mark.StepMarks.{StepMarks}
 use Rattle.vme_monitor.specs.declared.mark.Next.{Next}
@@ -79,7 +79,7 @@ module _ {P S : Type 0} (begin : Levels → P) (start_marks : Levels → StepMar
   resetting = record { memory = Reset; fault = None; shown = reset_marks }
 
   abbrev pub ending : ℕ → Next (StretchPhase P)
-  ending l = record { memory = Ended; fault = end_fault l; shown = nothing }
+  ending l = record { memory = Ended; fault = end_fault l; shown = no_step_marks }
 
   abbrev pub judging : P → Levels → Levels → Option End → Option S → Next (StretchPhase P)
   judging p before after (Some end.Reset) s = resetting

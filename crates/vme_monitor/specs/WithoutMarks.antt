@@ -6,7 +6,7 @@ use Rattle.vme_trace.specs.Trace.{changed}
 use Rattle.vme_trace.specs.declared.step.Change.{Change}
 use Rattle.vme_trace.specs.declared.step.Step.{Step}
 use Rattle.vme_monitor.specs.Outcome.{Outcome, StandsFor, followed}
-use Rattle.vme_monitor.specs.Run.{machine_step, nothing, outcome_at, quiet, run_of}
+use Rattle.vme_monitor.specs.Run.{machine_step, no_step_marks, outcome_at, quiet, run_of}
 use Rattle.vme_monitor.specs.declared.mark.Next.{Next}
 
 -- a summary finds the memory that some steps after an opening leave, and their first break; of marks it says nothing
@@ -28,7 +28,7 @@ stands_finds stands =
 
 -- what a step gives, but for what it shows
 abbrev pub unmarked_next : {P : Type 0} → Next P → Next P
-unmarked_next n = record { memory = n.memory; fault = n.fault; shown = nothing }
+unmarked_next n = record { memory = n.memory; fault = n.fault; shown = no_step_marks }
 
 -- a machine's step without marks
 abbrev pub unmarked_step : {P S : Type 0} → (P → Levels → Levels → S → Next P) → P → Levels → Levels → S → Next P

@@ -7,7 +7,7 @@ use Rattle.vme_monitor.specs.KnownRules.{known_begin, known_end_fault, known_nex
 use Rattle.vme_monitor.specs.KnownRules.{known_observation}
 use Rattle.vme_monitor.specs.Outcome.{IsWithin, Outcome, followed}
 use Rattle.vme_monitor.specs.OverStretches.{observed, phase_step}
-use Rattle.vme_monitor.specs.Run.{nothing, machine_step}
+use Rattle.vme_monitor.specs.Run.{no_step_marks, machine_step}
 use Rattle.vme_monitor.specs.RuleMonitors.{run_within}
 use Rattle.vme_monitor.specs.Runs.{run_joined}
 use Rattle.vme_dtb.specs.Machine.{dtb_begin, dtb_end_fault, dtb_start_marks, dtb_observation, dtb_step}
@@ -37,7 +37,7 @@ known_is_run =
 pub handshake_is_run : IsRun handshake_run
 unfolding handshake_run
 handshake_is_run =
-    let next = machine_step (observed dtb_observation) (phase_step dtb_begin dtb_start_marks nothing dtb_end_fault
+    let next = machine_step (observed dtb_observation) (phase_step dtb_begin dtb_start_marks no_step_marks dtb_end_fault
     dtb_step) in
     record { joined = λ p o x y. run_joined next x y p o; within = λ p o x. run_within next x p o }
 
@@ -45,21 +45,21 @@ pub stability_is_run : IsRun stability_run
 unfolding stability_run
 stability_is_run =
     let next = machine_step (observed stability_observation)
-    (phase_step stability_begin stability_start_marks nothing stability_end_fault stability_next) in
+    (phase_step stability_begin stability_start_marks no_step_marks stability_end_fault stability_next) in
     record { joined = λ p o x y. run_joined next x y p o; within = λ p o x. run_within next x p o }
 
 pub grant_is_run : IsRun grant_run
 unfolding grant_run
 grant_is_run =
     let next = machine_step (observed grant_observation)
-    (phase_step grant_begin grant_start_marks nothing grant_end_fault grant_next) in
+    (phase_step grant_begin grant_start_marks no_step_marks grant_end_fault grant_next) in
     record { joined = λ p o x y. run_joined next x y p o; within = λ p o x. run_within next x p o }
 
 pub acknowledge_is_run : IsRun acknowledge_run
 unfolding acknowledge_run
 acknowledge_is_run =
     let next = machine_step (observed acknowledge_observation)
-    (phase_step acknowledge_begin acknowledge_start_marks nothing acknowledge_end_fault acknowledge_next) in
+    (phase_step acknowledge_begin acknowledge_start_marks no_step_marks acknowledge_end_fault acknowledge_next) in
     record { joined = λ p o x y. run_joined next x y p o; within = λ p o x. run_within next x p o }
 
 pub tables_of_both : {P : Type 0} (run : P → Levels → List Step → Outcome P) → IsRun run → (place : P → ℕ)

@@ -16,7 +16,7 @@ use Rattle.vme_trace.specs.declared.rule.Rule.TheVariants.{U2, U3, U4, S1, S2, S
 use Rattle.vme_trace.specs.declared.step.Change.{Change}
 use Rattle.vme_trace.proofs.Ranges.{any-fails}
 use Rattle.vme_monitor.specs.Along.{changes_of, memory_from, next_at}
-use Rattle.vme_monitor.specs.Run.{break_of_fault, nothing, machine_step, quiet, run_of}
+use Rattle.vme_monitor.specs.Run.{break_of_fault, no_step_marks, machine_step, quiet, run_of}
 use Rattle.vme_monitor.specs.OverStretches.{observed, phase_step, start_in}
 use Rattle.vme_monitor.specs.Whole.{FindsLeast, ShowsAll}
 use Rattle.vme_monitor.specs.declared.mark.Next.{Next}
@@ -193,7 +193,8 @@ module _ (t : Trace) (span : Stretch) (ok : malformed_step t ≡ None) (facts : 
       rw (next_is n from before within (memory_at n) holds) (fault_is n from before within (memory_at n) holds unbroken)
 
 pub stability_first_break : FindsLeast
-    (run_of (machine_step (observed stability_observation) (phase_step stability_begin stability_start_marks nothing
+    (run_of (machine_step (observed stability_observation)
+    (phase_step stability_begin stability_start_marks no_step_marks
     (λ l. None)
     stability_next))) (start_in stability_begin) stability_rules
 stability_first_break = inside_first_break stability_begin stability_start_marks stability_observation stability_next
@@ -203,8 +204,8 @@ stability_first_break = inside_first_break stability_begin stability_start_marks
 
 pub stability_marks : ShowsAll
     (run_of (machine_step (observed stability_observation)
-    (phase_step stability_begin stability_start_marks nothing stability_end_fault
-    stability_next))) (start_in stability_begin) nothing stability_shown
+    (phase_step stability_begin stability_start_marks no_step_marks stability_end_fault
+    stability_next))) (start_in stability_begin) no_step_marks stability_shown
 stability_marks =
     inside_marks stability_begin stability_start_marks stability_observation stability_next stability_end_fault
     stability_shown (λ t span ok few facts. record {
@@ -216,6 +217,6 @@ stability_marks =
     })
   where
     by_observation : (o : Option HoldingObservation) (m : Holding) (v w : Levels)
-        → (option_map_or (stability_next m v w) o (quiet m)).shown ≡ nothing
+        → (option_map_or (stability_next m v w) o (quiet m)).shown ≡ no_step_marks
     by_observation None m v w = refl
     by_observation (Some seen) m v w = refl

@@ -13,7 +13,7 @@ use Rattle.vme_trace.specs.Trace.{Trace}
 use Rattle.vme_trace.specs.declared.step.Change.{Change}
 use Rattle.vme_trace.specs.declared.rule.Rule.{Rule}
 use Rattle.vme_trace.specs.declared.rule.Rule.TheVariants.{U2, U3, U4, S1, S2, S3}
-use Rattle.vme_monitor.specs.Run.{nothing}
+use Rattle.vme_monitor.specs.Run.{no_step_marks}
 use Rattle.vme_monitor.specs.declared.mark.Fault.{Fault}
 use Rattle.vme_monitor.specs.declared.mark.StepMarks.{StepMarks}
 use Rattle.vme_monitor.specs.declared.mark.Next.{Next}
@@ -183,14 +183,14 @@ abbrev pub stability_begin : Levels → Holding
 stability_begin v = record { transfer = Fresh; cycle_answered = false }
 
 abbrev pub stability_start_marks : Levels → StepMarks
-stability_start_marks v = nothing
+stability_start_marks v = no_step_marks
 
 abbrev pub stability_end_fault : ℕ → Option Fault
 stability_end_fault l = None
 
 abbrev pub stability_next : Holding → Levels → Levels → HoldingObservation → Next Holding
-stability_next m v w seen = record { memory = stepped m v w; fault = fault_in m v w seen; shown = nothing }
+stability_next m v w seen = record { memory = stepped m v w; fault = fault_in m v w seen; shown = no_step_marks }
 
 -- nothing is shown
 abbrev pub stability_shown : Trace → Stretch → ℕ → StepMarks
-stability_shown t span j = nothing
+stability_shown t span j = no_step_marks

@@ -1,7 +1,7 @@
 //! The rules of stability.
 
 ghost use Rattle.std.specs.Prelude.{◌≡◌, ◌&&◌};
-ghost use Rattle.vme_monitor.specs.Run.{nothing};
+ghost use Rattle.vme_monitor.specs.Run.{no_step_marks};
 ghost use Rattle.vme_monitor.specs.Whole.{FindsLeast, ShowsAll};
 ghost use Rattle.vme_trace.specs.declared.rule.Rule.TheVariants.{S3, U4};
 ghost use Rattle.vme_stability.specs.StabilityRules.{answers_in, fault_in, fault_on as fault_on_line, held_fault};
@@ -196,7 +196,7 @@ impl Holding {
 }
 
 impl Rules for StabilityRules {
-    ghost use Rattle.vme_monitor.specs.Run.{nothing};
+    ghost use Rattle.vme_monitor.specs.Run.{no_step_marks};
     ghost use Rattle.vme_stability.specs.StabilityRules.{stability_begin, stability_end_fault, stability_next};
     ghost use Rattle.vme_stability.specs.StabilityRules.{stability_start_marks, stability_observation};
 
@@ -208,7 +208,7 @@ impl Rules for StabilityRules {
 
     ghost start_marks = { stability_start_marks };
 
-    ghost reset_marks = { nothing };
+    ghost reset_marks = { no_step_marks };
 
     ghost end_fault = { stability_end_fault };
 
@@ -264,5 +264,5 @@ pub type Stability = RuleMonitor<StabilityRules>;
 /// Over a whole recording, the first break is the least break of U2, U3, U4, S1, S2 and S3, and there are no marks.
 pub fn stability_over_recordings()
     ensures first_break { FindsLeast ⟦<Stability as Monitor>⟧.run ⟦<Stability as Monitor>⟧.begin stability_rules }
-    ensures marks { ShowsAll ⟦<Stability as Monitor>⟧.run ⟦<Stability as Monitor>⟧.begin nothing stability_shown }
+    ensures marks { ShowsAll ⟦<Stability as Monitor>⟧.run ⟦<Stability as Monitor>⟧.begin no_step_marks stability_shown }
 {}

@@ -12,7 +12,7 @@ use Rattle.vme_monitor.specs.Outcome.{Outcome, earlier}
 use Rattle.vme_trace.specs.Changes.{touches_control}
 use Rattle.vme_monitor.specs.Ends.{end_among}
 use Rattle.vme_monitor.specs.OverStretches.{observed, phase_step}
-use Rattle.vme_monitor.specs.Run.{break_of_fault, nothing, machine_step, quiet, run_of}
+use Rattle.vme_monitor.specs.Run.{break_of_fault, no_step_marks, machine_step, quiet, run_of}
 use Rattle.vme_monitor.specs.Runs.{run_more}
 use Rattle.vme_monitor.specs.StepRuns.{seen_in}
 use Rattle.vme_monitor.specs.WithoutMarks.{unmarked_next}

@@ -12,7 +12,7 @@ use Rattle.vme_trace.specs.Cycles.{cycle_starts}
 use Rattle.vme_listing.specs.Recorded.{cycle_rows, rows_before, tenure_rows, transfer_rows}
 use Rattle.vme_listing.specs.declared.row.Row.{Row}
 use Rattle.vme_listing.specs.declared.row.Row.TheVariants as row
-use Rattle.vme_monitor.specs.Run.{mark_at, kinds_of, nothing}
+use Rattle.vme_monitor.specs.Run.{mark_at, kinds_of, no_step_marks}
 use Rattle.vme_monitor.specs.Shows.{marks_on, marks_until}
 use Rattle.vme_monitor.specs.declared.mark.MarkKind.TheVariants as kind
 use Rattle.vme_monitor.specs.declared.mark.StepMarks.{StepMarks}
@@ -66,7 +66,7 @@ module _ (shown : ℕ → StepMarks) (unreset : (j : ℕ) → (shown j).reset �
 module _ (t : Trace) (span : Stretch) where
   -- what is shown at the opening
   opening_by : (b c : Bool) → cond b (mark_at 0 kind.Start ∷ cond c (mark_at 0 kind.Open ∷ []) []) [] ≡ map (mark_at 0)
-      (kinds_of (record nothing { start = b; opened = b && c }))
+      (kinds_of (record no_step_marks { start = b; opened = b && c }))
   opening_by true true = refl
   opening_by true false = refl
   opening_by false c = refl
@@ -118,7 +118,7 @@ module _ (t : Trace) (span : Stretch) where
 
   -- before the end of the span each instant shows what is plainly there
   over_is : (j : ℕ) → j < span.end → all_over t span j ≡ plainly t span j
-  over_is j h = ap (λ b. cond b (all_shown t span j) (cond (is_reset_at t j) known_reset_marks nothing))
+  over_is j h = ap (λ b. cond b (all_shown t span j) (cond (is_reset_at t j) known_reset_marks no_step_marks))
       (lt_holds j span.end h) ∙ plainly_is t span j
 
   module _ (end : ℕ) (within : end ≤ span.end) where

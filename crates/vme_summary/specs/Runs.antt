@@ -3,7 +3,7 @@ use Rattle.std.specs.Prelude.{List}
 use Rattle.vme_trace.specs.Levels.{Levels}
 use Rattle.vme_trace.specs.declared.step.Step.{Step}
 use Rattle.vme_monitor.specs.Outcome.{Outcome}
-use Rattle.vme_monitor.specs.Run.{nothing, machine_step, run_of}
+use Rattle.vme_monitor.specs.Run.{no_step_marks, machine_step, run_of}
 use Rattle.vme_monitor.specs.OverStretches.{observed, phase_step}
 use Rattle.vme_monitor.specs.KnownRules.{known_begin, known_end_fault, known_next, known_start_marks, known_reset_marks}
 use Rattle.vme_monitor.specs.KnownRules.{known_observation}
@@ -27,21 +27,22 @@ known_run = run_of (machine_step (observed known_observation)
 unfoldable pub handshake_run : StretchPhase HandshakeMemory → Levels → List Step
     → Outcome (StretchPhase HandshakeMemory)
 handshake_run = run_of
-    (machine_step (observed dtb_observation) (phase_step dtb_begin dtb_start_marks nothing dtb_end_fault dtb_step))
+    (machine_step (observed dtb_observation) (phase_step dtb_begin dtb_start_marks no_step_marks dtb_end_fault
+    dtb_step))
 
 unfoldable pub stability_run : StretchPhase Holding → Levels → List Step → Outcome (StretchPhase Holding)
 stability_run =
     run_of
     (machine_step (observed stability_observation)
-    (phase_step stability_begin stability_start_marks nothing stability_end_fault stability_next))
+    (phase_step stability_begin stability_start_marks no_step_marks stability_end_fault stability_next))
 
 unfoldable pub grant_run : StretchPhase Arbitration → Levels → List Step → Outcome (StretchPhase Arbitration)
 grant_run = run_of (machine_step (observed grant_observation)
-    (phase_step grant_begin grant_start_marks nothing grant_end_fault grant_next))
+    (phase_step grant_begin grant_start_marks no_step_marks grant_end_fault grant_next))
 
 unfoldable pub acknowledge_run : StretchPhase Acknowledgement → Levels → List Step
     → Outcome (StretchPhase Acknowledgement)
 acknowledge_run =
     run_of
     (machine_step (observed acknowledge_observation)
-    (phase_step acknowledge_begin acknowledge_start_marks nothing acknowledge_end_fault acknowledge_next))
+    (phase_step acknowledge_begin acknowledge_start_marks no_step_marks acknowledge_end_fault acknowledge_next))

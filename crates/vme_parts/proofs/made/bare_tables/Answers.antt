@@ -1,6 +1,6 @@
 -- The tables are of the runs without marks.
 use Rattle.vme_monitor.specs.OverStretches.{observed, phase_place, phase_step}
-use Rattle.vme_monitor.specs.Run.{nothing}
+use Rattle.vme_monitor.specs.Run.{no_step_marks}
 use Rattle.vme_monitor.specs.KnownRules.{known_begin, known_end_fault, known_next, known_start_marks, known_reset_marks}
 use Rattle.vme_monitor.specs.KnownRules.{known_observation, nil_place}
 use Rattle.vme_dtb.specs.Machine.{dtb_begin, dtb_end_fault, dtb_start_marks, dtb_observation, dtb_step}
@@ -27,16 +27,17 @@ returns c =
           (phase_step known_begin known_start_marks known_reset_marks known_end_fault known_next) 4
           (phase_place nil_place) _ _ o x all.known.outcomes c.in_ok-known.ensures;
       handshake = summary_tells (observed dtb_observation)
-          (phase_step dtb_begin dtb_start_marks nothing dtb_end_fault dtb_step) 147 (phase_place memory_place) _ _ o x
+          (phase_step dtb_begin dtb_start_marks no_step_marks dtb_end_fault dtb_step) 147 (phase_place memory_place) _ _
+          o x
           all.handshake.outcomes c.in_ok-handshake.ensures;
       stability = summary_tells (observed stability_observation)
-          (phase_step stability_begin stability_start_marks nothing stability_end_fault stability_next) 13
+          (phase_step stability_begin stability_start_marks no_step_marks stability_end_fault stability_next) 13
           (phase_place holding_place) _ _ o x all.stability.outcomes c.in_ok-stability.ensures;
       grant = summary_tells (observed grant_observation)
-          (phase_step grant_begin grant_start_marks nothing grant_end_fault grant_next) 35
+          (phase_step grant_begin grant_start_marks no_step_marks grant_end_fault grant_next) 35
           (phase_place arbitration_place) _ _ o x all.grant.outcomes c.in_ok-grant.ensures;
       acknowledge = summary_tells (observed acknowledge_observation)
-          (phase_step acknowledge_begin acknowledge_start_marks nothing acknowledge_end_fault acknowledge_next) 11
+          (phase_step acknowledge_begin acknowledge_start_marks no_step_marks acknowledge_end_fault acknowledge_next) 11
           (phase_place acknowledgement_place) _ _ o x all.acknowledge.outcomes c.in_ok-acknowledge.ensures;
       left = all.left;
     }

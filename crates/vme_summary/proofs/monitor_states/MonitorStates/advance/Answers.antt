@@ -1,5 +1,5 @@
 -- Each monitor goes one step on from its memory.
-use Rattle.vme_monitor.specs.Run.{nothing, machine_step}
+use Rattle.vme_monitor.specs.Run.{no_step_marks, machine_step}
 use Rattle.vme_monitor.specs.OverStretches.{observed, phase_step, start_in}
 use Rattle.vme_monitor.specs.KnownRules.{known_begin, known_end_fault, known_next, known_start_marks, known_reset_marks}
 use Rattle.vme_monitor.specs.KnownRules.{known_observation}
@@ -30,25 +30,25 @@ returns c =
           (rw is at c.advance.ensures.memory) (rw is at c.advance.ensures.first_break)
           f.known;
       handshake = led_on (machine_step (observed dtb_observation)
-          (phase_step dtb_begin dtb_start_marks nothing dtb_end_fault dtb_step))
+          (phase_step dtb_begin dtb_start_marks no_step_marks dtb_end_fault dtb_step))
           (start_in dtb_begin) _ _ o x step before after
           c.args.instant led.levels_are there led.instant_is
           (rw is at c.advance-2.ensures.memory) (rw is at c.advance-2.ensures.first_break)
           f.handshake;
       stability = led_on (machine_step (observed stability_observation)
-          (phase_step stability_begin stability_start_marks nothing stability_end_fault stability_next))
+          (phase_step stability_begin stability_start_marks no_step_marks stability_end_fault stability_next))
           (start_in stability_begin) _ _ o x step before after
           c.args.instant led.levels_are there led.instant_is
           (rw is at c.advance-3.ensures.memory) (rw is at c.advance-3.ensures.first_break)
           f.stability;
       grant = led_on (machine_step (observed grant_observation)
-          (phase_step grant_begin grant_start_marks nothing grant_end_fault grant_next))
+          (phase_step grant_begin grant_start_marks no_step_marks grant_end_fault grant_next))
           (start_in grant_begin) _ _ o x step before after
           c.args.instant led.levels_are there led.instant_is
           (rw is at c.advance-4.ensures.memory) (rw is at c.advance-4.ensures.first_break)
           f.grant;
       acknowledge = led_on (machine_step (observed acknowledge_observation)
-          (phase_step acknowledge_begin acknowledge_start_marks nothing acknowledge_end_fault acknowledge_next))
+          (phase_step acknowledge_begin acknowledge_start_marks no_step_marks acknowledge_end_fault acknowledge_next))
           (start_in acknowledge_begin) _ _ o x step before after
           c.args.instant led.levels_are there led.instant_is
           (rw is at c.advance-5.ensures.memory) (rw is at c.advance-5.ensures.first_break)

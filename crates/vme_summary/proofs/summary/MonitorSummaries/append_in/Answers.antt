@@ -1,5 +1,5 @@
 -- Each table is one of the steps of both.
-use Rattle.vme_monitor.specs.Run.{nothing, machine_step}
+use Rattle.vme_monitor.specs.Run.{no_step_marks, machine_step}
 use Rattle.vme_monitor.specs.OverStretches.{observed, phase_step}
 use Rattle.vme_monitor.specs.KnownRules.{known_begin, known_end_fault, known_next, known_start_marks, known_reset_marks}
 use Rattle.vme_monitor.specs.KnownRules.{known_observation}
@@ -22,17 +22,17 @@ returns-clause-stands c =
           (phase_step known_begin known_start_marks known_reset_marks known_end_fault known_next))
           _ _ _ _ _ _ c.append_in.ensures.outcomes c.append_in.ensures.counted o x y p.known q.known;
       handshake = in_turn (machine_step (observed dtb_observation)
-          (phase_step dtb_begin dtb_start_marks nothing dtb_end_fault dtb_step)) _ _ _ _ _
+          (phase_step dtb_begin dtb_start_marks no_step_marks dtb_end_fault dtb_step)) _ _ _ _ _
           _ c.append_in-2.ensures.outcomes c.append_in-2.ensures.counted o x y p.handshake q.handshake;
       stability = in_turn (machine_step (observed stability_observation)
-          (phase_step stability_begin stability_start_marks nothing
+          (phase_step stability_begin stability_start_marks no_step_marks
           stability_end_fault stability_next)) _ _ _ _ _ _ c.append_in-3.ensures.outcomes c.append_in-3.ensures.counted
           o x y p.stability q.stability;
       grant = in_turn (machine_step (observed grant_observation)
-          (phase_step grant_begin grant_start_marks nothing grant_end_fault grant_next)) _ _
+          (phase_step grant_begin grant_start_marks no_step_marks grant_end_fault grant_next)) _ _
           _ _ _ _ c.append_in-4.ensures.outcomes c.append_in-4.ensures.counted o x y p.grant q.grant;
       acknowledge = in_turn (machine_step (observed acknowledge_observation)
-          (phase_step acknowledge_begin acknowledge_start_marks nothing
+          (phase_step acknowledge_begin acknowledge_start_marks no_step_marks
           acknowledge_end_fault acknowledge_next)) _ _ _ _ _ _ c.append_in-5.ensures.outcomes
           c.append_in-5.ensures.counted o x
           y p.acknowledge q.acknowledge;

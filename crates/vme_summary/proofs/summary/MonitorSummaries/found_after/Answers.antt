@@ -1,5 +1,5 @@
 -- Each monitor goes on from its memory.
-use Rattle.vme_monitor.specs.Run.{nothing, machine_step}
+use Rattle.vme_monitor.specs.Run.{no_step_marks, machine_step}
 use Rattle.vme_monitor.specs.OverStretches.{observed, phase_step, start_in}
 use Rattle.vme_monitor.specs.KnownRules.{known_begin, known_end_fault, known_next, known_start_marks, known_reset_marks}
 use Rattle.vme_monitor.specs.KnownRules.{known_observation}
@@ -24,20 +24,20 @@ returns c =
           f.known
           says.known;
       handshake = seen_after
-          (machine_step (observed dtb_observation) (phase_step dtb_begin dtb_start_marks nothing dtb_end_fault
+          (machine_step (observed dtb_observation) (phase_step dtb_begin dtb_start_marks no_step_marks dtb_end_fault
           dtb_step))
           (start_in dtb_begin) _ _ _ _ _ o x y c.after-2.ensures.memory c.after-2.ensures.first_break long f.handshake
           says.handshake;
       stability = seen_after
-          (machine_step (observed stability_observation) (phase_step stability_begin stability_start_marks nothing
+          (machine_step (observed stability_observation) (phase_step stability_begin stability_start_marks no_step_marks
           stability_end_fault stability_next)) (start_in stability_begin) _ _ _ _ _ o x y c.after-3.ensures.memory
           c.after-3.ensures.first_break long f.stability says.stability;
       grant = seen_after (machine_step (observed grant_observation)
-          (phase_step grant_begin grant_start_marks nothing grant_end_fault grant_next))
+          (phase_step grant_begin grant_start_marks no_step_marks grant_end_fault grant_next))
           (start_in grant_begin) _ _ _ _ _ o x y c.after-4.ensures.memory c.after-4.ensures.first_break long f.grant
           says.grant;
       acknowledge = seen_after (machine_step (observed acknowledge_observation)
-          (phase_step acknowledge_begin acknowledge_start_marks nothing
+          (phase_step acknowledge_begin acknowledge_start_marks no_step_marks
           acknowledge_end_fault acknowledge_next)) (start_in acknowledge_begin) _ _ _ _ _ o x y c.after-5.ensures.memory
           c.after-5.ensures.first_break long f.acknowledge says.acknowledge;
     }

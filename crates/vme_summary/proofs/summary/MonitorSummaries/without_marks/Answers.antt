@@ -1,5 +1,5 @@
 -- Each monitor has a table of the steps, without marks.
-use Rattle.vme_monitor.specs.Run.{nothing}
+use Rattle.vme_monitor.specs.Run.{no_step_marks}
 use Rattle.vme_monitor.specs.WithoutMarks.{unmarked_finds}
 use Rattle.vme_monitor.specs.OverStretches.{observed, phase_step}
 use Rattle.vme_monitor.specs.KnownRules.{known_begin, known_end_fault, known_next, known_start_marks, known_reset_marks}
@@ -21,16 +21,17 @@ returns-clause-finds c =
       known = unmarked_finds (observed known_observation)
           (phase_step known_begin known_start_marks known_reset_marks known_end_fault known_next) _ _
           _ _ all.known;
-      handshake = unmarked_finds (observed dtb_observation) (phase_step dtb_begin dtb_start_marks nothing dtb_end_fault
+      handshake = unmarked_finds (observed dtb_observation) (phase_step dtb_begin dtb_start_marks no_step_marks
+          dtb_end_fault
           dtb_step) _ _ _ _
           all.handshake;
       stability = unmarked_finds (observed stability_observation)
-          (phase_step stability_begin stability_start_marks nothing stability_end_fault
+          (phase_step stability_begin stability_start_marks no_step_marks stability_end_fault
           stability_next) _ _ _ _ all.stability;
       grant = unmarked_finds (observed grant_observation)
-          (phase_step grant_begin grant_start_marks nothing grant_end_fault grant_next) _ _ _ _
+          (phase_step grant_begin grant_start_marks no_step_marks grant_end_fault grant_next) _ _ _ _
           all.grant;
       acknowledge = unmarked_finds (observed acknowledge_observation)
-          (phase_step acknowledge_begin acknowledge_start_marks nothing
+          (phase_step acknowledge_begin acknowledge_start_marks no_step_marks
           acknowledge_end_fault acknowledge_next) _ _ _ _ all.acknowledge;
     }
