@@ -12,7 +12,7 @@ use Rattle.vme_bind.specs.Answers.{at_line}
 use Rattle.vme_bind.specs.BoundGroups.{bound_group_in, bound_groups_in, bits_meant, candidate, only}
 use Rattle.vme_bind.specs.BoundGroups.{source_in}
 use Rattle.vme_bind.specs.declared.assignment.Assignment.{Assignment}
-use Rattle.vme_bind.specs.declared.fault.BindKind.{BindKind}
+use Rattle.vme_bind.specs.declared.fault.BindFaultKind.{BindFaultKind}
 use Rattle.vme_bind.specs.declared.source.LevelSource.{LevelSource}
 use Rattle.vme_bind.specs.declared.source.LevelSource.TheVariants.{Constant, Variable as Named}
 use Rattle.vme_bind.specs.declared.source.VariableSelector.{VariableSelector}
@@ -57,7 +57,7 @@ fine_second : {A B C E : Type 0} (r : Result A E) (s : Result B E) (f : A → B 
 fine_second (Ok a) s f e = fine_first s (f a) e
 fine_second (Err fault) s f e = absurd (true≢false (sym e))
 
-fine_at : {A : Type 0} (line : ℕ) (r : Result A BindKind) → is_fine (at_line line r) ≡ true → is_fine r ≡ true
+fine_at : {A : Type 0} (line : ℕ) (r : Result A BindFaultKind) → is_fine (at_line line r) ≡ true → is_fine r ≡ true
 fine_at line (Ok a) e = refl
 fine_at line (Err kind) e = e
 

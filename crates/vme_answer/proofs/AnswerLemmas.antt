@@ -17,8 +17,8 @@ use Rattle.vme_bind.specs.TextCapture as text
 use Rattle.vme_bind.specs.declared.fault.CaptureFault.{CaptureFault}
 use Rattle.vme_bind.specs.declared.fault.CaptureFault.TheVariants as capture
 use Rattle.vme_bind.specs.declared.fault.BindFault.{BindFault}
-use Rattle.vme_bind.specs.declared.fault.BindKind.{BindKind}
-use Rattle.vme_bind.specs.declared.fault.BindKind.TheVariants as bind
+use Rattle.vme_bind.specs.declared.fault.BindFaultKind.{BindFaultKind}
+use Rattle.vme_bind.specs.declared.fault.BindFaultKind.TheVariants as bind
 use Rattle.vme_trace.specs.Trace.{Trace}
 use Rattle.vme_trace.specs.declared.verdict.Verdict.{Verdict}
 use Rattle.vme_stream.specs.declared.input.InFault.{InFault}
@@ -46,7 +46,8 @@ too_long_is input text long = rw (lt-leb (length text) longest_input long) refl
 
 -- ---- what functions give of the faults that they meet
 
-pub or_bad_binding-gives : {Y : Type 0} (line : ℕ) (kind : BindKind) (answer : Result Y BindFault) → BindFailsAs line
+pub or_bad_binding-gives : {Y : Type 0} (line : ℕ) (kind : BindFaultKind) (answer : Result Y BindFault)
+    → BindFailsAs line
     kind answer
     → AnswerGives (λ (y : Y). y) (Err (binding_refusal (record { line = line; kind = kind }))) (or_bad_binding answer)
 or_bad_binding-gives line bind.Memory answer is = tt
@@ -88,7 +89,8 @@ refused_dump : {A : Type 0} (line : ℕ) (kind : FaultKind) (answer : Result A C
 refused_dump line vcd.Memory answer is = tt
 refused_dump line kind answer is = ap by_either is
 
-refused_binding : {A : Type 0} (line : ℕ) (kind : BindKind) (answer : Result A CaptureFault) → text.BindingFails line
+refused_binding : {A : Type 0} (line : ℕ) (kind : BindFaultKind) (answer : Result A CaptureFault)
+    → text.BindingFails line
     kind answer
     → IsRefused (binding_refusal (record { line = line; kind = kind })) (by_either answer)
 refused_binding line bind.Memory answer is = tt
@@ -252,7 +254,7 @@ module _ (bound : BoundLines) (bytes : List ℕ) where
       by_kind line kind h = text_recording ∙ ap or_refused h
   recording_by-fails (capture.Binding fault) h = by_kind fault.line fault.kind h
     where
-      by_kind : (line : ℕ) (kind : BindKind) → text.BindingFails line kind (text.recording_of_text bound bytes)
+      by_kind : (line : ℕ) (kind : BindFaultKind) → text.BindingFails line kind (text.recording_of_text bound bytes)
           → AnswerGives (λ (t : Trace). t) (Err (binding_refusal (record { line = line; kind = kind })))
           (recording_by bound (or_bad_dump (dump_of bytes)))
       by_kind line bind.Memory h = tt

@@ -3,8 +3,8 @@ use Rattle.vcd_read.specs.declared.fault.VcdFault.{VcdFault}
 use Rattle.vcd_read.specs.declared.fault.FaultKind.{FaultKind}
 use Rattle.vcd_read.specs.declared.fault.FaultKind.TheVariants as vcd
 use Rattle.vme_bind.specs.declared.fault.BindFault.{BindFault}
-use Rattle.vme_bind.specs.declared.fault.BindKind.{BindKind}
-use Rattle.vme_bind.specs.declared.fault.BindKind.TheVariants as bind
+use Rattle.vme_bind.specs.declared.fault.BindFaultKind.{BindFaultKind}
+use Rattle.vme_bind.specs.declared.fault.BindFaultKind.TheVariants as bind
 use Rattle.vme_bind.specs.declared.fault.CaptureFault.{CaptureFault}
 use Rattle.vme_bind.specs.declared.fault.CaptureFault.TheVariants as capture
 use Rattle.vme_listing.specs.declared.fault.ListFault.{ListFault}
@@ -33,7 +33,7 @@ abbrev pub dump_refusal : VcdFault → Refusal
 dump_refusal fault = dump_refusal_as fault.kind (BadDump fault)
 
 -- a kind of fault of the binding, where this is its refusal
-abbrev pub binding_refusal_as : BindKind → Refusal → Refusal
+abbrev pub binding_refusal_as : BindFaultKind → Refusal → Refusal
 binding_refusal_as bind.Memory refusal = Memory
 binding_refusal_as kind refusal = refusal
 

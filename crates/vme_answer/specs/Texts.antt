@@ -7,8 +7,8 @@ use Rattle.vme_trace.specs.declared.verdict.Verdict.{Verdict}
 use Rattle.vme_trace.specs.declared.verdict.Verdict.TheVariants.{Conforming, Broken, Unreadable, NeverIdle}
 use Rattle.vcd_read.specs.declared.fault.FaultKind.{FaultKind}
 use Rattle.vcd_read.specs.declared.fault.FaultKind.TheVariants as vcd
-use Rattle.vme_bind.specs.declared.fault.BindKind.{BindKind}
-use Rattle.vme_bind.specs.declared.fault.BindKind.TheVariants as bind
+use Rattle.vme_bind.specs.declared.fault.BindFaultKind.{BindFaultKind}
+use Rattle.vme_bind.specs.declared.fault.BindFaultKind.TheVariants as bind
 use Rattle.vme_listing.specs.declared.fault.ListFault.{ListFault}
 use Rattle.vme_listing.specs.declared.fault.ListFault.TheVariants as list
 use Rattle.vme_answer.specs.declared.refusal.Input.{Input}
@@ -69,7 +69,7 @@ abbrev pub dump_fault_text : ℕ → FaultKind → List ℕ
 dump_fault_text line kind = codes "vmecheck: dump line " ++ decimal line ++ codes ": " ++ dump_fault_name kind
 
 -- a fault of the binding, behind this text
-abbrev pub binding_fault_behind : List ℕ → BindKind → List ℕ
+abbrev pub binding_fault_behind : List ℕ → BindFaultKind → List ℕ
 binding_fault_behind head bind.BadLine = head ++ codes "BadLine"
 binding_fault_behind head bind.SlotsFirst = head ++ codes "SlotsFirst"
 binding_fault_behind head bind.UnknownName = head ++ codes "UnknownName"
@@ -81,7 +81,7 @@ binding_fault_behind head bind.AmbiguousPath = head ++ codes "AmbiguousPath"
 binding_fault_behind head bind.WrongWidth = head ++ codes "WrongWidth"
 binding_fault_behind head bind.TooManySteps = head ++ codes "TooManySteps"
 
-abbrev pub binding_fault_text : ℕ → BindKind → List ℕ
+abbrev pub binding_fault_text : ℕ → BindFaultKind → List ℕ
 binding_fault_text line kind = binding_fault_behind (codes "vmecheck: binding line " ++ decimal line ++ codes ": ") kind
 
 abbrev pub listing_fault_text : ListFault → List ℕ

@@ -7,7 +7,7 @@ ghost use Rattle.vme_answer.specs.Texts.{refusal_status};
 
 use thiserror::Error;
 use vcd_read::{FaultKind, VcdFault};
-use vme_bind::{BindFault, BindKind, CaptureFault};
+use vme_bind::{BindFault, BindFaultKind, CaptureFault};
 use vme_listing::ListFault;
 use vme_stream::InFault;
 use vme_summary::NoVerdict;
@@ -71,7 +71,7 @@ impl Refusal {
         ensures { result ≡ binding_refusal fault }
     {
         match fault.kind {
-            BindKind::Memory => Refusal::Memory,
+            BindFaultKind::Memory => Refusal::Memory,
             _ => Refusal::BadBinding(fault),
         }
     }
@@ -93,7 +93,7 @@ impl Refusal {
         match why {
             NoVerdict::TooManySteps => Refusal::BadBinding(BindFault {
                 line: 0,
-                kind: BindKind::TooManySteps,
+                kind: BindFaultKind::TooManySteps,
             }),
             NoVerdict::TooManyBlocks => Refusal::TooManyBlocks,
             NoVerdict::Memory => Refusal::Memory,

@@ -6,7 +6,7 @@ ghost use Rattle.vme_answer.specs.Texts.{listing_fault_text, cannot_write_text, 
 
 use crate::refusal::{Input, Refusal};
 use vcd_read::FaultKind;
-use vme_bind::BindKind;
+use vme_bind::BindFaultKind;
 use vme_listing::ListFault;
 use vme_stream::Message;
 use vme_trace::{Break, Verdict};
@@ -150,7 +150,7 @@ fn listing_fault_message(fault: ListFault) -> Message
     }
 }
 
-fn binding_fault_message(line: u64, kind: BindKind) -> Message
+fn binding_fault_message(line: u64, kind: BindFaultKind) -> Message
     ensures text { result ≡ binding_fault_text line kind }
     ensures short { length result ≤ 120 }
 {
@@ -159,15 +159,15 @@ fn binding_fault_message(line: u64, kind: BindKind) -> Message
         .with_decimal(line)
         .with(b": ");
     match kind {
-        BindKind::BadLine => head.with(b"BadLine"),
-        BindKind::SlotsFirst => head.with(b"SlotsFirst"),
-        BindKind::UnknownName => head.with(b"UnknownName"),
-        BindKind::NamedTwice => head.with(b"NamedTwice"),
-        BindKind::Unbound(unbound) => head.with(b"Unbound ").with(unbound.name().as_bytes()),
-        BindKind::Memory => head.with(b"Memory"),
-        BindKind::NoSuchPath => head.with(b"NoSuchPath"),
-        BindKind::AmbiguousPath => head.with(b"AmbiguousPath"),
-        BindKind::WrongWidth => head.with(b"WrongWidth"),
-        BindKind::TooManySteps => head.with(b"TooManySteps"),
+        BindFaultKind::BadLine => head.with(b"BadLine"),
+        BindFaultKind::SlotsFirst => head.with(b"SlotsFirst"),
+        BindFaultKind::UnknownName => head.with(b"UnknownName"),
+        BindFaultKind::NamedTwice => head.with(b"NamedTwice"),
+        BindFaultKind::Unbound(unbound) => head.with(b"Unbound ").with(unbound.name().as_bytes()),
+        BindFaultKind::Memory => head.with(b"Memory"),
+        BindFaultKind::NoSuchPath => head.with(b"NoSuchPath"),
+        BindFaultKind::AmbiguousPath => head.with(b"AmbiguousPath"),
+        BindFaultKind::WrongWidth => head.with(b"WrongWidth"),
+        BindFaultKind::TooManySteps => head.with(b"TooManySteps"),
     }
 }

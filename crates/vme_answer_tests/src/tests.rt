@@ -6,7 +6,7 @@ use vme_answer::{
     Input, Refusal, binding_from, binding_in, cannot_write_line, capture_from, captured_in,
     recorded_from, refusal_line, tell_verdict, verdict_line, verdict_on, verdict_status,
 };
-use vme_bind::{BindFault, BindKind};
+use vme_bind::{BindFault, BindFaultKind};
 use vme_listing::ListFault;
 use vme_stream::{Bytes, InFault};
 use vme_summary::NoVerdict;
@@ -197,7 +197,7 @@ fn is_refused(alloc: Global, binding: &str, dump: &str, wanted: &Refusal) -> boo
 fn the_first_reason_is_answered(rt: HostRuntime) {
     let bad_binding = Refusal::BadBinding(BindFault {
         line: 1,
-        kind: BindKind::SlotsFirst,
+        kind: BindFaultKind::SlotsFirst,
     });
     let bad_dump = Refusal::BadDump(VcdFault {
         line: 1,
@@ -205,7 +205,7 @@ fn the_first_reason_is_answered(rt: HostRuntime) {
     });
     let no_path = Refusal::BadBinding(BindFault {
         line: 2,
-        kind: BindKind::NoSuchPath,
+        kind: BindFaultKind::NoSuchPath,
     });
     assert!(rt; is_refused(rt.alloc(), "AS = 1\n", "AS\n", &bad_binding));
     assert!(rt; is_refused(rt.alloc(), BINDING, "AS\n", &bad_dump));
@@ -238,7 +238,7 @@ fn are_inputs_told() -> bool {
 fn are_faults_told() -> bool {
     let unbound = BindFault {
         line: 7,
-        kind: BindKind::Unbound(Line::DTACK),
+        kind: BindFaultKind::Unbound(Line::DTACK),
     };
     let backwards = VcdFault {
         line: 12,

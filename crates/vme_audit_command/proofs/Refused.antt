@@ -4,8 +4,8 @@ use Rattle.vcd_read.specs.declared.fault.FaultKind.{FaultKind}
 use Rattle.vcd_read.specs.declared.fault.FaultKind.TheVariants as vcd
 use Rattle.vme_bind.specs.TextCapture.{BindingFails, CaptureFailsBy, DumpFails}
 use Rattle.vme_bind.specs.TextReading.{TextReading}
-use Rattle.vme_bind.specs.declared.fault.BindKind.{BindKind}
-use Rattle.vme_bind.specs.declared.fault.BindKind.TheVariants as bind
+use Rattle.vme_bind.specs.declared.fault.BindFaultKind.{BindFaultKind}
+use Rattle.vme_bind.specs.declared.fault.BindFaultKind.TheVariants as bind
 use Rattle.vme_bind.specs.declared.fault.CaptureFault.{CaptureFault}
 use Rattle.vme_bind.specs.declared.fault.CaptureFault.TheVariants.{Binding, Dump}
 use Rattle.vme_answer.specs.Refusals.{binding_refusal_as, capture_refusal, dump_refusal_as}
@@ -19,7 +19,7 @@ dump-refused : (line : ℕ) (kind : FaultKind) (reading : Result TextReading Cap
 dump-refused line vcd.Memory reading refusal fails is other = absurd (other is)
 dump-refused line kind reading refusal fails is other = (Dump (record { line = line; kind = kind }), fails, sym is)
 
-binding-refused : (line : ℕ) (kind : BindKind) (reading : Result TextReading CaptureFault) (refusal : Refusal)
+binding-refused : (line : ℕ) (kind : BindFaultKind) (reading : Result TextReading CaptureFault) (refusal : Refusal)
     → BindingFails line kind reading
     → refusal ≡ binding_refusal_as kind (BadBinding (record { line = line; kind = kind }))
     → (refusal ≡ Memory → ⊥) → IsRefused reading refusal

@@ -9,8 +9,8 @@ use Rattle.std.proofs.lemmas.Bool.Decides.{nat_tests}
 use Rattle.std.proofs.lemmas.List.{append-nil, take_all}
 use Rattle.std.proofs.lemmas.List.Elements.{filter_more}
 use Rattle.vme_trace.specs.declared.rule.Rule.{Rule}
-use Rattle.vme_bind.specs.declared.fault.BindKind.{BindKind}
-use Rattle.vme_bind.specs.declared.fault.BindKind.TheVariants as bind
+use Rattle.vme_bind.specs.declared.fault.BindFaultKind.{BindFaultKind}
+use Rattle.vme_bind.specs.declared.fault.BindFaultKind.TheVariants as bind
 use Rattle.vme_listing.specs.declared.fault.ListFault.{ListFault}
 use Rattle.vme_listing.specs.declared.fault.ListFault.TheVariants as list
 use Rattle.vme_answer.specs.Texts.{binding_fault_text, line_of, listing_fault_text, refusal_text}
@@ -89,7 +89,7 @@ program = codes "vmecheck: "
 abbrev behind_program : List ℕ → List ℕ
 behind_program text = drop (length program) text
 
-binding-behind : (line : ℕ) (kind : BindKind) → binding_fault_text line kind
+binding-behind : (line : ℕ) (kind : BindFaultKind) → binding_fault_text line kind
     ≡ program ++ behind_program (binding_fault_text line kind)
 binding-behind line bind.BadLine = refl
 binding-behind line bind.SlotsFirst = refl

@@ -7,7 +7,7 @@ use vme_audit_lines::{
     refusal_text,
 };
 use vme_auditor::{AskedEvents, AuditBreak, AuditFindings, BreakCounts};
-use vme_bind::{BindFault, BindKind};
+use vme_bind::{BindFault, BindFaultKind};
 use vme_text::Text;
 use vme_trace::{Line, Rule};
 
@@ -289,7 +289,7 @@ fn are_faults_told(alloc: Global) -> bool {
     };
     let no_path = BindFault {
         line: 5,
-        kind: BindKind::NoSuchPath,
+        kind: BindFaultKind::NoSuchPath,
     };
     is_refusal_told(
         alloc,

@@ -3,14 +3,14 @@ use Rattle.std.proofs.Common.{◌≡◌, ℕ, List, [], ◌∷◌, Some, None, R
 use Rattle.std.specs.Result.{IsErrAnd}
 use Rattle.vcd_read.specs.Header.{◌>>=◌}
 use Rattle.vme_bind.specs.declared.fault.BindFault.{BindFault}
-use Rattle.vme_bind.specs.declared.fault.BindKind.{BindKind}
-use Rattle.vme_bind.specs.declared.fault.BindKind.TheVariants.{Memory, SlotsFirst, Unbound}
+use Rattle.vme_bind.specs.declared.fault.BindFaultKind.{BindFaultKind}
+use Rattle.vme_bind.specs.declared.fault.BindFaultKind.TheVariants.{Memory, SlotsFirst, Unbound}
 use Rattle.vme_bind.specs.Answers.{at_line, BindFailsAs, BindFails, BindGives}
 use Rattle.vme_bind.specs.Text.{StatementText, statements_of, end_line}
 use Rattle.vme_bind.specs.Binding.{BoundLines, slots_behind, bound, bound_all, all_bound, finished, least_unbound}
 use Rattle.vme_bind.specs.Binding.{unless_unbound, no_assignments, with_left_out, binding_from, binding_of}
 
-fails_then : {X Y : Type 0} (line : ℕ) (kind : BindKind) (r : Result X BindFault) (next : X → Result Y BindFault)
+fails_then : {X Y : Type 0} (line : ℕ) (kind : BindFaultKind) (r : Result X BindFault) (next : X → Result Y BindFault)
     → BindFailsAs line kind r → BindFailsAs line kind (r >>= next)
 fails_then line Memory r next h = h
 fails_then {X = X} {Y = Y} line kind r next h = ap (λ (r : Result X BindFault). r >>= next) h

@@ -10,8 +10,8 @@ use Rattle.vcd_read.specs.declared.dump.Variable.{Variable}
 use Rattle.vcd_read.specs.Header.{◌>>=◌}
 use Rattle.vme_bind.specs.declared.assignment.Assignment.{Assignment}
 use Rattle.vme_bind.specs.declared.fault.BindFault.{BindFault}
-use Rattle.vme_bind.specs.declared.fault.BindKind.{BindKind}
-use Rattle.vme_bind.specs.declared.fault.BindKind.TheVariants.{AmbiguousPath}
+use Rattle.vme_bind.specs.declared.fault.BindFaultKind.{BindFaultKind}
+use Rattle.vme_bind.specs.declared.fault.BindFaultKind.TheVariants.{AmbiguousPath}
 use Rattle.vme_bind.specs.declared.source.VariableSelector.{VariableSelector}
 use Rattle.vme_bind.specs.declared.bound_groups.BitRange.{BitRange}
 use Rattle.vme_bind.specs.declared.bound_groups.BoundGroup.{BoundGroup}
@@ -23,12 +23,12 @@ pub from_place : {X : Type 0} (xs : List X) (i : ℕ) (x : X) → i < length xs 
 from_place xs i x lt e = rw add-one (drop-cons xs i x lt) ∙ ap (λ y. y ∷ drop (i + 1) xs) (sym e)
 
 -- the only candidate, where this one was found before
-abbrev pub only_from : Option BitRange → List BitRange → Result BitRange BindKind
+abbrev pub only_from : Option BitRange → List BitRange → Result BitRange BindFaultKind
 only_from None found = only found
 only_from (Some bits) others = cond (list_all (same_bits bits) others) (Ok bits) (Err AmbiguousPath)
 
 -- the same with perhaps one more
-abbrev pub only_with : Option BitRange → Option BitRange → List BitRange → Result BitRange BindKind
+abbrev pub only_with : Option BitRange → Option BitRange → List BitRange → Result BitRange BindFaultKind
 only_with found None others = only_from found others
 only_with None (Some bits) others = only_from (Some bits) others
 only_with (Some bits) (Some next) others = cond (same_bits bits next) (only_from (Some bits) others) (Err AmbiguousPath)

@@ -12,8 +12,8 @@ use Rattle.vcd_read.specs.Header.{◌>>=◌, Reference, variable_in}
 use Rattle.vcd_read.specs.Scopes.{path_in}
 use Rattle.vme_bind.specs.declared.assignment.Assignment.{Assignment}
 use Rattle.vme_bind.specs.declared.fault.BindFault.{BindFault}
-use Rattle.vme_bind.specs.declared.fault.BindKind.{BindKind}
-use Rattle.vme_bind.specs.declared.fault.BindKind.TheVariants.{AmbiguousPath}
+use Rattle.vme_bind.specs.declared.fault.BindFaultKind.{BindFaultKind}
+use Rattle.vme_bind.specs.declared.fault.BindFaultKind.TheVariants.{AmbiguousPath}
 use Rattle.vme_bind.specs.declared.source.LevelSource.{LevelSource}
 use Rattle.vme_bind.specs.declared.source.LevelSource.TheVariants.{Constant, Variable as Named}
 use Rattle.vme_bind.specs.declared.source.VariableSelector.{VariableSelector}
@@ -35,7 +35,7 @@ use Rattle.std.proofs.lemmas.List.{append-nil}
 -- ---- one assignment
 
 -- what is found behind these candidates
-abbrev only_behind : PathMatch → List BitRange → Result BitRange BindKind
+abbrev only_behind : PathMatch → List BitRange → Result BitRange BindFaultKind
 only_behind Nothing others = only others
 only_behind (Only bits) others = cond (list_all (same_bits bits) others) (Ok bits) (Err AmbiguousPath)
 only_behind Several others = Err AmbiguousPath
@@ -78,7 +78,7 @@ found_only named (v ∷ vs) found =
 found_source : (count : ℕ) (source : LevelSource) (vs : List Variable) → source_of count (found_all source Nothing vs)
     source ≡ source_in vs count source
 found_source count (Constant level) vs = refl
-found_source count (Named named) vs = ap (λ (r : Result BitRange BindKind). source_by count r)
+found_source count (Named named) vs = ap (λ (r : Result BitRange BindFaultKind). source_by count r)
     (found_only named vs Nothing)
 
 -- ---- all assignments

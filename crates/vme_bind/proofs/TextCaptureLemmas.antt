@@ -24,8 +24,8 @@ use Rattle.vcd_read.proofs.DefinedLemmas.{taken_head, header_taken}
 use Rattle.vcd_read.proofs.CurrentValues.{CurrentValues}
 use Rattle.vcd_read.proofs.BodyFoldLemmas.{Ends, Follows, taken-follows, fails-followed, gives-followed}
 use Rattle.vme_bind.specs.declared.fault.BindFault.{BindFault}
-use Rattle.vme_bind.specs.declared.fault.BindKind.{BindKind}
-use Rattle.vme_bind.specs.declared.fault.BindKind.TheVariants.{TooManySteps, Memory as NoMemory}
+use Rattle.vme_bind.specs.declared.fault.BindFaultKind.{BindFaultKind}
+use Rattle.vme_bind.specs.declared.fault.BindFaultKind.TheVariants.{TooManySteps, Memory as NoMemory}
 use Rattle.vme_bind.specs.declared.fault.CaptureFault.{CaptureFault}
 use Rattle.vme_bind.specs.declared.fault.CaptureFault.TheVariants.{Dump, Binding}
 use Rattle.vme_bind.specs.declared.bound_groups.BoundGroup.{BoundGroup}
@@ -266,7 +266,7 @@ pub behind-first : (b : BoundLines) (h : Headed) (variables : List Variable) (u 
 behind-first b h variables u fault fails = behind_dump b h variables fault.line fault.kind
     (fails-followed (Ends Passes) (instants_from h.nets h.body) _ fault (passing-follows h u) fails)
 
-by_binding : (line : ℕ) (kind : BindKind) (b : BoundLines) (dump : Contents) (answer : Result Trace CaptureFault)
+by_binding : (line : ℕ) (kind : BindFaultKind) (b : BoundLines) (dump : Contents) (answer : Result Trace CaptureFault)
     → answer ≡ or_binding (recording_of b dump)
     → BindFailsAs line kind (bound_groups_in dump.variables b.assignments) → BindingFails line kind answer
 by_binding line NoMemory b dump answer is e = e
@@ -321,7 +321,8 @@ fails-captured b text (Dump fault) h = by_kind fault.line fault.kind h
     by_kind line kind e = capture-recorded b text ∙ ap in_limit e
 fails-captured b text (Binding fault) h = by_kind fault.line fault.kind h
   where
-    by_kind : (line : ℕ) (kind : BindKind) → BindingFails line kind (recording_of_text b text) → BindingFails line kind
+    by_kind : (line : ℕ) (kind : BindFaultKind) → BindingFails line kind (recording_of_text b text)
+        → BindingFails line kind
         (capture_of_text b text)
     by_kind line NoMemory e = e
     by_kind line kind e = capture-recorded b text ∙ ap in_limit e

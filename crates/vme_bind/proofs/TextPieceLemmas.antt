@@ -14,8 +14,8 @@ use Rattle.vcd_read.specs.declared.fault.FaultKind.{FaultKind}
 use Rattle.vcd_read.specs.declared.fault.FaultKind.TheVariants.{Memory, NoEndDefinitions, UnfinishedSection}
 use Rattle.vcd_read.specs.declared.fault.VcdFault.{VcdFault}
 use Rattle.vme_bind.specs.declared.fault.BindFault.{BindFault}
-use Rattle.vme_bind.specs.declared.fault.BindKind.{BindKind}
-use Rattle.vme_bind.specs.declared.fault.BindKind.TheVariants.{Memory as NoMemory}
+use Rattle.vme_bind.specs.declared.fault.BindFaultKind.{BindFaultKind}
+use Rattle.vme_bind.specs.declared.fault.BindFaultKind.TheVariants.{Memory as NoMemory}
 use Rattle.vme_bind.specs.declared.fault.CaptureFault.{CaptureFault}
 use Rattle.vme_bind.specs.declared.fault.CaptureFault.TheVariants.{Dump, Binding}
 use Rattle.vme_bind.specs.BuilderState.{IsBegun, BuilderState, builder_change, builder_instant}
@@ -88,7 +88,7 @@ pub refused-is : {Y : Type 0} (own : BindFault) (answer : Result Y BindFault) �
     → answer ≡ Err own
 refused-is own answer other fails = by_kind own.line own.kind other fails
   where
-    by_kind : (line : ℕ) (kind : BindKind) → (kind ≡ NoMemory → ⊥) → BindFailsAs line kind answer → answer
+    by_kind : (line : ℕ) (kind : BindFaultKind) → (kind ≡ NoMemory → ⊥) → BindFailsAs line kind answer → answer
         ≡ Err (record { line = line; kind = kind })
     by_kind line NoMemory other fails = absurd (other refl)
     by_kind line kind other fails = fails
@@ -98,7 +98,8 @@ pub wanting : {Y Z : Type 0} (own : BindFault) (answer : Result Y BindFault) (as
     → own.kind ≡ NoMemory → BindFails own answer → CaptureFailsBy (Binding own) assigned
 wanting own answer assigned is fails = by_kind own.line own.kind is fails
   where
-    by_kind : (line : ℕ) (kind : BindKind) → kind ≡ NoMemory → BindFailsAs line kind answer → BindingFails line kind
+    by_kind : (line : ℕ) (kind : BindFaultKind) → kind ≡ NoMemory → BindFailsAs line kind answer
+        → BindingFails line kind
         assigned
     by_kind line NoMemory is fails = fails
     by_kind line kind is fails = absurd (cc is)
@@ -109,7 +110,7 @@ pub assigned-own : {Y : Type 0} (own : BindFault) (answer : Result Y CaptureFaul
     → CaptureFailsBy (Binding own) answer
 assigned-own own answer other is = by_kind own.line own.kind other is
   where
-    by_kind : (line : ℕ) (kind : BindKind) → (kind ≡ NoMemory → ⊥) → answer
+    by_kind : (line : ℕ) (kind : BindFaultKind) → (kind ≡ NoMemory → ⊥) → answer
         ≡ Err (Binding (record { line = line; kind = kind })) → BindingFails line kind answer
     by_kind line NoMemory other is = absurd (other refl)
     by_kind line kind other is = is

@@ -1,15 +1,15 @@
 -- What a function answers that gives a value or the first fault.
 use Rattle.std.specs.Prelude.{◌≡◌, ℕ, Result, Ok, Err}
 use Rattle.vme_bind.specs.declared.fault.BindFault.{BindFault}
-use Rattle.vme_bind.specs.declared.fault.BindKind.{BindKind}
-use Rattle.vme_bind.specs.declared.fault.BindKind.TheVariants.{Memory}
+use Rattle.vme_bind.specs.declared.fault.BindFaultKind.{BindFaultKind}
+use Rattle.vme_bind.specs.declared.fault.BindFaultKind.TheVariants.{Memory}
 
 -- a kind of fault at a line
-abbrev pub at_line : {A : Type 0} → ℕ → Result A BindKind → Result A BindFault
+abbrev pub at_line : {A : Type 0} → ℕ → Result A BindFaultKind → Result A BindFault
 at_line line (Ok x) = Ok x
 at_line line (Err kind) = Err (record { line = line; kind = kind })
 
-abbrev pub BindFailsAs : {Y : Type 0} → ℕ → BindKind → Result Y BindFault → Type 0
+abbrev pub BindFailsAs : {Y : Type 0} → ℕ → BindFaultKind → Result Y BindFault → Type 0
 BindFailsAs line Memory answer = line ≡ 0
 BindFailsAs line kind answer = answer ≡ Err (record { line = line; kind = kind })
 

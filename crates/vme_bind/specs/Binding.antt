@@ -7,8 +7,9 @@ use Rattle.vme_trace.specs.LineNumbers.{line_count, has_line}
 use Rattle.vcd_read.specs.Header.{◌>>=◌}
 use Rattle.vme_bind.specs.declared.assignment.Assignment.{Assignment}
 use Rattle.vme_bind.specs.declared.fault.BindFault.{BindFault}
-use Rattle.vme_bind.specs.declared.fault.BindKind.{BindKind}
-use Rattle.vme_bind.specs.declared.fault.BindKind.TheVariants.{BadLine, SlotsFirst, UnknownName, NamedTwice, Unbound}
+use Rattle.vme_bind.specs.declared.fault.BindFaultKind.{BindFaultKind}
+use Rattle.vme_bind.specs.declared.fault.BindFaultKind.TheVariants.{BadLine, SlotsFirst, UnknownName, NamedTwice}
+use Rattle.vme_bind.specs.declared.fault.BindFaultKind.TheVariants.{Unbound}
 use Rattle.vme_bind.specs.declared.group.Group.{Group}
 use Rattle.vme_bind.specs.Answers.{at_line}
 use Rattle.vme_bind.specs.Text.{StatementText, statements_of, end_line}
@@ -33,21 +34,21 @@ slot_count (t ∷ d ∷ []) = if is_digit t && nat_le 49 t && is_digit d
     && nat_le ((t - 48) * 10 + (d - 48)) 21 then Some ((t - 48) * 10 + (d - 48)) else None
 slot_count word = None
 
-abbrev pub counted : Option ℕ → Result ℕ BindKind
+abbrev pub counted : Option ℕ → Result ℕ BindFaultKind
 counted None = Err SlotsFirst
 counted (Some slots) = Ok slots
 
-abbrev pub slots_behind : List ℕ → List (List ℕ) → Result ℕ BindKind
+abbrev pub slots_behind : List ℕ → List (List ℕ) → Result ℕ BindFaultKind
 slots_behind first (count ∷ []) = if bytes_eq first (codes "slots") then counted (slot_count count) else Err SlotsFirst
 slots_behind first others = Err SlotsFirst
 
 -- ---- an assignment
 
-abbrev pub name_and_source : List ℕ → List (List ℕ) → Result (List ℕ × List ℕ) BindKind
+abbrev pub name_and_source : List ℕ → List (List ℕ) → Result (List ℕ × List ℕ) BindFaultKind
 name_and_source name (equals ∷ source ∷ []) = if bytes_eq equals (codes "=") then Ok (name, source) else Err BadLine
 name_and_source name others = Err BadLine
 
-abbrev pub group_of : Option Group → Result Group BindKind
+abbrev pub group_of : Option Group → Result Group BindFaultKind
 group_of None = Err UnknownName
 group_of (Some group) = Ok group
 
@@ -55,14 +56,14 @@ group_of (Some group) = Ok group
 abbrev pub is_taken : List Assignment → Group → Bool
 is_taken assignments group = list_any (λ (a : Assignment). share a.group group) assignments
 
-abbrev pub once : List Assignment → Group → Result Group BindKind
+abbrev pub once : List Assignment → Group → Result Group BindFaultKind
 once assignments group = if is_taken assignments group then Err NamedTwice else Ok group
 
 abbrev pub with_assignment : BoundLines → ℕ → Group → List ℕ → BoundLines
 with_assignment b line group source =
     record b { assignments = b.assignments ++ record { line = line; group = group; source = source_of source } ∷ [] }
 
-abbrev pub bound : BoundLines → StatementText → Result BoundLines BindKind
+abbrev pub bound : BoundLines → StatementText → Result BoundLines BindFaultKind
 bound b s = do
   words ← name_and_source s.first s.others
   group ← group_of (group_named b.slots words.0)

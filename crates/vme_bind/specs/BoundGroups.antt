@@ -7,8 +7,8 @@ use Rattle.vcd_read.specs.declared.dump.Variable.{Variable}
 use Rattle.vcd_read.specs.Header.{◌>>=◌}
 use Rattle.vme_bind.specs.declared.assignment.Assignment.{Assignment}
 use Rattle.vme_bind.specs.declared.fault.BindFault.{BindFault}
-use Rattle.vme_bind.specs.declared.fault.BindKind.{BindKind}
-use Rattle.vme_bind.specs.declared.fault.BindKind.TheVariants.{NoSuchPath, AmbiguousPath, WrongWidth}
+use Rattle.vme_bind.specs.declared.fault.BindFaultKind.{BindFaultKind}
+use Rattle.vme_bind.specs.declared.fault.BindFaultKind.TheVariants.{NoSuchPath, AmbiguousPath, WrongWidth}
 use Rattle.vme_bind.specs.declared.source.LevelSource.{LevelSource}
 use Rattle.vme_bind.specs.declared.source.LevelSource.TheVariants.{Constant, Variable as Named}
 use Rattle.vme_bind.specs.declared.source.VariableSelector.{VariableSelector}
@@ -55,27 +55,27 @@ abbrev pub same_bits : BitRange → BitRange → Bool
 same_bits a b = a.net == b.net && a.first == b.first && a.count == b.count
 
 -- candidates that are the same bits are one
-abbrev pub only : List BitRange → Result BitRange BindKind
+abbrev pub only : List BitRange → Result BitRange BindFaultKind
 only [] = Err NoSuchPath
 only (bits ∷ others) = if list_all (same_bits bits) others then Ok bits else Err AmbiguousPath
 
-abbrev pub as_wide_as : ℕ → BitRange → Result BitRange BindKind
+abbrev pub as_wide_as : ℕ → BitRange → Result BitRange BindFaultKind
 as_wide_as count bits = if bits.count == count then Ok bits else Err WrongWidth
 
 -- ---- the bound groups of a binding
 
 -- bits that were found, for so many lines
-abbrev pub source_by : ℕ → Result BitRange BindKind → Result GroupSource BindKind
+abbrev pub source_by : ℕ → Result BitRange BindFaultKind → Result GroupSource BindFaultKind
 source_by count found = do
   bits ← found
   fitting ← as_wide_as count bits
   Ok (Bits fitting)
 
-abbrev pub source_in : List Variable → ℕ → LevelSource → Result GroupSource BindKind
+abbrev pub source_in : List Variable → ℕ → LevelSource → Result GroupSource BindFaultKind
 source_in variables count (Constant level) = Ok (Fixed level)
 source_in variables count (Named named) = source_by count (only (filter_map (candidate named) variables))
 
-abbrev pub bound_group_by : Assignment → Result GroupSource BindKind → Result BoundGroup BindFault
+abbrev pub bound_group_by : Assignment → Result GroupSource BindFaultKind → Result BoundGroup BindFault
 bound_group_by a r = at_line a.line r >>= λ source. Ok (record { group = a.group; source = source })
 
 abbrev pub bound_group_in : List Variable → Assignment → Result BoundGroup BindFault

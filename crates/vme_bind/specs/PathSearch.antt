@@ -6,8 +6,8 @@ use Rattle.vcd_read.specs.Header.{◌>>=◌}
 use Rattle.vcd_read.specs.Scopes.{path_in}
 use Rattle.vme_bind.specs.declared.assignment.Assignment.{Assignment}
 use Rattle.vme_bind.specs.declared.fault.BindFault.{BindFault}
-use Rattle.vme_bind.specs.declared.fault.BindKind.{BindKind}
-use Rattle.vme_bind.specs.declared.fault.BindKind.TheVariants.{NoSuchPath, AmbiguousPath}
+use Rattle.vme_bind.specs.declared.fault.BindFaultKind.{BindFaultKind}
+use Rattle.vme_bind.specs.declared.fault.BindFaultKind.TheVariants.{NoSuchPath, AmbiguousPath}
 use Rattle.vme_bind.specs.declared.source.LevelSource.{LevelSource}
 use Rattle.vme_bind.specs.declared.source.LevelSource.TheVariants.{Constant, Variable as Named}
 use Rattle.vme_bind.specs.declared.path_search.PathMatch.{PathMatch}
@@ -29,7 +29,7 @@ with_bits (Only bits) (Some next) = if same_bits bits next then Only bits else S
 with_bits Several (Some next) = Several
 
 -- the only candidate, or why there is none
-abbrev pub only_found : PathMatch → Result BitRange BindKind
+abbrev pub only_found : PathMatch → Result BitRange BindFaultKind
 only_found Nothing = Err NoSuchPath
 only_found (Only bits) = Ok bits
 only_found Several = Err AmbiguousPath
@@ -58,7 +58,7 @@ seen_in s = record { assignment = s.assignment.now; found = s.found }
 
 -- ---- the bound groups of what is found
 
-abbrev pub source_of : ℕ → PathMatch → LevelSource → Result GroupSource BindKind
+abbrev pub source_of : ℕ → PathMatch → LevelSource → Result GroupSource BindFaultKind
 source_of count found (Constant level) = Ok (Fixed level)
 source_of count found (Named named) = source_by count (only_found found)
 

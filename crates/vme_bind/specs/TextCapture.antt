@@ -10,8 +10,8 @@ use Rattle.vcd_read.specs.declared.fault.VcdFault.{VcdFault}
 use Rattle.vcd_read.specs.declared.fault.FaultKind.{FaultKind}
 use Rattle.vcd_read.specs.declared.fault.FaultKind.TheVariants.{Memory}
 use Rattle.vme_bind.specs.declared.fault.BindFault.{BindFault}
-use Rattle.vme_bind.specs.declared.fault.BindKind.{BindKind}
-use Rattle.vme_bind.specs.declared.fault.BindKind.TheVariants.{Memory as NoMemory}
+use Rattle.vme_bind.specs.declared.fault.BindFaultKind.{BindFaultKind}
+use Rattle.vme_bind.specs.declared.fault.BindFaultKind.TheVariants.{Memory as NoMemory}
 use Rattle.vme_bind.specs.declared.fault.CaptureFault.{CaptureFault}
 use Rattle.vme_bind.specs.declared.fault.CaptureFault.TheVariants.{Dump, Binding}
 use Rattle.vme_bind.specs.Binding.{BoundLines}
@@ -58,7 +58,7 @@ abbrev pub DumpFails : {Y : Type 0} → ℕ → FaultKind → Result Y CaptureFa
 DumpFails line Memory answer = line ≡ 0
 DumpFails line kind answer = answer ≡ Err (Dump (record { line = line; kind = kind }))
 
-abbrev pub BindingFails : {Y : Type 0} → ℕ → BindKind → Result Y CaptureFault → Type 0
+abbrev pub BindingFails : {Y : Type 0} → ℕ → BindFaultKind → Result Y CaptureFault → Type 0
 BindingFails line NoMemory answer = line ≡ 0
 BindingFails line kind answer = answer ≡ Err (Binding (record { line = line; kind = kind }))
 

@@ -3,13 +3,13 @@
 ghost use Rattle.std.specs.Prelude.{◌≡◌, ◌++◌, ◌∷◌, [], MatchOption, IfSome, OnOk, Ok, Err, codes, replicate};
 ghost use Rattle.vme_trace.specs.LineNumbers.{line_count};
 ghost use Rattle.vme_trace.specs.declared.level.Level.TheVariants.{Unknown};
-ghost use Rattle.vme_bind.specs.declared.fault.BindKind.TheVariants.{BadLine, SlotsFirst};
+ghost use Rattle.vme_bind.specs.declared.fault.BindFaultKind.TheVariants.{BadLine, SlotsFirst};
 ghost use Rattle.vme_bind.specs.Answers.{BindGives, at_line};
 ghost use Rattle.vme_bind.specs.Binding.{binding_of};
 ghost use Rattle.vme_bind.specs.Sources.{source_of};
 
 use crate::assignment::Assignment;
-use crate::fault::{BindFault, BindKind};
+use crate::fault::{BindFault, BindFaultKind};
 use crate::group::Group;
 use crate::source::LevelSource;
 use crate::statements::{Statement, Statements};
@@ -149,19 +149,19 @@ impl Binding {
         let Some((name, word)) = Binding::name_and_source(statement) else {
             return Err(BindFault {
                 line,
-                kind: BindKind::BadLine,
+                kind: BindFaultKind::BadLine,
             });
         };
         let Some(group) = Group::named(&self.lines, name) else {
             return Err(BindFault {
                 line,
-                kind: BindKind::UnknownName,
+                kind: BindFaultKind::UnknownName,
             });
         };
         if self.is_taken(group) {
             return Err(BindFault {
                 line,
-                kind: BindKind::NamedTwice,
+                kind: BindFaultKind::NamedTwice,
             });
         }
         Ok(Assignment {
@@ -253,14 +253,14 @@ pub fn read_binding(alloc: Global, text: &[u8]) -> Result<Binding, BindFault>
     let Some(first) = statements.next() else {
         return Err(BindFault {
             line: statements.line(),
-            kind: BindKind::SlotsFirst,
+            kind: BindFaultKind::SlotsFirst,
         });
     };
     let line = first.line;
     let Some(lines) = Binding::lines_of(first) else {
         return Err(BindFault {
             line,
-            kind: BindKind::SlotsFirst,
+            kind: BindFaultKind::SlotsFirst,
         });
     };
     let mut binding = Binding::new(alloc, lines);
@@ -269,7 +269,7 @@ pub fn read_binding(alloc: Global, text: &[u8]) -> Result<Binding, BindFault>
     match binding.least_unbound() {
         Some(unbound) => Err(BindFault {
             line: statements.line(),
-            kind: BindKind::Unbound(unbound),
+            kind: BindFaultKind::Unbound(unbound),
         }),
         None => Ok(binding),
     }

@@ -8,7 +8,7 @@ ghost use Rattle.vme_bind.specs.BoundGroups.{source_by, bound_group_by, bound_gr
 ghost use Rattle.vme_bind.specs.BoundGroups.{bound_group_source};
 
 use crate::assignment::Assignment;
-use crate::fault::{BindFault, BindKind};
+use crate::fault::{BindFault, BindFaultKind};
 use crate::group::Group;
 use crate::source::{LevelSource, VariableSelector};
 use std::alloc::Global;
@@ -134,7 +134,7 @@ impl BitRange {
                     if !first.is_same(bits) {
                         return Err(BindFault {
                             line,
-                            kind: BindKind::AmbiguousPath,
+                            kind: BindFaultKind::AmbiguousPath,
                         });
                     }
                 } else {
@@ -146,7 +146,7 @@ impl BitRange {
             Some(bits) => Ok(bits),
             None => Err(BindFault {
                 line,
-                kind: BindKind::NoSuchPath,
+                kind: BindFaultKind::NoSuchPath,
             }),
         }
     }
@@ -162,7 +162,7 @@ impl BoundGroup {
         if bits.count != group.count as usize {
             return Err(BindFault {
                 line: assignment.line,
-                kind: BindKind::WrongWidth,
+                kind: BindFaultKind::WrongWidth,
             });
         }
         Ok(BoundGroup {

@@ -10,7 +10,7 @@ ghost use Rattle.vme_bind.specs.Capture.{levels_after, recording, limited, captu
 
 use crate::binding::Binding;
 use crate::bound_groups::{BoundGroup, LineSource};
-use crate::fault::{BindFault, BindKind};
+use crate::fault::{BindFault, BindFaultKind};
 use crate::net_lines::{NetLines, line_source};
 use crate::recorder::Recorder;
 use std::alloc::{AllocError, Global};
@@ -70,7 +70,7 @@ pub(crate) fn captured(opening: Lines, steps: Vec<Step>) -> Result<Capture, Bind
 {
     Capture::from_well_formed(opening, steps).ok_or(BindFault {
         line: 0,
-        kind: BindKind::TooManySteps,
+        kind: BindFaultKind::TooManySteps,
     })
 }
 

@@ -3,7 +3,7 @@
 ghost use Rattle.std.specs.Prelude.{◌≡◌, Some, encode_utf8};
 ghost use Rattle.std.specs.List.{flat_map};
 ghost use Rattle.vme_trace.specs.Names.{line_name};
-ghost use Rattle.vme_bind.specs.declared.fault.BindKind.TheVariants.{Memory};
+ghost use Rattle.vme_bind.specs.declared.fault.BindFaultKind.TheVariants.{Memory};
 
 use std::alloc::{AllocError, AllocFailed};
 use std::fmt::{self, Display, Formatter, Write};
@@ -28,7 +28,7 @@ impl Display for LineName {
 
 /// What is wrong with a binding.
 #[derive(Clone, Copy, Debug, Error, PartialEq, Eq)]
-pub enum BindKind {
+pub enum BindFaultKind {
     /// A line of the text isn't `NAME = SOURCE`.
     #[error("BadLine")]
     BadLine,
@@ -68,7 +68,7 @@ pub struct BindFault {
     /// The line of the binding text that the fault is at, from 1.
     pub line: u64,
     /// What is wrong there.
-    pub kind: BindKind,
+    pub kind: BindFaultKind,
 }
 
 /// Why a binding makes no recording of the text of a dump.
@@ -86,7 +86,7 @@ impl From<AllocError> for BindFault {
     fn from(_e: AllocError) -> BindFault {
         BindFault {
             line: 0,
-            kind: BindKind::Memory,
+            kind: BindFaultKind::Memory,
         }
     }
 }
@@ -97,7 +97,7 @@ impl<T: Drop> From<AllocFailed<T>> for BindFault {
     fn from(_e: AllocFailed<T>) -> BindFault {
         BindFault {
             line: 0,
-            kind: BindKind::Memory,
+            kind: BindFaultKind::Memory,
         }
     }
 }

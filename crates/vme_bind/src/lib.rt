@@ -78,7 +78,7 @@ mod text_state;
 mod words;
 
 pub use binding::{Binding, read_binding};
-pub use fault::{BindFault, BindKind, CaptureFault};
+pub use fault::{BindFault, BindFaultKind, CaptureFault};
 pub use laws::recorded_before_is_a_prefix;
 pub use speculative_reader::{SpeculativeChunk, SpeculativeReader};
 pub use step_collector::StepCollector;

@@ -8,7 +8,7 @@ ghost use Rattle.vme_bind.specs.PathSearch.{begins_with};
 
 use crate::assignment::Assignment;
 use crate::bound_groups::{BitRange, BoundGroup, GroupSource};
-use crate::fault::{BindFault, BindKind};
+use crate::fault::{BindFault, BindFaultKind};
 use crate::source::LevelSource;
 use vcd_read::{Declaration, Scopes};
 
@@ -154,8 +154,8 @@ impl<'b> PathSearch<'b> {
             (LevelSource::Variable(_), PathMatch::Only(bits)) => return BoundGroup::of_bits(
                 assignment, bits,
             ),
-            (LevelSource::Variable(_), PathMatch::Nothing) => BindKind::NoSuchPath,
-            (LevelSource::Variable(_), PathMatch::Several) => BindKind::AmbiguousPath,
+            (LevelSource::Variable(_), PathMatch::Nothing) => BindFaultKind::NoSuchPath,
+            (LevelSource::Variable(_), PathMatch::Several) => BindFaultKind::AmbiguousPath,
         };
         Err(BindFault {
             line: assignment.line,

@@ -6,7 +6,7 @@ ghost use Rattle.vme_trace.specs.WellFormed.{malformed_step};
 ghost use Rattle.vme_trace.specs.LineNumbers.{line_count};
 ghost use Rattle.vme_trace.specs.declared.level.Level.TheVariants.{Unknown};
 ghost use Rattle.vme_bind.specs.Answers.{BindFails};
-ghost use Rattle.vme_bind.specs.declared.fault.BindKind.TheVariants.{Memory};
+ghost use Rattle.vme_bind.specs.declared.fault.BindFaultKind.TheVariants.{Memory};
 ghost use Rattle.vme_bind.specs.Binding.{BoundLines};
 ghost use Rattle.vme_bind.specs.PathSearch.{seen_in, unseen, with_variable};
 ghost use Rattle.vme_bind.specs.BoundGroups.{bound_groups_in};
@@ -22,7 +22,7 @@ use crate::binding::Binding;
 use crate::bound_groups::BoundGroup;
 use crate::capture::{captured, opening_of};
 use crate::capture_builder::{CaptureBuilder, DiscardChanges};
-use crate::fault::{BindFault, BindKind, CaptureFault};
+use crate::fault::{BindFault, BindFaultKind, CaptureFault};
 use crate::net_lines::NetLines;
 use crate::recorder::Recorder;
 use crate::search::Search;
@@ -86,7 +86,7 @@ pub(crate) fn want_of_memory() -> BindFault
 {
     BindFault {
         line: 0,
-        kind: BindKind::Memory,
+        kind: BindFaultKind::Memory,
     }
 }
 

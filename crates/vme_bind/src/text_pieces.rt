@@ -23,7 +23,7 @@ ghost use Rattle.vme_bind.specs.TextReading.{reading_behind, reading_from, readi
 use crate::binding::Binding;
 use crate::bound_groups::BoundGroup;
 use crate::capture_builder::CaptureBuilder;
-use crate::fault::{BindFault, BindKind, CaptureFault};
+use crate::fault::{BindFault, BindFaultKind, CaptureFault};
 use crate::search::Search;
 use crate::text_capture::{builder_of, want_of_memory};
 use crate::text_state::TextPieces;
@@ -172,7 +172,7 @@ impl Binding {
                 visitor,
             ),
             Err(fault) => match fault.kind {
-                BindKind::Memory => Err(CaptureFault::Binding(fault)),
+                BindFaultKind::Memory => Err(CaptureFault::Binding(fault)),
                 _ => begin_bound_groups(alloc, self.lines(), &[], Some(fault), front, visitor),
             },
         }

@@ -5,7 +5,7 @@ use std::process::Abort;
 use std::test::Fail;
 use vcd_read::{FaultKind, Stopped, VcdFault, read_vcd};
 use vme_bind::{
-    BindFault, BindKind, Binding, CaptureFault, SpeculativeReader, TextPieces, read_binding,
+    BindFault, BindFaultKind, Binding, CaptureFault, SpeculativeReader, TextPieces, read_binding,
 };
 use vme_trace::{Capture, Level, Line, Lines, Step, StepVisitor};
 
@@ -595,7 +595,7 @@ fn many_lines(alloc: Global) -> Option<Vec<u8>> {
 fn lines_are_counted_to_a_million(rt: HostRuntime) {
     let unbound = BindFault {
         line: 1_000_002,
-        kind: BindKind::Unbound(Line::AS),
+        kind: BindFaultKind::Unbound(Line::AS),
     };
     let found = match many_lines(rt.alloc()) {
         Some(text) => read_binding(rt.alloc(), &text).err(),
@@ -620,7 +620,7 @@ fn a_fault_of_the_dump_comes_before_one_of_the_binding(rt: HostRuntime) {
 
 #[test]
 fn a_fault_is_shown_with_its_line(rt: HostRuntime) -> Result<(), Fail> {
-    let kind = BindKind::Unbound(Line::iack(1));
+    let kind = BindFaultKind::Unbound(Line::iack(1));
     let fault = BindFault { line: 3, kind };
     let shown = format!(in rt.alloc(); "{fault}")?;
     assert!(rt; shown.as_str() == "binding line 3: Unbound IA.1");
@@ -632,7 +632,7 @@ fn every_front_of_a_binding_is_one_or_has_a_fault(rt: HostRuntime) {
     let text = BUS_LINES.as_bytes();
     for end in 0..text.len() {
         if let Err(fault) = read_binding(rt.alloc(), &text[..end]) {
-            assert!(rt; fault.kind != BindKind::Memory, "at {end}");
+            assert!(rt; fault.kind != BindFaultKind::Memory, "at {end}");
         }
     }
 }
@@ -642,7 +642,7 @@ fn every_front_of_a_binding_is_one_or_has_a_fault(rt: HostRuntime) {
 fn want_of_memory_is_the_fault(rt: HostRuntime) {
     let memory = BindFault {
         line: 0,
-        kind: BindKind::Memory,
+        kind: BindFaultKind::Memory,
     };
     let Ok(text) = bus_dump(rt.alloc(), AS, READ) else {
         return;
@@ -670,7 +670,7 @@ fn want_of_memory_at_a_text_is_the_fault(rt: HostRuntime) {
     };
     match binding.capture_text(rt.alloc(), text.as_bytes()) {
         Ok(capture) => assert_eq!(rt; capture.steps().len(), 6),
-        Err(CaptureFault::Binding(fault)) => assert!(rt; fault.kind == BindKind::Memory),
+        Err(CaptureFault::Binding(fault)) => assert!(rt; fault.kind == BindFaultKind::Memory),
         Err(CaptureFault::Dump(fault)) => assert!(rt; fault.kind == FaultKind::Memory),
     }
 }
@@ -958,7 +958,7 @@ fn faults_before_and_in_body(alloc: Global) -> Option<(BindFault, VcdFault)> {
 fn the_fault_of_a_binding_is_known_before_the_body(rt: HostRuntime) {
     let known = BindFault {
         line: 2,
-        kind: BindKind::NoSuchPath,
+        kind: BindFaultKind::NoSuchPath,
     };
     let told = VcdFault {
         line: 9,

@@ -8,8 +8,8 @@ use Rattle.vcd_read.specs.BodyFold.{at_end, state_at, steps}
 use Rattle.vcd_read.specs.Tokens.{Token, tokens, tokens_from}
 use Rattle.vcd_read.specs.declared.fault.FaultKind.{FaultKind}
 use Rattle.vcd_read.specs.declared.fault.FaultKind.TheVariants.{Memory}
-use Rattle.vme_bind.specs.declared.fault.BindKind.{BindKind}
-use Rattle.vme_bind.specs.declared.fault.BindKind.TheVariants.{Memory as NoMemory}
+use Rattle.vme_bind.specs.declared.fault.BindFaultKind.{BindFaultKind}
+use Rattle.vme_bind.specs.declared.fault.BindFaultKind.TheVariants.{Memory as NoMemory}
 use Rattle.vme_bind.specs.declared.fault.CaptureFault.{CaptureFault}
 use Rattle.vme_bind.specs.declared.fault.CaptureFault.TheVariants.{Dump, Binding}
 use Rattle.vme_bind.specs.Binding.{BoundLines}
@@ -73,7 +73,7 @@ told-is (Dump fault) answer told fails = by_kind fault.line fault.kind told fail
     by_kind line kind told fails = fails
 told-is (Binding fault) answer told fails = by_kind fault.line fault.kind told fails
   where
-    by_kind : (line : ℕ) (kind : BindKind) → is_want (Binding (record { line = line; kind = kind })) ≡ false
+    by_kind : (line : ℕ) (kind : BindFaultKind) → is_want (Binding (record { line = line; kind = kind })) ≡ false
         → BindingFails line kind answer → answer ≡ Err (Binding (record { line = line; kind = kind }))
     by_kind line NoMemory told fails = absurd (cc told)
     by_kind line kind told fails = fails
@@ -89,7 +89,8 @@ is-told (Dump fault) answer told is = by_kind fault.line fault.kind told is
     by_kind line kind told is = is
 is-told (Binding fault) answer told is = by_kind fault.line fault.kind told is
   where
-    by_kind : (line : ℕ) (kind : BindKind) → is_want (Binding (record { line = line; kind = kind })) ≡ false → answer
+    by_kind : (line : ℕ) (kind : BindFaultKind) → is_want (Binding (record { line = line; kind = kind })) ≡ false
+        → answer
         ≡ Err (Binding (record { line = line; kind = kind })) → BindingFails line kind answer
     by_kind line NoMemory told is = absurd (cc told)
     by_kind line kind told is = is

@@ -2,8 +2,8 @@
 use Rattle.std.specs.Prelude.{Bool, true, false}
 use Rattle.vcd_read.specs.declared.fault.FaultKind.{FaultKind}
 use Rattle.vcd_read.specs.declared.fault.FaultKind.TheVariants.{Memory}
-use Rattle.vme_bind.specs.declared.fault.BindKind.{BindKind}
-use Rattle.vme_bind.specs.declared.fault.BindKind.TheVariants.{Memory as NoMemory}
+use Rattle.vme_bind.specs.declared.fault.BindFaultKind.{BindFaultKind}
+use Rattle.vme_bind.specs.declared.fault.BindFaultKind.TheVariants.{Memory as NoMemory}
 use Rattle.vme_bind.specs.declared.fault.CaptureFault.{CaptureFault}
 use Rattle.vme_bind.specs.declared.fault.CaptureFault.TheVariants.{Dump, Binding}
 
@@ -11,7 +11,7 @@ abbrev is_want_of_dump : FaultKind → Bool
 is_want_of_dump Memory = true
 is_want_of_dump kind = false
 
-abbrev is_want_of_binding : BindKind → Bool
+abbrev is_want_of_binding : BindFaultKind → Bool
 is_want_of_binding NoMemory = true
 is_want_of_binding kind = false
 

@@ -4,7 +4,7 @@ ghost use Rattle.std.specs.Prelude.{◌≡◌, true, false, MatchOption};
 ghost use Rattle.vme_commands.specs.Wants.{is_want};
 
 use vcd_read::FaultKind;
-use vme_bind::{BindKind, CaptureFault};
+use vme_bind::{BindFaultKind, CaptureFault};
 
 /// Why a dump has no recording: no want of memory.
 #[derive(Drop)]
@@ -31,6 +31,6 @@ fn is_want(fault: &CaptureFault) -> bool
 {
     match fault {
         CaptureFault::Dump(fault) => matches!(fault.kind, FaultKind::Memory),
-        CaptureFault::Binding(fault) => matches!(fault.kind, BindKind::Memory),
+        CaptureFault::Binding(fault) => matches!(fault.kind, BindFaultKind::Memory),
     }
 }

@@ -14,7 +14,7 @@ use Rattle.vme_trace.specs.WellFormed.{are_changes, capture_limit, malformed_ste
 use Rattle.vme_trace.specs.declared.step.Step.{Step}
 use Rattle.vme_trace.proofs.CutBlocks.{levels_at-taken, taken_more}
 use Rattle.vme_bind.specs.Capture.{limited}
-use Rattle.vme_bind.specs.declared.fault.BindKind.TheVariants.{TooManySteps}
+use Rattle.vme_bind.specs.declared.fault.BindFaultKind.TheVariants.{TooManySteps}
 use Rattle.vme_skew.specs.Settled.{settled_until}
 use Rattle.vme_skew.specs.Settling.{Settling}
 use Rattle.vme_skew.proofs.Complete.{until-front}

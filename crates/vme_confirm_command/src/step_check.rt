@@ -14,7 +14,7 @@ ghost use Rattle.vme_dump_input.specs.SettledSteps.{GoOnFrom, GoOnTo};
 ghost use Rattle.vme_confirm_command.specs.StepChecks.{Finds, HasStepped, IsComparing, StepsMayFollow};
 
 use std::alloc::{AllocError, Global};
-use vme_bind::{BindFault, BindKind};
+use vme_bind::{BindFault, BindFaultKind};
 use vme_cert::{Answer, Checker, RowSource};
 use vme_dump_input::{last_steps, settled_steps, settler_for};
 use vme_listing::Version;
@@ -129,7 +129,7 @@ impl<S: RowSource> StepCheck<S> {
         if !check.counts(steps.len()) {
             let fault = BindFault {
                 line: 0,
-                kind: BindKind::TooManySteps,
+                kind: BindFaultKind::TooManySteps,
             };
             return (Ok(Err(fault)), check.into_source());
         }

@@ -1,8 +1,8 @@
 -- Of which kind a refusal is.
 use Rattle.vcd_read.specs.declared.fault.FaultKind.{FaultKind}
 use Rattle.vcd_read.specs.declared.fault.FaultKind.TheVariants as vcd
-use Rattle.vme_bind.specs.declared.fault.BindKind.{BindKind}
-use Rattle.vme_bind.specs.declared.fault.BindKind.TheVariants as bind
+use Rattle.vme_bind.specs.declared.fault.BindFaultKind.{BindFaultKind}
+use Rattle.vme_bind.specs.declared.fault.BindFaultKind.TheVariants as bind
 use Rattle.vme_listing.specs.declared.fault.ListFault.{ListFault}
 use Rattle.vme_listing.specs.declared.fault.ListFault.TheVariants as list
 use Rattle.vme_answer.specs.declared.refusal.Refusal.{Refusal}
@@ -25,7 +25,7 @@ dump_kind vcd.NumberTooLarge = kind.NumberTooLarge
 dump_kind vcd.Memory = kind.OutOfMemory
 
 -- a fault of a binding
-abbrev pub binding_kind : BindKind → Kind
+abbrev pub binding_kind : BindFaultKind → Kind
 binding_kind bind.BadLine = kind.BadLine
 binding_kind bind.SlotsFirst = kind.SlotsFirst
 binding_kind bind.UnknownName = kind.UnknownName

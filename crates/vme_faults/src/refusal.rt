@@ -6,7 +6,7 @@ ghost use Rattle.vme_faults.specs.Refusals.{binding_kind, dump_kind, kind_of, li
 use crate::kind::Kind;
 use vcd_read::FaultKind;
 use vme_answer::Refusal;
-use vme_bind::BindKind;
+use vme_bind::BindFaultKind;
 use vme_listing::ListFault;
 
 impl Kind {
@@ -47,20 +47,20 @@ fn dump_kind(kind: FaultKind) -> Kind
 }
 
 /// The kind of a fault of a binding.
-fn binding_kind(kind: BindKind) -> Kind
+fn binding_kind(kind: BindFaultKind) -> Kind
     ensures { result ≡ binding_kind kind }
 {
     match kind {
-        BindKind::BadLine => Kind::BadLine,
-        BindKind::SlotsFirst => Kind::SlotsFirst,
-        BindKind::UnknownName => Kind::UnknownName,
-        BindKind::NamedTwice => Kind::NamedTwice,
-        BindKind::Unbound(_) => Kind::Unbound,
-        BindKind::Memory => Kind::OutOfMemory,
-        BindKind::NoSuchPath => Kind::NoSuchPath,
-        BindKind::AmbiguousPath => Kind::AmbiguousPath,
-        BindKind::WrongWidth => Kind::WrongWidth,
-        BindKind::TooManySteps => Kind::TooManySteps,
+        BindFaultKind::BadLine => Kind::BadLine,
+        BindFaultKind::SlotsFirst => Kind::SlotsFirst,
+        BindFaultKind::UnknownName => Kind::UnknownName,
+        BindFaultKind::NamedTwice => Kind::NamedTwice,
+        BindFaultKind::Unbound(_) => Kind::Unbound,
+        BindFaultKind::Memory => Kind::OutOfMemory,
+        BindFaultKind::NoSuchPath => Kind::NoSuchPath,
+        BindFaultKind::AmbiguousPath => Kind::AmbiguousPath,
+        BindFaultKind::WrongWidth => Kind::WrongWidth,
+        BindFaultKind::TooManySteps => Kind::TooManySteps,
     }
 }
 

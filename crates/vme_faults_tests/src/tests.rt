@@ -3,7 +3,7 @@ use std::process::Abort;
 use std::test::Fail;
 use vcd_read::{FaultKind, Variables, VcdFault, read_definitions};
 use vme_answer::Refusal;
-use vme_bind::{BindFault, BindKind};
+use vme_bind::{BindFault, BindFaultKind};
 use vme_faults::{FileKind, Kind, NearVariable, Page, faults_text, nearest};
 use vme_listing::ListFault;
 
@@ -65,7 +65,7 @@ fn a_refusal_has_a_kind(rt: HostRuntime) -> Result<(), Fail> {
     assert_eq!(rt; Kind::of(&Refusal::BadDump(fault)), Kind::TooWide);
     let fault = BindFault {
         line: 3,
-        kind: BindKind::NoSuchPath,
+        kind: BindFaultKind::NoSuchPath,
     };
     assert_eq!(rt; Kind::of(&Refusal::BadBinding(fault)), Kind::NoSuchPath);
     let fault = ListFault::BadRow { row: 2 };

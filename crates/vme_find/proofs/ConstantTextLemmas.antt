@@ -19,8 +19,8 @@ use Rattle.vme_bind.specs.Groups.{down_from, group_named, single}
 use Rattle.vme_bind.specs.Text.{StatementText, statements_of, end_line, is_feed, statement_on, statements_from}
 use Rattle.vme_bind.specs.Text.{without_return, words}
 use Rattle.vme_bind.specs.declared.fault.BindFault.{BindFault}
-use Rattle.vme_bind.specs.declared.fault.BindKind.{BindKind}
-use Rattle.vme_bind.specs.declared.fault.BindKind.TheVariants.{BadLine}
+use Rattle.vme_bind.specs.declared.fault.BindFaultKind.{BindFaultKind}
+use Rattle.vme_bind.specs.declared.fault.BindFaultKind.TheVariants.{BadLine}
 use Rattle.vme_bind.specs.declared.group.Group.{Group}
 use Rattle.vme_find.specs.Constants.{BindsConstants, is_constant}
 
@@ -101,7 +101,7 @@ holds_for p all n low high = true_of_not (p n) (any-fails (λ k. not (p k)) 1 22
 abbrev SaysSlots : ℕ → List StatementText → Type 0
 SaysSlots slots ss = (s : StatementText) × (ss ≡ s ∷ []) × (slots_behind s.first s.others ≡ Ok slots)
 
-abbrev ok_count : ℕ → Result ℕ BindKind
+abbrev ok_count : ℕ → Result ℕ BindFaultKind
 ok_count n = Ok n
 
 slots_said : (slots : ℕ) (ss : List StatementText) → says_slots slots ss ≡ true → SaysSlots slots ss
@@ -109,7 +109,7 @@ unfolding says_slots
 slots_said slots [] e = cc
 slots_said slots (s ∷ []) e = by_count (slots_behind s.first s.others) refl e
   where
-    by_count : (r : Result ℕ BindKind) → slots_behind s.first s.others ≡ r
+    by_count : (r : Result ℕ BindFaultKind) → slots_behind s.first s.others ≡ r
         → elim r as (λ _. Bool) [ Ok count ↦ count == slots | Err kind ↦ false ] ≡ true → SaysSlots slots (s ∷ [])
     by_count (Ok count) is same = (s, refl, is ∙ ap ok_count (eqb-true count slots same))
     by_count (Err kind) is same = cc
@@ -142,7 +142,7 @@ group_quickly slots name =
     else if bytes_eq name (codes "IA") then Some (down_from (iack slots) slots)
     else None
 
-abbrev bound_quickly : BoundLines → StatementText → Result BoundLines BindKind
+abbrev bound_quickly : BoundLines → StatementText → Result BoundLines BindFaultKind
 bound_quickly b s = do
   words ← name_and_source s.first s.others
   group ← group_of (group_quickly b.slots words.0)
@@ -166,11 +166,11 @@ bind_same : {A B E : Type 0} (r : Result A E) (f g : A → Result B E) → ((x :
 bind_same (Ok x) f g same = same x
 bind_same (Err e) f g same = refl
 
-abbrev with_group : BoundLines → StatementText → List ℕ → Option Group → Result BoundLines BindKind
+abbrev with_group : BoundLines → StatementText → List ℕ → Option Group → Result BoundLines BindFaultKind
 with_group b s source group = group_of group >>= λ group. once b.assignments group >>= λ new. Ok
     (with_assignment b s.line new source)
 
-abbrev by_equals : List ℕ → List ℕ → Bool → Result (List ℕ × List ℕ) BindKind
+abbrev by_equals : List ℕ → List ℕ → Bool → Result (List ℕ × List ℕ) BindFaultKind
 by_equals first source test = if test then Ok (first, source) else Err BadLine
 
 same_bound : (b : BoundLines) (s : StatementText) → IsQuick s.first → bound b s ≡ bound_quickly b s
@@ -194,7 +194,8 @@ same_all : (ss : List StatementText) (b : BoundLines) → AllQuick ss → bound_
 unfolding bound_all all_quickly AllQuick
 same_all [] b quick = refl
 same_all (s ∷ ss) b quick =
-    ap (λ (r : Result BoundLines BindKind). at_line s.line r >>= λ next. bound_all next ss) (same_bound b s quick.0)
+    ap (λ (r : Result BoundLines BindFaultKind). at_line s.line r >>= λ next. bound_all next ss)
+    (same_bound b s quick.0)
     ∙ bind_same (at_line s.line (bound_quickly b s)) (λ next. bound_all next ss) (λ next. all_quickly next ss)
     (λ next. same_all ss next quick.1)
 
@@ -292,7 +293,7 @@ said_all slots s plain is =
 binding_is : (slots line : ℕ) (s : StatementText) → slots_behind s.first s.others ≡ Ok slots
     → binding_from line (s ∷ others_said) ≡ bound_by line slots
 binding_is slots line s is =
-    ap (λ (r : Result ℕ BindKind). at_line s.line r >>= λ count. bound_all (no_assignments count) others_said >>=
+    ap (λ (r : Result ℕ BindFaultKind). at_line s.line r >>= λ count. bound_all (no_assignments count) others_said >>=
     finished line) is
     ∙ ap (λ (r : Result BoundLines BindFault). r >>= finished line) (same_all others_said (no_assignments slots)
     others_quick)

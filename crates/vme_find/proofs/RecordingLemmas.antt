@@ -15,7 +15,7 @@ use Rattle.vme_bind.specs.Capture.{capture_of, is_step, limited, recording, step
 use Rattle.vme_bind.specs.TextCapture.{capture_of_text, capture_read, or_binding, or_dump}
 use Rattle.vme_bind.specs.TextReading.{TextReading, or_fault, reading_behind, reading_of_text}
 use Rattle.vme_bind.specs.declared.fault.BindFault.{BindFault}
-use Rattle.vme_bind.specs.declared.fault.BindKind.TheVariants.{TooManySteps}
+use Rattle.vme_bind.specs.declared.fault.BindFaultKind.TheVariants.{TooManySteps}
 use Rattle.vme_bind.specs.declared.fault.CaptureFault.{CaptureFault}
 use Rattle.vme_declarations.specs.Surveys.{Survey, definitions_of, most_instants, variables_by, variables_in}
 use Rattle.vme_find.specs.Recordings.{MakesRecordings, finds_all}

@@ -11,7 +11,7 @@ ghost use Rattle.vme_text.specs.Escaping.{IsVisible};
 
 use crate::constants::constant_text;
 use std::alloc::{AllocError, Global};
-use vme_bind::{BindFault, BindKind, Binding, CaptureFault, StepCollector, read_binding};
+use vme_bind::{BindFault, BindFaultKind, Binding, CaptureFault, StepCollector, read_binding};
 use vme_declarations::{DeclaredNames, LevelsSeen, SurveyedDump, has_scope};
 use vme_line_names::find_lines;
 use vme_proposal::{propose_binding, told_constants};
@@ -180,11 +180,11 @@ fn has_slots(binding: &Binding, slots: Option<u8>) -> bool
 }
 
 /// That a binding doesn't fit, unless there was no memory to see it.
-fn or_memory(kind: BindKind) -> Result<bool, AllocError>
+fn or_memory(kind: BindFaultKind) -> Result<bool, AllocError>
     ensures { IfOk result (λ fits. fits ≡ false) }
 {
     match kind {
-        BindKind::Memory => Err(AllocError),
+        BindFaultKind::Memory => Err(AllocError),
         _ => Ok(false),
     }
 }

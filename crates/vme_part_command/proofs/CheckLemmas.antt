@@ -10,7 +10,7 @@ use Rattle.vme_trace.specs.WellFormed.{capture_limit, malformed_step}
 use Rattle.vme_trace.specs.declared.step.Step.{Step}
 use Rattle.std.specs.Prelude.{None}
 use Rattle.vme_bind.specs.Capture.{limited}
-use Rattle.vme_bind.specs.declared.fault.BindKind.TheVariants.{TooManySteps}
+use Rattle.vme_bind.specs.declared.fault.BindFaultKind.TheVariants.{TooManySteps}
 use Rattle.vme_file_part.specs.Growing.{FileMayGoOn}
 use Rattle.vme_file_part.specs.declared.file_so_far.FileSoFar.{FileSoFar}
 use Rattle.vme_summary.proofs.Sound.{sound_apart}

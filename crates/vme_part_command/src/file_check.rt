@@ -13,7 +13,7 @@ ghost use Rattle.vme_part_command.specs.FileChecks.{FindsOfSteps, HasTakenSteps,
 use crate::no_part::NoPart;
 use std::alloc::{AllocError, Global};
 use vme_answer::Refusal;
-use vme_bind::{BindFault, BindKind};
+use vme_bind::{BindFault, BindFaultKind};
 use vme_file_part::FileSoFar;
 use vme_part_format::Part;
 use vme_parts::{PartRefusal, can_write};
@@ -196,7 +196,7 @@ impl FileCheck {
         if !check.counts(steps.len()) {
             let fault = BindFault {
                 line: 0,
-                kind: BindKind::TooManySteps,
+                kind: BindFaultKind::TooManySteps,
             };
             return Err(NoPart::Refused(Refusal::BadBinding(fault)));
         }

@@ -12,7 +12,7 @@ use Rattle.vme_bind.specs.Capture.{capture_of, limited, recording, recording_of}
 use Rattle.vme_bind.specs.TextCapture.{or_binding, recording_of_text}
 use Rattle.vme_bind.specs.TextCapture as text
 use Rattle.vme_bind.specs.declared.fault.BindFault.{BindFault}
-use Rattle.vme_bind.specs.declared.fault.BindKind.TheVariants.{TooManySteps}
+use Rattle.vme_bind.specs.declared.fault.BindFaultKind.TheVariants.{TooManySteps}
 use Rattle.vme_bind.proofs.CaptureLemmas.{levels-all}
 use Rattle.vme_bind.proofs.TextCaptureLemmas.{recorded-formed}
 use Rattle.vme_skew.specs.Settled.{IsRecording, settled_or}

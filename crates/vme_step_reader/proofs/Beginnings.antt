@@ -22,8 +22,8 @@ use Rattle.vme_bind.specs.TextReading.{TextReading, body_reading, reading_ahead,
 use Rattle.vme_step_reader.specs.StepReading.{StepReading, whole_reading}
 use Rattle.vme_step_reader.proofs.PieceSteps.{pieces-joined}
 use Rattle.vme_bind.specs.declared.fault.BindFault.{BindFault}
-use Rattle.vme_bind.specs.declared.fault.BindKind.{BindKind}
-use Rattle.vme_bind.specs.declared.fault.BindKind.TheVariants.{Memory as NoMemory}
+use Rattle.vme_bind.specs.declared.fault.BindFaultKind.{BindFaultKind}
+use Rattle.vme_bind.specs.declared.fault.BindFaultKind.TheVariants.{Memory as NoMemory}
 use Rattle.vme_bind.specs.declared.fault.CaptureFault.{CaptureFault}
 use Rattle.vme_bind.specs.declared.fault.CaptureFault.TheVariants.{Binding, Dump}
 
@@ -67,7 +67,7 @@ fails_alike (Dump own) fault a b ea eb fails = by_kind own.line own.kind fails
     by_kind line kind fails = eb ∙ ap (λ (f : VcdFault). Err (Dump f)) (same_dump _ _ a ea fails)
 fails_alike (Binding own) fault a b ea eb fails = by_kind own.line own.kind fails
   where
-    by_kind : (line : ℕ) (kind : BindKind) → BindingFails line kind a → BindingFails line kind b
+    by_kind : (line : ℕ) (kind : BindFaultKind) → BindingFails line kind a → BindingFails line kind b
     by_kind line NoMemory fails = fails
     by_kind line kind fails = absurd (dump_or_binding _ _ a ea fails)
 

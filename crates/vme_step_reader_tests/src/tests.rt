@@ -1,6 +1,6 @@
 use std::alloc::{AllocError, Global};
 use vcd_read::{FaultKind, VcdFault};
-use vme_bind::{BindFault, BindKind, Binding, CaptureFault, read_binding};
+use vme_bind::{BindFault, BindFaultKind, Binding, CaptureFault, read_binding};
 use vme_step_reader::{StepReader, StoppedSteps, begin_last_steps, begin_steps};
 use vme_trace::{Change, Level, Line, Step};
 
@@ -375,7 +375,7 @@ fn is_binding_refused(alloc: Global, binding: &Binding) -> bool {
     for size in SIZES.iter() {
         same &= match refused(alloc, binding, UNBOUND, *size) {
             Some(CaptureFault::Binding(BindFault { line, kind })) => {
-                line == 3 && kind == BindKind::NoSuchPath
+                line == 3 && kind == BindFaultKind::NoSuchPath
             }
             Some(CaptureFault::Dump(_)) | None => false,
         };
@@ -492,7 +492,7 @@ fn is_taken_or_refused(alloc: Global, reader: StepReader, body: &[u8]) -> bool {
 /// Whether a fault is want of memory.
 fn is_refusal(fault: CaptureFault) -> bool {
     match fault {
-        CaptureFault::Binding(fault) => fault.kind == BindKind::Memory,
+        CaptureFault::Binding(fault) => fault.kind == BindFaultKind::Memory,
         CaptureFault::Dump(fault) => fault.kind == FaultKind::Memory,
     }
 }
@@ -511,7 +511,7 @@ fn is_told_or_refused(alloc: Global, binding: &Binding, dump: &[u8]) -> bool {
 fn is_bound_or_refused(alloc: Global, dump: &[u8]) -> bool {
     match read_binding(alloc, LINES.as_bytes()) {
         Ok(binding) => is_told_or_refused(alloc, &binding, dump),
-        Err(fault) => fault.kind == BindKind::Memory,
+        Err(fault) => fault.kind == BindFaultKind::Memory,
     }
 }
 

@@ -12,7 +12,7 @@ use crate::telling::say;
 use std::alloc::{AllocError, Global};
 use vcd_read::{FaultKind, Variable, VcdFault};
 use vme_answer::{Refusal, refusal_line};
-use vme_bind::BindKind;
+use vme_bind::BindFaultKind;
 use vme_faults::{FileKind, Kind, push_page};
 use vme_stream::complain;
 use vme_text::{Text, push_escaped};
@@ -105,11 +105,10 @@ pub(crate) fn show_binding(
     if let Refusal::BadBinding(fault) = refusal {
         let line = line_at(binding.bytes, fault.line);
         let span = match fault.kind {
-            BindKind::NoSuchPath | BindKind::AmbiguousPath | BindKind::WrongWidth => {
-                word_at(line, 2)
-            }
-            BindKind::BadLine => bad_word_in(line),
-            BindKind::Unbound(_) => next_word(line, line.len()),
+            BindFaultKind::NoSuchPath | BindFaultKind::AmbiguousPath | BindFaultKind::WrongWidth =>
+                { word_at(line, 2) }
+            BindFaultKind::BadLine => bad_word_in(line),
+            BindFaultKind::Unbound(_) => next_word(line, line.len()),
             _ => word_at(line, 0),
         };
         let _ = push_binding(shown, alloc, binding, fault.line, line, span);
@@ -133,8 +132,8 @@ pub(crate) fn show_suggestions(
             slots,
         };
         let _ = match fault.kind {
-            BindKind::NoSuchPath => push_nearest(shown, alloc, faulty, variables),
-            BindKind::WrongWidth => push_widths(shown, alloc, faulty, variables),
+            BindFaultKind::NoSuchPath => push_nearest(shown, alloc, faulty, variables),
+            BindFaultKind::WrongWidth => push_widths(shown, alloc, faulty, variables),
             _ => Ok(()),
         };
     }
