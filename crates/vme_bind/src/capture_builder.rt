@@ -230,9 +230,9 @@ impl<F: StepVisitor> ChangeVisitor for SpeculativeBuilder<'_, F> {
 
 /// Takes changes of which nothing is kept.
 #[derive(Clone, Copy)]
-pub(crate) struct DiscardChanges;
+pub(crate) struct ChangeDiscarder;
 
-impl ChangeVisitor for DiscardChanges {
+impl ChangeVisitor for ChangeDiscarder {
     ghost Taken = { Unit {0} };
 
     ghost taken = { λ p. tt };

@@ -10,7 +10,7 @@ ghost use Rattle.vme_bind.specs.SpeculativeReading.{AreLevelsBehind, MayFollowLe
 ghost use Rattle.vme_bind.specs.SpeculativeReading.{with_recording};
 
 use crate::assigned_lines::AssignedLines;
-use crate::capture_builder::{CaptureBuilder, DiscardChanges, SpeculativeBuilder};
+use crate::capture_builder::{CaptureBuilder, ChangeDiscarder, SpeculativeBuilder};
 use crate::fault::BindFault;
 use crate::net_lines::NetLines;
 use crate::recorder::Recorder;
@@ -23,7 +23,7 @@ use vme_trace::{LINE_COUNT, Line, Lines, Step, StepVisitor};
 /// The recording of a dump, as far as some pieces of its text go, without what takes it: only its levels are known.
 #[derive(Drop)]
 pub struct SpeculativeReader {
-    pieces: Pieces<DiscardChanges>,
+    pieces: Pieces<ChangeDiscarder>,
     fault: Option<BindFault>,
     line_bits: NetLines,
     recorder: Recorder,
@@ -52,7 +52,7 @@ impl Model for SpeculativeReader {
 #[derive(Drop)]
 pub struct SpeculativeChunk {
     from: Lines,
-    detached: DetachedPiece<DiscardChanges>,
+    detached: DetachedPiece<ChangeDiscarder>,
     recorder: Recorder,
     assigned: AssignedLines,
 }
@@ -83,7 +83,7 @@ impl<F: StepVisitor> TextPieces<F> {
         ensures { with_recording (F.recorded result.1) result.0 ≡ text_reached self }
     {
         let TextPieces { pieces, fault } = self;
-        let (pieces, made) = pieces.with_visitor(DiscardChanges);
+        let (pieces, made) = pieces.with_visitor(ChangeDiscarder);
         let (line_bits, recorder, visitor) = made.into_parts();
         let speculative = SpeculativeReader {
             pieces,
@@ -164,7 +164,7 @@ impl SpeculativeReader {
         }
         let builder = SpeculativeBuilder::new(&self.line_bits, Recorder::new(*from), visitor);
         let detached = self.pieces.detached(alloc, piece, line, builder)?;
-        let (detached, builder) = detached.with_visitor(DiscardChanges);
+        let (detached, builder) = detached.with_visitor(ChangeDiscarder);
         let (recorder, visitor, assigned) = builder.into_parts();
         let ahead = SpeculativeChunk {
             from: *from,

@@ -21,7 +21,7 @@ ghost use Rattle.vme_bind.specs.TextCapture.{recording_of_text};
 use crate::binding::Binding;
 use crate::bound_groups::BoundGroup;
 use crate::capture::{captured, opening_of};
-use crate::capture_builder::{CaptureBuilder, DiscardChanges};
+use crate::capture_builder::{CaptureBuilder, ChangeDiscarder};
 use crate::fault::{BindFault, BindFaultKind, CaptureFault};
 use crate::net_lines::NetLines;
 use crate::recorder::Recorder;
@@ -95,7 +95,7 @@ fn first_fault(alloc: Global, head: &Head<'_>, fault: BindFault) -> CaptureFault
     ensures { (b : BoundLines) (variables : List Variable) → BindFails fault (bound_groups_in variables b.assignments)
         → CaptureFailsBy result (recording_behind b (defined head.now variables)) }
 {
-    match head.read_body(alloc, DiscardChanges) {
+    match head.read_body(alloc, ChangeDiscarder) {
         Ok(_) => CaptureFault::Binding(fault),
         Err(first) => CaptureFault::Dump(first),
     }

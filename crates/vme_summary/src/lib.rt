@@ -13,9 +13,9 @@
 //! - `rows`: the rows that marks make.
 //! - `chunk_judge`, `chunk_summary`, `verdict_state`, `listing_state`: what judges a recording in
 //!   order, some steps at once, without marks for a verdict and with them for a listing.
-//! - `stream_judge`, `judged_chunk`, `discard_steps`: [`Judge`] and [`Lister`] take the steps as
+//! - `stream_judge`, `judged_chunk`, `step_discarder`: [`Judge`] and [`Lister`] take the steps as
 //!   they are made, and parts that were judged separately ([`JudgedChunk`]), on any thread;
-//!   [`DiscardSteps`] takes steps and judges none.
+//!   [`StepDiscarder`] takes steps and judges none.
 //! - `cut`: [`verdict_by_blocks`] and [`listing_by_blocks`] take a capture, and copy none of its
 //!   blocks.
 //! - `running_verdict`: [`RunningVerdict`] goes on past further blocks without a join and without
@@ -56,7 +56,6 @@
 pub mod chunk_judge;
 mod chunk_summary;
 mod cut;
-mod discard_steps;
 pub mod each_monitor;
 mod extent;
 mod ghost_steps;
@@ -69,12 +68,12 @@ mod monitors;
 mod rows;
 pub mod running_verdict;
 pub mod span;
+mod step_discarder;
 pub mod stream_judge;
 mod summary;
 mod verdict_state;
 
 pub use cut::{listing_by_blocks, verdict_by_blocks};
-pub use discard_steps::DiscardSteps;
 pub use ghost_steps::GhostSteps;
 pub use joining::{JoinFault, append, join, joined_blocks_are_sound, spans_stand_for_blocks};
 pub use judged::{Judged, judge_block};
@@ -82,4 +81,5 @@ pub use judged_chunk::JudgedChunk;
 pub use rows::listing_by;
 pub use running_verdict::RunningVerdict;
 pub use span::Span;
+pub use step_discarder::StepDiscarder;
 pub use stream_judge::{Judge, Lister, NoVerdict};

@@ -11,7 +11,7 @@ use crate::speculation::Speculation;
 use std::alloc::{AllocError, Global};
 use std::thread::Threads;
 use vme_bind::{SpeculativeChunk, SpeculativeReader};
-use vme_summary::DiscardSteps;
+use vme_summary::StepDiscarder;
 use vme_summary::chunk_judge::ChunkJudge;
 use vme_trace::Lines;
 
@@ -36,7 +36,7 @@ fn read_levels(
     line: u64,
 ) -> Option<SpeculativeChunk> {
     let now = speculative.now();
-    let (ahead, _) = speculative.read_ahead(alloc, bytes, line, now, DiscardSteps::new(now))?;
+    let (ahead, _) = speculative.read_ahead(alloc, bytes, line, now, StepDiscarder::new(now))?;
     Some(ahead)
 }
 

@@ -7,14 +7,15 @@ use std::alloc::{AllocError, Global};
 use std::marker::Model;
 use vme_trace::{Lines, Step, StepVisitor};
 
-/// Takes a recording and keeps none of its steps: for those who want what making it leads to, as its last levels.
+/// Takes a recording and keeps none of its steps: for a caller that needs only what reading it leaves, such as the last
+/// levels.
 #[derive(Drop)]
-pub struct DiscardSteps {
+pub struct StepDiscarder {
     opening: Lines,
     taken: GhostSteps,
 }
 
-impl Model for DiscardSteps {
+impl Model for StepDiscarder {
     ghost use Rattle.vme_trace.specs.Trace.{Trace};
 
     ghost Value = { Trace };
@@ -22,20 +23,20 @@ impl Model for DiscardSteps {
     ghost view = { λ u. record { opening = u.opening; steps = u.taken.items } };
 }
 
-impl DiscardSteps {
+impl StepDiscarder {
     /// Before the first step.
-    pub fn new(opening: &Lines) -> DiscardSteps
+    pub fn new(opening: &Lines) -> StepDiscarder
         ensures { result ≡ record { opening = opening.now; steps = [] } }
     {
-        DiscardSteps {
+        StepDiscarder {
             opening: *opening,
             taken: GhostSteps::new(),
         }
     }
 }
 
-impl StepVisitor for DiscardSteps {
-    ghost recorded = { λ unkept. unkept };
+impl StepVisitor for StepDiscarder {
+    ghost recorded = { λ trace. trace };
 
     fn open(&mut self, opening: &Lines) {
         self.opening = *opening;
