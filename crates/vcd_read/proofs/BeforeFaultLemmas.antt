@@ -53,7 +53,7 @@ steps_before nets s [] = refl
 steps_before nets s (item ∷ items) = before_step nets s item items (context_after nets s.context item) refl
     (λ next. steps_before nets next items)
 
--- ---- where no instant is begun, none stands before it
+-- ---- where no instant is begun, none is before it
 
 abbrev Starts : DumpProgress → Type 0
 Starts p = p.has_instant ≡ false → p.done ≡ []

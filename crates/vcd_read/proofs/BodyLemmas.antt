@@ -291,7 +291,7 @@ module _ {A : Type 0} (with_change : A → ℕ → List Bit → A) (with_instant
   same_left nets nets2 text text2 timed visitor2 dump_section dump_section2 place place2 at n t w b p more =
       rw (n, t, w, b, p) refl
 
-  -- a piece that is read to its end leaves what is behind it
+  -- a piece that is read to its end leaves what is after it
   pub nothing_behind : (nets nets2 : List Net) (s : State A) (place : BodyPlace) (left : List Token) → nets2 ≡ nets
       → left ≡ []
       → (more : List Token) → until_fault with_change with_instant nets2 s (body_from place (left ++ more))

@@ -31,7 +31,7 @@ no_changed_nets n = record {
   listed = λ net some. absurd (some_is_none (get_or (replicate n no_bits) net None) (none_at n net) some);
 }
 
--- a net stands in the list from a place on
+-- the list has the net at an index from `place` on
 pub record StandsFrom (changed_nets : List ℕ) (place net : ℕ) : Type 0 where
   pub at : ℕ
   pub low : place ≤ at

@@ -64,7 +64,7 @@ module _ {A : Type 0} (with_change : A → ℕ → List Bit → A) (with_instant
   then-steps items more (Ok s) rest = rest s
   then-steps items more (Err fault) rest = refl
 
-  -- items, and others behind them
+  -- items, and others after them
   pub steps-append : (s : State A) (items more : List BodyItem) → steps with_change with_instant nets s (items ++ more)
       ≡ (steps with_change with_instant nets s items >>= λ end. steps with_change with_instant nets end more)
   unfolding steps
@@ -83,7 +83,7 @@ module _ {A : Type 0} (with_change : A → ℕ → List Bit → A) (with_instant
       (sym e ∙ sym (append-nil left))
       ∙ h ∙ ap (λ (p : OpenItem). steps with_change with_instant nets end (body_from (place_of p) [])) is
 
-  -- what is so of what was taken, and of what each change and each end of an instant makes of it, is so behind the
+  -- what is so of what was taken, and of what each change and each end of an instant makes of it, is so after the
   -- items
   module _ (R : A → Type 0) (on_change : (a : A) (net : ℕ) (bits : List Bit) → R a → R (with_change a net bits))
       (on_instant : (a : A) (time : ℕ) → R a → R (with_instant a time)) where
@@ -125,14 +125,14 @@ module _ {A : Type 0} (with_change : A → ℕ → List Bit → A) (with_instant
         (context_after nets s.context item) end (λ next kept. steps-keep next items end kept)
         (item-keeps s.progress item r) is
 
-    -- what is so of what was taken before a piece is so behind it
+    -- what is so of what was taken before a piece is so after it
     pub kept-detached : (bytes : List ℕ) (before : A) (detached : ReadDetached A)
         → IsReadDetached with_change with_instant nets
         bytes before detached → R before → R detached.progress.taken
     kept-detached bytes before detached is r = steps-keep (before_piece before detached.time)
         (detached_items detached.first_line bytes) (state_at detached.progress detached.dump_section) r is.whole
 
-  -- ---- tokens whose items are all whole, and others behind them
+  -- ---- tokens whose items are all whole, and others after them
 
   module _ (more : List Token) where
     later-ok : (items : List BodyItem) (end : State A) (r : Read) → (r >>= λ next. steps with_change with_instant nets
@@ -229,7 +229,7 @@ module _ {A : Type 0} (with_change : A → ℕ → List Bit → A) (with_instant
       ∙ ap (λ (test : Bool). at_line line (cond test (Err TimeBackwards) (Ok n) >>= λ now. Ok (record s { now = now })))
       (not_below s.now n low)
 
-  -- behind a time that isn't earlier
+  -- after a time that isn't earlier
   pub time-step : (s : State A) (line n : ℕ) (digits : List ℕ) (items : List BodyItem) → time_of digits ≡ Ok n
       → s.context.now ≤ n
       → steps with_change with_instant nets s (time_item line digits ∷ items)
@@ -379,7 +379,7 @@ module _ {A B : Type 0} (with_change : A → ℕ → List Bit → A) (with_insta
         ∙ ap (λ (r : Result (State A) VcdFault). r >>= λ end. Ok (learned_state end)) own
     first-learned (item ∷ items) before time end p first whole low told = absurd cc
 
-  -- what comes of a body is what a piece that was read by itself tells, and what is behind it
+  -- what comes of a body is what a piece that was read by itself tells, and what is after it
   pub joined-leads : (r : Reached B) (bytes : List ℕ) (before : A) (detached : ReadDetached A)
       → IsReadDetached with_change
       with_instant r.nets bytes before detached → MayFollow r detached

@@ -123,7 +123,7 @@ header_section : (t : Token) (ts : List Token) → opens_section t.bytes ≡ tru
 unfolding header_from
 header_section t ts opens = rw (header_from, opens) (header_inside ts (opened t))
 
--- ---- what is declared behind it
+-- ---- what is declared after it
 module _ {V : Type 0} (with_variable : V → Variable → V) where
   abbrev Reading : Type 0
   Reading = Result (Defined V) VcdFault
@@ -185,7 +185,7 @@ module _ {V : Type 0} (with_variable : V → Variable → V) where
   abbrev next_at : List ℕ → Declared V → ℕ → Ended → List ℕ → Reading
   next_at text d line ended word = next_of text d (record { line = line; bytes = word }) ended
 
-  -- what the words behind the first token don't matter to
+  -- what the words after the first token don't matter to
   rest_read : (read : Result Ended VcdFault) (g : List Token → Reading) → (read >>= λ ended. g ended.rest)
       ≡ ((read >>= λ ended. Ok ended.rest) >>= g)
   rest_read (Ok ended) g = refl

@@ -45,7 +45,7 @@ not_before : {A E : Type 0} (p : Bool) (x y : A) (e : E) → cond p (Err e) (Ok 
 not_before true x y e h = absurd cc
 not_before false x y e h = (refl, cc)
 
--- the time behind an item
+-- the time after an item
 abbrev now_after : ℕ → BodyItem → ℕ
 now_after now (time_item line digits) = number digits
 now_after now item = now
@@ -210,7 +210,7 @@ fresh-is count changes t =
 
 -- ---- the times
 
--- the distinct times behind this one
+-- the distinct times after this one
 abbrev others : ℕ → List ℕ → List ℕ
 others now [] = []
 others now (t ∷ times) = cond (eqb t now) (others now times) (t ∷ others t times)
@@ -299,7 +299,7 @@ advanced_next : (done : List Instant) (now t : ℕ) (current : List (Option (Lis
     ∷ []) t (none_of (length current))
 advanced_next done now t current e = rw e refl
 
--- an instant that is begun, and those behind it
+-- an instant that is begun, and those after it
 abbrev instants_at : ℕ → List (Option (List Bit)) → List NetChange → ℕ → List ℕ → List Instant
 instants_at count current changes now times = instant_from current changes now ∷ map (fresh count changes)
     (others now times)

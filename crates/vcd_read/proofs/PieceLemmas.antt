@@ -1,4 +1,4 @@
--- A text in pieces that end behind a space: its tokens are those of the pieces.
+-- A text in pieces that end after a space: its tokens are those of the pieces.
 use Rattle.std.proofs.Common.{◌≡◌, ℕ, zero, suc, Bool, true, false, ◌+◌, ◌-◌, ◌<◌, ◌≤◌, cond, eqb, List, [], ◌∷◌, ◌++◌}
 use Rattle.std.proofs.Common.{length, get_or, take, drop}
 use Rattle.std.proofs.Common.{refl, sym, ap, subst, ◌∙◌, arith, append_assoc, zero-add}
@@ -8,7 +8,7 @@ use Rattle.std.proofs.lemmas.List.Sums.{sum_by-cons, sum_by-take-drop}
 use Rattle.vcd_read.specs.Tokens.{Cut, Token, all_of, cut_from, is_space, next_line, token_of, tokens_from, with_byte}
 use Rattle.vcd_read.specs.Reading.{line_behind}
 
--- a cut with more tokens behind
+-- a cut with more tokens after
 abbrev behind : Cut → List Token → Cut
 behind cut more = record { run = cut.run; others = cut.others ++ more }
 
@@ -40,7 +40,7 @@ line_behind-one line b = line_behind-cons line b [] ∙ zero-add (next_line line
 rest_more : (front rest all line : ℕ) → front + rest ≡ all → rest + (front + line) ≡ all + line
 rest_more front rest all line e = omega (arith, e)
 
--- the line behind a text is that behind the rest of it
+-- the line after a text is that after the rest of it
 pub line_behind-rest : (line : ℕ) (text : List ℕ) (at : ℕ)
     → line_behind (line_behind line (take at text)) (drop at text)
     ≡ line_behind line text
@@ -49,7 +49,7 @@ line_behind-rest line text at =
     (count_by (λ (x : ℕ). eqb x 10) text) line
     (sum_by-take-drop (λ (x : ℕ). cond (eqb x 10) 1 0) text at)
 
--- what stands behind a space
+-- what is after a space
 abbrev spaced : List Token → Cut
 spaced tokens = record { run = []; others = tokens }
 
@@ -65,7 +65,7 @@ cut_behind (b ∷ front) s rest line e =
     ∙ ap (λ (l : ℕ). behind (with_byte line b (cut_from (next_line line b) (front ++ s ∷ []))) (tokens_from l rest))
     (sym (line_behind-cons line b (front ++ s ∷ [])))
 
--- the tokens of a text are those up to a space, and those behind it
+-- the tokens of a text are those up to a space, and those after it
 pub tokens_behind : (front : List ℕ) (s : ℕ) (rest : List ℕ) (line : ℕ) → is_space s ≡ true
     → tokens_from line (front ++ s ∷ rest) ≡ tokens_from line (front ++ s ∷ [])
     ++ tokens_from (line_behind line (front ++ s ∷ [])) rest
@@ -80,7 +80,7 @@ pub none_behind : (text rest : List ℕ) (line : ℕ) → tokens_from line (take
 unfolding cut_from
 none_behind text rest line = ap (λ (l : ℕ). tokens_from l rest) (sym (zero-add line))
 
--- what ends behind a space, and what follows
+-- what ends after a space, and what follows
 pub space_behind : (text rest : List ℕ) (end line : ℕ) → end < length text → is_space (get_or text end 0) ≡ true
     → tokens_from line (take (end + 1) text ++ rest) ≡ tokens_from line (take (end + 1) text)
     ++ tokens_from (line_behind line (take (end + 1) text)) rest
@@ -95,7 +95,7 @@ pub left_is : (text : List ℕ) (at : ℕ) → at ≤ length text → drop at te
     ≡ drop (length text - length (drop at text)) text
 left_is text at le = ap (λ (n : ℕ). drop n text) (omega (arith, length-drop at text, le))
 
--- what is left of a text that ends behind a space, and what follows
+-- what is left of a text that ends after a space, and what follows
 pub left_behind : (text rest : List ℕ) (at line : ℕ)
     → (0 < length text → is_space (get_or text (length text - 1) 0) ≡ true)
     → tokens_from line (drop at text ++ rest) ≡ tokens_from line (drop at text)

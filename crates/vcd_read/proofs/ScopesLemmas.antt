@@ -28,7 +28,7 @@ name_in-with_dot [] = refl
 name_in-with_dot (b ∷ name) = take_at (b ∷ name) (46 ∷ []) (length (with_dot (b ∷ name)) - 1)
     (omega (arith, length-append (b ∷ name) (46 ∷ [])))
 
--- a scope that opens puts its part behind the path
+-- a scope that opens puts its part after the path
 pub names_at-open : (path name starts : List ℕ) → names_at (path ++ with_dot name) (length path ∷ starts) ≡ name
     ∷ names_at path starts
 unfolding names_at

@@ -59,7 +59,7 @@ behind_both front back (Err fault) = refl
 behind_both front back (Ok ended) = ap (λ (words : List (List ℕ)). ended_as words ended.rest)
     (sym (append_assoc front back ended.words))
 
--- the same behind the words so far
+-- the same after the words so far
 
 pub words_end : (line : ℕ) (words : List (List ℕ)) (t : Token) (before ts : List Token) → before ≡ t ∷ ts
     → is_end t.bytes ≡ true → behind_words words (section_from line before) ≡ Ok (record { words = words; rest = ts })

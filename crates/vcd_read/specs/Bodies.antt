@@ -30,13 +30,13 @@ unfinished (Vector digits) dump_section = Some digits.line
 unfinished (Foreign line) dump_section = Some line
 unfinished (Comment line) dump_section = Some line
 
--- what reading gives, and how far it comes: up to the first fault, or behind all that is read
+-- what reading gives, and how far it comes: up to the first fault, or after all that is read
 pub record UntilFault (A : Type 0) : Type 0 where
   pub outcome : Result (State A) VcdFault
   pub reached : State A
 
 module _ {A : Type 0} (with_change : A → ℕ → List Bit → A) (with_instant : A → ℕ → A) where
-  -- what reading gives from here on: these tokens, and more behind them
+  -- what reading gives from here on: these tokens, and more after them
   abbrev pub ahead : List Net → BodyFold A → Option ℕ → BodyPlace → List Token → List Token → Result (State A) VcdFault
   ahead nets timed dump_section place tokens more = steps with_change with_instant nets (state_at timed dump_section)
       (body_from place (tokens ++ more))
@@ -52,7 +52,7 @@ module _ {A : Type 0} (with_change : A → ℕ → List Bit → A) (with_instant
     reached = reached_before with_change with_instant nets s items;
   }
 
-  -- the same from here on: these tokens, and more behind them
+  -- the same from here on: these tokens, and more after them
   abbrev pub ahead_until_fault : List Net → BodyFold A → Option ℕ → BodyPlace → List Token → List Token → UntilFault A
   ahead_until_fault nets timed dump_section place tokens more =
       until_fault nets (state_at timed dump_section) (body_from place (tokens ++ more))
@@ -71,7 +71,7 @@ module _ {A : Type 0} (with_change : A → ℕ → List Bit → A) (with_instant
 
 -- ---- where reading stops
 
--- the fault is what reading gives, and what was taken, and the time, are those of what stands before it, unless memory
+-- the fault is what reading gives, and what was taken, and the time, are those of what is before it, unless memory
 -- ran out
 abbrev pub StoppedAs : {A Y : Type 0} → ℕ → FaultKind → A → ℕ → BodyFold A → Result Y VcdFault → Type 0
 StoppedAs line Memory taken time before read = line ≡ 0
@@ -96,7 +96,7 @@ abbrev pub BodyContinuesAs : {A X : Type 0} → (List Token → UntilFault A) �
 BodyContinuesAs before after taken time (Ok _) = (more : List Token) → before more ≡ after more
 BodyContinuesAs before after taken time (Err fault) = (more : List Token) → Stops fault taken time (before more)
 
--- the same, where what was read to is returned, or what took what stands before a fault
+-- the same, where what was read to is returned, or what took what is before a fault
 abbrev pub ContinuesOrStops : {A T X : Type 0} → (X → List Token → UntilFault A) → (T → A) → Result X (Stopped T)
     → (List Token → UntilFault A) → Type 0
 ContinuesOrStops view taken (Ok x) before = (more : List Token) → before more ≡ view x more

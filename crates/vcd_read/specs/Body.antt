@@ -13,7 +13,7 @@ use Rattle.vcd_read.specs.Header.{◌>>=◌, at_line, is_end, Net, net_of, size_
 -- ---- the cut into items
 
 pub data BodyItem : Type 0 where
-  -- the digits behind a #
+  -- the digits after a #
   time_item : ℕ → List ℕ → BodyItem
   -- digits, and the code whose value they are
   change : ℕ → List ℕ → List ℕ → BodyItem
@@ -62,7 +62,7 @@ abbrev pub shape_of : List ℕ → Shape
 shape_of [] = none
 shape_of (b ∷ word) = shape_from b word
 
--- between two items, or behind the first token of one: a vector's, one that is skipped, a comment's
+-- between two items, or after the first token of one: a vector's, one that is skipped, a comment's
 pub data BodyPlace : Type 0 where
   ready : BodyPlace
   code_of_vector : ℕ → List ℕ → BodyPlace

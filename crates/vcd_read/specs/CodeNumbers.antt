@@ -10,7 +10,7 @@ abbrev pub code_number : List ℕ → ℕ
 code_number [] = 0
 code_number (byte ∷ code) = (byte - 32) + 94 * code_number code
 
--- the page of the bytes behind the first, and the entry of the first byte on it
+-- the page of the bytes after the first, and the entry of the first byte on it
 abbrev pub code_place : List ℕ → CodePlace
 code_place [] = record { page = 0; entry = 0 }
 code_place (byte ∷ code) = record { page = code_number code; entry = byte - 32 }

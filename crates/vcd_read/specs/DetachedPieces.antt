@@ -1,4 +1,4 @@
--- A piece that is read without what stands before it, and where it fits.
+-- A piece that is read without what is before it, and where it fits.
 use Rattle.std.specs.Prelude.{◌≡◌, ℕ, ◌≤◌, false, ◌&&◌, ◌==◌, not, if◌then◌else◌, List, [], ◌∷◌, Option, Some, None, Ok}
 use Rattle.vcd_read.specs.declared.dump.Bit.{Bit}
 use Rattle.vcd_read.specs.declared.detached_piece.DetachedPiece.{DetachedPiece}
@@ -18,7 +18,7 @@ pub record ReadDetached (A : Type 0) : Type 0 where
   -- the line that it begins on
   pub first_line : ℕ
   pub progress : BodyFold A
-  -- the line of the dump section that is open behind it
+  -- the line of the dump section that is open after it
   pub dump_section : Option ℕ
   -- the line that it ends on
   pub line : ℕ
@@ -56,7 +56,7 @@ pub record IsReadDetached {A : Type 0} (with_change : A → ℕ → List Bit →
       (detached_items detached.first_line bytes) ≡ Ok (state_at detached.progress detached.dump_section)
   pub line : detached.line ≡ line_behind detached.first_line bytes
 
--- a piece that was read by itself fits behind what is read so far: between two items, outside of dump sections, at no
+-- a piece that was read by itself fits after what is read so far: between two items, outside of dump sections, at no
 -- later time
 pub record MayFollow {A B : Type 0} (r : Reached B) (detached : ReadDetached A) : Type 0 where
   pub place : r.place ≡ ready
@@ -68,12 +68,12 @@ pub record MayFollow {A B : Type 0} (r : Reached B) (detached : ReadDetached A) 
 abbrev pub ended_at : {A : Type 0} → BodyFold A → ℕ → Option ℕ
 ended_at p time = if p.has_instant && not (time == p.time) then Some p.time else None
 
--- what is taken behind the end of such an instant
+-- what is taken after the end of such an instant
 abbrev pub entered : {A : Type 0} → (A → ℕ → A) → A → Option ℕ → A
 entered with_instant a None = a
 entered with_instant a (Some time) = with_instant a time
 
--- how far the body is read behind a piece that was read by itself
+-- how far the body is read after a piece that was read by itself
 abbrev pub behind_piece : {A : Type 0} → List Net → ReadDetached A → Reached A
 behind_piece nets detached =
     record {

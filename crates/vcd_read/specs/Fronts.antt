@@ -1,4 +1,4 @@
--- The definitions of a text, by a front of it.
+-- The definitions of a text, by a prefix of it.
 use Rattle.std.specs.Prelude.{◌≡◌, ℕ, List, ◌++◌, Option, Some, None, Result, Ok, Err}
 use Rattle.vcd_read.specs.declared.dump.Variable.{Variable}
 use Rattle.vcd_read.specs.declared.fault.FaultKind.{FaultKind}
@@ -9,7 +9,7 @@ use Rattle.vcd_read.specs.Header.{Declared}
 use Rattle.vcd_read.specs.Sections.{Headed, defined, header_of}
 use Rattle.vcd_read.specs.Meaning.{ReadFails}
 
--- The header that a front has, the bytes behind it, and the line that the front ends on.
+-- The header that a prefix has, the bytes after it, and the line that the prefix ends on.
 pub record ReadFront : Type 0 where
   pub head : Headed
   pub left : List ℕ
@@ -27,7 +27,7 @@ IsMetAtTheEnd kind = ⊥
 
 module _ {V X : Type 0} (with_variable : V → Variable → V) (declared : Declared V) (front : List ℕ) (head : X → Headed)
     (taken : X → V) where
-  -- what is found of the definitions is what each text has that begins so, unless they don't end in that front
+  -- what is found of the definitions is what each text has that begins so, unless they don't end in that prefix
   abbrev pub HeaderContinuesAs : Result (Option X) VcdFault → Type 0
   HeaderContinuesAs (Ok (Some x)) = (text : List ℕ) (more : List Token)
       → header_of with_variable text declared (tokens front ++ more) ≡ Ok (defined (going_on (head x) more) (taken x))

@@ -36,7 +36,7 @@ pub data HeaderItem : Type 0 where
   -- a token outside a section that opens none
   stray : ℕ → HeaderItem
 
--- The items up to the end of the definitions, and the tokens behind it, if there is one.
+-- The items up to the end of the definitions, and the tokens after it, if there is one.
 pub record Header : Type 0 where
   pub items : List HeaderItem
   pub body : Option (List Token)
@@ -149,7 +149,7 @@ pub record Reference : Type 0 where
 abbrev pub without_index : List ℕ → Reference
 without_index text = record { name = text; index = None }
 
--- what stands before a last bracket that closes at the end, and what stands in it
+-- what is before a last bracket that closes at the end, and what is in it
 abbrev pub bracketed : List ℕ → Option (List ℕ × List ℕ)
 bracketed text =
     let inner = take (length text - 1) text in

@@ -31,7 +31,7 @@ reached taken p =
     }
 
 module _ {A : Type 0} (with_change : A → ℕ → List Bit → A) (with_instant : A → ℕ → A) where
-  -- what reading gives from there on: these tokens, and more behind them
+  -- what reading gives from there on: these tokens, and more after them
   abbrev pub rest_of : Reached A → List Token → List Token → Result (State A) VcdFault
   rest_of r tokens more = ahead with_change with_instant r.nets r.progress r.dump_section r.place tokens more
 

@@ -6,7 +6,7 @@ use denote.Ref.{Bor}
 abbrev pub texts : List (Bor (List ℕ)) → List (List ℕ)
 texts words = map (λ word. word.now) words
 
--- what a scope puts behind the path: its name and a dot, or nothing where the name is empty
+-- what a scope puts after the path: its name and a dot, or nothing where the name is empty
 abbrev pub with_dot : List ℕ → List ℕ
 with_dot [] = []
 with_dot (b ∷ name) = (b ∷ name) ++ 46 ∷ []

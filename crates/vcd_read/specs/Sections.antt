@@ -16,7 +16,7 @@ use Rattle.vcd_read.specs.Meaning.{body_of, ReadFails}
 
 -- ---- a section
 
--- The words of a section up to its end, and the tokens behind it.
+-- The words of a section up to its end, and the tokens after it.
 pub record Ended : Type 0 where
   pub words : List (List ℕ)
   pub rest : List Token
@@ -40,7 +40,7 @@ section_from line ts = elim (ended_in ts) [
   | Some ended ↦ Ok ended
 ]
 
--- the tokens behind a section
+-- the tokens after a section
 abbrev pub behind_section : ℕ → List Token → Result (List Token) VcdFault
 behind_section line ts = section_from line ts >>= λ ended. Ok ended.rest
 
@@ -70,7 +70,7 @@ ReturnsAs view (Err e) read = read ≡ Err e
 abbrev pub declared_in : {V : Type 0} → List (List ℕ) → List Net → V → Declared V
 declared_in scopes nets variables = record { scopes = scopes; nets = nets; variables = variables }
 
--- The nets that a header declares, and the tokens behind it.
+-- The nets that a header declares, and the tokens after it.
 pub record Headed : Type 0 where
   pub nets : List Net
   pub body : List Token
@@ -95,7 +95,7 @@ module _ {V : Type 0} (with_variable : V → Variable → V) where
   abbrev pub header_of : List ℕ → Declared V → List Token → Result (Defined V) VcdFault
   header_of text d ts = rest_of_header text d (header_from between ts)
 
--- whether the definitions go on behind a section: reading the header gives then what it gave before, and otherwise it
+-- whether the definitions go on after a section: reading the header gives then what it gave before, and otherwise it
 -- gives this
 abbrev pub SectionContinuesAs : {V : Type 0} → Result (Defined V) VcdFault → Result (Defined V) VcdFault → Defined V
     → Result Bool VcdFault → Type 0

@@ -59,7 +59,7 @@ fn bit_of(digit: u8) -> Bit
     }
 }
 
-/// What stands on the left of a value with too few digits.
+/// The bit that extends a value with too few digits on the left.
 fn fill_of(bit: Bit) -> Bit
     ensures { result ≡ fill_of bit }
 {

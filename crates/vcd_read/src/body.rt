@@ -140,7 +140,7 @@ impl<'a, 'c, T: ChangeVisitor> Body<'a, 'c, T> {
         }
     }
 
-    /// Reads the item whose first token is at hand where it is a short change, or that of a vector whose code stands in
+    /// Reads the item whose first token is at hand where it is a short change, or that of a vector whose code is in
     /// the piece: each of its bytes is looked at once.
     #[inline(always)]
     fn short_change(&mut self, alloc: Global, reader: &mut Reader<'a>) -> Result<bool, VcdFault>
@@ -273,7 +273,7 @@ impl<'a, 'c, T: ChangeVisitor> Body<'a, 'c, T> {
         Ok(true)
     }
 
-    /// Reads the code of a vector, and changes its net. The code may stand in the next piece.
+    /// Reads the code of a vector, and changes its net. The code may be in the next piece.
     fn vector(&mut self, alloc: Global, start: Start, digits: &[u8]) -> Result<bool, VcdFault>
         requires between { self.old.place ≡ Ready }
         requires start { IsStart self.old.reader.text start }
@@ -301,7 +301,7 @@ impl<'a, 'c, T: ChangeVisitor> Body<'a, 'c, T> {
         }
     }
 
-    /// Reads the code of a value that is none of bits, and skips the change. The code may stand in the next piece.
+    /// Reads the code of a value that is none of bits, and skips the change. The code may be in the next piece.
     fn foreign(&mut self, start: Start) -> Result<bool, VcdFault>
         requires between { self.old.place ≡ Ready }
         requires start { IsStart self.old.reader.text start }
@@ -343,7 +343,7 @@ impl<'a, 'c, T: ChangeVisitor> Body<'a, 'c, T> {
         }
     }
 
-    /// Reads the words of a comment up to its end, which may stand in a later piece.
+    /// Reads the words of a comment up to its end, which may be in a later piece.
     fn comment(&mut self, start: Start) -> Result<bool, VcdFault>
         requires between { self.old.place ≡ Ready }
         requires start { IsStart self.old.reader.text start }
@@ -466,7 +466,7 @@ impl<'a, 'c, T: ChangeVisitor> Body<'a, 'c, T> {
         }
     }
 
-    /// How far the body is read, behind the piece.
+    /// How far the body is read, after the piece.
     fn end(self) -> BodyState<T>
         ensures taken { T.taken result.timed.visitor ≡ T.taken self.entry.timed.visitor }
         ensures clock { result.timed.clock ≡ self.entry.timed.clock }
@@ -498,7 +498,7 @@ fn on_line(line: Option<u64>) -> Option<Start>
 }
 
 /// Reads what is left of a piece of a body, from where the body was read to. With the first fault comes what took what
-/// stands before it.
+/// is before it.
 pub(crate) fn read_until_fault<T: ChangeVisitor>(
     alloc: Global,
     reader: Reader<'_>,

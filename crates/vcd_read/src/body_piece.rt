@@ -2,7 +2,7 @@
 
 ghost use Rattle.std.specs.Prelude.{◌+◌, ◌^◌, ◌<◌, length};
 
-/// A piece of a text, and the line that its first byte stands on.
+/// A piece of a text, and the line that its first byte is on.
 #[derive(Clone, Copy)]
 pub(crate) struct BodyPiece<'a> {
     pub bytes: &'a [u8],

@@ -9,7 +9,7 @@ ghost use Rattle.vcd_read.specs.CodeIndexes.{net_on};
 use std::alloc::{AllocError, Global};
 use std::collections::BTreeMap;
 
-/// Where the net of a code of at most three bytes stands: the page is that of the bytes behind the first.
+/// Where the net of a code of at most three bytes is: the page is that of the bytes after the first.
 #[derive(Clone, Copy)]
 pub(crate) struct CodePlace {
     pub page: usize,

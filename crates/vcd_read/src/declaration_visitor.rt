@@ -2,7 +2,7 @@
 
 use std::alloc::{AllocError, Global};
 
-/// A variable as its section declares it, without the scopes that it stands in.
+/// A variable as its section declares it, without the scopes that it is in.
 #[derive(Clone, Copy)]
 pub struct Declaration<'t> {
     /// Its own name, of at least one byte, without its index.

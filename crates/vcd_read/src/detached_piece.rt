@@ -20,7 +20,7 @@ use crate::timed_visitor::{Clock, TimedVisitor};
 use crate::token::Reader;
 use std::alloc::Global;
 
-/// A piece of a body that was read as if it stood between two items, outside of dump sections, at the time that it
+/// A piece of a body that was read as if it were between two items, outside of dump sections, at the time that it
 /// begins with.
 #[derive(Drop)]
 pub struct DetachedPiece<T: ChangeVisitor> {
@@ -29,7 +29,7 @@ pub struct DetachedPiece<T: ChangeVisitor> {
     /// The line that it begins on.
     first_line: u64,
     timed: TimedVisitor<T>,
-    /// The line of the dump section that is open behind it.
+    /// The line of the dump section that is open after it.
     dump_section: Option<u64>,
     /// The line that it ends on.
     line: u64,
@@ -81,7 +81,7 @@ impl<T: ChangeVisitor> DetachedPiece<T> {
 }
 
 impl<T: ChangeVisitor> Pieces<T> {
-    /// Reads a piece that begins on this line and ends behind a space, or where the text does, and gives its changes to
+    /// Reads a piece that begins on this line and ends after a space, or where the text does, and gives its changes to
     /// a visitor of its own. None is given of a piece that begins with no time, has a fault or ends within an item, nor
     /// where memory runs out.
     pub fn detached<N: ChangeVisitor>(
@@ -164,7 +164,7 @@ impl<T: ChangeVisitor> Pieces<T> {
         }
     }
 
-    /// Goes on behind a piece that was read by itself, with the visitor of that piece. The visitor of what is
+    /// Goes on after a piece that was read by itself, with the visitor of that piece. The visitor of what is
     /// before the piece is handed back; it was told nothing of the piece, nor of the end of an instant that the piece
     /// ends.
     pub fn join<N: ChangeVisitor>(self, detached: DetachedPiece<N>) -> (Pieces<N>, T)

@@ -105,7 +105,7 @@ impl Values {
     }
 }
 
-/// The names of the scopes that a variable stands in and its own name, joined by dots.
+/// The names of the scopes that a variable is in and its own name, joined by dots.
 #[derive(Debug, Drop)]
 pub struct Path {
     bytes: Vec<u8>,
@@ -145,7 +145,7 @@ impl Path {
 /// A variable of the dump, as its `$var` section declares it.
 #[derive(Debug, Drop)]
 pub struct Variable {
-    /// Its name with the scopes that it stands in, without its index.
+    /// Its name with the scopes that it is in, without its index.
     pub path: Path,
     /// The indices of its leftmost and its rightmost bit; `[n]` is `[n:n]`.
     pub index: Option<(u32, u32)>,

@@ -9,7 +9,7 @@ use thiserror::Error;
 /// What is wrong with a text.
 #[derive(Clone, Copy, Debug, Error, PartialEq, Eq)]
 pub enum FaultKind {
-    /// A token that may not stand where it stands.
+    /// A token that may not be where it is.
     #[error("BadToken")]
     BadToken,
     /// A section, a change or a dump section that the text ends in.

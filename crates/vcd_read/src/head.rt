@@ -18,7 +18,7 @@ use crate::token::Reader;
 use std::alloc::Global;
 use std::marker::Model;
 
-/// A text whose definitions are read, and the body behind them, which isn't read yet.
+/// A text whose definitions are read, and the body after them, which isn't read yet.
 #[derive(Drop)]
 pub struct Head<'a> {
     reader: Reader<'a>,

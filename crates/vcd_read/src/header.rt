@@ -46,7 +46,7 @@ enum Opening {
     Nothing,
 }
 
-/// The words of a variable's section behind its type.
+/// The words of a variable's section after its type.
 #[derive(Clone, Copy)]
 struct VarSection<'w> {
     size: u32,
@@ -247,7 +247,7 @@ impl<D: DeclarationVisitor> Definitions<D> {
         Ok(())
     }
 
-    /// Reads the section that this token opens. Answers whether the definitions go on behind it.
+    /// Reads the section that this token opens. Answers whether the definitions go on after it.
     fn section<'a>(
         &mut self,
         alloc: Global,

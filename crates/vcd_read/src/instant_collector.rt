@@ -35,7 +35,7 @@ impl Model for InstantCollector {
 }
 
 impl InstantCollector {
-    /// No instant yet, with room for the values of so many nets.
+    /// No instant yet, with room for the values of `nets` nets.
     pub fn new(alloc: Global, nets: usize) -> Result<InstantCollector, AllocError>
         ensures { IfOk result (λ c. c ≡ record { done = []; current = replicate nets None }) }
     {

@@ -19,7 +19,7 @@ fn line_feeds_of_few(bytes: &[u8]) -> u8
     count
 }
 
-/// How many bytes are line feeds, so many lines a text ends.
+/// How many bytes are line feeds: how many lines the text ends.
 pub fn line_feeds(bytes: &[u8]) -> u64
     requires { length bytes.now < 2 ^ 64 }
     ensures { result ≡ count_by (λ b. b == 10) bytes.now }

@@ -29,9 +29,9 @@ impl Digits {
 #[derive(Drop)]
 pub(crate) enum OpenItem {
     Ready,
-    /// Behind the digits of a vector.
+    /// After the digits of a vector.
     Vector(Digits),
-    /// Behind a value that is none of bits.
+    /// After a value that is none of bits.
     Foreign(u64),
     Comment(u64),
 }

@@ -23,7 +23,7 @@ use crate::token::Reader;
 use std::alloc::Global;
 use std::marker::Model;
 
-/// The front of a text, whose definitions are read, and of whose body nothing is.
+/// A prefix of a text, of which the definitions are read and nothing of the body.
 #[derive(Drop)]
 pub struct Front<'a> {
     codes: Codes,
@@ -57,7 +57,7 @@ pub struct Pieces<T: ChangeVisitor> {
     pub(crate) line: u64,
 }
 
-/// Reads the definitions of a text by a front of it that ends behind a space, and gives its scopes and variables to
+/// Reads the definitions of a text by a prefix of it that ends after a space, and gives its scopes and variables to
 /// what takes them. None are read where they don't end in it; a fault is that of every text that begins so.
 pub fn read_front<D: DeclarationVisitor>(
     alloc: Global,
@@ -95,7 +95,7 @@ pub fn read_front<D: DeclarationVisitor>(
 }
 
 impl<'a> Front<'a> {
-    /// Begins to read the body, of which nothing is read yet, and says what the front has of it: the first piece. So a
+    /// Begins to read the body, of which nothing is read yet, and says what the prefix has of it: the first piece. So a
     /// fault of the body is met in a piece.
     pub fn before_body<T: ChangeVisitor>(self, visitor: T) -> (Pieces<T>, &'a [u8])
         ensures nets { (reached T.taken result.0).nets ≡ self.entry.head.nets }
@@ -118,8 +118,8 @@ impl<'a> Front<'a> {
 }
 
 impl<T: ChangeVisitor> Pieces<T> {
-    /// Reads the next piece of the body, which ends behind a space, or where the text does. The first fault met is that
-    /// of every text that goes on so. With it comes what took all that stands before it: the changes of each item, and
+    /// Reads the next piece of the body, which ends after a space, or where the text does. The first fault met is that
+    /// of every text that goes on so. With it comes what took all that is before it: the changes of each item, and
     /// the end of each instant that a later time follows. Where lines could no longer be counted, memory is said to run
     /// out.
     pub fn read_until_fault(self, alloc: Global, piece: &[u8]) -> Result<Pieces<T>, Stopped<T>>

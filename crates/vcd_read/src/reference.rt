@@ -7,7 +7,7 @@ use crate::fault::FaultKind;
 use crate::number::decimal;
 use memchr::{memchr, memrchr};
 
-/// A name, and the index behind it, if there is one.
+/// A name, and the index after it, if there is one.
 #[derive(Clone, Copy)]
 pub(crate) struct Reference<'t> {
     pub name: &'t [u8],
@@ -56,7 +56,7 @@ fn index_of(text: &[u8], size: u32) -> Option<(u32, u32)>
     }
 }
 
-/// What stands before the last bracket that opens, and what from it up to one that closes at the end.
+/// What is before the last bracket that opens, and what from it up to one that closes at the end.
 fn bracketed(text: &[u8]) -> Option<(&[u8], &[u8])>
     ensures { option_map (λ parts. (parts.0.now, parts.1.now)) result ≡ bracketed text.now }
 {

@@ -13,10 +13,10 @@ const LANES: usize = 16;
 /// How many bytes are looked at one by one before that: most codes are short.
 const FEW: usize = 3;
 
-/// How many bytes are looked at at once for the end of digits: many vectors have so many bits.
+/// How many bytes are looked at at once for the end of digits: many vectors have this many bits.
 const DIGIT_LANES: usize = 32;
 
-/// How many of so many lanes come before the first that is set.
+/// How many of `count` lanes come before the first that is set.
 #[inline(always)]
 fn first_set(lanes: u64, count: usize) -> usize
     ensures { result ≡ (if lanes == 0 then count else trailing_zeros w64 lanes) }

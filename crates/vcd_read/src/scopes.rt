@@ -10,7 +10,7 @@ use std::marker::Model;
 /// The names of the open scopes, as one text that grows and shrinks at its end.
 #[derive(Drop)]
 pub struct Scopes {
-    /// The names that aren't empty, from the outermost, each with a dot behind it.
+    /// The names that aren't empty, from the outermost, each with a dot after it.
     path: Vec<u8>,
     /// For each open scope, the length of the path before it.
     starts: Vec<usize>,
@@ -72,8 +72,8 @@ impl Scopes {
         self.starts.len()
     }
 
-    /// What stands before the name of a variable in its path: the names that aren't empty, from the outermost, each
-    /// with a dot behind it.
+    /// What is before the name of a variable in its path: the names that aren't empty, from the outermost, each
+    /// with a dot after it.
     pub fn path(&self) -> &[u8]
         ensures { result.now ≡ path_in self.now }
     {
@@ -92,7 +92,7 @@ impl Scopes {
     }
 }
 
-/// What a scope of this name puts behind the path.
+/// What a scope of this name puts after the path.
 fn with_dot(alloc: Global, name: &[u8]) -> Result<Vec<u8>, AllocError>
     ensures { IfOk result (λ part. part.items ≡ with_dot name.now) }
 {

@@ -10,7 +10,7 @@ ghost use Rattle.vcd_read.specs.Shapes.{found_shape};
 /// What a token of the body is, or begins.
 #[derive(Clone, Copy)]
 pub(crate) enum Shape<'a> {
-    /// A time, by the digits behind its `#`.
+    /// A time, by the digits after its `#`.
     Time(&'a [u8]),
     /// A scalar change: its digit and its code.
     Scalar(&'a [u8], &'a [u8]),

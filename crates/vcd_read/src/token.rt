@@ -71,7 +71,7 @@ fn begins_vector(b: u8) -> bool
     matches!(b, b'b' | b'B')
 }
 
-/// How many of the first bytes of a text end behind a space, so that no token goes on behind them.
+/// How many of the first bytes of a text end after a space, so that no token goes on after them.
 pub fn whole_tokens(text: &[u8]) -> usize
     ensures within { result ≤ length text.now }
     ensures space { 0 < result → is_space (get_or text.now (result - 1) 0) ≡ true }
@@ -116,7 +116,7 @@ fn word_end(text: &[u8], at: usize) -> usize
     word_end_past_controls(text, end)
 }
 
-/// The same, where bytes below the space may stand within the word.
+/// The same, where bytes below the space may be within the word.
 #[inline(never)]
 fn word_end_past_controls(text: &[u8], at: usize) -> usize
     requires { at ≤ length text.now }
@@ -132,7 +132,7 @@ fn word_end_past_controls(text: &[u8], at: usize) -> usize
     i
 }
 
-/// The place behind the space that ends a word here, or the end.
+/// The place after the space that ends a word here, or the end.
 #[tactic(auto, using(crate::proofs::TokenLemmas::left_step))]
 #[inline(always)]
 fn behind_word(text: &[u8], end: usize) -> usize
@@ -239,7 +239,7 @@ impl<'a> Reader<'a> {
         })
     }
 
-    /// Reads the token at hand where it is a scalar change of a code of one byte above the space, behind which the text
+    /// Reads the token at hand where it is a scalar change of a code of one byte above the space, after which the text
     /// goes on.
     #[inline(always)]
     pub fn short_change(&mut self) -> Option<ShortChange<'a>>

@@ -1,4 +1,4 @@
--- Of which lines a piece tells a level, and what it leaves where other levels stand before it.
+-- Of which lines a piece tells a level, and what it leaves where other levels are before it.
 use Rattle.std.proofs.Common.{◌≡◌, ℕ, ◌+◌, ◌<◌, ◌≤◌, Bool, true, false, cond, List, [], ◌∷◌, ◌++◌, length, map}
 use Rattle.std.proofs.Common.{slice_set, Some, Result, Ok, Err, refl, sym, ap, subst, ◌∙◌, inl, inr, ◌⊎◌, arith}
 use Rattle.std.specs.Prelude.{◌≢◌}
@@ -129,7 +129,7 @@ mixed-line_bits bits (line_bit ∷ line_bits) first those these assigned h =
     mixed-line_bits bits line_bits first (set_level those line_bit.line x) (set_level these line_bit.line x)
     (slice_set assigned line_bit.line true) (mixed-set first those these assigned line_bit.line x h)
 
--- ---- a piece that is read once more, behind other levels
+-- ---- a piece that is read once more, after other levels
 
 -- what is read ahead, and the levels that the same changes make of others
 record Both : Type 0 where
@@ -246,7 +246,7 @@ module _ (nets : List Net) (bytes : List ℕ) (e : SpeculativeBuilderState) (a :
         (λ b net bits. refl)
         (λ b time. refl) nets start items) ∙ is.whole)
 
-    -- the levels behind it
+    -- the levels after it
     abbrev behind : Levels
     behind = both-read.0.progress.taken.levels
 
@@ -270,7 +270,7 @@ module _ (nets : List Net) (bytes : List ℕ) (e : SpeculativeBuilderState) (a :
         })
         both-read.1)
 
-    -- are those that reading it behind the first leads to
+    -- are those that reading it after the first leads to
     behind-is : (line_bits : NetLines) (t : Trace) (m : ReadDetached BuilderState) → e.made.line_bits ≡ line_bits
         → m.first_line
         ≡ a.first_line → IsReadDetached builder_change builder_instant nets bytes (builder_behind line_bits v t) m
@@ -312,7 +312,7 @@ module _ (nets : List Net) (bytes : List ℕ) (e : SpeculativeBuilderState) (a :
         (ap (λ (x : NetLines). steps others_change others_instant nets
         (before_piece (record { line_bits = x; levels = v }) a.time) items) (sym lines) ∙ of_both))
 
-  -- where others stand before it, it leaves its own levels on the lines of which it tells one, and theirs on the rest
+  -- where others are before it, it leaves its own levels on the lines of which it tells one, and theirs on the rest
   pub assigned-leads : (x : ReadSpeculatively) (line_bits : NetLines) → length e.made.progress.now.levels ≡ line_count
       → e.assigned ≡ none_assigned → e.made.line_bits ≡ line_bits
       → x.detached.first_line ≡ a.first_line → x.assigned ≡ a.progress.taken.assigned → x.detached.progress.taken

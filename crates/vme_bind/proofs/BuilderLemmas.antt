@@ -151,7 +151,7 @@ next_in : (done rest : List Instant) (x : Instant) → slice_get (done ++ x ∷ 
 next_in [] rest x = refl
 next_in (y ∷ done) rest x = next_in done rest x
 
--- what is made, with so many instants ended and these values at the one at hand
+-- what is made after `n` ended instants, with these values at the current one
 pub record IsMade (slots : ℕ) (bound_groups : List BoundGroup) (count : ℕ) (instants : List Instant) (n : ℕ)
     (current : CurrentValues) (m : BuilderState) : Type 0 where
   pub line_bits : AreLineBits slots bound_groups m.line_bits

@@ -1,4 +1,4 @@
--- What was recorded before is only the front of what is recorded.
+-- What was recorded before is a prefix of what is recorded.
 use Rattle.std.proofs.Common.{◌≡◌, ℕ, Bool, true, false, cond, List, [], ◌++◌, Result, Ok, Err, refl, sym, ap, ◌∙◌}
 use Rattle.std.proofs.lemmas.List.{append-nil}
 use Rattle.vme_trace.specs.Followed.{with_steps}
@@ -78,7 +78,7 @@ module _ (t : Trace) where
       (outcome-behind read)
       ∙ made-behind reached.progress.taken.recorded reached.progress.time (read >>= at_end builder_instant)
 
-  -- what comes of tokens behind a recording
+  -- what comes of tokens after a recording
   pub ahead-behind : (w : SpeculativeReached) (opening : Levels) (tokens more : List Token)
       → reading_ahead (with_recording t w) tokens more
       ≡ following t (reading_ahead (with_recording (record { opening = opening; steps = [] }) w) tokens more)

@@ -34,7 +34,7 @@ use Rattle.std.proofs.lemmas.List.{append-nil}
 
 -- ---- one assignment
 
--- what is found behind these candidates
+-- what is found after these candidates
 abbrev only_behind : PathMatch → List BitRange → Result BitRange BindFaultKind
 only_behind Nothing others = only others
 only_behind (Only bits) others = cond (list_all (same_bits bits) others) (Ok bits) (Err AmbiguousPath)
@@ -140,7 +140,7 @@ module _ (named : VariableSelector) (scopes : List (List ℕ)) (net size : ℕ) 
         second true q = q
         second false q = refl
 
-    -- it stands in other scopes
+    -- it is in other scopes
     candidate-other : (matched_scopes : ℕ) → matched_scopes ≡ scopes_matched named.path scopes
         → (matched_scopes ≡ length scopes → ⊥) → None
         ≡ candidate named (variable_in scopes net size r)

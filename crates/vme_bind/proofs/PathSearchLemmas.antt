@@ -22,7 +22,7 @@ use Rattle.vme_bind.specs.PathSearch.{begins_with, scopes_matched, matched_behin
 use Rattle.vme_bind.specs.PathSearch.{closed}
 use Rattle.vme_bind.specs.PathSearch.{Searched, seen_in}
 
--- ---- the front of a text
+-- ---- the prefix of a text
 
 -- a text is this and some more
 abbrev Begins : List ℕ → List ℕ → Type 0
@@ -39,7 +39,7 @@ begins-Decides front text =
       λ h. same.1 (ap (take (length front)) h.1 ∙ take_at front h.0 (length front) refl),
     )
 
--- a front that is longer
+-- a longer prefix
 begins_more-Decides : (front part text : List ℕ) → Decides (begins_with front text && begins_with part
     (drop (length front) text)) (Begins (front ++ part) text)
 begins_more-Decides front part text =
@@ -77,7 +77,7 @@ begins_with-short front text lt = by_test (begins_with front text) (begins-Decid
     by_test true d = let h = d.0 refl in
         absurd (omega (arith, lt, ap (λ (xs : List ℕ). length xs) h.1, length-append front h.0))
 
--- a text is a front and a rest
+-- a text is a prefix and a rest
 behind-Decides : (front name text : List ℕ) → Decides (begins_with front text && bytes_eq (drop (length front) text)
     name) (front ++ name ≡ text)
 behind-Decides front name text =

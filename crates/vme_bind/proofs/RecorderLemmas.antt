@@ -189,7 +189,7 @@ pub record AreShown (n : ℕ) (before now shown : Levels) (changes : List Change
   pub below : (l : ℕ) → l < n → level_at shown l ≡ level_at now l
   pub above : (l : ℕ) → n ≤ l → level_at shown l ≡ level_at before l
 
--- before the first of the lines and behind the last none differs
+-- before the first of the lines and after the last none differs
 quiet_before : (before now : Levels) (first last l : ℕ) → DifferWithin before now first last → l < first
     → differs before now l ≡ false
 quiet_before before now first last l h lt = elim (bool_cases (differs before now l)) [

@@ -1,4 +1,4 @@
--- What comes of a dump whose pieces are read ahead of what stands before them, and joined in order.
+-- What comes of a dump whose pieces are read ahead of what is before them, and joined in order.
 use Rattle.std.proofs.Common.{◌≡◌, ℕ, Bool, true, false, cond, ◌&&◌, List, [], ◌∷◌, ◌++◌, Option, Some, None, Result}
 use Rattle.std.proofs.Common.{refl, sym, ap, ◌∙◌, subst, append_assoc, arith}
 use Rattle.std.proofs.lemmas.List.{append-nil}
@@ -32,7 +32,7 @@ use Rattle.vme_bind.specs.declared.net_lines.NetLines.{NetLines}
 use Rattle.vme_bind.proofs.CaptureLemmas.{changed-those, is_below, length-changed}
 use Rattle.vme_bind.proofs.RecorderLemmas.{alike, same_levels}
 
--- ---- the levels behind the step that ends an instant
+-- ---- the levels after the step that ends an instant
 
 changes-lead : (shown now : Levels) (first last : ℕ) → DifferWithin shown now first last
     → changed shown (changes_between shown now) ≡ now
@@ -68,7 +68,7 @@ end-leads p shown now first last (Some time) is h =
     subst (λ (q : RecorderLevels). levels_after q.shown (step_between time q.shown q.now) ≡ q.now) (sym is)
     (step-leads time shown now first last h)
 
--- ---- what is made behind another recording
+-- ---- what is made after another recording
 
 abbrev pub behind : Trace → BuilderState → BuilderState
 behind t m = record m { recorded = with_steps t m.recorded.steps }
@@ -84,7 +84,7 @@ behind-instant t m time =
     ap (λ (ss : List Step). record (builder_instant m time) { recorded = record t { steps = ss } })
     (sym (append_assoc t.steps m.recorded.steps step))
 
--- behind the end of an instant
+-- after the end of an instant
 entered-made : (m : BuilderState) (e : Option ℕ)
     → entered builder_instant m e ≡ record m {
       progress = entered end_of m.progress e;

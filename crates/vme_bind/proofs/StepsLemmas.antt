@@ -68,7 +68,7 @@ get-last : {X : Type 0} (xs : List X) (x : X) → slice_get (xs ++ x ∷ []) (le
 get-last [] x = refl
 get-last (y ∷ xs) x = get-last xs x
 
--- where a number of the range stands among those that hold
+-- where a number of the range is among those that hold
 those-place : (p : ℕ → Bool) (n i : ℕ) → i < n → p i ≡ true → slice_get (those p 0 n) (length (those p 0 i)) ≡ Some i
 those-place p zero i lt h = absurd (omega (arith, lt))
 those-place p (suc n) i lt h =
@@ -413,7 +413,7 @@ module _ (slots : ℕ) (bound_groups : List BoundGroup) (instants : List Instant
     abbrev whole : Trace
     whole = recording slots bound_groups instants end
 
-    -- the steps at the first i instants may stand where they stand
+    -- the steps at the first i instants may be where they are
     record IsSound (i : ℕ) : Type 0 where
       clock : ℕ
       checked : HasChecked whole (count i) (levels_after slots bound_groups instants i) clock

@@ -187,7 +187,7 @@ pub whole-of : (text : List ℕ) (h : Headed) (first seen : List Searched) → h
 whole-of text h first seen e = whole_from text h first seen (whole_header text) refl
     (sym (header_taken with_variable text first) ∙ e)
 
--- the body behind the definitions
+-- the body after the definitions
 pub text-behind : {X : Type 0} (view : X → Trace) (b : BoundLines) (text : List ℕ) (h : Headed)
     (first seen : List Searched) (r : Result X CaptureFault) → header_of with_variable text (nothing_declared first)
     (tokens text) ≡ Ok (defined h seen)
@@ -199,7 +199,7 @@ text-behind view b text h first seen r head given =
     subst (λ (d : Result Contents VcdFault). GivesBy view r (recording_read b d))
     (sym (dump_behind text (defined h whole.0) whole.1)) (given whole.0 whole.2)
 
--- the recording of a text is that of the body behind its definitions
+-- the recording of a text is that of the body after its definitions
 pub text-is : (b : BoundLines) (text : List ℕ) (h : Headed) (first seen : List Searched) → header_of with_variable text
     (nothing_declared first) (tokens text) ≡ Ok (defined h seen)
     → (variables : List Variable) × (seen ≡ fold with_variable first variables)

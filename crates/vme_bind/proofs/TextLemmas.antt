@@ -15,7 +15,7 @@ not_true : (b : Bool) → (b ≡ true → ⊥) → b ≡ false
 not_true true h = absurd (h refl)
 not_true false h = refl
 
--- what stands behind place i
+-- what is after place i
 abbrev pub behind : List ℕ → ℕ → List ℕ
 behind xs i = take (length xs - (i + 1)) (drop (i + 1) xs)
 
@@ -37,7 +37,7 @@ split_nowhere p xs none =
     slice_split_none p xs (λ k d lt. not_true _ (λ here. none k (omega arith) lt (ap p (get_or_default xs k 0 d lt)
     ∙ here)))
 
--- nothing stands behind the end
+-- nothing is after the end
 abbrev pub at_end : List ℕ → List ℕ
 at_end xs = take (length xs - length xs) (drop (length xs) xs)
 

@@ -127,7 +127,7 @@ fails-whole own fault read fails = by_kind own fault.line fault.kind fails
     by_kind None line kind fails = ap (outcome None) fails
     by_kind (Some fault) line kind fails = ap (outcome (Some fault)) fails
 
--- ---- a front whose definitions don't end
+-- ---- a prefix in which the definitions don't end
 
 pub unfinished-front : (b : BoundLines) (front : List ℕ) (seen : List Searched) (fault : VcdFault)
     → header_of with_variable front (nothing_declared seen) (tokens front) ≡ Err fault

@@ -248,7 +248,7 @@ unfinished_reading b front seen fault is met = by_kind fault.line fault.kind is 
         is
     by_kind line kind is met = absurd met
 
--- the body behind the definitions
+-- the body after the definitions
 pub reading_is : (b : BoundLines) (text : List ℕ) (h : Headed) (first seen : List Searched) → header_of with_variable
     text (nothing_declared first) (tokens text) ≡ Ok (defined h seen)
     → (variables : List Variable) × (seen ≡ fold with_variable first variables)

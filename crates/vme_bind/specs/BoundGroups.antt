@@ -33,7 +33,7 @@ selects index selection =
     (nat_le selection.0 index.0 && nat_le selection.1 selection.0 && nat_le index.1 selection.1)
     || (nat_le index.0 selection.0 && nat_le selection.0 selection.1 && nat_le selection.1 index.1)
 
--- so many bits of a net, from the one at this place on, where the leftmost is at place 0
+-- `count` bits of a net, from index `first` on, where the leftmost has index 0
 abbrev pub bit_range : ℕ → ℕ → ℕ → BitRange
 bit_range net first count = record { net = net; first = first; count = count }
 
@@ -64,7 +64,7 @@ as_wide_as count bits = if bits.count == count then Ok bits else Err WrongWidth
 
 -- ---- the bound groups of a binding
 
--- bits that were found, for so many lines
+-- bits that were found, for `count` lines
 abbrev pub source_by : ℕ → Result BitRange BindFaultKind → Result GroupSource BindFaultKind
 source_by count found = do
   bits ← found

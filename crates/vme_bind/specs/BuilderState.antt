@@ -34,7 +34,7 @@ builder_instant m time =
       recorded = with_steps m.recorded (step_between time m.progress.shown m.progress.now);
     }
 
--- nothing is taken yet, for lines of so many slots with these bound groups
+-- nothing is taken yet, for lines of `slots` slots with these bound groups
 pub record IsBegun (slots : ℕ) (bound_groups : List BoundGroup) (m : BuilderState) : Type 0 where
   pub first : (instants : List Instant) → m.recorded.opening ≡ levels_after slots bound_groups instants 0
   pub none : m.recorded.steps ≡ []

@@ -102,7 +102,7 @@ unfoldable pub recording_of : BoundLines → Contents → Result Trace BindFault
 recording_of b dump = bound_groups_in dump.variables b.assignments
     >>= λ bound_groups. Ok (recording b.slots bound_groups dump.instants (length dump.instants))
 
--- a recording has so many steps at most
+-- a recording has at most `capture_limit` steps
 abbrev pub limited : Trace → Result Trace BindFault
 limited t = if nat_lt capture_limit (length t.steps) then Err (record { line = 0; kind = TooManySteps }) else Ok t
 

@@ -5,7 +5,7 @@ use Rattle.vme_trace.specs.LineNumbers.{AM, A, BR, D, grant, iack, SYSRESET, has
 use Rattle.vme_trace.specs.Names.{line_named}
 use Rattle.vme_bind.specs.declared.group.Group.{Group}
 
--- so many lines, from the first one down
+-- `count` lines, from `first` down
 abbrev pub down_from : ℕ → ℕ → Group
 down_from first count = record { first = first; count = count }
 
@@ -29,7 +29,7 @@ share g h = nat_lt g.first (h.first + g.count) && nat_lt h.first (g.first + h.co
 abbrev pub single : ℕ → ℕ → Option Group
 single slots l = if has_line slots l then Some (down_from l 1) else None
 
--- the lines that a name stands for on a backplane of so many slots, the leftmost first
+-- the lines that `name` stands for on a backplane of `slots` slots, the leftmost first
 abbrev pub group_named : ℕ → List ℕ → Option Group
 group_named slots name =
     if bytes_eq name (codes "AM") then Some (down_from (AM 5) 6)

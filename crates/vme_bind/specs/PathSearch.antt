@@ -93,7 +93,8 @@ scopes_matched path (name ∷ scopes) = if begins_with (path_in (name ∷ scopes
 abbrev pub HasOpened : List (List ℕ) → PathSearch → Type 0
 HasOpened scopes s = s.matched_scopes ≡ scopes_matched (path_to_find s.assignment.now.source) scopes
 
--- how many, where a scope opens behind so many others: this part of the path is its own, from this place on
+-- How many scopes match after one is entered with `depth` scopes open around it. `part` is what it adds to the path,
+-- from the offset `start` on.
 abbrev pub matched_behind : ℕ → ℕ → List ℕ → List ℕ → ℕ → ℕ
 matched_behind depth start part path matched_scopes = if matched_scopes == depth
     && begins_with part (drop start path) then depth + 1 else matched_scopes
@@ -104,6 +105,6 @@ opened depth start part s = record s {
       (path_to_find s.assignment.now.source) s.matched_scopes;
 }
 
--- the innermost scope closes, and so many are left
+-- the innermost scope closes, which leaves `depth` scopes open
 abbrev pub closed : ℕ → PathSearch → PathSearch
 closed depth s = record s { matched_scopes = min s.matched_scopes depth }

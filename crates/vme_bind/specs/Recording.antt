@@ -20,11 +20,11 @@ pub record RecorderLevels : Type 0 where
   pub shown : Levels
   pub now : Levels
 
--- the steps so far leave these levels, and no value came behind them
+-- the steps so far leave these levels, and no value came after them
 abbrev pub all_of : Levels → RecorderLevels
 all_of v = record { shown = v; now = v }
 
--- the end of an instant, whatever its time: its values are behind the last step
+-- the end of an instant, whatever its time: its values are after the last step
 abbrev pub end_of : RecorderLevels → ℕ → RecorderLevels
 end_of p time = all_of p.now
 

@@ -1,4 +1,4 @@
--- The recording of a dump whose pieces are read ahead of what stands before them, and joined in order.
+-- The recording of a dump whose pieces are read ahead of what is before them, and joined in order.
 use Rattle.std.specs.Prelude.{◌≡◌, ℕ, ◌<◌, Bool, if◌then◌else◌, List, [], ◌++◌, length, Option}
 use Rattle.vme_trace.specs.Followed.{with_steps}
 use Rattle.vme_trace.specs.Levels.{Levels, level_at}
@@ -24,7 +24,7 @@ pub record SpeculativeReached : Type 0 where
   pub line_bits : NetLines
   pub body : Reached RecorderLevels
 
--- the same behind this recording
+-- the same after this recording
 abbrev pub with_recording : Trace → SpeculativeReached → TextReached
 with_recording t w =
     record {
@@ -32,13 +32,13 @@ with_recording t w =
       body = with_taken (record { line_bits = w.line_bits; progress = w.body.progress.taken; recorded = t }) w.body;
     }
 
--- a piece that was read ahead, as if these levels stood before it; and of which lines it tells a level
+-- a piece that was read ahead, as if these levels were before it; and of which lines it tells a level
 pub record ReadSpeculatively : Type 0 where
   pub from : Levels
   pub detached : ReadDetached RecorderLevels
   pub assigned : List Bool
 
--- where the first levels stand before a piece, the second have its own on each line of which it tells a level
+-- where the first levels are before a piece, the second have its own on each line of which it tells a level
 pub record AreLevelsBehind (a : ReadSpeculatively) (before after : Levels) : Type 0 where
   pub slots : after.slots ≡ before.slots
   pub all : length after.levels ≡ line_count
@@ -47,7 +47,7 @@ pub record AreLevelsBehind (a : ReadSpeculatively) (before after : Levels) : Typ
       else level_at before
       l)
 
--- what is made behind these levels, and this recording
+-- what is made after these levels, and this recording
 abbrev pub builder_behind : NetLines → Levels → Trace → BuilderState
 builder_behind line_bits v t = record { line_bits = line_bits; progress = all_of v; recorded = t }
 
@@ -63,7 +63,7 @@ LeadTo nets line_bits bytes line before after =
     → IsReadDetached builder_change builder_instant nets bytes (builder_behind line_bits before t) m
     → m.progress.taken.progress.now ≡ after
 
--- where other levels stand before a piece, it leaves its own on the lines of which it tells one, and those on the rest
+-- where other levels are before a piece, it leaves its own on the lines of which it tells one, and those on the rest
 abbrev pub DeterminesLines : List Net → NetLines → List ℕ → ReadSpeculatively → Type 0
 DeterminesLines nets line_bits bytes a =
     (before after : Levels) → length before.levels ≡ line_count → AreLevelsBehind a before after
@@ -77,12 +77,12 @@ pub record IsReadSpeculatively
       (builder_ahead line_bits recorded a.detached)
   pub assigned : DeterminesLines nets line_bits bytes a
 
--- a piece that was read ahead fits behind what is read so far, which leaves the levels that it was read from
+-- a piece that was read ahead fits after what is read so far, which leaves the levels that it was read from
 pub record MayFollowLevels (w : SpeculativeReached) (a : ReadSpeculatively) : Type 0 where
   pub place : MayFollow w.body a.detached
   pub levels : entered end_of w.body.progress.taken (ended_at w.body.progress a.detached.time) ≡ all_of a.from
 
--- a piece is joined: how far the recording is made behind it. The step, if any, ends the instant before it.
+-- a piece is joined: how far the recording is made after it. The step, if any, ends the instant before it.
 pub record IsJoined
     (bytes : List ℕ) (recorded : Trace) (levels : Levels) (before after : SpeculativeReached) (ended : List Step)
     : Type 0 where
@@ -92,7 +92,7 @@ pub record IsJoined
   pub line : after.body.line ≡ line_behind before.body.line bytes
   -- the step leads to the levels that the piece was read from
   pub leads : levels_after before.body.progress.taken.shown ended ≡ levels
-  -- behind any recording, what comes of the piece and more is what comes of the steps and more
+  -- after any recording, what comes of the piece and more is what comes of the steps and more
   pub rest : (t : Trace) (more : List Token)
       → outcome_ahead (with_recording t before) (tokens_from before.body.line bytes) more
       ≡ outcome_ahead (with_recording (with_steps t (ended ++ recorded.steps)) after) [] more

@@ -26,7 +26,7 @@ abbrev pub or_dump : {A : Type 0} → Result A VcdFault → Result A CaptureFaul
 or_dump (Ok x) = Ok x
 or_dump (Err fault) = Err (Dump fault)
 
--- the recording that bound groups make of the body behind some definitions
+-- the recording that bound groups make of the body after some definitions
 abbrev pub body_recording : ℕ → List BoundGroup → Headed → Result Trace CaptureFault
 body_recording slots bound_groups h = or_dump (instants_from h.nets h.body)
     >>= λ instants. Ok (recording slots bound_groups instants (length instants))
@@ -41,7 +41,7 @@ abbrev pub recording_read : BoundLines → Result Contents VcdFault → Result T
 recording_read b (Ok dump) = or_binding (recording_of b dump)
 recording_read b (Err fault) = Err (Dump fault)
 
--- the recording that it makes of the body behind some definitions
+-- the recording that it makes of the body after some definitions
 abbrev pub recording_behind : BoundLines → Defined (List Variable) → Result Trace CaptureFault
 recording_behind b d = recording_read b (instants_from d.head.nets d.head.body
     >>= λ instants. Ok (record { variables = d.variables; instants = instants }))

@@ -38,12 +38,12 @@ pub record TextReached : Type 0 where
 abbrev pub text_reached : {F : Type 0} {follows : Ghosts F} → TextPieces F follows → TextReached
 text_reached text = record { fault = text.fault; body = reached (λ made. made) text.pieces }
 
--- what comes of these tokens, and more behind them, where the recording is made so far
+-- what comes of these tokens, and more after them, where the recording is made so far
 abbrev pub outcome_ahead : TextReached → List Token → List Token → Result Trace CaptureFault
 outcome_ahead t tokens more = outcome t.fault (rest_of builder_change builder_instant t.body tokens more
     >>= at_end builder_instant)
 
--- the same where the front of the text has this of the body
+-- the same where the prefix of the text has this of the body
 abbrev pub outcome_from : {F : Type 0} {follows : Ghosts F} → TextPieces F follows → List ℕ → List Token
     → Result Trace CaptureFault
 outcome_from text piece more =

@@ -55,7 +55,7 @@ reading_by slots bound_groups h (Err fault) =
 abbrev pub body_reading : ℕ → List BoundGroup → Headed → TextReading
 body_reading slots bound_groups h = reading_by slots bound_groups h (instants_from h.nets h.body)
 
--- what comes of the body behind some definitions: a fault of the binding is met before it
+-- what comes of the body after some definitions: a fault of the binding is met before it
 abbrev pub reading_behind : BoundLines → Defined (List Variable) → Result TextReading CaptureFault
 reading_behind b d = or_binding (bound_groups_in d.variables b.assignments) >>= λ bound_groups. Ok
     (body_reading b.slots bound_groups d.head)
@@ -76,11 +76,11 @@ abbrev pub reading_until_fault : UntilFault BuilderState → TextReading
 reading_until_fault read = reading_made read.reached.progress.taken.recorded read.reached.progress.time
     (read.outcome >>= at_end builder_instant)
 
--- what comes of these tokens, and more behind them, where the recording is made so far
+-- what comes of these tokens, and more after them, where the recording is made so far
 abbrev pub reading_ahead : TextReached → List Token → List Token → TextReading
 reading_ahead t tokens more = reading_until_fault (rest_until_fault builder_change builder_instant t.body tokens more)
 
--- the same where the front of the text has this of the body: a fault of the binding is met before it
+-- the same where the prefix of the text has this of the body: a fault of the binding is met before it
 abbrev pub or_fault : Option BindFault → TextReading → Result TextReading CaptureFault
 or_fault None reading = Ok reading
 or_fault (Some fault) reading = Err (Binding fault)

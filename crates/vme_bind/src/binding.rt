@@ -241,7 +241,7 @@ impl Binding {
     }
 }
 
-/// Reads the text of a binding: a line `slots N`, and behind it lines `NAME = SOURCE` that bind each line of the
+/// Reads the text of a binding: a line `slots N`, and after it lines `NAME = SOURCE` that bind each line of the
 /// backplane once. The data lines may all be left out, and so may SYSRESET*: what is left out is high for good.
 ///
 /// The text is read from the top, and an error names the first fault met and its line. A line that isn't bound is

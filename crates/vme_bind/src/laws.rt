@@ -7,8 +7,8 @@ ghost use Rattle.vcd_read.specs.Tokens.{Token};
 ghost use Rattle.vme_bind.specs.SpeculativeReading.{SpeculativeReached, with_recording};
 ghost use Rattle.vme_bind.specs.TextReading.{following, reading_ahead};
 
-/// What was recorded before a place of a text is only the front of what is recorded: the steps that follow, the fault
-/// and the last time are those that they are behind a recording without a step, whatever its opening.
+/// What was recorded before a place of a text is a prefix of what is recorded: the steps that follow, the fault
+/// and the last time are those that they are after a recording without a step, whatever its opening.
 pub fn recorded_before_is_a_prefix()
     ensures { (w : SpeculativeReached) (t : Trace) (opening : Levels) (tokens more : List Token)
         → reading_ahead (with_recording t w) tokens more

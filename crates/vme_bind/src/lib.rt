@@ -34,7 +34,7 @@
 //! - A piece that [`SpeculativeReader`] reads ahead may be joined exactly where the levels before
 //!   it are those that it was read from (`MayFollowLevels`). Its steps are then those of reading it
 //!   in its place (`IsJoined`). `levels_behind` has exactly the levels that it leaves where others
-//!   stand before it.
+//!   are before it.
 //!
 //! # What isn't proved
 //!

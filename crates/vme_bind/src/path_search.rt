@@ -12,7 +12,7 @@ use crate::fault::{BindFault, BindFaultKind};
 use crate::source::LevelSource;
 use vcd_read::{Declaration, Scopes};
 
-/// The candidates so far: those that are the same bits are one.
+/// The candidates so far. Candidates for the same bits count once.
 #[derive(Clone, Copy)]
 pub(crate) enum PathMatch {
     Nothing,
@@ -58,7 +58,7 @@ fn begins_with(text: &[u8], front: &[u8]) -> bool
     }
 }
 
-/// What stands in a text from a place on.
+/// The rest of a text from the offset `start` on.
 pub(crate) fn rest_of(text: &[u8], start: usize) -> &[u8]
     ensures { result.now ≡ drop start text.now }
 {
@@ -96,7 +96,8 @@ impl<'b> PathSearch<'b> {
         }
     }
 
-    /// Opens a scope behind so many others: this part of the path is its own, from this place on.
+    /// Enters a scope, with `depth` scopes open around it. `part` is what it adds to the path, from the offset `start`
+    /// on.
     pub fn open(&mut self, depth: usize, start: usize, part: &[u8])
         requires { depth + 1 < 2 ^ 64 }
         ensures { self.new ≡ opened depth start part.now self.old }
@@ -106,14 +107,14 @@ impl<'b> PathSearch<'b> {
         }
     }
 
-    /// Closes the innermost scope, so that so many are left.
+    /// Closes the innermost scope, which leaves `depth` scopes open.
     pub fn close(&mut self, depth: usize)
         ensures { self.new ≡ closed depth self.old }
     {
         self.matched_scopes = self.matched_scopes.min(depth);
     }
 
-    /// Looks at a variable that is declared in these scopes.
+    /// Looks at a variable that is declared in `scopes`.
     pub fn visit(&mut self, scopes: &Scopes, variable: Declaration<'_>)
         requires matched_scopes { self.old.matched_scopes ≡ scopes_matched (path_to_find self.old.assignment.now.source)
             scopes.now }
@@ -139,7 +140,7 @@ impl<'b> PathSearch<'b> {
         }
     }
 
-    /// The bound group of the line.
+    /// The bus lines of this assignment with the bits that give their levels, or why there are none.
     pub fn bound_group(&self) -> Result<BoundGroup, BindFault>
         ensures { BindGives (λ bound_group. bound_group) result (bound_group_of (seen_in self.now)) }
     {

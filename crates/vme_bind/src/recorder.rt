@@ -193,8 +193,8 @@ impl Recorder {
         Ok(())
     }
 
-    /// Gives the lines of a net the levels that the digits of its value are, where so many bits are the net's. Most
-    /// nets have one line or none.
+    /// Gives the lines of a net of `size` bits the levels that the digits of its value are. Most nets have one line or
+    /// none.
     #[inline(always)]
     pub fn set_by_digits(
         &mut self,

@@ -23,7 +23,7 @@ pub(crate) struct Search<'b> {
     ghost matched_scopes: { All (HasOpened scopes) searches.items },
 }
 
-/// Opens a scope behind so many others: this part of the path is its own, from this place on.
+/// Enters a scope, with `depth` scopes open around it. `part` is what it adds to the path, from the offset `start` on.
 fn open_all(searches: &mut [PathSearch<'_>], depth: usize, start: usize, part: &[u8])
     requires { depth + 1 < 2 ^ 64 }
     ensures { searches.new ≡ map (opened depth start part.now) searches.old }
@@ -33,7 +33,7 @@ fn open_all(searches: &mut [PathSearch<'_>], depth: usize, start: usize, part: &
     }
 }
 
-/// Closes the innermost scope, so that so many are left.
+/// Closes the innermost scope, which leaves `depth` scopes open.
 fn close_all(searches: &mut [PathSearch<'_>], depth: usize)
     ensures { searches.new ≡ map (closed depth) searches.old }
 {
@@ -42,7 +42,7 @@ fn close_all(searches: &mut [PathSearch<'_>], depth: usize)
     }
 }
 
-/// Looks at a variable that is declared in these scopes.
+/// Looks at a variable that is declared in `scopes`.
 fn visit_all(searches: &mut [PathSearch<'_>], scopes: &Scopes, variable: Declaration<'_>)
     requires matched_scopes { All (HasOpened scopes.now) searches.old }
     requires name { 0 < length variable.name.now }

@@ -63,7 +63,7 @@ pub(crate) fn index_between(text: &[u8]) -> Option<(u32, u32)>
     }
 }
 
-/// What stands before the last bracket that opens, and what from it up to one that closes at the end.
+/// What is before the last bracket that opens, and what from it up to one that closes at the end.
 pub(crate) fn bracketed(text: &[u8]) -> Option<(&[u8], &[u8])>
     ensures { option_map (λ parts. (parts.0.now, parts.1.now)) result ≡ bracketed text.now }
 {

@@ -1,4 +1,4 @@
-//! The recording of a dump whose pieces are read ahead of what stands before them, and joined in order.
+//! The recording of a dump whose pieces are read ahead of what is before them, and joined in order.
 
 ghost use Rattle.std.specs.Prelude.{◌≡◌, ◌↔◌, ℕ, List, [], IfOk};
 ghost use Rattle.std.specs.Prelude.{IfSome, IsTrue, length};
@@ -48,7 +48,7 @@ impl Model for SpeculativeReader {
         × ((net : ℕ) → AreLines w.recorder.now.slots (line_bits_of w.line_bits net)) };
 }
 
-/// A piece of a dump that was read ahead of what stands before it, as if that left these levels.
+/// A piece of a dump that was read ahead of what is before it, as if that left these levels.
 #[derive(Drop)]
 pub struct SpeculativeChunk {
     from: Lines,
@@ -139,7 +139,7 @@ impl SpeculativeReader {
         self.recorder.now()
     }
 
-    /// Reads a piece that begins on this line and ends behind a space, or where the text does, ahead of what stands
+    /// Reads a piece that begins on this line and ends after a space, or where the text does, ahead of what is
     /// before it: as if that left these levels, of the same backplane. Its steps are given to the visitor, to which
     /// none was given before. None is given of a piece that begins with no time, has a fault or ends within an item,
     /// for levels of another backplane, nor where memory runs out.
@@ -187,7 +187,7 @@ impl SpeculativeReader {
         self.recorder.begins_with(ended, &ahead.from)
     }
 
-    /// Goes on behind a piece that was read ahead. The step that ends the instant before it is given, if there is one:
+    /// Goes on after a piece that was read ahead. The step that ends the instant before it is given, if there is one:
     /// those of the piece follow it. The only error is want of memory.
     pub fn join(
         self,
@@ -231,7 +231,7 @@ impl SpeculativeChunk {
         &self.from
     }
 
-    /// The levels that it leaves where these stand before it: its own on each line of which it tells a level.
+    /// The levels that it leaves where these are before it: its own on each line of which it tells a level.
     pub fn levels_behind(&self, levels: &Lines) -> Lines
         requires slots { levels.now.slots ≡ self.now.from.slots }
         requires all { length levels.now.levels ≡ line_count }
@@ -248,7 +248,7 @@ impl SpeculativeChunk {
         behind
     }
 
-    /// The levels behind it.
+    /// The levels after it.
     pub fn levels(&self) -> &Lines
         ensures now { result.now ≡ self.now.detached.progress.taken.now }
         ensures all { length result.now.levels ≡ line_count }

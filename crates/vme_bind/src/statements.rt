@@ -6,7 +6,7 @@ ghost use Rattle.vme_bind.specs.Text.{words, statement_on, without_return, state
 use crate::words::LineWords;
 use memchr::memchr;
 
-/// A line that says something: its first word, and those behind it.
+/// A line that says something: its first word, and those after it.
 #[derive(Drop)]
 pub(crate) struct Statement<'a> {
     /// The line's number, from 1.
@@ -53,7 +53,7 @@ impl<'a> Statements<'a> {
         self.line
     }
 
-    /// Goes on behind a line.
+    /// Goes on after a line.
     fn next_line(&mut self) -> &'a [u8]
         requires { 0 < length self.old.rest.now }
         ensures left { left self.old ≡ statement_on self.old.line (words result.now) ++ left self.new }

@@ -49,7 +49,7 @@ pub(crate) fn builder_of<F: StepVisitor>(
     Ok(CaptureBuilder::new(line_bits, recorder, visitor))
 }
 
-/// Reads the body behind some definitions.
+/// Reads the body after some definitions.
 fn record_body<F: StepVisitor>(
     alloc: Global,
     made: CaptureBuilder<F>,
@@ -64,7 +64,7 @@ fn record_body<F: StepVisitor>(
     }
 }
 
-/// The recording that bound groups make of the body behind some definitions.
+/// The recording that bound groups make of the body after some definitions.
 fn record_bound_groups<F: StepVisitor>(
     alloc: Global,
     lines: &Lines,
@@ -90,7 +90,7 @@ pub(crate) fn want_of_memory() -> BindFault
     }
 }
 
-/// A fault of the body behind some definitions, which comes first, or else this fault of a binding.
+/// A fault of the body after some definitions, which comes first, or else this fault of a binding.
 fn first_fault(alloc: Global, head: &Head<'_>, fault: BindFault) -> CaptureFault
     ensures { (b : BoundLines) (variables : List Variable) → BindFails fault (bound_groups_in variables b.assignments)
         → CaptureFailsBy result (recording_behind b (defined head.now variables)) }
@@ -143,7 +143,7 @@ impl Binding {
         }
     }
 
-    /// The recording of the body behind some definitions, of whose variables this was found.
+    /// The recording of the body after some definitions, of whose variables this was found.
     fn record_head<F: StepVisitor>(
         &self,
         alloc: Global,

@@ -31,8 +31,8 @@ use std::alloc::Global;
 use vcd_read::{Front, Stopped, read_front};
 use vme_trace::{Lines, StepVisitor};
 
-/// Begins to make the recording of a body, with these bound groups or a fault of the binding, and says what the front
-/// of the text has of it.
+/// Begins to make the recording of a body, with these bound groups or a fault of the binding, and says what the prefix
+/// that was read has of it.
 fn begin_bound_groups<'a, F: StepVisitor>(
     alloc: Global,
     lines: &Lines,
@@ -81,7 +81,7 @@ fn visitor_of<F: StepVisitor>(stopped: Stopped<CaptureBuilder<F>>) -> Stopped<F>
 }
 
 impl Binding {
-    /// Begins to make the recording of a dump, by a front of its text that ends behind a space. Where the definitions
+    /// Begins to make the recording of a dump, by a prefix of its text that ends after a space. Where the definitions
     /// don't end in it, the visitor is handed back.
     pub fn begin_text<F: StepVisitor>(
         &self,
@@ -103,7 +103,7 @@ impl Binding {
         }
     }
 
-    /// The same, where nothing of the body is read: what the front has of it is told, and is the first piece. So a
+    /// The same, where nothing of the body is read: what the prefix has of it is the first piece. So a
     /// fault of the definitions is met here, and one of the body is met in a piece.
     pub fn begin_before_body<'a, F: StepVisitor>(
         &self,
@@ -139,7 +139,7 @@ impl Binding {
         }
     }
 
-    /// Begins to make the recording of the body behind some definitions, of whose variables this was found.
+    /// Begins to make the recording of the body after some definitions, of whose variables this was found.
     fn begin_body<'a, F: StepVisitor>(
         &self,
         alloc: Global,
@@ -187,7 +187,7 @@ impl<F: StepVisitor> TextPieces<F> {
         self.fault
     }
 
-    /// Takes the next piece of the text, which ends behind a space, or where the text does. With the first fault comes
+    /// Takes the next piece of the text, which ends after a space, or where the text does. With the first fault comes
     /// what took the steps of the instants that a later time before it follows.
     pub fn read_until_fault(self, alloc: Global, piece: &[u8]) -> Result<TextPieces<F>, Stopped<F>>
         ensures fault { IfOk result (λ text. (text_reached text).fault ≡ (text_reached self).fault) }
@@ -203,7 +203,7 @@ impl<F: StepVisitor> TextPieces<F> {
         }
     }
 
-    /// Takes the next piece of the text, which ends behind a space, or where the text does.
+    /// Takes the next piece of the text, which ends after a space, or where the text does.
     pub fn read(self, alloc: Global, piece: &[u8]) -> Result<TextPieces<F>, CaptureFault>
         ensures line { IfOk result (λ text. (text_reached text).body.line
             ≡ line_behind (text_reached self).body.line piece.now) }

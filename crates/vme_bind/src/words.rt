@@ -12,7 +12,7 @@ pub(crate) struct LineWords<'a> {
     rest: &'a [u8],
 }
 
-/// What stands before the first blank, and what behind it.
+/// What is before the first blank, and what after it.
 fn cut_at_blank(line: &[u8]) -> (&[u8], &[u8])
     ensures words { words line.now ≡ with_word result.0.now (words result.1.now) }
     ensures shorter { 0 < length line.now → length result.1.now < length line.now }

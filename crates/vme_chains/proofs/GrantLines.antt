@@ -27,7 +27,7 @@ exists_below slots l few h = grind (arith, nat_tests)
 one_more : (l k : ℕ) → l < k → l < k + 1
 one_more l k h = omega arith
 
--- no change stands before the least that may
+-- no change is before the least that may
 below_changes : (v : Levels) (lowest l : ℕ) (cs : List Change) → are_changes v lowest cs ≡ true → l < lowest
     → is_changed cs l ≡ false
 unfolding are_changes

@@ -12,9 +12,9 @@
 //!
 //! Over every recording, also where other rules are broken:
 //!
-//! - [`grant::grants_over_recordings`]: the first break is the least break of the nine rules of grants
-//!   and tenures (`first_break`). The marks are the tenures: an open one at the start, each start with
-//!   its level and slot, and each end (`marks`).
+//! - [`grant::grants_over_recordings`]: the first break is the least break of the nine rules of
+//!   grants and tenures (`first_break`). The marks are the tenures: an open one at the start, each
+//!   start with its level and slot, and each end (`marks`).
 //! - [`acknowledge::acknowledge_over_recordings`]: the first break is the least break of I1 to I3
 //!   (`first_break`), and there are no marks (`marks`).
 //!

@@ -1,4 +1,4 @@
--- The rules of the answers that a cycle admits, each by what the memory and the step show.
+-- The fault that the machine finds by C1, C2, I4 and I5 (docs/PROTOCOL.md) is the break of that rule.
 use Rattle.std.proofs.Common.{◌≡◌, ℕ, suc, ◌<◌, ◌≤◌, Bool, true, false, ◌&&◌, refl, sym, ◌∙◌, ap, Option, Some, None}
 use Rattle.std.proofs.Common.{cond}
 use Rattle.std.specs.Prelude.{option_map, is_some}
@@ -41,7 +41,7 @@ nowhere : (b : Bool) → let none : Option ℕ = None in none ≡ cond b none no
 nowhere true = refl
 nowhere false = refl
 
--- what an answer breaks by its direction
+-- whether there is an answer is tested outside instead
 by_direction : (f : Bool → Bool) (u w : Bool) (o : Option ℕ) → cond ((u && is_some o) && f (w && is_some o)) o None
     ≡ cond (f w) (cond u o None) None
 by_direction f true true None = nowhere (f true)
@@ -53,7 +53,7 @@ by_direction f true false (Some l) = refl
 by_direction f false true (Some l) = nowhere (f true)
 by_direction f false false (Some l) = nowhere (f false)
 
--- what the answer of a write breaks
+-- the same for the answer of a write
 by_write : (e : TransferPhase) (x : Bool) (o : Option ℕ) → cond ((is_writing e && is_some o) && x) o None
     ≡ cond (x && is_writing e) (cond (is_unanswered e) o None) None
 by_write Closed true o = refl
@@ -101,7 +101,7 @@ module _ (t : Trace) (span : Stretch) (reads : ReadsStrobes t span) (n : ℕ) (f
       ∙ ap (λ b. is_writing within && b) (some_of (falls_between (old t n) (new t n) DTACK)
       (falls_between (old t n) (new t n) BERR) DTACK BERR)
 
-  -- a rule of answers whose cycle the direction spoils
+  -- a rule that an answer breaks by the phase of its cycle and its own direction
   from_cycle : (r : Rule) (x : Bool) (f : CyclePhase → Bool → Bool)
       → ((l : ℕ) → breaks t span r (suc n) l ≡ (is_judged span (suc n) && has_line t.opening.slots l
       && (is_answer_line l && falls t l (suc n) && (is_answer t span (suc n) && x))))

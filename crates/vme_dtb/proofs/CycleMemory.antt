@@ -1,4 +1,4 @@
--- What the definitions say of the cycle that started last, as far as a memory tells it.
+-- The memory's phase of the cycle that started last is that of the definitions.
 use Rattle.std.proofs.Common.{◌≡◌, ℕ, suc, ◌+◌, ◌≤◌, Bool, true, false, ◌&&◌, ◌||◌, not, List, [], ◌∷◌, ◌++◌, refl, sym}
 use Rattle.std.proofs.Common.{◌∙◌, ap, arith, add-one, Option, Some, None, cond}
 use Rattle.std.specs.Option.{option_map_or}

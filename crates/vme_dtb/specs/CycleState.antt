@@ -40,17 +40,19 @@ is_read_modify_write_broken SingleRead w = not w
 is_read_modify_write_broken SingleDone w = true
 is_read_modify_write_broken c w = false
 
--- one more answer turns the direction of a block transfer
+-- one more answer changes the direction of a block transfer
 abbrev pub is_direction_changed : CyclePhase → Bool → Bool
 is_direction_changed BlockReading w = w
 is_direction_changed BlockWriting w = not w
 is_direction_changed c w = false
 
+-- the cycle is an interrupt acknowledge
 abbrev pub is_interrupt_acknowledge : CyclePhase → Bool
 is_interrupt_acknowledge Interrupt = true
 is_interrupt_acknowledge InterruptDone = true
 is_interrupt_acknowledge c = false
 
+-- the cycle is an interrupt acknowledge that was answered
 abbrev pub is_answered_interrupt_acknowledge : CyclePhase → Bool
 is_answered_interrupt_acknowledge InterruptDone = true
 is_answered_interrupt_acknowledge c = false

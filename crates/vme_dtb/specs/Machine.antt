@@ -32,7 +32,7 @@ abbrev pub is_replied : TransferPhase → Bool
 is_replied Answered = true
 is_replied e = false
 
--- a rule is broken on a line, if there is one, where it applies
+-- the fault that rule `r` is broken on `line`, if it applies and there is a line
 abbrev pub fault_if : Rule → Bool → Option ℕ → Option Fault
 fault_if r applies line = if applies then option_map (λ l. record { rule = r; line = l }) line else None
 
@@ -66,7 +66,7 @@ abbrev pub early_rise : HandshakeMemory → Edges → Option ℕ
 early_rise m s = first_of (s.dtack_rises && not (may_rise m.dtack_may_rise s)) DTACK
     (s.berr_rises && not (may_rise m.berr_may_rise s)) BERR
 
--- the first of some faults, behind an earlier one if there is one
+-- an earlier fault if there is one, or else the first of some faults
 abbrev pub or_first : Option Fault → List (Option Fault) → Option Fault
 or_first earlier [] = earlier
 or_first earlier (f ∷ fs) = or_first (option_or earlier f) fs

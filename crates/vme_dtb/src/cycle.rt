@@ -82,7 +82,7 @@ impl CyclePhase {
         }
     }
 
-    /// Whether one more answer turns the direction of a block transfer.
+    /// Whether one more answer changes the direction of a block transfer.
     pub(crate) fn is_direction_changed(self, write: bool) -> bool
         ensures { result ≡ is_direction_changed self write }
     {
@@ -107,7 +107,7 @@ impl CyclePhase {
         matches!(self, CyclePhase::InterruptDone)
     }
 
-    /// Where the value stands among all nine, from 0.
+    /// The number of the phase among all nine, from 0.
     pub(crate) fn place(self) -> usize
         ensures place { result ≡ cycle_place self }
         ensures below { result < 9 }
@@ -125,7 +125,7 @@ impl CyclePhase {
         }
     }
 
-    /// The value at a place, the last one past them.
+    /// The phase with this number, and the last one for numbers past them.
     pub(crate) fn nth(place: usize) -> CyclePhase
         ensures { result ≡ cycle_nth place }
     {

@@ -71,7 +71,7 @@ fn is_writing(transfer: TransferPhase) -> bool
     matches!(transfer, TransferPhase::Writing)
 }
 
-/// The fault that a rule is broken on a line, if there is one and the rule applies.
+/// The fault that `rule` is broken on `line`, if it applies and there is a line.
 fn fault_if(rule: Rule, applies: bool, line: Option<Line>) -> Option<Fault>
     ensures { result ≡ fault_if_on rule applies line }
 {

@@ -11,9 +11,9 @@
 //! # What is proved
 //!
 //! [`handshake::handshake_over_recordings`]: over every recording, also where other rules are
-//! broken, the monitor's first break is the least break of these twelve rules (`first_break`). Its marks are
-//! the starts and ends of cycles, and the starts, the answers with the data of a write, and the
-//! closes of transfers (`marks`).
+//! broken, the monitor's first break is the least break of these twelve rules (`first_break`). Its
+//! marks are the starts and ends of cycles, and the starts, the answers with the data of a write,
+//! and the closes of transfers (`marks`).
 //!
 //! # What isn't proved
 //!

@@ -20,7 +20,7 @@ pub struct HandshakeMemory {
     pub berr_may_rise: bool,
 }
 
-/// Where a state of the transfer stands among all four, from 0.
+/// The number of a transfer's phase among all four, from 0.
 fn transfer_phase_to_place(transfer: TransferPhase) -> usize
     ensures place { result ≡ transfer_phase_place transfer }
     ensures below { result < 4 }
@@ -33,7 +33,7 @@ fn transfer_phase_to_place(transfer: TransferPhase) -> usize
     }
 }
 
-/// The state at a place, the last one past them.
+/// The phase with this number, and the last one for numbers past them.
 fn transfer_phase_at(place: usize) -> TransferPhase
     ensures { result ≡ transfer_phase_nth place }
 {

@@ -145,7 +145,7 @@ module _ {P : Type 0} (next : P → Levels → Levels → List Change → Next P
       ≡ shown_apart (run_of next) count place nth o x + shown_by (run_of next) count place nth o x s
   shown_more x s o = shown_on [] x s o
 
-  -- a memory that some steps leave stands at a place that they leave
+  -- a memory that some steps leave is at a place that they leave
   left_at : (o : Levels) (x : List Step) (p q : P) → (run_of next q o x).leaving ≡ p → is_left (run_of next) count place
       nth o x (place p) ≡ true
   left_at o x p q leaves =

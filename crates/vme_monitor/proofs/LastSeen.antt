@@ -1,4 +1,4 @@
--- Memories with an entry of `last_seen` for each place, and that no two stand at one place.
+-- Memories with an entry of `last_seen` for each place, and that no two are at one place.
 use Rattle.std.proofs.Common.{◌≡◌, ◌≢◌, ◌⊎◌, ℕ, zero, suc, ◌<◌, ◌≤◌, List, [], ◌∷◌, ◌++◌, length, map, set, refl, ap}
 use Rattle.std.proofs.Common.{sym, ◌∙◌, subst, arith, inl, inr, ⊎_elim, get_or, Option, Some, None}
 use mathlib.Core.Logic.{dite}
@@ -101,7 +101,7 @@ module _ {P : Type 0} (place : P → ℕ) where
       new r n e at = other (same_value found stamp (sym there ∙ ap (λ n. slice_get last_seen n) (is ∙ sym at)
           ∙ stamped n r e))
 
-  -- a memory that is put behind the others, in the entry of its place
+  -- a memory that is put after the others, in the entry of its place
   pub seated_more : (ms : List P) (last_seen : List ℕ) (m : P) (k : ℕ) → k ≡ place m → k < length last_seen
       → ((i : ℕ) (p : P) → slice_get ms i ≡ Some p → place p ≢ k) → AreLastSeen place ms last_seen → AreLastSeen place
       (ms ++ m ∷ []) (set last_seen k (length ms))
@@ -178,7 +178,7 @@ two_memories {P} (x ∷ y ∷ []) a b len first second =
     ap (λ (r : TableRow P). r.memory ∷ y.memory ∷ []) one ∙ ap (λ (r : TableRow P). a.memory ∷ r.memory ∷ []) two
 two_memories (x ∷ y ∷ z ∷ rows) a b len first second = absurd (omega arith)
 
--- two rows of which one is more sensitive, or whose memories stand at different places
+-- two rows of which one is more sensitive, or whose memories are at different places
 pub two_rows_apart : {P : Type 0} (place sensitivity : P → ℕ) (nth : ℕ → P) → ((p : P) → nth (place p) ≡ p)
     → (rows : List (TableRow P)) (a b : TableRow P) → length rows ≡ 2 → a ≡ get_or rows 0 a → b ≡ get_or rows 1 b
     → (sensitivity a.memory ≢ sensitivity b.memory) ⊎ (place a.memory ≢ place b.memory) → AreDistinct place

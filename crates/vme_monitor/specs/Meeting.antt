@@ -25,7 +25,7 @@ marks_of layers rows = sum_by layer_marks layers + sum_by row_marks rows
 abbrev pub memories_in : {P : Type 0} → List (Outcome P) → List P
 memories_in rows = map (λ row. row.leaving) rows
 
--- no two memories stand at one place
+-- no two memories are at one place
 abbrev pub AreDistinct : {P : Type 0} → (P → ℕ) → List P → Type 0
 AreDistinct {P} place ms = (i j : ℕ) (p q : P) → slice_get ms i ≡ Some p → slice_get ms j ≡ Some q → place p ≡ place q
     → i ≡ j

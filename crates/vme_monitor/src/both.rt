@@ -143,7 +143,7 @@ fn put_among(alone: &[Mark], marks: Vec<Mark>) -> Result<Vec<Mark>, AllocError>
     Ok(all)
 }
 
-/// One mark put behind those of others that it doesn't come before.
+/// One mark put after those of others that it doesn't come before.
 fn put_behind(marks: Vec<Mark>, alone: &[Mark]) -> Result<Vec<Mark>, AllocError>
     requires { length alone.now ≡ 1 }
     ensures { IfOk result (λ v. v.items ≡ merged marks.items alone.now) }

@@ -260,7 +260,7 @@ impl<R: Rules> Machine for OverStretches<R> {
 pub type RuleMonitor<R> = TableMonitor<OverStretches<R>>;
 
 /// Over a whole recording, the first break is the least break of the rules, and the marks are what happens in the spans
-/// and at the resets that end them, for rules that meet what is owed of each span (`Judges`, `Shows`). Within a span
+/// and at the resets that end them, for rules of which this holds in each span (`Judges`, `Shows`). Within a span
 /// the memory is the inner machine's.
 pub fn rules_over_recordings<R: Rules>()
     ensures first_break { (t : Trace) (rules : List Rule) → malformed_step t ≡ None → t.opening.slots ≤ 21

@@ -51,7 +51,7 @@ one_more l k h = omega arith
 here_below : (k : ℕ) → k < k + 1
 here_below k = omega arith
 
--- no change stands before the least that may
+-- no change is before the least that may
 below_changes : (v : Levels) (lowest l : ℕ) (cs : List Change) → are_changes v lowest cs ≡ true → l < lowest
     → is_changed cs l ≡ false
 unfolding are_changes

@@ -33,7 +33,7 @@ module _ (v : Levels) where
   pub lacks_first : any (lacks v) 0 5 ≡ false
   lacks_first = fails-any (lacks v) 0 5 (λ l a b. outside l (λ x y. omega arith))
 
-  -- nor one behind the last
+  -- nor one after the last
   pub lacks_none : (n : ℕ) → 45 ≤ n → any (lacks v) 0 n ≡ false → unknown_need v ≡ None
   lacks_none n past h = least-none (lacks v) 0 line_count
       (fails-any (lacks v) 0 line_count (λ l a b. by_place l (below_or_not l n)))

@@ -12,8 +12,8 @@
 //! # What is proved
 //!
 //! [`stability::stability_over_recordings`]: over every recording, also where other rules are
-//! broken, the monitor's first break is the least break of these six rules (`first_break`), and it shows no
-//! marks (`marks`).
+//! broken, the monitor's first break is the least break of these six rules (`first_break`), and it
+//! shows no marks (`marks`).
 //!
 //! # What isn't proved
 //!

@@ -1,4 +1,4 @@
-//! Text as it is shown to people: no byte of it steers a terminal or turns the direction of a line.
+//! Escaping of bytes in text for people: no byte steers a terminal or turns the direction of a line.
 
 ghost use Rattle.std.specs.Prelude.{◌≡◌, ◌<◌, ◌++◌, IfOk, OnErr, OnOk, flat_map};
 ghost use Rattle.vme_text.specs.Escaping.{IsVisible, digit_of, hex_escaped_byte, hex_escaped_in_text};
@@ -6,8 +6,8 @@ ghost use Rattle.vme_text.specs.Escaping.{IsVisible, digit_of, hex_escaped_byte,
 use crate::text::Text;
 use std::alloc::{AllocError, Global};
 
-/// Appends some bytes as they are shown to people: each that isn't a space or a visible character of ASCII, 20 to 7E,
-/// is written as `\xHH`. Without memory the text is as before.
+/// Appends some bytes, escaped: each that isn't a printable character of ASCII, 20 to 7E, is written as `\xHH`. Without
+/// memory the text is as before.
 pub fn push_escaped(text: &mut Text, alloc: Global, bytes: &[u8]) -> Result<(), AllocError>
     ensures ok { OnOk result (text.new ≡ text.old ++ flat_map hex_escaped_byte bytes.now) }
     ensures err { OnErr result (text.new ≡ text.old) }
@@ -16,8 +16,8 @@ pub fn push_escaped(text: &mut Text, alloc: Global, bytes: &[u8]) -> Result<(), 
     text.push(&escaped)
 }
 
-/// A text of several lines as it is shown to people: its line feeds stay, and each other byte that isn't a space or a
-/// visible character of ASCII is written as `\xHH`. The only error is want of memory.
+/// A text of several lines, escaped: its line feeds stay, and each other byte that isn't a printable character of
+/// ASCII is written as `\xHH`. The only error is want of memory.
 #[tactic(auto, using(crate::proofs::EscapingLemmas::text_is_visible))]
 pub fn escaped_text(alloc: Global, bytes: &[u8]) -> Result<Text, AllocError>
     ensures items { IfOk result (λ text. text ≡ flat_map hex_escaped_in_text bytes.now) }
@@ -27,7 +27,7 @@ pub fn escaped_text(alloc: Global, bytes: &[u8]) -> Result<Text, AllocError>
     Ok(Text::from_bytes(escaped))
 }
 
-/// Some bytes as they are shown to people.
+/// Some bytes, escaped.
 fn escaped(alloc: Global, bytes: &[u8]) -> Result<Vec<u8>, AllocError>
     ensures { IfOk result (λ all. all.items ≡ flat_map hex_escaped_byte bytes.now) }
 {

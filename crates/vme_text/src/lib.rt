@@ -8,13 +8,13 @@
 //! # What is proved
 //!
 //! A text grows by exactly what was pushed (`ok`), and every call leaves it as it was where there
-//! is no memory (`err`). What isn't a visible character or a space is shown as `\xHH` (`ok` of
-//! `push_escaped`, `items`), but for the line feeds of a whole text, which then has nothing else
-//! (`visible`).
+//! is no memory (`err`). Bytes that aren't printable characters of ASCII are escaped as `\xHH` (`ok`
+//! of `push_escaped`, `items`). `escaped_text` keeps line feeds; its result has printable characters
+//! and line feeds alone (`visible`).
 //!
 //! # What isn't proved
 //!
-//! That memory suffices. What a text says is for its callers. Start reading at [`Text::push`].
+//! That memory suffices. Callers decide what a text says. Start reading at [`Text::push`].
 #![tactic(auto)]
 
 mod escaping;

@@ -141,7 +141,7 @@ lost-kept : (v : Levels) (cs : List Change) (l : ℕ) → is_reset v ≡ false �
 lost-kept v cs l r h k = rw (slots-kept v cs, level-kept v cs l k)
     (still_false (is_control v.slots l && not (is_known (level_at v l))) (is_reset v) (is_reset (changed v cs)) h r)
 
--- no change stands before the least that may
+-- no change is before the least that may
 below_changes : (v : Levels) (lowest l : ℕ) (cs : List Change) → are_changes v lowest cs ≡ true → l < lowest
     → is_changed cs l ≡ false
 unfolding are_changes

@@ -5,7 +5,7 @@ use Rattle.std.proofs.lemmas.Bool.Decides.{nat_tests}
 use Rattle.vme_trace.specs.Instants.{any, every, least}
 use Rattle.vme_trace.proofs.Ranges.{any-fails, any-step, clash, every-empty, fails-any, least-none}
 
--- so many are counted of a range up to a place
+-- `count` is counted of a range from `first` up to `number`
 abbrev pub AreCounted : (ℕ → Bool) → ℕ → ℕ → ℕ → Type 0
 AreCounted p first number count = (count + first ≤ number) × ((count + first == number) ≡ every p first number)
 

@@ -1,4 +1,4 @@
--- Each rule stands in the list of all rules, at its number: what holds of all in the list holds of each.
+-- Each rule is in the list of all rules, at its number: what holds of all in the list holds of each.
 use Rattle.std.proofs.Common.{◌≡◌, ℕ, zero, suc, Bool, true, false, ◌&&◌, refl, sym, ◌∙◌, ap}
 use Rattle.std.specs.Prelude.{List, [], ◌∷◌, Some, slice_get}
 use Rattle.std.specs.List.{list_all}

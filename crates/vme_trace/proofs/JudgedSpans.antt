@@ -1,4 +1,4 @@
--- The stretches of a recording that are judged: what is known of each, how they stand, and how they are found from
+-- The stretches of a recording that are judged: what is known of each, where they are, and how they are found from
 -- instant to instant.
 use Rattle.std.proofs.Common.{◌≡◌, ℕ, zero, suc, ◌+◌, ◌<◌, ◌≤◌, Bool, true, false, ◌&&◌, ◌||◌, not, List, [], ◌∷◌, ◌++◌}
 use Rattle.std.proofs.Common.{map, refl, sym, ◌∙◌, ap, arith, inl, inr, ◌⊎◌, cond, subst}
@@ -324,7 +324,7 @@ module _ (t : Trace) where
         | inr busy ↦ awaiting (awaits-next n w busy)
       ]
 
-  -- where an instant stands
+  -- where an instant is
   pub standing : (n : ℕ) → n ≤ last_instant t → Standing n
   standing zero within = standing_awaited zero within awaits-first
   standing (suc n) within =

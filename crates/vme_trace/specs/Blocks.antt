@@ -6,11 +6,11 @@ use Rattle.vme_trace.specs.Trace.{Trace, levels_at}
 use Rattle.vme_trace.specs.declared.block.Block.{Block}
 use Rattle.vme_trace.specs.declared.step.Step.{Step}
 
--- how many blocks of so many steps a recording fills: at least one, and the last with fewer steps if need be
+-- how many blocks of `size` steps a recording fills: at least one, and the last with fewer steps if need be
 abbrev pub block_count : ℕ → Trace → ℕ
 block_count size t = max 1 (div_ceil (length t.steps) size)
 
--- block k: the steps that follow k times so many, and the levels that those leave
+-- block `k`: the steps after the first `k * size`, and the levels that those leave
 abbrev pub block_at : ℕ → Trace → ℕ → Block
 block_at size t k = record { number = k; opening = levels_at t (k * size); steps = take size (drop (k * size) t.steps) }
 

@@ -6,7 +6,7 @@ use crate::lines::Lines;
 use crate::step::{Change, Step, Steps};
 use std::alloc::{AllocError, Global};
 
-/// The first step that may not stand where it stands, counted from 0.
+/// The first step that may not be where it is, counted from 0.
 #[derive(Clone, Copy, Debug, PartialEq, Eq)]
 pub struct Malformed {
     /// The number of the step, from 0.
@@ -40,7 +40,7 @@ fn are_changes_of(lines: &Lines, changes: &[Change]) -> bool
     true
 }
 
-/// Whether a step may stand after n others, which left these levels and this time.
+/// Whether a step may be after n others, which left these levels and this time.
 fn may_stand(lines: &Lines, n: usize, time: u64, step: &Step) -> bool
     ensures { result ≡ may_follow lines.now n time step.now }
 {

@@ -1,7 +1,7 @@
 //! Recordings of a VMEbus backplane (ANSI/IEEE Std 1014-1987): its lines, their levels over time,
 //! and what it is to break one of its rules.
 //!
-//! All definitions up to the verdict stand in the `specs/` of this crate. Each speaks of the
+//! All definitions up to the verdict are in the `specs/` of this crate. Each speaks of the
 //! instants of a recording: instant 0 is its opening, instant i its i-th step. What the product
 //! says of a recording is proved against them.
 //!

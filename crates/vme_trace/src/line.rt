@@ -32,7 +32,7 @@ pub const LINE_COUNT: u8 = 192;
 /// How many slots a backplane has at most.
 pub const MOST_SLOTS: u8 = 21;
 
-/// How many nets the daisy chain of a grant level has at most: one before each slot, and one behind the last.
+/// How many nets the daisy chain of a grant level has at most: one before each slot, and one after the last.
 pub const CHAIN_NETS: u8 = MOST_SLOTS + 1;
 
 /// The number of the first grant net: those of a level follow one another, and the levels too.
@@ -229,7 +229,7 @@ impl Line {
         }
     }
 
-    /// The name of a line behind the bus requests: of a net, a data line or SYSRESET.
+    /// The name of a line that comes after the bus requests in the order of lines: of a net, a data line or SYSRESET.
     fn net_name(self) -> Name
         requires { grant 0 0 ≤ self }
         ensures { result ≡ line_name self }

@@ -15,8 +15,8 @@ pub trait Source {
     /// room for, and how many failed.
     ghost reading: { Self → Reading };
 
-    /// Reads some of the next bytes into the front of `buffer`, and says how many: none only at the end, or where
-    /// `buffer` is empty. A read that fails gives no byte, and the next read goes on where it stood.
+    /// Reads some of the next bytes into the start of `buffer`, and says how many: none only at the end, or where
+    /// `buffer` is empty. A read that fails gives no byte, and the next read goes on where it was.
     fn read(&mut self, buffer: &mut [u8]) -> Result<usize, Failed>
         ensures bound { ReadsAtMost result buffer.new }
         ensures bytes { ReadConsumes (reading self.old).left (reading self.new).left result buffer.new }

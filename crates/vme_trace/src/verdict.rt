@@ -4,7 +4,7 @@ use crate::rule::Rule;
 /// A rule that is broken: when, and on which line.
 #[derive(Clone, Copy, Debug, PartialEq, Eq)]
 pub struct Break {
-    /// At which instant: 0 is the opening, and i the step before which i - 1 others stand.
+    /// The instant of the break: 0 is the opening, and i the i-th step.
     pub instant: u32,
     /// The time of that instant, in the unit of the recording.
     pub time: u64,
