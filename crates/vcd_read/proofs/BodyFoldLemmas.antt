@@ -77,7 +77,7 @@ module _ {A : Type 0} (with_change : A → ℕ → List Bit → A) (with_instant
     (with_instant a time)) where
   -- the state of the fold where the reading has come this far
   abbrev fold_at : DumpProgress → A → BodyFold A
-  fold_at p a = record { taken = a; time = p.time; has_instant = p.has_instant }
+  fold_at p a = record { accumulator = a; time = p.time; has_instant = p.has_instant }
 
   abbrev state_at : Whole → A → State A
   state_at s a = record { context = s.context; progress = fold_at s.progress a }
@@ -92,8 +92,8 @@ module _ {A : Type 0} (with_change : A → ℕ → List Bit → A) (with_instant
   on_time : (test : Bool) (p : DumpProgress) (a : A) (t : ℕ) → R p.done p.current a
       → Keeps (cond test (record (flushed p) { time = t; has_instant = true })
       (record p { time = t; has_instant = true }))
-      (cond test (record { taken = with_instant a p.time; time = t; has_instant = true })
-      (record { taken = a; time = t; has_instant = true }))
+      (cond test (record { accumulator = with_instant a p.time; time = t; has_instant = true })
+      (record { accumulator = a; time = t; has_instant = true }))
   on_time true p a t r = (with_instant a p.time, refl, on_instant p.done p.current a p.time r)
   on_time false p a t r = (a, refl, r)
 

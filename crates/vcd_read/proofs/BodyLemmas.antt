@@ -86,7 +86,7 @@ comment_more line before ts t cut e = ap (body_from (in_comment line)) cut ∙ c
 -- what reading gives stays as it was, or it stops
 abbrev LeavesOne : {A X : Type 0} → UntilFault A → UntilFault A → BodyFold A → Result X VcdFault → Type 0
 LeavesOne before after timed (Ok _) = before ≡ after
-LeavesOne before after timed (Err fault) = Stops fault timed.taken timed.time before
+LeavesOne before after timed (Err fault) = Stops fault timed.accumulator timed.time before
 
 pub stops_same : {A : Type 0} (fault : VcdFault) (taken : A) (time : ℕ) (a b : UntilFault A) → a ≡ b
     → Stops fault taken time b → Stops fault taken time a
@@ -104,7 +104,7 @@ stopped_fails line kind taken time before read h = h.0
 -- the same for each text that goes on
 leaves_each : {A X : Type 0} (before after : List Token → UntilFault A) (timed : BodyFold A) (r : Result X VcdFault)
     → ((more : List Token) → LeavesOne (before more) (after more) timed r)
-    → BodyContinuesAs before after timed.taken timed.time r
+    → BodyContinuesAs before after timed.accumulator timed.time r
 leaves_each before after timed (Ok x) h = h
 leaves_each before after timed (Err fault) h = h
 
@@ -193,20 +193,20 @@ module _ {A : Type 0} (with_change : A → ℕ → List Bit → A) (with_instant
       ≡ record { outcome = Err (record { line = line; kind = kind }); reached = s }
       → timed ≡ s.progress
       → (steps with_change with_instant nets s items ≡ Err (record { line = line; kind = kind }))
-      × (timed.taken ≡ (reached_before with_change with_instant nets s items).progress.taken)
+      × (timed.accumulator ≡ (reached_before with_change with_instant nets s items).progress.accumulator)
       × (timed.time ≡ (reached_before with_change with_instant nets s items).progress.time)
   stops_at nets s items line kind timed e kept =
       let same : timed ≡ (reached_before with_change with_instant nets s items).progress =
       kept ∙ sym (ap (λ (read : UntilFault A). read.reached.progress) e) in (
         outcome_same _ _ e,
-        ap (λ (p : BodyFold A). p.taken) same,
+        ap (λ (p : BodyFold A). p.accumulator) same,
         ap (λ (p : BodyFold A). p.time) same,
       )
 
   fails_more : (nets : List Net) (s : State A) (item : BodyItem) (items : List BodyItem) (line : ℕ) (kind : FaultKind)
       (timed : BodyFold A) → ReadFailsAs line kind (step with_change with_instant nets s item)
       → KeepsAs kind s.progress timed
-      → StoppedAs line kind timed.taken timed.time
+      → StoppedAs line kind timed.accumulator timed.time
       (reached_before with_change with_instant nets s (item ∷ items)).progress
       (steps with_change with_instant nets s (item ∷ items))
   fails_more nets s item items line Memory timed h kept = h
@@ -231,7 +231,7 @@ module _ {A : Type 0} (with_change : A → ℕ → List Bit → A) (with_instant
       → KeepsTaken s.progress s2.progress r
       → BodyContinuesAs (λ more. until_fault with_change with_instant nets s (before more))
       (λ more. until_fault with_change with_instant nets2 s2 (body_from (place_of place) (left_at text2 at2 ++ more)))
-      s2.progress.taken s2.progress.time r
+      s2.progress.accumulator s2.progress.time r
   read_item nets nets2 s s2 text text2 at at2 place item before r n t a p is h kept =
       leaves_each (λ more. until_fault with_change with_instant nets s (before more))
       (λ more. until_fault with_change with_instant nets2 s2 (body_from (place_of place) (left_at text2 at2 ++ more)))
@@ -252,11 +252,12 @@ module _ {A : Type 0} (with_change : A → ℕ → List Bit → A) (with_instant
       → BodyContinuesAs (λ more. until_fault with_change with_instant nets (state_of text timed dump_section)
       (before more))
       (λ more. until_fault with_change with_instant nets2 (state_of text2 timed2 dump_section2)
-      (body_from ready (left_at text2 after ++ more))) timed2.taken timed2.time r
+      (body_from ready (left_at text2 after ++ more))) timed2.accumulator timed2.time r
   read_on nets nets2 timed timed2 dump_section dump_section2 text text2 after item before r n t is h kept =
       subst (λ (p : BodyPiece). BodyContinuesAs (λ more. until_fault with_change with_instant nets
       (state_of text timed dump_section) (before more)) (λ more. until_fault with_change with_instant nets2
-      (state_of p timed2 dump_section2) (body_from ready (left_at p after ++ more))) timed2.taken timed2.time r) (sym t)
+      (state_of p timed2 dump_section2) (body_from ready (left_at p after ++ more))) timed2.accumulator timed2.time r)
+      (sym t)
       (read_item nets nets2 (state_of text timed dump_section) (state_of text timed2 dump_section2) text text after
       after Ready
       item before r n refl refl refl is h kept)
@@ -265,7 +266,7 @@ module _ {A : Type 0} (with_change : A → ℕ → List Bit → A) (with_instant
   pub read_wrong : (nets : List Net) (s : State A) (line : ℕ) (kind : FaultKind) (before after : List BodyItem) → before
       ≡ wrong line kind ∷ after
       → (steps with_change with_instant nets s before ≡ Err (record { line = line; kind = kind }))
-      × (s.progress.taken ≡ (reached_before with_change with_instant nets s before).progress.taken)
+      × (s.progress.accumulator ≡ (reached_before with_change with_instant nets s before).progress.accumulator)
       × (s.progress.time ≡ (reached_before with_change with_instant nets s before).progress.time)
   read_wrong nets s line kind before after e =
       rw e (stops_at nets s (wrong line kind ∷ after) line kind s.progress

@@ -87,18 +87,19 @@ module _ {A : Type 0} (with_change : A → ℕ → List Bit → A) (with_instant
   -- items
   module _ (R : A → Type 0) (on_change : (a : A) (net : ℕ) (bits : List Bit) → R a → R (with_change a net bits))
       (on_instant : (a : A) (time : ℕ) → R a → R (with_instant a time)) where
-    advanced-keeps : (p : BodyFold A) (time : ℕ) (test : Bool) → R p.taken
-        → R (cond test (record { taken = with_instant p.taken p.time; time = time; has_instant = true })
-        (record p { time = time; has_instant = true })).taken
-    advanced-keeps p time true r = on_instant p.taken p.time r
+    advanced-keeps : (p : BodyFold A) (time : ℕ) (test : Bool) → R p.accumulator
+        → R (cond test (record { accumulator = with_instant p.accumulator p.time; time = time; has_instant = true })
+        (record p { time = time; has_instant = true })).accumulator
+    advanced-keeps p time true r = on_instant p.accumulator p.time r
     advanced-keeps p time false r = r
 
-    item-keeps : (p : BodyFold A) (item : BodyItem) → R p.taken → R (progress_after with_change with_instant nets p
-        item).taken
+    item-keeps : (p : BodyFold A) (item : BodyItem) → R p.accumulator
+        → R (progress_after with_change with_instant nets p
+        item).accumulator
     item-keeps p (time_item line digits) r = advanced-keeps p (number digits)
         (p.has_instant && not (number digits == p.time))
         r
-    item-keeps p (change line digits code) r = on_change p.taken (unwrap_or (net_of nets code) 0)
+    item-keeps p (change line digits code) r = on_change p.accumulator (unwrap_or (net_of nets code) 0)
         (extended (size_of nets (unwrap_or (net_of nets code) 0)) digits) r
     item-keeps p (skipped line code) r = r
     item-keeps p (dump_section_open line) r = r
@@ -106,20 +107,22 @@ module _ {A : Type 0} (with_change : A → ℕ → List Bit → A) (with_instant
     item-keeps p (wrong line kind) r = r
 
     then-keeps : (items : List BodyItem) (p : BodyFold A) (stood : Result BodyContext VcdFault) (end : State A)
-        → ((next : State A) → R next.progress.taken → steps with_change with_instant nets next items ≡ Ok end
-        → R end.progress.taken)
-        → R p.taken → ((stood >>= λ next. Ok (record { context = next; progress = p })) >>= λ next. steps with_change
-        with_instant nets next items) ≡ Ok end → R end.progress.taken
+        → ((next : State A) → R next.progress.accumulator → steps with_change with_instant nets next items ≡ Ok end
+        → R end.progress.accumulator)
+        → R p.accumulator → ((stood >>= λ next. Ok (record { context = next; progress = p })) >>= λ next. steps
+        with_change
+        with_instant nets next items) ≡ Ok end → R end.progress.accumulator
     then-keeps items p (Ok next) end rest r is = rest (record { context = next; progress = p }) r is
     then-keeps items p (Err fault) end rest r is = absurd cc
 
     same_end : (s end : State A) (r : Read) → r ≡ Ok s → r ≡ Ok end → s ≡ end
     same_end s end r e is = cc
 
-    pub steps-keep : (s : State A) (items : List BodyItem) (end : State A) → R s.progress.taken → steps with_change
-        with_instant nets s items ≡ Ok end → R end.progress.taken
+    pub steps-keep : (s : State A) (items : List BodyItem) (end : State A) → R s.progress.accumulator
+        → steps with_change
+        with_instant nets s items ≡ Ok end → R end.progress.accumulator
     unfolding steps
-    steps-keep s [] end r is = subst (λ (x : State A). R x.progress.taken) (same_end s end (Ok s) refl is) r
+    steps-keep s [] end r is = subst (λ (x : State A). R x.progress.accumulator) (same_end s end (Ok s) refl is) r
     steps-keep s (item ∷ items) end r is =
         then-keeps items (progress_after with_change with_instant nets s.progress item)
         (context_after nets s.context item) end (λ next kept. steps-keep next items end kept)
@@ -128,7 +131,7 @@ module _ {A : Type 0} (with_change : A → ℕ → List Bit → A) (with_instant
     -- what is so of what was taken before a piece is so after it
     pub kept-detached : (bytes : List ℕ) (before : A) (detached : ReadDetached A)
         → IsReadDetached with_change with_instant nets
-        bytes before detached → R before → R detached.progress.taken
+        bytes before detached → R before → R detached.progress.accumulator
     kept-detached bytes before detached is r = steps-keep (before_piece before detached.time)
         (detached_items detached.first_line bytes) (state_at detached.progress detached.dump_section) r is.whole
 
@@ -251,18 +254,23 @@ module _ {A B : Type 0} (with_change : A → ℕ → List Bit → A) (with_insta
     bits)
     (on_instant : (a : A) (time : ℕ) → learned (with_instant a time) ≡ other_instant (learned a) time) where
   abbrev pub learned_fold : BodyFold A → BodyFold B
-  learned_fold p = record { taken = learned p.taken; time = p.time; has_instant = p.has_instant }
+  learned_fold p = record { accumulator = learned p.accumulator; time = p.time; has_instant = p.has_instant }
 
   abbrev pub learned_state : State A → State B
   learned_state s = record { context = s.context; progress = learned_fold s.progress }
 
   time-learned : (p : BodyFold A) (time : ℕ) (test : Bool)
-      → cond test (record { taken = other_instant (learned p.taken) p.time; time = time; has_instant = true })
-      (record { taken = learned p.taken; time = time; has_instant = true })
-      ≡ learned_fold (cond test (record { taken = with_instant p.taken p.time; time = time; has_instant = true })
+      → cond test (record {
+        accumulator = other_instant (learned p.accumulator) p.time;
+        time = time;
+        has_instant = true;
+      })
+      (record { accumulator = learned p.accumulator; time = time; has_instant = true })
+      ≡ learned_fold
+      (cond test (record { accumulator = with_instant p.accumulator p.time; time = time; has_instant = true })
       (record p { time = time; has_instant = true }))
-  time-learned p time true = ap (λ (b : B). record { taken = b; time = time; has_instant = true })
-      (sym (on_instant p.taken p.time))
+  time-learned p time true = ap (λ (b : B). record { accumulator = b; time = time; has_instant = true })
+      (sym (on_instant p.accumulator p.time))
   time-learned p time false = refl
 
   module _ (nets : List Net) where
@@ -271,8 +279,8 @@ module _ {A B : Type 0} (with_change : A → ℕ → List Bit → A) (with_insta
     item-learned p (time_item line digits) = time-learned p (number digits)
         (p.has_instant && not (number digits == p.time))
     item-learned p (change line digits code) =
-        ap (λ (b : B). record { taken = b; time = p.time; has_instant = true })
-        (sym (on_change p.taken (unwrap_or (net_of nets code) 0)
+        ap (λ (b : B). record { accumulator = b; time = p.time; has_instant = true })
+        (sym (on_change p.accumulator (unwrap_or (net_of nets code) 0)
         (extended (size_of nets (unwrap_or (net_of nets code) 0)) digits)))
     item-learned p (skipped line code) = refl
     item-learned p (dump_section_open line) = refl
@@ -334,10 +342,10 @@ module _ {A B : Type 0} (with_change : A → ℕ → List Bit → A) (with_insta
         (context_after nets s.context item) (λ s2. reached-learned s2 items)
 
     entered-by : (p : BodyFold B) (time : ℕ) (test : Bool)
-        → cond test (record { taken = other_instant p.taken p.time; time = time; has_instant = true })
+        → cond test (record { accumulator = other_instant p.accumulator p.time; time = time; has_instant = true })
         (record p { time = time; has_instant = true })
         ≡ record {
-          taken = entered other_instant p.taken (cond test (Some p.time) None);
+          accumulator = entered other_instant p.accumulator (cond test (Some p.time) None);
           time = time;
           has_instant = true;
         }
@@ -350,7 +358,7 @@ module _ {A B : Type 0} (with_change : A → ℕ → List Bit → A) (with_insta
     -- items that begin with a time tell the same, from an earlier time on
     first-learned : (items : List BodyItem) (before : A) (time : ℕ) (end : State A) (p : BodyFold B) → time_first items
         ≡ Some time → steps with_change with_instant nets (before_piece before time) items ≡ Ok end
-        → p.time ≤ time → learned before ≡ entered other_instant p.taken (ended_at p time)
+        → p.time ≤ time → learned before ≡ entered other_instant p.accumulator (ended_at p time)
         → steps other_change other_instant nets (state_at p None) items ≡ Ok (learned_state end)
     first-learned [] before time end p first whole low told = absurd cc
     first-learned (time_item line digits ∷ items) before time end p first whole low told =
@@ -361,16 +369,17 @@ module _ {A B : Type 0} (with_change : A → ℕ → List Bit → A) (with_insta
         let behind : State A = record {
           context = record { now = n; dump_section = None };
           progress = record
-              { taken = before; time = n; has_instant = true };
+              { accumulator = before; time = n; has_instant = true };
         } in
         let own : steps with_change with_instant nets behind items
         ≡ Ok end = sym (time-step with_change with_instant nets (before_piece before time) line n digits items is
         (omega (arith, same))) ∙ whole in
-        let told2 : learned before ≡ entered other_instant p.taken (ended_at p n) = subst (λ (t : ℕ). learned before
-        ≡ entered other_instant p.taken (ended_at p t)) (sym same) told in
+        let told2 : learned before ≡ entered other_instant p.accumulator (ended_at p n) = subst
+        (λ (t : ℕ). learned before
+        ≡ entered other_instant p.accumulator (ended_at p t)) (sym same) told in
         let there : advanced other_instant p n ≡ learned_fold behind.progress =
         entered-by p n (p.has_instant && not (n == p.time))
-        ∙ ap (λ (b : B). record { taken = b; time = n; has_instant = true })
+        ∙ ap (λ (b : B). record { accumulator = b; time = n; has_instant = true })
         (sym told2) in
         time-step other_change other_instant nets (state_at p None) line n digits items is (omega (arith, same, low))
         ∙ ap (λ (q : BodyFold B). steps other_change other_instant nets
@@ -383,9 +392,10 @@ module _ {A B : Type 0} (with_change : A → ℕ → List Bit → A) (with_insta
   pub joined-leads : (r : Reached B) (bytes : List ℕ) (before : A) (detached : ReadDetached A)
       → IsReadDetached with_change
       with_instant r.nets bytes before detached → MayFollow r detached
-      → learned before ≡ entered other_instant r.progress.taken (ended_at r.progress detached.time)
+      → learned before ≡ entered other_instant r.progress.accumulator (ended_at r.progress detached.time)
       → (more : List Token) → rest_of other_change other_instant r (tokens_from r.line bytes) more
-      ≡ rest_of other_change other_instant (with_taken (learned detached.progress.taken) (behind_piece r.nets detached))
+      ≡ rest_of other_change other_instant (with_taken (learned detached.progress.accumulator)
+      (behind_piece r.nets detached))
       []
       more
   joined-leads r bytes before detached is fits told more =

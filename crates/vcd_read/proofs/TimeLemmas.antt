@@ -17,7 +17,7 @@ module _ {A : Type 0} (with_change : A → ℕ → List Bit → A) (with_instant
   time_in p = p.time
 
   at_time : (test : Bool) (p : BodyFold A) (t : ℕ) → time_in (cond test
-      (record { taken = with_instant p.taken p.time; time = t; has_instant = true })
+      (record { accumulator = with_instant p.accumulator p.time; time = t; has_instant = true })
       (record p { time = t; has_instant = true }))
       ≡ t
   at_time true p t = refl

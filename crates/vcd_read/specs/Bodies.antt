@@ -76,7 +76,7 @@ module _ {A : Type 0} (with_change : A → ℕ → List Bit → A) (with_instant
 abbrev pub StoppedAs : {A Y : Type 0} → ℕ → FaultKind → A → ℕ → BodyFold A → Result Y VcdFault → Type 0
 StoppedAs line Memory taken time before read = line ≡ 0
 StoppedAs line kind taken time before read =
-    (read ≡ Err (record { line = line; kind = kind })) × (taken ≡ before.taken) × (time ≡ before.time)
+    (read ≡ Err (record { line = line; kind = kind })) × (taken ≡ before.accumulator) × (time ≡ before.time)
 
 abbrev pub Stops : {A : Type 0} → VcdFault → A → ℕ → UntilFault A → Type 0
 Stops fault taken time read = StoppedAs fault.line fault.kind taken time read.reached.progress read.outcome

@@ -14,13 +14,13 @@ use Rattle.vcd_read.specs.Body.{BodyItem, time_item, change, BodyContext, contex
 
 -- the accumulator, with the current time
 pub record BodyFold (A : Type 0) : Type 0 where
-  pub taken : A
+  pub accumulator : A
   pub time : ℕ
   -- whether there is an instant at the current time
   pub has_instant : Bool
 
 abbrev pub body_fold : {A : Type 0} → A → Clock → BodyFold A
-body_fold a clock = record { taken = a; time = clock.time; has_instant = clock.has_instant }
+body_fold a clock = record { accumulator = a; time = clock.time; has_instant = clock.has_instant }
 
 pub record State (A : Type 0) : Type 0 where
   pub context : BodyContext
@@ -41,7 +41,7 @@ state_of text timed dump_section = state_at timed (option_map (line_of text) dum
 abbrev pub at_first : {A : Type 0} → A → State A
 at_first a = record {
   context = record { now = 0; dump_section = None };
-  progress = record { taken = a; time = 0; has_instant = false };
+  progress = record { accumulator = a; time = 0; has_instant = false };
 }
 
 -- the end of an instant
@@ -49,21 +49,21 @@ module _ {A : Type 0} (with_instant : A → ℕ → A) where
   abbrev pub advanced : BodyFold A → ℕ → BodyFold A
   advanced p t =
       if p.has_instant && not (t == p.time) then record {
-        taken = with_instant p.taken p.time;
+        accumulator = with_instant p.accumulator p.time;
         time = t;
         has_instant = true;
       }
       else record p { time = t; has_instant = true }
 
   abbrev pub ended : BodyFold A → A
-  ended p = if p.has_instant then with_instant p.taken p.time else p.taken
+  ended p = if p.has_instant then with_instant p.accumulator p.time else p.accumulator
 
   -- what comes of a body that is read to its end
   abbrev pub at_end : State A → Result A VcdFault
   at_end s = at_the_end s.context >>= λ stood. Ok (ended s.progress)
 
 abbrev pub changed : {A : Type 0} → (A → ℕ → List Bit → A) → BodyFold A → ℕ → List Bit → BodyFold A
-changed with_change p net bits = record p { taken = with_change p.taken net bits; has_instant = true }
+changed with_change p net bits = record p { accumulator = with_change p.accumulator net bits; has_instant = true }
 
 module _ {A : Type 0} (with_change : A → ℕ → List Bit → A) (with_instant : A → ℕ → A) (nets : List Net) where
   abbrev pub progress_after : BodyFold A → BodyItem → BodyFold A

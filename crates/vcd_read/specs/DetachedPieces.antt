@@ -42,7 +42,7 @@ time_first (item ∷ items) = None
 
 -- before a piece: no dump section, and no instant at the time that it begins with
 abbrev pub before_piece : {A : Type 0} → A → ℕ → State A
-before_piece before time = state_at (record { taken = before; time = time; has_instant = false }) None
+before_piece before time = state_at (record { accumulator = before; time = time; has_instant = false }) None
 
 -- the items of a piece that begins on this line, between two items
 abbrev pub detached_items : ℕ → List ℕ → List BodyItem
@@ -90,7 +90,7 @@ abbrev pub with_taken : {A B : Type 0} → B → Reached A → Reached B
 with_taken b r =
     record {
       nets = r.nets;
-      progress = record { taken = b; time = r.progress.time; has_instant = r.progress.has_instant };
+      progress = record { accumulator = b; time = r.progress.time; has_instant = r.progress.has_instant };
       dump_section = r.dump_section;
       place = r.place;
       line = r.line;
@@ -102,7 +102,7 @@ detached_with b a =
     record {
       time = a.time;
       first_line = a.first_line;
-      progress = record { taken = b; time = a.progress.time; has_instant = a.progress.has_instant };
+      progress = record { accumulator = b; time = a.progress.time; has_instant = a.progress.has_instant };
       dump_section = a.dump_section;
       line = a.line;
     }

@@ -55,7 +55,7 @@ impl<T: ChangeVisitor> DetachedPiece<T> {
     pub fn with_visitor<N: ChangeVisitor>(self, visitor: N) -> (DetachedPiece<N>, T)
         ensures detached { read_detached N.taken result.0
             ≡ detached_with (N.taken visitor) (read_detached T.taken self) }
-        ensures visitor { T.taken result.1 ≡ (read_detached T.taken self).progress.taken }
+        ensures visitor { T.taken result.1 ≡ (read_detached T.taken self).progress.accumulator }
     {
         let DetachedPiece {
             time,
@@ -171,7 +171,7 @@ impl<T: ChangeVisitor> Pieces<T> {
         requires { MayFollow (reached T.taken self) (read_detached N.taken detached) }
         ensures behind { reached N.taken result.0
             ≡ behind_piece (reached T.taken self).nets (read_detached N.taken detached) }
-        ensures visitor { T.taken result.1 ≡ (reached T.taken self).progress.taken }
+        ensures visitor { T.taken result.1 ≡ (reached T.taken self).progress.accumulator }
     {
         let Pieces {
             codes,
@@ -198,7 +198,7 @@ impl<T: ChangeVisitor> Pieces<T> {
     /// Goes on with another visitor. The one before is handed back.
     pub fn with_visitor<N: ChangeVisitor>(self, visitor: N) -> (Pieces<N>, T)
         ensures pieces { reached N.taken result.0 ≡ with_taken (N.taken visitor) (reached T.taken self) }
-        ensures visitor { T.taken result.1 ≡ (reached T.taken self).progress.taken }
+        ensures visitor { T.taken result.1 ≡ (reached T.taken self).progress.accumulator }
     {
         let Pieces { codes, state, line } = self;
         let BodyState {
@@ -221,7 +221,7 @@ impl<T: ChangeVisitor> Pieces<T> {
 
     /// What takes the changes.
     pub fn visitor(&self) -> &T
-        ensures { T.taken result.now ≡ (reached T.taken self.now).progress.taken }
+        ensures { T.taken result.now ≡ (reached T.taken self.now).progress.accumulator }
     {
         &self.state.timed.visitor
     }

@@ -100,7 +100,7 @@ impl<'a> Front<'a> {
     pub fn before_body<T: ChangeVisitor>(self, visitor: T) -> (Pieces<T>, &'a [u8])
         ensures nets { (reached T.taken result.0).nets ≡ self.entry.head.nets }
         ensures progress { (reached T.taken result.0).progress
-            ≡ record { taken = T.taken visitor; time = 0; has_instant = false } }
+            ≡ record { accumulator = T.taken visitor; time = 0; has_instant = false } }
         ensures dump_section { (reached T.taken result.0).dump_section ≡ None }
         ensures place { (reached T.taken result.0).place ≡ ready }
         ensures body { tokens_from (reached T.taken result.0).line result.1.now ≡ self.entry.head.body }

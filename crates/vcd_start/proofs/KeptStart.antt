@@ -17,13 +17,14 @@ use Rattle.vcd_start.specs.Taken.{StartComesTo, or_time, unchanged}
 
 module _ (nets : List Net) (time : ℕ) where
   abbrev HasTime : BodyFold (Option ℕ) → Type 0
-  HasTime p = p.taken ≡ Some time
+  HasTime p = p.accumulator ≡ Some time
 
   advanced_has : (p : BodyFold (Option ℕ)) (t : ℕ) → HasTime p → HasTime (advanced or_time p t)
   advanced_has p t h = by_case (p.has_instant && not (t == p.time))
     where
       by_case : (b : Bool)
-          → HasTime (if b then record { taken = or_time p.taken p.time; time = t; has_instant = true } else record p
+          → HasTime (if b then record { accumulator = or_time p.accumulator p.time; time = t; has_instant = true }
+          else record p
           { time = t; has_instant = true })
       by_case true = ap (λ (s : Option ℕ). or_time s p.time) h
       by_case false = h
@@ -63,7 +64,7 @@ module _ (nets : List Net) (time : ℕ) where
   ended_is : (p : BodyFold (Option ℕ)) → HasTime p → ended or_time p ≡ Some time
   ended_is p h = by_case p.has_instant
     where
-      by_case : (b : Bool) → (if b then or_time p.taken p.time else p.taken) ≡ Some time
+      by_case : (b : Bool) → (if b then or_time p.accumulator p.time else p.accumulator) ≡ Some time
       by_case true = ap (λ (s : Option ℕ). or_time s p.time) h
       by_case false = h
 
@@ -74,7 +75,7 @@ module _ (nets : List Net) (time : ℕ) where
   end_is s start (Err fault) h is = absurd (cc)
 
 -- what is known of a first time where reading has come so far is so
-pub kept-start : (r : Reached (Option ℕ)) (time : ℕ) → r.progress.taken ≡ Some time → (more : List Token)
+pub kept-start : (r : Reached (Option ℕ)) (time : ℕ) → r.progress.accumulator ≡ Some time → (more : List Token)
     (dump : Contents) → StartComesTo r more dump → start_of dump ≡ Some time
 kept-start r time has more dump comes =
     by_steps (steps unchanged or_time r.nets (state_at r.progress r.dump_section) (body_from r.place more)) refl comes

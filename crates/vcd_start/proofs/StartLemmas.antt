@@ -133,11 +133,12 @@ module _ (text : List ℕ) (ts : List Token) (same : tokens text ≡ ts) where
 
 -- nothing of it is read
 module _ (r : Reached (Option ℕ)) (head : Headed) (nets : r.nets ≡ head.nets)
-    (progress : r.progress ≡ record { taken = None; time = 0; has_instant = false }) (dump_section : r.dump_section
+    (progress : r.progress ≡ record { accumulator = None; time = 0; has_instant = false })
+    (dump_section : r.dump_section
     ≡ None)
     (place : r.place ≡ ready) where
   abbrev none_read : BodyFold (Option ℕ)
-  none_read = record { taken = None; time = 0; has_instant = false }
+  none_read = record { accumulator = None; time = 0; has_instant = false }
 
   abbrev come_from : List Token → List Net → BodyFold (Option ℕ) → Option ℕ → BodyPlace → Result (Option ℕ) VcdFault
   come_from more n p b l = ahead unchanged or_time n p b l head.body more >>= at_end or_time

@@ -186,7 +186,7 @@ module _ (nets : List Net) (bytes : List ℕ) (e : SpeculativeBuilderState) (a :
 
   -- what is made of it
   pub made-read : IsReadDetached builder_change builder_instant nets bytes e.made
-      (detached_with a.progress.taken.made a)
+      (detached_with a.progress.accumulator.made a)
   made-read = record {
     begins = is.begins;
     whole =
@@ -202,7 +202,7 @@ module _ (nets : List Net) (bytes : List ℕ) (e : SpeculativeBuilderState) (a :
 
   -- the lines of which it tells a level are the backplane's
   pub assigned-lines : (slots : ℕ) → ((net : ℕ) → AreLines slots (line_bits_of e.made.line_bits net)) → e.assigned
-      ≡ none_assigned → (l : ℕ) → is_assigned a.progress.taken.assigned l ≡ true → IsLine slots l
+      ≡ none_assigned → (l : ℕ) → is_assigned a.progress.accumulator.assigned l ≡ true → IsLine slots l
   assigned-lines slots lines none =
       (kept-detached speculative_change speculative_instant nets (λ (m : SpeculativeBuilderState). (m.made.line_bits
       ≡ e.made.line_bits)
@@ -248,14 +248,14 @@ module _ (nets : List Net) (bytes : List ℕ) (e : SpeculativeBuilderState) (a :
 
     -- the levels after it
     abbrev behind : Levels
-    behind = both-read.0.progress.taken.levels
+    behind = both-read.0.progress.accumulator.levels
 
     mixed-behind : length e.made.progress.now.levels ≡ line_count → length v.levels ≡ line_count → e.assigned
         ≡ none_assigned
-        → AreMixed v a.progress.taken.made.progress.now behind a.progress.taken.assigned
+        → AreMixed v a.progress.accumulator.made.progress.now behind a.progress.accumulator.assigned
     mixed-behind those_all all none =
         subst (λ (m : SpeculativeBuilderState). AreMixed v m.made.progress.now behind m.assigned)
-        (ap (λ (s : State SpeculativeBuilderState). s.progress.taken) both-read.2)
+        (ap (λ (s : State SpeculativeBuilderState). s.progress.accumulator) both-read.2)
         (steps-keep both_change both_instant nets (λ (b : Both). AreMixed v b.ahead.made.progress.now b.levels
         b.ahead.assigned)
         (λ b net bits h. mixed-line_bits bits (line_bits_of b.ahead.made.line_bits net) v b.ahead.made.progress.now
@@ -274,7 +274,7 @@ module _ (nets : List Net) (bytes : List ℕ) (e : SpeculativeBuilderState) (a :
     behind-is : (line_bits : NetLines) (t : Trace) (m : ReadDetached BuilderState) → e.made.line_bits ≡ line_bits
         → m.first_line
         ≡ a.first_line → IsReadDetached builder_change builder_instant nets bytes (builder_behind line_bits v t) m
-        → m.progress.taken.progress.now ≡ behind
+        → m.progress.accumulator.progress.now ≡ behind
     behind-is line_bits t m lines line there =
         let time : m.time ≡ a.time =
         same_time m.time a.time (sym there.begins ∙ ap (λ (n : ℕ). time_first (detached_items n bytes)) line
@@ -306,7 +306,7 @@ module _ (nets : List Net) (bytes : List ℕ) (e : SpeculativeBuilderState) (a :
         (λ b time. refl) nets start items
         ∙ ap (λ (r : Result (State Both) VcdFault). r >>= λ end. Ok (learned_state both_change both_instant
         others_change others_instant others_of_both (λ b net bits. refl) (λ b time. refl) end)) both-read.1 in
-        ap (λ (s : State Others). s.progress.taken.levels)
+        ap (λ (s : State Others). s.progress.accumulator.levels)
         (same_ok _ _ (steps others_change others_instant nets
         (before_piece (record { line_bits = line_bits; levels = v }) a.time) items) of_made
         (ap (λ (x : NetLines). steps others_change others_instant nets
@@ -315,20 +315,22 @@ module _ (nets : List Net) (bytes : List ℕ) (e : SpeculativeBuilderState) (a :
   -- where others are before it, it leaves its own levels on the lines of which it tells one, and theirs on the rest
   pub assigned-leads : (x : ReadSpeculatively) (line_bits : NetLines) → length e.made.progress.now.levels ≡ line_count
       → e.assigned ≡ none_assigned → e.made.line_bits ≡ line_bits
-      → x.detached.first_line ≡ a.first_line → x.assigned ≡ a.progress.taken.assigned → x.detached.progress.taken
-      ≡ a.progress.taken.made.progress
+      → x.detached.first_line ≡ a.first_line → x.assigned ≡ a.progress.accumulator.assigned
+      → x.detached.progress.accumulator
+      ≡ a.progress.accumulator.made.progress
       → (before after : Levels) → length before.levels ≡ line_count → AreLevelsBehind x before after
       → LeadTo nets line_bits bytes x.detached.first_line before after
   assigned-leads x line_bits those_all none lines line assigned now before after all left t m at there =
-      let h : AreMixed before a.progress.taken.made.progress.now (behind before) a.progress.taken.assigned
+      let h : AreMixed before a.progress.accumulator.made.progress.now (behind before) a.progress.accumulator.assigned
       = mixed-behind before those_all all none in
       let same : behind before ≡ after =
       same_levels (behind before) after (h.slots ∙ sym left.slots) h.all left.all
       (λ l lt.
       h.levels l lt
-      ∙ ap (λ (p : RecorderLevels). cond (is_assigned a.progress.taken.assigned l) (level_at p.now l)
+      ∙ ap (λ (p : RecorderLevels). cond (is_assigned a.progress.accumulator.assigned l) (level_at p.now l)
       (level_at before l)) (sym now)
-      ∙ ap (λ (b : List Bool). cond (is_assigned b l) (level_at x.detached.progress.taken.now l) (level_at before l))
+      ∙ ap (λ (b : List Bool). cond (is_assigned b l) (level_at x.detached.progress.accumulator.now l)
+      (level_at before l))
       (sym assigned)
       ∙ sym (left.levels l lt)) in
       behind-is before line_bits t m lines (at ∙ line) there ∙ same
@@ -339,13 +341,13 @@ pub record AreLeftBelow (a : ReadSpeculatively) (before : Levels) (n : ℕ) (aft
   pub slots : after.slots ≡ before.slots
   pub all : length after.levels ≡ line_count
   pub left : (l : ℕ) → l < n → level_at after l
-      ≡ cond (is_assigned a.assigned l) (level_at a.detached.progress.taken.now
+      ≡ cond (is_assigned a.assigned l) (level_at a.detached.progress.accumulator.now
       l) (level_at before l)
   pub rest : (l : ℕ) → n ≤ l → level_at after l ≡ level_at before l
 
 module _ (a : ReadSpeculatively) (before : Levels) (n : ℕ) (after : Levels) (h : AreLeftBelow a before n after) where
   abbrev own : Levels
-  own = a.detached.progress.taken.now
+  own = a.detached.progress.accumulator.now
 
   pub left-assigned : (x : Level) → n < line_count → is_assigned a.assigned n ≡ true → x ≡ level_at own n
       → AreLeftBelow a before (n + 1) (set_level after n x)

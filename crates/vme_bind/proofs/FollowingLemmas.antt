@@ -40,7 +40,7 @@ module _ (t : Trace) where
   stood-behind : (p : BodyFold BuilderState) (stood : Result BodyContext VcdFault)
       → (stood >>= λ end. Ok (ended builder_instant (fold_behind p)))
       ≡ ((stood >>= λ end. Ok (ended builder_instant p)) >>= λ made. Ok (behind t made))
-  stood-behind p (Ok end) = ap Ok (ended-behind p.has_instant p.taken p.time)
+  stood-behind p (Ok end) = ap Ok (ended-behind p.has_instant p.accumulator p.time)
   stood-behind p (Err fault) = refl
 
   outcome-behind : (read : Result (State BuilderState) VcdFault)
@@ -63,20 +63,20 @@ module _ (t : Trace) where
   items-behind nets s items =
       let reached : State BuilderState = reached_before builder_change builder_instant nets s items in
       let read : Result (State BuilderState) VcdFault = steps builder_change builder_instant nets s items in
-      ap (λ (r : State BuilderState). reading_made r.progress.taken.recorded r.progress.time
+      ap (λ (r : State BuilderState). reading_made r.progress.accumulator.recorded r.progress.time
       (steps builder_change builder_instant nets (state_behind s) items >>= at_end builder_instant))
       (reached-learned builder_change builder_instant builder_change builder_instant (behind t) (behind-change t)
       (behind-instant t)
       nets s items)
       ∙ ap (λ (r : Result (State BuilderState) VcdFault). reading_made
-      (with_steps t reached.progress.taken.recorded.steps)
+      (with_steps t reached.progress.accumulator.recorded.steps)
       reached.progress.time (r >>= at_end builder_instant))
       (steps-learned builder_change builder_instant builder_change builder_instant (behind t) (behind-change t)
       (behind-instant t)
       nets s items)
-      ∙ ap (reading_made (with_steps t reached.progress.taken.recorded.steps) reached.progress.time)
+      ∙ ap (reading_made (with_steps t reached.progress.accumulator.recorded.steps) reached.progress.time)
       (outcome-behind read)
-      ∙ made-behind reached.progress.taken.recorded reached.progress.time (read >>= at_end builder_instant)
+      ∙ made-behind reached.progress.accumulator.recorded reached.progress.time (read >>= at_end builder_instant)
 
   -- what comes of tokens after a recording
   pub ahead-behind : (w : SpeculativeReached) (opening : Levels) (tokens more : List Token)

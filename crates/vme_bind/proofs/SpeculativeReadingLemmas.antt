@@ -100,13 +100,13 @@ entered-made m (Some time) = refl
 module _ (bytes : List ℕ) (recorded : Trace) (w : SpeculativeReached) (a : ReadSpeculatively)
     (is : IsReadSpeculatively w.body.nets w.line_bits bytes recorded a) (fits : MayFollowLevels w a) where
   abbrev ended : List Step
-  ended = ended_steps w.body.progress.taken (ended_at w.body.progress a.detached.time)
+  ended = ended_steps w.body.progress.accumulator (ended_at w.body.progress a.detached.time)
 
   abbrev after : SpeculativeReached
   after = record {
     fault = w.fault;
     line_bits = w.line_bits;
-    body = with_taken a.detached.progress.taken
+    body = with_taken a.detached.progress.accumulator
         (behind_piece w.body.nets a.detached);
   }
 
@@ -114,10 +114,14 @@ module _ (bytes : List ℕ) (recorded : Trace) (w : SpeculativeReached) (a : Rea
   none_made = builder_behind w.line_bits a.from (record { opening = recorded.opening; steps = [] })
 
   first-made : (t : Trace) → behind (with_steps t ended) none_made
-      ≡ entered builder_instant (record { line_bits = w.line_bits; progress = w.body.progress.taken; recorded = t })
+      ≡ entered builder_instant (record {
+        line_bits = w.line_bits;
+        progress = w.body.progress.accumulator;
+        recorded = t;
+      })
       (ended_at w.body.progress a.detached.time)
   first-made t =
-      let m : BuilderState = record { line_bits = w.line_bits; progress = w.body.progress.taken; recorded = t } in
+      let m : BuilderState = record { line_bits = w.line_bits; progress = w.body.progress.accumulator; recorded = t } in
       ap (λ (ss : List Step). record {
         line_bits = w.line_bits;
         progress = all_of a.from;
@@ -132,7 +136,7 @@ module _ (bytes : List ℕ) (recorded : Trace) (w : SpeculativeReached) (a : Rea
       → outcome_ahead (with_recording t w) (tokens_from w.body.line bytes) more
       ≡ outcome_ahead (with_recording (with_steps t (ended ++ recorded.steps)) after) [] more
   joined-rest t more =
-      let m : BuilderState = record { line_bits = w.line_bits; progress = w.body.progress.taken; recorded = t } in
+      let m : BuilderState = record { line_bits = w.line_bits; progress = w.body.progress.accumulator; recorded = t } in
       let r : Reached BuilderState = with_taken m w.body in
       let u : Trace = with_steps t ended in
       ap (λ (r : Result (State BuilderState) VcdFault). outcome w.fault (r >>= at_end builder_instant))
@@ -148,13 +152,14 @@ module _ (bytes : List ℕ) (recorded : Trace) (w : SpeculativeReached) (a : Rea
       ∙ ap (λ (ss : List Step). rest_of builder_change builder_instant
       (with_taken (record {
         line_bits = w.line_bits;
-        progress = a.detached.progress.taken;
+        progress = a.detached.progress.accumulator;
         recorded = record t
             { steps = ss };
       }) (behind_piece w.body.nets a.detached)) [] more)
       (append_assoc t.steps ended recorded.steps))
 
-  joined-as : levels_after w.body.progress.taken.shown ended ≡ a.from → IsJoined bytes recorded a.from w after ended
+  joined-as : levels_after w.body.progress.accumulator.shown ended ≡ a.from → IsJoined bytes recorded a.from w after
+      ended
   joined-as leads = record {
     fault = refl;
     line_bits = refl;
@@ -165,13 +170,13 @@ module _ (bytes : List ℕ) (recorded : Trace) (w : SpeculativeReached) (a : Rea
   }
 
   pub joined-is : (there : SpeculativeReached) (step : List Step) → there ≡ after → step ≡ ended
-      → levels_after w.body.progress.taken.shown step
-      ≡ (entered end_of w.body.progress.taken (ended_at w.body.progress a.detached.time)).shown
+      → levels_after w.body.progress.accumulator.shown step
+      ≡ (entered end_of w.body.progress.accumulator (ended_at w.body.progress a.detached.time)).shown
       → IsJoined bytes recorded a.from w there step
   joined-is there step at same leads =
       subst (λ (v : SpeculativeReached). IsJoined bytes recorded a.from w v step) (sym at)
       (subst (λ (ss : List Step). IsJoined bytes recorded a.from w after ss) (sym same)
-      (joined-as (subst (λ (ss : List Step). levels_after w.body.progress.taken.shown ss ≡ a.from) same
+      (joined-as (subst (λ (ss : List Step). levels_after w.body.progress.accumulator.shown ss ≡ a.from) same
       (leads ∙ ap (λ (p : RecorderLevels). p.shown) fits.levels))))
 
 -- ---- the state of a speculative reader, and a piece, by their fields
@@ -187,16 +192,16 @@ ahead_of from p a assigned = record { from = from; detached = detached_with p a;
 module _ (nets : List Net) (bytes : List ℕ) (m : BuilderState) (a : ReadDetached BuilderState)
     (is : IsReadDetached builder_change builder_instant
     nets bytes m a) where
-  pub line_bits-kept : a.progress.taken.line_bits ≡ m.line_bits
+  pub line_bits-kept : a.progress.accumulator.line_bits ≡ m.line_bits
   line_bits-kept = kept-detached builder_change builder_instant nets (λ (n : BuilderState). n.line_bits ≡ m.line_bits)
       (λ n net bits h. h) (λ n time h. h) bytes m a is refl
 
-  pub opening-kept : a.progress.taken.recorded.opening ≡ m.recorded.opening
+  pub opening-kept : a.progress.accumulator.recorded.opening ≡ m.recorded.opening
   opening-kept = kept-detached builder_change builder_instant nets (λ (n : BuilderState). n.recorded.opening
       ≡ m.recorded.opening)
       (λ n net bits h. h) (λ n time h. h) bytes m a is refl
 
-  pub slots-are : a.progress.taken.progress.now.slots ≡ m.progress.now.slots
+  pub slots-are : a.progress.accumulator.progress.now.slots ≡ m.progress.now.slots
   slots-are = kept-detached builder_change builder_instant nets (λ (n : BuilderState). n.progress.now.slots
       ≡ m.progress.now.slots)
       (λ n net bits h. slots-kept n.progress.now _ ∙ h) (λ n time h. h) bytes m a is refl
@@ -208,7 +213,7 @@ pub ahead-read : (nets : List Net) (line_bits : NetLines) (bytes : List ℕ) (fr
     → m ≡ builder_behind line_bits from first → first.steps ≡ []
     → IsReadDetached builder_change builder_instant nets bytes m a
     → (u : ReadDetached (Unit {0})) (q : RecorderLevels) (t : Trace) → u ≡ detached_with (tt {0}) a → q
-    ≡ a.progress.taken.progress → t ≡ a.progress.taken.recorded
+    ≡ a.progress.accumulator.progress → t ≡ a.progress.accumulator.recorded
     → (assigned : List Bool) → DeterminesLines nets line_bits bytes (ahead_of from q u assigned) → IsReadSpeculatively
     nets line_bits bytes t (ahead_of from q u assigned)
 ahead-read nets line_bits bytes from first m a begun none is u q t ue qe te assigned tells =
@@ -217,13 +222,14 @@ ahead-read nets line_bits bytes from first m a begun none is u q t ue qe te assi
     let before : m ≡ builder_behind line_bits from (record { opening = t.opening; steps = [] }) =
     begun ∙ ap (λ (ss : List Step). builder_behind line_bits from (record { opening = first.opening; steps = ss })) none
     ∙ ap (λ (v : Levels). builder_behind line_bits from (record { opening = v; steps = [] })) opening in
-    let made : record { line_bits = line_bits; progress = q; recorded = t } ≡ a.progress.taken =
+    let made : record { line_bits = line_bits; progress = q; recorded = t } ≡ a.progress.accumulator =
     ap (λ (s : NetLines). record { line_bits = s; progress = q; recorded = t })
     (ap (λ (n : BuilderState). n.line_bits) (sym begun) ∙ sym (line_bits-kept nets bytes m a is))
-    ∙ ap (λ (p : RecorderLevels). record { line_bits = a.progress.taken.line_bits; progress = p; recorded = t }) qe
+    ∙ ap (λ (p : RecorderLevels). record { line_bits = a.progress.accumulator.line_bits; progress = p; recorded = t })
+    qe
     ∙ ap (λ (r : Trace). record {
-      line_bits = a.progress.taken.line_bits;
-      progress = a.progress.taken.progress;
+      line_bits = a.progress.accumulator.line_bits;
+      progress = a.progress.accumulator.progress;
       recorded
           = r;
     }) te in

@@ -56,7 +56,8 @@ fails-outcome own fault before read is fails more = same_fails fault.line fault.
 pub begun-outcome : (own : Option BindFault) (slots : ℕ) (bound_groups : List BoundGroup) (head : Headed)
     (made : BuilderState)
     (r : Reached BuilderState) (first more : List Token) → IsBegun slots bound_groups made → r.nets ≡ head.nets
-    → r.progress ≡ record { taken = made; time = 0; has_instant = false } → r.dump_section ≡ None → r.place ≡ ready
+    → r.progress ≡ record { accumulator = made; time = 0; has_instant = false } → r.dump_section ≡ None → r.place
+    ≡ ready
     → first ≡ head.body
     → body_outcome own slots bound_groups (going_on head more)
     ≡ outcome own (rest_of builder_change builder_instant r first more >>= at_end builder_instant)

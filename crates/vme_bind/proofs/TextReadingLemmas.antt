@@ -60,7 +60,7 @@ pub piece_stops : (line : ℕ) (kind : FaultKind) (made : BuilderState) (recorde
     → StopsAs line kind recorded time (reading_until_fault read)
 piece_stops line Memory made recorded time read e h = h
 piece_stops line kind made recorded time read e h =
-    ap (λ (r : Result (State BuilderState) VcdFault). reading_made read.reached.progress.taken.recorded
+    ap (λ (r : Result (State BuilderState) VcdFault). reading_made read.reached.progress.accumulator.recorded
     read.reached.progress.time (r >>= at_end builder_instant)) h.0
     ∙ stopped_as (record { line = line; kind = kind }) _ _ _ _ (sym (e ∙ ap (λ (m : BuilderState). m.recorded) h.1))
     (sym h.2)
@@ -86,9 +86,9 @@ end_stops line Memory made recorded time r e h = h
 end_stops line kind made recorded time r e h =
     let read : UntilFault BuilderState = rest_until_fault builder_change builder_instant r [] [] in
     let none : read.reached.progress ≡ r.progress = none_ahead r.nets r.progress r.dump_section r.place in
-    ap (reading_made read.reached.progress.taken.recorded read.reached.progress.time) h.0
+    ap (reading_made read.reached.progress.accumulator.recorded read.reached.progress.time) h.0
     ∙ stopped_as (record { line = line; kind = kind }) _ _ _ _
-    (ap (λ (p : BodyFold BuilderState). p.taken.recorded) none ∙ ap (λ (m : BuilderState). m.recorded) (sym h.1)
+    (ap (λ (p : BodyFold BuilderState). p.accumulator.recorded) none ∙ ap (λ (m : BuilderState). m.recorded) (sym h.1)
     ∙ sym e)
     (ap (λ (p : BodyFold BuilderState). p.time) none ∙ sym h.2)
 
@@ -99,7 +99,7 @@ pub ended_reading : (recorded : Trace) (made : BuilderState) (r : Reached Builde
     ≡ record { recorded = recorded; fault = None; time = r.progress.time }
 ended_reading recorded made r e is =
     let read : UntilFault BuilderState = rest_until_fault builder_change builder_instant r [] [] in
-    ap (reading_made read.reached.progress.taken.recorded read.reached.progress.time) is
+    ap (reading_made read.reached.progress.accumulator.recorded read.reached.progress.time) is
     ∙ ap (λ (p : BodyFold BuilderState). record { recorded = made.recorded; fault = None; time = p.time })
     (none_ahead r.nets r.progress r.dump_section r.place)
     ∙ ap (λ (t : Trace). record { recorded = t; fault = None; time = r.progress.time }) (sym e)
@@ -116,7 +116,8 @@ module _ (slots : ℕ) (bound_groups : List BoundGroup) (h : Headed) (m : Builde
     read = until_fault builder_change builder_instant h.nets (at_first m) items
 
     -- what is recorded before the first fault
-    recorded_before : (reached_before builder_change builder_instant h.nets (at_first m) items).progress.taken.recorded
+    recorded_before : (reached_before builder_change builder_instant h.nets (at_first m)
+        items).progress.accumulator.recorded
         ≡ recording slots bound_groups (instants_before_fault h.nets h.body)
         (length (instants_before_fault h.nets h.body) - 1)
     recorded_before =
@@ -128,7 +129,7 @@ module _ (slots : ℕ) (bound_groups : List BoundGroup) (h : Headed) (m : Builde
         items (at_start h.nets) m (makes-first slots bound_groups count all m begun) in
         let before = before_fault h.nets items in
         let made = follows.2 before.0 before.1 in
-        ap (λ (s : State BuilderState). s.progress.taken.recorded) follows.1
+        ap (λ (s : State BuilderState). s.progress.accumulator.recorded) follows.1
         ∙ made.recorded
         ∙ ap (λ (n : ℕ). recording slots bound_groups all n) before.2
 
@@ -142,7 +143,7 @@ module _ (slots : ℕ) (bound_groups : List BoundGroup) (h : Headed) (m : Builde
     by_taken : (taken : Result BuilderState VcdFault) → fold_body builder_change builder_instant h.nets m h.body
         ≡ taken
         → body_reading slots bound_groups h
-        ≡ reading_made read.reached.progress.taken.recorded read.reached.progress.time taken
+        ≡ reading_made read.reached.progress.accumulator.recorded read.reached.progress.time taken
     by_taken (Ok end) e =
         let gives = gives-followed (Ends (IsMadeOf slots bound_groups h)) (instants_from h.nets h.body) _ end
         (builder-follows slots bound_groups h m begun) e in
@@ -181,7 +182,8 @@ body_formed slots bound_groups h = by_instants (instants_from h.nets h.body) ref
 -- so are they whatever follows a place of which nothing is read yet
 pub begun_formed : (slots : ℕ) (bound_groups : List BoundGroup) (made : BuilderState) (r : Reached BuilderState)
     (tokens more : List Token) → IsBegun slots bound_groups made
-    → r.progress ≡ record { taken = made; time = 0; has_instant = false } → r.dump_section ≡ None → r.place ≡ ready
+    → r.progress ≡ record { accumulator = made; time = 0; has_instant = false } → r.dump_section ≡ None → r.place
+    ≡ ready
     → malformed_step (reading_until_fault (rest_until_fault builder_change builder_instant r tokens more)).recorded
     ≡ None
 begun_formed slots bound_groups made r tokens more begun progress dump_section place =
@@ -193,7 +195,8 @@ begun_formed slots bound_groups made r tokens more begun progress dump_section p
 pub begun_reading : (own : Option BindFault) (slots : ℕ) (bound_groups : List BoundGroup) (head : Headed)
     (made : BuilderState)
     (r : Reached BuilderState) (first more : List Token) → IsBegun slots bound_groups made → r.nets ≡ head.nets
-    → r.progress ≡ record { taken = made; time = 0; has_instant = false } → r.dump_section ≡ None → r.place ≡ ready
+    → r.progress ≡ record { accumulator = made; time = 0; has_instant = false } → r.dump_section ≡ None → r.place
+    ≡ ready
     → first ≡ head.body
     → or_fault own (body_reading slots bound_groups (going_on head more))
     ≡ or_fault own (reading_until_fault (rest_until_fault builder_change builder_instant r first more))

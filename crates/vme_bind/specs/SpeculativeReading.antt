@@ -29,7 +29,8 @@ abbrev pub with_recording : Trace → SpeculativeReached → TextReached
 with_recording t w =
     record {
       fault = w.fault;
-      body = with_taken (record { line_bits = w.line_bits; progress = w.body.progress.taken; recorded = t }) w.body;
+      body = with_taken (record { line_bits = w.line_bits; progress = w.body.progress.accumulator; recorded = t })
+          w.body;
     }
 
 -- a piece that was read ahead, as if these levels were before it; and of which lines it tells a level
@@ -43,7 +44,7 @@ pub record AreLevelsBehind (a : ReadSpeculatively) (before after : Levels) : Typ
   pub slots : after.slots ≡ before.slots
   pub all : length after.levels ≡ line_count
   pub levels : (l : ℕ) → l < line_count
-      → level_at after l ≡ (if is_assigned a.assigned l then level_at a.detached.progress.taken.now l
+      → level_at after l ≡ (if is_assigned a.assigned l then level_at a.detached.progress.accumulator.now l
       else level_at before
       l)
 
@@ -54,14 +55,14 @@ builder_behind line_bits v t = record { line_bits = line_bits; progress = all_of
 -- what was made of a piece, whose steps this recording has
 abbrev pub builder_ahead : NetLines → Trace → ReadDetached RecorderLevels → ReadDetached BuilderState
 builder_ahead line_bits t a =
-    detached_with (record { line_bits = line_bits; progress = a.progress.taken; recorded = t }) a
+    detached_with (record { line_bits = line_bits; progress = a.progress.accumulator; recorded = t }) a
 
 -- these bytes, which begin on this line, lead from the first levels to the second, whatever is recorded
 abbrev pub LeadTo : List Net → NetLines → List ℕ → ℕ → Levels → Levels → Type 0
 LeadTo nets line_bits bytes line before after =
     (t : Trace) (m : ReadDetached BuilderState) → m.first_line ≡ line
     → IsReadDetached builder_change builder_instant nets bytes (builder_behind line_bits before t) m
-    → m.progress.taken.progress.now ≡ after
+    → m.progress.accumulator.progress.now ≡ after
 
 -- where other levels are before a piece, it leaves its own on the lines of which it tells one, and those on the rest
 abbrev pub DeterminesLines : List Net → NetLines → List ℕ → ReadSpeculatively → Type 0
@@ -80,7 +81,7 @@ pub record IsReadSpeculatively
 -- a piece that was read ahead fits after what is read so far, which leaves the levels that it was read from
 pub record MayFollowLevels (w : SpeculativeReached) (a : ReadSpeculatively) : Type 0 where
   pub place : MayFollow w.body a.detached
-  pub levels : entered end_of w.body.progress.taken (ended_at w.body.progress a.detached.time) ≡ all_of a.from
+  pub levels : entered end_of w.body.progress.accumulator (ended_at w.body.progress a.detached.time) ≡ all_of a.from
 
 -- a piece is joined: how far the recording is made after it. The step, if any, ends the instant before it.
 pub record IsJoined
@@ -91,7 +92,7 @@ pub record IsJoined
   pub nets : after.body.nets ≡ before.body.nets
   pub line : after.body.line ≡ line_behind before.body.line bytes
   -- the step leads to the levels that the piece was read from
-  pub leads : levels_after before.body.progress.taken.shown ended ≡ levels
+  pub leads : levels_after before.body.progress.accumulator.shown ended ≡ levels
   -- after any recording, what comes of the piece and more is what comes of the steps and more
   pub rest : (t : Trace) (more : List Token)
       → outcome_ahead (with_recording t before) (tokens_from before.body.line bytes) more

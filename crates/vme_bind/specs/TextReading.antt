@@ -73,7 +73,7 @@ reading_made complete time (Err fault) = record { recorded = complete; fault = S
 
 -- what comes of a body that is read so
 abbrev pub reading_until_fault : UntilFault BuilderState → TextReading
-reading_until_fault read = reading_made read.reached.progress.taken.recorded read.reached.progress.time
+reading_until_fault read = reading_made read.reached.progress.accumulator.recorded read.reached.progress.time
     (read.outcome >>= at_end builder_instant)
 
 -- what comes of these tokens, and more after them, where the recording is made so far

@@ -126,14 +126,14 @@ impl SpeculativeReader {
 
     /// The levels after the steps so far.
     pub fn shown(&self) -> &Lines
-        ensures { result.now ≡ self.now.body.progress.taken.shown }
+        ensures { result.now ≡ self.now.body.progress.accumulator.shown }
     {
         self.recorder.shown()
     }
 
     /// The levels after the values so far.
     pub fn now(&self) -> &Lines
-        ensures now { result.now ≡ self.now.body.progress.taken.now }
+        ensures now { result.now ≡ self.now.body.progress.accumulator.now }
         ensures all { length result.now.levels ≡ line_count }
     {
         self.recorder.now()
@@ -250,7 +250,7 @@ impl SpeculativeChunk {
 
     /// The levels after it.
     pub fn levels(&self) -> &Lines
-        ensures now { result.now ≡ self.now.detached.progress.taken.now }
+        ensures now { result.now ≡ self.now.detached.progress.accumulator.now }
         ensures all { length result.now.levels ≡ line_count }
     {
         self.recorder.now()

@@ -45,7 +45,7 @@ fn begin_bound_groups<'a, F: StepVisitor>(
     requires own { ForSome fault IsOfBinding }
     ensures line { IfOk result (λ begun. line_behind (text_reached begun.0).body.line begun.1.now ≡ front.entry.line) }
     ensures left { IfOk result (λ begun. begun.1.now ≡ front.entry.left) }
-    ensures none { IfOk result (λ begun. (text_reached begun.0).body.progress.taken.recorded.steps ≡ []) }
+    ensures none { IfOk result (λ begun. (text_reached begun.0).body.progress.accumulator.recorded.steps ≡ []) }
     ensures formed { IfOk result (λ begun. (ts more : List Token)
         → malformed_step (reading_ahead (text_reached begun.0) ts more).recorded ≡ None) }
     ensures rest { TextContinuesAs (λ begun. outcome_from begun.0 begun.1.now) result
@@ -116,7 +116,7 @@ impl Binding {
         ensures left { IfOk result (λ found. IfOk found (λ begun.
             begun.1.now ≡ drop (length front.now - length begun.1.now) front.now)) }
         ensures none { IfOk result (λ found. IfOk found (λ begun.
-            (text_reached begun.0).body.progress.taken.recorded.steps ≡ [])) }
+            (text_reached begun.0).body.progress.accumulator.recorded.steps ≡ [])) }
         ensures formed { IfOk result (λ found. IfOk found (λ begun. (ts more : List Token)
             → malformed_step (reading_ahead (text_reached begun.0) ts more).recorded ≡ None)) }
         ensures begins { TextBeginsAs (λ begun. outcome_from begun.0 begun.1.now) self.now front.now result }
@@ -150,7 +150,7 @@ impl Binding {
         ensures line { IfOk result (λ begun.
             line_behind (text_reached begun.0).body.line begun.1.now ≡ front.entry.line) }
         ensures left { IfOk result (λ begun. begun.1.now ≡ front.entry.left) }
-        ensures none { IfOk result (λ begun. (text_reached begun.0).body.progress.taken.recorded.steps ≡ []) }
+        ensures none { IfOk result (λ begun. (text_reached begun.0).body.progress.accumulator.recorded.steps ≡ []) }
         ensures formed { IfOk result (λ begun. (ts more : List Token)
             → malformed_step (reading_ahead (text_reached begun.0) ts more).recorded ≡ None) }
         ensures rest { (variables : List Variable)

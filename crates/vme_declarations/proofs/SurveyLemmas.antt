@@ -231,7 +231,7 @@ pub record IsBegun (front left : List ℕ) (h : Headed) (r : Reached ℕ) : Type
   pub header : (text : List ℕ) (more : List Token) → header_of passed text (nothing_declared tt) (tokens front ++ more)
       ≡ Ok (defined (going_on h more) tt)
   pub nets : r.nets ≡ h.nets
-  pub progress : r.progress ≡ record { taken = 0; time = 0; has_instant = false }
+  pub progress : r.progress ≡ record { accumulator = 0; time = 0; has_instant = false }
   pub dump_section : r.dump_section ≡ None
   pub place : r.place ≡ ready
   pub body : tokens_from r.line left ≡ h.body

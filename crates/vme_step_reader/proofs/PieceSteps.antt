@@ -192,14 +192,16 @@ none-formed opening steps e = ap (λ (steps : List Step). malformed_step (record
 
 -- whatever follows it
 pub begun-sound : (t : TextReached) (w : SpeculativeReached) (opening : Levels) (made steps : List Step)
-    → with_recording (record { opening = opening; steps = made }) w ≡ t → t.body.progress.taken.recorded.steps ≡ []
+    → with_recording (record { opening = opening; steps = made }) w ≡ t → t.body.progress.accumulator.recorded.steps
+    ≡ []
     → steps ≡ []
     → ((ts more : List Token) → malformed_step (reading_ahead t ts more).recorded ≡ None)
     → (rest : List ℕ)
     → malformed_step (whole_reading (record { given = record { opening = opening; steps = steps }; speculative = w })
     rest).recorded ≡ None
 begun-sound t w opening made steps is none empty formed rest =
-    let same : made ≡ steps = ap (λ (t : TextReached). t.body.progress.taken.recorded.steps) is ∙ none ∙ sym empty in
+    let same : made ≡ steps = ap (λ (t : TextReached). t.body.progress.accumulator.recorded.steps) is ∙ none
+    ∙ sym empty in
     subst (λ (steps : List Step). malformed_step (whole_reading (record {
       given = record { opening = opening; steps = steps };
       speculative = w;

@@ -107,25 +107,25 @@ module _ (from : ℕ) where
 
   record IsMade (p : BodyFold BuilderState) : Type 0 where
     late : from ≤ p.time
-    before : AreBefore p.time p.taken.recorded.steps
+    before : AreBefore p.time p.accumulator.recorded.steps
 
   -- another time is told
   at-next : (test : Bool) (p : BodyFold BuilderState) (t : ℕ) → IsMade p → p.time ≤ t → (test ≡ true → p.time < t)
-      → IsMade (cond test (record { taken = builder_instant p.taken p.time; time = t; has_instant = true })
+      → IsMade (cond test (record { accumulator = builder_instant p.accumulator p.time; time = t; has_instant = true })
       (record p { time = t; has_instant = true }))
   at-next true p t h le later = record {
     late = omega (arith, h.late, le);
-    before = All-append (λ (s : Step). (from ≤ s.time) × (s.time < t)) p.taken.recorded.steps
-        (step_between p.time p.taken.progress.shown p.taken.progress.now)
-        (before-later p.time t le p.taken.recorded.steps h.before) (one-before _ _ t h.late (later refl));
+    before = All-append (λ (s : Step). (from ≤ s.time) × (s.time < t)) p.accumulator.recorded.steps
+        (step_between p.time p.accumulator.progress.shown p.accumulator.progress.now)
+        (before-later p.time t le p.accumulator.recorded.steps h.before) (one-before _ _ t h.late (later refl));
   }
   at-next false p t h le later = record {
     late = omega (arith, h.late, le);
-    before = before-later p.time t le p.taken.recorded.steps h.before;
+    before = before-later p.time t le p.accumulator.recorded.steps h.before;
   }
 
   time-next : (test : Bool) (p : BodyFold BuilderState) (t : ℕ)
-      → (cond test (record { taken = builder_instant p.taken p.time; time = t; has_instant = true })
+      → (cond test (record { accumulator = builder_instant p.accumulator p.time; time = t; has_instant = true })
       (record p { time = t; has_instant = true })).time ≡ t
   time-next true p t = refl
   time-next false p t = refl
@@ -143,13 +143,13 @@ module _ (from : ℕ) where
 
     still : (s : State BuilderState) (p : BodyFold BuilderState) (next : BodyContext) → IsAt s → p.time
         ≡ s.progress.time
-        → p.taken.recorded.steps ≡ s.progress.taken.recorded.steps → next.now ≡ s.context.now
+        → p.accumulator.recorded.steps ≡ s.progress.accumulator.recorded.steps → next.now ≡ s.context.now
         → IsAt (record { context = next; progress = p })
     still s p next h same steps now = record {
       at = now ∙ h.at ∙ sym same;
       made = record {
         late = subst (λ (t : ℕ). from ≤ t) (sym same) h.made.late;
-        before = subst (λ (t : ℕ). AreBefore t p.taken.recorded.steps) (sym same)
+        before = subst (λ (t : ℕ). AreBefore t p.accumulator.recorded.steps) (sym same)
             (subst (AreBefore s.progress.time) (sym steps) h.made.before);
       };
     }
@@ -236,27 +236,27 @@ module _ (from : ℕ) where
     pub before : (fault : VcdFault) → reading.fault ≡ Some fault → AreBefore reading.time reading.recorded.steps
 
   faulty-times : (p : BodyFold BuilderState) (fault : VcdFault) → IsMade p
-      → TimesOf (reading_made p.taken.recorded p.time (Err fault))
+      → TimesOf (reading_made p.accumulator.recorded p.time (Err fault))
   faulty-times p fault h = record {
     late = h.late;
-    up_to = up-to p.time p.taken.recorded.steps h.before;
+    up_to = up-to p.time p.accumulator.recorded.steps h.before;
     before = λ f is. h.before;
   }
 
   -- the instant at hand is the last
   ended-up-to : (has_instant : Bool) (p : BodyFold BuilderState) → IsMade p
-      → AreUpTo p.time (cond has_instant (builder_instant p.taken p.time) p.taken).recorded.steps
+      → AreUpTo p.time (cond has_instant (builder_instant p.accumulator p.time) p.accumulator).recorded.steps
   ended-up-to true p h =
-      All-append (λ (s : Step). (from ≤ s.time) × (s.time ≤ p.time)) p.taken.recorded.steps
-      (step_between p.time p.taken.progress.shown p.taken.progress.now)
-      (up-to p.time p.taken.recorded.steps h.before) (one-up-to _ (record {
+      All-append (λ (s : Step). (from ≤ s.time) × (s.time ≤ p.time)) p.accumulator.recorded.steps
+      (step_between p.time p.accumulator.progress.shown p.accumulator.progress.now)
+      (up-to p.time p.accumulator.recorded.steps h.before) (one-up-to _ (record {
         time = p.time;
         changes = _;
       }) h.late)
-  ended-up-to false p h = up-to p.time p.taken.recorded.steps h.before
+  ended-up-to false p h = up-to p.time p.accumulator.recorded.steps h.before
 
   end-times : (p : BodyFold BuilderState) (stood : Result BodyContext VcdFault) → IsMade p
-      → TimesOf (reading_made p.taken.recorded p.time (stood >>= λ end. Ok (ended builder_instant p)))
+      → TimesOf (reading_made p.accumulator.recorded p.time (stood >>= λ end. Ok (ended builder_instant p)))
   end-times p (Ok end) h = record {
     late = h.late;
     up_to = ended-up-to p.has_instant p h;
@@ -266,10 +266,11 @@ module _ (from : ℕ) where
 
   outcome-times : (reached : State BuilderState) (outcome : Result (State BuilderState) VcdFault) → IsAt reached
       → ((end : State BuilderState) → outcome ≡ Ok end → reached ≡ end)
-      → TimesOf (reading_made reached.progress.taken.recorded reached.progress.time
+      → TimesOf (reading_made reached.progress.accumulator.recorded reached.progress.time
       (outcome >>= at_end builder_instant))
   outcome-times reached (Ok end) h whole =
-      subst (λ (s : State BuilderState). TimesOf (reading_made reached.progress.taken.recorded reached.progress.time
+      subst (λ (s : State BuilderState). TimesOf (reading_made reached.progress.accumulator.recorded
+      reached.progress.time
       (at_end builder_instant s))) (whole end refl)
       (end-times reached.progress (at_the_end reached.context) h.made)
   outcome-times reached (Err fault) h whole = faulty-times reached.progress fault h.made

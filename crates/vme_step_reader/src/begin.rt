@@ -22,7 +22,7 @@ use vme_summary::GhostSteps;
 
 /// Behind the definitions, where nothing of the body is read yet. A fault of the binding is met here.
 fn before_steps(text: TextPieces<StepCollector>) -> Result<StepReader, CaptureFault>
-    requires none { (text_reached text).body.progress.taken.recorded.steps ≡ [] }
+    requires none { (text_reached text).body.progress.accumulator.recorded.steps ≡ [] }
     requires formed { (ts more : List Token)
         → malformed_step (reading_ahead (text_reached text) ts more).recorded ≡ None }
     ensures reached { IfOk result (λ reader. text_reached text ≡ with_recording reader.given reader.speculative) }

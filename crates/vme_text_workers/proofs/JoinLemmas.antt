@@ -154,7 +154,7 @@ module _ (bytes : List ℕ) (recorded : Trace) (levels : Levels) (w v : Speculat
     (stream_judge passed : Trace) (past : passed ≡ with_steps stream_judge ended) where
   -- its steps follow those that were passed
   pub steps-follow : recorded.opening ≡ levels → levels_after stream_judge.opening stream_judge.steps
-      ≡ w.body.progress.taken.shown
+      ≡ w.body.progress.accumulator.shown
       → recorded.opening ≡ levels_after passed.opening passed.steps
   steps-follow opening leaves =
       opening ∙ sym one.leads ∙ ap (λ (u : Levels). levels_after u ended) (sym leaves)

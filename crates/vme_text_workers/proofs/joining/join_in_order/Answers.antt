@@ -44,7 +44,7 @@ pass-requires g c =
     let stream_judge : Trace = c.leaves.new.self in
     let same : stream_judge ≡ c.loop-ahead.stream_judge = c.in_ok-leaves.ensures.same in
     let bytes = (get_or pieces count no_piece).bytes.now in
-    let leaves : levels_after stream_judge.opening stream_judge.steps ≡ w.body.progress.taken.shown =
+    let leaves : levels_after stream_judge.opening stream_judge.steps ≡ w.body.progress.accumulator.shown =
     ap (λ (t : Trace). levels_after t.opening t.steps) same ∙ c.in_ok-leaves.ensures.leaves c.if-not-branch.false
     ∙ c.shown.ensures in
     steps-follow bytes chunks c.in-Some-fitting.ahead.from w v (step_in c.in_ok-behind.step)

@@ -16,7 +16,7 @@ loop-number-preserved c =
       | then-has w ↦
           let set : c.if-has.behind ≡ set_level after n w.level.result = search rules in
           let assigned : is_assigned a.assigned n ≡ true = search rules in
-          let level : w.level.result ≡ level_at a.detached.progress.taken.now n = search rules in
+          let level : w.level.result ≡ level_at a.detached.progress.accumulator.now n = search rules in
           subst (AreLeftBelow a before (n + 1)) (sym set) (left-assigned a before n after c.loop-number.invariant
           w.level.result c.loop-number-test.true assigned level)
       | else-has w ↦

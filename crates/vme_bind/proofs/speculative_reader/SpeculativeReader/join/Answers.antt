@@ -17,8 +17,8 @@ pub invariant_of-speculative : goal.invariant_of-speculative
 invariant_of-speculative c =
     let inside = c.self.inside in
     let slots : inside.recorder.now.slots ≡ c.ahead.inside.recorder.now.slots =
-    ap (λ (w : SpeculativeReached). w.body.progress.taken.now.slots) c.self.view_is
-    ∙ sym (ap (λ (v : Levels). v.slots) (entered_now c.args.self.body.progress.taken _))
+    ap (λ (w : SpeculativeReached). w.body.progress.accumulator.now.slots) c.self.view_is
+    ∙ sym (ap (λ (v : Levels). v.slots) (entered_now c.args.self.body.progress.accumulator _))
     ∙ ap (λ (q : RecorderLevels). q.now.slots) c.requires.levels
     ∙ sym (ap (λ (a : ReadSpeculatively). a.from.slots) c.ahead.view_is) ∙ sym c.ahead.invariant.0 in (
       c.self.invariant.0,

@@ -25,15 +25,16 @@ invariant_of-ahead g c =
     subst (λ (line_bits : NetLines). AreLines c.args.from.now.slots (line_bits_of line_bits net))
     (sym (ap (λ (m : BuilderState). m.line_bits) c.new-builder.ensures.made))
     (subst (λ s. AreLines s (line_bits_of inside.line_bits net)) same (c.self.invariant.1 net)) in
-    let assigned : c.into_parts-recorder.result.2 ≡ a.progress.taken.assigned =
+    let assigned : c.into_parts-recorder.result.2 ≡ a.progress.accumulator.assigned =
     sym c.into_parts-recorder.ensures.assigned ∙ ap (λ (m : SpeculativeBuilderState). m.assigned)
     c.with_visitor-builder.ensures.visitor in
     let made : IsReadDetached builder_change builder_instant r.nets c.args.piece.now c.new-builder.result.made
-    (detached_with a.progress.taken.made a) =
+    (detached_with a.progress.accumulator.made a) =
     made-read r.nets c.args.piece.now c.new-builder.result a is in (
       ap (λ (p : RecorderLevels). p.now.slots) (sym c.into_parts-recorder.ensures.progress
           ∙ ap (λ (m : SpeculativeBuilderState). m.made.progress) c.with_visitor-builder.ensures.visitor)
-          ∙ slots-are r.nets c.args.piece.now c.new-builder.result.made (detached_with a.progress.taken.made a) made
+          ∙ slots-are r.nets c.args.piece.now c.new-builder.result.made (detached_with a.progress.accumulator.made a)
+          made
           ∙ ap (λ (m : BuilderState). m.progress.now.slots) c.new-builder.ensures.made
           ∙ ap (λ (p : RecorderLevels). p.now.slots) c.new.ensures,
       λ l on. assigned-lines r.nets c.args.piece.now c.new-builder.result a is c.args.from.now.slots lines
@@ -49,7 +50,7 @@ returns-clause-opening g c =
     = c.in_ok-detached.ensures.read in
     ap (λ (t : Trace). t.opening) (sym c.into_parts-recorder.ensures.recorded
     ∙ ap (λ (m : SpeculativeBuilderState). m.made.recorded) c.with_visitor-builder.ensures.visitor)
-    ∙ opening-kept r.nets c.args.piece.now c.new-builder.result.made (detached_with a.progress.taken.made a)
+    ∙ opening-kept r.nets c.args.piece.now c.new-builder.result.made (detached_with a.progress.accumulator.made a)
     (made-read r.nets c.args.piece.now c.new-builder.result a is)
     ∙ ap (λ (m : BuilderState). m.recorded.opening) c.new-builder.ensures.made
 
@@ -70,13 +71,13 @@ returns-clause-read g c =
     c.new-builder.ensures.made
     ∙ ap (λ (p : RecorderLevels). record { line_bits = inside.line_bits; progress = p; recorded = first })
     c.new.ensures in
-    let progress : q ≡ a.progress.taken.made.progress = sym c.into_parts-recorder.ensures.progress
+    let progress : q ≡ a.progress.accumulator.made.progress = sym c.into_parts-recorder.ensures.progress
     ∙ ap (λ (m : SpeculativeBuilderState). m.made.progress) c.with_visitor-builder.ensures.visitor in
     let view : c.args.self.now ≡ speculative_of inside.fault inside.line_bits inside.recorder r = search rules in
     subst (λ (w : SpeculativeReached). IsReadSpeculatively w.body.nets w.line_bits c.args.piece.now t
     (ahead_of from q u assigned)) (sym view)
     (ahead-read r.nets inside.line_bits c.args.piece.now from first c.new-builder.result.made
-    (detached_with a.progress.taken.made a) begun c.requires.none
+    (detached_with a.progress.accumulator.made a) begun c.requires.none
     (made-read r.nets c.args.piece.now c.new-builder.result
     a is) u q t
     c.with_visitor-builder.ensures.detached progress

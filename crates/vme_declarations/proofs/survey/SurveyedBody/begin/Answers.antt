@@ -9,7 +9,7 @@ abbrev seen : LevelsSeen → ℕ
 seen l = l.instants
 
 abbrev progress_of : ℕ → BodyFold ℕ
-progress_of n = record { taken = n; time = 0; has_instant = false }
+progress_of n = record { accumulator = n; time = 0; has_instant = false }
 
 pub returns-in_ok-from_slice-in-Ok-clause-begun : goal.returns-in_ok-from_slice-in-Ok-clause-begun
 returns-in_ok-from_slice-in-Ok-clause-begun c =
