@@ -217,13 +217,11 @@ module _ (nets : List Net) (code : List ℕ) (size : ℕ) (none : net_of nets co
       changes_stay items read.0 end now read.2
   changes_stay (dump_section_open line ∷ items) s end now e =
       let read = first_read (context_after nets s (dump_section_open line)) (λ next. context_after_all nets next items)
-      end e
-      in
+      end e in
       changes_stay items read.0 end now read.2
   changes_stay (dump_section_end line ∷ items) s end now e =
       let read = first_read (context_after nets s (dump_section_end line)) (λ next. context_after_all nets next items)
-      end e
-      in
+      end e in
       changes_stay items read.0 end now read.2
   changes_stay (wrong line kind ∷ items) s end now e = absurd cc
 
@@ -263,13 +261,11 @@ module _ (nets : List Net) (code : List ℕ) (size : ℕ) (none : net_of nets co
       none_of t items read.0 end now read.2
   none_of t (dump_section_open line ∷ items) s end now e =
       let read = first_read (context_after nets s (dump_section_open line)) (λ next. context_after_all nets next items)
-      end e
-      in
+      end e in
       none_of t items read.0 end now read.2
   none_of t (dump_section_end line ∷ items) s end now e =
       let read = first_read (context_after nets s (dump_section_end line)) (λ next. context_after_all nets next items)
-      end e
-      in
+      end e in
       none_of t items read.0 end now read.2
   none_of t (wrong line kind ∷ items) s end now e = absurd cc
 

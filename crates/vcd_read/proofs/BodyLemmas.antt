@@ -250,8 +250,7 @@ module _ {A : Type 0} (with_change : A → ℕ → List Bit → A) (with_instant
       (step with_change with_instant nets (state_of text timed dump_section) item)
       → KeepsTaken timed timed2 r
       → BodyContinuesAs (λ more. until_fault with_change with_instant nets (state_of text timed dump_section)
-      (before more))
-      (λ more. until_fault with_change with_instant nets2 (state_of text2 timed2 dump_section2)
+      (before more)) (λ more. until_fault with_change with_instant nets2 (state_of text2 timed2 dump_section2)
       (body_from ready (left_at text2 after ++ more))) timed2.accumulator timed2.time r
   read_on nets nets2 timed timed2 dump_section dump_section2 text text2 after item before r n t is h kept =
       subst (λ (p : BodyPiece). BodyContinuesAs (λ more. until_fault with_change with_instant nets
@@ -259,8 +258,7 @@ module _ {A : Type 0} (with_change : A → ℕ → List Bit → A) (with_instant
       (state_of p timed2 dump_section2) (body_from ready (left_at p after ++ more))) timed2.accumulator timed2.time r)
       (sym t)
       (read_item nets nets2 (state_of text timed dump_section) (state_of text timed2 dump_section2) text text after
-      after Ready
-      item before r n refl refl refl is h kept)
+      after Ready item before r n refl refl refl is h kept)
 
   -- an item that is none
   pub read_wrong : (nets : List Net) (s : State A) (line : ℕ) (kind : FaultKind) (before after : List BodyItem) → before
@@ -334,15 +332,13 @@ module _ {A : Type 0} (with_change : A → ℕ → List Bit → A) (with_instant
       ≡ Err (record { line = line; kind = UnfinishedSection })
   unfolding steps body_from
   unfinished_fails nets timed dump_section Ready line e = ap (λ (b : Option ℕ). finished with_change with_instant nets
-      timed
-      b ready) e
+      timed b ready) e
   unfinished_fails nets timed dump_section (Vector digits) line e = ap unfinished_at (same_some digits.line line e)
   unfinished_fails nets timed dump_section (Foreign at) line e = ap unfinished_at (same_some at line e)
   unfinished_fails nets timed dump_section (Comment at) line e = ap unfinished_at (same_some at line e)
 
   pub finished-ok : (nets : List Net) (timed : BodyFold A) (dump_section : Option ℕ) (place : OpenItem)
-      → unfinished place
-      dump_section ≡ None
+      → unfinished place dump_section ≡ None
       → finished with_change with_instant nets timed dump_section (place_of place) ≡ Ok (ended with_instant timed)
   unfolding steps body_from
   finished-ok nets timed dump_section Ready e = ap (λ (b : Option ℕ). finished with_change with_instant nets timed b

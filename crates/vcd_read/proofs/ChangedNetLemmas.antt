@@ -114,11 +114,9 @@ below_next changed_nets place start current moved up h k lt =
     omega (arith, s.is))
 
 listed_next : (changed_nets : List ℕ) (place : ℕ) (start current : CurrentValues) (moved : List Value)
-    → IsMoved changed_nets place
-    start current moved
+    → IsMoved changed_nets place start current moved
     → (net : ℕ) → IsSome (get_or (slice_set current (get_or changed_nets place 0) None) net None)
-    → StandsFrom changed_nets
-    (place + 1) net
+    → StandsFrom changed_nets (place + 1) net
 listed_next changed_nets place start current moved h net some =
     elim (cases_eq net (get_or changed_nets place 0)) [
       | inl e ↦ absurd (some_is_none (get_or (slice_set current (get_or changed_nets place 0) None) net None)
@@ -153,8 +151,7 @@ moved_some changed_nets place start current moved bits up h e =
     }
 
 pub moved_none : (changed_nets : List ℕ) (place : ℕ) (start current : CurrentValues) (moved : List Value)
-    → IsMoved changed_nets place
-    start current moved
+    → IsMoved changed_nets place start current moved
     → get_or current (get_or changed_nets place 0) None ≡ no_bits
     → IsMoved changed_nets (place + 1) start (slice_set current (get_or changed_nets place 0) None) moved
 moved_none changed_nets place start current moved h e =
@@ -175,8 +172,7 @@ all_none base (None ∷ current) none =
 
 -- at the end nothing is left
 pub moved_all : (changed_nets : List ℕ) (place : ℕ) (start current : CurrentValues) (moved : List Value)
-    → IsMoved changed_nets place
-    start current moved → length changed_nets ≤ place
+    → IsMoved changed_nets place start current moved → length changed_nets ≤ place
     → (moved ≡ values_from 0 start) × (current ≡ replicate (length start) None)
 moved_all changed_nets place start current moved h past =
     let none : (net : ℕ) → get_or current net None ≡ no_bits =

@@ -110,8 +110,7 @@ module _ {A : Type 0} (with_change : A → ℕ → List Bit → A) (with_instant
         → ((next : State A) → R next.progress.accumulator → steps with_change with_instant nets next items ≡ Ok end
         → R end.progress.accumulator)
         → R p.accumulator → ((stood >>= λ next. Ok (record { context = next; progress = p })) >>= λ next. steps
-        with_change
-        with_instant nets next items) ≡ Ok end → R end.progress.accumulator
+        with_change with_instant nets next items) ≡ Ok end → R end.progress.accumulator
     then-keeps items p (Ok next) end rest r is = rest (record { context = next; progress = p }) r is
     then-keeps items p (Err fault) end rest r is = absurd cc
 
@@ -119,8 +118,7 @@ module _ {A : Type 0} (with_change : A → ℕ → List Bit → A) (with_instant
     same_end s end r e is = cc
 
     pub steps-keep : (s : State A) (items : List BodyItem) (end : State A) → R s.progress.accumulator
-        → steps with_change
-        with_instant nets s items ≡ Ok end → R end.progress.accumulator
+        → steps with_change with_instant nets s items ≡ Ok end → R end.progress.accumulator
     unfolding steps
     steps-keep s [] end r is = subst (λ (x : State A). R x.progress.accumulator) (same_end s end (Ok s) refl is) r
     steps-keep s (item ∷ items) end r is =
@@ -395,8 +393,7 @@ module _ {A B : Type 0} (with_change : A → ℕ → List Bit → A) (with_insta
       → learned before ≡ entered other_instant r.progress.accumulator (ended_at r.progress detached.time)
       → (more : List Token) → rest_of other_change other_instant r (tokens_from r.line bytes) more
       ≡ rest_of other_change other_instant (with_taken (learned detached.progress.accumulator)
-      (behind_piece r.nets detached))
-      []
+      (behind_piece r.nets detached)) []
       more
   joined-leads r bytes before detached is fits told more =
       let ts : List Token = tokens_from detached.first_line bytes in

@@ -351,8 +351,7 @@ at_change nets items now current c here up =
 begun_law : (nets : List Net) (items : List BodyItem) (done : List Instant) (now : ℕ)
     (current : List (Option (List Bit))) → length current ≡ length nets → Ascends now items
     → ended (progress_after_all nets (has_instant_at done now current) items) ≡ done ++ instants_at (length nets)
-    current
-    (changes_from nets now items) now (times_from now items)
+    current (changes_from nets now items) now (times_from now items)
 unfolding changes_from times_from
 begun_law nets [] done now current len up = refl
 begun_law nets (time_item line digits ∷ items) done now current len up =

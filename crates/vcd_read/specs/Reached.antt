@@ -38,8 +38,7 @@ module _ {A : Type 0} (with_change : A → ℕ → List Bit → A) (with_instant
   -- the same, and how far it comes
   abbrev pub rest_until_fault : Reached A → List Token → List Token → UntilFault A
   rest_until_fault r tokens more = ahead_until_fault with_change with_instant r.nets r.progress r.dump_section r.place
-      tokens
-      more
+      tokens more
 
   -- what comes of it where nothing is left of the body
   abbrev pub outcome_of : Reached A → Result A VcdFault

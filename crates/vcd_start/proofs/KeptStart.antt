@@ -24,8 +24,7 @@ module _ (nets : List Net) (time : ℕ) where
     where
       by_case : (b : Bool)
           → HasTime (if b then record { accumulator = or_time p.accumulator p.time; time = t; has_instant = true }
-          else record p
-          { time = t; has_instant = true })
+          else record p { time = t; has_instant = true })
       by_case true = ap (λ (s : Option ℕ). or_time s p.time) h
       by_case false = h
 

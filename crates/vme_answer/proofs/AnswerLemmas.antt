@@ -47,8 +47,7 @@ too_long_is input text long = rw (lt-leb (length text) longest_input long) refl
 -- ---- what functions give of the faults that they meet
 
 pub or_bad_binding-gives : {Y : Type 0} (line : ℕ) (kind : BindFaultKind) (answer : Result Y BindFault)
-    → BindFailsAs line
-    kind answer
+    → BindFailsAs line kind answer
     → AnswerGives (λ (y : Y). y) (Err (binding_refusal (record { line = line; kind = kind }))) (or_bad_binding answer)
 or_bad_binding-gives line bind.Memory answer is = tt
 or_bad_binding-gives {Y} line kind answer is = ap (λ (r : Result Y BindFault). or_bad_binding r) is
@@ -90,8 +89,7 @@ refused_dump line vcd.Memory answer is = tt
 refused_dump line kind answer is = ap by_either is
 
 refused_binding : {A : Type 0} (line : ℕ) (kind : BindFaultKind) (answer : Result A CaptureFault)
-    → text.BindingFails line
-    kind answer
+    → text.BindingFails line kind answer
     → IsRefused (binding_refusal (record { line = line; kind = kind })) (by_either answer)
 refused_binding line bind.Memory answer is = tt
 refused_binding line kind answer is = ap by_either is

@@ -312,8 +312,7 @@ module _ (t : Trace) (ok : malformed_step t ≡ None) (few : t.opening.slots ≤
         }
 
         module _ (on : JudgesOn dtb_begin dtb_start_marks no_step_marks dtb_end_fault dtb_observation dtb_step t few ok
-            n
-            work) where
+            n work) where
           none_ends : ends ≡ None
           none_ends =
               goes_here p v w ends (dtb_observation v w (cs_at n))

@@ -152,8 +152,7 @@ part_rows shows start t ok few first_break e =
     (marked_rows None (marks_listed first_break (joined_marks (memories_at t.opening) t.opening t.steps)))
     (ap (filter is_told) (sym (marked_is_listed t)
     ∙ ap (λ (first_break : Option Break). listed t.opening (has_span (judged_spans t)) first_break (all_marks t))
-    least))
-    (subst (λ (ms : List Mark). CountAlike
+    least)) (subst (λ (ms : List Mark). CountAlike
     (filter is_told (listed t.opening (has_span (judged_spans t)) first_break (all_marks t)))
     (marked_rows None (marks_listed first_break ms))) (sym (shows t ok few)) rows)
 

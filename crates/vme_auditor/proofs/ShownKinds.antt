@@ -120,8 +120,7 @@ module _ (m : Memories) (v w : Levels) (cs : List Change) where
   pub acknowledge_own : IsNothing (acknowledge_at m.acknowledge v w cs).shown
   acknowledge_own =
       shown_own acknowledge_begin acknowledge_start_marks no_step_marks acknowledge_end_fault acknowledge_next IsNothing
-      refl
-      (λ v. refl) refl (λ p v w s. refl) acknowledge_observation v w cs m.acknowledge
+      refl (λ v. refl) refl (λ p v w s. refl) acknowledge_observation v w cs m.acknowledge
 
 -- numbers of kinds below a bound, and from one on
 abbrev pub AllBelow : ℕ → List MarkKind → Type 0

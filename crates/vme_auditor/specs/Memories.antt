@@ -43,8 +43,7 @@ stability_at =
 
 abbrev pub grant_at : StretchPhase Arbitration → Levels → Levels → List Change → Next (StretchPhase Arbitration)
 grant_at = machine_step (observed grant_observation) (phase_step grant_begin grant_start_marks no_step_marks
-    grant_end_fault
-    grant_next)
+    grant_end_fault grant_next)
 
 abbrev pub acknowledge_at : StretchPhase Acknowledgement → Levels → Levels → List Change
     → Next (StretchPhase Acknowledgement)

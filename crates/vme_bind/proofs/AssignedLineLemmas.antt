@@ -330,8 +330,7 @@ module _ (nets : List Net) (bytes : List ℕ) (e : SpeculativeBuilderState) (a :
       ∙ ap (λ (p : RecorderLevels). cond (is_assigned a.progress.accumulator.assigned l) (level_at p.now l)
       (level_at before l)) (sym now)
       ∙ ap (λ (b : List Bool). cond (is_assigned b l) (level_at x.detached.progress.accumulator.now l)
-      (level_at before l))
-      (sym assigned)
+      (level_at before l)) (sym assigned)
       ∙ sym (left.levels l lt)) in
       behind-is before line_bits t m lines (at ∙ line) there ∙ same
 

@@ -120,8 +120,7 @@ matched_scopes-all path (name ∷ scopes) = by_test (begins_with (path_in scopes
 
 -- a scope opens
 pub matched_scopes-open : (path name : List ℕ) (scopes : List (List ℕ)) → matched_behind (length scopes)
-    (length (path_in scopes))
-    (with_dot name) path (scopes_matched path scopes) ≡ scopes_matched path (name ∷ scopes)
+    (length (path_in scopes)) (with_dot name) path (scopes_matched path scopes) ≡ scopes_matched path (name ∷ scopes)
 unfolding scopes_matched path_in
 matched_scopes-open path name scopes =
     ap (λ (b : Bool). cond (b && begins_with (with_dot name) (drop (length (path_in scopes)) path)) (length scopes + 1)

@@ -322,8 +322,7 @@ fails-captured b text (Dump fault) h = by_kind fault.line fault.kind h
 fails-captured b text (Binding fault) h = by_kind fault.line fault.kind h
   where
     by_kind : (line : ℕ) (kind : BindFaultKind) → BindingFails line kind (recording_of_text b text)
-        → BindingFails line kind
-        (capture_of_text b text)
+        → BindingFails line kind (capture_of_text b text)
     by_kind line NoMemory e = e
     by_kind line kind e = capture-recorded b text ∙ ap in_limit e
 

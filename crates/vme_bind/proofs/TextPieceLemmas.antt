@@ -100,8 +100,7 @@ pub wanting : {Y Z : Type 0} (own : BindFault) (answer : Result Y BindFault) (as
 wanting own answer assigned is fails = by_kind own.line own.kind is fails
   where
     by_kind : (line : ℕ) (kind : BindFaultKind) → kind ≡ NoMemory → BindFailsAs line kind answer
-        → BindingFails line kind
-        assigned
+        → BindingFails line kind assigned
     by_kind line NoMemory is fails = fails
     by_kind line kind is fails = absurd (cc is)
 

@@ -89,8 +89,7 @@ end_stops line kind made recorded time r e h =
     ap (reading_made read.reached.progress.accumulator.recorded read.reached.progress.time) h.0
     ∙ stopped_as (record { line = line; kind = kind }) _ _ _ _
     (ap (λ (p : BodyFold BuilderState). p.accumulator.recorded) none ∙ ap (λ (m : BuilderState). m.recorded) (sym h.1)
-    ∙ sym e)
-    (ap (λ (p : BodyFold BuilderState). p.time) none ∙ sym h.2)
+    ∙ sym e) (ap (λ (p : BodyFold BuilderState). p.time) none ∙ sym h.2)
 
 -- no fault at the end
 pub ended_reading : (recorded : Trace) (made : BuilderState) (r : Reached BuilderState) → recorded ≡ made.recorded

@@ -145,8 +145,7 @@ module _ (t : Trace) (span : Stretch) where
   -- the pair of a single cycle, and the direction of a block cycle
   pub breaks_read_modify_write-is : (rs : List ℕ) (r : ℕ)
       → (has_earlier_answer rs && (is_many rs || writes_first t span rs || not (answers_write t span r)))
-      ≡ breaks_read_modify_write t span
-      rs r
+      ≡ breaks_read_modify_write t span rs r
   unfolding breaks_read_modify_write
   breaks_read_modify_write-is [] r = refl
   breaks_read_modify_write-is (q ∷ []) r = refl
@@ -818,8 +817,7 @@ module _ (t : Trace) (span : Stretch) (is : IsSpanOf t span) where
       held-last : (c : Cycle) → IsLastCycle t span (j + 1) j c
           → any needs (span.start + 1) j ≡
           (nat_lt c.start j && (c.runs && not (rises t AS j)) && not (has_earlier_answer (answers_of t span c.start j))
-          && not
-          (is_answer t span j) && is_needed (levels_at t c.start) l)
+          && not (is_answer t span j) && is_needed (levels_at t c.start) l)
       unfolding answers_of cycle_runs
       held-last c h =
           only-last (cycle_starts t span) needs (span.start + 1) j c.start found (λ i e. not-there i e)

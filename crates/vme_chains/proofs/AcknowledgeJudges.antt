@@ -186,8 +186,7 @@ pub acknowledge_first_break : FindsLeast
     no_step_marks (λ l. None)
     acknowledge_next))) (start_in acknowledge_begin) acknowledge_rules
 acknowledge_first_break = inside_first_break acknowledge_begin acknowledge_start_marks acknowledge_observation
-    acknowledge_next
-    acknowledge_rules
+    acknowledge_next acknowledge_rules
     refl (λ t span ok few facts n from before within unbroken. acknowledge_inside t span ok few facts n from before
     within)
 
@@ -197,8 +196,7 @@ pub acknowledge_marks : ShowsAll
     acknowledge_next))) (start_in acknowledge_begin) no_step_marks acknowledge_shown
 acknowledge_marks =
     inside_marks acknowledge_begin acknowledge_start_marks acknowledge_observation acknowledge_next
-    acknowledge_end_fault
-    acknowledge_shown
+    acknowledge_end_fault acknowledge_shown
     (λ t span ok few facts. record {
       at_start = refl;
       inside = λ n from before within. by_observation (acknowledge_observation (levels_at t n) (levels_at t (suc n))

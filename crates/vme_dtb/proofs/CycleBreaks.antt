@@ -125,8 +125,7 @@ module _ (t : Trace) (span : Stretch) (reads : ReadsStrobes t span) (n : ℕ) (f
 
   abbrev read_modify_write_broken : Bool
   read_modify_write_broken = in_cycle t span (λ i. is_single (class_at t span i) && breaks_read_modify_write t span
-      (answers_of t span i (suc n))
-      (suc n)) (suc n)
+      (answers_of t span i (suc n)) (suc n)) (suc n)
 
   form_c1 : (l : ℕ) → breaks t span C1 (suc n) l ≡ (is_judged span (suc n) && has_line t.opening.slots l
       && (is_answer_line l && falls t l (suc n) && (is_answer t span (suc n) && read_modify_write_broken)))
@@ -142,8 +141,7 @@ module _ (t : Trace) (span : Stretch) (reads : ReadsStrobes t span) (n : ℕ) (f
 
   abbrev direction_changed : Bool
   direction_changed = in_cycle t span (λ i. is_block_class (class_at t span i) && changes_direction t span
-      (answers_of t span i (suc n))
-      (suc n)) (suc n)
+      (answers_of t span i (suc n)) (suc n)) (suc n)
 
   form_c2 : (l : ℕ) → breaks t span C2 (suc n) l ≡ (is_judged span (suc n) && has_line t.opening.slots l
       && (is_answer_line l && falls t l (suc n) && (is_answer t span (suc n) && direction_changed)))
@@ -191,8 +189,7 @@ module _ (t : Trace) (span : Stretch) (reads : ReadsStrobes t span) (n : ℕ) (f
       form_i4
       ∙ same_cond _ _ _ _ (same_and (answers_write t span (suc n)) interrupt_acknowledge (is_writing within
       && is_some seen.answer_fall) (is_interrupt_acknowledge here) write_is (in_interrupt_acknowledge t span (suc n)
-      ∙ ap is_interrupt_acknowledge
-      here_is)) (answer_fall_is t n)
+      ∙ ap is_interrupt_acknowledge here_is)) (answer_fall_is t n)
       ∙ by_write within (is_interrupt_acknowledge here) seen.answer_fall)
     where
       same_and : (a b c d : Bool) → a ≡ c → b ≡ d → (a && b) ≡ (c && d)
@@ -200,6 +197,5 @@ module _ (t : Trace) (span : Stretch) (reads : ReadsStrobes t span) (n : ℕ) (f
 
   -- each fault is that of its rule
   pub cycle_faults-are-breaks : AreBreaksOf (break_of_fault (suc n) (time_at t (suc n))) (rule_break t span (suc n))
-      cycle_rules
-      (cycle_faults here (is_writing within) (answer_in within seen))
+      cycle_rules (cycle_faults here (is_writing within) (answer_in within seen))
   cycle_faults-are-breaks = (c1, (c2, (i4, (i5, tt))))

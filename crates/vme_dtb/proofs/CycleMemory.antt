@@ -162,8 +162,7 @@ module _ (t : Trace) (span : Stretch) where
   breaks_read_modify_write_is class.F rs j = refl
 
   changes_direction_is : (c : Class) (rs : List ℕ) (j : ℕ) → (is_block_class c && changes_direction t span rs j)
-      ≡ is_direction_changed (told c rs)
-      (answers_write t span j)
+      ≡ is_direction_changed (told c rs) (answers_write t span j)
   unfolding changes_direction
   changes_direction_is class.S [] j = refl
   changes_direction_is class.S (r ∷ []) j = by_write (answers_write t span r) (answers_write t span j)

@@ -243,6 +243,5 @@ module _ (t : Trace) (span : Stretch) (reads : ReadsStrobes t span) (n : ℕ) (f
 
   -- each fault is that of its rule
   pub handshake_faults-are-breaks : AreBreaksOf (break_of_fault (suc n) (time_at t (suc n))) (rule_break t span (suc n))
-      strobe_rules
-      (strobe_faults m within seen)
+      strobe_rules (strobe_faults m within seen)
   handshake_faults-are-breaks = (h1, (h2, (h3, (h4, (h5, (h6, (h7, (h8, tt))))))))

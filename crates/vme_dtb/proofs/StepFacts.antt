@@ -167,8 +167,7 @@ module _ (t : Trace) (n : ℕ) where
 
     pub rule_from : (r : Rule) (c : Bool) (line : Option ℕ) → least (breaks t span r (suc n)) 0 line_count
         ≡ cond c line None → option_map (break_of_fault (suc n) (time_at t (suc n))) (fault_if r c line)
-        ≡ rule_break t span
-        (suc n) r
+        ≡ rule_break t span (suc n) r
     unfolding rule_break
     rule_from r c line e = rw e (by_case c line)
       where

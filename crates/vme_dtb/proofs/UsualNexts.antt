@@ -79,8 +79,7 @@ broken_by_rise Reading a b e f h = calm_line H2 a b DS0 DS1 (neither (a || b) e 
 broken_by_rise Writing a b e f h = calm_line H2 a b DS0 DS1 (neither (a || b) e h).0
 
 broken_by_fall : (p : TransferPhase) (r e a b : Bool) → strobes_break_rule p r e (a || b) ≡ false
-    → fault_if H3 (is_replied p)
-    (first_of a DS0 b DS1) ≡ None
+    → fault_if H3 (is_replied p) (first_of a DS0 b DS1) ≡ None
 broken_by_fall Closed r e a b h = refl
 broken_by_fall Reading r e a b h = refl
 broken_by_fall Writing r e a b h = refl
@@ -165,8 +164,7 @@ module _ (m : HandshakeMemory) (v w : Levels) where
   plain_data s = by_start (starts_between v w) within m.transfer s (within_is s)
     where
       by_start : (b : Bool) (e p : TransferPhase) → b ≡ false → e ≡ p → cond (is_writing e)
-          (Some (lanes_at (cond b w v)))
-          None ≡ cond (is_writing p) (Some (lanes_at v)) None
+          (Some (lanes_at (cond b w v))) None ≡ cond (is_writing p) (Some (lanes_at v)) None
       by_start b e p x y = rw (x, y) refl
 
   pub start_next : is_start_alone v w ≡ true

@@ -67,8 +67,7 @@ abbrev pub stretch_threshold : {S : Type 0} → StretchObservation S → ℕ
 stretch_threshold seen = threshold_by seen.end seen.inner
 
 module _ {P S : Type 0} (begin : Levels → P) (start_marks : Levels → StepMarks) (reset_marks : StepMarks)
-    (end_fault : ℕ → Option Fault)
-    (next : P → Levels → Levels → S → Next P) where
+    (end_fault : ℕ → Option Fault) (next : P → Levels → Levels → S → Next P) where
   -- in the memory of one who waits
   abbrev pub waiting : StretchPhase P → Levels → Next (StretchPhase P)
   waiting m after =

@@ -34,8 +34,7 @@ pub phases_few : (count : ℕ) → count ≤ 509 → count + 3 ≤ 512
 phases_few count h = omega arith
 
 module _ {P S : Type 0} (begin : Levels → P) (start_marks : Levels → StepMarks) (reset_marks : StepMarks)
-    (end_fault : ℕ → Option Fault)
-    (next : P → Levels → Levels → S → Next P) where
+    (end_fault : ℕ → Option Fault) (next : P → Levels → Levels → S → Next P) where
   -- a machine that waits reacts to all that is seen
   never_waiting : (end : Option End) (seen : Option S) → ¬ (2 < threshold_by end seen)
   never_waiting (Some ends) seen h = omega arith
@@ -67,8 +66,7 @@ module _ {P S : Type 0} (begin : Levels → P) (start_marks : Levels → StepMar
       → phase_sensitivity (waiting begin start_marks reset_marks end_fault next m after).memory ≤ phase_sensitivity m
   waiting_calm m after h =
       either (is_idle after) (record { memory = Judging (begin after); fault = None; shown = start_marks after })
-      (quiet m)
-      (phase_sensitivity m) h (omega arith)
+      (quiet m) (phase_sensitivity m) h (omega arith)
 
   judging_calm : (p : P) (before after : Levels) (end : Option End) (seen : Option S) → 0 < threshold_by end seen
       → phase_sensitivity (judging begin start_marks reset_marks end_fault next p before after end seen).memory ≤ 1

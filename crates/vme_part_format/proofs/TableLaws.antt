@@ -113,8 +113,7 @@ node_takes count steps others bytes x low fits e =
     subst (λ (n : ℕ). Takes b.0.1 (to_le_bytes w32 n) c.0.1) (sym t3.2) t2.0 in
     let t23 = Takes-then b.0.1 (to_le_bytes w32 (length d.0.0)) c.0.1 (marks_bytes 0 d.0.0) d.0.1 many t3.0 in
     let t13 = Takes-then a.0.1 (first_break_bytes b.0.0) b.0.1 (to_le_bytes w32 (length d.0.0) ++ marks_bytes 0 d.0.0)
-    d.0.1
-    t1.0 t23 in
+    d.0.1 t1.0 t23 in
     let t03 = Takes-then bytes (to_le_bytes w32 a.0.0) a.0.1
     (first_break_bytes b.0.0 ++ (to_le_bytes w32 (length d.0.0) ++ marks_bytes 0 d.0.0)) d.0.1 t0.0 t13 in
     let made : NodeValue × List ℕ = (record { next = a.0.0; first_break = b.0.0; marks = d.0.0 }, d.0.1) in

@@ -183,8 +183,7 @@ module _ (steps more : ℕ) (fits : steps + more < 2 ^ 64) where
                 All-map (λ (e : TableEntry). IfSome e.first_break (FitsBreak (steps + more)))
                 (entry_on b.entries steps (length a.nodes)) a.entries
                 (λ k d h. first_break_fits (get_or a.entries k d).next (get_or a.entries k d).first_break
-                (f.entries k d h).first_break) k
-                d h;
+                (f.entries k d h).first_break) k d h;
           };
           nodes = nodes_fit a.nodes f.nodes (subst (λ m. NodesGoOn m (table_on a b steps).nodes) memories ways.nodes);
           few = rw (← memories) ways.few;

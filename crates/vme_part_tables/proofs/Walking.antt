@@ -58,8 +58,7 @@ walked_later m by (n ∷ ns) w = by_order (walked_later m by ns) w (cases_order 
     by_order more w (inl e) =
         rw e (walked_here m (later_node by n) (map (later_node by) ns)
         ∙ (ap (λ r. behind_marks (map (later_mark by) n.marks) (behind_break (option_map (later_break by) n.first_break)
-        r))
-        (more n.next)
+        r)) (more n.next)
         ∙ (later_behind by n.marks n.first_break (walked m ns n.next)
         ∙ sym (ap (later_outcome by) (walked_here m n ns)))))
     by_order more w (inr (inl h)) =

@@ -198,8 +198,7 @@ pub stability_first_break : FindsLeast
     (λ l. None)
     stability_next))) (start_in stability_begin) stability_rules
 stability_first_break = inside_first_break stability_begin stability_start_marks stability_observation stability_next
-    stability_rules
-    refl
+    stability_rules refl
     (λ t span ok few facts n from before within unbroken. judges_inside t span ok facts n from before within unbroken)
 
 pub stability_marks : ShowsAll

@@ -270,8 +270,7 @@ module _ (from : ℕ) where
       (outcome >>= at_end builder_instant))
   outcome-times reached (Ok end) h whole =
       subst (λ (s : State BuilderState). TimesOf (reading_made reached.progress.accumulator.recorded
-      reached.progress.time
-      (at_end builder_instant s))) (whole end refl)
+      reached.progress.time (at_end builder_instant s))) (whole end refl)
       (end-times reached.progress (at_the_end reached.context) h.made)
   outcome-times reached (Err fault) h whole = faulty-times reached.progress fault h.made
 

@@ -13,7 +13,6 @@ returns c =
     named_is_least t
     ∙ sym (least_of_all t _ _ _ _ _ (c.known_over_recordings.ensures.first_break t ok few)
     (c.handshake_over_recordings.ensures.first_break t ok few) (c.stability_over_recordings.ensures.first_break t ok
-    few)
-    (c.grants_over_recordings.ensures.first_break t ok few) (c.acknowledge_over_recordings.ensures.first_break t ok
+    few) (c.grants_over_recordings.ensures.first_break t ok few) (c.acknowledge_over_recordings.ensures.first_break t ok
     few))
     ∙ runs_first t.steps (memories_at t.opening) t.opening

@@ -23,8 +23,7 @@ loop-s-preserved c =
     c.s-item.result) c.visit.new.self c.visit.ensures.matched_scopes c.visit.ensures.assignment before in
     record {
       matched_scopes = All-set (HasOpened c.args.scopes.now) c.loop-s.searches c.loop-s.s-index c.visit.new.self
-          matched_scopes
-          c.loop-s.invariant.matched_scopes;
+          matched_scopes c.loop-s.invariant.matched_scopes;
       done = stepped_by seen_in step c.loop-s.searches c.args.searches.now c.loop-s.s-index c.s-item.result
           c.visit.new.self
           (search rules) (search rules) (search rules) (c.visit.ensures.seen ∙ ap (λ (s : PathSearch). step (seen_in s))

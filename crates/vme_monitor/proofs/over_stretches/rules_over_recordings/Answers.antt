@@ -3,8 +3,7 @@ use Rattle.vme_monitor.proofs.over_stretches.rules_over_recordings.Goals as goal
 
 pub returns-clause-first_break : goal.returns-clause-first_break
 returns-clause-first_break g c = λ t rules ok few owed. first_break_over g.R.Rules.begin g.R.Rules.start_marks
-    g.R.Rules.reset_marks
-    g.R.Rules.end_fault g.R.Rules.observation g.R.Rules.next t few ok rules owed
+    g.R.Rules.reset_marks g.R.Rules.end_fault g.R.Rules.observation g.R.Rules.next t few ok rules owed
 
 pub returns-clause-marks : goal.returns-clause-marks
 returns-clause-marks g c = λ t shown ok few owed. marks_over_spans g.R.Rules.begin g.R.Rules.start_marks

@@ -28,8 +28,7 @@ returns c =
           (phase_place nil_place) _ _ o x all.known.outcomes c.in_ok-known.ensures;
       handshake = summary_tells (observed dtb_observation)
           (phase_step dtb_begin dtb_start_marks no_step_marks dtb_end_fault dtb_step) 147 (phase_place memory_place) _ _
-          o x
-          all.handshake.outcomes c.in_ok-handshake.ensures;
+          o x all.handshake.outcomes c.in_ok-handshake.ensures;
       stability = summary_tells (observed stability_observation)
           (phase_step stability_begin stability_start_marks no_step_marks stability_end_fault stability_next) 13
           (phase_place holding_place) _ _ o x all.stability.outcomes c.in_ok-stability.ensures;

@@ -27,8 +27,7 @@ returns-then-is_end-clause-rest g c =
     text c.next.new.self.text (body_fold (g.T.ChangeVisitor.taken old.timed.visitor) old.timed.clock)
     (body_fold (g.T.ChangeVisitor.taken c.loop-word.self.timed.visitor) c.loop-word.self.timed.clock) old.dump_section
     c.loop-word.self.dump_section _ (place_of c.loop-word.self.place) after (cc) (cc) (rw inv.timed refl)
-    inv.dump_section
-    (ap place_of (inv.place ∙ c.requires.between)) more
+    inv.dump_section (ap place_of (inv.place ∙ c.requires.between)) more
 
 pub loop-word-preserved : goal.loop-word-preserved
 loop-word-preserved g c =

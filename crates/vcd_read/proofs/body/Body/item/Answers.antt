@@ -21,8 +21,7 @@ returns-in-Time-clause-rest g c =
     read_item g.T.ChangeVisitor.with_change g.T.ChangeVisitor.with_instant old.codes.now new.codes.now
     (state_of old.reader.text (body_fold (g.T.ChangeVisitor.taken old.timed.visitor) old.timed.clock) old.dump_section)
     (state_of new.reader.text (body_fold (g.T.ChangeVisitor.taken new.timed.visitor) new.timed.clock) new.dump_section)
-    text
-    new.reader.text old.reader.at new.reader.at new.place (time_item t.line c.in-Time.digits.now) _ c.time.result
+    text new.reader.text old.reader.at new.reader.at new.place (time_item t.line c.in-Time.digits.now) _ c.time.result
     (cc) (cc) (cc) (cc) is c.time.ensures.step c.time.ensures.kept
 
 pub returns-in-Scalar-clause-rest : goal.returns-in-Scalar-clause-rest
@@ -52,8 +51,7 @@ returns-in-Opens-clause-rest g c =
     read_item g.T.ChangeVisitor.with_change g.T.ChangeVisitor.with_instant old.codes.now new.codes.now
     (state_of old.reader.text (body_fold (g.T.ChangeVisitor.taken old.timed.visitor) old.timed.clock) old.dump_section)
     (state_of new.reader.text (body_fold (g.T.ChangeVisitor.taken new.timed.visitor) new.timed.clock) new.dump_section)
-    text
-    new.reader.text old.reader.at new.reader.at new.place (dump_section_open t.line) _ c.open.result
+    text new.reader.text old.reader.at new.reader.at new.place (dump_section_open t.line) _ c.open.result
     (cc) (cc) (cc) (cc) is c.open.ensures.step c.open.ensures.kept
 
 pub returns-in-Ends-clause-rest : goal.returns-in-Ends-clause-rest
@@ -67,8 +65,7 @@ returns-in-Ends-clause-rest g c =
     read_item g.T.ChangeVisitor.with_change g.T.ChangeVisitor.with_instant old.codes.now new.codes.now
     (state_of old.reader.text (body_fold (g.T.ChangeVisitor.taken old.timed.visitor) old.timed.clock) old.dump_section)
     (state_of new.reader.text (body_fold (g.T.ChangeVisitor.taken new.timed.visitor) new.timed.clock) new.dump_section)
-    text
-    new.reader.text old.reader.at new.reader.at new.place (dump_section_end t.line) _ c.close.result
+    text new.reader.text old.reader.at new.reader.at new.place (dump_section_end t.line) _ c.close.result
     (cc) (cc) (cc) (cc) is c.close.ensures.step c.close.ensures.kept
 
 pub returns-in-Vector-clause-rest : goal.returns-in-Vector-clause-rest
@@ -116,5 +113,4 @@ returns-in-Unknown-clause-rest g c =
     (sym (ap found_shape c.in-Unknown.is) ∙ c.shape_of.ensures) in
     rw c.fault.ensures (λ more. read_wrong g.T.ChangeVisitor.with_change g.T.ChangeVisitor.with_instant old.codes.now
     (state_of old.reader.text (body_fold (g.T.ChangeVisitor.taken old.timed.visitor) old.timed.clock) old.dump_section)
-    t.line
-    _ _ _ (is more))
+    t.line _ _ _ (is more))

@@ -13,8 +13,7 @@ returns-then-not-finds_token-clause-rest g c =
     rw c.finds_token.ensures.text
     (ap (λ (ts : List Token). until_fault g.T.ChangeVisitor.with_change g.T.ChangeVisitor.with_instant old.codes.now
     (state_of c.args.reader.now.text (body_fold (g.T.ChangeVisitor.taken old.timed.visitor) old.timed.clock)
-    old.dump_section)
-    (body_from ready (ts ++ more))) (sym c.finds_token.ensures.left))
+    old.dump_section) (body_from ready (ts ++ more))) (sym c.finds_token.ensures.left))
 
 pub returns-then-reader-eq35-clause-rest : goal.returns-then-reader-eq35-clause-rest
 returns-then-reader-eq35-clause-rest g c =
@@ -23,8 +22,7 @@ returns-then-reader-eq35-clause-rest g c =
     (λ more. rw c.finds_token.ensures.text
     (ap (λ (ts : List Token). until_fault g.T.ChangeVisitor.with_change g.T.ChangeVisitor.with_instant old.codes.now
     (state_of c.args.reader.now.text (body_fold (g.T.ChangeVisitor.taken old.timed.visitor) old.timed.clock)
-    old.dump_section)
-    (body_from ready (ts ++ more))) (sym c.finds_token.ensures.left)))
+    old.dump_section) (body_from ready (ts ++ more))) (sym c.finds_token.ensures.left)))
     c.short_time.ensures.rest
 
 pub returns-clause-rest : goal.returns-clause-rest
@@ -34,6 +32,5 @@ returns-clause-rest g c =
     (λ more. rw c.finds_token.ensures.text
     (ap (λ (ts : List Token). until_fault g.T.ChangeVisitor.with_change g.T.ChangeVisitor.with_instant old.codes.now
     (state_of c.args.reader.now.text (body_fold (g.T.ChangeVisitor.taken old.timed.visitor) old.timed.clock)
-    old.dump_section)
-    (body_from ready (ts ++ more))) (sym c.finds_token.ensures.left)))
+    old.dump_section) (body_from ready (ts ++ more))) (sym c.finds_token.ensures.left)))
     c.short_change.ensures.rest

@@ -20,6 +20,5 @@ returns-in-Some-clause-rest g c =
     read_item g.T.ChangeVisitor.with_change g.T.ChangeVisitor.with_instant old.codes.now new.codes.now
     (state_of old.reader.text (body_fold (g.T.ChangeVisitor.taken old.timed.visitor) old.timed.clock) old.dump_section)
     (state_of new.reader.text (body_fold (g.T.ChangeVisitor.taken new.timed.visitor) new.timed.clock) new.dump_section)
-    text
-    new.reader.text after new.reader.at new.place (change line c.args.digits.now t.bytes) _ c.change.result
+    text new.reader.text after new.reader.at new.place (change line c.args.digits.now t.bytes) _ c.change.result
     (cc) (cc) (cc) (cc) is h c.change.ensures.kept

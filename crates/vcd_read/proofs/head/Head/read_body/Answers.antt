@@ -9,7 +9,6 @@ returns-in_err-state g c =
     let fault = c.in_err-state.field-0.0 in
     let met = c.in_err-state.ensures [] in
     let h = rw (c.new.ensures.visitor, c.new.ensures.clock, c.new.ensures.dump_section, c.new.ensures.place, append-nil)
-    at
-    met in
+    at met in
     rw (← c.self.view_is) (gives_err _ c.from_residual.result fault _ c.from_residual.ensures.1
     (fails_first fault _ (at_end g.T.ChangeVisitor.with_instant) _ refl h))

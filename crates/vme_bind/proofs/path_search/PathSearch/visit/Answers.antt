@@ -26,8 +26,7 @@ returns-then-eq-clause-seen c =
     let rest = rw (c.as_bytes.ensures, c.path.ensures) at c.rest_of.ensures in
     let same = sym c.eq.ensures ∙ c.if-eq.true in
     let here = candidate-here named scopes v.net v.size r c.requires.name s.matched_scopes c.rest_of.result.now
-    matched_scopes
-    (c.if-self-depth.false ∙ c.depth.ensures) rest same in
+    matched_scopes (c.if-self-depth.false ∙ c.depth.ensures) rest same in
     let is = ap (λ (source : LevelSource). candidate_of source (variable_in scopes v.net v.size r)) c.in-Variable.is in
     ap (λ (found : PathMatch). let seen : Searched = record { assignment = s.assignment.now; found = found } in seen)
     (c.with-self.ensures ∙ ap (with_bits s.found) (c.meant-bits.ensures ∙ here ∙ sym is))

@@ -16,8 +16,7 @@ returns-in-Err c =
     (λ bound_group. behind_bound_groups
     (bound_groups ++ bound_group ∷ []) (bound_groups_of (map seen_in (drop (i + 1) all)))) _
     (sym c.loop-path_search.invariant.bound_groups ∙ bound_groups-first bound_groups all i c.path_search-item.result lt
-    item)
-    c.in-Err.ensures
+    item) c.in-Err.ensures
 
 pub loop-path_search-preserved : goal.loop-path_search-preserved
 loop-path_search-preserved c =

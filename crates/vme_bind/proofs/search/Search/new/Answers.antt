@@ -20,8 +20,7 @@ loop-assignment-preserved c =
         l.invariant.seen,
       ) (sym (map-append unseen _ (a ∷ [])));
       matched_scopes = rw c.push_reserved.ensures.items (All-push (HasOpened []) l.searches.items c.new.result
-          l.invariant.matched_scopes
-          (matched_none c.new.result c.new.ensures.matched_scopes));
+          l.invariant.matched_scopes (matched_none c.new.result c.new.ensures.matched_scopes));
       count = omega (arith, c.push_reserved.ensures.len, l.invariant.count);
       capacity = c.push_reserved.ensures.capacity ∙ l.invariant.capacity;
     }

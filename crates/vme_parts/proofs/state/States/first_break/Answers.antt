@@ -18,8 +18,7 @@ returns c =
     ∙ ap (least (option_map break_of s.handshake.first_break)) (c.least-held.ensures
     ∙ ap (least (option_map break_of s.stability.first_break)) c.least-chains.ensures))
     ∙ least_of_all t _ _ _ _ _ (found.known.first_break ∙ c.known_over_recordings.ensures.first_break t all.sound
-    all.few)
-    (found.handshake.first_break ∙ c.handshake_over_recordings.ensures.first_break t all.sound all.few)
+    all.few) (found.handshake.first_break ∙ c.handshake_over_recordings.ensures.first_break t all.sound all.few)
     (found.stability.first_break ∙ c.stability_over_recordings.ensures.first_break t all.sound all.few)
     (found.grant.first_break ∙ c.grants_over_recordings.ensures.first_break t all.sound all.few)
     (found.acknowledge.first_break ∙ c.acknowledge_over_recordings.ensures.first_break t all.sound all.few))

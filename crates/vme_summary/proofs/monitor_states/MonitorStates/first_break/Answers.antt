@@ -15,8 +15,7 @@ returns c =
     ∙ ap (least f.known.first_break) (c.least-started.ensures ∙ ap (least f.handshake.first_break) (c.least-held.ensures
     ∙ ap (least f.stability.first_break) c.least-chains.ensures))
     ∙ least_of_all t _ _ _ _ _ (found.known.first_break ∙ c.known_over_recordings.ensures.first_break t all.sound
-    all.few)
-    (found.handshake.first_break ∙ c.handshake_over_recordings.ensures.first_break t all.sound all.few)
+    all.few) (found.handshake.first_break ∙ c.handshake_over_recordings.ensures.first_break t all.sound all.few)
     (found.stability.first_break ∙ c.stability_over_recordings.ensures.first_break t all.sound all.few)
     (found.grant.first_break
     ∙ c.grants_over_recordings.ensures.first_break t all.sound all.few)

@@ -21,8 +21,7 @@ returns c =
       known = seen_after (machine_step (observed known_observation)
           (phase_step known_begin known_start_marks known_reset_marks known_end_fault
           known_next)) (start_in known_begin) _ _ _ _ _ o x y c.after.ensures.memory c.after.ensures.first_break long
-          f.known
-          says.known;
+          f.known says.known;
       handshake = seen_after
           (machine_step (observed dtb_observation) (phase_step dtb_begin dtb_start_marks no_step_marks dtb_end_fault
           dtb_step))

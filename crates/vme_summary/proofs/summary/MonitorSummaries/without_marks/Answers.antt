@@ -22,8 +22,7 @@ returns-clause-finds c =
           (phase_step known_begin known_start_marks known_reset_marks known_end_fault known_next) _ _
           _ _ all.known;
       handshake = unmarked_finds (observed dtb_observation) (phase_step dtb_begin dtb_start_marks no_step_marks
-          dtb_end_fault
-          dtb_step) _ _ _ _
+          dtb_end_fault dtb_step) _ _ _ _
           all.handshake;
       stability = unmarked_finds (observed stability_observation)
           (phase_step stability_begin stability_start_marks no_step_marks stability_end_fault
