@@ -79,7 +79,7 @@ impl Binding {
     ///
     /// Each line has the level of the last change of its bit; before the first, and where the bit is x, it is unknown.
     /// A bit z is high on a bused line and unknown on a net of a daisy chain. A line that is bound to a level has it
-    /// from the opening on. A step is at each time of the dump at which some line has another level than before.
+    /// from the opening on. There is a step at each time of the dump at which some line has another level than before.
     ///
     /// An error names the first line of the binding whose source the dump lacks, has twice, or has in another width
     /// than its lines. Over 268,435,456 steps, and want of memory, are faults at line 0.
