@@ -529,8 +529,9 @@ module _ {Whole Source : Type 0} {gave : Whole → Source → List Row → Type 
       placed = put-placed old new None k (subst (λ n. AreAtPlaces h.given n old) (sym s.taken) h.placed) tt;
     }
 
-    begins : {right : Row} {row : OpenRow} {many : ℕ} → at k old ≡ None → IsBegun gave is_over right old.compared new row
-        → taken + 1 ≡ many → AreTaken gave is_over whole v done t span next many (put k old new (Some row))
+    begins : {right : Row} {row : OpenRow} {many : ℕ} → at k old ≡ None
+        → IsBegun gave is_over right old.compared new row → taken + 1 ≡ many
+        → AreTaken gave is_over whole v done t span next many (put k old new (Some row))
     begins {row = row} none b e =
         let g = b.given whole h.given h.is_given in
         let now = is_open (put k old new (Some row)) in
@@ -657,10 +658,12 @@ module _ {Whole Source : Type 0} {gave : Whole → Source → List Row → Type 
         (subst (IsOpenAt v done t span BBSY (j + 1))
         (sym (open-none v done t span BBSY j old.tenure here h.tenure)) tt) h.cycle h.transfer
 
-    pub tenure-no_level : falls t BBSY j ≡ true → tenure_level t j ≡ None → WithTenure gave is_over whole v done t span j old
+    pub tenure-no_level : falls t BBSY j ≡ true → tenure_level t j ≡ None
+        → WithTenure gave is_over whole v done t span j old
     tenure-no_level here e = unlisted here (rw e refl)
 
-    pub tenure-no_slot : falls t BBSY j ≡ true → tenure_slot t j ≡ None → WithTenure gave is_over whole v done t span j old
+    pub tenure-no_slot : falls t BBSY j ≡ true → tenure_slot t j ≡ None
+        → WithTenure gave is_over whole v done t span j old
     tenure-no_slot here e = unlisted here (rw e (none_of (tenure_level t j)))
       where
         none_of : (o : Option ℕ) → tenure_row j o None (least (rises t BBSY) (j + 1) j) ≡ []
@@ -890,7 +893,9 @@ module _ {Whole Source : Type 0} {gave : Whole → Source → List Row → Type 
   no_cycle = subst (IsOpenAt v done t span AS (span.start + 1)) (sym closed.cycle) tt
 
   none_pending : IsTransferAt v done t span (span.start + 1) (span.start + 1) (span.start + 1) old.transfer
-  none_pending = let first = span.start + 1 in subst (IsTransferAt v done t span first first first) (sym closed.transfer) tt
+  none_pending =
+      let first = span.start + 1 in
+      subst (IsTransferAt v done t span first first first) (sym closed.transfer) tt
 
   pub starts-free : low t BBSY span.start ≡ false → Follows gave is_over whole v done t span (span.start + 1) old
   starts-free free = record {

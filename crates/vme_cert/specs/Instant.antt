@@ -1,5 +1,5 @@
--- The levels that are kept of a recording, and what is seen by them at an instant: whether a transfer starts, the changes
--- that lead there, and a break by its rule and line.
+-- The levels that are kept of a recording, and what is seen by them at an instant: whether a transfer starts, the
+-- changes that lead there, and a break by its rule and line.
 use Rattle.std.specs.Prelude.{◌≡◌, ℕ, Bool, ◌-◌, ◌&&◌, ◌||◌, true, List, Option, option_map}
 use Rattle.vme_cert.specs.Words.{Break, Change, DS0, DS1, Rule, Trace, are_changes, changed, levels_at, low}
 use Rattle.vme_cert.specs.Words.{strobes_high}

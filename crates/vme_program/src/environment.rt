@@ -23,8 +23,8 @@ pub enum WriteResult {
 
 /// The operating system, as far as the program uses it: files by their names, and standard input.
 ///
-/// Each ghost member relates the arguments of a call to its result. A `Reading` is the state of a reader: the bytes that
-/// it still gives, and how its reads end.
+/// Each ghost member relates the arguments of a call to its result. A `Reading` is the state of a reader: the bytes
+/// that it still gives, and how its reads end.
 pub trait Environment {
     /// What reads a file, or standard input.
     type Reader: Source + Drop;

@@ -33,8 +33,8 @@ returns-in-Waiting-clause-taken g c recorded taken =
 
 pub returns-in-Judging-clause-taken : goal.returns-in-Judging-clause-taken
 returns-in-Judging-clause-taken g c recorded taken =
-    has-taken c.args.step.now taken c.advance.ensures.instant c.advance.ensures.levels c.as_slice-changes.ensures c.judge.new.self
-    c.judge.ensures.bus c.judge.ensures.few
+    has-taken c.args.step.now taken c.advance.ensures.instant c.advance.ensures.levels c.as_slice-changes.ensures
+    c.judge.new.self c.judge.ensures.bus c.judge.ensures.few
 
 pub returns-in-Ended-clause-taken : goal.returns-in-Ended-clause-taken
 returns-in-Ended-clause-taken g c recorded taken =
@@ -43,18 +43,18 @@ returns-in-Ended-clause-taken g c recorded taken =
 
 pub returns-in-Waiting-clause-compared : goal.returns-in-Waiting-clause-compared
 returns-in-Waiting-clause-compared g c whole version recorded taken compared more =
-    let (at, within, stage) = arrives c.args.step.now taken c.advance.ensures.instant c.advance.ensures.before c.advance.ensures.levels
-    c.as_slice-changes.ensures compared c.in-Waiting.is more in
+    let (at, within, stage) = arrives c.args.step.now taken c.advance.ensures.instant c.advance.ensures.before
+    c.advance.ensures.levels c.as_slice-changes.ensures compared c.in-Waiting.is more in
     c.begin_where_idle.ensures.checks whole version _ at within stage
 
 pub returns-in-Judging-clause-compared : goal.returns-in-Judging-clause-compared
 returns-in-Judging-clause-compared g c whole version recorded taken compared more =
-    let (at, within, stage) = arrives c.args.step.now taken c.advance.ensures.instant c.advance.ensures.before c.advance.ensures.levels
-    c.as_slice-changes.ensures compared c.in-Judging.is more in
+    let (at, within, stage) = arrives c.args.step.now taken c.advance.ensures.instant c.advance.ensures.before
+    c.advance.ensures.levels c.as_slice-changes.ensures compared c.in-Judging.is more in
     c.judge.ensures.checks whole version _ at within stage
 
 pub returns-in-Ended-clause-compared : goal.returns-in-Ended-clause-compared
 returns-in-Ended-clause-compared g c whole version recorded taken compared more =
-    let (at, within, stage) = arrives c.args.step.now taken c.advance.ensures.instant c.advance.ensures.before c.advance.ensures.levels
-    c.as_slice-changes.ensures compared c.in-Ended.is more in
+    let (at, within, stage) = arrives c.args.step.now taken c.advance.ensures.instant c.advance.ensures.before
+    c.advance.ensures.levels c.as_slice-changes.ensures compared c.in-Ended.is more in
     record { at = at; stage_is = rw c.in-Ended.is stage }
