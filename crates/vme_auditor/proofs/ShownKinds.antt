@@ -17,7 +17,7 @@ use Rattle.vme_monitor.specs.declared.mark.BusGrant.{BusGrant}
 use Rattle.vme_monitor.specs.declared.mark.CycleStart.{CycleStart}
 use Rattle.vme_monitor.specs.declared.mark.Fault.{Fault}
 use Rattle.vme_monitor.specs.declared.mark.MarkKind.{MarkKind}
-use Rattle.vme_monitor.specs.declared.mark.MarkKind.TheVariants.{Close, CycleEnd, Reset}
+use Rattle.vme_monitor.specs.declared.mark.MarkKind.TheVariants.{Close, CycleEnd}
 use Rattle.vme_monitor.specs.declared.mark.MarkKind.TheVariants.{Transfer}
 use Rattle.vme_monitor.specs.declared.mark.Next.{Next}
 use Rattle.vme_monitor.specs.declared.mark.StepMarks.{StepMarks}

@@ -17,7 +17,7 @@ use Rattle.vme_monitor.specs.Run.{break_of_fault}
 use Rattle.vme_monitor.specs.declared.mark.Fault.{Fault}
 use Rattle.vme_audit.specs.Parts.{breaks, breaks_of, moved_by, named_break, own_break, part_behind, parts}
 use Rattle.vme_audit.specs.Parts.{parts_from}
-use Rattle.vme_audit.specs.Parts.{rest_behind, whole}
+use Rattle.vme_audit.specs.Parts.{rest_behind}
 use Rattle.vme_summary.proofs.Sound.{sound_apart}
 use Rattle.vme_auditor.specs.Audited.{AuditReached, reached_after, reached_at, with_step}
 use Rattle.vme_auditor.specs.FirstBreak.{first_break_from}

@@ -10,8 +10,8 @@ use Rattle.std.proofs.lemmas.Option.{slice_get_read, slice_get_within}
 use Rattle.std.proofs.Math.Seq.{get_or-append_seam}
 use Rattle.std.proofs.lemmas.Bool.{lt-ltb, le-ltb, and_parts}
 use Rattle.vme_trace.proofs.JudgedSpans.{AreInOrder, starts_before_end, ends_within, spans_in_order, span_holds}
-use Rattle.vme_trace.proofs.JudgedSpans.{span_runs, Awaits, awaits-first, awaits-next, busy-no_start, end-after}
-use Rattle.vme_trace.proofs.JudgedSpans.{end-within, reset-holds_at, span_reset, spans_after, spans_from_first}
+use Rattle.vme_trace.proofs.JudgedSpans.{span_runs, awaits-first, awaits-next, busy-no_start, end-after}
+use Rattle.vme_trace.proofs.JudgedSpans.{end-within, reset-holds_at, span_reset, spans_from_first}
 use Rattle.vme_trace.proofs.JudgedSpans.{spans_next}
 use Rattle.vme_trace.proofs.Changing.{lost-least}
 use Rattle.vme_trace.proofs.Ranges.{any-fails, any-holds, fails-any, least-alike, least-found, least-none-any}
@@ -28,7 +28,7 @@ use Rattle.vme_cert.specs.Words.{listing_before, listing_by, listing_of_spans, l
 use Rattle.vme_cert.specs.Words.{lost_among, outcome_of, recorded_rows, rows_before, rows_of_span, rule_break, span_end}
 use Rattle.vme_cert.specs.Words.{span_from, stops_at, time_at, AS, BBSY, Broken, IsCapture, Levels, Reset, Step}
 use Rattle.vme_cert.specs.Words.{Unreadable, Version, is_idle, is_idle_at, is_reset, is_step, is_unreadable}
-use Rattle.vme_cert.specs.Words.{malformed_step, span_starts, those, with_steps}
+use Rattle.vme_cert.specs.Words.{Awaits, malformed_step, span_starts, spans_after, those, with_steps}
 use Rattle.vme_cert.specs.Checking.{reset_at, rows_by, rows_from, Checks, HasCompared, HasFollowed, IsEnded, IsJudging}
 use Rattle.vme_cert.specs.Checking.{IsStage, IsWaiting, MayGoOn, last_levels}
 use Rattle.vme_cert.specs.Following.{rows_to, CanClose, Follows}

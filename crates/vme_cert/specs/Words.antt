@@ -14,7 +14,7 @@ unfoldable pub use Rattle.vme_trace.specs.Instants.{any, greatest, least, those}
 pub use Rattle.vme_trace.specs.Instants.{every, none}
 unfoldable pub use Rattle.vme_trace.specs.Judged.{is_idle_at, is_reset_at, judged_spans, loses_control_at, span_end}
 unfoldable pub use Rattle.vme_trace.specs.Judged.{span_starts}
-pub use Rattle.vme_trace.specs.Judged.{IsSpanOf, Stretch, is_judged, span_from, stops_at}
+pub use Rattle.vme_trace.specs.Judged.{Awaits, IsSpanOf, Stretch, is_judged, span_from, spans_after, stops_at}
 unfoldable pub use Rattle.vme_trace.specs.Lanes.{lanes_at}
 unfoldable pub use Rattle.vme_trace.specs.Levels.{is_idle, loses_control}
 pub use Rattle.vme_trace.specs.Levels.{Levels, is_high, is_known, is_known_on, is_lost, is_low, is_reset, level_at}
@@ -40,7 +40,6 @@ unfoldable pub use Rattle.vme_trace.specs.Verdict.{break_at, break_before, least
 pub use Rattle.vme_trace.specs.Verdict.{least_of, rule_count}
 unfoldable pub use Rattle.vme_trace.specs.WellFormed.{are_changes, is_step, malformed_step}
 pub use Rattle.vme_trace.specs.WellFormed.{IsCapture, capture_limit}
-pub use Rattle.vme_trace.proofs.JudgedSpans.{Awaits, spans_after}
 pub use Rattle.vme_trace.specs.declared.class.Class.{Class}
 pub use Rattle.vme_trace.specs.declared.data.Lanes.{Lanes}
 pub use Rattle.vme_trace.specs.declared.level.Level.{Level}

@@ -7,8 +7,9 @@ use Rattle.std.proofs.lemmas.Bool.Decides.{nat_tests}
 use Rattle.std.proofs.lemmas.List.{map-append}
 use Rattle.vme_trace.specs.Instants.{any, least, greatest, those}
 use Rattle.vme_trace.specs.Trace.{Trace, levels_at, last_instant}
-use Rattle.vme_trace.specs.Judged.{Stretch, IsSpanOf, span_from, span_end, is_idle_at, is_reset_at, loses_control_at}
-use Rattle.vme_trace.specs.Judged.{stops_at, last_reset, was_idle, is_cut_off, span_starts, judged_spans}
+use Rattle.vme_trace.specs.Judged.{Awaits, Stretch, IsSpanOf, span_from, span_end, is_idle_at, is_reset_at}
+use Rattle.vme_trace.specs.Judged.{loses_control_at, stops_at, last_reset, was_idle, is_cut_off, span_starts}
+use Rattle.vme_trace.specs.Judged.{judged_spans, spans_after}
 use Rattle.vme_trace.proofs.Changing.{idle-holds, idle-runs, reset-holds}
 use Rattle.vme_trace.proofs.OpenTransfers.{ReadsStrobes, bool_cases}
 use Rattle.vme_trace.proofs.Ranges.{any-fails, fails-any, any-least, least-found, those-none, those-more, those-same}
@@ -58,11 +59,6 @@ three : (n w : ℕ) → (n < w) ⊎ ((w ≡ n) ⊎ (w < n))
 three n w = grind arith
 
 module _ (t : Trace) where
-  -- no stretch is judged before an instant any more, and the next idle one starts one
-  pub record Awaits (n : ℕ) : Type 0 where
-    pub unjudged : was_idle t n ≡ false
-    pub uncut : any (is_cut_off t) 0 n ≡ false
-
   -- an instant is in the stretch that starts at s, its start included
   pub record IsIn (s n : ℕ) : Type 0 where
     pub starts : span_starts t s ≡ true
@@ -71,7 +67,7 @@ module _ (t : Trace) where
 
   -- after an instant a stretch is awaited, or goes on, or there is none any more
   pub data Standing (n : ℕ) : Type 0 where
-    awaiting : Awaits (suc n) → Standing n
+    awaiting : Awaits t (suc n) → Standing n
     judging : (s : ℕ) → IsIn s n → Standing n
     over : any (is_cut_off t) 0 (suc n) ≡ true → Standing n
 
@@ -141,11 +137,11 @@ module _ (t : Trace) where
   cut-next n = rw (zero_le n) refl
 
   -- at the opening a stretch is awaited
-  pub awaits-first : Awaits 0
+  pub awaits-first : Awaits t 0
   awaits-first = record { unjudged = was_idle-first; uncut = cut-first }
 
   -- where one is awaited, an idle instant starts it
-  pub awaits-starts : (n : ℕ) → Awaits n → span_starts t n ≡ is_idle_at t n
+  pub awaits-starts : (n : ℕ) → Awaits t n → span_starts t n ≡ is_idle_at t n
   unfolding span_starts
   awaits-starts n w = rw (w.unjudged, w.uncut) (ends_in_true (is_idle_at t n))
     where
@@ -154,7 +150,7 @@ module _ (t : Trace) where
       ends_in_true false = refl
 
   -- and after another instant it is still awaited
-  pub awaits-next : (n : ℕ) → Awaits n → is_idle_at t n ≡ false → Awaits (suc n)
+  pub awaits-next : (n : ℕ) → Awaits t n → is_idle_at t n ≡ false → Awaits t (suc n)
   awaits-next n w busy = record {
     unjudged =
         elim (bool_cases (is_reset_at t n)) [
@@ -168,11 +164,11 @@ module _ (t : Trace) where
       ends_in_false true = refl
       ends_in_false false = refl
 
-  pub awaits-until : (f n : ℕ) → Awaits f → f ≤ n → any (is_idle_at t) f n ≡ false → Awaits n
-  awaits-until f zero w from busy = let e : f ≡ 0 = omega arith in subst Awaits e w
+  pub awaits-until : (f n : ℕ) → Awaits t f → f ≤ n → any (is_idle_at t) f n ≡ false → Awaits t n
+  awaits-until f zero w from busy = let e : f ≡ 0 = omega arith in subst (Awaits t) e w
   awaits-until f (suc n) w from busy =
       elim (last_or_before f n from) [
-        | inl e ↦ subst Awaits e w
+        | inl e ↦ subst (Awaits t) e w
         | inr before ↦ awaits-next n
             (awaits-until f n w before (fails-any (is_idle_at t) f n (λ i a b. any-fails (is_idle_at t) f (suc n) i busy
             a
@@ -184,7 +180,7 @@ module _ (t : Trace) where
   unfolding span_starts
   starts-idle s h = (and_true _ _ (and_true _ _ h).0).0
 
-  starts_awaited : (s : ℕ) → span_starts t s ≡ true → Awaits s
+  starts_awaited : (s : ℕ) → span_starts t s ≡ true → Awaits t s
   unfolding span_starts
   starts_awaited s h = record {
     unjudged = false_of_not _ (and_true _ _ (and_true _ _ h).0).1;
@@ -301,7 +297,7 @@ module _ (t : Trace) where
   in-no_start s n h = idle-no_start (suc n) (in_started s n h).0
 
   -- where it ends by a reset, the next is awaited
-  pub in-reset : (s n : ℕ) → IsIn s n → is_reset_at t (suc n) ≡ true → Awaits (suc (suc n))
+  pub in-reset : (s n : ℕ) → IsIn s n → is_reset_at t (suc n) ≡ true → Awaits t (suc (suc n))
   in-reset s n h reset = record {
     unjudged = was_idle-reset (suc n) reset;
     uncut = cut-next (suc n) ∙ both_false _ _ (in_started s n h).1 (ap (λ b. b && was_idle t (suc n))
@@ -317,7 +313,7 @@ module _ (t : Trace) where
   second_of true b h k = absurd (cc)
   second_of false b h k = k
 
-  standing_awaited : (n : ℕ) → n ≤ last_instant t → Awaits n → Standing n
+  standing_awaited : (n : ℕ) → n ≤ last_instant t → Awaits t n → Standing n
   standing_awaited n within w =
       elim (bool_cases (is_idle_at t n)) [
         | inl idle ↦ judging n (in-first n (awaits-starts n w ∙ idle) within)
@@ -406,10 +402,10 @@ module _ (t : Trace) where
       ]
 
   -- where it ends by a reset, the next is awaited after it
-  pub span_reset : (span : Stretch) → IsSpanOf t span → is_reset_at t span.end ≡ true → Awaits (suc span.end)
+  pub span_reset : (span : Stretch) → IsSpanOf t span → is_reset_at t span.end ≡ true → Awaits t (suc span.end)
   span_reset span is reset =
       let last = last_of span is in
-      subst (λ n. Awaits (suc n)) (sym last.1) (in-reset span.start last.0 last.2 (ap (is_reset_at t) (sym last.1)
+      subst (λ n. Awaits t (suc n)) (sym last.1) (in-reset span.start last.0 last.2 (ap (is_reset_at t) (sym last.1)
       ∙ reset))
 
   -- no other starts within it, nor at its end
@@ -451,18 +447,15 @@ module _ (t : Trace) where
             ]
       ]
 
-  -- the stretches that start before an instant, and those that start there or later
+  -- the stretches that start before an instant
   abbrev pub spans_before : ℕ → List Stretch
   spans_before n = map (span_from t) (those (span_starts t) 0 n)
-
-  abbrev pub spans_after : ℕ → List Stretch
-  spans_after n = map (span_from t) (those (span_starts t) n (last_instant t + 1))
 
   pub spans_all : judged_spans t ≡ spans_before (last_instant t + 1)
   unfolding judged_spans
   spans_all = refl
 
-  pub spans_from_first : judged_spans t ≡ spans_after 0
+  pub spans_from_first : judged_spans t ≡ spans_after t 0
   unfolding judged_spans
   spans_from_first = refl
 
@@ -474,7 +467,7 @@ module _ (t : Trace) where
   spans_kept n h = ap (map (span_from t)) (those-same (span_starts t) 0 n h)
 
   -- where one is awaited and no instant is idle any more, there is none
-  pub spans_none : (f : ℕ) → Awaits f → any (is_idle_at t) f (last_instant t + 1) ≡ false → spans_after f ≡ []
+  pub spans_none : (f : ℕ) → Awaits t f → any (is_idle_at t) f (last_instant t + 1) ≡ false → spans_after t f ≡ []
   spans_none f w busy =
       ap (map (span_from t))
       (those-none (span_starts t) f (last_instant t + 1)
@@ -500,26 +493,26 @@ module _ (t : Trace) where
       within_or_past m last = grind arith
 
   -- the next stretch starts past the end of one
-  starts_past : (span : Stretch) → IsSpanOf t span → spans_after (span.start + 1) ≡ spans_after (span.end + 1)
+  starts_past : (span : Stretch) → IsSpanOf t span → spans_after t (span.start + 1) ≡ spans_after t (span.end + 1)
   starts_past span is =
       ap (map (span_from t)) (same_starts (span.start + 1) (span.end + 1) (omega (arith, starts_before_end span is))
       (λ j a b. span_alone span j is (omega arith) (omega arith)))
 
-  starts_here : (f : ℕ) → f ≤ last_instant t → span_starts t f ≡ true → spans_after f ≡ span_from t f
-      ∷ spans_after (f + 1)
+  starts_here : (f : ℕ) → f ≤ last_instant t → span_starts t f ≡ true → spans_after t f ≡ span_from t f
+      ∷ spans_after t (f + 1)
   starts_here f within starts =
       ap (map (span_from t)) (those-next (span_starts t) f (last_instant t + 1) f (omega arith) (omega arith) starts
       (fails-any (span_starts t) f f (λ j a b. absurd (omega arith))))
 
   starts_there : (f i : ℕ) → f ≤ i → i ≤ last_instant t → span_starts t i ≡ true → any (span_starts t) f i ≡ false
-      → spans_after f ≡ span_from t i ∷ spans_after (i + 1)
+      → spans_after t f ≡ span_from t i ∷ spans_after t (i + 1)
   starts_there f i from within starts none = ap (map (span_from t)) (those-next (span_starts t) f (last_instant t + 1) i
       from (omega arith) starts none)
 
   -- where one is awaited, the first idle instant starts it, and the others start past its end
-  pub spans_next : (f i : ℕ) → Awaits f → f ≤ i → i ≤ last_instant t → is_idle_at t i ≡ true → any (is_idle_at t) f i
+  pub spans_next : (f i : ℕ) → Awaits t f → f ≤ i → i ≤ last_instant t → is_idle_at t i ≡ true → any (is_idle_at t) f i
       ≡ false
-      → IsSpanOf t (span_from t i) × (spans_after f ≡ span_from t i ∷ spans_after (span_end t i + 1))
+      → IsSpanOf t (span_from t i) × (spans_after t f ≡ span_from t i ∷ spans_after t (span_end t i + 1))
   spans_next f i w from within idle busy =
       let starts = awaits-starts i (awaits-until f i w from busy) ∙ idle in
       let is : IsSpanOf t (span_from t i) = record { within = within; starts = starts; ends = refl } in (
@@ -531,7 +524,7 @@ module _ (t : Trace) where
 
   -- none comes after one that doesn't end by a reset
   pub spans_final : (span : Stretch) → IsSpanOf t span → (span.end ≤ last_instant t → is_reset_at t span.end ≡ false)
-      → spans_after (span.end + 1) ≡ []
+      → spans_after t (span.end + 1) ≡ []
   spans_final span is unreset =
       ap (map (span_from t))
       (those-none (span_starts t) (span.end + 1) (last_instant t + 1)
@@ -540,7 +533,7 @@ module _ (t : Trace) where
 
   -- each is in the list, with those that start before it and after it
   pub span_listed : (span : Stretch) → IsSpanOf t span → judged_spans t ≡ spans_before span.start ++ span
-      ∷ spans_after (span.end + 1)
+      ∷ spans_after t (span.end + 1)
   span_listed span is =
       spans_all
       ∙ (ap (map (span_from t)) (those-split (span_starts t) 0 span.start (last_instant t + 1) (omega arith)
@@ -548,7 +541,7 @@ module _ (t : Trace) where
       ∙ (map-append (span_from t) (those (span_starts t) 0 span.start)
       (those (span_starts t) span.start (last_instant t + 1))
       ∙ ap (λ spans. spans_before span.start ++ spans) (starts_here span.start is.within is.starts
-      ∙ (ap (λ first. first ∷ spans_after (span.start + 1)) (sym (span-is span is)) ∙ ap (λ spans. span ∷ spans)
+      ∙ (ap (λ first. first ∷ spans_after t (span.start + 1)) (sym (span-is span is)) ∙ ap (λ spans. span ∷ spans)
       (starts_past span is)))))
 
 -- stretches in order: each but the last ends by a reset, before the next one starts

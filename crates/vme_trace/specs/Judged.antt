@@ -1,5 +1,5 @@
 -- The instants of a recording that are judged.
-use Rattle.std.specs.Prelude.{◌≡◌, ◌≤◌, ℕ, Bool, true, ◌+◌, ◌&&◌, ◌||◌, not, unwrap_or, map, nat_lt, List}
+use Rattle.std.specs.Prelude.{◌≡◌, ◌≤◌, ℕ, Bool, true, false, ◌+◌, ◌&&◌, ◌||◌, not, unwrap_or, map, nat_lt, List}
 use Rattle.vme_trace.specs.Instants.{any, none, least, greatest, those}
 use Rattle.vme_trace.specs.Levels.{is_idle, is_reset, loses_control}
 use Rattle.vme_trace.specs.Trace.{Trace, levels_at, last_instant}
@@ -51,6 +51,15 @@ span_starts t i = is_idle_at t i && not (was_idle t i) && none (is_cut_off t) 0 
 -- every stretch that is judged, in order
 unfoldable pub judged_spans : Trace → List Stretch
 judged_spans t = map (span_from t) (those (span_starts t) 0 (last_instant t + 1))
+
+-- those that start at an instant or later
+abbrev pub spans_after : Trace → ℕ → List Stretch
+spans_after t n = map (span_from t) (those (span_starts t) n (last_instant t + 1))
+
+-- no stretch is judged before an instant any more, and the next idle one starts one
+pub record Awaits (t : Trace) (n : ℕ) : Type 0 where
+  pub unjudged : was_idle t n ≡ false
+  pub uncut : any (is_cut_off t) 0 n ≡ false
 
 -- this is one of them
 pub record IsSpanOf (t : Trace) (span : Stretch) : Type 0 where
