@@ -6,7 +6,7 @@ use vme_part_format::{
     Part, PartFault, PartFaultKind, ReadError, STAYS, SegmentTimes, TableEntry, WideBreak,
     WideMark, read_part, sum_of_bytes, write_part,
 };
-use vme_trace::{Class, Level, Line, Lines, MovedBytes, Rule};
+use vme_trace::{Class, Level, Line, Lines, MovedBytes, RULE_COUNT, Rule};
 
 /// How many memories each monitor has.
 const MEMORIES: [u8; 5] = [4, 147, 13, 35, 11];
@@ -457,7 +457,7 @@ fn faults_have_their_places(rt: HostRuntime) -> Result<(), Fail> {
         (52, 0x55, PartFaultKind::BadLevels, 52),
         (135, 2, PartFaultKind::BadFlag, 135),
         (136, 4, PartFaultKind::BadWay, 136),
-        (137, 32, PartFaultKind::BadBreak, 137),
+        (137, RULE_COUNT as u8 + 1, PartFaultKind::BadBreak, 137),
         (17, 2, PartFaultKind::CutShort, end),
         (17, 0, PartFaultKind::Trailing, 21),
     ];
