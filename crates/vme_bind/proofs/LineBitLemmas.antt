@@ -1,10 +1,13 @@
 -- The lines of each net, one line after the other.
 use Rattle.std.proofs.Common.{◌≡◌, ℕ, ◌+◌, ◌<◌, ◌≤◌, Bool, true, false, cond, List, [], ◌∷◌, ◌++◌, length, map, get_or}
 use Rattle.std.proofs.Common.{drop, take, zero, suc, subst, inl, inr, refl, sym, ap, ◌∙◌, arith, Option, Some, None}
+use Rattle.std.proofs.Common.{eqb, set}
+use Rattle.std.proofs.Math.Dec.{eqb-suc-zero, eqb-zero-suc, eqb-suc-suc}
+use Rattle.std.specs.Global.{Vec}
 use Rattle.std.specs.Prelude.{◌==◌, IsTrue}
 use Rattle.std.proofs.lemmas.Bool.Decides.{nat_tests}
 use Rattle.std.proofs.lemmas.Bool.{false≢true}
-use Rattle.std.proofs.lemmas.List.{get_or_past, take_more}
+use Rattle.std.proofs.lemmas.List.{take_more}
 use Rattle.std.proofs.lemmas.List.Elements.{All-append, All-cons, All-nil}
 use Rattle.vme_trace.specs.Instants.{those}
 use Rattle.vme_trace.specs.LineNumbers.{line_count, has_line}
@@ -22,17 +25,73 @@ use Rattle.vme_bind.specs.declared.bound_groups.BitPlace.{BitPlace}
 use Rattle.vme_bind.specs.declared.bound_groups.LineSource.{LineSource}
 use Rattle.vme_bind.specs.declared.bound_groups.LineSource.TheVariants.{Bit as AtBit}
 use Rattle.vme_bind.specs.BoundGroups.{line_source}
-use Rattle.vme_bind.specs.NetLines.{line_bits_of, is_on, place_in, is_line_bit, line_bit_at, line_bits_below}
+use Rattle.vme_bind.specs.NetLines.{line_bits_of, line_bits_on, is_on, place_in, is_line_bit, line_bit_at}
+use Rattle.vme_bind.specs.NetLines.{line_bits_below}
 use Rattle.vme_bind.specs.Recording.{IsLine, AreLines, line_change, valued}
 use Rattle.vme_bind.proofs.RecorderLemmas.{those-yes, those-no, bool_cases}
 use Rattle.vme_bind.proofs.BoundGroupLemmas.{from_place}
 use Rattle.vme_bind.proofs.CaptureLemmas.{AreLineBits, changed-more}
 
+-- the lines of a net that is there
+pub line_bits_on-at : (nets : List (Vec LineBit)) (net : ℕ) (line_bits : Vec LineBit) → net < length nets
+    → line_bits ≡ get_or nets net line_bits → line_bits_on nets net ≡ line_bits.items
+unfolding line_bits_on
+line_bits_on-at [] net line_bits lt e = absurd (omega (arith, lt))
+line_bits_on-at (x ∷ nets) zero line_bits lt e = ap (λ (v : Vec LineBit). v.items) (sym e)
+line_bits_on-at (x ∷ nets) (suc net) line_bits lt e = line_bits_on-at nets net line_bits (omega (arith, lt)) e
+
+-- no lines are of a net that isn't there
+pub line_bits_on-past : (nets : List (Vec LineBit)) (net : ℕ) → length nets ≤ net → line_bits_on nets net ≡ []
+unfolding line_bits_on
+line_bits_on-past [] net le = refl
+line_bits_on-past (x ∷ nets) zero le = absurd (omega (arith, le))
+line_bits_on-past (x ∷ nets) (suc net) le = line_bits_on-past nets net (omega (arith, le))
+
+-- one net more, without lines
+pub line_bits_on-push : (nets : List (Vec LineBit)) (none : Vec LineBit) (net : ℕ) → none.items ≡ []
+    → line_bits_on (nets ++ none ∷ []) net ≡ line_bits_on nets net
+unfolding line_bits_on
+line_bits_on-push [] none zero e = e
+line_bits_on-push [] none (suc net) e = refl
+line_bits_on-push (x ∷ nets) none zero e = refl
+line_bits_on-push (x ∷ nets) none (suc net) e = line_bits_on-push nets none net e
+
+elsewhere : (b : Bool) (added line_bits : List LineBit) → b ≡ false → line_bits ≡ cond b added line_bits
+elsewhere true added line_bits e = absurd cc
+elsewhere false added line_bits e = refl
+
+-- one net has one line bit more
+pub line_bits_on-set : (nets : List (Vec LineBit)) (net : ℕ) (old new : Vec LineBit) (line_bit : LineBit)
+    → net < length nets → old ≡ get_or nets net old → new.items ≡ old.items ++ line_bit ∷ [] → (k : ℕ)
+    → line_bits_on (set nets net new) k
+    ≡ cond (eqb k net) (line_bits_on nets net ++ line_bit ∷ []) (line_bits_on nets k)
+unfolding line_bits_on
+line_bits_on-set [] net old new line_bit lt is more k = absurd (omega (arith, lt))
+line_bits_on-set (x ∷ nets) zero old new line_bit lt is more zero =
+    more ∙ ap (λ (v : Vec LineBit). v.items ++ line_bit ∷ []) is
+line_bits_on-set (x ∷ nets) zero old new line_bit lt is more (suc k) = elsewhere (eqb (suc k) 0)
+    (x.items ++ line_bit ∷ []) (line_bits_on nets k) (eqb-suc-zero k)
+line_bits_on-set (x ∷ nets) (suc net) old new line_bit lt is more zero = elsewhere (eqb 0 (suc net))
+    (line_bits_on nets net ++ line_bit ∷ []) x.items (eqb-zero-suc net)
+line_bits_on-set (x ∷ nets) (suc net) old new line_bit lt is more (suc k) =
+    line_bits_on-set nets net old new line_bit (omega (arith, lt)) is more k
+    ∙ ap (λ (b : Bool). cond b (line_bits_on nets net ++ line_bit ∷ []) (line_bits_on nets k))
+    (sym (eqb-suc-suc k net))
+
+-- the same, where the nets have the lines that others had
+pub line_bits_on-more : (before nets : List (Vec LineBit)) (net : ℕ) (old new : Vec LineBit) (line_bit : LineBit)
+    → ((k : ℕ) → line_bits_on nets k ≡ line_bits_on before k) → net < length nets → old ≡ get_or nets net old
+    → new.items ≡ old.items ++ line_bit ∷ [] → (k : ℕ) → line_bits_on (set nets net new) k
+    ≡ cond (eqb k net) (line_bits_on before net ++ line_bit ∷ []) (line_bits_on before k)
+line_bits_on-more before nets net old new line_bit same lt is more k =
+    line_bits_on-set nets net old new line_bit lt is more k
+    ∙ ap (λ (line_bits : List LineBit). cond (eqb k net) (line_bits ++ line_bit ∷ []) (line_bits_on nets k)) (same net)
+    ∙ ap (cond (eqb k net) (line_bits_on before net ++ line_bit ∷ [])) (same k)
+
 pub line_bits-first : (line_bits : NetLines) (slots : ℕ) (bound_groups : List BoundGroup) → line_bits.nets.items ≡ []
     → (net : ℕ) → line_bits_of line_bits net ≡ line_bits_below slots bound_groups net 0
-unfolding those
-line_bits-first line_bits slots bound_groups e net = ap (λ (nets : List (List LineBit)). get_or nets net []) e
-    ∙ get_or_past [] net [] (omega arith)
+unfolding those line_bits_on
+line_bits-first line_bits slots bound_groups e net = ap (λ (nets : List (Vec LineBit)). line_bits_on nets net) e
 
 map-more : (f : ℕ → LineBit) (xs : List ℕ) (x : ℕ) → map f (xs ++ x ∷ []) ≡ map f xs ++ f x ∷ []
 map-more f [] x = refl

@@ -1,5 +1,6 @@
 -- Which lines the bits of a net are the levels of.
-use Rattle.std.specs.Prelude.{ℕ, Bool, false, ◌==◌, List, [], map, Option, Some, None, get_or}
+use Rattle.std.specs.Prelude.{ℕ, zero, suc, Bool, false, ◌==◌, List, [], ◌∷◌, map, Option, Some, None}
+use Rattle.std.specs.Global.{Vec}
 use Rattle.vme_trace.specs.Instants.{those}
 use Rattle.vme_bind.specs.declared.net_lines.LineBit.{LineBit}
 use Rattle.vme_bind.specs.declared.net_lines.NetLines.{NetLines}
@@ -8,8 +9,14 @@ use Rattle.vme_bind.specs.declared.bound_groups.LineSource.{LineSource}
 use Rattle.vme_bind.specs.declared.bound_groups.LineSource.TheVariants.{Always, Bit}
 use Rattle.vme_bind.specs.BoundGroups.{line_source}
 
+-- the lines of a net, if it has any
+unfoldable pub line_bits_on : List (Vec LineBit) → ℕ → List LineBit
+line_bits_on [] net = []
+line_bits_on (line_bits ∷ nets) zero = line_bits.items
+line_bits_on (line_bits ∷ nets) (suc net) = line_bits_on nets net
+
 abbrev pub line_bits_of : NetLines → ℕ → List LineBit
-line_bits_of line_bits net = get_or line_bits.nets.items net []
+line_bits_of line_bits net = line_bits_on line_bits.nets.items net
 
 -- a bit of the net is the source
 abbrev pub is_on : ℕ → Option LineSource → Bool

@@ -1,12 +1,12 @@
 //! Which lines the bits of a net are the levels of.
 
-ghost use Rattle.std.specs.Prelude.{◌≡◌, ◌≤◌, ◌<◌, ◌^◌, ◌++◌, ◌∷◌, [], ℕ, IfOk, OnOk, ◌==◌, if◌then◌else◌, vec_len};
+ghost use Rattle.std.specs.Prelude.{◌≡◌, ◌≤◌, ◌<◌, ◌^◌, ◌++◌, ◌∷◌, [], ℕ, IfOk, OnOk, ◌==◌, if◌then◌else◌, length};
 ghost use Rattle.vme_trace.specs.LineNumbers.{line_count};
 ghost use Rattle.vme_bind.specs.BoundGroups.{line_source};
+ghost use Rattle.vme_bind.specs.NetLines.{line_bits_on};
 
 use crate::bound_groups::{BoundGroup, LineSource, bound_group_source};
 use std::alloc::{AllocError, Global};
-use std::marker::Model;
 use vme_trace::{LINE_COUNT, Line, Lines};
 
 /// A line, and the place of its bit in the values of a net, from the left.
@@ -16,41 +16,11 @@ pub(crate) struct LineBit {
     pub place: usize,
 }
 
-/// The lines of one net.
-#[derive(Drop)]
-struct LinesOfNet {
-    line_bits: Vec<LineBit>,
-}
-
-impl Model for LinesOfNet {
-    ghost use Rattle.std.specs.Prelude.{List};
-    ghost use Rattle.vme_bind.specs.declared.net_lines.LineBit.{LineBit};
-
-    ghost Value = { List LineBit };
-
-    ghost view = { λ t. t.line_bits.items };
-}
-
-impl LinesOfNet {
-    fn as_slice(&self) -> &[LineBit]
-        ensures { result.now ≡ self.now }
-    {
-        &self.line_bits
-    }
-
-    fn push(&mut self, line_bit: LineBit) -> Result<(), AllocError>
-        ensures { OnOk result (self.new ≡ self.old ++ line_bit ∷ []) }
-    {
-        self.line_bits.push(line_bit)?;
-        Ok(())
-    }
-}
-
 /// The lines of each net.
 #[derive(Drop)]
 pub(crate) struct NetLines {
     /// By the numbers of the nets, as far as they have any.
-    nets: Vec<LinesOfNet>,
+    nets: Vec<Vec<LineBit>>,
 }
 
 /// Where the level of a line comes from, if the backplane has it and it is in some bound group.
@@ -68,6 +38,17 @@ pub(crate) fn line_source(
     }
 }
 
+/// The lines of a net, if it has any.
+#[inline(always)]
+fn line_bits_on(nets: &[Vec<LineBit>], net: usize) -> &[LineBit]
+    ensures { result.now ≡ line_bits_on nets.now net }
+{
+    match nets.get(net) {
+        Some(line_bits) => line_bits.as_slice(),
+        None => &[],
+    }
+}
+
 impl NetLines {
     ghost use Rattle.vme_bind.specs.NetLines.{line_bits_of, line_bits_below};
 
@@ -76,21 +57,16 @@ impl NetLines {
     pub fn of(&self, net: u32) -> &[LineBit]
         ensures { result.now ≡ line_bits_of self.now net }
     {
-        match self.nets.get(net as usize) {
-            Some(line_bits) => line_bits.as_slice(),
-            None => &[],
-        }
+        line_bits_on(&self.nets, net as usize)
     }
 
     /// Makes room for a net.
     fn grow(&mut self, alloc: Global, net: usize) -> Result<(), AllocError>
         ensures same { (k : ℕ) → line_bits_of self.new k ≡ line_bits_of self.old k }
-        ensures room { OnOk result (net < vec_len self.new.nets) }
+        ensures room { OnOk result (net < length self.new.nets.items) }
     {
         while self.nets.len() <= net {
-            self.nets.push(LinesOfNet {
-                line_bits: Vec::new(alloc),
-            })?;
+            self.nets.push(Vec::new(alloc))?;
         }
         Ok(())
     }
@@ -101,7 +77,8 @@ impl NetLines {
     {
         let place = net as usize;
         self.grow(alloc, place)?;
-        self.nets[place].push(line_bit)
+        self.nets[place].push(line_bit)?;
+        Ok(())
     }
 
     /// The lines of each net, in their order.
