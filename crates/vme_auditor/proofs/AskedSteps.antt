@@ -37,7 +37,6 @@ use Rattle.vme_monitor.proofs.SpanLists.{AreOver, started, started_none, started
 use Rattle.vme_monitor.proofs.Spans.{IsAtWork, JudgesOn, Loses, Resets, Stands, inner_at, moves, outer_next, stands}
 use Rattle.vme_monitor.proofs.Transitions.{outer_judging, waits}
 use Rattle.vme_dtb.specs.Machine.{dtb_begin, dtb_end_fault, dtb_start_marks, dtb_observation, dtb_step}
-use Rattle.vme_dtb.specs.declared.handshake.HandshakeEdge.{HandshakeEdge}
 use Rattle.vme_dtb.specs.declared.memory.HandshakeMemory.{HandshakeMemory}
 use Rattle.vme_dtb.proofs.Held.{Holds}
 use Rattle.vme_dtb.proofs.Holding.{holds_at}
@@ -119,7 +118,7 @@ waits_on e phase.Reset o v w cs kinds h = refl
 waits_on e phase.Ended o v w cs kinds h = absurd (cc)
 
 -- what ends a span is what the step does to the phase
-ends_here : (p : HandshakeMemory) (v w : Levels) (o : Option End) (s : Option HandshakeEdge)
+ends_here : (p : HandshakeMemory) (v w : Levels) (o : Option End) (s : Option (Unit {0}))
     → waits (judging dtb_begin dtb_start_marks no_step_marks dtb_end_fault dtb_step p v w o s).memory ≡ true
     → (l : End) × (o ≡ Some l)
 ends_here p v w (Some e) s h = (e, refl)
@@ -132,7 +131,7 @@ is_over (phase.Judging p) = false
 is_over phase.Reset = false
 is_over phase.Ended = true
 
-lost_here : (p : HandshakeMemory) (v w : Levels) (o : Option End) (s : Option HandshakeEdge)
+lost_here : (p : HandshakeMemory) (v w : Levels) (o : Option End) (s : Option (Unit {0}))
     → is_over (judging dtb_begin dtb_start_marks no_step_marks dtb_end_fault dtb_step p v w o s).memory ≡ true
     → (l : End) × (o ≡ Some l)
 lost_here p v w (Some e) s h = (e, refl)
@@ -145,7 +144,7 @@ is_judging (phase.Judging p) = true
 is_judging phase.Reset = false
 is_judging phase.Ended = false
 
-goes_here : (p : HandshakeMemory) (v w : Levels) (o : Option End) (s : Option HandshakeEdge)
+goes_here : (p : HandshakeMemory) (v w : Levels) (o : Option End) (s : Option (Unit {0}))
     → is_judging (judging dtb_begin dtb_start_marks no_step_marks dtb_end_fault dtb_step p v w o s).memory ≡ true → o
     ≡ None
 goes_here p v w (Some end.Reset) s h = absurd (cc)

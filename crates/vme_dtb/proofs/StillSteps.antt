@@ -291,7 +291,7 @@ module _ (t : Trace) (span : Stretch) (n : ℕ) (m : HandshakeMemory) (holds : H
   machine_step_is cs = by_still (is_still (old t n) (new t n)) refl
     where
       by_still : (b : Bool) → is_still (old t n) (new t n) ≡ b
-          → option_map_or (dtb_step m (old t n) (new t n)) (cond b None (Some (record {}))) (quiet m)
+          → option_map_or (dtb_step m (old t n) (new t n)) (cond b None (Some tt)) (quiet m)
           ≡ dtb_next m (old t n) (new t n) (edges_between (old t n) (new t n))
       by_still true e = sym (next_still e)
       by_still false e = refl

@@ -25,7 +25,6 @@ use Rattle.vme_dtb.specs.Edge.{edges_between, first_of, is_still}
 use Rattle.vme_dtb.specs.declared.cycle.CyclePhase.{CyclePhase}
 use Rattle.vme_dtb.specs.declared.cycle.CyclePhase.TheVariants.{Free}
 use Rattle.vme_dtb.specs.declared.edges.Edges.{Edges}
-use Rattle.vme_dtb.specs.declared.handshake.HandshakeEdge.{HandshakeEdge}
 use Rattle.vme_dtb.specs.declared.memory.HandshakeMemory.{HandshakeMemory}
 
 abbrev pub is_replied : TransferPhase → Bool
@@ -136,8 +135,9 @@ dtb_start_marks v = no_step_marks
 abbrev pub dtb_end_fault : ℕ → Option Fault
 dtb_end_fault l = None
 
-abbrev pub dtb_observation : Levels → Levels → List Change → Option HandshakeEdge
-dtb_observation v w cs = if is_still v w then None else Some (record {})
+-- whether AS*, a strobe or an answer line moves
+abbrev pub dtb_observation : Levels → Levels → List Change → Option (Unit {0})
+dtb_observation v w cs = if is_still v w then None else Some tt
 
 -- what follows from the edges of a step
 abbrev pub dtb_next : HandshakeMemory → Levels → Levels → Edges → Next HandshakeMemory
@@ -148,5 +148,5 @@ dtb_next m v w s =
       shown = record s.shown { answer = answered_in (entered m.transfer v w) v w s };
     }
 
-abbrev pub dtb_step : HandshakeMemory → Levels → Levels → HandshakeEdge → Next HandshakeMemory
+abbrev pub dtb_step : HandshakeMemory → Levels → Levels → Unit {0} → Next HandshakeMemory
 dtb_step m v w moved = dtb_next m v w (edges_between v w)

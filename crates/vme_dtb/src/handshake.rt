@@ -39,10 +39,6 @@ use vme_trace::{Change, Lanes, Line, Lines, Rule, moved_data};
 /// The rules of the handshake, H1 to H8, and of the answers that a cycle admits, C1, C2, I4 and I5.
 pub struct HandshakeRules;
 
-/// That AS*, a strobe or an answer line moves.
-#[derive(Clone, Copy, PartialEq, Eq, Debug, Drop)]
-pub struct HandshakeEdge;
-
 /// Whether a transfer is open and has no answer.
 fn is_unanswered(transfer: TransferPhase) -> bool
     ensures { result ≡ is_unanswered transfer }
@@ -390,7 +386,8 @@ impl Rules for HandshakeRules {
 
     type Memory = HandshakeMemory;
 
-    type Observation = HandshakeEdge;
+    /// That AS*, a strobe or an answer line moves.
+    type Observation = ();
 
     ghost begin = { dtb_begin };
 
@@ -426,11 +423,11 @@ impl Rules for HandshakeRules {
     }
 
     #[inline(always)]
-    fn observe(before: &Lines, after: &Lines, _changes: &[Change]) -> Option<HandshakeEdge> {
+    fn observe(before: &Lines, after: &Lines, _changes: &[Change]) -> Option<()> {
         if is_handshake_still(before, after) {
             None
         } else {
-            Some(HandshakeEdge)
+            Some(())
         }
     }
 
@@ -439,7 +436,7 @@ impl Rules for HandshakeRules {
         memory: HandshakeMemory,
         before: &Lines,
         after: &Lines,
-        _seen: &HandshakeEdge,
+        _seen: &(),
     ) -> Next<HandshakeMemory> {
         if is_answer_alone(before, after) {
             memory.at_dtack_alone(before, after)
