@@ -135,7 +135,7 @@ impl<'a, 'c, T: ChangeVisitor> Body<'a, 'c, T> {
     {
         let at = reader.at;
         match reader.short_time() {
-            Some(short) => self.go_to(alloc, Start::Here(at), short.time),
+            Some(time) => self.go_to(alloc, Start::Here(at), time),
             None => Ok(false),
         }
     }
@@ -159,12 +159,12 @@ impl<'a, 'c, T: ChangeVisitor> Body<'a, 'c, T> {
             (T.taken self.new.timed.visitor) self.new.timed.clock.time result }
     {
         let at = reader.at;
-        if let Some(short) = reader.short_change() {
-            return self.change(alloc, Start::Here(at), short.digit, short.code);
+        if let Some((digit, code)) = reader.short_change() {
+            return self.change(alloc, Start::Here(at), digit, code);
         }
-        if let Some(read) = reader.vector_digits() {
+        if let Some(digits) = reader.vector_digits() {
             if let Some(code) = reader.next() {
-                return self.change(alloc, Start::Here(at), read.digits, code.bytes);
+                return self.change(alloc, Start::Here(at), digits, code.bytes);
             }
             reader.at = at;
         }

@@ -1,11 +1,11 @@
 //! The tokens of a text, from the left.
 
 ghost use Rattle.std.specs.Prelude.{◌≡◌, ℕ, true, false, ◌+◌, ◌∷◌, ◌++◌, List, [], ◌<◌, ◌≤◌, length, slice_index, take};
-ghost use Rattle.std.specs.Prelude.{◌==◌, ◌||◌, ◌-◌, Ok, IfSome, IfNone, MatchOption, get_or};
+ghost use Rattle.std.specs.Prelude.{◌==◌, ◌||◌, ◌-◌, IfSome, IfNone, MatchOption, get_or};
 ghost use Rattle.vcd_read.specs.Tokens.{is_space, tokens_from};
-ghost use Rattle.vcd_read.specs.Numbers.{time_of};
-ghost use Rattle.vcd_read.specs.Body.{shape_of, scalar, vector};
-ghost use Rattle.vcd_read.specs.Reading.{IsStart, left_at, left_from, line_behind, line_of, token_at};
+ghost use Rattle.vcd_read.specs.Body.{scalar, vector};
+ghost use Rattle.vcd_read.specs.Reading.{IsShapeAt, IsStart, IsTimeAt, left_at, left_from, line_behind, line_of};
+ghost use Rattle.vcd_read.specs.Reading.{token_at};
 
 use crate::body_piece::{BodyPiece, Start};
 use crate::fault::{FaultKind, VcdFault};
@@ -19,27 +19,6 @@ use crate::shape::is_bit;
 pub(crate) struct Token<'a> {
     pub at: usize,
     pub bytes: &'a [u8],
-}
-
-/// A time of at most 19 digits, and those digits.
-#[derive(Clone, Copy)]
-pub(crate) struct ShortTime<'a> {
-    pub time: u64,
-    pub digits: &'a [u8],
-}
-
-/// A scalar change of a code of one byte: its digit and its code.
-#[derive(Clone, Copy)]
-pub(crate) struct ShortChange<'a> {
-    pub digit: &'a [u8],
-    pub code: &'a [u8],
-}
-
-/// The first token of the change of a vector, and the digits in it.
-#[derive(Clone, Copy)]
-pub(crate) struct ShortVector<'a> {
-    pub bytes: &'a [u8],
-    pub digits: &'a [u8],
 }
 
 /// A piece of a text, and the place up to which it is read.
@@ -211,14 +190,12 @@ impl<'a> Reader<'a> {
 
     /// Reads the token at hand where it is a time of at most 19 digits.
     #[inline(always)]
-    pub fn short_time(&mut self) -> Option<ShortTime<'a>>
+    pub fn short_time(&mut self) -> Option<u64>
         requires { self.old.at < length self.old.text.bytes.now }
         ensures text { self.new.text ≡ self.old.text }
         ensures none { IfNone result (self.new.at ≡ self.old.at) }
-        ensures token { IfSome result (λ t. left_at self.old.text self.old.at
-            ≡ token_at self.old.text self.old.at (35 ∷ t.digits.now) ∷ left_at self.old.text self.new.at) }
-        ensures time { IfSome result (λ t. time_of t.digits.now ≡ Ok t.time) }
-        ensures moves { IfSome result (λ t. self.old.at < self.new.at) }
+        ensures time { IfSome result (λ time. IsTimeAt self.old.text self.old.at self.new.at time) }
+        ensures moves { IfSome result (λ time. self.old.at < self.new.at) }
     {
         if self.text.bytes[self.at] != b'#' {
             return None;
@@ -233,24 +210,20 @@ impl<'a> Reader<'a> {
             return None;
         }
         self.at = behind_word(self.text.bytes, end);
-        Some(ShortTime {
-            time: number,
-            digits: &self.text.bytes[start..end],
-        })
+        Some(number)
     }
 
     /// Reads the token at hand where it is a scalar change of a code of one byte above the space, after which the text
-    /// goes on.
+    /// goes on. The answer is its digit and its code.
     #[inline(always)]
-    pub fn short_change(&mut self) -> Option<ShortChange<'a>>
+    pub fn short_change(&mut self) -> Option<(&'a [u8], &'a [u8])>
         requires { self.old.at < length self.old.text.bytes.now }
         ensures text { self.new.text ≡ self.old.text }
         ensures none { IfNone result (self.new.at ≡ self.old.at) }
-        ensures token { IfSome result (λ c. left_at self.old.text self.old.at
-            ≡ token_at self.old.text self.old.at (c.digit.now ++ c.code.now) ∷ left_at self.old.text self.new.at) }
-        ensures shape { IfSome result (λ c. shape_of (c.digit.now ++ c.code.now) ≡ scalar c.digit.now c.code.now) }
+        ensures shape { IfSome result
+            (λ c. IsShapeAt self.old.text self.old.at self.new.at (scalar c.0.now c.1.now)) }
         ensures moves { IfSome result (λ c. self.old.at < self.new.at) }
-        ensures some { IfSome result (λ c. 0 < length c.digit.now) }
+        ensures some { IfSome result (λ c. 0 < length c.0.now) }
     {
         let start = self.at;
         if self.text.bytes.len() - start < 3 || !is_bit(self.text.bytes[start]) {
@@ -261,23 +234,21 @@ impl<'a> Reader<'a> {
             return None;
         }
         self.at = end + 1;
-        Some(ShortChange {
-            digit: &self.text.bytes[start..start + 1],
-            code: &self.text.bytes[start + 1..end],
-        })
+        let digit = &self.text.bytes[start..start + 1];
+        let code = &self.text.bytes[start + 1..end];
+        Some((digit, code))
     }
 
     /// Reads the token at hand where it is the digits of a vector.
     #[inline(always)]
-    pub fn vector_digits(&mut self) -> Option<ShortVector<'a>>
+    pub fn vector_digits(&mut self) -> Option<&'a [u8]>
         requires { self.old.at < length self.old.text.bytes.now }
         ensures text { self.new.text ≡ self.old.text }
         ensures none { IfNone result (self.new.at ≡ self.old.at) }
-        ensures token { IfSome result (λ v. left_at self.old.text self.old.at
-            ≡ token_at self.old.text self.old.at v.bytes.now ∷ left_at self.old.text self.new.at) }
-        ensures shape { IfSome result (λ v. shape_of v.bytes.now ≡ vector v.digits.now) }
-        ensures moves { IfSome result (λ v. self.old.at < self.new.at) }
-        ensures some { IfSome result (λ v. 0 < length v.digits.now) }
+        ensures shape { IfSome result
+            (λ digits. IsShapeAt self.old.text self.old.at self.new.at (vector digits.now)) }
+        ensures moves { IfSome result (λ digits. self.old.at < self.new.at) }
+        ensures some { IfSome result (λ digits. 0 < length digits.now) }
     {
         let start = self.at;
         if !begins_vector(self.text.bytes[start]) {
@@ -288,10 +259,7 @@ impl<'a> Reader<'a> {
             return None;
         }
         self.at = behind_word(self.text.bytes, end);
-        Some(ShortVector {
-            bytes: &self.text.bytes[start..end],
-            digits: &self.text.bytes[start + 1..end],
-        })
+        Some(&self.text.bytes[start + 1..end])
     }
 
     #[inline(always)]

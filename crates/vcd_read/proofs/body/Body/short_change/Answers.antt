@@ -1,4 +1,4 @@
-use Rattle.std.proofs.Common.{◌≡◌, ◌∷◌, ◌++◌, ◌∙◌, List, sym, ap}
+use Rattle.std.proofs.Common.{◌≡◌, ◌∷◌, ◌++◌, ◌∙◌, List, ap}
 use Rattle.vcd_read.specs.Tokens.{Token}
 use Rattle.vcd_read.specs.Reading.{left_at, token_at}
 use Rattle.vcd_read.specs.Body.{change, scalar, vector, ready, body_from}
@@ -12,15 +12,14 @@ returns-in-Some-clause-rest g c =
     let reader = c.args.reader.now in
     let text = reader.text in
     let after = c.short_change.new.self.at in
-    let digit = c.in-Some.short.digit.now in
-    let code = c.in-Some.short.code.now in
-    let t = token_at text reader.at (digit ++ code) in
+    let digit = c.in-Some.digit.now in
+    let code = c.in-Some.code.now in
+    let t = token_at text reader.at c.in-Some.ensures.shape.0 in
     let new = c.change.new.self in
     let is : (more : List Token) → body_from ready (left_at text reader.at ++ more) ≡ change t.line digit code
     ∷ body_from ready (left_at text after ++ more) =
-    λ more. ap (λ (ts : List Token). body_from ready (ts ++ more)) c.in-Some.ensures.token
-    ∙ shape_read t (left_at text after ++ more)
-    (scalar digit code) (sym c.in-Some.ensures.shape) in
+    λ more. ap (λ (ts : List Token). body_from ready (ts ++ more)) c.in-Some.ensures.shape.2
+    ∙ shape_read t (left_at text after ++ more) (scalar digit code) c.in-Some.ensures.shape.1 in
     let step = rw (c.change.ensures.same.0, ← c.requires.text) at c.change.ensures.step in
     read_on g.T.ChangeVisitor.with_change g.T.ChangeVisitor.with_instant old.codes.now new.codes.now
     (body_fold (g.T.ChangeVisitor.taken old.timed.visitor) old.timed.clock)
@@ -33,23 +32,22 @@ returns-in-Some-next-clause-rest g c =
     let old = c.args.self.now in
     let reader = c.args.reader.now in
     let text = reader.text in
-    let read = c.in-Some-vector_digits.read in
     let middle = c.vector_digits.new.self.at in
     let after = c.next.new.self.at in
-    let t = token_at text reader.at read.bytes.now in
+    let t = token_at text reader.at c.in-Some-vector_digits.ensures.shape.0 in
     let code = token_at text c.in-Some-next.code.at c.in-Some-next.code.bytes.now in
-    let digits = read.digits.now in
+    let digits = c.in-Some-vector_digits.digits.now in
     let new = c.change-in-Some-next.new.self in
     let cut : left_at text reader.at ≡ t ∷ left_at text middle = rw (
       c.in_default.ensures.text,
       c.in_default.ensures.none,
-    ) at c.in-Some-vector_digits.ensures.token in
+    ) at c.in-Some-vector_digits.ensures.shape.2 in
     let text_is = c.in-Some-vector_digits.ensures.text ∙ c.in_default.ensures.text in
     let behind : left_at text middle ≡ code ∷ left_at text after = rw text_is at c.in-Some-next.ensures.token in
     let is : (more : List Token) → body_from ready (left_at text reader.at ++ more) ≡ change t.line digits code.bytes
     ∷ body_from ready (left_at text after ++ more) =
     λ more. ap (λ (ts : List Token). body_from ready (ts ++ more)) cut ∙ shape_read t (left_at text middle ++ more)
-    (vector digits) (sym c.in-Some-vector_digits.ensures.shape)
+    (vector digits) c.in-Some-vector_digits.ensures.shape.1
     ∙ vector_read t.line digits (left_at text middle ++ more) (left_at text after ++ more) code
     (ap (λ (ts : List Token). ts ++ more) behind) in
     let step = rw (c.change-in-Some-next.ensures.same.0, ← c.requires.text) at c.change-in-Some-next.ensures.step in

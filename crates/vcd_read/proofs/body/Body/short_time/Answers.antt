@@ -1,4 +1,4 @@
-use Rattle.std.proofs.Common.{◌≡◌, ◌∷◌, ◌++◌, ◌∙◌, List, refl, ap}
+use Rattle.std.proofs.Common.{◌≡◌, ◌∷◌, ◌++◌, ◌∙◌, List, ap}
 use Rattle.vcd_read.specs.Tokens.{Token}
 use Rattle.vcd_read.specs.Reading.{left_at, token_at}
 use Rattle.vcd_read.specs.Body.{time_item, time_shape, ready, body_from}
@@ -12,14 +12,14 @@ returns-in-Some-clause-rest g c =
     let reader = c.args.reader.now in
     let text = reader.text in
     let after = c.short_time.new.self.at in
-    let digits = c.in-Some.short.digits.now in
-    let t = token_at text reader.at (35 ∷ digits) in
+    let digits = c.in-Some.ensures.time.0 in
+    let t = token_at text reader.at c.in-Some.ensures.time.2.0 in
     let new = c.go_to.new.self in
     let is : (more : List Token) → body_from ready (left_at text reader.at ++ more) ≡ time_item t.line digits
     ∷ body_from ready (left_at text after ++ more) =
-    λ more. ap (λ (ts : List Token). body_from ready (ts ++ more)) c.in-Some.ensures.token
-    ∙ shape_read t (left_at text after ++ more) (time_shape digits) refl in
-    let step = rw (c.go_to.ensures.same.0, ← c.requires.text) at c.go_to.ensures.step digits c.in-Some.ensures.time in
+    λ more. ap (λ (ts : List Token). body_from ready (ts ++ more)) c.in-Some.ensures.time.2.2
+    ∙ shape_read t (left_at text after ++ more) (time_shape digits) c.in-Some.ensures.time.2.1 in
+    let step = rw (c.go_to.ensures.same.0, ← c.requires.text) at c.go_to.ensures.step digits c.in-Some.ensures.time.1 in
     read_on g.T.ChangeVisitor.with_change g.T.ChangeVisitor.with_instant old.codes.now new.codes.now
     (body_fold (g.T.ChangeVisitor.taken old.timed.visitor) old.timed.clock)
     (body_fold (g.T.ChangeVisitor.taken new.timed.visitor) new.timed.clock)

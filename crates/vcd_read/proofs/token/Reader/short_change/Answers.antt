@@ -4,20 +4,18 @@ use Rattle.vcd_read.specs.Reading.{token_at}
 use Rattle.vcd_read.proofs.TokenLemmas.{above_space, between, change_step, change_shape, left_step}
 use Rattle.vcd_read.proofs.token.Reader.short_change.Goals as goal
 
-pub returns-clause-token : goal.returns-clause-token
-returns-clause-token c =
+pub returns-clause-shape : goal.returns-clause-shape
+returns-clause-shape c =
     let piece = c.args.self.now.text in
     let text = piece.bytes.now in
     let at = c.args.self.now.at in
     let lt : at + 1 < length text = omega arith in
     let last : at + 2 < length text = omega arith in
     let code : 32 < get_or text (at + 1) 0 = omega arith in
-    change_step piece.line text at lt (cc) (above_space (get_or text (at + 1) 0) code) (λ _. cc)
-    ∙ ap (λ (ts : List Token). token_at piece at (between text at (at + 1) ++ between text (at + 1) (at + 2)) ∷ ts)
-    (sym (left_step piece.line text (at + 2) last (cc)))
-
-pub returns-clause-shape : goal.returns-clause-shape
-returns-clause-shape c =
-    let at = c.args.self.now.at in
-    let lt : at + 1 < length c.args.self.now.text.bytes.now = omega arith in
-    change_shape c.args.self.now.text.bytes.now at lt (cc)
+    let bytes = between text at (at + 1) ++ between text (at + 1) (at + 2) in (
+      bytes,
+      sym (change_shape text at lt (cc)),
+      change_step piece.line text at lt (cc) (above_space (get_or text (at + 1) 0) code) (λ _. cc)
+          ∙ ap (λ (ts : List Token). token_at piece at bytes ∷ ts)
+          (sym (left_step piece.line text (at + 2) last (cc))),
+    )

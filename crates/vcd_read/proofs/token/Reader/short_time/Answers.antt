@@ -1,4 +1,4 @@
-use Rattle.std.proofs.Common.{◌≡◌, List, ◌∷◌, ◌∙◌, ◌+◌, ◌-◌, take, drop, sym, ap, arith}
+use Rattle.std.proofs.Common.{◌≡◌, List, ◌∷◌, ◌∙◌, ◌+◌, ◌-◌, take, drop, refl, sym, ap, arith}
 use Rattle.std.proofs.lemmas.List.{length-drop, length-take-le}
 use Rattle.vcd_read.specs.Tokens.{Token}
 use Rattle.vcd_read.specs.Reading.{token_at}
@@ -6,30 +6,30 @@ use Rattle.vcd_read.proofs.NumberLemmas.{short_time_of}
 use Rattle.vcd_read.proofs.TokenLemmas.{between, time_step}
 use Rattle.vcd_read.proofs.token.Reader.short_time.Goals as goal
 
-pub returns-clause-token : goal.returns-clause-token
-returns-clause-token c =
+pub returns-clause-time : goal.returns-clause-time
+returns-clause-time c =
     let piece = c.args.self.now.text in
     let text = piece.bytes.now in
     let at = c.args.self.now.at in
-    time_step piece.line text at c.leading_number-number.result.count c.requires c.if-self-ne35.false
-    (omega (arith, c.leading_number-number.ensures.within, length-drop (at + 1) text))
-    c.leading_number-number.ensures.digits (c.ends_word.ensures.ends (cc))
-    ∙ ap (λ (ts : List Token). token_at piece at
-    (35 ∷ between text (at + 1) (at + 1 + c.leading_number-number.result.count)) ∷ ts)
-    (sym (c.behind_word-self.ensures.left piece.line))
-
-pub returns-clause-time : goal.returns-clause-time
-returns-clause-time c =
-    let text = c.args.self.now.text.bytes.now in
-    let at = c.args.self.now.at in
     let count = c.leading_number-number.result.count in
-    let n : at + 1 + count - (at + 1) ≡ count = omega arith in
-    rw n (short_time_of (take count (drop (at + 1) text)) c.leading_number-number.result.number
-    (omega (
-      arith,
-      length-take-le count (drop (at + 1) text)
-          (omega (arith, c.leading_number-number.ensures.within, length-drop (at + 1) text)),
-      c.if-count-eq0.false,
-    ))
-    c.leading_number-number.ensures.digits (c.leading_number-number.ensures.number (omega arith))
-    (omega arith))
+    let n : at + 1 + count - (at + 1) ≡ count = omega arith in (
+      between text (at + 1) (at + 1 + count),
+      rw n (short_time_of (take count (drop (at + 1) text)) c.leading_number-number.result.number
+          (omega (
+            arith,
+            length-take-le count (drop (at + 1) text)
+                (omega (arith, c.leading_number-number.ensures.within, length-drop (at + 1) text)),
+            c.if-count-eq0.false,
+          ))
+          c.leading_number-number.ensures.digits (c.leading_number-number.ensures.number (omega arith))
+          (omega arith)),
+      (
+        35 ∷ between text (at + 1) (at + 1 + count),
+        refl,
+        time_step piece.line text at count c.requires c.if-self-ne35.false
+            (omega (arith, c.leading_number-number.ensures.within, length-drop (at + 1) text))
+            c.leading_number-number.ensures.digits (c.ends_word.ensures.ends (cc))
+            ∙ ap (λ (ts : List Token). token_at piece at (35 ∷ between text (at + 1) (at + 1 + count)) ∷ ts)
+            (sym (c.behind_word-self.ensures.left piece.line)),
+      ),
+    )

@@ -4,18 +4,16 @@ use Rattle.vcd_read.specs.Reading.{token_at}
 use Rattle.vcd_read.proofs.TokenLemmas.{between, vector_step, vector_of}
 use Rattle.vcd_read.proofs.token.Reader.vector_digits.Goals as goal
 
-pub returns-clause-token : goal.returns-clause-token
-returns-clause-token c =
+pub returns-clause-shape : goal.returns-clause-shape
+returns-clause-shape c =
     let piece = c.args.self.now.text in
     let text = piece.bytes.now in
     let at = c.args.self.now.at in
-    let end = c.bits_end-end.result in
-    vector_step piece.line text at end (cc) (omega arith) c.bits_end-end.ensures.high c.bits_end-end.ensures.bits
-    (c.ends_word.ensures.ends (cc))
-    ∙ ap (λ (ts : List Token). token_at piece at (between text at end) ∷ ts)
-    (sym (c.behind_word-self.ensures.left piece.line))
-
-pub returns-clause-shape : goal.returns-clause-shape
-returns-clause-shape c =
-    vector_of c.args.self.now.text.bytes.now c.args.self.now.at c.bits_end-end.result (cc) (omega arith)
-    c.bits_end-end.ensures.high c.bits_end-end.ensures.bits
+    let end = c.bits_end-end.result in (
+      between text at end,
+      sym (vector_of text at end (cc) (omega arith) c.bits_end-end.ensures.high c.bits_end-end.ensures.bits),
+      vector_step piece.line text at end (cc) (omega arith) c.bits_end-end.ensures.high c.bits_end-end.ensures.bits
+          (c.ends_word.ensures.ends (cc))
+          ∙ ap (λ (ts : List Token). token_at piece at (between text at end) ∷ ts)
+          (sym (c.behind_word-self.ensures.left piece.line)),
+    )
