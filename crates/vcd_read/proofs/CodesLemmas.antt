@@ -15,7 +15,6 @@ use Rattle.vcd_read.specs.declared.code_index.CodeIndex.{CodeIndex}
 use Rattle.vcd_read.specs.Header.{Net, has_code, net_of, size_of}
 use Rattle.vcd_read.specs.CodeIndexes.{net_at}
 use Rattle.vcd_read.specs.declared.one_byte_codes.OneByteCodes.{OneByteCodes}
-use Rattle.vcd_read.specs.declared.one_byte_codes.SizedNet.{SizedNet}
 use Rattle.vcd_read.specs.OneByteCodes.{HasOneByteCodes, one_byte_net_at, sized_net, sized_net_of}
 use Rattle.vcd_read.specs.Nets.{AreIndexed}
 
@@ -99,12 +98,12 @@ size_of-last (m ∷ nets) n = size_of-last nets n
 sized-before : (nets : List Net) (n : Net) (o : Option ℕ) → (IsSome o → unwrap_or o 0 < length nets)
     → option_map (sized_net (nets ++ n ∷ [])) o ≡ option_map (sized_net nets) o
 sized-before nets n None within = refl
-sized-before nets n (Some i) within = ap (λ (size : ℕ). Some (record { number = i; size = size }))
+sized-before nets n (Some i) within = ap (λ (size : ℕ). Some (i, size))
     (size_of-before nets i n (within cc))
 
 sized-push : (nets : List Net) (code : List ℕ) (size : ℕ) → net_of nets code ≡ None → (other : List ℕ)
     → sized_net_of (nets ++ record { code = code; size = size } ∷ []) other
-    ≡ (if bytes_eq code other then Some (record { number = length nets; size = size }) else sized_net_of nets other)
+    ≡ (if bytes_eq code other then Some (length nets, size) else sized_net_of nets other)
 sized-push nets code size none other =
     ap (option_map (sized_net (nets ++ n ∷ []))) (net_of-push nets code size none other) ∙ go (bytes_eq code other)
   where
@@ -112,18 +111,18 @@ sized-push nets code size none other =
     n = record { code = code; size = size }
 
     go : (b : Bool) → option_map (sized_net (nets ++ n ∷ [])) (cond b (Some (length nets)) (net_of nets other))
-        ≡ cond b (Some (record { number = length nets; size = size })) (sized_net_of nets other)
-    go true = ap (λ (bits : ℕ). Some (record { number = length nets; size = bits })) (size_of-last nets n)
+        ≡ cond b (Some (length nets, size)) (sized_net_of nets other)
+    go true = ap (λ (bits : ℕ). Some (length nets, bits)) (size_of-last nets n)
     go false = sized-before nets n (net_of nets other) (net_within nets other)
 
 -- one more net
-pub one_byte_push : (nets : List Net) (old new : OneByteCodes) (code : List ℕ) (size : ℕ) (net : SizedNet)
-    → HasOneByteCodes nets old → net_of nets code ≡ None → net ≡ record { number = length nets; size = size }
+pub one_byte_push : (nets : List Net) (old new : OneByteCodes) (code : List ℕ) (size : ℕ) (net : ℕ × ℕ)
+    → HasOneByteCodes nets old → net_of nets code ≡ None → net ≡ (length nets, size)
     → ((byte : ℕ) → byte < 256 → one_byte_net_at new byte
     ≡ (if bytes_eq code (byte ∷ []) then Some net else one_byte_net_at old byte))
     → HasOneByteCodes (nets ++ record { code = code; size = size } ∷ []) new
 one_byte_push nets old new code size net was none is changed = λ byte lt.
     changed byte lt
-    ∙ ap (λ (o : Option SizedNet). cond (bytes_eq code (byte ∷ [])) (Some net) o) (was byte lt)
-    ∙ ap (λ (n : SizedNet). cond (bytes_eq code (byte ∷ [])) (Some n) (sized_net_of nets (byte ∷ []))) is
+    ∙ ap (λ (o : Option (ℕ × ℕ)). cond (bytes_eq code (byte ∷ [])) (Some net) o) (was byte lt)
+    ∙ ap (λ (n : ℕ × ℕ). cond (bytes_eq code (byte ∷ [])) (Some n) (sized_net_of nets (byte ∷ []))) is
     ∙ sym (sized-push nets code size none (byte ∷ []))

@@ -262,14 +262,14 @@ impl<'a, 'c, T: ChangeVisitor> Body<'a, 'c, T> {
             (body_fold (T.taken self.old.timed.visitor) self.old.timed.clock) self.old.dump_section)
             (change (line_of self.old.reader.text start) digits.now code.now)) }
     {
-        let net = match self.codes.find(code) {
+        let (net, size) = match self.codes.find(code) {
             Some(net) => net,
             None => return Err(self.reader.fault(start, FaultKind::UndeclaredCode)),
         };
-        if digits.len() > net.size as usize {
+        if digits.len() > size as usize {
             return Err(self.reader.fault(start, FaultKind::TooWide));
         }
-        self.timed.change(alloc, net.number, net.size, digits)?;
+        self.timed.change(alloc, net, size, digits)?;
         Ok(true)
     }
 

@@ -5,7 +5,7 @@ ghost use Rattle.vcd_read.specs.Header.{net_of, size_of};
 ghost use Rattle.vcd_read.specs.OneByteCodes.{sized_net_of};
 
 use crate::code_index::CodeIndex;
-use crate::one_byte_codes::{OneByteCodes, SizedNet};
+use crate::one_byte_codes::OneByteCodes;
 use std::alloc::{AllocError, Global};
 use std::marker::Model;
 
@@ -69,7 +69,7 @@ impl Codes {
 
     /// The net of a code and its size, where it has one.
     #[inline(always)]
-    pub fn find(&self, code: &[u8]) -> Option<SizedNet>
+    pub fn find(&self, code: &[u8]) -> Option<(u32, u32)>
         ensures { result ≡ sized_net_of self.now code.now }
     {
         if let [byte] = code {
@@ -77,7 +77,7 @@ impl Codes {
         }
         let number = self.net(code)?;
         let size = self.size(number);
-        Some(SizedNet { number, size })
+        Some((number, size))
     }
 
     /// The size of a net.
@@ -106,7 +106,7 @@ impl Codes {
         self.nets.reserve(1)?;
         self.index.insert(alloc, code, net)?;
         self.nets.push_reserved(NetCode { code: bytes, size });
-        self.one_byte.insert(code, SizedNet { number: net, size });
+        self.one_byte.insert(code, (net, size));
         Ok(net)
     }
 }

@@ -7,18 +7,11 @@ use std::alloc::{AllocError, Global};
 /// How many bytes there are.
 const BYTES: usize = 256;
 
-/// A net, and how many bits it has.
-#[derive(Clone, Copy)]
-pub(crate) struct SizedNet {
-    pub number: u32,
-    pub size: u32,
-}
-
 /// The net of each code of one byte that has one. A small dump has few other codes, and one look-up tells the net.
 #[derive(Drop)]
 pub(crate) struct OneByteCodes {
-    /// By that byte.
-    nets: Vec<Option<SizedNet>>,
+    /// By that byte, each with how many bits it has.
+    nets: Vec<Option<(u32, u32)>>,
     ghost all: { length nets.items ≡ 256 },
 }
 
@@ -34,16 +27,16 @@ impl OneByteCodes {
         Ok(OneByteCodes { nets })
     }
 
-    /// The net of the code that is this byte, where it has one.
+    /// The net of the code that is this byte and its size, where it has one.
     #[inline(always)]
-    pub fn get(&self, byte: u8) -> Option<SizedNet>
+    pub fn get(&self, byte: u8) -> Option<(u32, u32)>
         ensures { result ≡ one_byte_net_at self.now byte }
     {
         self.nets[byte as usize]
     }
 
-    /// Gives a code a net, where it has one byte.
-    pub fn insert(&mut self, code: &[u8], net: SizedNet)
+    /// Gives a code a net and its size, where it has one byte.
+    pub fn insert(&mut self, code: &[u8], net: (u32, u32))
         ensures { (byte : ℕ) → byte < 256 → one_byte_net_at self.new byte
             ≡ (if bytes_eq code.now (byte ∷ []) then Some net else one_byte_net_at self.old byte) }
     {

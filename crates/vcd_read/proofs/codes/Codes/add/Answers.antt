@@ -24,8 +24,8 @@ invariant_of-self-2 c =
     c.in_ok-insert.ensures.ok in
     let number : c.len-net.result ≡ length nets = simp length-map (omega (arith, c.len-net.ensures)) in
     let one_byte = one_byte_push nets c.self.inside.one_byte c.insert-2.new.self c.args.code.now c.args.size
-    (record { number = c.len-net.result; size = c.args.size }) c.self.invariant.1 none
-    (ap (λ (n : ℕ). record { number = n; size = c.args.size }) number) c.insert-2.ensures in (
+    (c.len-net.result, c.args.size) c.self.invariant.1 none
+    (ap (λ (n : ℕ). (n, c.args.size)) number) c.insert-2.ensures in (
       subst (λ (nets : List Net). AreIndexed nets c.insert.new.self) (sym more) indexed,
       subst (λ (nets : List Net). HasOneByteCodes nets c.insert-2.new.self) (sym more) one_byte,
     )
