@@ -1,18 +1,16 @@
 //! A table with one outcome for each entering memory. Runs that meet share what follows.
 
-ghost use Rattle.std.specs.Prelude.{◌≡◌, ℕ, ◌+◌, ◌-◌, ◌^◌, ◌≤◌, List, [], ◌∷◌, ◌++◌, All, length, map, min, IfOk, OnOk};
-ghost use Rattle.std.specs.Prelude.{IsTrue, None, vec_len, vec_capacity};
+ghost use Rattle.std.specs.Prelude.{◌≡◌, ℕ, ◌+◌, ◌-◌, ◌^◌, ◌≤◌, List, [], ◌++◌, All, length, map, min, IfOk, OnOk};
+ghost use Rattle.std.specs.Prelude.{IsTrue};
 ghost use Rattle.std.specs.Option.{is_some};
-ghost use Rattle.vme_trace.specs.Trace.{levels_after};
-ghost use Rattle.vme_trace.specs.WellFormed.{malformed_step};
 ghost use Rattle.vme_trace.specs.Levels.{Levels};
 ghost use Rattle.vme_trace.specs.declared.step.Step.{Step};
-ghost use Rattle.vme_monitor.specs.Meeting.{AreAmong, AreDistinct, KeepApart, marks_of, memories_in, shown_apart};
-ghost use Rattle.vme_monitor.specs.Outcome.{IsWithin, inside-prop, StandsFor, followed, nothing_shown};
+ghost use Rattle.vme_monitor.specs.Meeting.{AreAmong, AreDistinct, marks_of, memories_in};
+ghost use Rattle.vme_monitor.specs.Outcome.{IsWithin, inside-prop, StandsFor, nothing_shown};
 ghost use Rattle.vme_monitor.specs.Run.{machine_step, run_of};
 ghost use Rattle.vme_monitor.specs.Walk.{link_values, later_link_value, outcome_of, reach};
-ghost use Rattle.vme_monitor.specs.Tables.{HasRoomFor, outcome};
-ghost use Rattle.vme_monitor.specs.StepRuns.{GiveRuns, seen_in};
+ghost use Rattle.vme_monitor.specs.Tables.{outcome};
+ghost use Rattle.vme_monitor.specs.StepRuns.{seen_in};
 
 use crate::link::{
     Link, TableRow, fresh_rows, later_links, later_rows, links_in, links_to_places, marks_in_links,
@@ -23,7 +21,7 @@ use crate::mark::Mark;
 use crate::merge::{advance, are_apart, have_merged, memories, merge, most_sensitive};
 use crate::view::StepView;
 use std::alloc::{AllocError, Global};
-use vme_trace::{Break, Lines, Step};
+use vme_trace::{Break, Step};
 
 /// What steps say to a monitor, whatever memory enters: runs that have met go on as one row, and each layer of links
 /// says which row of the next one a run goes on in.
@@ -85,15 +83,16 @@ pub struct Unfinished<M: Machine> {
 }
 
 impl<M: Machine> Unfinished<M> {
+    ghost use Rattle.vme_monitor.specs.UnfinishedTables.{HasRowsApart, HasRowsApartNext, HasRuns, HasRunsNext};
+    ghost use Rattle.vme_monitor.specs.UnfinishedTables.{unfinished_marks};
+    ghost use Rattle.vme_monitor.specs.WholeTables.{table_marks, table_outcome, table_steps};
+
     /// The table of no steps.
     pub fn new(alloc: Global) -> Result<Unfinished<M>, AllocError>
-        ensures runs { IfOk result
-            (λ t. (o : Levels) → GiveRuns (run_of (machine_step M.observation M.next)) M.Memory.place_of
-            M.sensitivity_of
-            t.layers.items t.rows.items t.most o []) }
-        ensures apart { IfOk result
-            (λ t. (o : Levels) → KeepApart (run_of (machine_step M.observation M.next)) M.Memory.COUNT M.Memory.place_of
-            M.Memory.nth_of (link_values t.layers.items) (map outcome_of t.rows.items) o []) }
+        ensures runs { IfOk result (λ t. (o : Levels)
+            → HasRuns M.observation M.next M.Memory.place_of M.sensitivity_of t o []) }
+        ensures apart { IfOk result (λ t. (o : Levels)
+            → HasRowsApart M.observation M.next M.Memory.place_of M.Memory.COUNT M.Memory.nth_of t o []) }
     {
         let all = memories::<M::Memory>(alloc)?;
         let mut rows = fresh_rows(alloc, all.as_slice())?;
@@ -127,20 +126,10 @@ impl<M: Machine> Unfinished<M> {
     ) -> Result<(), AllocError>
         requires view { view.now ≡ seen_in view.now.before step.now.changes }
         requires seen { M.observation view.now.before view.now.after step.now.changes ≡ Some seen.now }
-        ensures runs { OnOk result
-            ((o : Levels) (x : List Step) → view.now.before ≡ levels_after o x → instant ≡ length x + 1
-            → GiveRuns (run_of (machine_step M.observation M.next)) M.Memory.place_of M.sensitivity_of
-            self.old.layers.items self.old.rows.items self.old.most o x
-            → GiveRuns (run_of (machine_step M.observation M.next)) M.Memory.place_of M.sensitivity_of
-            self.new.layers.items self.new.rows.items self.new.most o (x ++ step.now ∷ [])) }
-        ensures apart { OnOk result
-            ((o : Levels) (x : List Step) → view.now.before ≡ levels_after o x → instant ≡ length x + 1
-            → GiveRuns (run_of (machine_step M.observation M.next)) M.Memory.place_of M.sensitivity_of
-            self.old.layers.items self.old.rows.items self.old.most o x
-            → KeepApart (run_of (machine_step M.observation M.next)) M.Memory.COUNT M.Memory.place_of M.Memory.nth_of
-            (link_values self.old.layers.items) (map outcome_of self.old.rows.items) o x
-            → KeepApart (run_of (machine_step M.observation M.next)) M.Memory.COUNT M.Memory.place_of M.Memory.nth_of
-            (link_values self.new.layers.items) (map outcome_of self.new.rows.items) o (x ++ step.now ∷ [])) }
+        ensures runs { OnOk result (HasRunsNext M.observation M.next M.Memory.place_of M.sensitivity_of
+            self.old self.new view.now.before step.now instant) }
+        ensures apart { OnOk result (HasRowsApartNext M.observation M.next M.Memory.place_of M.sensitivity_of
+            M.Memory.COUNT M.Memory.nth_of self.old self.new view.now.before step.now instant) }
     {
         let rows = self.rows.as_mut_slice();
         advance::<M>(rows, &view.before, &view.after, seen, step, instant)?;
@@ -166,20 +155,10 @@ impl<M: Machine> Unfinished<M> {
         instant: u32,
     ) -> Result<(), AllocError>
         requires { view.now ≡ seen_in view.now.before step.now.changes }
-        ensures runs { OnOk result
-            ((o : Levels) (x : List Step) → view.now.before ≡ levels_after o x → instant ≡ length x + 1
-            → GiveRuns (run_of (machine_step M.observation M.next)) M.Memory.place_of M.sensitivity_of
-            self.old.layers.items self.old.rows.items self.old.most o x
-            → GiveRuns (run_of (machine_step M.observation M.next)) M.Memory.place_of M.sensitivity_of
-            self.new.layers.items self.new.rows.items self.new.most o (x ++ step.now ∷ [])) }
-        ensures apart { OnOk result
-            ((o : Levels) (x : List Step) → view.now.before ≡ levels_after o x → instant ≡ length x + 1
-            → GiveRuns (run_of (machine_step M.observation M.next)) M.Memory.place_of M.sensitivity_of
-            self.old.layers.items self.old.rows.items self.old.most o x
-            → KeepApart (run_of (machine_step M.observation M.next)) M.Memory.COUNT M.Memory.place_of M.Memory.nth_of
-            (link_values self.old.layers.items) (map outcome_of self.old.rows.items) o x
-            → KeepApart (run_of (machine_step M.observation M.next)) M.Memory.COUNT M.Memory.place_of M.Memory.nth_of
-            (link_values self.new.layers.items) (map outcome_of self.new.rows.items) o (x ++ step.now ∷ [])) }
+        ensures runs { OnOk result (HasRunsNext M.observation M.next M.Memory.place_of M.sensitivity_of
+            self.old self.new view.now.before step.now instant) }
+        ensures apart { OnOk result (HasRowsApartNext M.observation M.next M.Memory.place_of M.sensitivity_of
+            M.Memory.COUNT M.Memory.nth_of self.old self.new view.now.before step.now instant) }
     {
         let Some(seen) = M::observe_step(view, step.changes.as_slice()) else {
             return Ok(());
@@ -211,15 +190,11 @@ impl<M: Machine> Unfinished<M> {
     /// The table of the steps, as many as that.
     pub fn finish(self, steps: u32) -> Table<M::Memory>
         requires { (o : Levels) × (x : List Step) × (steps ≡ length x)
-            × GiveRuns (run_of (machine_step M.observation M.next)) M.Memory.place_of M.sensitivity_of
-            self.layers.items self.rows.items self.most o x }
+            × HasRuns M.observation M.next M.Memory.place_of M.sensitivity_of self o x }
         ensures stands { (o : Levels) (x : List Step) → steps ≡ length x
-            → GiveRuns (run_of (machine_step M.observation M.next)) M.Memory.place_of M.sensitivity_of
-            self.layers.items self.rows.items self.most o x
-            → StandsFor (run_of (machine_step M.observation M.next))
-            (λ p. outcome result.layers.items result.rows.items p (M.Memory.place_of p)) result.steps o x }
-        ensures marks { marks_of (link_values result.layers.items) (map outcome_of result.rows.items)
-            ≡ marks_of (link_values self.layers.items) (map outcome_of self.rows.items) }
+            → HasRuns M.observation M.next M.Memory.place_of M.sensitivity_of self o x
+            → StandsFor (run_of (machine_step M.observation M.next)) (table_outcome result) (table_steps result) o x }
+        ensures marks { table_marks result ≡ unfinished_marks self }
     {
         let Unfinished {
             layers,
@@ -233,35 +208,6 @@ impl<M: Machine> Unfinished<M> {
             rows,
         }
     }
-}
-
-/// The table of some steps after an opening.
-pub fn summarise<M: Machine>(
-    alloc: Global,
-    opening: &Lines,
-    steps: &[Step],
-) -> Result<Table<M::Memory>, AllocError>
-    requires accepted { malformed_step (record { opening = opening.now; steps = steps.now }) ≡ None }
-    requires few { length steps.now ≤ 268435456 }
-    ensures stands { IfOk result
-        (λ t. StandsFor (run_of (machine_step M.observation M.next))
-        (λ p. outcome t.layers.items t.rows.items p (M.Memory.place_of p)) t.steps opening.now steps.now) }
-    ensures marks { IfOk result
-        (λ t. marks_of (link_values t.layers.items) (map outcome_of t.rows.items)
-        ≤ shown_apart (run_of (machine_step M.observation M.next)) M.Memory.COUNT M.Memory.place_of M.Memory.nth_of
-        opening.now steps.now) }
-{
-    let mut table = Unfinished::<M>::new(alloc)?;
-    let mut view = StepView::new(opening);
-    let mut instant = 0;
-    for step in steps {
-        let changes = step.changes.as_slice();
-        view.go_to(changes);
-        instant += 1;
-        table.extend(alloc, &view, step, instant)?;
-        view.go_past(changes);
-    }
-    Ok(table.finish(instant))
 }
 
 /// Adds layers, some instants later.
@@ -291,12 +237,14 @@ fn shift_layers(layers: &mut [Vec<Link>], by: u32)
 }
 
 impl<P: Enumerable> Table<P> {
+    ghost use Rattle.vme_monitor.specs.WholeTables.{HasRoomFor, outcome_of_both, table_layers, table_marks};
+    ghost use Rattle.vme_monitor.specs.WholeTables.{table_outcome, table_rows, table_steps};
+
     /// The table of no steps.
     pub fn unit(alloc: Global) -> Result<Table<P>, AllocError>
-        ensures outcomes { IfOk result (λ t. (p : P)
-            → outcome t.layers.items t.rows.items p (P.place_of p) ≡ nothing_shown p) }
-        ensures counted { IfOk result (λ t. t.steps ≡ 0) }
-        ensures marks { IfOk result (λ t. marks_of (link_values t.layers.items) (map outcome_of t.rows.items) ≡ 0) }
+        ensures outcomes { IfOk result (λ t. (p : P) → table_outcome t p ≡ nothing_shown p) }
+        ensures counted { IfOk result (λ t. table_steps t ≡ 0) }
+        ensures marks { IfOk result (λ t. table_marks t ≡ 0) }
     {
         let all = memories::<P>(alloc)?;
         let rows = fresh_rows(alloc, all.as_slice())?;
@@ -313,17 +261,10 @@ impl<P: Enumerable> Table<P> {
         first: &Table<P>,
         second: &Table<P>,
     ) -> Result<Table<P>, AllocError>
-        requires { first.now.steps + second.now.steps ≤ 268435456 }
-        ensures outcomes { IfOk result (λ t. (p : P)
-            → let a = outcome first.now.layers.items first.now.rows.items p
-            (P.place_of p) in outcome t.layers.items t.rows.items p (P.place_of p)
-            ≡ followed first.now.steps a (outcome second.now.layers.items second.now.rows.items a.leaving
-            (P.place_of a.leaving))) }
-        ensures counted { IfOk result (λ t. t.steps ≡ first.now.steps + second.now.steps) }
-        ensures marks { IfOk result
-            (λ t. marks_of (link_values t.layers.items) (map outcome_of t.rows.items)
-            ≤ marks_of (link_values first.now.layers.items) (map outcome_of first.now.rows.items)
-            + marks_of (link_values second.now.layers.items) (map outcome_of second.now.rows.items)) }
+        requires { table_steps first.now + table_steps second.now ≤ 268435456 }
+        ensures outcomes { IfOk result (λ t. (p : P) → table_outcome t p ≡ outcome_of_both first.now second.now p) }
+        ensures counted { IfOk result (λ t. table_steps t ≡ table_steps first.now + table_steps second.now) }
+        ensures marks { IfOk result (λ t. table_marks t ≤ table_marks first.now + table_marks second.now) }
     {
         let mut layers = Vec::new(alloc);
         later_layers(alloc, &mut layers, first.layers.as_slice(), 0)?;
@@ -341,10 +282,10 @@ impl<P: Enumerable> Table<P> {
     /// Takes all the memory that it needs to take over another table: room for links in place of the rows comes back.
     /// It says what it said, after an error too.
     pub fn make_room(&mut self, alloc: Global, second: &Table<P>) -> Result<Vec<Link>, AllocError>
-        ensures steps { self.new.steps ≡ self.old.steps }
-        ensures layers { self.new.layers.items ≡ self.old.layers.items }
-        ensures rows { self.new.rows ≡ self.old.rows }
-        ensures room { IfOk result (λ room. HasRoomFor room self.new.layers self.new.rows second.now.layers) }
+        ensures steps { table_steps self.new ≡ table_steps self.old }
+        ensures layers { table_layers self.new ≡ table_layers self.old }
+        ensures rows { table_rows self.new ≡ table_rows self.old }
+        ensures room { IfOk result (λ room. HasRoomFor room self.new second.now) }
     {
         let more = second.layers.len() + 1;
         self.layers.reserve(more)?;
@@ -354,15 +295,11 @@ impl<P: Enumerable> Table<P> {
     /// The table of the steps of two, one after the other, where both are given away: their links and rows are taken
     /// over, not copied, in room that was made. Takes no memory.
     pub fn append_in(self, room: Vec<Link>, second: Table<P>) -> Table<P>
-        requires few { self.steps + second.steps ≤ 268435456 }
-        requires room { HasRoomFor room self.layers self.rows second.layers }
-        ensures outcomes { (p : P) → let a = outcome self.layers.items self.rows.items p
-            (P.place_of p) in outcome result.layers.items result.rows.items p (P.place_of p)
-            ≡ followed self.steps a (outcome second.layers.items second.rows.items a.leaving (P.place_of a.leaving)) }
-        ensures counted { result.steps ≡ self.steps + second.steps }
-        ensures marks { marks_of (link_values result.layers.items) (map outcome_of result.rows.items)
-            ≡ marks_of (link_values self.layers.items) (map outcome_of self.rows.items)
-            + marks_of (link_values second.layers.items) (map outcome_of second.rows.items) }
+        requires few { table_steps self + table_steps second ≤ 268435456 }
+        requires room { HasRoomFor room self second }
+        ensures outcomes { (p : P) → table_outcome result p ≡ outcome_of_both self second p }
+        ensures counted { table_steps result ≡ table_steps self + table_steps second }
+        ensures marks { table_marks result ≡ table_marks self + table_marks second }
     {
         let Table {
             steps,
@@ -390,8 +327,7 @@ impl<P: Enumerable> Table<P> {
 
     /// How many marks its lists hold together, or the greatest number.
     pub fn stored(&self) -> u64
-        ensures { result ≡ min (marks_of (link_values self.now.layers.items) (map outcome_of self.now.rows.items))
-            (2 ^ 64 - 1) }
+        ensures { result ≡ min (table_marks self.now) (2 ^ 64 - 1) }
     {
         let mut count = 0u64;
         for layer in &self.layers {
@@ -402,14 +338,14 @@ impl<P: Enumerable> Table<P> {
 
     /// Of how many steps it is.
     pub fn steps(&self) -> u32
-        ensures { result ≡ self.now.steps }
+        ensures { result ≡ table_steps self.now }
     {
         self.steps
     }
 
     /// The memory that leaves, where this one enters.
     pub fn leaving(&self, memory: P) -> P
-        ensures { result ≡ (outcome self.now.layers.items self.now.rows.items memory (P.place_of memory)).leaving }
+        ensures { result ≡ (table_outcome self.now memory).leaving }
     {
         let mut k = memory.place();
         for layer in &self.layers {
@@ -427,7 +363,7 @@ impl<P: Enumerable> Table<P> {
 
     /// The first break, where this memory enters.
     pub fn first_break(&self, memory: P) -> Option<Break>
-        ensures { result ≡ (outcome self.now.layers.items self.now.rows.items memory (P.place_of memory)).first_break }
+        ensures { result ≡ (table_outcome self.now memory).first_break }
     {
         let mut k = memory.place();
         for layer in &self.layers {
@@ -467,8 +403,7 @@ impl<P: Enumerable> Table<P> {
 
     /// The marks, where this memory enters.
     pub fn marks(&self, alloc: Global, memory: P) -> Result<Vec<Mark>, AllocError>
-        ensures { IfOk result (λ v. v.items ≡ (outcome self.now.layers.items self.now.rows.items memory
-            (P.place_of memory)).marks) }
+        ensures { IfOk result (λ v. v.items ≡ (table_outcome self.now memory).marks) }
     {
         let mut all = Vec::with_capacity(alloc, self.count_marks(memory))?;
         let mut k = memory.place();

@@ -1,17 +1,46 @@
 //! Each machine is a monitor, by tables.
 
-ghost use Rattle.std.specs.Prelude.{◌≡◌, ◌+◌, ◌≤◌, List, [], ◌++◌, length, map, IfOk};
+ghost use Rattle.std.specs.Prelude.{◌≡◌, ◌≤◌, length, IfOk, None};
 ghost use Rattle.vme_trace.specs.WellFormed.{malformed_step};
+ghost use Rattle.vme_monitor.specs.Meeting.{shown_apart};
+ghost use Rattle.vme_monitor.specs.Outcome.{StandsFor};
 ghost use Rattle.vme_monitor.specs.Run.{machine_step, run_of};
-ghost use Rattle.vme_monitor.specs.Tables.{outcome as row_outcome};
+ghost use Rattle.vme_monitor.specs.WholeTables.{table_marks, table_outcome, table_steps};
 
 use crate::machine::Machine;
 use crate::mark::Mark;
 use crate::monitor::Monitor;
-use crate::table::{Table, summarise};
+use crate::table::{Table, Unfinished};
+use crate::view::StepView;
 use std::alloc::{AllocError, Global};
 use std::marker::PhantomData;
 use vme_trace::{Break, Lines, Step};
+
+/// The table of some steps after an opening.
+pub fn summarise<M: Machine>(
+    alloc: Global,
+    opening: &Lines,
+    steps: &[Step],
+) -> Result<Table<M::Memory>, AllocError>
+    requires accepted { malformed_step (record { opening = opening.now; steps = steps.now }) ≡ None }
+    requires few { length steps.now ≤ 268435456 }
+    ensures stands { IfOk result (λ t. StandsFor (run_of (machine_step M.observation M.next)) (table_outcome t)
+        (table_steps t) opening.now steps.now) }
+    ensures marks { IfOk result (λ t. table_marks t ≤ shown_apart (run_of (machine_step M.observation M.next))
+        M.Memory.COUNT M.Memory.place_of M.Memory.nth_of opening.now steps.now) }
+{
+    let mut table = Unfinished::<M>::new(alloc)?;
+    let mut view = StepView::new(opening);
+    let mut instant = 0;
+    for step in steps {
+        let changes = step.changes.as_slice();
+        view.go_to(changes);
+        instant += 1;
+        table.extend(alloc, &view, step, instant)?;
+        view.go_past(changes);
+    }
+    Ok(table.finish(instant))
+}
 
 /// The monitor of a machine.
 pub struct TableMonitor<M> {
@@ -23,12 +52,10 @@ impl<M: Machine> Monitor for TableMonitor<M> {
     ghost use Rattle.vme_trace.specs.WellFormed.{malformed_step};
     ghost use Rattle.vme_monitor.specs.Outcome.{StandsFor};
     ghost use Rattle.vme_monitor.specs.Run.{machine_step, run_of};
-    ghost use Rattle.vme_monitor.specs.Tables.{outcome as row_outcome};
     ghost use Rattle.vme_monitor.specs.Runs.{run_joined};
     ghost use Rattle.vme_monitor.specs.RuleMonitors.{run_within};
-    ghost use Rattle.std.specs.Prelude.{map};
-    ghost use Rattle.vme_monitor.specs.Meeting.{marks_of, shown_apart};
-    ghost use Rattle.vme_monitor.specs.Walk.{link_values, outcome_of};
+    ghost use Rattle.vme_monitor.specs.Meeting.{shown_apart};
+    ghost use Rattle.vme_monitor.specs.WholeTables.{table_marks, table_outcome, table_steps};
 
     type Memory = M::Memory;
 
@@ -38,11 +65,11 @@ impl<M: Machine> Monitor for TableMonitor<M> {
 
     ghost begin = { M.begin };
 
-    ghost count = { λ s. s.steps };
+    ghost count = { λ s. table_steps s };
 
-    ghost outcome = { λ s p. row_outcome s.layers.items s.rows.items p (M.Memory.place_of p) };
+    ghost outcome = { λ s p. table_outcome s p };
 
-    ghost marks_kept = { λ s. marks_of (link_values s.layers.items) (map outcome_of s.rows.items) };
+    ghost marks_kept = { λ s. table_marks s };
 
     ghost marks_shown = { shown_apart
         (run_of (machine_step M.observation M.next)) M.Memory.COUNT M.Memory.place_of M.Memory.nth_of };

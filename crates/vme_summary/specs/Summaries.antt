@@ -9,57 +9,50 @@ use Rattle.vme_trace.specs.declared.step.Step.{Step}
 use Rattle.vme_trace.specs.declared.verdict.Break.{Break}
 use Rattle.vme_monitor.specs.Outcome.{Outcome, StandsFor}
 use Rattle.vme_monitor.specs.WithoutMarks.{FindsFor, stands_finds}
-use Rattle.vme_monitor.specs.Tables.{outcome}
-use Rattle.vme_monitor.specs.OverStretches.{phase_place}
-use Rattle.vme_monitor.specs.KnownRules.{nil_place}
+use Rattle.vme_monitor.specs.WholeTables.{table_outcome, table_steps}
 use Rattle.vme_monitor.specs.declared.known.Stateless.{Stateless}
 use Rattle.vme_monitor.specs.declared.over_stretches.StretchPhase.{StretchPhase}
-use Rattle.vme_dtb.specs.MemoryNumbers.{memory_place}
 use Rattle.vme_dtb.specs.declared.memory.HandshakeMemory.{HandshakeMemory}
-use Rattle.vme_stability.specs.HoldingNumbers.{holding_place}
 use Rattle.vme_stability.specs.declared.holding.Holding.{Holding}
-use Rattle.vme_chains.specs.GrantMemory.{arbitration_place}
 use Rattle.vme_chains.specs.declared.grant_memory.Arbitration.{Arbitration}
-use Rattle.vme_chains.specs.AcknowledgeRules.{acknowledgement_place}
 use Rattle.vme_chains.specs.declared.acknowledge.Acknowledgement.{Acknowledgement}
 use Rattle.vme_summary.specs.Runs.{known_run, handshake_run, stability_run, grant_run, acknowledge_run}
 use Rattle.vme_summary.specs.declared.summary.MonitorSummaries.{MonitorSummaries}
 
 -- the outcome of each monitor, by its table
 abbrev pub known_outcome : MonitorSummaries → StretchPhase Stateless → Outcome (StretchPhase Stateless)
-known_outcome s p = outcome s.known.layers.items s.known.rows.items p (phase_place nil_place p)
+known_outcome s p = table_outcome s.known p
 
 abbrev pub handshake_outcome : MonitorSummaries → StretchPhase HandshakeMemory → Outcome (StretchPhase HandshakeMemory)
-handshake_outcome s p = outcome s.handshake.layers.items s.handshake.rows.items p (phase_place memory_place p)
+handshake_outcome s p = table_outcome s.handshake p
 
 abbrev pub stability_outcome : MonitorSummaries → StretchPhase Holding → Outcome (StretchPhase Holding)
-stability_outcome s p = outcome s.stability.layers.items s.stability.rows.items p (phase_place holding_place p)
+stability_outcome s p = table_outcome s.stability p
 
 abbrev pub grant_outcome : MonitorSummaries → StretchPhase Arbitration → Outcome (StretchPhase Arbitration)
-grant_outcome s p = outcome s.grant.layers.items s.grant.rows.items p (phase_place arbitration_place p)
+grant_outcome s p = table_outcome s.grant p
 
 abbrev pub acknowledge_outcome : MonitorSummaries → StretchPhase Acknowledgement
     → Outcome (StretchPhase Acknowledgement)
-acknowledge_outcome s p =
-    outcome s.acknowledge.layers.items s.acknowledge.rows.items p (phase_place acknowledgement_place p)
+acknowledge_outcome s p = table_outcome s.acknowledge p
 
 -- it stands for these steps after that opening: from each memory that enters, each table gives what its monitor's run
 -- gives
 pub record SummaryStandsFor (s : MonitorSummaries) (o : Levels) (x : List Step) : Type 0 where
-  pub known : StandsFor known_run (known_outcome s) s.known.steps o x
-  pub handshake : StandsFor handshake_run (handshake_outcome s) s.handshake.steps o x
-  pub stability : StandsFor stability_run (stability_outcome s) s.stability.steps o x
-  pub grant : StandsFor grant_run (grant_outcome s) s.grant.steps o x
-  pub acknowledge : StandsFor acknowledge_run (acknowledge_outcome s) s.acknowledge.steps o x
+  pub known : StandsFor known_run (known_outcome s) (table_steps s.known) o x
+  pub handshake : StandsFor handshake_run (handshake_outcome s) (table_steps s.handshake) o x
+  pub stability : StandsFor stability_run (stability_outcome s) (table_steps s.stability) o x
+  pub grant : StandsFor grant_run (grant_outcome s) (table_steps s.grant) o x
+  pub acknowledge : StandsFor acknowledge_run (acknowledge_outcome s) (table_steps s.acknowledge) o x
 
 -- it finds what these steps after that opening do: from each memory that enters, each table gives the memory that is
 -- left and the first break of its monitor's run
 pub record SummaryFindsFor (s : MonitorSummaries) (o : Levels) (x : List Step) : Type 0 where
-  pub known : FindsFor known_run (known_outcome s) s.known.steps o x
-  pub handshake : FindsFor handshake_run (handshake_outcome s) s.handshake.steps o x
-  pub stability : FindsFor stability_run (stability_outcome s) s.stability.steps o x
-  pub grant : FindsFor grant_run (grant_outcome s) s.grant.steps o x
-  pub acknowledge : FindsFor acknowledge_run (acknowledge_outcome s) s.acknowledge.steps o x
+  pub known : FindsFor known_run (known_outcome s) (table_steps s.known) o x
+  pub handshake : FindsFor handshake_run (handshake_outcome s) (table_steps s.handshake) o x
+  pub stability : FindsFor stability_run (stability_outcome s) (table_steps s.stability) o x
+  pub grant : FindsFor grant_run (grant_outcome s) (table_steps s.grant) o x
+  pub acknowledge : FindsFor acknowledge_run (acknowledge_outcome s) (table_steps s.acknowledge) o x
 
 -- one that stands for steps finds what they do
 pub stands_finds_all : {s : MonitorSummaries} {o : Levels} {x : List Step} → SummaryStandsFor s o x → SummaryFindsFor s
@@ -75,7 +68,7 @@ stands_finds_all p =
 
 -- of how many steps it is
 abbrev pub summary_steps : MonitorSummaries → ℕ
-summary_steps s = s.known.steps
+summary_steps s = table_steps s.known
 
 -- two stand for the same steps
 abbrev pub StandAlike : MonitorSummaries → MonitorSummaries → Type 0

@@ -5,7 +5,7 @@ ghost use Rattle.vme_monitor.specs.Outcome.{earlier, shifted_break};
 ghost use Rattle.vme_monitor.specs.OverStretches.{observed, phase_step};
 ghost use Rattle.vme_monitor.specs.Run.{break_of_fault, machine_step, quiet as quiet_next};
 ghost use Rattle.vme_monitor.specs.StepRuns.{seen_in};
-ghost use Rattle.vme_monitor.specs.Tables.{outcome};
+ghost use Rattle.vme_monitor.specs.WholeTables.{table_outcome, table_steps};
 ghost use Rattle.vme_monitor.specs.WithoutMarks.{unmarked_next};
 ghost use Rattle.vme_monitor.specs.declared.over_stretches.StretchPhase.TheVariants.{Judging};
 ghost use Rattle.vme_trace.specs.Levels.{Levels};
@@ -48,12 +48,10 @@ impl<P: Enumerable> MonitorState<P> {
 
     /// What it has come to after the steps of a table more, before which so many were.
     pub(crate) fn after(&self, table: &Table<P>, steps: u32) -> MonitorState<P>
-        requires { steps + table.now.steps < 2 ^ 32 }
-        ensures memory { result.memory ≡ (outcome table.now.layers.items table.now.rows.items self.now.memory
-            (P.place_of self.now.memory)).leaving }
+        requires { steps + table_steps table.now < 2 ^ 32 }
+        ensures memory { result.memory ≡ (table_outcome table.now self.now.memory).leaving }
         ensures first_break { result.first_break ≡ earlier self.now.first_break
-            (option_map (shifted_break steps) (outcome table.now.layers.items table.now.rows.items self.now.memory
-            (P.place_of self.now.memory)).first_break) }
+            (option_map (shifted_break steps) (table_outcome table.now self.now.memory).first_break) }
     {
         let first_break = match self.first_break {
             Some(found) => Some(found),

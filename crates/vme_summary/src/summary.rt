@@ -1,6 +1,7 @@
 //! What steps say to all monitors, whatever stood before them.
 
 ghost use Rattle.std.specs.Prelude.{◌≡◌};
+ghost use Rattle.vme_monitor.specs.WholeTables.{table_steps};
 ghost use Rattle.vme_summary.specs.SameSteps.{SameSteps};
 
 use vme_chains::acknowledge::Acknowledgement;
@@ -20,7 +21,8 @@ pub(crate) struct MonitorSummaries {
     pub(crate) stability: Table<StretchPhase<Holding>>,
     pub(crate) grant: Table<StretchPhase<Arbitration>>,
     pub(crate) acknowledge: Table<StretchPhase<Acknowledgement>>,
-    ghost same: { SameSteps known.steps handshake.steps stability.steps grant.steps acknowledge.steps },
+    ghost same: { SameSteps (table_steps known) (table_steps handshake) (table_steps stability) (table_steps grant)
+        (table_steps acknowledge) },
 }
 
 /// Room for what it takes to take over a summary: links for each table.
