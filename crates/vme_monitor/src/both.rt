@@ -1,12 +1,7 @@
 //! Two monitors at once.
 
 ghost use Rattle.std.specs.Prelude.{◌≡◌, ◌≤◌, ◌∷◌, ◌++◌, [], ℕ, IfOk, List, drop, false, length, slice_get, take};
-ghost use Rattle.vme_trace.specs.declared.rule.Rule.{Rule};
-ghost use Rattle.vme_trace.specs.Trace.{Trace};
-ghost use Rattle.vme_trace.specs.Judged.{Stretch};
-ghost use Rattle.vme_monitor.specs.Joined.{AreApart, AreJoined, together};
-ghost use Rattle.vme_monitor.specs.declared.mark.StepMarks.{StepMarks};
-ghost use Rattle.vme_monitor.specs.Whole.{FindsLeast, ShowsAll};
+ghost use Rattle.vme_monitor.specs.TwoMonitors.{FindsTogether, ShowsTogether};
 ghost use Rattle.std.specs.Option.{option_map_or};
 ghost use Rattle.vme_monitor.specs.BothMonitors.{breaks_before as fault_before, front, rest};
 ghost use Rattle.vme_monitor.specs.BothMonitors.{kind_number as kind_place, least as least_of, mark_lt as mark_before};
@@ -287,11 +282,8 @@ impl<M: Monitor, N: Monitor> Monitor for Both<M, N> {
 /// Over a whole recording, the first break of both monitors is the least break of the rules of both, and their marks
 /// are what both show.
 pub fn both_over_recordings<M: Monitor, N: Monitor>()
-    ensures first_break { (rs qs all : List Rule) → AreJoined rs qs all → FindsLeast M.run M.begin rs
-        → FindsLeast N.run N.begin qs → FindsLeast ⟦<Both<M, N> as Monitor>⟧.run ⟦<Both<M, N> as Monitor>⟧.begin all }
-    ensures marks { (a b : StepMarks) (f g : Trace → Stretch → ℕ → StepMarks) → AreApart a b
-        → ((t : Trace) (span : Stretch) (j : ℕ) → AreApart (f t span j) (g t span j))
-        → ShowsAll M.run M.begin a f → ShowsAll N.run N.begin b g
-        → ShowsAll ⟦<Both<M, N> as Monitor>⟧.run ⟦<Both<M, N> as Monitor>⟧.begin (together a b)
-        (λ t span j. together (f t span j) (g t span j)) }
+    ensures first_break { FindsTogether M.run M.begin N.run N.begin
+        ⟦<Both<M, N> as Monitor>⟧.run ⟦<Both<M, N> as Monitor>⟧.begin }
+    ensures marks { ShowsTogether M.run M.begin N.run N.begin
+        ⟦<Both<M, N> as Monitor>⟧.run ⟦<Both<M, N> as Monitor>⟧.begin }
 {}

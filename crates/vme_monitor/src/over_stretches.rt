@@ -1,15 +1,13 @@
 //! Judging starts at an idle instant, and ends where the bus is reset or a control line is lost. After a reset it
 //! starts again.
 
-ghost use Rattle.std.specs.Prelude.{◌≡◌, ℕ, ◌<◌, ◌≤◌, List, Option, None, length, take};
+ghost use Rattle.std.specs.Prelude.{◌≡◌, ℕ, ◌≤◌, List, Option, None};
 ghost use Rattle.vme_trace.specs.Trace.{Trace, levels_at};
 ghost use Rattle.vme_trace.specs.WellFormed.{malformed_step};
-ghost use Rattle.vme_trace.specs.Judged.{IsSpanOf, Stretch, judged_spans};
-ghost use Rattle.vme_trace.specs.Verdict.{least_of};
-ghost use Rattle.vme_trace.specs.declared.rule.Rule.{Rule};
+ghost use Rattle.vme_trace.specs.Judged.{judged_spans};
 ghost use Rattle.vme_monitor.specs.Judges.{Judges};
-ghost use Rattle.vme_monitor.specs.Shows.{Shows, marks_over, over_span};
-ghost use Rattle.vme_monitor.specs.Whole.{has_span, run_whole};
+ghost use Rattle.vme_monitor.specs.Shows.{Shows};
+ghost use Rattle.vme_monitor.specs.Whole.{FindsLeastWhere, RemembersWithin, ShowsAllWhere, has_span, run_whole};
 ghost use Rattle.vme_monitor.specs.Along.{memory_from};
 ghost use Rattle.vme_monitor.specs.declared.over_stretches.StretchPhase.TheVariants.{Judging};
 ghost use Rattle.vme_monitor.specs.Run.{machine_step};
@@ -263,23 +261,16 @@ pub type RuleMonitor<R> = TableMonitor<OverStretches<R>>;
 /// and at the resets that end them, for rules of which this holds in each span (`Judges`, `Shows`). Within a span
 /// the memory is the inner machine's.
 pub fn rules_over_recordings<R: Rules>()
-    ensures first_break { (t : Trace) (rules : List Rule) → malformed_step t ≡ None → t.opening.slots ≤ 21
-        → ((span : Stretch) → IsSpanOf t span
-        → Judges (machine_step R.observation R.next) (R.begin (levels_at t span.start)) R.end_fault t span rules)
-        → (run_whole ⟦<RuleMonitor<R> as Monitor>⟧.run ⟦<RuleMonitor<R> as Monitor>⟧.begin t).first_break
-        ≡ least_of rules t (judged_spans t) }
-    ensures marks { (t : Trace) (shown : Stretch → ℕ → StepMarks) → malformed_step t ≡ None → t.opening.slots ≤ 21
-        → ((span : Stretch) → IsSpanOf t span
-        → Shows (machine_step R.observation R.next) (R.begin (levels_at t span.start)) R.start_marks t span
-        (shown span))
-        → (run_whole ⟦<RuleMonitor<R> as Monitor>⟧.run ⟦<RuleMonitor<R> as Monitor>⟧.begin t).marks
-        ≡ marks_over (λ span. over_span t span R.reset_marks (shown span)) t (judged_spans t) }
+    ensures first_break { FindsLeastWhere ⟦<RuleMonitor<R> as Monitor>⟧.run ⟦<RuleMonitor<R> as Monitor>⟧.begin
+        (λ t span rules. Judges (machine_step R.observation R.next) (R.begin (levels_at t span.start)) R.end_fault t
+        span rules) }
+    ensures marks { ShowsAllWhere ⟦<RuleMonitor<R> as Monitor>⟧.run ⟦<RuleMonitor<R> as Monitor>⟧.begin R.reset_marks
+        (λ t span shown. Shows (machine_step R.observation R.next) (R.begin (levels_at t span.start)) R.start_marks t
+        span shown) }
     ensures started { (t : Trace) → malformed_step t ≡ None → t.opening.slots ≤ 21
         → has_started (run_whole ⟦<RuleMonitor<R> as Monitor>⟧.run ⟦<RuleMonitor<R> as Monitor>⟧.begin t).leaving
         ≡ has_span (judged_spans t) }
-    ensures memory { (t : Trace) (span : Stretch) (n : ℕ) → malformed_step t ≡ None → t.opening.slots ≤ 21
-        → IsSpanOf t span → span.start ≤ n → n < span.end → n ≤ length t.steps
-        → (⟦<RuleMonitor<R> as Monitor>⟧.run (⟦<RuleMonitor<R> as Monitor>⟧.begin t.opening) t.opening
-        (take n t.steps)).leaving
-        ≡ Judging (memory_from (machine_step R.observation R.next) t (R.begin (levels_at t span.start)) span.start n) }
+    ensures memory { RemembersWithin ⟦<RuleMonitor<R> as Monitor>⟧.run ⟦<RuleMonitor<R> as Monitor>⟧.begin
+        (λ t span n. Judging (memory_from (machine_step R.observation R.next) t (R.begin (levels_at t span.start))
+        span.start n)) }
 {}

@@ -1,0 +1,28 @@
+-- What two monitors find and show apart, another finds and shows together.
+use Rattle.std.specs.Prelude.{ℕ, List}
+use Rattle.vme_trace.specs.Judged.{Stretch}
+use Rattle.vme_trace.specs.Levels.{Levels}
+use Rattle.vme_trace.specs.Trace.{Trace}
+use Rattle.vme_trace.specs.declared.rule.Rule.{Rule}
+use Rattle.vme_trace.specs.declared.step.Step.{Step}
+use Rattle.vme_monitor.specs.Joined.{AreApart, AreJoined, together}
+use Rattle.vme_monitor.specs.Outcome.{Outcome}
+use Rattle.vme_monitor.specs.Whole.{FindsLeast, ShowsAll}
+use Rattle.vme_monitor.specs.declared.mark.StepMarks.{StepMarks}
+
+module _ {P Q R : Type 0} (first : P → Levels → List Step → Outcome P) (begin_first : Levels → P)
+    (second : Q → Levels → List Step → Outcome Q) (begin_second : Levels → Q)
+    (both : R → Levels → List Step → Outcome R) (begin_both : Levels → R) where
+  -- the least break of the rules of both
+  abbrev pub FindsTogether : Type 0
+  FindsTogether =
+      (rs qs all : List Rule) → AreJoined rs qs all → FindsLeast first begin_first rs
+      → FindsLeast second begin_second qs → FindsLeast both begin_both all
+
+  -- the marks of both, which are never of one kind at once
+  abbrev pub ShowsTogether : Type 0
+  ShowsTogether =
+      (a b : StepMarks) (f g : Trace → Stretch → ℕ → StepMarks) → AreApart a b
+      → ((t : Trace) (span : Stretch) (j : ℕ) → AreApart (f t span j) (g t span j))
+      → ShowsAll first begin_first a f → ShowsAll second begin_second b g
+      → ShowsAll both begin_both (together a b) (λ t span j. together (f t span j) (g t span j))
