@@ -1,5 +1,5 @@
 -- How `annotate` and `list --times` end, by what they read and find.
-use Rattle.std.specs.Prelude.{ℕ, List, [], Option, None, Some, Result, Ok, Err}
+use Rattle.std.specs.Prelude.{◌≡◌, ◌≢◌, ℕ, List, [], Option, None, Some, Result, Ok, Err}
 use Rattle.vme_trace.specs.Streams.{Reading, Writing}
 use Rattle.vme_trace.specs.Trace.{Trace}
 use Rattle.vme_trace.specs.Verdict.{verdict_by, rules_in_force}
@@ -9,7 +9,7 @@ use Rattle.vme_answer.specs.Texts.{verdict_status}
 use Rattle.vme_answer.specs.declared.refusal.Refusal.{Refusal}
 use Rattle.vme_commands.specs.Settled.{settled_recording}
 use Rattle.vme_commands.specs.declared.built_in.TheConstants.{BLOCK}
-use Rattle.vme_stream.specs.Inputs.{IsReading}
+use Rattle.vme_stream.specs.Inputs.{IsReading, TellsWhole}
 use Rattle.vme_annotation.specs.Annotated.{IsAnnotated}
 use Rattle.vme_annotate.specs.TimedListings.{timed_text}
 
@@ -62,3 +62,10 @@ TellsAnnotation skew binding dump out err status =
     (text : List ℕ)
     × IsAnnotationOf (Some dump) (settled_recording skew (Some binding) (Some dump) BLOCK) text
     × Tells (annotation_answer_by text (settled_recording skew (Some binding) (Some dump) BLOCK)) out err status
+
+-- inputs that are told whole, no failure of the output, and memory give exactly their answer
+abbrev pub AnnotatesExactly : ℕ → Reading × Reading → Reading × Reading → Writing × Writing → Writing × Writing → ℕ
+    → Type 0
+AnnotatesExactly skew binding dump out err status =
+    (b d : List ℕ) → TellsWhole binding.0 binding.1 b → TellsWhole dump.0 dump.1 d → out.1.failures ≡ out.0.failures
+    → status ≢ 4 → TellsAnnotation skew b d out err status

@@ -1,14 +1,14 @@
 //! A dump that is written again, annotated with the listing of its recording.
 
-ghost use Rattle.std.specs.Prelude.{◌≡◌, ◌≢◌, ◌↔◌, ℕ, suc, List, Ok, Option, Some};
+ghost use Rattle.std.specs.Prelude.{◌≡◌, ◌↔◌, ℕ, suc, List, Ok, Option, Some};
 ghost use Rattle.vme_answer.specs.Answers.{dump_read};
 ghost use Rattle.vme_answer.specs.Ends.{Ends};
 ghost use Rattle.vme_commands.specs.Settled.{settled_recording};
 ghost use Rattle.vme_commands.specs.declared.built_in.TheConstants.{BLOCK};
-ghost use Rattle.vme_stream.specs.Inputs.{IsReading, TellsWhole};
+ghost use Rattle.vme_stream.specs.Inputs.{IsReading};
 ghost use Rattle.vme_trace.specs.Trace.{Trace};
 ghost use Rattle.vme_annotation.specs.Annotated.{IsAnnotated};
-ghost use Rattle.vme_annotate.specs.Answers.{Annotates, TellsAnnotation, annotation_answer_by};
+ghost use Rattle.vme_annotate.specs.Answers.{Annotates, AnnotatesExactly, annotation_answer_by};
 ghost use Rattle.vme_annotate.specs.Prepared.{GivesPrepared, IsPrepared, recording_in};
 ghost use Rattle.vme_annotate.specs.TimedListings.{listed_in};
 
@@ -53,10 +53,8 @@ pub fn annotate<B: Source, D: Source, O: Sink, E: Sink>(
     ensures unwritten { (result ≡ 5) ↔ ((O.writing out.new).failures ≡ suc (O.writing out.old).failures) }
 
     // Inputs that are told whole, no failure, and memory give exactly the annotated dump, or the first fault.
-    ensures exact { (b d : List ℕ) → TellsWhole (B.reading binding.old) (B.reading binding.new) b
-        → TellsWhole (D.reading dump.old) (D.reading dump.new) d
-        → (O.writing out.new).failures ≡ (O.writing out.old).failures → result ≢ 4
-        → TellsAnnotation skew b d
+    ensures exact { AnnotatesExactly skew
+        (B.reading binding.old, B.reading binding.new) (D.reading dump.old, D.reading dump.new)
         (O.writing out.old, O.writing out.new) (E.writing err.old, E.writing err.new) result }
 {
     read_and_tell(alloc, binding, dump, skew, out, err)

@@ -1,8 +1,8 @@
 //! The listing of a recording, with the times of its instants.
 
-ghost use Rattle.std.specs.Prelude.{◌≡◌, ◌≢◌, ◌≤◌, ◌↔◌, ℕ, suc, List, MatchResult, Ok, Option, Some};
-ghost use Rattle.vme_answer.specs.Ends.{Ends, Tells};
-ghost use Rattle.vme_stream.specs.Inputs.{IsReading, TellsWhole};
+ghost use Rattle.std.specs.Prelude.{◌≡◌, ◌≤◌, ◌↔◌, ℕ, suc, List, MatchResult, Ok, Option, Some};
+ghost use Rattle.vme_answer.specs.Ends.{Ends, TellsExactly};
+ghost use Rattle.vme_stream.specs.Inputs.{IsReading};
 ghost use Rattle.vme_stream.specs.Outputs.{FailsToWrite, Writes};
 ghost use Rattle.vme_commands.specs.Settled.{settled_recording};
 ghost use Rattle.vme_trace.specs.Trace.{Trace};
@@ -38,10 +38,8 @@ pub fn list_times<B: Source, D: Source, O: Sink, E: Sink>(
     ensures unwritten { (result ≡ 5) ↔ ((O.writing out.new).failures ≡ suc (O.writing out.old).failures) }
 
     // Inputs that are told whole, no failure, and memory give exactly the answer that is defined.
-    ensures exact { (b d : List ℕ) → TellsWhole (B.reading binding.old) (B.reading binding.new) b
-        → TellsWhole (D.reading dump.old) (D.reading dump.new) d
-        → (O.writing out.new).failures ≡ (O.writing out.old).failures → result ≢ 4
-        → Tells (timed_answer_of skew (Some b) (Some d) block)
+    ensures exact { TellsExactly (λ b d. timed_answer_of skew (Some b) (Some d) block)
+        (B.reading binding.old, B.reading binding.new) (D.reading dump.old, D.reading dump.new)
         (O.writing out.old, O.writing out.new) (E.writing err.old, E.writing err.new) result }
 {
     read_and_tell(alloc, binding, dump, block, skew, out, err)

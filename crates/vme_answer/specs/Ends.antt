@@ -1,8 +1,8 @@
 -- How a command ends, by what it reads and finds.
-use Rattle.std.specs.Prelude.{◌≡◌, ◌⊎◌, ℕ, List, Option}
+use Rattle.std.specs.Prelude.{◌≡◌, ◌≢◌, ◌⊎◌, ℕ, List, Option}
 use Rattle.vme_trace.specs.Streams.{Reading, Writing}
 use Rattle.vme_answer.specs.Answers.{CommandAnswer, AnswerGives, answer_by, judgement_of}
-use Rattle.vme_stream.specs.Inputs.{IsReading}
+use Rattle.vme_stream.specs.Inputs.{IsReading, TellsWhole}
 use Rattle.vme_stream.specs.Outputs.{Writes, FailsToWrite, TriesToWrite}
 use Rattle.vme_answer.specs.Texts.{cannot_write_text, line_of}
 
@@ -13,6 +13,13 @@ pub record Tells (answer : CommandAnswer) (out err : Writing × Writing) (status
   pub out_is : Writes out.0 out.1 answer.out
   pub err_is : TriesToWrite err.0 err.1 answer.error
   pub status_is : status ≡ answer.status
+
+-- inputs that are told whole, no failure of the output, and memory give exactly this answer to them
+abbrev pub TellsExactly : (List ℕ → List ℕ → CommandAnswer) → Reading × Reading → Reading × Reading
+    → Writing × Writing → Writing × Writing → ℕ → Type 0
+TellsExactly answer binding dump out err status =
+    (b d : List ℕ) → TellsWhole binding.0 binding.1 b → TellsWhole dump.0 dump.1 d → out.1.failures ≡ out.0.failures
+    → status ≢ 4 → Tells (answer b d) out err status
 
 -- a write of the answer failed
 pub record FailsToTell (answer : CommandAnswer) (out err : Writing × Writing) (status : ℕ) : Type 0 where

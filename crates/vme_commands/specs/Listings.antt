@@ -1,5 +1,5 @@
 -- The listing that a command writes, and its exit status.
-use Rattle.std.specs.Prelude.{◌≡◌, ℕ, [], List, Option, None, Result, Ok, Err}
+use Rattle.std.specs.Prelude.{◌≡◌, ◌≢◌, ℕ, [], List, Option, None, Some, Result, Ok, Err}
 use Rattle.std.specs.List.{last_or}
 use Rattle.std.specs.Option.{option_map_or}
 use Rattle.vcd_read.specs.Header.{◌>>=◌}
@@ -11,6 +11,7 @@ use Rattle.vme_listing.specs.Recorded.{listing_of}
 use Rattle.vme_listing.specs.RowText.{text_of}
 use Rattle.vme_answer.specs.Answers.{CommandAnswer, AnswerGives, capture_read, refusal_answer}
 use Rattle.vme_answer.specs.Ends.{Does}
+use Rattle.vme_stream.specs.Inputs.{TellsWhole}
 use Rattle.vme_stream.specs.Outputs.{Writes}
 use Rattle.vme_split.specs.Split.{Splits}
 use Rattle.vme_answer.specs.Texts.{verdict_status}
@@ -89,3 +90,11 @@ WritesListing skew binding dump block out err status =
 abbrev pub WritesSplit : Trace → Writing × Writing → Type 0
 WritesSplit t out =
     (rows : List Row) × Splits t (verdict t) rows × Writes out.0 out.1 (text_of (in_newest_version rows))
+
+-- inputs that are told whole, no failure of the output, and memory: what is written splits the settled recording that
+-- is made of them
+abbrev pub WritesSplitExactly : ℕ → Reading × Reading → Reading × Reading → ℕ → Writing × Writing → ℕ → Type 0
+WritesSplitExactly skew binding dump block out status =
+    (b d : List ℕ) (t : Trace) → TellsWhole binding.0 binding.1 b → TellsWhole dump.0 dump.1 d
+    → out.1.failures ≡ out.0.failures → status ≢ 4 → settled_recording skew (Some b) (Some d) block ≡ Ok t
+    → WritesSplit t out

@@ -1,9 +1,9 @@
 //! The check of one recording.
 
-ghost use Rattle.std.specs.Prelude.{◌≡◌, ◌≢◌, ◌≤◌, ◌↔◌, ℕ, suc, List, Option, Some, None};
+ghost use Rattle.std.specs.Prelude.{◌≡◌, ◌≤◌, ◌↔◌, ℕ, suc, List, Option, Some, None};
 ghost use Rattle.vme_answer.specs.Answers.{AnswerGives, answer_of, judgement_of};
-ghost use Rattle.vme_answer.specs.Ends.{Checks, Tells};
-ghost use Rattle.vme_stream.specs.Inputs.{IsReading, TellsWhole, longest_input};
+ghost use Rattle.vme_answer.specs.Ends.{Checks, TellsExactly};
+ghost use Rattle.vme_stream.specs.Inputs.{IsReading, longest_input};
 ghost use Rattle.vme_trace.specs.WellFormed.{malformed_step};
 ghost use Rattle.vme_commands.specs.Judged.{judged_in_blocks};
 ghost use Rattle.vme_commands.specs.Settled.{ChecksSettled, settled_answer_of, settled_judgement};
@@ -49,15 +49,11 @@ pub fn check<R: Threads + Sync, B: Source, D: Source, O: Sink, E: Sink>(
     ensures unwritten { (result ≡ 5) ↔ ((O.writing out.new).failures ≡ suc (O.writing out.old).failures) }
 
     // Inputs that are told whole, no failure, and memory give exactly the answer that is defined.
-    ensures exact { (b d : List ℕ) → TellsWhole (B.reading binding.old) (B.reading binding.new) b
-        → TellsWhole (D.reading dump.old) (D.reading dump.new) d
-        → (O.writing out.new).failures ≡ (O.writing out.old).failures → result ≢ 4
-        → Tells (settled_answer_of skew (Some b) (Some d) block)
+    ensures exact { TellsExactly (λ b d. settled_answer_of skew (Some b) (Some d) block)
+        (B.reading binding.old, B.reading binding.new) (D.reading dump.old, D.reading dump.new)
         (O.writing out.old, O.writing out.new) (E.writing err.old, E.writing err.new) result }
-    ensures exact_unsettled { (b d : List ℕ) → skew ≡ 0 → TellsWhole (B.reading binding.old) (B.reading binding.new) b
-        → TellsWhole (D.reading dump.old) (D.reading dump.new) d
-        → (O.writing out.new).failures ≡ (O.writing out.old).failures → result ≢ 4
-        → Tells (answer_of (Some b) (Some d) block)
+    ensures exact_unsettled { skew ≡ 0 → TellsExactly (λ b d. answer_of (Some b) (Some d) block)
+        (B.reading binding.old, B.reading binding.new) (D.reading dump.old, D.reading dump.new)
         (O.writing out.old, O.writing out.new) (E.writing err.old, E.writing err.new) result }
 {
     check_by(

@@ -1,15 +1,15 @@
 //! The listing of one recording.
 
-ghost use Rattle.std.specs.Prelude.{◌≡◌, ◌≢◌, ◌≤◌, ◌↔◌, ℕ, suc, List, Option, None, Some, Ok};
+ghost use Rattle.std.specs.Prelude.{◌≡◌, ◌≤◌, ◌↔◌, ℕ, suc, List, Option, None, Some, Ok};
 ghost use Rattle.vme_listing.specs.Recorded.{listing_of};
 ghost use Rattle.vme_trace.specs.Trace.{Trace};
 ghost use Rattle.vme_trace.specs.WellFormed.{malformed_step};
-ghost use Rattle.vme_answer.specs.Ends.{Ends, Tells};
-ghost use Rattle.vme_stream.specs.Inputs.{IsReading, TellsWhole, longest_input};
+ghost use Rattle.vme_answer.specs.Ends.{Ends, TellsExactly};
+ghost use Rattle.vme_stream.specs.Inputs.{IsReading, longest_input};
 ghost use Rattle.vme_commands.specs.Judged.{limited_in_blocks};
 ghost use Rattle.vme_commands.specs.Listings.{GivesListing, WritesListing, listing_answer_by, listing_answer_of};
 ghost use Rattle.vme_commands.specs.Listings.{recording_in_blocks};
-ghost use Rattle.vme_commands.specs.Listings.{listing_status, verdict_row_status, row_status, WritesSplit};
+ghost use Rattle.vme_commands.specs.Listings.{listing_status, verdict_row_status, row_status, WritesSplitExactly};
 ghost use Rattle.vme_commands.specs.Settled.{settled_recording};
 
 use crate::judged_dump::judged_dump;
@@ -50,18 +50,15 @@ pub fn list<R: Threads + Sync, B: Source, D: Source, O: Sink, E: Sink>(
     ensures unwritten { (result ≡ 5) ↔ ((O.writing out.new).failures ≡ suc (O.writing out.old).failures) }
 
     // Inputs that are told whole, no failure, and memory give exactly the answer that is defined.
-    ensures exact { (b d : List ℕ) → TellsWhole (B.reading binding.old) (B.reading binding.new) b
-        → TellsWhole (D.reading dump.old) (D.reading dump.new) d
-        → (O.writing out.new).failures ≡ (O.writing out.old).failures → result ≢ 4
-        → Tells (listing_answer_of skew (Some b) (Some d) block)
+    ensures exact { TellsExactly (λ b d. listing_answer_of skew (Some b) (Some d) block)
+        (B.reading binding.old, B.reading binding.new) (D.reading dump.old, D.reading dump.new)
         (O.writing out.old, O.writing out.new) (E.writing err.old, E.writing err.new) result }
 
     // Of the settled recording that is made of them, the judged edges split into exactly the rows whose text is
     // written.
-    ensures split { (b d : List ℕ) (t : Trace) → TellsWhole (B.reading binding.old) (B.reading binding.new) b
-        → TellsWhole (D.reading dump.old) (D.reading dump.new) d
-        → (O.writing out.new).failures ≡ (O.writing out.old).failures → result ≢ 4
-        → settled_recording skew (Some b) (Some d) block ≡ Ok t → WritesSplit t (O.writing out.old, O.writing out.new) }
+    ensures split { WritesSplitExactly skew
+        (B.reading binding.old, B.reading binding.new) (D.reading dump.old, D.reading dump.new) block
+        (O.writing out.old, O.writing out.new) result }
 {
     list_by(
         alloc,

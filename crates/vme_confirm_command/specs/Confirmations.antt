@@ -19,7 +19,7 @@ use Rattle.vme_cert.specs.declared.compare.Answer.{Answer as Confirmation}
 use Rattle.vme_cert.specs.declared.compare.Answer.TheVariants.{Yes, No}
 use Rattle.vme_answer.specs.Answers.{CommandAnswer, binding_read, dump_read, or_bad_binding, refusal_answer}
 use Rattle.vme_answer.specs.Ends.{Ends, Tells}
-use Rattle.vme_stream.specs.Inputs.{IsReading}
+use Rattle.vme_stream.specs.Inputs.{IsReading, TellsWhole}
 use Rattle.vme_answer.specs.Refusals.{listing_refusal}
 use Rattle.vme_answer.specs.Texts.{line_of}
 use Rattle.vme_answer.specs.declared.refusal.Input.TheVariants.{Listing}
@@ -128,3 +128,11 @@ TellsConfirmation skew binding dump listing out err status =
     (found : Result Confirmation Refusal)
     × IsConfirmation skew (binding_read (Some binding)) (dump_read (Some dump)) (listing_text (Some listing)) found
     × Tells (confirmation_answer_by found) out err status
+
+-- inputs that are told whole, no failure of the output, and memory give exactly their answer
+abbrev pub ConfirmsExactly : ℕ → Reading × Reading → Reading × Reading → Reading × Reading
+    → Writing × Writing → Writing × Writing → ℕ → Type 0
+ConfirmsExactly skew binding dump listing out err status =
+    (b d l : List ℕ) → TellsWhole binding.0 binding.1 b → TellsWhole dump.0 dump.1 d
+    → TellsWhole listing.0 listing.1 l → out.1.failures ≡ out.0.failures → status ≢ 4
+    → TellsConfirmation skew b d l out err status

@@ -1,14 +1,14 @@
 //! Whether a listing is that of a recording.
 
-ghost use Rattle.std.specs.Prelude.{◌≡◌, ◌≢◌, ◌↔◌, ℕ, suc, List, Option, Ok, Err, Result};
+ghost use Rattle.std.specs.Prelude.{◌≡◌, ◌↔◌, ℕ, suc, List, Option, Ok, Err, Result};
 ghost use Rattle.vme_listing.specs.Listed.{Listed};
 ghost use Rattle.vme_answer.specs.Answers.{binding_read, dump_read};
-ghost use Rattle.vme_confirm_command.specs.Confirmations.{Confirms, GivesConfirmation, GivesRows, TellsConfirmation};
+ghost use Rattle.vme_confirm_command.specs.Confirmations.{Confirms, ConfirmsExactly, GivesConfirmation, GivesRows};
 ghost use Rattle.vme_confirm_command.specs.Confirmations.{compared, compared_settled, confirmation_answer_by};
 ghost use Rattle.vme_confirm_command.specs.Confirmations.{confirmation_status, confirmation_text, listing_text};
 ghost use Rattle.vme_answer.specs.Ends.{Ends};
 ghost use Rattle.vme_answer.specs.Texts.{line_of};
-ghost use Rattle.vme_stream.specs.Inputs.{IsReading, TellsWhole, longest_input};
+ghost use Rattle.vme_stream.specs.Inputs.{IsReading, longest_input};
 ghost use Rattle.vme_trace.specs.Streams.{Reading};
 ghost use Rattle.vme_bind.specs.Binding.{BoundLines};
 ghost use Rattle.vme_bind.specs.declared.fault.BindFault.{BindFault};
@@ -53,11 +53,9 @@ pub fn confirm_with<B: Source, D: Source, L: Source + Drop, O: Sink, E: Sink>(
     ensures unwritten { (result.0 ≡ 5) ↔ ((O.writing out.new).failures ≡ suc (O.writing out.old).failures) }
 
     // Inputs that are told whole, no failure, and memory give exactly the answer that is defined.
-    ensures exact { (b d l : List ℕ) → TellsWhole (B.reading binding.old) (B.reading binding.new) b
-        → TellsWhole (D.reading dump.old) (D.reading dump.new) d
-        → TellsWhole (L.reading listing) (L.reading result.1) l
-        → (O.writing out.new).failures ≡ (O.writing out.old).failures → result.0 ≢ 4
-        → TellsConfirmation skew b d l
+    ensures exact { ConfirmsExactly skew
+        (B.reading binding.old, B.reading binding.new) (D.reading dump.old, D.reading dump.new)
+        (L.reading listing, L.reading result.1)
         (O.writing out.old, O.writing out.new) (E.writing err.old, E.writing err.new) result.0 }
 {
     answer(alloc, binding, dump, listing, skew, out, err)

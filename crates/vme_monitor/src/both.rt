@@ -1,6 +1,6 @@
 //! Two monitors at once.
 
-ghost use Rattle.std.specs.Prelude.{◌≡◌, ◌≤◌, ◌∷◌, ◌++◌, [], ℕ, IfOk, List, drop, false, length, slice_get, take};
+ghost use Rattle.std.specs.Prelude.{◌≡◌, ◌≤◌, ◌∷◌, ◌++◌, [], IfOk, drop, false, length, slice_get, take};
 ghost use Rattle.vme_monitor.specs.TwoMonitors.{FindsTogether, ShowsTogether};
 ghost use Rattle.std.specs.Option.{option_map_or};
 ghost use Rattle.vme_monitor.specs.BothMonitors.{breaks_before as fault_before, front, rest};

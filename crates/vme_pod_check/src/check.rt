@@ -1,10 +1,10 @@
 //! The check of one recording by workers.
 
-ghost use Rattle.std.specs.Prelude.{◌≡◌, ◌≢◌, ◌≤◌, ◌↔◌, ℕ, suc, List, Option, Some};
+ghost use Rattle.std.specs.Prelude.{◌≡◌, ◌≤◌, ◌↔◌, ℕ, suc, List, Option, Some};
 ghost use Rattle.vme_answer.specs.Answers.{answer_of, judgement_of};
-ghost use Rattle.vme_answer.specs.Ends.{Tells};
+ghost use Rattle.vme_answer.specs.Ends.{TellsExactly};
 ghost use Rattle.vme_pod_check.specs.Judgements.{ChecksByPods, Finds, NeedsThreads};
-ghost use Rattle.vme_stream.specs.Inputs.{IsReading, TellsWhole};
+ghost use Rattle.vme_stream.specs.Inputs.{IsReading};
 
 use crate::judge::{Plan, verdict_by_pods};
 use crate::unjudged::Unjudged;
@@ -37,10 +37,8 @@ pub fn check_by_pods<R: Threads + Wait + Sync, B: Source, D: Source, O: Sink, E:
     ensures unwritten { (result ≡ 5) ↔ ((O.writing out.new).failures ≡ suc (O.writing out.old).failures) }
 
     // Inputs that are told whole, no failure, and a status other than 4 give exactly the answer of a check.
-    ensures exact { (b d : List ℕ) → TellsWhole (B.reading binding.old) (B.reading binding.new) b
-        → TellsWhole (D.reading dump.old) (D.reading dump.new) d
-        → (O.writing out.new).failures ≡ (O.writing out.old).failures → result ≢ 4
-        → Tells (answer_of (Some b) (Some d) plan.block)
+    ensures exact { TellsExactly (λ b d. answer_of (Some b) (Some d) plan.block)
+        (B.reading binding.old, B.reading binding.new) (D.reading dump.old, D.reading dump.new)
         (O.writing out.old, O.writing out.new) (E.writing err.old, E.writing err.new) result }
 {
     answer(rt, alloc, binding, dump, plan, out, err)

@@ -31,11 +31,11 @@ returns-clause-unsettled g c none =
     checks_unsettled c.args.skew none binding dump c.args.block out err c.check_by.result c.check_by.ensures
 
 pub returns-clause-exact_unsettled : goal.returns-clause-exact_unsettled
-returns-clause-exact_unsettled g c b d none =
+returns-clause-exact_unsettled g c none =
     let binding : Reading × Reading = (g.B.Source.reading c.args.binding.now, g.B.Source.reading c.check_by.new.binding)
     in
     let dump : Reading × Reading = (g.D.Source.reading c.args.dump.now, g.D.Source.reading c.check_by.new.dump) in
     let out : Writing × Writing = (g.O.Sink.writing c.args.out.now, g.O.Sink.writing c.check_by.new.out) in
     let err : Writing × Writing = (g.E.Sink.writing c.args.err.now, g.E.Sink.writing c.check_by.new.err) in
     Checks-exact binding dump c.args.block out err c.check_by.result
-    (checks_unsettled c.args.skew none binding dump c.args.block out err c.check_by.result c.check_by.ensures) b d
+    (checks_unsettled c.args.skew none binding dump c.args.block out err c.check_by.result c.check_by.ensures)
