@@ -18,6 +18,7 @@ use Rattle.vme_audit_command.specs.Definitions.{AreAllBytesOf}
 use Rattle.vme_audit_command.specs.DumpAudits.{WritesPrefix, break_lines}
 use Rattle.vme_audit_command.specs.LastLines.{counts_unless, outcome_line_of}
 use Rattle.vme_dump_input.specs.SettledReadings.{settled_by, skew_of}
+use Rattle.vme_audit_command.specs.declared.command.AuditOptions.{AuditOptions as GivenOptions}
 use Rattle.vme_audit_command.specs.declared.told.NoOutcome.{NoOutcome}
 use Rattle.vme_audit_command.specs.declared.told.NoOutcome.TheVariants.{CannotRead, NotWritten, Refused}
 use Rattle.vme_audit_command.specs.declared.told.TellFault.TheVariants.{Memory, CannotWrite}
@@ -30,6 +31,16 @@ pub record AuditOptions : Type 0 where
   pub stop : Option ℕ
   pub skew : ℕ
   pub is_quiet : Bool
+
+abbrev pub given_options : GivenOptions → AuditOptions
+given_options options =
+    record {
+      allowances = options.allowances.now;
+      transfers = options.transfers;
+      stop = options.stop;
+      skew = options.skew;
+      is_quiet = options.is_quiet;
+    }
 
 -- what is written to standard output; and the status by the outcome, or why there is no outcome
 pub record DumpAnswer : Type 0 where

@@ -3,6 +3,7 @@
 ghost use Rattle.std.specs.Prelude.{◌≡◌, false, true, [], ◌∷◌, map, IfOk};
 ghost use Rattle.vme_stream.specs.Outputs.{TriesToWrite};
 ghost use Rattle.vme_audit_command.specs.Audits.{RefusesBinding};
+ghost use Rattle.vme_audit_command.specs.DumpAnswers.{given_options};
 ghost use Rattle.vme_audit_command.specs.DumpEnds.{AuditsNamed, EndsWith, RefusesAs, TellsEnd, TellsWhy};
 ghost use Rattle.vme_audit_command.specs.SeveralDumps.{AuditsByBinding, AuditsDumps, audit_status, refusal_line_of};
 
@@ -76,13 +77,7 @@ pub fn audit<B: Source, D: Source, O: Sink, E: Sink>(
 ) -> (bool, u8)
     ensures refused { result.0 ≡ false → RefusesBinding (B.reading binding.old, B.reading binding.new)
         (O.writing out.old, O.writing out.new) (E.writing err.old, E.writing err.new) result.1 }
-    ensures audited { result.0 ≡ true → AuditsByBinding (record {
-      allowances = options.entry.allowances.now;
-      transfers = options.entry.transfers;
-      stop = options.entry.stop;
-      skew = options.entry.skew;
-      is_quiet = options.entry.is_quiet;
-    })
+    ensures audited { result.0 ≡ true → AuditsByBinding (given_options options.entry)
         (B.reading binding.old, B.reading binding.new)
         (map (λ d. record { name = d.name.now; dump = D.reading d.dump }) dumps.old)
         (O.writing out.old, O.writing out.new) (E.writing err.old, E.writing err.new) result.1 }
@@ -109,13 +104,7 @@ fn audit_all<D: Source, O: Sink, E: Sink>(
     out: &mut O,
     err: &mut E,
 ) -> u8
-    ensures { AuditsDumps (record {
-      allowances = options.entry.allowances.now;
-      transfers = options.entry.transfers;
-      stop = options.entry.stop;
-      skew = options.entry.skew;
-      is_quiet = options.entry.is_quiet;
-    })
+    ensures { AuditsDumps (given_options options.entry)
         bound.now (map (λ d. record { name = d.name.now; dump = D.reading d.dump }) dumps.old)
         (O.writing out.old, O.writing out.new) (E.writing err.old, E.writing err.new) result }
 {
@@ -140,13 +129,7 @@ fn audit_named<D: Source, O: Sink, E: Sink>(
     out: &mut O,
     err: &mut E,
 ) -> u8
-    ensures { AuditsNamed (record {
-      allowances = options.entry.allowances.now;
-      transfers = options.entry.transfers;
-      stop = options.entry.stop;
-      skew = options.entry.skew;
-      is_quiet = options.entry.is_quiet;
-    })
+    ensures { AuditsNamed (given_options options.entry)
         bound.now (record { name = named.old.name.now; dump = D.reading named.old.dump })
         (O.writing out.old, O.writing out.new) (E.writing err.old, E.writing err.new) result }
 {

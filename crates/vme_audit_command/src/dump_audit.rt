@@ -9,7 +9,7 @@ ghost use Rattle.vme_audit_lines.specs.AuditLines.{head_of, outcome_status};
 ghost use Rattle.vme_step_auditor.specs.ReadBy.{read_of};
 ghost use Rattle.vme_audit_command.specs.Bodies.{AuditsRest, HasGiven, IsLater};
 ghost use Rattle.vme_audit_command.specs.Definitions.{IsBodyBegun};
-ghost use Rattle.vme_audit_command.specs.DumpAnswers.{AuditsBehind, AuditsDump};
+ghost use Rattle.vme_audit_command.specs.DumpAnswers.{AuditsBehind, AuditsDump, given_options};
 ghost use Rattle.vme_audit_command.specs.DumpAudits.{TellsText};
 ghost use Rattle.vme_audit_command.specs.LastLines.{TellsOutcome, counts_unless, outcome_line_of};
 ghost use Rattle.vme_audit_command.specs.declared.told.TellFault.TheVariants.{Memory as NoMemory};
@@ -190,13 +190,7 @@ fn audit_behind<D: Source, O: Sink>(
     case: &mut TestCase,
     out: &mut O,
 ) -> Result<u8, NoOutcome>
-    ensures { IsBodyBegun reader → AuditsBehind (record {
-      allowances = options.entry.allowances.now;
-      transfers = options.entry.transfers;
-      stop = options.entry.stop;
-      skew = options.entry.skew;
-      is_quiet = options.entry.is_quiet;
-    })
+    ensures { IsBodyBegun reader → AuditsBehind (given_options options.entry)
         head.now reader input.old is_more (D.reading dump.old) (O.writing out.old) (O.writing out.new) result }
 {
     let rules = AuditRules {
@@ -235,13 +229,7 @@ pub(crate) fn audit_dump<D: Source, O: Sink>(
     case: &mut TestCase,
     out: &mut O,
 ) -> Result<u8, NoOutcome>
-    ensures { AuditsDump (record {
-      allowances = options.entry.allowances.now;
-      transfers = options.entry.transfers;
-      stop = options.entry.stop;
-      skew = options.entry.skew;
-      is_quiet = options.entry.is_quiet;
-    })
+    ensures { AuditsDump (given_options options.entry)
         (head_of name.now) bound.now (D.reading dump.old) (O.writing out.old) (O.writing out.new) result }
 {
     let (Ok(head), Ok(mut input)) = (dump_head(alloc, name), DumpInput::new(alloc)) else {

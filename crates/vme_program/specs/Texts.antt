@@ -3,30 +3,18 @@ use Rattle.std.specs.Prelude.{◌≡◌, ℕ, List, Option, None, Result, MatchO
 use Rattle.vme_trace.specs.Names.{rule_named}
 use Rattle.vme_trace.specs.Streams.{Reading, Writing}
 use Rattle.vme_trace.specs.declared.rule.Rule.{Rule}
-use Rattle.vme_answer.specs.Answers.{dump_read}
 use Rattle.vme_answer.specs.Ends.{Ends}
 use Rattle.vme_answer.specs.declared.refusal.Input.TheVariants.{Dump}
 use Rattle.vme_answer.specs.declared.refusal.Refusal.{Refusal}
-use Rattle.vme_text_commands.specs.Refused.{MayHaveMore}
-use Rattle.vme_text_commands.specs.TextAnswers.{ArePages, IsText, IsTextOf, text_answer_by, text_answer_with}
+use Rattle.vme_text_commands.specs.TextAnswers.{ArePages, IsText, TellsVariables, text_answer_by}
 use Rattle.vme_faults.specs.Kinds.{kind_named}
 use Rattle.vme_faults.specs.declared.kind.Kind.{Kind}
-use Rattle.vme_stream.specs.Inputs.{IsReading}
 use Rattle.vme_words.specs.declared.order.FaultsOrder.{FaultsOrder}
 use Rattle.vme_words.specs.declared.order.RulesOrder.{RulesOrder}
 use Rattle.vme_words.specs.declared.order.VariablesOrder.{VariablesOrder}
 use Rattle.vme_program.specs.Openings.{WithInput}
 
--- the variables of a dump are told
-abbrev pub TellsVariables : Reading × Reading → Writing × Writing → Writing × Writing → ℕ → Type 0
-TellsVariables dump out err status = (bytes : Option (List ℕ)) × (made : Result (List ℕ) Refusal)
-    × (more : List ℕ)
-    × IsReading dump.0 dump.1 bytes
-    × IsTextOf (dump_read bytes) made
-    × MayHaveMore made more
-    × Ends (text_answer_with more made) out err status
-
--- those of the dump that an order names
+-- the variables of the dump that an order names are told
 abbrev pub TellsFile : (List ℕ → Option Reading → Type 0) → VariablesOrder → Writing × Writing → Writing × Writing → ℕ
     → Type 0
 TellsFile opens order = WithInput opens (string_bytes order.dump) Dump TellsVariables

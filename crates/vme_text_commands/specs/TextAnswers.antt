@@ -5,14 +5,17 @@ use Rattle.vcd_read.specs.Contents.{Contents}
 use Rattle.vme_bind.specs.Binding.{BoundLines, binding_of}
 use Rattle.vme_declarations.specs.Scopes.{has_scope}
 use Rattle.vme_find.specs.declared.writing.FoundBinding.{FoundBinding}
+use Rattle.vme_trace.specs.Streams.{Reading, Writing}
 use Rattle.vme_trace.specs.Trace.{Trace}
-use Rattle.vme_answer.specs.Answers.{CommandAnswer, capture_by, refusal_answer}
+use Rattle.vme_answer.specs.Answers.{CommandAnswer, capture_by, dump_read, refusal_answer}
+use Rattle.vme_answer.specs.Ends.{Ends}
 use Rattle.vme_answer.specs.Texts.{line_of, refusal_status, refusal_text}
 use Rattle.vme_answer.specs.declared.refusal.Refusal.{Refusal}
 use Rattle.vme_answer.specs.declared.refusal.Refusal.TheVariants.{Memory}
 use Rattle.vme_text_commands.specs.declared.bind.NoBinding.{NoBinding}
 use Rattle.vme_text_commands.specs.declared.bind.NoBinding.TheVariants.{Refused, NoSuchScope}
-use Rattle.vme_text_commands.specs.Refused.{IsMore, refusal_with}
+use Rattle.vme_text_commands.specs.Refused.{IsMore, MayHaveMore, refusal_with}
+use Rattle.vme_stream.specs.Inputs.{IsReading}
 use Rattle.vme_faults.specs.Pages.{pages_of}
 use Rattle.vme_faults.specs.declared.kind.Kind.{Kind}
 use denote.Ref.{Bor}
@@ -102,3 +105,23 @@ IsBindingFor read slots scope (Err (Refused Memory)) = Unit {0}
 IsBindingFor read slots scope (Err (Refused refusal)) = read ≡ Err refusal
 IsBindingFor read slots None (Err NoSuchScope) = ⊥
 IsBindingFor read slots (Some path) (Err NoSuchScope) = ScopeIs false read path.now
+
+-- The dump is read, or can't be; there is a binding for it, or there is none; and that is told, unless a write of it
+-- fails.
+abbrev pub TellsBinding : Option ℕ → Option (Bor (List ℕ)) → Reading × Reading → Writing × Writing
+    → Writing × Writing → ℕ → Type 0
+TellsBinding slots scope dump out err status =
+    (bytes : Option (List ℕ)) × (made : Result FoundBinding NoBinding) × (more : List ℕ)
+    × IsReading dump.0 dump.1 bytes
+    × IsBindingFor (dump_read bytes) slots scope made
+    × TellsMore made more
+    × Ends (binding_answer more made) out err status
+
+-- the variables of a dump are told, or why it can't be read
+abbrev pub TellsVariables : Reading × Reading → Writing × Writing → Writing × Writing → ℕ → Type 0
+TellsVariables dump out err status =
+    (bytes : Option (List ℕ)) × (made : Result (List ℕ) Refusal) × (more : List ℕ)
+    × IsReading dump.0 dump.1 bytes
+    × IsTextOf (dump_read bytes) made
+    × MayHaveMore made more
+    × Ends (text_answer_with more made) out err status

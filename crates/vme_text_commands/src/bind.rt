@@ -7,15 +7,14 @@ ghost use Rattle.vme_answer.specs.Ends.{Ends};
 ghost use Rattle.vme_answer.specs.Texts.{line_of};
 ghost use Rattle.vme_stream.specs.Inputs.{IsReading};
 ghost use Rattle.vme_stream.specs.Outputs.{TriesToWrite};
-ghost use Rattle.vme_text_commands.specs.TextAnswers.{IsBindingFor, IsMoreOfMissing, TellsMore, binding_answer};
-ghost use Rattle.vme_text_commands.specs.TextAnswers.{found_answer, missing_status, missing_text, no_scope_text};
-ghost use Rattle.vme_text_commands.specs.declared.bind.NoBinding.{NoBinding as Without};
+ghost use Rattle.vme_text_commands.specs.TextAnswers.{IsBindingFor, IsMoreOfMissing, TellsBinding, TellsMore};
+ghost use Rattle.vme_text_commands.specs.TextAnswers.{binding_answer, found_answer, missing_status, missing_text};
+ghost use Rattle.vme_text_commands.specs.TextAnswers.{no_scope_text};
 ghost use Rattle.vme_answer.specs.Refusals.{dump_refusal};
 ghost use Rattle.vme_declarations.specs.SurveyStages.{survey_ahead};
 ghost use Rattle.vme_declarations.specs.Surveys.{IsSurveyOf, survey_of};
 ghost use Rattle.vme_text_commands.specs.declared.bind.NoBinding.TheVariants.{Refused};
 ghost use Rattle.vme_find.specs.Recordings.{AreSlots};
-ghost use Rattle.vme_find.specs.declared.writing.FoundBinding.{FoundBinding as Found};
 
 use crate::refused::{complain_with, show_seen_dump};
 use crate::seen_dump::SeenDump;
@@ -71,11 +70,7 @@ pub fn bind<D: Source, O: Sink, E: Sink>(
     err: &mut E,
 ) -> u8
     requires { AreSlots slots }
-    ensures { (bytes : Option (List ℕ)) × (made : Result Found Without) × (more : List ℕ)
-        × IsReading (D.reading dump.old) (D.reading dump.new) bytes
-        × IsBindingFor (dump_read bytes) slots scope.entry made
-        × TellsMore made more
-        × Ends (binding_answer more made)
+    ensures { TellsBinding slots scope.entry (D.reading dump.old, D.reading dump.new)
         (O.writing out.old, O.writing out.new) (E.writing err.old, E.writing err.new) result }
 {
     let mut shown = Text::new(alloc);

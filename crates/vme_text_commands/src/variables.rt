@@ -6,7 +6,7 @@ ghost use Rattle.vme_answer.specs.Answers.{dump_read, or_bad_dump};
 ghost use Rattle.vme_answer.specs.Ends.{Ends};
 ghost use Rattle.vme_stream.specs.Inputs.{IsReading};
 ghost use Rattle.vme_text_commands.specs.Refused.{MayHaveMore};
-ghost use Rattle.vme_text_commands.specs.TextAnswers.{IsTextOf, text_answer_with};
+ghost use Rattle.vme_text_commands.specs.TextAnswers.{IsTextOf, TellsVariables, text_answer_with};
 ghost use Rattle.vme_answer.specs.declared.refusal.Refusal.{Refusal};
 
 use crate::refused::{NamedInput, complain_with, show_dump};
@@ -28,11 +28,7 @@ pub fn tell_variables<D: Source, O: Sink, E: Sink>(
     out: &mut O,
     err: &mut E,
 ) -> u8
-    ensures { (bytes : Option (List ℕ)) × (made : Result (List ℕ) Refusal) × (more : List ℕ)
-        × IsReading (D.reading dump.old) (D.reading dump.new) bytes
-        × IsTextOf (dump_read bytes) made
-        × MayHaveMore made more
-        × Ends (text_answer_with more made)
+    ensures { TellsVariables (D.reading dump.old, D.reading dump.new)
         (O.writing out.old, O.writing out.new) (E.writing err.old, E.writing err.new) result }
 {
     let mut shown = Text::new(alloc);

@@ -5,11 +5,10 @@ use Rattle.vme_program.proofs.bind.bind_file.Goals as goal
 
 pub returns-in-Some : goal.returns-in-Some
 returns-in-Some g c =
-    let (bytes, made, more, read, is_for, tells, ends) = c.bind.ensures in
     inr (
       (_, g.S.Reader.Source.reading c.bind.new.dump),
       rw c.as_str.ensures.value at c.in-Some.ensures,
-      (_, bytes, made, more, c.scope_of.ensures, read, is_for, tells, ends),
+      (_, c.scope_of.ensures, c.bind.ensures),
     )
 
 pub returns-in-None : goal.returns-in-None
