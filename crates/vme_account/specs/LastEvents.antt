@@ -1,5 +1,5 @@
 -- What happened last in the stretch that is judged, as far as it has come.
-use Rattle.std.specs.Prelude.{◌≡◌, ◌+◌, ◌<◌, nat_le, ℕ, Bool, List, Option, None, Some, is_some}
+use Rattle.std.specs.Prelude.{◌≡◌, ◌+◌, ◌<◌, ◌≤◌, nat_le, ℕ, Bool, List, Option, None, Some, is_some}
 use Rattle.std.specs.Prelude.{if◌then◌else◌, length, replicate}
 use Rattle.std.specs.Prelude.{slice_index_or, slice_set, option_map}
 use Rattle.std.specs.List.{fold}
@@ -7,7 +7,7 @@ use Rattle.vme_trace.specs.Edges.{answer_between, starts_between}
 use Rattle.vme_trace.specs.Instants.{greatest, least}
 use Rattle.vme_trace.specs.Levels.{Levels}
 use Rattle.vme_trace.specs.LineNumbers.{AS, BERR, DS0, DS1, DTACK, grant, line_count}
-use Rattle.vme_trace.specs.Trace.{Trace, time_at}
+use Rattle.vme_trace.specs.Trace.{Trace, levels_at, time_at}
 use Rattle.vme_trace.specs.declared.step.Change.{Change}
 use Rattle.vme_account.specs.RelatedEvents.{falls_shown, happens, rises_shown, since}
 use Rattle.vme_account.specs.declared.last_events.LastEvents.{LastEvents}
@@ -128,3 +128,9 @@ pub record AreLast (t : Trace) (s i : ℕ) (e : LastEvents) : Type 0 where
       ≡ moment t (least (happens t AnswerFalls) (since t (Falls AS) s i) (i + 1))
   pub dtack_in_cycle : e.dtack_in_cycle
       ≡ moment t (least (happens t (Falls DTACK)) (since t (Falls AS) s i) (i + 1))
+
+-- With the step from some levels to others, the last events up to an instant become those up to the next, at this time.
+abbrev pub AreLastNext : LastEvents → LastEvents → Levels → Levels → ℕ → ℕ → Type 0
+AreLastNext old new before after instant time =
+    (t : Trace) (s i : ℕ) → AreLast t s i old → s ≤ i → instant ≡ i + 1 → before ≡ levels_at t i
+    → after ≡ levels_at t (i + 1) → time ≡ time_at t (i + 1) → AreLast t s (i + 1) new

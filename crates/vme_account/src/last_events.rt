@@ -1,9 +1,9 @@
 //! What happened last on the bus, as the steps of a stretch come.
 
-ghost use Rattle.std.specs.Prelude.{◌≡◌, ◌+◌, ◌<◌, ◌≤◌, ℕ, None, slice_index_or};
-ghost use Rattle.vme_trace.specs.Trace.{Trace, changed, levels_at, time_at};
-ghost use Rattle.vme_account.specs.LastEvents.{AreLast, first_in_cycle, first_or, handshake_after, last_after};
-ghost use Rattle.vme_account.specs.LastEvents.{last_of, later, moment_at, no_events, noted, now_or, unless};
+ghost use Rattle.std.specs.Prelude.{◌≡◌, ◌<◌, ℕ, None, slice_index_or};
+ghost use Rattle.vme_trace.specs.Trace.{Trace, changed};
+ghost use Rattle.vme_account.specs.LastEvents.{AreLast, AreLastNext, first_in_cycle, first_or, handshake_after};
+ghost use Rattle.vme_account.specs.LastEvents.{last_after, last_of, later, moment_at, no_events, noted, now_or, unless};
 ghost use Rattle.vme_account.specs.RelatedEvents.{falls_shown, rises_shown};
 
 use crate::related_event::{StepEvent, falls, rises};
@@ -66,9 +66,7 @@ impl LastEvents {
         time: u64,
     )
         requires { after.now ≡ changed before.now changes.now }
-        ensures { (t : Trace) (s i : ℕ) → AreLast t s i self.old → s ≤ i → instant ≡ i + 1
-            → before.now ≡ levels_at t i → after.now ≡ levels_at t (i + 1) → time ≡ time_at t (i + 1)
-            → AreLast t s (i + 1) self.new }
+        ensures { AreLastNext self.old self.new before.now after.now instant time }
     {
         let moment = Moment {
             instant,

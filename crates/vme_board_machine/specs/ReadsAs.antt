@@ -7,10 +7,10 @@ use Rattle.vme_trace.specs.declared.block.Block.{Block}
 use Rattle.vme_core.specs.declared.view.View.{View}
 use Rattle.vme_core.specs.Counting.{occurrences, numbers}
 use Rattle.vme_core.specs.Stages.{claimed_bit, filed_bit, taken_bit}
-use Rattle.vme_core.specs.Machine.{Core, Slot, empty, away, filled}
+use Rattle.vme_core.specs.Machine.{BoardEvent, Core, Happens, IsRun, Slot, empty, away, filled}
 use Rattle.vme_core.specs.Machine.{BenchProgress, idle, has_claimed, has_put, has_taken, has_lifted}
 use Rattle.vme_board.specs.Words.{bit_of, IsWideFor}
-use Rattle.vme_board_machine.specs.Steps.{BoardState}
+use Rattle.vme_board_machine.specs.Steps.{BoardState, Takes}
 
 -- what the table has of a slot
 abbrev pub home_of : Slot → maybe.Option (Option Block)
@@ -53,3 +53,15 @@ pub record ReadsAs (total draws : ℕ) (s : BoardState) (m : Core) : Type 0 wher
   pub progress : (i : ℕ) → m.progress i ≡ s.progress i
   pub calls : (i : ℕ) (v : View) → get_elem? s.table.views i ≡ some v → IsViewAt v (s.progress i)
   pub unmade : (i : ℕ) → length s.table.views ≤ i → s.progress i ≡ idle
+
+module _ (total draws : ℕ) where
+  -- each step of the benches from a state is the event of the machine, and leads to a state that reads as what comes of
+  -- it
+  abbrev pub StepsAs : BoardState → Core → Type 0
+  StepsAs s m =
+      (t : BoardState) (e : BoardEvent) → Takes total draws s e t
+      → (n : Core) × Happens total draws m e n × ReadsAs total draws t n
+
+  -- a state reads as what a run of the machine comes to
+  abbrev pub RunsAs : Core → List BoardEvent → BoardState → Type 0
+  RunsAs m events t = (n : Core) × IsRun total draws m events n × ReadsAs total draws t n

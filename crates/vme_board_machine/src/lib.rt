@@ -29,10 +29,10 @@
 ghost use Rattle.std.specs.Prelude.{◌≡◌, ℕ, List};
 ghost use Rattle.vme_trace.specs.declared.block.Block.{Block};
 ghost use Rattle.vme_core.specs.Law.{IsReachable};
-ghost use Rattle.vme_core.specs.Machine.{Core, BoardEvent, Happens, IsRun, start};
+ghost use Rattle.vme_core.specs.Machine.{Core, BoardEvent, start};
 ghost use Rattle.vme_board.specs.Words.{IsWideFor};
-ghost use Rattle.vme_board_machine.specs.ReadsAs.{ReadsAs};
-ghost use Rattle.vme_board_machine.specs.Steps.{BoardState, opened, Takes, IsBoardRun};
+ghost use Rattle.vme_board_machine.specs.ReadsAs.{ReadsAs, RunsAs, StepsAs};
+ghost use Rattle.vme_board_machine.specs.Steps.{BoardState, opened, IsBoardRun};
 ghost use Rattle.vme_board_machine.specs.Worked.{IsWorked};
 
 /// A board as it is made reads as the machine's start. A step of benches is the event of the machine, wherever the
@@ -40,12 +40,11 @@ ghost use Rattle.vme_board_machine.specs.Worked.{IsWorked};
 pub fn board_is_the_machine()
     ensures begins { (total draws width : ℕ) → IsWideFor width total → IsWideFor width draws
         → ReadsAs total draws (opened width total) start }
-    ensures steps { (total draws : ℕ) (s t : BoardState) (m : Core) (e : BoardEvent)
-        → IsReachable total draws m → ReadsAs total draws s m → Takes total draws s e t
-        → (n : Core) × Happens total draws m e n × ReadsAs total draws t n }
+    ensures steps { (total draws : ℕ) (s : BoardState) (m : Core) → IsReachable total draws m → ReadsAs total draws s m
+        → StepsAs total draws s m }
     ensures runs { (total draws width : ℕ) → IsWideFor width total → IsWideFor width draws
         → (events : List BoardEvent) (t : BoardState) → IsBoardRun total draws (opened width total) events t
-        → (n : Core) × IsRun total draws start events n × ReadsAs total draws t n }
+        → RunsAs total draws start events t }
 {}
 
 /// A run of a board of one number, whatever the blocks: one bench files it, another loses its claim and takes it out,

@@ -4,13 +4,15 @@ use Rattle.std.specs.Prelude.{if◌then◌else◌}
 use Rattle.vme_cert.specs.Words.{Awaits, Break, Conforming, IsSpanOf, Levels, ListedVerdict, Reset, Row, Step, Stretch}
 use Rattle.vme_cert.specs.Words.{Trace, Verdict, Version, all_rules, are_changes, break_before, capture_limit}
 use Rattle.vme_cert.specs.Words.{is_reset_at, last_instant, least_break, levels_after, outcome_of, recorded_rows}
-use Rattle.vme_cert.specs.Words.{span_end, span_from, spans_after, with_steps}
+use Rattle.vme_cert.specs.Words.{rows_in, span_end, span_from, spans_after, with_steps}
+use Rattle.vme_cert.specs.Comparing.{Decides}
 use Rattle.vme_cert.specs.Following.{CanClose, Follows, rows_to}
 use Rattle.vme_cert.specs.Instant.{IsBusOf}
 use Rattle.vme_cert.specs.State.{Holds}
 use Rattle.vme_cert.specs.declared.checker.Checker.{Checker}
 use Rattle.vme_cert.specs.declared.checker.Stage.{Stage}
 use Rattle.vme_cert.specs.declared.checker.Stage.TheVariants.{Ended, Judging, Waiting}
+use Rattle.vme_cert.specs.declared.compare.Answer.{Answer}
 use Rattle.vme_cert.specs.declared.open_rows.OpenRows.{OpenRows}
 use Rattle.vme_cert.specs.declared.state.State.{State}
 
@@ -99,3 +101,10 @@ abbrev pub HasCompared : {Whole Source : Type 0} → (Whole → Source → List 
     → Version → Trace → Checker Source → Type 0
 HasCompared gave is_over whole version recorded checker =
     (more : List Step) → Checks gave is_over whole version (with_steps recorded more) checker
+
+-- the rows of a whole that a source gave, and what it says of others, decide of the rows of a recording
+abbrev pub HasDecided : {Whole Source : Type 0} → (Whole → Source → List Row → Type 0) → (Source → Type 0) → Whole
+    → Version → Trace → Source → Answer → Type 0
+HasDecided gave is_over whole version recorded source answer =
+    (more : List Row) × gave whole source more
+    × Decides is_over more (rows_in version (recorded_rows recorded)) source answer

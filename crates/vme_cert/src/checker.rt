@@ -2,7 +2,7 @@
 
 ghost use Rattle.std.specs.Prelude.{◌≡◌, ◌+◌, ◌*◌, ◌<◌, ◌≤◌, List, [], ◌∷◌, true, if◌then◌else◌};
 ghost use Rattle.vme_cert.specs.Words.{Broken, Row, Trace, Unreadable, Version, is_unreadable, last_instant};
-ghost use Rattle.vme_cert.specs.Words.{recorded_rows, rows_in, with_steps};
+ghost use Rattle.vme_cert.specs.Words.{with_steps};
 
 use crate::bus::Bus;
 use crate::compare::Answer;
@@ -37,9 +37,9 @@ pub struct Checker<S: RowSource> {
 
 impl<S: RowSource> Checker<S> {
     ghost use Rattle.vme_cert.specs.Instant.{LeadToInstant, IsBusOf};
-    ghost use Rattle.vme_cert.specs.Checking.{Checks, HasCompared, HasFollowed, IsJudging, IsWaiting, MayGoOn};
+    ghost use Rattle.vme_cert.specs.Checking.{Checks, HasCompared, HasDecided, HasFollowed, IsJudging, IsWaiting};
+    ghost use Rattle.vme_cert.specs.Checking.{MayGoOn};
     ghost use Rattle.vme_cert.specs.Checking.{at_opening};
-    ghost use Rattle.vme_cert.specs.Comparing.{Decides};
     ghost use Rattle.vme_cert.specs.declared.checker.Stage.TheVariants.{Ended, Waiting};
 
     /// At the opening: of the rows none was given, and they are to be in this version.
@@ -148,8 +148,7 @@ impl<S: RowSource> Checker<S> {
         requires { (recorded : Trace) × HasFollowed recorded self }
         ensures { (whole : S.Whole) (version : Version) (recorded : Trace) → HasFollowed recorded self
             → HasCompared S.gave S.is_over whole version recorded self
-            → (more : List Row) × S.gave whole result.1 more
-            × Decides S.is_over more (rows_in version (recorded_rows recorded)) result.1 result.0 }
+            → HasDecided S.gave S.is_over whole version recorded result.1 result.0 }
     {
         let mut rows = self.rows;
         rows.close_before(Row::Verdict(self.outcome));

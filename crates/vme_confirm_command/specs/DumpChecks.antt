@@ -6,12 +6,11 @@ use Rattle.vme_trace.specs.Trace.{Trace}
 use Rattle.vme_bind.specs.Binding.{BoundLines}
 use Rattle.vme_bind.specs.Capture.{capture_of}
 use Rattle.vme_bind.specs.declared.fault.BindFault.{BindFault}
-use Rattle.vme_listing.specs.Recorded.{recorded_rows, rows_in}
 use Rattle.vme_listing.specs.declared.row.Row.{Row}
 use Rattle.vme_listing.specs.declared.row.Version.{Version}
 use Rattle.vme_answer.specs.declared.refusal.Refusal.{Refusal}
 use Rattle.vme_skew.specs.Settled.{settled_or}
-use Rattle.vme_cert.specs.Comparing.{Decides}
+use Rattle.vme_cert.specs.Checking.{HasDecided}
 use Rattle.vme_cert.specs.declared.compare.Answer.{Answer}
 use Rattle.vme_step_reader.specs.StepReading.{StepReading, whole_reading}
 use Rattle.vme_dump_input.specs.DumpBeginnings.{IsDumpRefused, IsReadDump, IsSound}
@@ -31,8 +30,7 @@ module _ {Whole Source : Type 0} (gave : Whole → Source → List Row → Type 
   abbrev pub FindsOf : Contents → Result Answer BindFault → Source → Type 0
   FindsOf contents (Ok answer) source =
       (t : Trace) × (settled_or skew (capture_of bound contents) ≡ Ok t)
-      × ((more : List Row) × gave whole source more
-      × Decides is_over more (rows_in version (recorded_rows t)) source answer)
+      × HasDecided gave is_over whole version t source answer
   FindsOf contents (Err fault) source =
       (capture_of bound contents ≡ Err fault) × ((rows : List Row) × gave whole source rows)
 

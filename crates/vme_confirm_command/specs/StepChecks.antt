@@ -6,12 +6,10 @@ use Rattle.vme_trace.specs.WellFormed.{capture_limit, malformed_step}
 use Rattle.vme_trace.specs.declared.step.Step.{Step}
 use Rattle.vme_bind.specs.Capture.{limited}
 use Rattle.vme_bind.specs.declared.fault.BindFault.{BindFault}
-use Rattle.vme_listing.specs.Recorded.{recorded_rows, rows_in}
 use Rattle.vme_listing.specs.declared.row.Row.{Row}
 use Rattle.vme_listing.specs.declared.row.Version.{Version}
 use Rattle.vme_skew.specs.Settling.{Settling}
-use Rattle.vme_cert.specs.Checking.{HasCompared, HasFollowed}
-use Rattle.vme_cert.specs.Comparing.{Decides}
+use Rattle.vme_cert.specs.Checking.{HasCompared, HasDecided, HasFollowed}
 use Rattle.vme_cert.specs.declared.checker.Checker.{Checker}
 use Rattle.vme_cert.specs.declared.compare.Answer.{Answer}
 use Rattle.vme_dump_input.specs.SettledReadings.{settled_whole}
@@ -45,7 +43,5 @@ module _ {Whole Source : Type 0} (gave : Whole → Source → List Row → Type 
   -- of a whole recording this was found, unless it is too long
   abbrev pub Finds : Option ℕ → Trace → Result Answer BindFault → Source → Type 0
   Finds skew given (Ok answer) source =
-      (limited given ≡ Ok given)
-      × ((more : List Row) × gave whole source more
-      × Decides is_over more (rows_in version (recorded_rows (settled_whole skew given))) source answer)
+      (limited given ≡ Ok given) × HasDecided gave is_over whole version (settled_whole skew given) source answer
   Finds skew given (Err fault) source = (limited given ≡ Err fault) × ((rows : List Row) × gave whole source rows)

@@ -126,6 +126,12 @@ pub record HasRead (text : List ℕ) (rows : List Row) (unread : Unread) : Type 
   pub last : unread.last ≡ last_of None rows
   pub count : unread.count ≡ length rows
 
+-- this holds of each text and future of which rows were read from the front, and the next bytes are these
+abbrev pub HoldsOfRead : RowsSoFar → List ℕ → Bool → (List ℕ → List ℕ → List Row → Type 0) → Type 0
+HoldsOfRead so_far bytes is_rest holds =
+    (text future : List ℕ) (rows : List Row) → IsFollowedBy is_rest future
+    → HasRead text rows (behind_rows so_far (bytes ++ future)) → holds text future rows
+
 -- the text is that of this listing, and of no other
 abbrev pub IsTextOfListing : List ℕ → Listed → Type 0
 IsTextOfListing text listing = (is_well_placed listing ≡ true) × (text_of listing ≡ text) × IsOnlyListing text listing

@@ -3,8 +3,8 @@
 ghost use Rattle.std.specs.Prelude.{◌≡◌, ◌+◌, ◌^◌, ◌<◌, ◌≤◌, ℕ, List, [], ◌∷◌, ◌++◌, drop, length, true, false, IfOk};
 ghost use Rattle.std.specs.Prelude.{IfErr, IfSome};
 ghost use Rattle.vme_listing.specs.Places.{ends_listing};
-ghost use Rattle.vme_listing.specs.Reading.{HasRead, HasNoListing, IsFaultOfText, IsFirstFault, IsFollowedBy};
-ghost use Rattle.vme_listing.specs.Reading.{IsTextOfListing, behind_rows, listed};
+ghost use Rattle.vme_listing.specs.Reading.{HasRead, HasNoListing, HoldsOfRead, IsFaultOfText, IsFirstFault};
+ghost use Rattle.vme_listing.specs.Reading.{IsFollowedBy, IsTextOfListing, behind_rows, listed};
 ghost use Rattle.vme_listing.specs.declared.fault.ListFault.TheVariants.{BadHeader};
 ghost use Rattle.vme_listing.specs.declared.row.Row.{Row};
 
@@ -80,16 +80,13 @@ impl ListingPieces {
     pub fn next(&mut self, bytes: &[u8], is_rest: bool) -> Result<Option<(Row, usize)>, ListFault>
         requires enough { is_rest ≡ false → LONGEST_LINE < length bytes.now }
         requires countable { self.old.count < 2 ^ 63 }
-        ensures row { (text future : List ℕ) (rows : List Row) → IsFollowedBy is_rest future
-            → HasRead text rows (behind_rows self.old (bytes.now ++ future))
-            → IfOk result (λ found. IfSome found (λ next. HasRead text (rows ++ next.0 ∷ [])
-            (behind_rows self.new (drop next.1 bytes.now ++ future)))) }
-        ensures whole { (text future : List ℕ) (rows : List Row) → IsFollowedBy is_rest future
-            → HasRead text rows (behind_rows self.old (bytes.now ++ future)) → result ≡ Ok None
-            → IsTextOfListing text (listed self.old.version rows) }
-        ensures fault { (text future : List ℕ) (rows : List Row) → IsFollowedBy is_rest future
-            → HasRead text rows (behind_rows self.old (bytes.now ++ future))
-            → IfErr result (IsFaultOfText text) }
+        ensures row { HoldsOfRead self.old bytes.now is_rest (λ text future rows.
+            IfOk result (λ found. IfSome found (λ next. HasRead text (rows ++ next.0 ∷ [])
+            (behind_rows self.new (drop next.1 bytes.now ++ future))))) }
+        ensures whole { HoldsOfRead self.old bytes.now is_rest (λ text future rows.
+            result ≡ Ok None → IsTextOfListing text (listed self.old.version rows)) }
+        ensures fault { HoldsOfRead self.old bytes.now is_rest (λ text future rows.
+            IfErr result (IsFaultOfText text)) }
         ensures version { self.new.version ≡ self.old.version }
         ensures within { IfOk result (λ found. IfSome found (λ next. (0 < next.1) × (next.1 ≤ length bytes.now))) }
         ensures counted { IfOk result (λ found. IfSome found (λ next. self.new.count ≡ self.old.count + 1)) }

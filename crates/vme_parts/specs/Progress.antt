@@ -1,8 +1,8 @@
 -- What the monitors come to on their way through segments.
-use Rattle.std.specs.Prelude.{◌≡◌, ℕ, ◌<◌, ◌≤◌, Bool, false, List, [], ◌∷◌, ◌++◌, length, None}
+use Rattle.std.specs.Prelude.{◌≡◌, ℕ, ◌+◌, ◌^◌, ◌<◌, ◌≤◌, Bool, false, List, [], ◌∷◌, ◌++◌, length, None}
 use Rattle.vme_trace.specs.Blocks.{joined_steps}
 use Rattle.vme_trace.specs.Levels.{Levels}
-use Rattle.vme_trace.specs.Trace.{Trace}
+use Rattle.vme_trace.specs.Trace.{Trace, levels_after}
 use Rattle.vme_trace.specs.WellFormed.{malformed_step}
 use Rattle.vme_trace.specs.declared.block.Block.{Block}
 use Rattle.vme_trace.specs.declared.step.Step.{Step}
@@ -16,7 +16,7 @@ use Rattle.vme_stability.specs.StabilityRules.{stability_begin}
 use Rattle.vme_chains.specs.GrantMemory.{arbitration_place}
 use Rattle.vme_chains.specs.GrantRules.{grant_begin}
 use Rattle.vme_chains.specs.AcknowledgeRules.{acknowledge_begin, acknowledgement_place}
-use Rattle.vme_summary.specs.Extents.{IsExtent}
+use Rattle.vme_summary.specs.Extents.{IsExtent, joined_extent}
 use Rattle.vme_summary.specs.Joins.{BlocksJoin}
 use Rattle.vme_summary.specs.Runs.{known_run, handshake_run, stability_run, grant_run, acknowledge_run}
 use Rattle.vme_summary.specs.declared.extent.Extent.{Extent}
@@ -24,6 +24,7 @@ use Rattle.vme_part_format.specs.Tables.{SegmentValue}
 use Rattle.vme_part_tables.specs.Runs.{TellsRun, TellsRuns}
 use Rattle.vme_part_tables.specs.Ways.{WayOutcome}
 use Rattle.vme_parts.specs.Meeting.{ends_at, starts_at}
+use Rattle.vme_parts.specs.Stands.{SegmentStandsFor, extent_of}
 use Rattle.vme_parts.specs.declared.judged_segments.JudgedSegments.{JudgedSegments}
 use Rattle.vme_parts.specs.declared.judged_segments.Stop.{Stop}
 use Rattle.vme_parts.specs.declared.judged_segments.Stop.TheVariants as stop
@@ -71,6 +72,12 @@ pub record TellsAll (listing : Bool) (s : SegmentValue) (v : Levels) (y : List S
   pub grant : TellsRuns listing 35 (phase_place arbitration_place) s.grant (λ p. grant_run p v y)
   pub acknowledge : TellsRuns listing 11 (phase_place acknowledgement_place) s.acknowledge (λ p. acknowledge_run p v y)
 
+-- past a segment whose tables tell of the steps that follow, the monitors have come to new states
+abbrev pub HasStatesPast : States → States → SegmentValue → ℕ → Type 0
+HasStatesPast old new s steps =
+    (listing : Bool) (o v : Levels) (x y : List Step) → v ≡ levels_after o x → steps ≡ length x
+    → length x + length y < 2 ^ 64 → HasStates old o x → TellsAll listing s v y → HasStates new o (x ++ y)
+
 -- judging has come past files that follow one another and have this extent
 pub record HasJudgedFiles (j : JudgedSegments) (e : Extent) (bs : List Block) : Type 0 where
   pub extent : IsExtent e bs
@@ -79,6 +86,12 @@ pub record HasJudgedFiles (j : JudgedSegments) (e : Extent) (bs : List Block) : 
   pub ends : ends_at j.times ≡ e.ends
   pub counted : j.steps ≡ length (joined_steps bs)
   pub found : HasStates j.states e.opening (joined_steps bs)
+
+-- past a segment that follows the files judged so far, judging has come past its files too
+abbrev pub HasJudgedNext : JudgedSegments → JudgedSegments → SegmentValue → Type 0
+HasJudgedNext old new s =
+    (listing : Bool) (e : Extent) (bs ys : List Block) → HasJudgedFiles old e bs → SegmentStandsFor listing s ys
+    → s.first ≡ e.last + 1 → HasJudgedFiles new (joined_extent e (extent_of s)) (bs ++ ys)
 
 -- of files behind others the one of this number is the first that doesn't follow those before it
 pub record IsTornIn (bs ys : List Block) (k : ℕ) : Type 0 where

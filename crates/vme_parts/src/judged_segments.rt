@@ -1,12 +1,11 @@
 //! Segments judged in order.
 
-ghost use Rattle.std.specs.Prelude.{◌≡◌, ◌+◌, ◌++◌, Bool, IfErr, List, OnOk};
+ghost use Rattle.std.specs.Prelude.{◌≡◌, ◌+◌, Bool, IfErr, List, OnOk};
 ghost use Rattle.vme_trace.specs.declared.block.Block.{Block};
-ghost use Rattle.vme_summary.specs.Extents.{joined_extent};
 ghost use Rattle.vme_summary.specs.declared.extent.Extent.{Extent};
 ghost use Rattle.vme_part_format.specs.Tables.{segment_value};
 ghost use Rattle.vme_parts.specs.Buddies.{HasTables};
-ghost use Rattle.vme_parts.specs.Progress.{FitStates, HasJudgedFiles, StopsAt};
+ghost use Rattle.vme_parts.specs.Progress.{FitStates, HasJudgedFiles, HasJudgedNext, StopsAt};
 ghost use Rattle.vme_parts.specs.Stands.{SegmentStandsFor, extent_of};
 
 use crate::buddies::step_count;
@@ -55,9 +54,7 @@ impl JudgedSegments {
         requires fit { FitStates self.old.states }
         requires tables { HasTables (segment_value segment.now) }
         ensures fit { FitStates self.new.states }
-        ensures judged { OnOk result ((listing : Bool) (e : Extent) (bs ys : List Block) → HasJudgedFiles self.old e bs
-            → SegmentStandsFor listing (segment_value segment.now) ys → segment.now.first ≡ e.last + 1
-            → HasJudgedFiles self.new (joined_extent e (extent_of (segment_value segment.now))) (bs ++ ys)) }
+        ensures judged { OnOk result (HasJudgedNext self.old self.new (segment_value segment.now)) }
         ensures stops { IfErr result (λ stop. (listing : Bool) (e : Extent) (bs ys : List Block)
             → HasJudgedFiles self.old e bs → SegmentStandsFor listing (segment_value segment.now) ys
             → segment.now.first ≡ e.last + 1

@@ -1,12 +1,10 @@
 //! What monitors come to on their way through segments.
 
-ghost use Rattle.std.specs.Prelude.{◌≡◌, ◌+◌, ◌<◌, ◌^◌, ◌++◌, [], Bool, List, None, length};
+ghost use Rattle.std.specs.Prelude.{◌≡◌, ◌<◌, ◌^◌, [], None, length};
 ghost use Rattle.std.specs.Option.{option_map, option_or};
-ghost use Rattle.vme_trace.specs.Levels.{Levels};
-ghost use Rattle.vme_trace.specs.Trace.{Trace, levels_after};
+ghost use Rattle.vme_trace.specs.Trace.{Trace};
 ghost use Rattle.vme_trace.specs.Judged.{judged_spans};
 ghost use Rattle.vme_trace.specs.Verdict.{rules_in_force, verdict_by, verdict_on};
-ghost use Rattle.vme_trace.specs.declared.step.Step.{Step};
 ghost use Rattle.vme_monitor.specs.BothMonitors.{breaks_before as fault_before, least as least_of};
 ghost use Rattle.vme_monitor.specs.BothMonitors.{sooner as sooner_than};
 ghost use Rattle.vme_monitor.specs.Whole.{has_span};
@@ -15,7 +13,7 @@ ghost use Rattle.vme_part_format.specs.Tables.{segment_value, table_value};
 ghost use Rattle.vme_part_tables.specs.Runs.{break_of};
 ghost use Rattle.vme_part_tables.specs.Ways.{later_break as later_break_of, outcome_in};
 ghost use Rattle.vme_parts.specs.Buddies.{HasTables};
-ghost use Rattle.vme_parts.specs.Progress.{FitStates, FoundAll, HasStates, TellsAll};
+ghost use Rattle.vme_parts.specs.Progress.{FitStates, FoundAll, HasStates, HasStatesPast};
 ghost use Rattle.vme_parts.specs.Telling.{verdict_of as verdict_is};
 
 use crate::answers::WideVerdict;
@@ -139,9 +137,7 @@ impl States {
         requires fit { FitStates self.now }
         requires tables { HasTables (segment_value segment.now) }
         ensures fit { FitStates result }
-        ensures found { (listing : Bool) (o v : Levels) (x y : List Step) → v ≡ levels_after o x → steps ≡ length x
-            → length x + length y < 2 ^ 64 → HasStates self.now o x
-            → TellsAll listing (segment_value segment.now) v y → HasStates result o (x ++ y) }
+        ensures found { HasStatesPast self.now result (segment_value segment.now) steps }
     {
         States {
             known: past(self.known, &segment.known, steps),

@@ -1,7 +1,8 @@
 -- A recording by probes that tell one moment of the bus at several times, and what it settles to: its instants are
 -- taken in groups, of which each makes one step.
 use Rattle.std.specs.Prelude.{◌≡◌, ℕ, zero, suc, Bool, ◌+◌, ◌-◌, ◌==◌, ◌||◌, List, [], ◌++◌, length, nat_lt, None}
-use Rattle.std.specs.Prelude.{filter, if◌then◌else◌, Result, Ok, Err}
+use Rattle.std.specs.Prelude.{◌≤◌, All, filter, if◌then◌else◌, Result, Ok, Err}
+use Rattle.vme_trace.specs.Followed.{with_steps}
 use Rattle.vme_trace.specs.LineNumbers.{line_count}
 use Rattle.vme_trace.specs.Trace.{Trace, levels_at, time_at, last_instant}
 use Rattle.vme_trace.specs.WellFormed.{malformed_step}
@@ -53,3 +54,11 @@ is_complete skew time step = nat_lt (step.time + skew) time
 -- a recording settled by a skew as far as it is complete once a time is read
 unfoldable pub settled_until : ℕ → ℕ → Trace → Trace
 settled_until skew time t = record t { steps = filter (is_complete skew time) (settled skew t).steps }
+
+-- none of these steps is earlier than a time
+abbrev pub AreFrom : ℕ → List Step → Type 0
+AreFrom time steps = All (λ (step : Step). time ≤ step.time) steps
+
+-- a recording goes on with some steps, and so becomes another
+abbrev pub GoesOnTo : Trace → Trace → Type 0
+GoesOnTo t longer = (rest : List Step) × (longer ≡ with_steps t rest)

@@ -47,7 +47,7 @@ ghost use Rattle.std.specs.Prelude.{◌≡◌, ◌≤◌, ◌<◌, ◌++◌, ℕ
 ghost use Rattle.vme_trace.specs.Followed.{with_steps};
 ghost use Rattle.vme_trace.specs.Trace.{Trace, levels_after, levels_at};
 ghost use Rattle.vme_trace.specs.declared.step.Step.{Step};
-ghost use Rattle.vme_skew.specs.Settled.{IsRecording, settled, settled_until, step_to, steps_before};
+ghost use Rattle.vme_skew.specs.Settled.{AreFrom, GoesOnTo, IsRecording, settled, settled_until, step_to, steps_before};
 ghost use Rattle.vme_skew.specs.Worked.{AllComplete, AllSettle, worked, worked_times};
 
 mod group;
@@ -77,8 +77,7 @@ pub fn levels_are_kept()
 
 /// What is complete once a time is read is a front of the settled recording.
 pub fn settled_until_is_prefix()
-    ensures { (skew time : ℕ) (t : Trace)
-        → (rest : List Step) × (settled skew t ≡ with_steps (settled_until skew time t) rest) }
+    ensures { (skew time : ℕ) (t : Trace) → GoesOnTo (settled_until skew time t) (settled skew t) }
 {}
 
 /// It is a recording.
@@ -89,14 +88,12 @@ pub fn settled_until_is_recording()
 /// What is complete stays so and comes first while the recording goes on with steps that aren't earlier, at any later
 /// time, and once the recording ends.
 pub fn settled_until_grows()
-    ensures kept { (skew time : ℕ) (t : Trace) (more : List Step) → All (λ (step : Step). time ≤ step.time) more
+    ensures kept { (skew time : ℕ) (t : Trace) (more : List Step) → AreFrom time more
         → settled_until skew time (with_steps t more) ≡ settled_until skew time t }
-    ensures later { (skew time later : ℕ) (t : Trace) (more : List Step) → time ≤ later
-        → All (λ (step : Step). time ≤ step.time) more
-        → (rest : List Step)
-        × (settled_until skew later (with_steps t more) ≡ with_steps (settled_until skew time t) rest) }
-    ensures whole { (skew time : ℕ) (t : Trace) (more : List Step) → All (λ (step : Step). time ≤ step.time) more
-        → (rest : List Step) × (settled skew (with_steps t more) ≡ with_steps (settled_until skew time t) rest) }
+    ensures later { (skew time later : ℕ) (t : Trace) (more : List Step) → time ≤ later → AreFrom time more
+        → GoesOnTo (settled_until skew time t) (settled_until skew later (with_steps t more)) }
+    ensures whole { (skew time : ℕ) (t : Trace) (more : List Step) → AreFrom time more
+        → GoesOnTo (settled_until skew time t) (settled skew (with_steps t more)) }
 {}
 
 /// Without a skew all is complete that is earlier than the time.

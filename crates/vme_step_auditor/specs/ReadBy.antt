@@ -1,6 +1,9 @@
 -- How far an audit reads a recording: behind so many breaks that aren't allowed it looks at no more of it.
-use Rattle.std.specs.Prelude.{◌≡◌, ℕ, ◌-◌, ◌++◌, Bool, false, List, length, nat_lt, Option, None, Some}
+use Rattle.std.specs.Prelude.{◌≡◌, ℕ, ◌-◌, ◌≤◌, ◌++◌, Bool, true, false, List, length, nat_lt, Option, None, Some}
+use Rattle.vme_trace.specs.Followed.{with_steps}
 use Rattle.vme_trace.specs.Trace.{Trace}
+use Rattle.vme_trace.specs.WellFormed.{malformed_step}
+use Rattle.vme_trace.specs.declared.step.Step.{Step}
 use Rattle.vme_trace.specs.declared.verdict.Break.{Break}
 use Rattle.vme_audit.specs.Allowances.{faults, stopped_at}
 use Rattle.vme_audit.specs.Parts.{breaks}
@@ -38,3 +41,9 @@ has_stopped g = is_stopped g.allowances g.stop g.recording
 pub record BreaksGoOn (allowances : List Allowance) (stop : Option ℕ) (t u : Trace) : Type 0 where
   pub more : List Break
   pub grown : breaks (read_by allowances stop u) ≡ breaks (read_by allowances stop t) ++ more
+
+-- this holds of each recording that ends an audit, and of each that goes on from there
+abbrev pub HoldsOnceStopped : List Allowance → Option ℕ → (Trace → Trace → Type 0) → Type 0
+HoldsOnceStopped allowances stop holds =
+    (t : Trace) (steps : List Step) → malformed_step (with_steps t steps) ≡ None → t.opening.slots ≤ 21
+    → is_stopped allowances stop t ≡ true → holds t (with_steps t steps)

@@ -6,18 +6,16 @@ ghost use Rattle.vme_trace.specs.Trace.{Trace};
 ghost use Rattle.vme_trace.specs.WellFormed.{malformed_step};
 ghost use Rattle.vme_trace.specs.declared.step.Step.{Step};
 ghost use Rattle.vme_audit.specs.declared.allowance.Allowance.{Allowance};
-ghost use Rattle.vme_step_auditor.specs.ReadBy.{BreaksGoOn, is_stopped, read_by};
+ghost use Rattle.vme_step_auditor.specs.ReadBy.{BreaksGoOn, HoldsOnceStopped, is_stopped, read_by};
 
 use vme_auditor::breaks_grow;
 
 /// What follows where an audit stops changes nothing of what is read.
 pub fn stop_is_final()
-    ensures stays { (allowances : List Allowance) (stop : Option ℕ) (t : Trace) (steps : List Step)
-        → malformed_step (with_steps t steps) ≡ None → t.opening.slots ≤ 21 → is_stopped allowances stop t ≡ true
-        → is_stopped allowances stop (with_steps t steps) ≡ true }
-    ensures read { (allowances : List Allowance) (stop : Option ℕ) (t : Trace) (steps : List Step)
-        → malformed_step (with_steps t steps) ≡ None → t.opening.slots ≤ 21 → is_stopped allowances stop t ≡ true
-        → read_by allowances stop (with_steps t steps) ≡ read_by allowances stop t }
+    ensures stays { (allowances : List Allowance) (stop : Option ℕ) → HoldsOnceStopped allowances stop
+        (λ t longer. is_stopped allowances stop longer ≡ true) }
+    ensures read { (allowances : List Allowance) (stop : Option ℕ) → HoldsOnceStopped allowances stop
+        (λ t longer. read_by allowances stop longer ≡ read_by allowances stop t) }
 {
     breaks_grow();
 }

@@ -1,6 +1,8 @@
 -- How far the text of a dump is read whose steps come out as they become complete.
-use Rattle.std.specs.Prelude.{ℕ, List, []}
+use Rattle.std.specs.Prelude.{◌≡◌, ℕ, List, []}
+use Rattle.vme_trace.specs.Followed.{with_steps}
 use Rattle.vme_trace.specs.Trace.{Trace}
+use Rattle.vme_trace.specs.declared.step.Step.{Step}
 use Rattle.vcd_read.specs.Tokens.{tokens_from}
 use Rattle.vme_bind.specs.SpeculativeReading.{SpeculativeReached, with_recording}
 use Rattle.vme_bind.specs.TextReading.{TextReading, reading_ahead}
@@ -14,3 +16,7 @@ pub record StepReading : Type 0 where
 abbrev pub whole_reading : StepReading → List ℕ → TextReading
 whole_reading r bytes = reading_ahead (with_recording r.given r.speculative)
     (tokens_from r.speculative.body.line bytes) []
+
+-- the steps that are still to come where these bytes follow
+abbrev pub AreToCome : StepReading → List ℕ → List Step → Type 0
+AreToCome r bytes steps = (whole_reading r bytes).recorded ≡ with_steps r.given steps

@@ -4,7 +4,7 @@ ghost use Rattle.std.specs.Prelude.{◌≡◌, ◌<◌, ◌≤◌, ℕ, All, Lis
 ghost use Rattle.vcd_read.specs.declared.fault.VcdFault.{VcdFault};
 ghost use Rattle.vme_trace.specs.Followed.{with_steps};
 ghost use Rattle.vme_trace.specs.declared.step.Step.{Step};
-ghost use Rattle.vme_step_reader.specs.StepReading.{StepReading, whole_reading};
+ghost use Rattle.vme_step_reader.specs.StepReading.{AreToCome, StepReading, whole_reading};
 
 use vme_bind::recorded_before_is_a_prefix;
 
@@ -20,13 +20,13 @@ pub fn given_is_a_prefix()
 /// whole text, which they are all before where it has a fault.
 pub fn times_go_on()
     ensures follows { (r : StepReading) (rest : List ℕ) (steps : List Step)
-        → (whole_reading r rest).recorded ≡ with_steps r.given steps
+        → AreToCome r rest steps
         → All (λ (step : Step). (whole_reading r []).time ≤ step.time) steps }
     ensures within { (r : StepReading) (rest : List ℕ) (steps : List Step)
-        → (whole_reading r rest).recorded ≡ with_steps r.given steps
+        → AreToCome r rest steps
         → All (λ (step : Step). step.time ≤ (whole_reading r rest).time) steps }
     ensures before { (r : StepReading) (rest : List ℕ) (steps : List Step) (fault : VcdFault)
-        → (whole_reading r rest).recorded ≡ with_steps r.given steps
+        → AreToCome r rest steps
         → (whole_reading r rest).fault ≡ Some fault
         → All (λ (step : Step). step.time < (whole_reading r rest).time) steps }
     ensures on { (r : StepReading) (rest : List ℕ) → (whole_reading r []).time ≤ (whole_reading r rest).time }

@@ -8,7 +8,7 @@ pub returns-clause-begins : goal.returns-clause-begins
 returns-clause-begins c = begins
 
 pub returns-clause-steps : goal.returns-clause-steps
-returns-clause-steps c total draws s t m e run shown step = simulates total draws s m shown
+returns-clause-steps c total draws s m run shown t e step = simulates total draws s m shown
     (keeps_run total draws run.0 start m (starts total) run.1) t e step
 
 pub returns-clause-runs : goal.returns-clause-runs
