@@ -7,5 +7,5 @@ use vme_trace::Lines;
 #[derive(Drop)]
 pub struct ChunkSummary {
     pub(crate) summary: MonitorSummaries,
-    pub(crate) left: Lines,
+    pub left: Lines,
 }
