@@ -7,18 +7,21 @@ pub returns : goal.returns
 unfolding known_run handshake_run stability_run grant_run acknowledge_run
 returns c =
     record {
-      known = record { memory = c.at.ensures.memory ∙ c.start.ensures; first_break = c.at.ensures.first_break };
+      known = record { memory = c.at.ensures.memory ∙ c.phase_at.ensures; first_break = c.at.ensures.first_break };
       handshake = record {
-        memory = c.at-2.ensures.memory ∙ c.start-2.ensures;
+        memory = c.at-2.ensures.memory ∙ c.phase_at-2.ensures;
         first_break = c.at-2.ensures.first_break;
       };
       stability = record {
-        memory = c.at-3.ensures.memory ∙ c.start-3.ensures;
+        memory = c.at-3.ensures.memory ∙ c.phase_at-3.ensures;
         first_break = c.at-3.ensures.first_break;
       };
-      grant = record { memory = c.at-4.ensures.memory ∙ c.start-4.ensures; first_break = c.at-4.ensures.first_break };
+      grant = record {
+        memory = c.at-4.ensures.memory ∙ c.phase_at-4.ensures;
+        first_break = c.at-4.ensures.first_break;
+      };
       acknowledge = record {
-        memory = c.at-5.ensures.memory ∙ c.start-5.ensures;
+        memory = c.at-5.ensures.memory ∙ c.phase_at-5.ensures;
         first_break = c.at-5.ensures.first_break;
       };
     }
