@@ -1,7 +1,7 @@
 use std::alloc::{AllocError, Global};
 use vme_rules::{Guide, rules_text};
 use vme_text::Text;
-use vme_trace::Rule;
+use vme_trace::{RULE_COUNT, Rule};
 
 /// What is told of a rule, as the page of the protocol has it.
 const OF_B3: &str = "B3: AS falls and BBSY isn't Low near
@@ -54,6 +54,6 @@ fn count_all_lines(alloc: Global) -> Option<usize> {
 
 #[test]
 fn all_rules_are_told_in_their_order(rt: HostRuntime) {
-    assert!(rt; count_all_lines(rt.alloc()) == Some(124));
+    assert!(rt; count_all_lines(rt.alloc()) == Some(4 * RULE_COUNT));
     assert!(rt; Guide::of(Rule::H4).line.as_bytes() == b"the answer line that falls".as_slice());
 }
