@@ -7,12 +7,12 @@ use Rattle.vme_trace.specs.Verdict.{rules_in_force, verdict_by}
 use Rattle.vme_stream.specs.Inputs.{TellsWhole}
 use Rattle.vme_listing.specs.Listed.{Listed}
 use Rattle.vme_listing.specs.Recorded.{recorded_rows}
-use Rattle.vme_answer.specs.Answers.{AnswerGives}
-use Rattle.vme_answer.specs.Ends.{Ends, Tells}
-use Rattle.vme_answer.specs.declared.refusal.Refusal.{Refusal}
-use Rattle.vme_answer.specs.declared.refusal.Refusal.TheVariants.{Memory}
-use Rattle.vme_answer.proofs.EndLemmas.{Does-exact, Does-unwritten, given_is, not_both, read_is, refusal_status-small}
-use Rattle.vme_answer.proofs.EndLemmas.{unwritten_by, verdict_status-small}
+use Rattle.vme_stream.specs.Answers.{AnswerGives}
+use Rattle.vme_stream.specs.Ends.{Ends, Tells}
+use Rattle.vme_stream.specs.declared.refusal.Refusal.{Refusal}
+use Rattle.vme_stream.specs.declared.refusal.Refusal.TheVariants.{Memory}
+use Rattle.vme_stream.proofs.EndLemmas.{Does-exact, Does-unwritten, given_is, not_both, read_is, refusal_status-small}
+use Rattle.vme_stream.proofs.EndLemmas.{unwritten_by, verdict_status-small}
 use Rattle.vme_commands.specs.Settled.{settled_recording}
 use Rattle.vme_annotation.specs.Annotated.{ArePutAt, IsAnnotated, annotated}
 use Rattle.vme_annotation.specs.Inserted.{PutChange, change_of}

@@ -22,8 +22,8 @@ use Rattle.vme_skew.proofs.Laws.{is_recording}
 use Rattle.vme_trace.specs.LineNumbers.{line_count}
 use Rattle.vme_trace.specs.Trace.{Trace, last_instant, time_at}
 use Rattle.vme_trace.specs.WellFormed.{malformed_step}
-use Rattle.vme_answer.specs.Answers.{capture_by, or_bad_binding, or_bad_dump, recording_by}
-use Rattle.vme_answer.specs.declared.refusal.Refusal.{Refusal}
+use Rattle.vme_stream.specs.Answers.{capture_by, or_bad_binding, or_bad_dump, recording_by}
+use Rattle.vme_stream.specs.declared.refusal.Refusal.{Refusal}
 use Rattle.vme_commands.specs.Judged.{in_blocks}
 use Rattle.vme_annotation.proofs.SameDumpLemmas.{IsDump, both_read, dump_is}
 use Rattle.vme_annotate.specs.HasTimes.{HasTimes}

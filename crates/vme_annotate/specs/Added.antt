@@ -9,8 +9,8 @@ use Rattle.vcd_read.specs.Header.{Net, appended, nothing_declared}
 use Rattle.vcd_read.specs.Sections.{Defined, header_of}
 use Rattle.vcd_read.specs.Tokens.{tokens}
 use Rattle.vcd_read.specs.declared.dump.Variable.{Variable}
-use Rattle.vme_answer.specs.declared.refusal.Refusal.{Refusal}
-use Rattle.vme_answer.specs.declared.refusal.Refusal.TheVariants.{Memory}
+use Rattle.vme_stream.specs.declared.refusal.Refusal.{Refusal}
+use Rattle.vme_stream.specs.declared.refusal.Refusal.TheVariants.{Memory}
 use Rattle.vme_annotation.specs.Fresh.{AreFree, IsFreeScope, scope_name}
 
 -- the name of the scope, and the codes in the order of the variables

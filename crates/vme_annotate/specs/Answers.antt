@@ -3,10 +3,10 @@ use Rattle.std.specs.Prelude.{◌≡◌, ◌≢◌, ℕ, List, [], Option, None,
 use Rattle.vme_trace.specs.Streams.{Reading, Writing}
 use Rattle.vme_trace.specs.Trace.{Trace}
 use Rattle.vme_trace.specs.Verdict.{verdict_by, rules_in_force}
-use Rattle.vme_answer.specs.Answers.{AnswerGives, CommandAnswer, refusal_answer}
-use Rattle.vme_answer.specs.Ends.{Does, Ends, Tells}
-use Rattle.vme_answer.specs.Texts.{verdict_status}
-use Rattle.vme_answer.specs.declared.refusal.Refusal.{Refusal}
+use Rattle.vme_stream.specs.Answers.{AnswerGives, CommandAnswer, refusal_answer}
+use Rattle.vme_stream.specs.Ends.{Does, Ends, Tells}
+use Rattle.vme_stream.specs.Texts.{verdict_status}
+use Rattle.vme_stream.specs.declared.refusal.Refusal.{Refusal}
 use Rattle.vme_commands.specs.Settled.{settled_recording}
 use Rattle.vme_commands.specs.declared.built_in.TheConstants.{BLOCK}
 use Rattle.vme_stream.specs.Inputs.{IsReading, TellsWhole}

@@ -1,9 +1,9 @@
 -- A dump with all that is put into it, before it is written.
 use Rattle.std.specs.Prelude.{◌≡◌, ℕ, List, Option, Some, Result, Ok, Err}
 use Rattle.vcd_read.specs.Meaning.{dump_of}
-use Rattle.vme_answer.specs.Answers.{or_bad_dump}
-use Rattle.vme_answer.specs.declared.refusal.Refusal.{Refusal}
-use Rattle.vme_answer.specs.declared.refusal.Refusal.TheVariants.{Memory}
+use Rattle.vme_stream.specs.Answers.{or_bad_dump}
+use Rattle.vme_stream.specs.declared.refusal.Refusal.{Refusal}
+use Rattle.vme_stream.specs.declared.refusal.Refusal.TheVariants.{Memory}
 use Rattle.vme_bind.specs.Binding.{BoundLines}
 use Rattle.vme_trace.specs.Trace.{Trace}
 use Rattle.vme_annotate.specs.Added.{IsFor}

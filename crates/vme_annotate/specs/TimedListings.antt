@@ -9,9 +9,9 @@ use Rattle.vcd_read.specs.Contents.{Contents}
 use Rattle.vcd_read.specs.Header.{◌>>=◌}
 use Rattle.vme_bind.specs.Binding.{BoundLines}
 use Rattle.vme_skew.specs.Settled.{settled_or}
-use Rattle.vme_answer.specs.Answers.{capture_by}
-use Rattle.vme_answer.specs.declared.refusal.Refusal.{Refusal}
-use Rattle.vme_answer.specs.declared.refusal.Refusal.TheVariants.{Memory}
+use Rattle.vme_stream.specs.Answers.{capture_by}
+use Rattle.vme_stream.specs.declared.refusal.Refusal.{Refusal}
+use Rattle.vme_stream.specs.declared.refusal.Refusal.TheVariants.{Memory}
 use Rattle.vme_commands.specs.Judged.{in_blocks}
 use Rattle.vme_annotate.specs.TimedRows.{timed_line}
 

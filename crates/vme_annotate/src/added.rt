@@ -14,7 +14,7 @@ use std::alloc::{AllocError, Global};
 use std::marker::Model;
 use vcd_places::{definitions_end, unused_codes};
 use vcd_read::{Variable, Variables, read_definitions};
-use vme_answer::Refusal;
+use vme_stream::Refusal;
 
 /// What a scope of added variables is named.
 const SCOPE: &[u8] = b"vmecheck";

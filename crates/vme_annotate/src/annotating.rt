@@ -1,8 +1,8 @@
 //! A dump that is written again, annotated with the listing of its recording.
 
 ghost use Rattle.std.specs.Prelude.{◌≡◌, ◌↔◌, ℕ, suc, List, Ok, Option, Some};
-ghost use Rattle.vme_answer.specs.Answers.{dump_read};
-ghost use Rattle.vme_answer.specs.Ends.{Ends};
+ghost use Rattle.vme_stream.specs.Answers.{dump_read};
+ghost use Rattle.vme_stream.specs.Ends.{Ends};
 ghost use Rattle.vme_commands.specs.Settled.{settled_recording};
 ghost use Rattle.vme_commands.specs.declared.built_in.TheConstants.{BLOCK};
 ghost use Rattle.vme_stream.specs.Inputs.{IsReading};
@@ -17,10 +17,11 @@ use crate::changes::{PlannedChange, changes_of};
 use crate::inserting::{Annotation, write_annotated};
 use crate::listed::{TimedListing, listed_in};
 use std::alloc::Global;
-use vme_answer::{Input, Refusal, binding_from, cannot_write_line, refusal_line};
 use vme_bind::Binding;
 use vme_commands::BLOCK;
-use vme_stream::{complain, read_all};
+use vme_stream::{
+    Input, Refusal, binding_from, cannot_write_line, complain, read_all, refusal_line,
+};
 use vme_trace::{Sink, Source};
 
 /// A dump, and all that is put into it.

@@ -4,17 +4,17 @@ ghost use Rattle.std.specs.Prelude.{◌≡◌, ◌+◌, ◌-◌, ◌≤◌, ℕ,
 ghost use Rattle.vcd_read.specs.Meaning.{dump_of};
 ghost use Rattle.vme_bind.specs.Capture.{limited};
 ghost use Rattle.vme_trace.specs.WellFormed.{malformed_step};
-ghost use Rattle.vme_answer.specs.Answers.{or_bad_binding, or_bad_dump};
+ghost use Rattle.vme_stream.specs.Answers.{or_bad_binding, or_bad_dump};
 ghost use Rattle.vme_commands.specs.Listings.{listing_status, row_status, verdict_row_status};
 ghost use Rattle.vme_annotate.specs.TimedListings.{GivesTimed, listed_in, settled_in_blocks};
 
 use crate::step_times::StepTimes;
 use std::alloc::Global;
 use std::marker::{Brand, Model};
-use vme_answer::Refusal;
 use vme_bind::Binding;
 use vme_listing::{ListedVerdict, Listing, Row};
 use vme_skew::{GhostSkew, SettlingVisitor};
+use vme_stream::Refusal;
 use vme_summary::{Lister, NoVerdict};
 
 /// The listing of a recording, and the times of its steps.

@@ -1,7 +1,7 @@
 //! The listing of a recording, with the times of its instants.
 
 ghost use Rattle.std.specs.Prelude.{◌≡◌, ◌≤◌, ◌↔◌, ℕ, suc, List, MatchResult, Ok, Option, Some};
-ghost use Rattle.vme_answer.specs.Ends.{Ends, TellsExactly};
+ghost use Rattle.vme_stream.specs.Ends.{Ends, TellsExactly};
 ghost use Rattle.vme_stream.specs.Inputs.{IsReading};
 ghost use Rattle.vme_stream.specs.Outputs.{FailsToWrite, Writes};
 ghost use Rattle.vme_commands.specs.Settled.{settled_recording};
@@ -13,8 +13,9 @@ use crate::listed::{TimedListing, listed_in};
 use crate::output_buffer::OutputBuffer;
 use crate::timed_rows::timed_line;
 use std::alloc::Global;
-use vme_answer::{Input, Refusal, binding_from, cannot_write_line, refusal_line};
-use vme_stream::{complain, read_all};
+use vme_stream::{
+    Input, Refusal, binding_from, cannot_write_line, complain, read_all, refusal_line,
+};
 use vme_trace::{Failed, Sink, Source};
 
 /// Writes to `out` the listing of the recording that a binding makes of a dump, settled by a skew, with the times of

@@ -15,7 +15,7 @@ use Rattle.vme_trace.specs.Trace.{Trace}
 use Rattle.vme_bind.specs.Binding.{BoundLines}
 use Rattle.vme_bind.specs.TextReading.{TextReading}
 use Rattle.vme_bind.specs.declared.fault.CaptureFault.{CaptureFault}
-use Rattle.vme_answer.specs.declared.refusal.Refusal.{Refusal}
+use Rattle.vme_stream.specs.declared.refusal.Refusal.{Refusal}
 use Rattle.vme_audit.specs.Covered.{outcome as outcome_of}
 use Rattle.vme_audit.specs.Parts.{breaks}
 use Rattle.vme_audit.specs.declared.allowance.Allowance.{Allowance}

@@ -9,10 +9,10 @@ use Rattle.vme_bind.specs.Binding.{BoundLines}
 use Rattle.vme_bind.specs.TextReading.{TextReading, reading_of_text}
 use Rattle.vme_bind.specs.declared.fault.CaptureFault.{CaptureFault}
 use Rattle.vme_stream.specs.Outputs.{Writes}
-use Rattle.vme_answer.specs.Texts.{refusal_status}
-use Rattle.vme_answer.specs.declared.refusal.Input.TheVariants.{Dump}
-use Rattle.vme_answer.specs.declared.refusal.Refusal.{Refusal}
-use Rattle.vme_answer.specs.declared.refusal.Refusal.TheVariants as refusal
+use Rattle.vme_stream.specs.Texts.{refusal_status}
+use Rattle.vme_stream.specs.declared.refusal.Input.TheVariants.{Dump}
+use Rattle.vme_stream.specs.declared.refusal.Refusal.{Refusal}
+use Rattle.vme_stream.specs.declared.refusal.Refusal.TheVariants as refusal
 use Rattle.vme_audit.specs.declared.outcome.Outcome.{Outcome}
 use Rattle.vme_audit.specs.declared.outcome.Outcome.TheVariants as outcome
 use Rattle.vme_audit_lines.specs.AuditLines.{head_of, outcome_status}

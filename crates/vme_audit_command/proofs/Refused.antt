@@ -8,9 +8,9 @@ use Rattle.vme_bind.specs.declared.fault.BindFaultKind.{BindFaultKind}
 use Rattle.vme_bind.specs.declared.fault.BindFaultKind.TheVariants as bind
 use Rattle.vme_bind.specs.declared.fault.CaptureFault.{CaptureFault}
 use Rattle.vme_bind.specs.declared.fault.CaptureFault.TheVariants.{Binding, Dump}
-use Rattle.vme_answer.specs.Refusals.{binding_refusal_as, capture_refusal, dump_refusal_as}
-use Rattle.vme_answer.specs.declared.refusal.Refusal.{Refusal}
-use Rattle.vme_answer.specs.declared.refusal.Refusal.TheVariants.{BadBinding, BadDump, Memory}
+use Rattle.vme_stream.specs.Refusals.{binding_refusal_as, capture_refusal, dump_refusal_as}
+use Rattle.vme_stream.specs.declared.refusal.Refusal.{Refusal}
+use Rattle.vme_stream.specs.declared.refusal.Refusal.TheVariants.{BadBinding, BadDump, Memory}
 use Rattle.vme_audit_command.specs.Definitions.{IsRefused}
 
 dump-refused : (line : ℕ) (kind : FaultKind) (reading : Result TextReading CaptureFault) (refusal : Refusal)

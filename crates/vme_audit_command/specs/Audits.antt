@@ -4,9 +4,9 @@ use Rattle.vme_trace.specs.Streams.{Reading, Writing}
 use Rattle.vme_bind.specs.Binding.{BoundLines}
 use Rattle.vme_stream.specs.Inputs.{IsReading}
 use Rattle.vme_stream.specs.Outputs.{TriesToWrite, Writes}
-use Rattle.vme_answer.specs.Answers.{AnswerGives, binding_read}
-use Rattle.vme_answer.specs.Texts.{line_of, refusal_status, refusal_text}
-use Rattle.vme_answer.specs.declared.refusal.Refusal.{Refusal}
+use Rattle.vme_stream.specs.Answers.{AnswerGives, binding_read}
+use Rattle.vme_stream.specs.Texts.{line_of, refusal_status, refusal_text}
+use Rattle.vme_stream.specs.declared.refusal.Refusal.{Refusal}
 
 -- the bytes of the binding were read, or can't be, and are refused: nothing is audited, and why is told
 pub record RefusesBinding (binding : Reading × Reading) (out err : Writing × Writing) (status : ℕ) : Type 0 where

@@ -3,13 +3,13 @@ use Rattle.std.specs.Prelude.{◌≡◌, ◌≤◌, ℕ, List, [], ◌++◌, len
 use Rattle.vme_trace.specs.Streams.{Reading, Writing}
 use Rattle.vme_trace.specs.Trace.{Trace}
 use Rattle.vcd_read.specs.declared.fault.VcdFault.{VcdFault}
-use Rattle.vme_answer.specs.Refusals.{dump_refusal}
+use Rattle.vme_stream.specs.Refusals.{dump_refusal}
 use Rattle.vme_audit.specs.declared.allowance.Allowance.{Allowance}
 use Rattle.std.specs.Prelude.{Bool, true, false, if◌then◌else◌}
 use Rattle.vme_trace.specs.WellFormed.{malformed_step}
 use Rattle.vme_bind.specs.TextReading.{TextReading}
 use Rattle.vme_stream.specs.Outputs.{Writes, FailsToWrite}
-use Rattle.vme_answer.specs.declared.refusal.Refusal.{Refusal}
+use Rattle.vme_stream.specs.declared.refusal.Refusal.{Refusal}
 use Rattle.vme_audit_command.specs.Definitions.{AreAllBytesOf, IsFormed}
 use Rattle.vme_audit_command.specs.DumpAudits.{WritesPrefix, break_lines, given_all, lines_of}
 use Rattle.vme_dump_input.specs.SettledReadings.{settled_by}

@@ -6,8 +6,8 @@ use Rattle.vme_bind.specs.Binding.{BoundLines}
 use Rattle.vme_bind.specs.TextReading.{TextReading, reading_of_text}
 use Rattle.vme_bind.specs.declared.fault.CaptureFault.{CaptureFault}
 use Rattle.vme_stream.specs.Outputs.{Writes, FailsToWrite}
-use Rattle.vme_answer.specs.Refusals.{capture_refusal}
-use Rattle.vme_answer.specs.declared.refusal.Refusal.{Refusal}
+use Rattle.vme_stream.specs.Refusals.{capture_refusal}
+use Rattle.vme_stream.specs.declared.refusal.Refusal.{Refusal}
 use Rattle.vme_audit.specs.Covered.{outcome}
 use Rattle.vme_audit.specs.declared.allowance.Allowance.{Allowance}
 use Rattle.vme_audit.specs.declared.outcome.Outcome.{Outcome}

@@ -7,7 +7,7 @@ use Rattle.vme_trace.specs.Trace.{Trace}
 use Rattle.vme_trace.specs.declared.step.Step.{Step}
 use Rattle.vme_trace.specs.declared.verdict.Break.{Break}
 use Rattle.vme_stream.specs.Outputs.{Writes, FailsToWrite}
-use Rattle.vme_answer.specs.Texts.{line_of}
+use Rattle.vme_stream.specs.Texts.{line_of}
 use Rattle.vme_audit.specs.Parts.{breaks}
 use Rattle.vme_audit.specs.declared.allowance.Allowance.{Allowance}
 use Rattle.vme_audit_lines.specs.AuditLines.{audit_break_text, category_of}

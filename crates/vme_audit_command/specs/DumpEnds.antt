@@ -3,10 +3,10 @@ use Rattle.std.specs.Prelude.{◌≡◌, ◌≢◌, ◌⊎◌, ℕ, List, Result
 use Rattle.vme_trace.specs.Streams.{Writing}
 use Rattle.vme_bind.specs.Binding.{BoundLines}
 use Rattle.vme_stream.specs.Outputs.{FailsToWrite, TriesToWrite, Writes}
-use Rattle.vme_answer.specs.Texts.{refusal_status}
-use Rattle.vme_answer.specs.declared.refusal.Input.TheVariants.{Dump}
-use Rattle.vme_answer.specs.declared.refusal.Refusal.{Refusal}
-use Rattle.vme_answer.specs.declared.refusal.Refusal.TheVariants as refusal
+use Rattle.vme_stream.specs.Texts.{refusal_status}
+use Rattle.vme_stream.specs.declared.refusal.Input.TheVariants.{Dump}
+use Rattle.vme_stream.specs.declared.refusal.Refusal.{Refusal}
+use Rattle.vme_stream.specs.declared.refusal.Refusal.TheVariants as refusal
 use Rattle.vme_audit_command.specs.Definitions.{AreAllBytesOf}
 use Rattle.vme_audit_command.specs.DumpAnswers.{AuditOptions}
 use Rattle.vme_audit_command.specs.SeveralDumps.{DumpEnd, MayEnd, NamedReading, TriesEach, answer_to, cannot_write_line}

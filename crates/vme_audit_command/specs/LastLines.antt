@@ -3,7 +3,7 @@ use Rattle.std.specs.Prelude.{◌≡◌, ℕ, Bool, if◌then◌else◌, List, [
 use Rattle.vme_trace.specs.Streams.{Writing}
 use Rattle.vme_trace.specs.Trace.{Trace}
 use Rattle.vme_stream.specs.Outputs.{Writes, FailsToWrite}
-use Rattle.vme_answer.specs.Texts.{line_of}
+use Rattle.vme_stream.specs.Texts.{line_of}
 use Rattle.vme_audit.specs.Allowances.{unreadables, wrongs}
 use Rattle.vme_audit.specs.Asked.{never_asked}
 use Rattle.vme_audit.specs.Counted.{counts}

@@ -7,11 +7,11 @@ use Rattle.vme_bind.specs.Binding.{BoundLines}
 use Rattle.vme_bind.specs.TextReading.{reading_of_text}
 use Rattle.vme_stream.specs.Inputs.{IsReading}
 use Rattle.vme_stream.specs.Outputs.{FailsToWrite, TriesToWrite, Writes}
-use Rattle.vme_answer.specs.Answers.{binding_read}
-use Rattle.vme_answer.specs.Texts.{cannot_write_text, line_of, refusal_status, refusal_text}
-use Rattle.vme_answer.specs.declared.refusal.Input.TheVariants.{Dump}
-use Rattle.vme_answer.specs.declared.refusal.Refusal.{Refusal}
-use Rattle.vme_answer.specs.declared.refusal.Refusal.TheVariants.{CannotRead, Memory}
+use Rattle.vme_stream.specs.Answers.{binding_read}
+use Rattle.vme_stream.specs.Texts.{cannot_write_text, line_of, refusal_status, refusal_text}
+use Rattle.vme_stream.specs.declared.refusal.Input.TheVariants.{Dump}
+use Rattle.vme_stream.specs.declared.refusal.Refusal.{Refusal}
+use Rattle.vme_stream.specs.declared.refusal.Refusal.TheVariants.{CannotRead, Memory}
 use Rattle.vme_audit_lines.specs.AuditLines.{head_of, refusal_behind}
 use Rattle.vme_audit_command.specs.Definitions.{AreAllBytesOf}
 use Rattle.vme_audit_command.specs.DumpAnswers.{AuditOptions, DumpAnswer, dump_answer}

@@ -3,7 +3,7 @@
 ghost use Rattle.std.specs.Prelude.{◌≡◌, ◌≢◌, ◌≤◌, ℕ, List, false, true, None, Option, IfErr, IfNone, IfOk, IfSome};
 ghost use Rattle.std.specs.Prelude.{OnOk, length};
 ghost use Rattle.vcd_read.specs.declared.fault.FaultKind.TheVariants as vcd;
-ghost use Rattle.vme_answer.specs.declared.refusal.Refusal.TheVariants.{BadDump};
+ghost use Rattle.vme_stream.specs.declared.refusal.Refusal.TheVariants.{BadDump};
 ghost use Rattle.vme_step_auditor.specs.ReadBy.{has_stopped};
 ghost use Rattle.vme_audit_command.specs.declared.told.NoOutcome.TheVariants.{Refused};
 ghost use Rattle.vme_trace.specs.Followed.{with_steps};
@@ -22,11 +22,11 @@ use crate::junit::TestCase;
 use crate::told::{NoOutcome, TellFault, audit_steps};
 use std::alloc::Global;
 use vcd_read::{FaultKind, VcdFault};
-use vme_answer::Refusal;
 use vme_dump_input::{last_steps, settled_steps};
 use vme_skew::StepSettler;
 use vme_step_auditor::{StepAuditor, reading_goes_on, stop_is_final};
 use vme_step_reader::{StepReader, StoppedSteps, given_is_a_prefix, times_go_on};
+use vme_stream::Refusal;
 use vme_trace::{Sink, Source, Step};
 
 /// Audits the steps that follow once the dump has told a time.

@@ -11,11 +11,12 @@ use crate::dump_audit::audit_dump;
 use crate::junit::{TestCase, TestSuite};
 use crate::told::{NoOutcome, TellFault};
 use std::alloc::{AllocError, Global};
-use vme_answer::{Input, Refusal, binding_from, cannot_write_line, refusal_line};
 use vme_audit::Allowance;
 use vme_audit_lines::{dump_head, refusal_text};
 use vme_bind::Binding;
-use vme_stream::{complain, write_all};
+use vme_stream::{
+    Input, Refusal, binding_from, cannot_write_line, complain, refusal_line, write_all,
+};
 use vme_text::Text;
 use vme_trace::{Sink, Source};
 

@@ -10,10 +10,10 @@ use crate::dump_input::{DumpInput, ReadFault};
 use crate::told::{NoOutcome, TellFault};
 use std::alloc::Global;
 use vcd_read::whole_tokens;
-use vme_answer::Refusal;
 use vme_bind::{Binding, CaptureFault};
 use vme_dump_input::DefinitionsEnd;
 use vme_step_reader::{StepReader, begin_last_steps, begin_steps};
+use vme_stream::Refusal;
 use vme_trace::Source;
 
 /// What a fault that is met in a dump's definitions, or of the binding, is to its audit.

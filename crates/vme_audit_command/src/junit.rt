@@ -1,10 +1,10 @@
 //! What an audit found, as a JUnit file: one test suite, with a test case a dump.
 
 use std::alloc::{AllocError, Global};
-use vme_answer::Refusal;
 use vme_audit::Outcome;
 use vme_audit_lines::{BreakCategory, break_line, count_lines, outcome_line, refusal_text};
 use vme_auditor::{AuditBreak, AuditFindings, BreakCounts};
+use vme_stream::Refusal;
 use vme_text::Text;
 
 /// How many breaks of a kind a test case names.

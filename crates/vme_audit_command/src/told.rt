@@ -3,17 +3,16 @@
 ghost use Rattle.std.specs.Prelude.{◌≡◌, ◌≤◌, ◌++◌, ◌∷◌, [], None, OnOk};
 ghost use Rattle.vme_auditor.specs.Breaks.{as_break};
 ghost use Rattle.vme_audit_lines.specs.AuditLines.{audit_break_text};
-ghost use Rattle.vme_answer.specs.Texts.{line_of};
+ghost use Rattle.vme_stream.specs.Texts.{line_of};
 ghost use Rattle.vme_trace.specs.Followed.{with_steps};
 ghost use Rattle.vme_trace.specs.WellFormed.{malformed_step};
 ghost use Rattle.vme_audit_command.specs.DumpAudits.{AuditGoesOn, TellsText, given_too};
 
 use crate::junit::TestCase;
 use std::alloc::{AllocError, Global};
-use vme_answer::Refusal;
 use vme_audit_lines::break_line;
 use vme_step_auditor::{CategorizedBreak, StepAuditor, reading_goes_on};
-use vme_stream::write_all;
+use vme_stream::{Refusal, write_all};
 use vme_trace::{Sink, Step};
 
 /// Why not all of a text is told.

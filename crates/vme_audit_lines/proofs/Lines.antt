@@ -13,11 +13,11 @@ use Rattle.vme_bind.specs.declared.fault.BindFaultKind.{BindFaultKind}
 use Rattle.vme_bind.specs.declared.fault.BindFaultKind.TheVariants as bind
 use Rattle.vme_listing.specs.declared.fault.ListFault.{ListFault}
 use Rattle.vme_listing.specs.declared.fault.ListFault.TheVariants as list
-use Rattle.vme_answer.specs.Texts.{binding_fault_text, line_of, listing_fault_text, refusal_text}
-use Rattle.vme_answer.specs.declared.refusal.Input.{Input}
-use Rattle.vme_answer.specs.declared.refusal.Refusal.{Refusal}
-use Rattle.vme_answer.specs.declared.refusal.Refusal.TheVariants.{CannotOpen, CannotRead, TooLong, BadBinding, BadDump}
-use Rattle.vme_answer.specs.declared.refusal.Refusal.TheVariants.{BadListing, TooManyBlocks, Memory}
+use Rattle.vme_stream.specs.Texts.{binding_fault_text, line_of, listing_fault_text, refusal_text}
+use Rattle.vme_stream.specs.declared.refusal.Input.{Input}
+use Rattle.vme_stream.specs.declared.refusal.Refusal.{Refusal}
+use Rattle.vme_stream.specs.declared.refusal.Refusal.TheVariants.{CannotOpen, CannotRead, TooLong, BadBinding, BadDump}
+use Rattle.vme_stream.specs.declared.refusal.Refusal.TheVariants.{BadListing, TooManyBlocks, Memory}
 use Rattle.vme_auditor.specs.Events.{asks_by}
 use Rattle.vme_auditor.specs.declared.asked.AskedEvents.{AskedEvents}
 use Rattle.vme_audit_lines.specs.AuditLines.{name_unless_asked, named_behind, names_text, refusal_behind}

@@ -4,11 +4,11 @@ use Rattle.std.specs.Prelude.{filter, flat_map, map, nat_lt, ◌||◌, if◌then
 use Rattle.vme_trace.specs.Rules.{all_rules, is_unreadable, rule_name}
 use Rattle.vme_trace.specs.declared.rule.Rule.{Rule}
 use Rattle.vme_trace.specs.declared.verdict.Break.{Break}
-use Rattle.vme_answer.specs.Texts.{break_text, line_of, refusal_text}
-use Rattle.vme_answer.specs.declared.refusal.Input.{Input}
-use Rattle.vme_answer.specs.declared.refusal.Input.TheVariants.{Binding, Dump, Listing}
-use Rattle.vme_answer.specs.declared.refusal.Refusal.{Refusal}
-use Rattle.vme_answer.specs.declared.refusal.Refusal.TheVariants.{CannotOpen, CannotRead}
+use Rattle.vme_stream.specs.Texts.{break_text, line_of, refusal_text}
+use Rattle.vme_stream.specs.declared.refusal.Input.{Input}
+use Rattle.vme_stream.specs.declared.refusal.Input.TheVariants.{Binding, Dump, Listing}
+use Rattle.vme_stream.specs.declared.refusal.Refusal.{Refusal}
+use Rattle.vme_stream.specs.declared.refusal.Refusal.TheVariants.{CannotOpen, CannotRead}
 use Rattle.vme_audit.specs.Allowances.{is_allowed}
 use Rattle.vme_audit.specs.declared.allowance.Allowance.{Allowance}
 use Rattle.vme_audit.specs.declared.counts.Counts.{Counts}

@@ -1,7 +1,7 @@
 //! What a recording has, in lines.
 
 ghost use Rattle.std.specs.Prelude.{◌≡◌, ◌++◌, IfOk, OnOk, decimal};
-ghost use Rattle.vme_answer.specs.Texts.{line_of};
+ghost use Rattle.vme_stream.specs.Texts.{line_of};
 ghost use Rattle.vme_audit_lines.specs.AuditLines.{break_counts_text, count_lines as lines_of, cycle_counts_text};
 ghost use Rattle.vme_audit_lines.specs.AuditLines.{name_unless_asked, names_text, transfer_counts_text};
 ghost use Rattle.vme_audit_lines.specs.AuditLines.{unasked, unasked_among, unasked_line};

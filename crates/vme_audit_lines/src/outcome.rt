@@ -1,7 +1,7 @@
 //! What an audit comes to, in a line and as an exit status.
 
 ghost use Rattle.std.specs.Prelude.{◌≡◌, ◌++◌, IfOk, OnOk, codes, decimal};
-ghost use Rattle.vme_answer.specs.Texts.{line_of};
+ghost use Rattle.vme_stream.specs.Texts.{line_of};
 ghost use Rattle.vme_audit_lines.specs.AuditLines.{conforming_text, gap_text, outcome_status as status_of};
 ghost use Rattle.vme_audit_lines.specs.AuditLines.{outcome_text};
 

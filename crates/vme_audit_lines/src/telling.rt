@@ -1,15 +1,15 @@
 //! The lines about a dump: what each begins with, its breaks, and why there is no outcome.
 
 ghost use Rattle.std.specs.Prelude.{◌≡◌, ◌++◌, IfOk, OnOk};
-ghost use Rattle.vme_answer.specs.Texts.{line_of};
+ghost use Rattle.vme_stream.specs.Texts.{line_of};
 ghost use Rattle.vme_auditor.specs.Breaks.{as_break};
 ghost use Rattle.vme_audit_lines.specs.AuditLines.{audit_break_text, cannot_text, head_of, refusal_behind};
 ghost use Rattle.vme_audit_lines.specs.AuditLines.{shown as shown_byte, category_name as name_of};
 
 use crate::category::BreakCategory;
 use std::alloc::{AllocError, Global};
-use vme_answer::{Input, Refusal, refusal_line};
 use vme_auditor::AuditBreak;
+use vme_stream::{Input, Refusal, refusal_line};
 use vme_text::Text;
 
 /// A byte of a name as it is shown: `?` for one that a line of text can't have.

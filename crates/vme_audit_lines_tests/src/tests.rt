@@ -1,6 +1,5 @@
 use std::alloc::{AllocError, Global};
 use vcd_read::{FaultKind, VcdFault};
-use vme_answer::{Input, Refusal};
 use vme_audit::{Allowance, Counts, CoverageGap, Outcome};
 use vme_audit_lines::{
     BreakCategory, break_line, count_lines, dump_head, is_allowed, outcome_line, outcome_status,
@@ -8,6 +7,7 @@ use vme_audit_lines::{
 };
 use vme_auditor::{AskedEvents, AuditBreak, AuditFindings, BreakCounts};
 use vme_bind::{BindFault, BindFaultKind};
+use vme_stream::{Input, Refusal};
 use vme_text::Text;
 use vme_trace::{Line, Rule};
 

@@ -3,11 +3,11 @@ use Rattle.std.proofs.Common.{◌≡◌, ◌≤◌, ◌↔◌, ◌∙◌, ℕ, s
 use Rattle.std.specs.Prelude.{Option, Some, Result, Ok, Err}
 use Rattle.vme_trace.specs.Streams.{Reading, Writing}
 use Rattle.vme_trace.specs.declared.verdict.Verdict.{Verdict}
-use Rattle.vme_answer.specs.Answers.{AnswerGives, answer_by}
-use Rattle.vme_answer.specs.Ends.{Checks, Tells}
-use Rattle.vme_answer.specs.declared.refusal.Refusal.{Refusal}
-use Rattle.vme_answer.proofs.EndLemmas.{Does-exact, Does-unwritten, given_is, refusal_status-small}
-use Rattle.vme_answer.proofs.EndLemmas.{verdict_status-small}
+use Rattle.vme_stream.specs.Answers.{AnswerGives, answer_by}
+use Rattle.vme_stream.specs.Ends.{Checks, Tells}
+use Rattle.vme_stream.specs.declared.refusal.Refusal.{Refusal}
+use Rattle.vme_stream.proofs.EndLemmas.{Does-exact, Does-unwritten, given_is, refusal_status-small}
+use Rattle.vme_stream.proofs.EndLemmas.{verdict_status-small}
 use Rattle.vme_stream.specs.Inputs.{TellsWhole}
 use Rattle.vme_commands.specs.Settled.{ChecksSettled, settled_answer_of, settled_judgement}
 use Rattle.vme_commands.proofs.SettledLemmas.{judgement-stays}

@@ -9,11 +9,11 @@ use Rattle.vme_trace.specs.Verdict.{rules_in_force, verdict_by}
 use Rattle.vme_trace.specs.WellFormed.{capture_limit}
 use Rattle.vme_summary.specs.declared.stream_judge.NoVerdict.{NoVerdict}
 use Rattle.vme_summary.specs.declared.stream_judge.NoVerdict.TheVariants.{TooManySteps, TooManyBlocks, Memory}
-use Rattle.vme_answer.specs.Answers.{AnswerGives, judgement_of, or_bad_binding, recording_read, verdict_in_blocks}
-use Rattle.vme_answer.specs.Refusals.{judging_refusal}
-use Rattle.vme_answer.specs.declared.refusal.Refusal.{Refusal}
-use Rattle.vme_answer.specs.declared.refusal.Refusal.TheVariants as refusal
-use Rattle.vme_answer.proofs.AnswerLemmas.{capture_read-recorded}
+use Rattle.vme_stream.specs.Answers.{AnswerGives, judgement_of, or_bad_binding, recording_read, verdict_in_blocks}
+use Rattle.vme_stream.specs.Refusals.{judging_refusal}
+use Rattle.vme_stream.specs.declared.refusal.Refusal.{Refusal}
+use Rattle.vme_stream.specs.declared.refusal.Refusal.TheVariants as refusal
+use Rattle.vme_stream.proofs.AnswerLemmas.{capture_read-recorded}
 use Rattle.vme_commands.specs.Judged.{in_blocks, judged_in_blocks, limited_in_blocks}
 
 at_most : (most n : ℕ) → (most < n → ⊥) → n ≤ most

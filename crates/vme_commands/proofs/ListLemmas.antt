@@ -18,14 +18,14 @@ use Rattle.vme_listing.specs.Recorded.{listing_by, listing_of, listing_of_spans,
 use Rattle.vme_listing.specs.declared.row.ListedVerdict.TheVariants as outcome
 use Rattle.vme_listing.specs.declared.row.Row.{Row}
 use Rattle.vme_listing.specs.declared.row.Row.TheVariants.{Verdict}
-use Rattle.vme_answer.specs.declared.refusal.Refusal.{Refusal}
-use Rattle.vme_answer.specs.declared.refusal.Refusal.TheVariants.{Memory}
-use Rattle.vme_answer.specs.Answers.{AnswerGives, capture_read, recording_read}
-use Rattle.vme_answer.specs.Ends.{Tells}
-use Rattle.vme_answer.specs.Texts.{verdict_status}
-use Rattle.vme_answer.proofs.AnswerLemmas.{capture_read-recorded}
-use Rattle.vme_answer.proofs.EndLemmas.{Does-exact, Does-unwritten, given_is, refusal_status-small}
-use Rattle.vme_answer.proofs.EndLemmas.{verdict_status-small}
+use Rattle.vme_stream.specs.declared.refusal.Refusal.{Refusal}
+use Rattle.vme_stream.specs.declared.refusal.Refusal.TheVariants.{Memory}
+use Rattle.vme_stream.specs.Answers.{AnswerGives, capture_read, recording_read}
+use Rattle.vme_stream.specs.Ends.{Tells}
+use Rattle.vme_stream.specs.Texts.{verdict_status}
+use Rattle.vme_stream.proofs.AnswerLemmas.{capture_read-recorded}
+use Rattle.vme_stream.proofs.EndLemmas.{Does-exact, Does-unwritten, given_is, refusal_status-small}
+use Rattle.vme_stream.proofs.EndLemmas.{verdict_status-small}
 use Rattle.vme_listing.specs.Written.{AppendsFront}
 use Rattle.vme_stream.specs.Inputs.{TellsWhole}
 use Rattle.vme_trace.specs.Streams.{Reading, Writing}

@@ -22,13 +22,13 @@ use Rattle.vme_skew.specs.Settled.{IsRecording, settled, settled_or}
 use Rattle.vme_skew.proofs.CapturesStay.{capture-stays}
 use Rattle.vme_skew.proofs.Laws.{no_longer}
 use Rattle.vme_stream.specs.Inputs.{longest_input}
-use Rattle.vme_answer.specs.Answers.{AnswerGives, binding_read, capture_by, capture_read, dump_read, judgement_of}
-use Rattle.vme_answer.specs.Answers.{or_bad_binding, or_bad_dump, recording_read, verdict_in_blocks}
-use Rattle.vme_answer.specs.Refusals.{judging_refusal}
-use Rattle.vme_answer.specs.declared.refusal.Input.TheVariants.{Dump}
-use Rattle.vme_answer.specs.declared.refusal.Refusal.{Refusal}
-use Rattle.vme_answer.specs.declared.refusal.Refusal.TheVariants.{Memory, TooLong}
-use Rattle.vme_answer.proofs.AnswerLemmas.{capture_read-recorded, passes_through}
+use Rattle.vme_stream.specs.Answers.{AnswerGives, binding_read, capture_by, capture_read, dump_read, judgement_of}
+use Rattle.vme_stream.specs.Answers.{or_bad_binding, or_bad_dump, recording_read, verdict_in_blocks}
+use Rattle.vme_stream.specs.Refusals.{judging_refusal}
+use Rattle.vme_stream.specs.declared.refusal.Input.TheVariants.{Dump}
+use Rattle.vme_stream.specs.declared.refusal.Refusal.{Refusal}
+use Rattle.vme_stream.specs.declared.refusal.Refusal.TheVariants.{Memory, TooLong}
+use Rattle.vme_stream.proofs.AnswerLemmas.{capture_read-recorded, passes_through}
 use Rattle.vme_summary.specs.declared.stream_judge.NoVerdict.TheVariants as NoVerdict
 use Rattle.vme_commands.specs.Judged.{in_blocks}
 use Rattle.vme_commands.specs.Listings.{recording_in_blocks}

@@ -5,9 +5,9 @@ use Rattle.vme_trace.specs.Blocks.{block_count}
 use Rattle.vme_trace.specs.Trace.{Trace}
 use Rattle.vme_trace.specs.Verdict.{verdict_by, rules_in_force}
 use Rattle.vme_trace.specs.declared.verdict.Verdict.{Verdict}
-use Rattle.vme_answer.specs.declared.refusal.Refusal.{Refusal}
-use Rattle.vme_answer.specs.declared.refusal.Refusal.TheVariants.{TooManyBlocks}
-use Rattle.vme_answer.specs.Answers.{or_bad_binding}
+use Rattle.vme_stream.specs.declared.refusal.Refusal.{Refusal}
+use Rattle.vme_stream.specs.declared.refusal.Refusal.TheVariants.{TooManyBlocks}
+use Rattle.vme_stream.specs.Answers.{or_bad_binding}
 use Rattle.vme_bind.specs.Capture.{limited}
 
 -- a recording, if it is cut into at most 4,096 blocks of so many steps

@@ -9,14 +9,14 @@ use Rattle.vme_trace.specs.Verdict.{verdict, verdict_by, rules_in_force}
 use Rattle.vme_listing.specs.Listed.{Listed, in_newest_version}
 use Rattle.vme_listing.specs.Recorded.{listing_of}
 use Rattle.vme_listing.specs.RowText.{text_of}
-use Rattle.vme_answer.specs.Answers.{CommandAnswer, AnswerGives, capture_read, refusal_answer}
-use Rattle.vme_answer.specs.Ends.{Does}
+use Rattle.vme_stream.specs.Answers.{CommandAnswer, AnswerGives, capture_read, refusal_answer}
+use Rattle.vme_stream.specs.Ends.{Does}
 use Rattle.vme_stream.specs.Inputs.{TellsWhole}
 use Rattle.vme_stream.specs.Outputs.{Writes}
 use Rattle.vme_split.specs.Split.{Splits}
-use Rattle.vme_answer.specs.Texts.{verdict_status}
-use Rattle.vme_answer.specs.declared.refusal.Refusal.{Refusal}
-use Rattle.vme_answer.specs.declared.refusal.Refusal.TheVariants.{Memory}
+use Rattle.vme_stream.specs.Texts.{verdict_status}
+use Rattle.vme_stream.specs.declared.refusal.Refusal.{Refusal}
+use Rattle.vme_stream.specs.declared.refusal.Refusal.TheVariants.{Memory}
 use Rattle.vme_commands.specs.Judged.{in_blocks}
 use Rattle.vme_commands.specs.Settled.{settled_recording}
 use Rattle.vme_listing.specs.declared.row.ListedVerdict.{ListedVerdict}

@@ -6,9 +6,9 @@ use Rattle.vme_trace.specs.Streams.{Reading, Writing}
 use Rattle.vme_trace.specs.Trace.{Trace}
 use Rattle.vme_trace.specs.declared.verdict.Verdict.{Verdict}
 use Rattle.vme_skew.specs.Settled.{settled_or}
-use Rattle.vme_answer.specs.Answers.{CommandAnswer, AnswerGives, answer_by, capture_read, verdict_in_blocks}
-use Rattle.vme_answer.specs.Ends.{Does}
-use Rattle.vme_answer.specs.declared.refusal.Refusal.{Refusal}
+use Rattle.vme_stream.specs.Answers.{CommandAnswer, AnswerGives, answer_by, capture_read, verdict_in_blocks}
+use Rattle.vme_stream.specs.Ends.{Does}
+use Rattle.vme_stream.specs.declared.refusal.Refusal.{Refusal}
 use Rattle.vme_commands.specs.Judged.{in_blocks}
 
 -- the recording that a binding makes of a dump, settled by a skew, or the first reason that there is none

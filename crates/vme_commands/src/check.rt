@@ -1,8 +1,8 @@
 //! The check of one recording.
 
 ghost use Rattle.std.specs.Prelude.{◌≡◌, ◌≤◌, ◌↔◌, ℕ, suc, List, Option, Some, None};
-ghost use Rattle.vme_answer.specs.Answers.{AnswerGives, answer_of, judgement_of};
-ghost use Rattle.vme_answer.specs.Ends.{Checks, TellsExactly};
+ghost use Rattle.vme_stream.specs.Answers.{AnswerGives, answer_of, judgement_of};
+ghost use Rattle.vme_stream.specs.Ends.{Checks, TellsExactly};
 ghost use Rattle.vme_stream.specs.Inputs.{IsReading, longest_input};
 ghost use Rattle.vme_trace.specs.WellFormed.{malformed_step};
 ghost use Rattle.vme_commands.specs.Judged.{judged_in_blocks};
@@ -13,8 +13,7 @@ use crate::judged_settled::judged_settled;
 use crate::workers::Workers;
 use std::alloc::Global;
 use std::thread::Threads;
-use vme_answer::{Refusal, refusal_line, tell_verdict};
-use vme_stream::complain;
+use vme_stream::{Refusal, complain, refusal_line, tell_verdict};
 use vme_summary::Judge;
 use vme_trace::{Sink, Source, Verdict};
 

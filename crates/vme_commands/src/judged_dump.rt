@@ -1,7 +1,7 @@
 //! The recording that a binding makes of a dump, judged as the dump is read.
 
 ghost use Rattle.std.specs.Prelude.{◌≡◌, ℕ, List, Option, None, IfOk};
-ghost use Rattle.vme_answer.specs.Answers.{AnswerGives, dump_read, recording_by, recording_read};
+ghost use Rattle.vme_stream.specs.Answers.{AnswerGives, dump_read, recording_by, recording_read};
 ghost use Rattle.vme_stream.specs.Inputs.{IsReading};
 ghost use Rattle.vme_trace.specs.WellFormed.{malformed_step};
 
@@ -9,9 +9,8 @@ use crate::dump_judge::DumpJudge;
 use crate::workers::Workers;
 use std::alloc::Global;
 use std::thread::Threads;
-use vme_answer::{Input, Refusal, binding_from};
 use vme_bind::Binding;
-use vme_stream::read_by;
+use vme_stream::{Input, Refusal, binding_from, read_by};
 use vme_summary::chunk_judge::ChunkJudge;
 use vme_summary::stream_judge::StreamJudge;
 use vme_trace::Source;

@@ -2,7 +2,7 @@
 
 ghost use Rattle.std.specs.Prelude.{◌≡◌, ◌≤◌, ℕ, List, Option, None, IfOk, length};
 ghost use Rattle.vme_bind.specs.Capture.{limited};
-ghost use Rattle.vme_answer.specs.Answers.{AnswerGives, dump_read, or_bad_binding, recording_by, recording_read};
+ghost use Rattle.vme_stream.specs.Answers.{AnswerGives, dump_read, or_bad_binding, recording_by, recording_read};
 ghost use Rattle.vme_stream.specs.Inputs.{IsReading, longest_input};
 ghost use Rattle.vme_trace.specs.WellFormed.{capture_limit, malformed_step};
 ghost use Rattle.vme_commands.specs.Settled.{settled_read};
@@ -11,10 +11,9 @@ ghost use Rattle.vme_skew.specs.Settled.{settled_or};
 use crate::ordered_dump::OrderedDump;
 use std::alloc::Global;
 use std::marker::Brand;
-use vme_answer::{Input, Refusal, binding_from};
 use vme_bind::Binding;
 use vme_skew::{GhostSkew, SettlingVisitor};
-use vme_stream::read_by;
+use vme_stream::{Input, Refusal, binding_from, read_by};
 use vme_summary::NoVerdict;
 use vme_summary::chunk_judge::ChunkJudge;
 use vme_summary::stream_judge::StreamJudge;

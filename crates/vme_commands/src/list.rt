@@ -4,7 +4,7 @@ ghost use Rattle.std.specs.Prelude.{◌≡◌, ◌≤◌, ◌↔◌, ℕ, suc, L
 ghost use Rattle.vme_listing.specs.Recorded.{listing_of};
 ghost use Rattle.vme_trace.specs.Trace.{Trace};
 ghost use Rattle.vme_trace.specs.WellFormed.{malformed_step};
-ghost use Rattle.vme_answer.specs.Ends.{Ends, TellsExactly};
+ghost use Rattle.vme_stream.specs.Ends.{Ends, TellsExactly};
 ghost use Rattle.vme_stream.specs.Inputs.{IsReading, longest_input};
 ghost use Rattle.vme_commands.specs.Judged.{limited_in_blocks};
 ghost use Rattle.vme_commands.specs.Listings.{GivesListing, WritesListing, listing_answer_by, listing_answer_of};
@@ -17,9 +17,8 @@ use crate::judged_settled::judged_settled;
 use crate::workers::Workers;
 use std::alloc::Global;
 use std::thread::Threads;
-use vme_answer::{Refusal, cannot_write_line, refusal_line};
 use vme_listing::{ListedVerdict, Listing, Row, write_listing};
-use vme_stream::complain;
+use vme_stream::{Refusal, cannot_write_line, complain, refusal_line};
 use vme_summary::Lister;
 use vme_trace::{Sink, Source};
 

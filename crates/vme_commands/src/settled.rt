@@ -1,7 +1,7 @@
 //! The recording that a binding makes of a dump, settled by a skew.
 
 ghost use Rattle.std.specs.Prelude.{◌≡◌, ℕ, List, Option};
-ghost use Rattle.vme_answer.specs.Answers.{capture_read, judgement_of};
+ghost use Rattle.vme_stream.specs.Answers.{capture_read, judgement_of};
 ghost use Rattle.vme_commands.specs.Listings.{recording_in_blocks};
 ghost use Rattle.vme_commands.specs.Settled.{settled_judgement, settled_read, settled_recording};
 

@@ -11,19 +11,19 @@ use Rattle.vme_listing.specs.declared.fault.ListFault.{ListFault}
 use Rattle.vme_listing.specs.declared.fault.ListFault.TheVariants as list
 use Rattle.vme_cert.specs.declared.compare.Answer.{Answer as Confirmation}
 use Rattle.vme_cert.specs.declared.compare.Answer.TheVariants.{Yes, No}
-use Rattle.vme_answer.specs.Answers.{CommandAnswer, AnswerGives, binding_read, dump_read}
+use Rattle.vme_stream.specs.Answers.{CommandAnswer, AnswerGives, binding_read, dump_read}
 use Rattle.vme_confirm_command.specs.Confirmations.{Confirms, GivesConfirmation, GivesRows, IsConfirmation, IsFound}
 use Rattle.vme_confirm_command.specs.Confirmations.{IsListing}
 use Rattle.vme_confirm_command.specs.Confirmations.{compared_settled, confirmation_answer_by}
 use Rattle.vme_confirm_command.specs.Confirmations.{confirmation_status, listing_text, longest_listing}
 use Rattle.vme_confirm_command.specs.Confirmations.{TellsConfirmation}
-use Rattle.vme_answer.specs.Ends.{Tells, Ends}
+use Rattle.vme_stream.specs.Ends.{Tells, Ends}
 use Rattle.vme_stream.specs.Inputs.{TellsWhole}
-use Rattle.vme_answer.specs.Refusals.{listing_refusal}
-use Rattle.vme_answer.specs.declared.refusal.Input.TheVariants.{Listing}
-use Rattle.vme_answer.specs.declared.refusal.Refusal.{Refusal}
-use Rattle.vme_answer.specs.declared.refusal.Refusal.TheVariants.{Memory, TooLong}
-use Rattle.vme_answer.proofs.EndLemmas.{not_both, read_is, refusal_status-small, unwritten_by}
+use Rattle.vme_stream.specs.Refusals.{listing_refusal}
+use Rattle.vme_stream.specs.declared.refusal.Input.TheVariants.{Listing}
+use Rattle.vme_stream.specs.declared.refusal.Refusal.{Refusal}
+use Rattle.vme_stream.specs.declared.refusal.Refusal.TheVariants.{Memory, TooLong}
+use Rattle.vme_stream.proofs.EndLemmas.{not_both, read_is, refusal_status-small, unwritten_by}
 use Rattle.vme_trace.specs.Streams.{Reading, Writing}
 
 pub binding_lacks : (skew : ℕ) (binding : Result BoundLines Refusal) (dump : Result Contents Refusal)

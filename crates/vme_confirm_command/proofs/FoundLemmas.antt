@@ -19,9 +19,9 @@ use Rattle.vme_cert.specs.declared.compare.Answer.{Answer}
 use Rattle.vme_cert.specs.declared.compare.Answer.TheVariants.{Yes, No}
 use Rattle.vme_cert.specs.Comparing.{Decides}
 use Rattle.vme_cert.proofs.Comparing.{decides-all}
-use Rattle.vme_answer.specs.Answers.{dump_read, or_bad_binding}
-use Rattle.vme_answer.specs.declared.refusal.Refusal.{Refusal}
-use Rattle.vme_answer.specs.declared.refusal.Refusal.TheVariants.{BadBinding, Memory}
+use Rattle.vme_stream.specs.Answers.{dump_read, or_bad_binding}
+use Rattle.vme_stream.specs.declared.refusal.Refusal.{Refusal}
+use Rattle.vme_stream.specs.declared.refusal.Refusal.TheVariants.{BadBinding, Memory}
 use Rattle.vme_skew.specs.Settled.{settled_or}
 use Rattle.vme_confirm_command.specs.Confirmations.{GivesConfirmation, GivesRows, compared_settled}
 use Rattle.vme_dump_input.specs.DumpBeginnings.{BeginsDump, IsDumpRefused, IsReadDump}

@@ -13,9 +13,9 @@ use Rattle.vme_listing.specs.declared.row.Version.{Version}
 use Rattle.vme_stream.specs.Inputs.{IsReading}
 use Rattle.vme_stream.specs.declared.input.InFault.{InFault}
 use Rattle.vme_stream.specs.declared.input.InFault.TheVariants as failed
-use Rattle.vme_answer.specs.Refusals.{listing_refusal}
-use Rattle.vme_answer.specs.declared.refusal.Input.TheVariants.{Listing}
-use Rattle.vme_answer.specs.declared.refusal.Refusal.TheVariants.{TooLong}
+use Rattle.vme_stream.specs.Refusals.{listing_refusal}
+use Rattle.vme_stream.specs.declared.refusal.Input.TheVariants.{Listing}
+use Rattle.vme_stream.specs.declared.refusal.Refusal.TheVariants.{TooLong}
 use Rattle.vme_confirm_command.specs.Confirmations.{GivesRows, listing_text, longest_listing}
 use Rattle.vme_dump_input.specs.BufferedInputs.{FailsAs, InputSoFar, IsReadTo}
 use Rattle.vme_confirm_command.specs.RowsOfListing.{AreCounted, GaveRows, IsSomeReading, rows_refusal}

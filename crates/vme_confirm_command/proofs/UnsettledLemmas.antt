@@ -11,10 +11,10 @@ use Rattle.vme_bind.specs.declared.fault.BindFault.{BindFault}
 use Rattle.vme_listing.specs.Listed.{Listed}
 use Rattle.vme_skew.proofs.CapturesStay.{capture-stays}
 use Rattle.vme_stream.specs.Inputs.{longest_input}
-use Rattle.vme_answer.specs.Answers.{binding_read, dump_read, or_bad_binding, or_bad_dump}
-use Rattle.vme_answer.specs.declared.refusal.Input.TheVariants.{Dump}
-use Rattle.vme_answer.specs.declared.refusal.Refusal.{Refusal}
-use Rattle.vme_answer.specs.declared.refusal.Refusal.TheVariants.{TooLong}
+use Rattle.vme_stream.specs.Answers.{binding_read, dump_read, or_bad_binding, or_bad_dump}
+use Rattle.vme_stream.specs.declared.refusal.Input.TheVariants.{Dump}
+use Rattle.vme_stream.specs.declared.refusal.Refusal.{Refusal}
+use Rattle.vme_stream.specs.declared.refusal.Refusal.TheVariants.{TooLong}
 use Rattle.vme_confirm_command.specs.Confirmations.{compared, compared_settled}
 
 -- the contents, if there are any, are those of a text

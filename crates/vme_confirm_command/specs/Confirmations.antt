@@ -17,14 +17,14 @@ use Rattle.vme_skew.specs.Settled.{settled_or}
 use Rattle.vme_cert.specs.Agreement.{DecidesListing}
 use Rattle.vme_cert.specs.declared.compare.Answer.{Answer as Confirmation}
 use Rattle.vme_cert.specs.declared.compare.Answer.TheVariants.{Yes, No}
-use Rattle.vme_answer.specs.Answers.{CommandAnswer, binding_read, dump_read, or_bad_binding, refusal_answer}
-use Rattle.vme_answer.specs.Ends.{Ends, Tells}
+use Rattle.vme_stream.specs.Answers.{CommandAnswer, binding_read, dump_read, or_bad_binding, refusal_answer}
+use Rattle.vme_stream.specs.Ends.{Ends, Tells}
 use Rattle.vme_stream.specs.Inputs.{IsReading, TellsWhole}
-use Rattle.vme_answer.specs.Refusals.{listing_refusal}
-use Rattle.vme_answer.specs.Texts.{line_of}
-use Rattle.vme_answer.specs.declared.refusal.Input.TheVariants.{Listing}
-use Rattle.vme_answer.specs.declared.refusal.Refusal.{Refusal}
-use Rattle.vme_answer.specs.declared.refusal.Refusal.TheVariants.{CannotRead, Memory, TooLong}
+use Rattle.vme_stream.specs.Refusals.{listing_refusal}
+use Rattle.vme_stream.specs.Texts.{line_of}
+use Rattle.vme_stream.specs.declared.refusal.Input.TheVariants.{Listing}
+use Rattle.vme_stream.specs.declared.refusal.Refusal.{Refusal}
+use Rattle.vme_stream.specs.declared.refusal.Refusal.TheVariants.{CannotRead, Memory, TooLong}
 
 -- how many bytes a listing has at most: more than that of any recording
 abbrev pub longest_listing : ℕ

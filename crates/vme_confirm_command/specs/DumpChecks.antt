@@ -8,7 +8,7 @@ use Rattle.vme_bind.specs.Capture.{capture_of}
 use Rattle.vme_bind.specs.declared.fault.BindFault.{BindFault}
 use Rattle.vme_listing.specs.declared.row.Row.{Row}
 use Rattle.vme_listing.specs.declared.row.Version.{Version}
-use Rattle.vme_answer.specs.declared.refusal.Refusal.{Refusal}
+use Rattle.vme_stream.specs.declared.refusal.Refusal.{Refusal}
 use Rattle.vme_skew.specs.Settled.{settled_or}
 use Rattle.vme_cert.specs.Checking.{HasDecided}
 use Rattle.vme_cert.specs.declared.compare.Answer.{Answer}

@@ -9,8 +9,8 @@ use Rattle.vme_stream.specs.Inputs.{IsReading}
 use Rattle.vme_cert.specs.Agreement.{DecidesListing, DiffersAt}
 use Rattle.vme_cert.specs.declared.compare.Answer.{Answer}
 use Rattle.vme_cert.specs.declared.compare.Answer.TheVariants.{Yes, No}
-use Rattle.vme_answer.specs.declared.refusal.Refusal.{Refusal}
-use Rattle.vme_answer.specs.declared.refusal.Refusal.TheVariants.{BadBinding}
+use Rattle.vme_stream.specs.declared.refusal.Refusal.{Refusal}
+use Rattle.vme_stream.specs.declared.refusal.Refusal.TheVariants.{BadBinding}
 use Rattle.vme_confirm_command.specs.Confirmations.{GivesRows, listing_text}
 
 -- the answer to the rows that were given, whatever is given behind them, unless no more are

@@ -10,9 +10,9 @@ use Rattle.vme_listing.specs.declared.fault.ListFault.{ListFault}
 use Rattle.vme_listing.specs.declared.row.Row.{Row}
 use Rattle.vme_listing.specs.declared.row.Version.{Version}
 use Rattle.vme_stream.specs.Inputs.{IsReading}
-use Rattle.vme_answer.specs.Refusals.{listing_refusal, refused}
-use Rattle.vme_answer.specs.declared.refusal.Input.TheVariants.{Listing}
-use Rattle.vme_answer.specs.declared.refusal.Refusal.{Refusal}
+use Rattle.vme_stream.specs.Refusals.{listing_refusal, refused}
+use Rattle.vme_stream.specs.declared.refusal.Input.TheVariants.{Listing}
+use Rattle.vme_stream.specs.declared.refusal.Refusal.{Refusal}
 use Rattle.vme_confirm_command.specs.Confirmations.{GivesRows, listing_text, longest_listing}
 use Rattle.vme_dump_input.specs.BufferedInputs.{FailsAs, InputSoFar, IsReadTo}
 use Rattle.vme_confirm_command.specs.declared.rows_fault.RowsFault.{RowsFault}

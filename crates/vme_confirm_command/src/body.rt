@@ -18,12 +18,12 @@ ghost use Rattle.vme_confirm_command.specs.StepChecks.{IsComparing};
 use crate::step_check::StepCheck;
 use std::alloc::Global;
 use vcd_read::VcdFault;
-use vme_answer::Refusal;
 use vme_bind::BindFault;
 use vme_cert::{Answer, RowSource};
 use vme_dump_input::{Begun, BufferedInput, fault_of, opening_of, refused_in_body, unread};
 use vme_listing::Version;
 use vme_step_reader::{StepReader, given_is_a_prefix, times_go_on};
+use vme_stream::Refusal;
 use vme_trace::Source;
 
 /// Takes the first of the bytes that are held, as many as are whole tokens, and gives their steps to a check. It fails

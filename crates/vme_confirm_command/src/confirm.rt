@@ -2,12 +2,12 @@
 
 ghost use Rattle.std.specs.Prelude.{◌≡◌, ◌↔◌, ℕ, suc, List, Option, Ok, Err, Result};
 ghost use Rattle.vme_listing.specs.Listed.{Listed};
-ghost use Rattle.vme_answer.specs.Answers.{binding_read, dump_read};
+ghost use Rattle.vme_stream.specs.Answers.{binding_read, dump_read};
 ghost use Rattle.vme_confirm_command.specs.Confirmations.{Confirms, ConfirmsExactly, GivesConfirmation, GivesRows};
 ghost use Rattle.vme_confirm_command.specs.Confirmations.{compared, compared_settled, confirmation_answer_by};
 ghost use Rattle.vme_confirm_command.specs.Confirmations.{confirmation_status, confirmation_text, listing_text};
-ghost use Rattle.vme_answer.specs.Ends.{Ends};
-ghost use Rattle.vme_answer.specs.Texts.{line_of};
+ghost use Rattle.vme_stream.specs.Ends.{Ends};
+ghost use Rattle.vme_stream.specs.Texts.{line_of};
 ghost use Rattle.vme_stream.specs.Inputs.{IsReading, longest_input};
 ghost use Rattle.vme_trace.specs.Streams.{Reading};
 ghost use Rattle.vme_bind.specs.Binding.{BoundLines};
@@ -17,16 +17,17 @@ ghost use Rattle.vme_listing.specs.declared.row.Version.{Version};
 ghost use Rattle.vme_dump_input.specs.DumpBeginnings.{MayBeRead, BeginsDump};
 ghost use Rattle.vme_confirm_command.specs.FoundRows.{EndsFound, FindsRows};
 ghost use Rattle.vme_confirm_command.specs.RowsOfListing.{GaveRows, IsOver};
-ghost use Rattle.vme_answer.specs.declared.refusal.Refusal.{Refusal};
+ghost use Rattle.vme_stream.specs.declared.refusal.Refusal.{Refusal};
 
 use crate::body::compare_begun;
 use crate::listing_rows::{ListingRows, listing_input};
 use std::alloc::Global;
-use vme_answer::{Refusal, binding_from, cannot_write_line, refusal_line};
 use vme_bind::{BindFault, Binding};
 use vme_cert::Answer;
 use vme_dump_input::{Begun, BufferedInput, dump_input, read_definitions};
-use vme_stream::{Message, complain, write_message};
+use vme_stream::{
+    Message, Refusal, binding_from, cannot_write_line, complain, refusal_line, write_message,
+};
 use vme_trace::{Sink, Source};
 
 /// Whether a listing is that of the recording that a binding makes of a dump, settled by a skew, in its version: writes

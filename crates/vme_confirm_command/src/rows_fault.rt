@@ -2,9 +2,8 @@
 
 ghost use Rattle.std.specs.Prelude.{◌≡◌};
 
-use vme_answer::{Input, Refusal};
 use vme_listing::ListFault;
-use vme_stream::InFault;
+use vme_stream::{InFault, Input, Refusal};
 
 /// Why no more rows of a listing come.
 #[derive(Clone, Copy)]

@@ -15,12 +15,12 @@ use Rattle.vme_bind.specs.declared.fault.BindFault.{BindFault}
 use Rattle.vme_stream.specs.Inputs.{IsReading, longest_input}
 use Rattle.vme_stream.specs.declared.input.InFault.{InFault}
 use Rattle.vme_stream.specs.declared.input.InFault.TheVariants as read
-use Rattle.vme_answer.specs.Answers.{AnswerGives, capture_by, dump_read, or_bad_binding, or_bad_dump}
-use Rattle.vme_answer.specs.Refusals.{dump_refusal, refused}
-use Rattle.vme_answer.specs.declared.refusal.Input.TheVariants.{Dump}
-use Rattle.vme_answer.specs.declared.refusal.Refusal.{Refusal}
-use Rattle.vme_answer.specs.declared.refusal.Refusal.TheVariants.{BadBinding, BadDump, Memory}
-use Rattle.vme_answer.proofs.AnswerLemmas.{too_long_is, whole_is}
+use Rattle.vme_stream.specs.Answers.{AnswerGives, capture_by, dump_read, or_bad_binding, or_bad_dump}
+use Rattle.vme_stream.specs.Refusals.{dump_refusal, refused}
+use Rattle.vme_stream.specs.declared.refusal.Input.TheVariants.{Dump}
+use Rattle.vme_stream.specs.declared.refusal.Refusal.{Refusal}
+use Rattle.vme_stream.specs.declared.refusal.Refusal.TheVariants.{BadBinding, BadDump, Memory}
+use Rattle.vme_stream.proofs.AnswerLemmas.{too_long_is, whole_is}
 use Rattle.vme_dump_input.specs.DumpBeginnings.{BeginsDump, HasFault, IsReadDump, IsDumpRefused}
 use Rattle.vme_dump_input.specs.BufferedInputs.{FailsAs, InputSoFar, IsAllOf}
 use Rattle.vme_dump_input.specs.declared.definitions.Begun.{Begun}

@@ -13,9 +13,9 @@ use Rattle.vme_bind.specs.Capture.{capture_of}
 use Rattle.vme_bind.specs.TextReading.{reading_of_text}
 use Rattle.vme_listing.specs.Reading.{IsFollowedBy}
 use Rattle.vme_stream.specs.Inputs.{IsReading}
-use Rattle.vme_answer.specs.Answers.{dump_read}
-use Rattle.vme_answer.specs.declared.refusal.Refusal.{Refusal}
-use Rattle.vme_answer.specs.declared.refusal.Refusal.TheVariants.{Memory}
+use Rattle.vme_stream.specs.Answers.{dump_read}
+use Rattle.vme_stream.specs.declared.refusal.Refusal.{Refusal}
+use Rattle.vme_stream.specs.declared.refusal.Refusal.TheVariants.{Memory}
 use Rattle.vme_step_reader.specs.StepReading.{StepReading, whole_reading}
 use Rattle.vme_dump_input.specs.BufferedInputs.{InputSoFar, IsReadTo}
 use Rattle.vme_dump_input.specs.declared.definitions.Begun.{Begun}

@@ -9,8 +9,8 @@ ghost use Rattle.vme_dump_input.specs.BodyPieces.{FailsPiece};
 use crate::buffered_input::BufferedInput;
 use crate::definitions::refused_for;
 use vcd_read::VcdFault;
-use vme_answer::Refusal;
 use vme_step_reader::{StepReader, StoppedSteps};
+use vme_stream::Refusal;
 use vme_trace::{Lines, Source};
 
 /// The fault at which a body stops.

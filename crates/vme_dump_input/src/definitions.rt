@@ -6,9 +6,9 @@ ghost use Rattle.vme_bind.specs.TextCapture.{CaptureFailsBy};
 ghost use Rattle.vme_bind.specs.TextReading.{reading_of_text};
 ghost use Rattle.vme_listing.specs.Reading.{IsFollowedBy};
 ghost use Rattle.vme_stream.specs.Inputs.{longest_input};
-ghost use Rattle.vme_answer.specs.Refusals.{refused};
-ghost use Rattle.vme_answer.specs.declared.refusal.Input.TheVariants.{Dump};
-ghost use Rattle.vme_answer.specs.declared.refusal.Refusal.TheVariants.{BadBinding};
+ghost use Rattle.vme_stream.specs.Refusals.{refused};
+ghost use Rattle.vme_stream.specs.declared.refusal.Input.TheVariants.{Dump};
+ghost use Rattle.vme_stream.specs.declared.refusal.Refusal.TheVariants.{BadBinding};
 ghost use Rattle.vme_bind.specs.declared.fault.BindFault.{BindFault};
 ghost use Rattle.vme_dump_input.specs.declared.definitions.Begun.TheVariants.{Body, Unusable};
 ghost use Rattle.vme_dump_input.specs.BufferedInputs.{IsReadTo, not_read};
@@ -20,10 +20,9 @@ use crate::buffered_input::BufferedInput;
 use crate::definitions_end::DefinitionsEnd;
 use std::alloc::{AllocError, Global};
 use vcd_read::{VcdFault, whole_tokens};
-use vme_answer::{Input, Refusal, captured_in};
 use vme_bind::{BindFault, Binding, CaptureFault};
 use vme_step_reader::{StepReader, begin_last_steps, begin_steps};
-use vme_stream::InFault;
+use vme_stream::{InFault, Input, Refusal, captured_in};
 use vme_trace::Source;
 
 /// How many bytes a dump has at most.

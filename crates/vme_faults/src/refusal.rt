@@ -5,9 +5,9 @@ ghost use Rattle.vme_faults.specs.Refusals.{binding_kind, dump_kind, kind_of, li
 
 use crate::kind::Kind;
 use vcd_read::FaultKind;
-use vme_answer::Refusal;
 use vme_bind::BindFaultKind;
 use vme_listing::ListFault;
+use vme_stream::Refusal;
 
 impl Kind {
     /// The kind of a refusal.

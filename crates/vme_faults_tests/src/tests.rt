@@ -2,10 +2,10 @@ use std::alloc::{AllocError, Global};
 use std::process::Abort;
 use std::test::Fail;
 use vcd_read::{FaultKind, Variables, VcdFault, read_definitions};
-use vme_answer::Refusal;
 use vme_bind::{BindFault, BindFaultKind};
 use vme_faults::{FileKind, Kind, NearVariable, Page, faults_text, nearest};
 use vme_listing::ListFault;
+use vme_stream::Refusal;
 
 /// What is told of a kind.
 const OF_NO_SUCH_PATH: &str =

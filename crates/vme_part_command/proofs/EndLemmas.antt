@@ -7,10 +7,10 @@ use Rattle.vme_stream.proofs.OutputLemmas.{front_is}
 use Rattle.vme_stream.specs.Inputs.{IsReading}
 use Rattle.vme_stream.specs.Outputs.{TriesToWrite}
 use Rattle.vme_listing.specs.Written.{AppendsFront}
-use Rattle.vme_answer.specs.Answers.{CommandAnswer, binding_read, dump_read}
-use Rattle.vme_answer.specs.Ends.{Ends}
-use Rattle.vme_answer.specs.Texts.{line_of}
-use Rattle.vme_answer.specs.declared.refusal.Refusal.TheVariants.{Memory}
+use Rattle.vme_stream.specs.Answers.{CommandAnswer, binding_read, dump_read}
+use Rattle.vme_stream.specs.Ends.{Ends}
+use Rattle.vme_stream.specs.Texts.{line_of}
+use Rattle.vme_stream.specs.declared.refusal.Refusal.TheVariants.{Memory}
 use Rattle.vme_part_format.specs.Tables.{PartValue}
 use Rattle.vme_part_command.specs.Answered.{Complains, ComplainsUnlessMemory, DoesOfParts, EndsUnlessMemory}
 use Rattle.vme_part_command.specs.Answered.{ListsPart, ListsRecording, no_join_answer, refusing}

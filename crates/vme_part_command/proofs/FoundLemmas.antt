@@ -14,9 +14,9 @@ use Rattle.vme_trace.specs.declared.step.Step.{Step}
 use Rattle.vme_bind.specs.Binding.{BoundLines}
 use Rattle.vme_bind.specs.Capture.{capture_of, limited}
 use Rattle.vme_bind.specs.declared.fault.BindFault.{BindFault}
-use Rattle.vme_answer.specs.Answers.{AnswerGives, dump_read, or_bad_binding}
-use Rattle.vme_answer.specs.declared.refusal.Refusal.{Refusal}
-use Rattle.vme_answer.specs.declared.refusal.Refusal.TheVariants.{BadBinding, Memory}
+use Rattle.vme_stream.specs.Answers.{AnswerGives, dump_read, or_bad_binding}
+use Rattle.vme_stream.specs.declared.refusal.Refusal.{Refusal}
+use Rattle.vme_stream.specs.declared.refusal.Refusal.TheVariants.{BadBinding, Memory}
 use Rattle.vme_part_format.specs.Tables.{SegmentValue, part_value}
 use Rattle.vme_part_format.specs.declared.part.Part.{Part}
 use Rattle.vme_part_format.proofs.SizeLaws.{part_is_small}

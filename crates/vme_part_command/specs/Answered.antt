@@ -4,10 +4,10 @@ use Rattle.std.specs.List.{last_or}
 use Rattle.std.specs.Option.{option_map_or}
 use Rattle.vme_trace.specs.Streams.{Reading, Writing}
 use Rattle.vme_stream.specs.Outputs.{TriesToWrite}
-use Rattle.vme_answer.specs.Answers.{CommandAnswer, refusal_answer}
-use Rattle.vme_answer.specs.Ends.{Ends}
-use Rattle.vme_answer.specs.Texts.{line_of, refusal_text, verdict_status, verdict_text}
-use Rattle.vme_answer.specs.declared.refusal.Refusal.TheVariants.{Memory}
+use Rattle.vme_stream.specs.Answers.{CommandAnswer, refusal_answer}
+use Rattle.vme_stream.specs.Ends.{Ends}
+use Rattle.vme_stream.specs.Texts.{line_of, refusal_text, verdict_status, verdict_text}
+use Rattle.vme_stream.specs.declared.refusal.Refusal.TheVariants.{Memory}
 use Rattle.vme_listing.specs.Listed.{Listed as Recorded}
 use Rattle.vme_listing.specs.RowText.{text_of}
 use Rattle.vme_listing.specs.declared.row.ListedVerdict.{ListedVerdict}

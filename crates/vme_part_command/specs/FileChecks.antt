@@ -5,7 +5,7 @@ use Rattle.vme_trace.specs.Trace.{Trace}
 use Rattle.vme_trace.specs.WellFormed.{capture_limit, malformed_step}
 use Rattle.vme_trace.specs.declared.step.Step.{Step}
 use Rattle.vme_bind.specs.Capture.{limited}
-use Rattle.vme_answer.specs.Answers.{AnswerGives, or_bad_binding}
+use Rattle.vme_stream.specs.Answers.{AnswerGives, or_bad_binding}
 use Rattle.vme_part_format.specs.Bounds.{FitsPart}
 use Rattle.vme_part_format.specs.Sizes.{IsCompactPart}
 use Rattle.vme_part_format.specs.Tables.{part_value}

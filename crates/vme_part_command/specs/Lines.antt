@@ -1,6 +1,6 @@
 -- The lines that are told of parts, without their line feeds.
 use Rattle.std.specs.Prelude.{ℕ, Bool, true, false, List, ◌++◌, codes, decimal}
-use Rattle.vme_answer.specs.Texts.{verdict_text}
+use Rattle.vme_stream.specs.Texts.{verdict_text}
 use Rattle.vme_part_format.specs.declared.fault.PartFault.{PartFault}
 use Rattle.vme_part_format.specs.declared.fault.PartFaultKind.{PartFaultKind}
 use Rattle.vme_part_format.specs.declared.fault.PartFaultKind.TheVariants as fault

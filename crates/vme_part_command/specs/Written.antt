@@ -8,10 +8,10 @@ use Rattle.vme_trace.specs.Trace.{Trace}
 use Rattle.vme_bind.specs.Binding.{BoundLines}
 use Rattle.vme_bind.specs.Capture.{capture_of}
 use Rattle.vme_stream.specs.Inputs.{IsReading}
-use Rattle.vme_answer.specs.Answers.{AnswerGives, CommandAnswer, binding_read, dump_read, or_bad_binding}
-use Rattle.vme_answer.specs.Ends.{Does}
-use Rattle.vme_answer.specs.Texts.{line_of, refusal_status, refusal_text}
-use Rattle.vme_answer.specs.declared.refusal.Refusal.{Refusal}
+use Rattle.vme_stream.specs.Answers.{AnswerGives, CommandAnswer, binding_read, dump_read, or_bad_binding}
+use Rattle.vme_stream.specs.Ends.{Does}
+use Rattle.vme_stream.specs.Texts.{line_of, refusal_status, refusal_text}
+use Rattle.vme_stream.specs.declared.refusal.Refusal.{Refusal}
 use Rattle.vme_part_format.specs.Bounds.{FitsPart}
 use Rattle.vme_part_format.specs.PartText.{part_bytes}
 use Rattle.vme_part_format.specs.Sizes.{IsSmall}

@@ -2,15 +2,14 @@
 
 ghost use Rattle.std.specs.Prelude.{◌≡◌, IfOk};
 ghost use Rattle.vme_stream.specs.Outputs.{TriesToWrite};
-ghost use Rattle.vme_answer.specs.Answers.{refusal_answer};
-ghost use Rattle.vme_answer.specs.Texts.{line_of};
-ghost use Rattle.vme_answer.specs.declared.refusal.Refusal.TheVariants.{Memory};
+ghost use Rattle.vme_stream.specs.Answers.{refusal_answer};
+ghost use Rattle.vme_stream.specs.Texts.{line_of};
+ghost use Rattle.vme_stream.specs.declared.refusal.Refusal.TheVariants.{Memory};
 ghost use Rattle.vme_part_command.specs.Answered.{Complains, ComplainsUnlessMemory, refusing};
 ghost use Rattle.vme_part_command.specs.Lines.{input_text};
 
 use std::alloc::{AllocError, Global};
-use vme_answer::{Refusal, refusal_line};
-use vme_stream::{Message, complain, write_all};
+use vme_stream::{Message, Refusal, complain, refusal_line, write_all};
 use vme_text::Text;
 use vme_trace::Sink;
 

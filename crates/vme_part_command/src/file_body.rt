@@ -18,10 +18,10 @@ use crate::no_part::NoPart;
 use crate::part::PartOptions;
 use std::alloc::Global;
 use vcd_read::VcdFault;
-use vme_answer::Refusal;
 use vme_dump_input::{BufferedInput, fault_of, opening_of, refused_in_body, unread};
 use vme_part_format::Part;
 use vme_step_reader::StepReader;
+use vme_stream::Refusal;
 use vme_trace::Source;
 
 /// Takes the first of the bytes that are held, as many as are whole tokens, and judges their steps. It fails for a

@@ -12,11 +12,11 @@ ghost use Rattle.vme_part_command.specs.FileChecks.{FindsOfSteps, HasTakenSteps,
 
 use crate::no_part::NoPart;
 use std::alloc::{AllocError, Global};
-use vme_answer::Refusal;
 use vme_bind::{BindFault, BindFaultKind};
 use vme_file_part::FileSoFar;
 use vme_part_format::Part;
 use vme_parts::{PartRefusal, can_write};
+use vme_stream::Refusal;
 use vme_trace::{Lines, Step};
 
 /// How many steps a recording has at most.

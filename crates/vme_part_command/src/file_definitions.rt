@@ -14,10 +14,10 @@ ghost use Rattle.vme_part_command.specs.declared.file_definitions.BegunFile.TheV
 use std::alloc::{AllocError, Global};
 use vcd_read::whole_tokens;
 use vcd_start::{Start, start_in, start_of_text};
-use vme_answer::Refusal;
 use vme_bind::{BindFault, Binding, CaptureFault};
 use vme_dump_input::{Begun, BufferedInput, DefinitionsEnd, not_begun, unread};
 use vme_step_reader::{StepReader, begin_last_steps, begin_steps};
+use vme_stream::Refusal;
 use vme_trace::Source;
 
 /// The definitions of a dump were read.

@@ -1,7 +1,7 @@
 //! One part of several.
 
 ghost use Rattle.std.specs.Prelude.{map};
-ghost use Rattle.vme_answer.specs.Ends.{Ends};
+ghost use Rattle.vme_stream.specs.Ends.{Ends};
 ghost use Rattle.vme_part_format.specs.Bounds.{FitsPart};
 ghost use Rattle.vme_part_format.specs.Tables.{part_value};
 ghost use Rattle.vme_part_command.specs.Answered.{EndsUnlessMemory, WritesJoin};
@@ -10,9 +10,8 @@ ghost use Rattle.vme_part_command.specs.Written.{written, written_part};
 use crate::complaints::no_memory;
 use crate::inputs::{NamedPart, joined, refuse_joined};
 use std::alloc::Global;
-use vme_answer::cannot_write_line;
 use vme_part_format::{Part, write_part};
-use vme_stream::{complain, write_all};
+use vme_stream::{cannot_write_line, complain, write_all};
 use vme_trace::{Sink, Source};
 
 /// Writes a text. The answer is the exit status.

@@ -16,7 +16,7 @@
 //! # What is proved
 //!
 //! What is written to standard output and to standard error, and the exit status, are exactly the
-//! answer of what is found, unless a write of it fails (`Ends` of vme_answer):
+//! answer of what is found, unless a write of it fails (`Ends` of vme_stream):
 //!
 //! - of [`write_part_of`] the text of a part of the recording that the binding makes of the dump:
 //!   for a number over 0 the levels behind the dump's first time are its opening; or the first

@@ -1,7 +1,7 @@
 //! The lines that are told of parts.
 
 ghost use Rattle.std.specs.Prelude.{◌≡◌, ◌≤◌, length};
-ghost use Rattle.vme_answer.specs.Texts.{break_text, line_of, verdict_status as status_of, verdict_text};
+ghost use Rattle.vme_stream.specs.Texts.{break_text, line_of, verdict_status as status_of, verdict_text};
 ghost use Rattle.vme_part_tables.specs.Runs.{break_of};
 ghost use Rattle.vme_parts.specs.Telling.{verdict_of};
 ghost use Rattle.vme_part_command.specs.Lines.{byte_text, fault_text, kind_text, part_text, refusing_text, told_text};

@@ -1,6 +1,6 @@
 //! Why there is no part of a file.
 
-use vme_answer::Refusal;
+use vme_stream::Refusal;
 
 /// Why there is no part of a file.
 #[derive(Clone, Copy, Debug)]

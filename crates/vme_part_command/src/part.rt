@@ -2,7 +2,7 @@
 
 ghost use Rattle.std.specs.Prelude.{ℕ, List, Ok, Option};
 ghost use Rattle.vme_stream.specs.Inputs.{IsReading};
-ghost use Rattle.vme_answer.specs.Answers.{binding_read, dump_read};
+ghost use Rattle.vme_stream.specs.Answers.{binding_read, dump_read};
 ghost use Rattle.vme_part_format.specs.Tables.{part_value};
 ghost use Rattle.vme_part_command.specs.Answered.{Complains};
 ghost use Rattle.vme_part_command.specs.Written.{FindsOfDump, FindsPart, WritesPart, dump_recording, no_part_answer};
@@ -14,11 +14,10 @@ use crate::join::put_part;
 use crate::lines::refusing_line;
 use crate::no_part::NoPart;
 use std::alloc::Global;
-use vme_answer::{Refusal, binding_from, refusal_line};
 use vme_bind::Binding;
 use vme_dump_input::dump_input;
 use vme_part_format::Part;
-use vme_stream::complain;
+use vme_stream::{Refusal, binding_from, complain, refusal_line};
 use vme_trace::{Sink, Source};
 
 /// Which file of a recording a dump is, and what its part has.

@@ -1,7 +1,7 @@
 //! What is told of the whole recording.
 
 ghost use Rattle.std.specs.Prelude.{◌≡◌, map};
-ghost use Rattle.vme_answer.specs.Ends.{Ends};
+ghost use Rattle.vme_stream.specs.Ends.{Ends};
 ghost use Rattle.vme_part_format.specs.Bounds.{FitsPart};
 ghost use Rattle.vme_part_format.specs.Tables.{part_value};
 ghost use Rattle.vme_part_command.specs.Answered.{ListsPart};
@@ -15,12 +15,11 @@ use crate::complaints::{no_memory, refuse};
 use crate::inputs::{NamedPart, joined, refuse_joined};
 use crate::lines::{part_line, refusing_line, told_line, verdict_line, verdict_status};
 use std::alloc::Global;
-use vme_answer::cannot_write_line;
 use vme_listing::{ListedVerdict, Listing, Row, write_listing};
 use vme_part_format::Part;
 use vme_part_listing::{ListingAnswer, tell_listing};
 use vme_parts::{RecordingAnswer, WideVerdict, tell_verdict};
-use vme_stream::{complain, write_message};
+use vme_stream::{cannot_write_line, complain, write_message};
 use vme_trace::{Sink, Source};
 
 /// Writes a verdict. The answer is the exit status.

@@ -3,12 +3,12 @@ use Rattle.std.proofs.Common.{◌≡◌, ◌≤◌, ◌<◌, ◌↔◌, ℕ, suc
 use Rattle.std.proofs.Common.{arith}
 use Rattle.std.specs.Prelude.{nat_lt, if◌then◌else◌, Option, Some}
 use Rattle.std.proofs.lemmas.Bool.Decides.{nat_tests}
-use Rattle.vme_answer.specs.Answers.{answer_by, answer_of, judgement_of, verdict_in_blocks}
-use Rattle.vme_answer.specs.Ends.{Tells}
-use Rattle.vme_answer.specs.declared.refusal.Refusal.{Refusal}
-use Rattle.vme_answer.specs.declared.refusal.Refusal.TheVariants as refused
-use Rattle.vme_answer.proofs.EndLemmas.{Does-exact, Does-unwritten, given_is, refusal_status-small}
-use Rattle.vme_answer.proofs.EndLemmas.{verdict_status-small}
+use Rattle.vme_stream.specs.Answers.{answer_by, answer_of, judgement_of, verdict_in_blocks}
+use Rattle.vme_stream.specs.Ends.{Tells}
+use Rattle.vme_stream.specs.declared.refusal.Refusal.{Refusal}
+use Rattle.vme_stream.specs.declared.refusal.Refusal.TheVariants as refused
+use Rattle.vme_stream.proofs.EndLemmas.{Does-exact, Does-unwritten, given_is, refusal_status-small}
+use Rattle.vme_stream.proofs.EndLemmas.{verdict_status-small}
 use Rattle.vme_floor.specs.declared.report.Report.{Report}
 use Rattle.vme_floor.specs.declared.report.RunFault.{RunFault}
 use Rattle.vme_pod_check.specs.Judgements.{ChecksByPods, Finds, IsPassing, NeedsThreads, pods_answer_by}

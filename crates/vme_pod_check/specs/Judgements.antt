@@ -1,10 +1,10 @@
 -- What workers find of a recording, and how it is told.
 use Rattle.std.specs.Prelude.{◌≡◌, ◌<◌, ℕ, [], List, codes, IfErr, Result, Ok, Err}
-use Rattle.vme_answer.specs.Answers.{CommandAnswer, AnswerGives, answer_by, judgement_of}
-use Rattle.vme_answer.specs.Ends.{Does}
-use Rattle.vme_answer.specs.Texts.{line_of, refusal_status, refusal_text}
-use Rattle.vme_answer.specs.declared.refusal.Refusal.{Refusal}
-use Rattle.vme_answer.specs.declared.refusal.Refusal.TheVariants.{Memory}
+use Rattle.vme_stream.specs.Answers.{CommandAnswer, AnswerGives, answer_by, judgement_of}
+use Rattle.vme_stream.specs.Ends.{Does}
+use Rattle.vme_stream.specs.Texts.{line_of, refusal_status, refusal_text}
+use Rattle.vme_stream.specs.declared.refusal.Refusal.{Refusal}
+use Rattle.vme_stream.specs.declared.refusal.Refusal.TheVariants.{Memory}
 use Rattle.vme_pod_check.specs.declared.unjudged.Unjudged.{Unjudged}
 use Rattle.vme_pod_check.specs.declared.unjudged.Unjudged.TheVariants.{Refused, NoWorker, Stray}
 use Rattle.vme_trace.specs.Streams.{Reading, Writing}

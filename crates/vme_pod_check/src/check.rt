@@ -1,8 +1,8 @@
 //! The check of one recording by workers.
 
 ghost use Rattle.std.specs.Prelude.{◌≡◌, ◌≤◌, ◌↔◌, ℕ, suc, List, Option, Some};
-ghost use Rattle.vme_answer.specs.Answers.{answer_of, judgement_of};
-ghost use Rattle.vme_answer.specs.Ends.{TellsExactly};
+ghost use Rattle.vme_stream.specs.Answers.{answer_of, judgement_of};
+ghost use Rattle.vme_stream.specs.Ends.{TellsExactly};
 ghost use Rattle.vme_pod_check.specs.Judgements.{ChecksByPods, Finds, NeedsThreads};
 ghost use Rattle.vme_stream.specs.Inputs.{IsReading};
 
@@ -11,8 +11,7 @@ use crate::unjudged::Unjudged;
 use std::alloc::Global;
 use std::sync::Wait;
 use std::thread::Threads;
-use vme_answer::{capture_from, tell_verdict};
-use vme_stream::complain;
+use vme_stream::{capture_from, complain, tell_verdict};
 use vme_trace::{Sink, Source, Verdict};
 
 /// Judges the recording that a binding makes of a dump by workers, and writes its verdict to `out`, or why there is

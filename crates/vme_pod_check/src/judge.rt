@@ -4,7 +4,7 @@ ghost use Rattle.std.specs.Prelude.{◌≡◌, ◌<◌, ◌≤◌, IfErr, IfOk, 
 ghost use Rattle.vme_trace.specs.Trace.{Trace};
 ghost use Rattle.vme_trace.specs.Verdict.{rules_in_force, verdict_by};
 ghost use Rattle.vme_summary.specs.Joins.{BlocksJoin, joined_trace};
-ghost use Rattle.vme_answer.specs.Answers.{verdict_in_blocks};
+ghost use Rattle.vme_stream.specs.Answers.{verdict_in_blocks};
 ghost use Rattle.vme_pod_check.specs.Deliveries.{AreTakenFrom};
 ghost use Rattle.vme_pod_check.specs.Judgements.{Finds, IsPassing, NeedsThreads};
 ghost use Rattle.vme_pod_check.specs.Outcomes.{MayCome};
@@ -15,8 +15,8 @@ use crate::unjudged::Unjudged;
 use std::alloc::Global;
 use std::sync::Wait;
 use std::thread::Threads;
-use vme_answer::Refusal;
 use vme_floor::{Open, Report, RunFault, run};
+use vme_stream::Refusal;
 use vme_trace::{Block, Capture, CutFault, Verdict};
 
 /// How the recording is delivered.

@@ -1,11 +1,10 @@
 //! Why a recording is not judged by workers.
 
 ghost use Rattle.std.specs.Prelude.{◌≡◌};
-ghost use Rattle.vme_answer.specs.Texts.{line_of};
+ghost use Rattle.vme_stream.specs.Texts.{line_of};
 ghost use Rattle.vme_pod_check.specs.Judgements.{unjudged_status, unjudged_text};
 
-use vme_answer::{Refusal, refusal_line};
-use vme_stream::Message;
+use vme_stream::{Message, Refusal, refusal_line};
 
 /// Why a recording is not judged by workers.
 #[derive(Clone, Copy, Debug, PartialEq, Eq)]

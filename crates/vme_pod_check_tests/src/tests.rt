@@ -6,13 +6,12 @@ ghost use Rattle.vme_board.specs.Benches.{IsOf};
 use std::alloc::Global;
 use std::sync::Wait;
 use std::thread::{Threads, join};
-use vme_answer::{Refusal, binding_in, captured_in};
 use vme_board::{Bench, Board};
 use vme_book::{Book, Whole};
 use vme_pod_check::{
     Plan, PodsOrder, Unjudged, check_by_pods, deliveries_of, order_of, verdict_by_pods,
 };
-use vme_stream::Bytes;
+use vme_stream::{Bytes, Refusal, binding_in, captured_in};
 use vme_summary::Judged;
 use vme_trace::{Block, Capture, Failed, Sink, Verdict};
 

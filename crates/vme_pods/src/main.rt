@@ -18,8 +18,8 @@
 #![tactic(auto)]
 
 ghost use Rattle.std.specs.Prelude.{◌≡◌, ◌≤◌, IfErr, IfOk, IfSome};
-ghost use Rattle.vme_answer.specs.Texts.{refusal_status};
-ghost use Rattle.vme_answer.specs.declared.refusal.Refusal.TheVariants.{CannotOpen};
+ghost use Rattle.vme_stream.specs.Texts.{refusal_status};
+ghost use Rattle.vme_stream.specs.declared.refusal.Refusal.TheVariants.{CannotOpen};
 
 use clap::error::ErrorKind;
 use std::fs::{self, File};
@@ -27,9 +27,8 @@ use std::process::ExitCode;
 use std::sync::Wait;
 use std::thread::Threads;
 use std::{env, io};
-use vme_answer::{Input, Refusal, refusal_line};
 use vme_pod_check::{PodsOrder, check_by_pods, no_text, order_of};
-use vme_stream::{Io, complain};
+use vme_stream::{Input, Io, Refusal, complain, refusal_line};
 
 fn main(rt: HostRuntime) -> ExitCode {
     ExitCode::from(work(&rt, &rt))

@@ -2,11 +2,11 @@
 use Rattle.std.proofs.Common.{◌≡◌, ℕ, refl}
 use Rattle.std.proofs.KnownBytes.{Appends-nil}
 use Rattle.vme_trace.specs.Streams.{Writing}
-use Rattle.vme_answer.specs.Answers.{refusal_answer}
-use Rattle.vme_answer.specs.Ends.{Tells}
-use Rattle.vme_answer.specs.Texts.{line_of, refusal_text}
-use Rattle.vme_answer.specs.declared.refusal.Input.{Input}
-use Rattle.vme_answer.specs.declared.refusal.Refusal.TheVariants.{CannotOpen}
+use Rattle.vme_stream.specs.Answers.{refusal_answer}
+use Rattle.vme_stream.specs.Ends.{Tells}
+use Rattle.vme_stream.specs.Texts.{line_of, refusal_text}
+use Rattle.vme_stream.specs.declared.refusal.Input.{Input}
+use Rattle.vme_stream.specs.declared.refusal.Refusal.TheVariants.{CannotOpen}
 use Rattle.vme_stream.specs.Outputs.{TriesToWrite}
 
 pub tells_refused : (input : Input) (out : Writing) (err : Writing × Writing) (status : ℕ)

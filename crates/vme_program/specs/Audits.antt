@@ -3,11 +3,11 @@ use Rattle.std.specs.Prelude.{◌≡◌, ◌≢◌, ◌⊎◌, ◌==◌, ℕ, if
 use Rattle.std.specs.Prelude.{take, Option, None, Some, IfSome, MatchOption, option_map, slice_get, string_bytes}
 use Rattle.std.specs.List.{AllZip}
 use Rattle.vme_trace.specs.Streams.{Reading, Writing}
-use Rattle.vme_answer.specs.Answers.{refusal_answer}
-use Rattle.vme_answer.specs.Ends.{Tells}
-use Rattle.vme_answer.specs.Texts.{line_of, refusal_text}
-use Rattle.vme_answer.specs.declared.refusal.Input.TheVariants.{Binding}
-use Rattle.vme_answer.specs.declared.refusal.Refusal.TheVariants.{CannotOpen, Memory}
+use Rattle.vme_stream.specs.Answers.{refusal_answer}
+use Rattle.vme_stream.specs.Ends.{Tells}
+use Rattle.vme_stream.specs.Texts.{line_of, refusal_text}
+use Rattle.vme_stream.specs.declared.refusal.Input.TheVariants.{Binding}
+use Rattle.vme_stream.specs.declared.refusal.Refusal.TheVariants.{CannotOpen, Memory}
 use Rattle.vme_audit.specs.declared.allowance.Allowance.{Allowance}
 use Rattle.vme_audit_command.specs.Audits.{RefusesBinding}
 use Rattle.vme_audit_command.specs.DumpAnswers.{AuditOptions}

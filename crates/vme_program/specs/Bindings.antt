@@ -1,7 +1,7 @@
 -- What a binding is written for.
 use Rattle.std.specs.Prelude.{◌≡◌, ℕ, List, Option, option_map, string_bytes}
 use Rattle.vme_trace.specs.Streams.{Reading, Writing}
-use Rattle.vme_answer.specs.declared.refusal.Input.TheVariants.{Dump}
+use Rattle.vme_stream.specs.declared.refusal.Input.TheVariants.{Dump}
 use Rattle.vme_text_commands.specs.TextAnswers.{TellsBinding}
 use Rattle.vme_words.specs.declared.order.BindOrder.{BindOrder}
 use Rattle.vme_program.specs.Openings.{WithInput}

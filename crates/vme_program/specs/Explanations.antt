@@ -2,11 +2,11 @@
 use Rattle.std.specs.Prelude.{◌≡◌, ◌⊎◌, ◌||◌, ℕ, Bool, true, false, List, [], Option, None, Some, MatchOption, is_some}
 use Rattle.std.specs.Prelude.{bytes_eq, option_map, string_bytes}
 use Rattle.vme_trace.specs.Streams.{Reading, Writing}
-use Rattle.vme_answer.specs.Answers.{refusal_answer}
-use Rattle.vme_answer.specs.Ends.{Tells}
-use Rattle.vme_answer.specs.declared.refusal.Input.{Input}
-use Rattle.vme_answer.specs.declared.refusal.Input.TheVariants.{Binding, Dump}
-use Rattle.vme_answer.specs.declared.refusal.Refusal.TheVariants.{CannotOpen}
+use Rattle.vme_stream.specs.Answers.{refusal_answer}
+use Rattle.vme_stream.specs.Ends.{Tells}
+use Rattle.vme_stream.specs.declared.refusal.Input.{Input}
+use Rattle.vme_stream.specs.declared.refusal.Input.TheVariants.{Binding, Dump}
+use Rattle.vme_stream.specs.declared.refusal.Refusal.TheVariants.{CannotOpen}
 use Rattle.vme_text_commands.specs.Explained.{Explains}
 use Rattle.vme_explain.specs.Saving.{is_one_file}
 use Rattle.vme_explain.specs.declared.saving.FileId.{FileId}

@@ -1,11 +1,11 @@
 -- Which files are opened for an order, and what is done with them.
 use Rattle.std.specs.Prelude.{◌⊎◌, ℕ, List, Option, None, Some, string_bytes}
 use Rattle.vme_trace.specs.Streams.{Reading, Writing}
-use Rattle.vme_answer.specs.Answers.{refusal_answer}
-use Rattle.vme_answer.specs.Ends.{Tells}
-use Rattle.vme_answer.specs.declared.refusal.Input.{Input}
-use Rattle.vme_answer.specs.declared.refusal.Input.TheVariants.{Binding, Dump, Listing}
-use Rattle.vme_answer.specs.declared.refusal.Refusal.TheVariants.{CannotOpen}
+use Rattle.vme_stream.specs.Answers.{refusal_answer}
+use Rattle.vme_stream.specs.Ends.{Tells}
+use Rattle.vme_stream.specs.declared.refusal.Input.{Input}
+use Rattle.vme_stream.specs.declared.refusal.Input.TheVariants.{Binding, Dump, Listing}
+use Rattle.vme_stream.specs.declared.refusal.Refusal.TheVariants.{CannotOpen}
 use Rattle.vme_words.specs.declared.order.RecordingFiles.{RecordingFiles}
 
 -- what a command does with an input that was opened: a relation of its states before and after, of those of standard

@@ -1,7 +1,7 @@
 -- What the commands do with the recording that an order names.
 use Rattle.std.specs.Prelude.{ℕ, Bool, true, false, List, Option, string_bytes}
 use Rattle.vme_trace.specs.Streams.{Reading, Writing}
-use Rattle.vme_answer.specs.declared.refusal.Input.TheVariants.{Listing}
+use Rattle.vme_stream.specs.declared.refusal.Input.TheVariants.{Listing}
 use Rattle.vme_confirm_command.specs.Confirmations.{Confirms}
 use Rattle.vme_commands.specs.Listings.{WritesListing}
 use Rattle.vme_commands.specs.Settled.{ChecksSettled}

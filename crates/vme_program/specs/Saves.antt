@@ -1,8 +1,8 @@
 -- How a file is written at a path, over no input and over nothing that the program didn't write.
 use Rattle.std.specs.Prelude.{◌≡◌, ◌⊎◌, ℕ, List, Option, None, Some}
 use Rattle.vme_trace.specs.Streams.{Writing}
-use Rattle.vme_answer.specs.Texts.{cannot_write_text, line_of, refusal_text}
-use Rattle.vme_answer.specs.declared.refusal.Refusal.TheVariants.{Memory}
+use Rattle.vme_stream.specs.Texts.{cannot_write_text, line_of, refusal_text}
+use Rattle.vme_stream.specs.declared.refusal.Refusal.TheVariants.{Memory}
 use Rattle.vme_explain.specs.Saving.{save_refusal}
 use Rattle.vme_explain.specs.declared.saving.PathEntry.{PathEntry}
 use Rattle.vme_explain.specs.declared.saving.SaveRefusal.{SaveRefusal}

@@ -3,9 +3,9 @@ use Rattle.std.specs.Prelude.{◌≡◌, ℕ, List, Option, None, Result, MatchO
 use Rattle.vme_trace.specs.Names.{rule_named}
 use Rattle.vme_trace.specs.Streams.{Reading, Writing}
 use Rattle.vme_trace.specs.declared.rule.Rule.{Rule}
-use Rattle.vme_answer.specs.Ends.{Ends}
-use Rattle.vme_answer.specs.declared.refusal.Input.TheVariants.{Dump}
-use Rattle.vme_answer.specs.declared.refusal.Refusal.{Refusal}
+use Rattle.vme_stream.specs.Ends.{Ends}
+use Rattle.vme_stream.specs.declared.refusal.Input.TheVariants.{Dump}
+use Rattle.vme_stream.specs.declared.refusal.Refusal.{Refusal}
 use Rattle.vme_text_commands.specs.TextAnswers.{ArePages, IsText, TellsVariables, text_answer_by}
 use Rattle.vme_faults.specs.Kinds.{kind_named}
 use Rattle.vme_faults.specs.declared.kind.Kind.{Kind}

@@ -5,8 +5,8 @@ ghost use Rattle.vme_program.specs.Recordings.{ConfirmsFiles, ConfirmsListing};
 use crate::environment::Environment;
 use crate::opening::{open_recording, refuse_input};
 use std::alloc::Global;
-use vme_answer::Input;
 use vme_confirm_command::confirm::confirm_with;
+use vme_stream::Input;
 use vme_trace::{Sink, Source};
 use vme_words::ConfirmOrder;
 

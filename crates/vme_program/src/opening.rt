@@ -1,14 +1,13 @@
 //! The files that an order names, opened, and what is said of one that can't be.
 
 ghost use Rattle.std.specs.Prelude.{◌≡◌, IfErr, IfOk, Some, string_bytes};
-ghost use Rattle.vme_answer.specs.Texts.{line_of, refusal_status, refusal_text};
-ghost use Rattle.vme_answer.specs.declared.refusal.Refusal.TheVariants.{CannotOpen};
+ghost use Rattle.vme_stream.specs.Texts.{line_of, refusal_status, refusal_text};
+ghost use Rattle.vme_stream.specs.declared.refusal.Refusal.TheVariants.{CannotOpen};
 ghost use Rattle.vme_stream.specs.Outputs.{TriesToWrite};
 ghost use Rattle.vme_program.specs.Openings.{IsFirstUnopenedInput};
 
 use crate::environment::Environment;
-use vme_answer::{Input, Refusal, refusal_line};
-use vme_stream::complain;
+use vme_stream::{Input, Refusal, complain, refusal_line};
 use vme_trace::Sink;
 use vme_words::RecordingFiles;
 

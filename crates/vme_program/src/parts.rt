@@ -9,10 +9,10 @@ use crate::audit::refuse_file;
 use crate::environment::Environment;
 use crate::opening::{open_recording, refuse, refuse_input};
 use std::alloc::{AllocFailed, Global};
-use vme_answer::Refusal;
 use vme_part_command::{
     NamedPart, PartOptions, list_whole, tell_whole, write_joined, write_part_of,
 };
+use vme_stream::Refusal;
 use vme_trace::{Sink, Source};
 use vme_words::{JoinOrder, PartOrder, TellOrder};
 

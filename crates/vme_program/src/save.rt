@@ -6,9 +6,8 @@ ghost use Rattle.vme_stream.specs.Outputs.{TriesToWrite};
 use crate::environment::{Environment, WriteResult};
 use crate::opening::refuse;
 use std::alloc::Global;
-use vme_answer::{Refusal, cannot_write_line};
 use vme_explain::{FileId, SaveRefusal, save_refusal, save_refusal_text};
-use vme_stream::{complain, write_all};
+use vme_stream::{Refusal, cannot_write_line, complain, write_all};
 use vme_trace::Sink;
 
 /// The files of the inputs.

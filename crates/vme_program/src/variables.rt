@@ -5,7 +5,7 @@ ghost use Rattle.vme_program.specs.Texts.{TellsFile};
 use crate::environment::Environment;
 use crate::opening::refuse_input;
 use std::alloc::Global;
-use vme_answer::Input;
+use vme_stream::Input;
 use vme_text_commands::tell_variables;
 use vme_trace::Sink;
 use vme_words::VariablesOrder;

@@ -1,3 +1,5 @@
+pub mod AnswerLemmas
+pub mod EndLemmas
 pub mod InputLemmas
 pub mod IntakeLemmas
 pub mod MessageLemmas

@@ -1,4 +1,8 @@
+pub mod Answers
+pub mod ByteConsumers
+pub mod Ends
 pub mod InFaults
 pub mod Inputs
-pub mod ByteConsumers
 pub mod Outputs
+pub mod Refusals
+pub mod Texts

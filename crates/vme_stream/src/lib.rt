@@ -1,5 +1,6 @@
-//! Bytes in and out: what is read to its end, what is written whole, and lines of text made without
-//! memory.
+//! What a command reads and what it answers. Bytes come in and go out: what is read to its end, what
+//! is written whole, and lines of text made without memory. Inputs make a recording, or there is a
+//! reason that there is none; the verdict on it has a line and an exit status.
 //!
 //! # Parts
 //!
@@ -10,6 +11,11 @@
 //!   slice.
 //! - `message`: a line of text that takes no memory.
 //! - `count`: a count that proofs alone read.
+//! - `recording`: [`capture_from`] reads a binding and a dump and makes their recording; parts of
+//!   it for callers that have one of the two.
+//! - `refusal`: [`Refusal`] is the first reason that there is no recording, with its status.
+//! - `verdict`: [`verdict_on`], and [`tell_verdict`], which writes the verdict's line.
+//! - `text`: the lines.
 //!
 //! # What is proved
 //!
@@ -20,17 +26,23 @@
 //! - [`write_all`] writes all of some bytes, or after a failure the first of them.
 //! - [`Io`] exposes the bytes of its reader or writer, how many reads gave bytes and how many calls
 //!   failed.
+//! - [`capture_from`] gives exactly the recording that binding and dump make by the bytes of these
+//!   inputs, or the first reason that there is none. [`verdict_on`] gives its verdict for every
+//!   size of block from 1 to 65,536. The lines and statuses are exactly those of `specs/Texts`.
+//!   [`tell_verdict`] writes just that line, or answers that it can't be written.
 //!
 //! # What isn't proved
 //!
 //! What a real file or pipe does: `./test` runs the program with full devices, closed outputs and
-//! pipes that nobody reads. That memory suffices.
+//! pipes that nobody reads. That memory suffices: lack of memory is a refusal of its own, with
+//! status 4.
 //!
 //! # Limits
 //!
 //! An input has at most 268,435,456 bytes, and is read in fewer than 16,777,216 reads. A call that
-//! a signal interrupts is tried at most 1,000,000 times. A message has at most 128 bytes. Start
-//! reading at `specs/Inputs` and `specs/Outputs`.
+//! a signal interrupts is tried at most 1,000,000 times. A message has at most 128 bytes. A
+//! recording has the limits of vme_trace. Start reading at `specs/Inputs` and `specs/Outputs`;
+//! `specs/Answers` says what is answered, and `specs/Ends` how a command ends.
 #![tactic(auto)]
 
 mod byte_consumer;
@@ -39,9 +51,17 @@ mod input;
 mod io;
 mod message;
 mod output;
+mod recording;
+mod refusal;
+mod text;
+mod verdict;
 
 pub use byte_consumer::{ByteConsumer, read_by};
 pub use input::{InFault, read_all};
 pub use io::{Bytes, Io};
 pub use message::Message;
 pub use output::{complain, write_all, write_message};
+pub use recording::{binding_from, binding_in, capture_from, captured_in, recorded_from};
+pub use refusal::{Input, Refusal};
+pub use text::{cannot_write_line, refusal_line, verdict_line, verdict_status};
+pub use verdict::{tell_verdict, verdict_on};

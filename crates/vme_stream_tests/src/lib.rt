@@ -1,11 +1,19 @@
-//! Tests of vme_stream: bytes that are read to their end and written whole, and readers and writers
-//! that fail.
+//! Tests of vme_stream: what is read and written, and what is answered.
 //!
-//! A text is read in pieces of several sizes, by a reader that is interrupted or fails after each
-//! byte, and written to sinks with room for each count of its bytes; what came and what went out
-//! are compared with the text. Not tried here: real files, and inputs that are too long, which
-//! vme_commands_tests has.
+//! - `tests`: bytes that are read to their end and written whole, and readers and writers that
+//!   fail. A text is read in pieces of several sizes, by a reader that is interrupted or fails after
+//!   each byte, and written to sinks with room for each count of its bytes; what came and what went
+//!   out are compared with the text.
+//! - `answer_tests`: recordings whose verdicts are worked out by hand, and proved of the definitions
+//!   as worked recordings of vme_eval. Each verdict is compared with the line that stands beside the
+//!   dump, in blocks of several sizes and by each way to a recording. A verdict that can't be
+//!   written, the first of several reasons, and the lines of refusals are tried too.
+//!
+//! Not tried here: real files and the command line, and inputs that are too long. These are tried
+//! in vme_commands_tests and by `./test`.
 #![tactic(auto)]
 
+#[cfg(test)]
+mod answer_tests;
 #[cfg(test)]
 mod tests;

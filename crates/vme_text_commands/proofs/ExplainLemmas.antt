@@ -14,21 +14,21 @@ use Rattle.vme_account.specs.Accounts.{IsAccountOf}
 use Rattle.vme_account.specs.declared.account.Account.{Account}
 use Rattle.vme_bind.specs.declared.fault.BindFault.{BindFault}
 use Rattle.vme_trace.specs.Trace.{Trace}
-use Rattle.vme_answer.specs.Refusals.{judging_refusal}
+use Rattle.vme_stream.specs.Refusals.{judging_refusal}
 use Rattle.vme_summary.specs.declared.stream_judge.NoVerdict.TheVariants as no_verdict
 use Rattle.vme_trace.specs.Verdict.{verdict}
 use Rattle.vme_trace.specs.WellFormed.{capture_limit}
 use Rattle.vme_trace.specs.declared.verdict.Verdict.{Verdict}
 use Rattle.vme_text_commands.specs.declared.explain.Explained.{Explained}
-use Rattle.vme_answer.specs.declared.refusal.Refusal.{Refusal}
-use Rattle.vme_answer.specs.declared.refusal.Refusal.TheVariants.{Memory, TooManyBlocks}
-use Rattle.vme_answer.specs.Answers.{AnswerGives, binding_read, capture_by, dump_read, or_bad_binding, recording_by}
-use Rattle.vme_answer.specs.Answers.{verdict_in_blocks}
+use Rattle.vme_stream.specs.declared.refusal.Refusal.{Refusal}
+use Rattle.vme_stream.specs.declared.refusal.Refusal.TheVariants.{Memory, TooManyBlocks}
+use Rattle.vme_stream.specs.Answers.{AnswerGives, binding_read, capture_by, dump_read, or_bad_binding, recording_by}
+use Rattle.vme_stream.specs.Answers.{verdict_in_blocks}
 use Rattle.vme_text_commands.specs.Explained.{judged_by}
 use Rattle.vme_text_commands.specs.ExplainedDumps.{GivesAccount, or_too_long}
 use Rattle.vme_commands.specs.Settled.{settled_judgement, settled_read}
 use Rattle.vme_skew.specs.Settled.{settled, settled_or}
-use Rattle.vme_answer.proofs.AnswerLemmas.{capture_read-bound, capture_read-refused, passes_through}
+use Rattle.vme_stream.proofs.AnswerLemmas.{capture_read-bound, capture_read-refused, passes_through}
 use Rattle.vme_commands.proofs.SettledLemmas.{judgement-refused, read-refused, settled-fits, settled-refused}
 use Rattle.vme_commands.proofs.SettledLemmas.{settled-short}
 

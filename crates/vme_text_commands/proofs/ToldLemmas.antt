@@ -7,11 +7,11 @@ use Rattle.vcd_read.specs.declared.dump.Variable.{Variable}
 use Rattle.vcd_read.specs.declared.fault.FaultKind.{FaultKind}
 use Rattle.vcd_read.specs.declared.fault.FaultKind.TheVariants.{Memory as Want}
 use Rattle.vcd_read.specs.declared.fault.VcdFault.{VcdFault}
-use Rattle.vme_answer.proofs.AnswerLemmas.{capture_by-recorded, text_recorded-ok}
-use Rattle.vme_answer.specs.Answers.{AnswerGives, or_bad_dump}
-use Rattle.vme_answer.specs.Refusals.{dump_refusal}
-use Rattle.vme_answer.specs.declared.refusal.Refusal.{Refusal}
-use Rattle.vme_answer.specs.declared.refusal.Refusal.TheVariants.{Memory}
+use Rattle.vme_stream.proofs.AnswerLemmas.{capture_by-recorded, text_recorded-ok}
+use Rattle.vme_stream.specs.Answers.{AnswerGives, or_bad_dump}
+use Rattle.vme_stream.specs.Refusals.{dump_refusal}
+use Rattle.vme_stream.specs.declared.refusal.Refusal.{Refusal}
+use Rattle.vme_stream.specs.declared.refusal.Refusal.TheVariants.{Memory}
 use Rattle.vme_bind.specs.Binding.{BoundLines, binding_of}
 use Rattle.vme_bind.specs.declared.fault.BindFault.{BindFault}
 use Rattle.vme_text_commands.specs.TextAnswers.{BindsDump, IsBindingFor, IsTextOf, ScopeIs}

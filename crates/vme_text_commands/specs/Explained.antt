@@ -6,13 +6,13 @@ use Rattle.vme_bind.specs.Binding.{BoundLines}
 use Rattle.vme_trace.specs.Streams.{Reading, Writing}
 use Rattle.vme_trace.specs.declared.verdict.Verdict.{Verdict}
 use Rattle.vme_text_commands.specs.declared.explain.Explained.{Explained}
-use Rattle.vme_answer.specs.declared.refusal.Refusal.{Refusal}
-use Rattle.vme_answer.specs.Answers.{CommandAnswer, AnswerGives, capture_by}
-use Rattle.vme_answer.specs.Answers.{verdict_in_blocks}
-use Rattle.vme_answer.specs.Ends.{Ends}
+use Rattle.vme_stream.specs.declared.refusal.Refusal.{Refusal}
+use Rattle.vme_stream.specs.Answers.{CommandAnswer, AnswerGives, capture_by}
+use Rattle.vme_stream.specs.Answers.{verdict_in_blocks}
+use Rattle.vme_stream.specs.Ends.{Ends}
 use Rattle.vme_picture.specs.Pictures.{IsPicture}
 use Rattle.vme_stream.specs.Inputs.{IsReading}
-use Rattle.vme_answer.specs.Texts.{line_of, verdict_status, verdict_text}
+use Rattle.vme_stream.specs.Texts.{line_of, verdict_status, verdict_text}
 use Rattle.vme_commands.specs.Settled.{settled_judgement}
 use Rattle.vme_skew.specs.Settled.{settled_or}
 use Rattle.vme_text_commands.specs.Refused.{MayHaveMore, refusal_with}

@@ -3,8 +3,8 @@ use Rattle.std.specs.Prelude.{◌≡◌, ◌≤◌, length, Result, Ok, Err}
 use Rattle.vcd_read.specs.Header.{◌>>=◌}
 use Rattle.vme_account.specs.Accounts.{IsAccountOf}
 use Rattle.vme_account.specs.declared.account.Account.{Account}
-use Rattle.vme_answer.specs.Answers.{AnswerGives, or_bad_binding, verdict_in_blocks}
-use Rattle.vme_answer.specs.declared.refusal.Refusal.{Refusal}
+use Rattle.vme_stream.specs.Answers.{AnswerGives, or_bad_binding, verdict_in_blocks}
+use Rattle.vme_stream.specs.declared.refusal.Refusal.{Refusal}
 use Rattle.vme_bind.specs.Capture.{limited}
 use Rattle.vme_trace.specs.Trace.{Trace}
 use Rattle.vme_trace.specs.declared.verdict.Verdict.{Verdict}

@@ -1,8 +1,8 @@
 -- A refusal, with what is told behind its line.
 use Rattle.std.specs.Prelude.{◌≡◌, ◌⊎◌, ◌++◌, ℕ, List, [], Result, IfErr}
-use Rattle.vme_answer.specs.Answers.{CommandAnswer}
-use Rattle.vme_answer.specs.Texts.{line_of, refusal_status, refusal_text}
-use Rattle.vme_answer.specs.declared.refusal.Refusal.{Refusal}
+use Rattle.vme_stream.specs.Answers.{CommandAnswer}
+use Rattle.vme_stream.specs.Texts.{line_of, refusal_status, refusal_text}
+use Rattle.vme_stream.specs.declared.refusal.Refusal.{Refusal}
 use Rattle.vme_faults.specs.Pages.{page_text}
 use Rattle.vme_faults.specs.Refusals.{kind_of}
 

@@ -7,11 +7,11 @@ use Rattle.vme_declarations.specs.Scopes.{has_scope}
 use Rattle.vme_find.specs.declared.writing.FoundBinding.{FoundBinding}
 use Rattle.vme_trace.specs.Streams.{Reading, Writing}
 use Rattle.vme_trace.specs.Trace.{Trace}
-use Rattle.vme_answer.specs.Answers.{CommandAnswer, capture_by, dump_read, refusal_answer}
-use Rattle.vme_answer.specs.Ends.{Ends}
-use Rattle.vme_answer.specs.Texts.{line_of, refusal_status, refusal_text}
-use Rattle.vme_answer.specs.declared.refusal.Refusal.{Refusal}
-use Rattle.vme_answer.specs.declared.refusal.Refusal.TheVariants.{Memory}
+use Rattle.vme_stream.specs.Answers.{CommandAnswer, capture_by, dump_read, refusal_answer}
+use Rattle.vme_stream.specs.Ends.{Ends}
+use Rattle.vme_stream.specs.Texts.{line_of, refusal_status, refusal_text}
+use Rattle.vme_stream.specs.declared.refusal.Refusal.{Refusal}
+use Rattle.vme_stream.specs.declared.refusal.Refusal.TheVariants.{Memory}
 use Rattle.vme_text_commands.specs.declared.bind.NoBinding.{NoBinding}
 use Rattle.vme_text_commands.specs.declared.bind.NoBinding.TheVariants.{Refused, NoSuchScope}
 use Rattle.vme_text_commands.specs.Refused.{IsMore, MayHaveMore, refusal_with}

@@ -2,15 +2,15 @@
 
 ghost use Rattle.std.specs.Prelude.{◌≡◌, ℕ, List, Option, Result};
 ghost use Rattle.vcd_read.specs.Meaning.{dump_of};
-ghost use Rattle.vme_answer.specs.Answers.{dump_read, or_bad_dump};
-ghost use Rattle.vme_answer.specs.Ends.{Ends};
-ghost use Rattle.vme_answer.specs.Texts.{line_of};
+ghost use Rattle.vme_stream.specs.Answers.{dump_read, or_bad_dump};
+ghost use Rattle.vme_stream.specs.Ends.{Ends};
+ghost use Rattle.vme_stream.specs.Texts.{line_of};
 ghost use Rattle.vme_stream.specs.Inputs.{IsReading};
 ghost use Rattle.vme_stream.specs.Outputs.{TriesToWrite};
 ghost use Rattle.vme_text_commands.specs.TextAnswers.{IsBindingFor, IsMoreOfMissing, TellsBinding, TellsMore};
 ghost use Rattle.vme_text_commands.specs.TextAnswers.{binding_answer, found_answer, missing_status, missing_text};
 ghost use Rattle.vme_text_commands.specs.TextAnswers.{no_scope_text};
-ghost use Rattle.vme_answer.specs.Refusals.{dump_refusal};
+ghost use Rattle.vme_stream.specs.Refusals.{dump_refusal};
 ghost use Rattle.vme_declarations.specs.SurveyStages.{survey_ahead};
 ghost use Rattle.vme_declarations.specs.Surveys.{IsSurveyOf, survey_of};
 ghost use Rattle.vme_text_commands.specs.declared.bind.NoBinding.TheVariants.{Refused};
@@ -22,10 +22,9 @@ use crate::surveyed_input::SurveyedInput;
 use crate::telling::say;
 use std::alloc::Global;
 use vcd_read::VcdFault;
-use vme_answer::{Input, Refusal, cannot_write_line};
 use vme_declarations::{SurveyedDump, surveys_are_of_dumps};
 use vme_find::{FindFault, FoundBinding, write_binding};
-use vme_stream::{Message, complain, read_by, write_all};
+use vme_stream::{Input, Message, Refusal, cannot_write_line, complain, read_by, write_all};
 use vme_text::Text;
 use vme_trace::{Sink, Source};
 

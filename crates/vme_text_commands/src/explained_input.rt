@@ -2,7 +2,7 @@
 
 ghost use Rattle.std.specs.Prelude.{◌≡◌, ◌≤◌, ℕ, List, Option, None, IfOk, length, take};
 ghost use Rattle.vcd_read.specs.Meaning.{dump_of};
-ghost use Rattle.vme_answer.specs.Answers.{AnswerGives, dump_read, or_bad_dump, recording_by};
+ghost use Rattle.vme_stream.specs.Answers.{AnswerGives, dump_read, or_bad_dump, recording_by};
 ghost use Rattle.vme_bind.specs.Binding.{BoundLines};
 ghost use Rattle.vme_bind.specs.TextCapture.{recording_of_text};
 ghost use Rattle.vme_commands.specs.DumpJudge.{ahead_of};
@@ -13,10 +13,9 @@ ghost use Rattle.vme_trace.specs.WellFormed.{malformed_step};
 use crate::seen_dump::SeenDump;
 use std::alloc::{AllocError, Global};
 use vcd_read::{FaultKind, Variables, read_definitions};
-use vme_answer::{Input, Refusal};
 use vme_bind::{Binding, CaptureFault};
 use vme_commands::OrderedDump;
-use vme_stream::{ByteConsumer, read_by};
+use vme_stream::{ByteConsumer, Input, Refusal, read_by};
 use vme_text::Text;
 use vme_trace::{Source, StepVisitor};
 use vme_variables::{time_scale, time_unit};

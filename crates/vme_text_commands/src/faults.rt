@@ -1,14 +1,14 @@
 //! What the refusals of inputs mean.
 
 ghost use Rattle.std.specs.Prelude.{ℕ, List, Result};
-ghost use Rattle.vme_answer.specs.Ends.{Ends};
+ghost use Rattle.vme_stream.specs.Ends.{Ends};
 ghost use Rattle.vme_text_commands.specs.TextAnswers.{ArePages, text_answer_by};
-ghost use Rattle.vme_answer.specs.declared.refusal.Refusal.{Refusal};
+ghost use Rattle.vme_stream.specs.declared.refusal.Refusal.{Refusal};
 
 use crate::telling::tell_text;
 use std::alloc::Global;
-use vme_answer::Refusal;
 use vme_faults::{Kind, faults_text};
+use vme_stream::Refusal;
 use vme_text::Text;
 use vme_trace::Sink;
 

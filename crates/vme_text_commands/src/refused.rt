@@ -2,7 +2,7 @@
 //! file the input is where another was expected, and the page of the refusal's kind.
 
 ghost use Rattle.std.specs.Prelude.{◌++◌, IfOk, List, ℕ};
-ghost use Rattle.vme_answer.specs.Texts.{line_of, refusal_text};
+ghost use Rattle.vme_stream.specs.Texts.{line_of, refusal_text};
 ghost use Rattle.vme_text_commands.specs.Refused.{IsMore, IsRefusedText};
 ghost use Rattle.vme_stream.specs.Outputs.{TriesToWrite};
 
@@ -11,10 +11,9 @@ use crate::suggestions::{FaultySource, push_nearest, push_widths};
 use crate::telling::say;
 use std::alloc::{AllocError, Global};
 use vcd_read::{FaultKind, Variable, VcdFault};
-use vme_answer::{Refusal, refusal_line};
 use vme_bind::BindFaultKind;
 use vme_faults::{FileKind, Kind, push_page};
-use vme_stream::complain;
+use vme_stream::{Refusal, complain, refusal_line};
 use vme_text::{Text, push_escaped};
 use vme_trace::Sink;
 

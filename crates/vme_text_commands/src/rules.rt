@@ -1,14 +1,14 @@
 //! What the rules ask.
 
 ghost use Rattle.std.specs.Prelude.{ℕ, List, Result};
-ghost use Rattle.vme_answer.specs.Ends.{Ends};
+ghost use Rattle.vme_stream.specs.Ends.{Ends};
 ghost use Rattle.vme_text_commands.specs.TextAnswers.{IsText, text_answer_by};
-ghost use Rattle.vme_answer.specs.declared.refusal.Refusal.{Refusal};
+ghost use Rattle.vme_stream.specs.declared.refusal.Refusal.{Refusal};
 
 use crate::telling::tell_text;
 use std::alloc::Global;
-use vme_answer::Refusal;
 use vme_rules::rules_text;
+use vme_stream::Refusal;
 use vme_text::Text;
 use vme_trace::{Rule, Sink};
 

@@ -1,12 +1,11 @@
 //! Texts that a command writes, or why there are none.
 
 ghost use Rattle.std.specs.Prelude.{[]};
-ghost use Rattle.vme_answer.specs.Ends.{Ends};
+ghost use Rattle.vme_stream.specs.Ends.{Ends};
 ghost use Rattle.vme_text_commands.specs.TextAnswers.{text_answer, text_answer_by};
 ghost use Rattle.vme_stream.specs.Outputs.{TriesToWrite};
 
-use vme_answer::{Refusal, cannot_write_line, refusal_line};
-use vme_stream::{complain, write_all};
+use vme_stream::{Refusal, cannot_write_line, complain, refusal_line, write_all};
 use vme_text::Text;
 use vme_trace::Sink;
 

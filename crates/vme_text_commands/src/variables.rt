@@ -2,18 +2,17 @@
 
 ghost use Rattle.std.specs.Prelude.{ℕ, List, Option, Result};
 ghost use Rattle.vcd_read.specs.Meaning.{dump_of};
-ghost use Rattle.vme_answer.specs.Answers.{dump_read, or_bad_dump};
-ghost use Rattle.vme_answer.specs.Ends.{Ends};
+ghost use Rattle.vme_stream.specs.Answers.{dump_read, or_bad_dump};
+ghost use Rattle.vme_stream.specs.Ends.{Ends};
 ghost use Rattle.vme_stream.specs.Inputs.{IsReading};
 ghost use Rattle.vme_text_commands.specs.Refused.{MayHaveMore};
 ghost use Rattle.vme_text_commands.specs.TextAnswers.{IsTextOf, TellsVariables, text_answer_with};
-ghost use Rattle.vme_answer.specs.declared.refusal.Refusal.{Refusal};
+ghost use Rattle.vme_stream.specs.declared.refusal.Refusal.{Refusal};
 
 use crate::refused::{NamedInput, complain_with, show_dump};
 use crate::telling::tell_bytes;
 use std::alloc::Global;
-use vme_answer::{Input, Refusal};
-use vme_stream::read_all;
+use vme_stream::{Input, Refusal, read_all};
 use vme_text::Text;
 use vme_trace::{Sink, Source};
 use vme_variables::variables_text;

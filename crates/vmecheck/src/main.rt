@@ -46,10 +46,9 @@ use std::env;
 use std::io::ErrorKind;
 use std::process::ExitCode;
 use std::thread::Threads;
-use vme_answer::{Refusal, cannot_write_line, refusal_line};
 use vme_commands::{unread_words, words_status};
 use vme_program::run_words;
-use vme_stream::{Io, complain};
+use vme_stream::{Io, Refusal, cannot_write_line, complain, refusal_line};
 use vme_words::OrderFault;
 
 fn main(rt: HostRuntime) -> ExitCode {

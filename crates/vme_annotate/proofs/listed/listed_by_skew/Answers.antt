@@ -1,7 +1,7 @@
 use Rattle.std.proofs.Common.{subst, sym}
 use Rattle.std.specs.Prelude.{Result}
 use Rattle.vme_trace.specs.Trace.{Trace}
-use Rattle.vme_answer.specs.declared.refusal.Refusal.{Refusal}
+use Rattle.vme_stream.specs.declared.refusal.Refusal.{Refusal}
 use Rattle.vme_annotate.specs.TimedListings.{GivesTimed, settled_in_blocks}
 use Rattle.vme_annotate.proofs.ListedLemmas.{text_captured, text_refused}
 use Rattle.vme_annotate.proofs.listed.listed_by_skew.Goals as goal

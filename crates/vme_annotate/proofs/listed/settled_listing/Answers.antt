@@ -1,7 +1,7 @@
 use Rattle.std.proofs.Common.{◌≡◌, ◌∙◌, false, length, refl, sym}
 use Rattle.std.specs.Prelude.{nat_lt}
 use Rattle.vme_trace.specs.WellFormed.{capture_limit}
-use Rattle.vme_answer.specs.Refusals.{judging_refusal}
+use Rattle.vme_stream.specs.Refusals.{judging_refusal}
 use Rattle.vme_commands.proofs.JudgedLemmas.{judged-refused}
 use Rattle.vme_annotate.proofs.ListedLemmas.{settled_refused}
 use Rattle.vme_annotate.proofs.listed.settled_listing.Goals as goal

@@ -2,8 +2,8 @@ use Rattle.std.proofs.Common.{◌≤◌, ◌∙◌, ap, length, rules, subst, sy
 use Rattle.std.proofs.lemmas.List.{places}
 use Rattle.std.specs.Prelude.{Result, Some}
 use Rattle.vcd_read.specs.Contents.{Contents}
-use Rattle.vme_answer.specs.declared.refusal.Refusal.{Refusal}
-use Rattle.vme_answer.proofs.AnswerLemmas.{dump_read-whole, dump_refused}
+use Rattle.vme_stream.specs.declared.refusal.Refusal.{Refusal}
+use Rattle.vme_stream.proofs.AnswerLemmas.{dump_read-whole, dump_refused}
 use Rattle.vme_stream.specs.Inputs.{longest_input}
 use Rattle.vme_stream.proofs.InputLemmas.{unread}
 use Rattle.vme_annotate.specs.TimedListings.{GivesTimed, listed_in}

@@ -1,7 +1,7 @@
 use Rattle.std.proofs.Common.{◌≡◌, [], None, IfErr, OnOk, true, false, ap, subst, sym, ◌∙◌}
 use Rattle.vme_trace.specs.Followed.{with_steps}
 use Rattle.vme_trace.specs.WellFormed.{malformed_step}
-use Rattle.vme_answer.specs.declared.refusal.Refusal.TheVariants.{BadDump}
+use Rattle.vme_stream.specs.declared.refusal.Refusal.TheVariants.{BadDump}
 use Rattle.vme_step_auditor.specs.ReadBy.{is_stopped}
 use Rattle.vme_step_reader.specs.StepReading.{whole_reading}
 use Rattle.vme_audit_command.specs.declared.told.NoOutcome.TheVariants.{Refused}

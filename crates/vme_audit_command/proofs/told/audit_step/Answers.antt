@@ -1,7 +1,7 @@
 use Rattle.std.proofs.Common.{◌≡◌, ◌∷◌, ◌++◌, [], None, List, ℕ, ap, ◌∙◌}
 use Rattle.vme_trace.specs.WellFormed.{malformed_step}
 use Rattle.vme_auditor.specs.Breaks.{as_break}
-use Rattle.vme_answer.specs.Texts.{line_of}
+use Rattle.vme_stream.specs.Texts.{line_of}
 use Rattle.vme_audit_lines.specs.AuditLines.{audit_break_text}
 use Rattle.vme_audit_command.specs.DumpAudits.{given_too, line_of_break, lines_of}
 use Rattle.vme_audit_command.proofs.BodyLemmas.{break-told, no-memory, nothing-told, tells-on}

@@ -1,5 +1,5 @@
 use Rattle.std.proofs.Common.{ℕ, List, ◌++◌, sym, ap, ◌∙◌}
-use Rattle.vme_answer.specs.Texts.{line_of}
+use Rattle.vme_stream.specs.Texts.{line_of}
 use Rattle.vme_audit_lines.proofs.Lines.{behind-other, line-behind, on_ok}
 use Rattle.vme_audit_lines.proofs.telling.push_refusal.Goals as goal
 

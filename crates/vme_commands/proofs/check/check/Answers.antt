@@ -1,5 +1,5 @@
 use Rattle.vme_trace.specs.Streams.{Reading, Writing}
-use Rattle.vme_answer.proofs.EndLemmas.{Checks-exact}
+use Rattle.vme_stream.proofs.EndLemmas.{Checks-exact}
 use Rattle.vme_commands.proofs.CheckLemmas.{ChecksSettled-exact, ChecksSettled-unwritten, checks_unsettled}
 use Rattle.vme_commands.proofs.check.check.Goals as goal
 

@@ -1,4 +1,4 @@
-use Rattle.vme_answer.proofs.AnswerLemmas.{capture_read-unrecorded, judgement_of-refused}
+use Rattle.vme_stream.proofs.AnswerLemmas.{capture_read-unrecorded, judgement_of-refused}
 use Rattle.vme_commands.proofs.JudgedLemmas.{judgement_of-recorded}
 use Rattle.vme_commands.proofs.check.judge.Goals as goal
 

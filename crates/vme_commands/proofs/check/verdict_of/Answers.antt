@@ -3,9 +3,9 @@ use Rattle.vcd_read.specs.Header.{◌>>=◌}
 use Rattle.vme_trace.specs.Trace.{Trace}
 use Rattle.vme_trace.specs.Verdict.{rules_in_force, verdict_by}
 use Rattle.vme_trace.specs.declared.verdict.Verdict.{Verdict}
-use Rattle.vme_answer.specs.Refusals.{judging_refusal}
-use Rattle.vme_answer.specs.declared.refusal.Refusal.{Refusal}
-use Rattle.vme_answer.proofs.AnswerLemmas.{passes_through}
+use Rattle.vme_stream.specs.Refusals.{judging_refusal}
+use Rattle.vme_stream.specs.declared.refusal.Refusal.{Refusal}
+use Rattle.vme_stream.proofs.AnswerLemmas.{passes_through}
 use Rattle.vme_commands.specs.Judged.{limited_in_blocks}
 use Rattle.vme_commands.proofs.JudgedLemmas.{judged-fits, judged-refused}
 use Rattle.vme_commands.proofs.check.verdict_of.Goals as goal

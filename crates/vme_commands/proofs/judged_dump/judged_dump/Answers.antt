@@ -1,5 +1,5 @@
 use Rattle.vme_stream.proofs.InputLemmas.{unread}
-use Rattle.vme_answer.proofs.AnswerLemmas.{recording_read-bound, recording_read-refused}
+use Rattle.vme_stream.proofs.AnswerLemmas.{recording_read-bound, recording_read-refused}
 use Rattle.vme_commands.proofs.judged_dump.judged_dump.Goals as goal
 
 pub returns-in-Ok-clause-gives : goal.returns-in-Ok-clause-gives

@@ -3,9 +3,9 @@ use Rattle.vme_trace.specs.Trace.{Trace}
 use Rattle.vme_bind.specs.TextCapture.{CaptureFailsBy, recording_of_text}
 use Rattle.vme_bind.specs.declared.fault.CaptureFault.{CaptureFault}
 use Rattle.vme_bind.proofs.TextCaptureLemmas.{recorded-formed}
-use Rattle.vme_answer.specs.Answers.{dump_read}
-use Rattle.vme_answer.proofs.AnswerLemmas.{dump_refused, dump_read-whole, recording_by-fails, recording_by-refused}
-use Rattle.vme_answer.proofs.AnswerLemmas.{recording_by-text}
+use Rattle.vme_stream.specs.Answers.{dump_read}
+use Rattle.vme_stream.proofs.AnswerLemmas.{dump_refused, dump_read-whole, recording_by-fails, recording_by-refused}
+use Rattle.vme_stream.proofs.AnswerLemmas.{recording_by-text}
 use Rattle.vme_commands.proofs.judged_dump.judged_dump_by.Goals as goal
 
 pub returns-in-Ok-finish : goal.returns-in-Ok-finish

@@ -1,5 +1,5 @@
 -- What was judged is the settled recording.
-use Rattle.vme_answer.proofs.AnswerLemmas.{capture_read-unrecorded}
+use Rattle.vme_stream.proofs.AnswerLemmas.{capture_read-unrecorded}
 use Rattle.vme_commands.proofs.SettledLemmas.{read-recorded, read-refused}
 use Rattle.vme_commands.proofs.judged_settled.judged_by_skew.Goals as goal
 

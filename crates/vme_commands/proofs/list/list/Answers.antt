@@ -5,7 +5,7 @@ use Rattle.vme_trace.specs.Trace.{Trace}
 use Rattle.vme_listing.specs.Recorded.{recorded_rows}
 use Rattle.vme_stream.specs.Outputs.{Writes}
 use Rattle.vme_split.proofs.Listings.{listing_splits}
-use Rattle.vme_answer.specs.declared.refusal.Refusal.{Refusal}
+use Rattle.vme_stream.specs.declared.refusal.Refusal.{Refusal}
 use Rattle.vme_commands.specs.Listings.{listing_answer_by}
 use Rattle.vme_commands.proofs.ListLemmas.{WritesListing-unwritten, WritesListing-exact}
 use Rattle.vme_commands.proofs.list.list.Goals as goal

@@ -1,4 +1,4 @@
-use Rattle.vme_answer.proofs.AnswerLemmas.{capture_read-unrecorded}
+use Rattle.vme_stream.proofs.AnswerLemmas.{capture_read-unrecorded}
 use Rattle.vme_commands.proofs.ListLemmas.{recording_in_blocks-refused, recording_in_blocks-recorded}
 use Rattle.vme_commands.proofs.list.listing.Goals as goal
 

@@ -1,5 +1,5 @@
 use Rattle.std.proofs.Common.{refl}
-use Rattle.vme_answer.specs.Refusals.{judging_refusal}
+use Rattle.vme_stream.specs.Refusals.{judging_refusal}
 use Rattle.vme_commands.specs.Judged.{limited_in_blocks}
 use Rattle.vme_commands.proofs.JudgedLemmas.{judged-fits, judged-refused}
 use Rattle.vme_commands.proofs.ListLemmas.{refused_listing}

@@ -1,6 +1,6 @@
 use Rattle.std.specs.Prelude.{Err}
-use Rattle.vme_answer.specs.declared.refusal.Refusal.TheVariants.{Memory}
-use Rattle.vme_answer.specs.Answers.{binding_read, dump_read}
+use Rattle.vme_stream.specs.declared.refusal.Refusal.TheVariants.{Memory}
+use Rattle.vme_stream.specs.Answers.{binding_read, dump_read}
 use Rattle.vme_stream.proofs.InputLemmas.{unread}
 use Rattle.vme_confirm_command.proofs.ConfirmLemmas.{binding_lacks}
 use Rattle.vme_confirm_command.proofs.confirm.comparison.Goals as goal

@@ -5,7 +5,7 @@ use Rattle.vme_trace.specs.Streams.{Reading}
 use Rattle.vme_listing.specs.declared.row.Row.{Row}
 use Rattle.vme_listing.specs.declared.row.Version.{Version}
 use Rattle.vme_confirm_command.specs.RowsOfListing.{GaveRows, IsOver}
-use Rattle.vme_answer.specs.declared.refusal.Refusal.TheVariants.{Memory}
+use Rattle.vme_stream.specs.declared.refusal.Refusal.TheVariants.{Memory}
 use Rattle.vme_stream.proofs.InputLemmas.{unread}
 use Rattle.vme_confirm_command.proofs.FoundLemmas.{begun-read, compares-found, compares-refused, confirms-refused}
 use Rattle.vme_confirm_command.proofs.FoundLemmas.{found-of}

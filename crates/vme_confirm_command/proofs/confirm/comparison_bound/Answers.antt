@@ -1,6 +1,6 @@
 use Rattle.std.proofs.Common.{[], ap, subst, sym, arith}
 use Rattle.std.specs.Prelude.{Err}
-use Rattle.vme_answer.specs.declared.refusal.Refusal.TheVariants.{Memory}
+use Rattle.vme_stream.specs.declared.refusal.Refusal.TheVariants.{Memory}
 use Rattle.vme_stream.proofs.InputLemmas.{unread}
 use Rattle.vme_stream.specs.Inputs.{longest_input}
 use Rattle.vme_dump_input.specs.BufferedInputs.{InputSoFar, IsReadTo}

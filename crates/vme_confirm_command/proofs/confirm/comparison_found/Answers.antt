@@ -1,8 +1,8 @@
 -- The answer is told of a whole listing, or its fault is.
 use Rattle.std.proofs.Common.{ap, subst, sym}
 use Rattle.std.specs.Prelude.{Result, Ok, Err}
-use Rattle.vme_answer.specs.Answers.{or_bad_binding}
-use Rattle.vme_answer.specs.declared.refusal.Refusal.TheVariants.{BadBinding}
+use Rattle.vme_stream.specs.Answers.{or_bad_binding}
+use Rattle.vme_stream.specs.declared.refusal.Refusal.TheVariants.{BadBinding}
 use Rattle.vme_confirm_command.specs.RowsOfListing.{EndsRows, IsOver}
 use Rattle.vme_confirm_command.specs.declared.rows_fault.RowsFault.{RowsFault}
 use Rattle.vme_confirm_command.proofs.FoundLemmas.{found-faulty, found-whole}

@@ -3,7 +3,7 @@ use Rattle.std.proofs.Common.{ℕ, List, [], refl, subst, sym, ◌∙◌}
 use Rattle.std.specs.Prelude.{Err}
 use Rattle.std.proofs.lemmas.Result.{IfOk-weaker}
 use Rattle.vme_trace.specs.Trace.{Trace}
-use Rattle.vme_answer.specs.Answers.{AnswerGives, capture_by, or_bad_dump}
+use Rattle.vme_stream.specs.Answers.{AnswerGives, capture_by, or_bad_dump}
 use Rattle.vcd_read.specs.Meaning.{dump_of}
 use Rattle.vme_dump_input.specs.BufferedInputs.{FailsAs, IsAllOf}
 use Rattle.vme_dump_input.proofs.DumpRefusals.{ends-unusable, unread-is}

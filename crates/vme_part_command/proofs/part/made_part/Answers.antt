@@ -1,4 +1,4 @@
-use Rattle.vme_answer.specs.Answers.{binding_read, dump_read}
+use Rattle.vme_stream.specs.Answers.{binding_read, dump_read}
 use Rattle.vme_stream.proofs.InputLemmas.{unread}
 use Rattle.vme_part_command.proofs.FoundLemmas.{no-binding}
 use Rattle.vme_part_command.proofs.part.made_part.Goals as goal

@@ -1,7 +1,7 @@
 use Rattle.std.proofs.Common.{subst, sym}
 use Rattle.std.specs.Prelude.{codes}
 use Rattle.vme_trace.specs.Streams.{Writing}
-use Rattle.vme_answer.specs.Ends.{Ends}
+use Rattle.vme_stream.specs.Ends.{Ends}
 use Rattle.vme_part_listing.specs.declared.answers.ListingAnswer.{ListingAnswer}
 use Rattle.vme_part_command.specs.Answered.{listed_answer}
 use Rattle.vme_part_command.specs.Lines.{refusing_text, told_text}

@@ -1,7 +1,7 @@
 use Rattle.std.proofs.Common.{subst, sym}
 use Rattle.std.specs.Prelude.{codes}
 use Rattle.vme_trace.specs.Streams.{Writing}
-use Rattle.vme_answer.specs.Ends.{Ends}
+use Rattle.vme_stream.specs.Ends.{Ends}
 use Rattle.vme_parts.specs.declared.answers.RecordingAnswer.{RecordingAnswer}
 use Rattle.vme_part_command.specs.Answered.{told_answer}
 use Rattle.vme_part_command.specs.Lines.{part_text, refusing_text}

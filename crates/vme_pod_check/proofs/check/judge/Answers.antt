@@ -1,4 +1,4 @@
-use Rattle.vme_answer.proofs.AnswerLemmas.{judgement_of-refused, judgement_of-captured}
+use Rattle.vme_stream.proofs.AnswerLemmas.{judgement_of-refused, judgement_of-captured}
 use Rattle.vme_pod_check.proofs.check.judge.Goals as goal
 
 pub returns-in-Ok : goal.returns-in-Ok

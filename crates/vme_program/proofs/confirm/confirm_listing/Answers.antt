@@ -1,5 +1,5 @@
 use Rattle.std.proofs.Common.{inl, inr}
-use Rattle.vme_answer.specs.declared.refusal.Input.TheVariants.{Listing}
+use Rattle.vme_stream.specs.declared.refusal.Input.TheVariants.{Listing}
 use Rattle.vme_program.proofs.Refusals.{tells_refused}
 use Rattle.vme_program.proofs.confirm.confirm_listing.Goals as goal
 

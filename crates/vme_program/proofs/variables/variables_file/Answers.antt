@@ -1,5 +1,5 @@
 use Rattle.std.proofs.Common.{inl, inr}
-use Rattle.vme_answer.specs.declared.refusal.Input.TheVariants.{Dump}
+use Rattle.vme_stream.specs.declared.refusal.Input.TheVariants.{Dump}
 use Rattle.vme_program.proofs.Refusals.{tells_refused}
 use Rattle.vme_program.proofs.variables.variables_file.Goals as goal
 

@@ -1,7 +1,7 @@
 use Rattle.std.proofs.Common.{◌∙◌, sym}
 use Rattle.std.specs.Prelude.{Some}
-use Rattle.vme_answer.specs.Answers.{dump_read}
-use Rattle.vme_answer.proofs.AnswerLemmas.{dump_read-whole, dump_refused}
+use Rattle.vme_stream.specs.Answers.{dump_read}
+use Rattle.vme_stream.proofs.AnswerLemmas.{dump_read-whole, dump_refused}
 use Rattle.vme_text_commands.proofs.ToldLemmas.{binding_refused}
 use Rattle.vme_text_commands.proofs.bind.binding_for.Goals as goal
 

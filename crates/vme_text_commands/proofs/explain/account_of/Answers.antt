@@ -1,8 +1,8 @@
 use Rattle.std.proofs.Common.{◌≡◌, Result, Ok, ap, subst, sym}
 use Rattle.std.specs.Prelude.{IfOk, None}
 use Rattle.vcd_read.specs.Header.{◌>>=◌}
-use Rattle.vme_answer.specs.Answers.{AnswerGives}
-use Rattle.vme_answer.specs.declared.refusal.Refusal.{Refusal}
+use Rattle.vme_stream.specs.Answers.{AnswerGives}
+use Rattle.vme_stream.specs.declared.refusal.Refusal.{Refusal}
 use Rattle.vme_trace.specs.Trace.{Trace}
 use Rattle.vme_trace.specs.WellFormed.{malformed_step}
 use Rattle.vme_text_commands.specs.ExplainedDumps.{GivesAccount, or_too_long}

@@ -1,6 +1,6 @@
 use Rattle.std.proofs.Common.{Result, subst}
 use Rattle.vme_account.specs.declared.account.Account.{Account}
-use Rattle.vme_answer.specs.declared.refusal.Refusal.{Refusal}
+use Rattle.vme_stream.specs.declared.refusal.Refusal.{Refusal}
 use Rattle.vme_text_commands.specs.ExplainedDumps.{GivesAccount}
 use Rattle.vme_text_commands.proofs.ExplainLemmas.{told-by, untold}
 use Rattle.vme_text_commands.proofs.explain.explained_account.Goals as goal

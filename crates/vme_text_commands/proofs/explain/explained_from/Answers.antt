@@ -2,7 +2,7 @@ use Rattle.std.proofs.Common.{◌≤◌, length, rules}
 use Rattle.std.proofs.lemmas.List.{places}
 use Rattle.std.specs.Prelude.{Some}
 use Rattle.vme_stream.specs.Inputs.{longest_input}
-use Rattle.vme_answer.proofs.AnswerLemmas.{binding_read-whole, binding_refused}
+use Rattle.vme_stream.proofs.AnswerLemmas.{binding_read-whole, binding_refused}
 use Rattle.vme_text_commands.proofs.ExplainLemmas.{judged-refused}
 use Rattle.vme_stream.proofs.InputLemmas.{unread}
 use Rattle.vme_text_commands.proofs.explain.explained_from.Goals as goal

@@ -1,6 +1,6 @@
 use Rattle.std.proofs.Common.{Result, ap, subst, sym}
-use Rattle.vme_answer.specs.Answers.{dump_read}
-use Rattle.vme_answer.specs.declared.refusal.Refusal.{Refusal}
+use Rattle.vme_stream.specs.Answers.{dump_read}
+use Rattle.vme_stream.specs.declared.refusal.Refusal.{Refusal}
 use Rattle.vme_skew.specs.Settled.{settled_or}
 use Rattle.vme_trace.specs.Trace.{Trace}
 use Rattle.vme_text_commands.specs.ExplainedDumps.{GivesAccount}

@@ -1,8 +1,8 @@
 use Rattle.std.proofs.Common.{◌≡◌, ◌∙◌, Result, ap, false, length, sym, true}
 use Rattle.std.specs.Prelude.{nat_lt}
 use Rattle.vcd_read.specs.Header.{◌>>=◌}
-use Rattle.vme_answer.specs.Answers.{verdict_in_blocks}
-use Rattle.vme_answer.specs.declared.refusal.Refusal.{Refusal}
+use Rattle.vme_stream.specs.Answers.{verdict_in_blocks}
+use Rattle.vme_stream.specs.declared.refusal.Refusal.{Refusal}
 use Rattle.vme_trace.specs.Trace.{Trace}
 use Rattle.vme_trace.specs.WellFormed.{capture_limit}
 use Rattle.vme_text_commands.proofs.ExplainLemmas.{account-settled}

@@ -1,5 +1,5 @@
 use Rattle.std.proofs.Common.{subst, sym}
-use Rattle.vme_answer.specs.Answers.{dump_read}
+use Rattle.vme_stream.specs.Answers.{dump_read}
 use Rattle.vme_text_commands.specs.ExplainedDumps.{GivesAccount}
 use Rattle.vme_text_commands.proofs.ExplainLemmas.{captured-short}
 use Rattle.vme_text_commands.proofs.explain.unsettled_account.Goals as goal

@@ -1,7 +1,7 @@
 use Rattle.std.proofs.Common.{◌∙◌, sym}
 use Rattle.std.specs.Prelude.{Some}
-use Rattle.vme_answer.specs.Answers.{dump_read}
-use Rattle.vme_answer.proofs.AnswerLemmas.{dump_read-whole, dump_refused, recording_by-refused}
+use Rattle.vme_stream.specs.Answers.{dump_read}
+use Rattle.vme_stream.proofs.AnswerLemmas.{dump_read-whole, dump_refused, recording_by-refused}
 use Rattle.vme_text_commands.proofs.explained_input.taken_dump.Goals as goal
 
 pub returns-in-Ok : goal.returns-in-Ok

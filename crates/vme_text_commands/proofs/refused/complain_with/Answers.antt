@@ -1,6 +1,6 @@
 use Rattle.std.proofs.Common.{[], ◌++◌, refl, inl, inr}
 use Rattle.std.proofs.lemmas.List.{append-nil, append_assoc}
-use Rattle.vme_answer.specs.Texts.{line_of, refusal_text}
+use Rattle.vme_stream.specs.Texts.{line_of, refusal_text}
 use Rattle.vme_faults.specs.Pages.{page_text}
 use Rattle.vme_faults.specs.Refusals.{kind_of}
 use Rattle.vme_text_commands.proofs.refused.complain_with.Goals as goal

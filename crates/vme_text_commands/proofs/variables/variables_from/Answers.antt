@@ -1,9 +1,9 @@
 use Rattle.std.proofs.Common.{◌≤◌, length, rules}
 use Rattle.std.proofs.lemmas.List.{places}
 use Rattle.std.specs.Prelude.{Some}
-use Rattle.vme_answer.specs.Answers.{dump_read}
+use Rattle.vme_stream.specs.Answers.{dump_read}
 use Rattle.vme_stream.specs.Inputs.{longest_input}
-use Rattle.vme_answer.proofs.AnswerLemmas.{dump_read-whole, dump_refused}
+use Rattle.vme_stream.proofs.AnswerLemmas.{dump_read-whole, dump_refused}
 use Rattle.vme_text_commands.proofs.ToldLemmas.{text_refused}
 use Rattle.vme_text_commands.proofs.variables.variables_from.Goals as goal
 

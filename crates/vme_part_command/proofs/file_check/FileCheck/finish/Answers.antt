@@ -1,6 +1,6 @@
 -- All steps are counted and judged.
 use Rattle.std.proofs.Common.{Option, Some, ap, subst, arith, length-append}
-use Rattle.vme_answer.specs.Answers.{or_bad_binding}
+use Rattle.vme_stream.specs.Answers.{or_bad_binding}
 use Rattle.vme_trace.specs.Followed.{with_steps}
 use Rattle.vme_file_part.specs.declared.file_so_far.FileSoFar.{FileSoFar}
 use Rattle.vme_part_command.specs.FileChecks.{IsFoundSoFar}

@@ -1,4 +1,0 @@
-pub mod Answers
-pub mod Ends
-pub mod Refusals
-pub mod Texts

@@ -1,0 +1,47 @@
+-- How a command ends, by what it reads and finds.
+use Rattle.std.specs.Prelude.{◌≡◌, ◌≢◌, ◌⊎◌, ℕ, List, Option}
+use Rattle.vme_trace.specs.Streams.{Reading, Writing}
+use Rattle.vme_stream.specs.Answers.{CommandAnswer, AnswerGives, answer_by, judgement_of}
+use Rattle.vme_stream.specs.Inputs.{IsReading, TellsWhole}
+use Rattle.vme_stream.specs.Outputs.{Writes, FailsToWrite, TriesToWrite}
+use Rattle.vme_stream.specs.Texts.{cannot_write_text, line_of}
+
+-- An input is what its source tells before and after, and an output what its sink tells before and after.
+
+-- the answer was told
+pub record Tells (answer : CommandAnswer) (out err : Writing × Writing) (status : ℕ) : Type 0 where
+  pub out_is : Writes out.0 out.1 answer.out
+  pub err_is : TriesToWrite err.0 err.1 answer.error
+  pub status_is : status ≡ answer.status
+
+-- inputs that are told whole, no failure of the output, and memory give exactly this answer to them
+abbrev pub TellsExactly : (List ℕ → List ℕ → CommandAnswer) → Reading × Reading → Reading × Reading
+    → Writing × Writing → Writing × Writing → ℕ → Type 0
+TellsExactly answer binding dump out err status =
+    (b d : List ℕ) → TellsWhole binding.0 binding.1 b → TellsWhole dump.0 dump.1 d → out.1.failures ≡ out.0.failures
+    → status ≢ 4 → Tells (answer b d) out err status
+
+-- a write of the answer failed
+pub record FailsToTell (answer : CommandAnswer) (out err : Writing × Writing) (status : ℕ) : Type 0 where
+  pub out_is : FailsToWrite out.0 out.1 answer.out
+  pub err_is : TriesToWrite err.0 err.1 (line_of cannot_write_text)
+  pub status_is : status ≡ 5
+
+abbrev pub Ends : CommandAnswer → Writing × Writing → Writing × Writing → ℕ → Type 0
+Ends answer out err status = Tells answer out err status ⊎ FailsToTell answer out err status
+
+-- Each input is read, or can't be; something is found that may be found of what they say; and its answer is told,
+-- unless a write of it fails.
+abbrev pub Does : {A : Type 0} → (A → CommandAnswer) → (Option (List ℕ) → Option (List ℕ) → A → Type 0)
+    → Reading × Reading → Reading × Reading → Writing × Writing → Writing × Writing → ℕ → Type 0
+Does {A} answer MayFind binding dump out err status =
+    (binding_bytes dump_bytes : Option (List ℕ)) × (found : A)
+    × IsReading binding.0 binding.1 binding_bytes
+    × IsReading dump.0 dump.1 dump_bytes
+    × MayFind binding_bytes dump_bytes found
+    × Ends (answer found) out err status
+
+-- what the inputs say is judged, unless there was no memory
+abbrev pub Checks : Reading × Reading → Reading × Reading → ℕ → Writing × Writing → Writing × Writing → ℕ → Type 0
+Checks binding dump block out err status =
+    Does answer_by (λ b d judged. AnswerGives (λ v. v) judged (judgement_of b d block)) binding dump out err status

@@ -1,0 +1,117 @@
+//! The recording that a binding makes of a dump.
+
+ghost use Rattle.std.specs.Prelude.{◌≡◌, ℕ, List, Option};
+ghost use Rattle.vme_stream.specs.Inputs.{IsReading};
+ghost use Rattle.vcd_read.specs.Meaning.{dump_of};
+ghost use Rattle.vme_bind.specs.Binding.{binding_of};
+ghost use Rattle.vme_stream.specs.Answers.{AnswerGives, or_bad_binding, or_bad_dump, binding_read, dump_read};
+ghost use Rattle.vme_stream.specs.Answers.{capture_by};
+ghost use Rattle.vme_stream.specs.Answers.{capture_read, recorded_by};
+
+use crate::input::read_all;
+use crate::refusal::{Input, Refusal};
+use std::alloc::Global;
+use vme_bind::{BindFault, Binding, read_binding};
+use vme_trace::{Capture, Source};
+
+/// The recording that a binding makes of a dump: the binding is read first.
+pub fn capture_from<B: Source, D: Source>(
+    alloc: Global,
+    binding: &mut B,
+    dump: &mut D,
+) -> Result<Capture, Refusal>
+    ensures { (binding_bytes dump_bytes : Option (List ℕ))
+        × IsReading (B.reading binding.old) (B.reading binding.new) binding_bytes
+        × IsReading (D.reading dump.old) (D.reading dump.new) dump_bytes
+        × AnswerGives (λ capture. capture) result (capture_read binding_bytes dump_bytes) }
+{
+    match binding_from(alloc, binding) {
+        Ok(bound) => capture_of_dump(alloc, &bound, dump),
+        Err(refusal) => Err(refusal),
+    }
+}
+
+/// The recording that a binding makes of a dump that is to be read.
+fn capture_of_dump<D: Source>(
+    alloc: Global,
+    bound: &Binding,
+    dump: &mut D,
+) -> Result<Capture, Refusal>
+    ensures { (bytes : Option (List ℕ))
+        × IsReading (D.reading dump.old) (D.reading dump.new) bytes
+        × AnswerGives (λ capture. capture) result (capture_by bound.now (dump_read bytes)) }
+{
+    match recorded_from(alloc, bound, dump) {
+        Ok(Ok(capture)) => Ok(capture),
+        Ok(Err(fault)) => Err(Refusal::BadBinding(fault)),
+        Err(refusal) => Err(refusal),
+    }
+}
+
+/// The recording that a binding makes of a dump that is to be read, or why it makes none of it. Why there is no dump,
+/// or no memory, is a refusal.
+pub fn recorded_from<D: Source>(
+    alloc: Global,
+    bound: &Binding,
+    dump: &mut D,
+) -> Result<Result<Capture, BindFault>, Refusal>
+    ensures { (bytes : Option (List ℕ))
+        × IsReading (D.reading dump.old) (D.reading dump.new) bytes
+        × AnswerGives (λ recorded. recorded) result (recorded_by bound.now (dump_read bytes)) }
+{
+    match read_all(alloc, dump) {
+        Ok(text) => recorded_in(alloc, bound, text.as_slice()),
+        Err(fault) => Err(Refusal::of_input(Input::Dump, fault)),
+    }
+}
+
+/// The recording that a binding makes of the text of a dump.
+pub fn captured_in(alloc: Global, bound: &Binding, text: &[u8]) -> Result<Capture, Refusal>
+    ensures { AnswerGives (λ capture. capture) result (capture_by bound.now (or_bad_dump (dump_of text.now))) }
+{
+    match recorded_in(alloc, bound, text) {
+        Ok(Ok(capture)) => Ok(capture),
+        Ok(Err(fault)) => Err(Refusal::BadBinding(fault)),
+        Err(refusal) => Err(refusal),
+    }
+}
+
+/// The recording that a binding makes of the text of a dump, which is read once.
+fn recorded_in(
+    alloc: Global,
+    bound: &Binding,
+    text: &[u8],
+) -> Result<Result<Capture, BindFault>, Refusal>
+    ensures { AnswerGives (λ recorded. recorded) result (recorded_by bound.now (or_bad_dump (dump_of text.now))) }
+{
+    match bound.capture_text(alloc, text) {
+        Ok(capture) => Ok(Ok(capture)),
+        Err(fault) => match Refusal::of_capture(fault) {
+            Refusal::BadBinding(fault) => Ok(Err(fault)),
+            refusal => Err(refusal),
+        },
+    }
+}
+
+/// The binding that a text is which is to be read, or why there is none: the text can't be read, is too long or isn't a
+/// binding, or there is no memory. What of the input is read then isn't said.
+pub fn binding_from<R: Source>(alloc: Global, source: &mut R) -> Result<Binding, Refusal>
+    ensures { (bytes : Option (List ℕ))
+        × IsReading (R.reading source.old) (R.reading source.new) bytes
+        × AnswerGives (λ binding. binding) result (binding_read bytes) }
+{
+    match read_all(alloc, source) {
+        Ok(text) => binding_in(alloc, text.as_slice()),
+        Err(fault) => Err(Refusal::of_input(Input::Binding, fault)),
+    }
+}
+
+/// The binding that a text is.
+pub fn binding_in(alloc: Global, text: &[u8]) -> Result<Binding, Refusal>
+    ensures { AnswerGives (λ binding. binding) result (or_bad_binding (binding_of text.now)) }
+{
+    match read_binding(alloc, text) {
+        Ok(binding) => Ok(binding),
+        Err(fault) => Err(Refusal::of_binding(fault)),
+    }
+}

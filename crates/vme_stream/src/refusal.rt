@@ -1,0 +1,122 @@
+//! Why a recording isn't judged, or a listing compared with it.
+
+ghost use Rattle.std.specs.Prelude.{◌≡◌};
+ghost use Rattle.vme_stream.specs.Refusals.{refused, dump_refusal, binding_refusal, capture_refusal, judging_refusal};
+ghost use Rattle.vme_stream.specs.Refusals.{listing_refusal};
+ghost use Rattle.vme_stream.specs.Texts.{refusal_status};
+
+use crate::input::InFault;
+use thiserror::Error;
+use vcd_read::{FaultKind, VcdFault};
+use vme_bind::{BindFault, BindFaultKind, CaptureFault};
+use vme_listing::ListFault;
+use vme_summary::NoVerdict;
+
+/// What the program reads.
+#[derive(Clone, Copy, Debug, PartialEq, Eq)]
+pub enum Input {
+    /// What the lines of the backplane are bound to.
+    Binding,
+    /// The recording.
+    Dump,
+    /// What is to be confirmed of it.
+    Listing,
+}
+
+/// Why a recording isn't judged, or a listing compared with it.
+#[derive(Clone, Copy, Debug, PartialEq, Eq)]
+pub enum Refusal {
+    /// A file can't be opened.
+    CannotOpen(Input),
+    /// Reading failed, or didn't reach the end.
+    CannotRead(Input),
+    /// An input has over 268,435,456 bytes, or a listing over 137,438,953,472.
+    TooLong(Input),
+    /// The binding has a fault, or can't be used on the dump.
+    BadBinding(BindFault),
+    /// The dump has a fault.
+    BadDump(VcdFault),
+    /// The listing has a fault.
+    BadListing(ListFault),
+    /// There would be over 4,096 blocks.
+    TooManyBlocks,
+    /// There is no memory.
+    Memory,
+}
+
+impl Refusal {
+    /// What a fault in reading an input is.
+    pub fn of_input(input: Input, fault: InFault) -> Refusal
+        ensures { result ≡ refused input fault }
+    {
+        match fault {
+            InFault::Read => Refusal::CannotRead(input),
+            InFault::TooLong => Refusal::TooLong(input),
+            InFault::Memory => Refusal::Memory,
+        }
+    }
+
+    /// What a fault of the dump is.
+    pub fn of_dump(fault: VcdFault) -> Refusal
+        ensures { result ≡ dump_refusal fault }
+    {
+        match fault.kind {
+            FaultKind::Memory => Refusal::Memory,
+            _ => Refusal::BadDump(fault),
+        }
+    }
+
+    /// What a fault of the binding is.
+    pub fn of_binding(fault: BindFault) -> Refusal
+        ensures { result ≡ binding_refusal fault }
+    {
+        match fault.kind {
+            BindFaultKind::Memory => Refusal::Memory,
+            _ => Refusal::BadBinding(fault),
+        }
+    }
+
+    /// What a fault of a dump or of a binding is.
+    pub fn of_capture(fault: CaptureFault) -> Refusal
+        ensures { result ≡ capture_refusal fault }
+    {
+        match fault {
+            CaptureFault::Dump(fault) => Refusal::of_dump(fault),
+            CaptureFault::Binding(fault) => Refusal::of_binding(fault),
+        }
+    }
+
+    /// Why a recording isn't judged.
+    pub fn of_judging(why: NoVerdict) -> Refusal
+        ensures { result ≡ judging_refusal why }
+    {
+        match why {
+            NoVerdict::TooManySteps => Refusal::BadBinding(BindFault {
+                line: 0,
+                kind: BindFaultKind::TooManySteps,
+            }),
+            NoVerdict::TooManyBlocks => Refusal::TooManyBlocks,
+            NoVerdict::Memory => Refusal::Memory,
+        }
+    }
+
+    /// What a fault of the listing is.
+    pub fn of_listing(fault: ListFault) -> Refusal
+        ensures { result ≡ listing_refusal fault }
+    {
+        match fault {
+            ListFault::Memory => Refusal::Memory,
+            _ => Refusal::BadListing(fault),
+        }
+    }
+
+    /// The exit status: 4 for want of memory, else 3.
+    pub fn status(&self) -> u8
+        ensures { result ≡ refusal_status self.now }
+    {
+        match self {
+            Refusal::Memory => 4,
+            _ => 3,
+        }
+    }
+}

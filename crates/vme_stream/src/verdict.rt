@@ -1,0 +1,39 @@
+//! The verdict on a recording, and telling it.
+
+ghost use Rattle.std.specs.Prelude.{◌≡◌, ◌≤◌, Ok};
+ghost use Rattle.vme_stream.specs.Answers.{AnswerGives, answer_by, verdict_in_blocks};
+ghost use Rattle.vme_stream.specs.Ends.{Ends};
+
+use crate::output::{complain, write_message};
+use crate::refusal::Refusal;
+use crate::text::{cannot_write_line, verdict_line, verdict_status};
+use std::alloc::Global;
+use vme_summary::verdict_by_blocks;
+use vme_trace::{Capture, CutFault, Sink, Verdict};
+
+/// The verdict on a recording, in blocks of so many steps.
+pub fn verdict_on(alloc: Global, capture: &Capture, block: u32) -> Result<Verdict, Refusal>
+    requires { (1 ≤ block) × (block ≤ 65536) }
+    ensures { AnswerGives (λ verdict. verdict) result (verdict_in_blocks block capture.now) }
+{
+    match verdict_by_blocks(alloc, capture, block) {
+        Ok(verdict) => Ok(verdict),
+        Err(CutFault::TooManyBlocks) => Err(Refusal::TooManyBlocks),
+        Err(CutFault::BadSize) | Err(CutFault::Memory) => Err(Refusal::Memory),
+    }
+}
+
+/// Writes a verdict to `out`, or to `err` that it can't be written. The answer is the exit status: that of the verdict,
+/// or 5.
+pub fn tell_verdict<O: Sink, E: Sink>(verdict: &Verdict, out: &mut O, err: &mut E) -> u8
+    ensures { Ends (answer_by (Ok verdict.now))
+        (O.writing out.old, O.writing out.new) (E.writing err.old, E.writing err.new) result }
+{
+    match write_message(out, verdict_line(verdict)) {
+        Ok(()) => verdict_status(verdict),
+        Err(_) => {
+            complain(err, cannot_write_line());
+            5
+        }
+    }
+}

@@ -1,0 +1,280 @@
+ghost use Rattle.std.specs.Prelude.{◌≤◌, None};
+
+use std::alloc::{AllocError, Global};
+use vcd_read::{FaultKind, VcdFault};
+use vme_bind::{BindFault, BindFaultKind};
+use vme_listing::ListFault;
+use vme_stream::{
+    Bytes, InFault, Input, Refusal, binding_from, binding_in, cannot_write_line, capture_from,
+    captured_in, recorded_from, refusal_line, tell_verdict, verdict_line, verdict_on,
+    verdict_status,
+};
+use vme_summary::NoVerdict;
+use vme_trace::{Break, Failed, Line, Rule, Sink, Verdict};
+
+/// Six lines are recorded, and the bus is busy.
+const BINDING: &str = "slots 1\nAS = bus.AS\nDS0 = bus.DS0\nDS1 = bus.DS1\nDTACK = bus.DTACK\n\
+BERR = bus.BERR\nIACK = bus.IACK\nAM0 = 1\nAM1 = 0\nAM2 = 1\nAM3 = 1\nAM4 = 1\nAM5 = 1\nLWORD = 1\n\
+WRITE = 1\nA = 1\nBBSY = 0\nBR = 1\nBG0 = 1\nBG1 = 1\nBG2 = 1\nBG3 = 1\nIA = 1\n";
+
+const HEAD: &str = "$scope module bus $end\n$var wire 1 p AS $end\n$var wire 1 q DS0 $end\n\
+$var wire 1 r DS1 $end\n$var wire 1 s DTACK $end\n$var wire 1 t BERR $end\n$var wire 1 u IACK $end\n\
+$upscope $end\n$enddefinitions $end\n";
+
+/// A read.
+const READ: &str = "#0 1p 1q 1r 1s 1t 1u\n#10 0p\n#20 0q\n#30 0s\n#40 1p 1q\n#50 1s\n";
+
+/// An answer in place of the strobe.
+const STRAY_ANSWER: &str = "#0 1p 1q 1r 1s 1t 1u\n#10 0p\n#20 0s\n#40 1p 1q\n#50 1s\n";
+
+const STRAY: Verdict = Verdict::Broken(Break {
+    instant: 3,
+    time: 20,
+    rule: Rule::H4,
+    line: Line::DTACK,
+});
+
+/// The bodies of dumps, and the lines of their verdicts.
+static WORKED: [(&str, &str); 4] = [
+    (READ, "conforming\n"),
+    ("", "never idle\n"),
+    (STRAY_ANSWER, "broken H4 at instant 3 time 20 line DTACK\n"),
+    (
+        "#0 1p 1q 1r 1s 1t 1u\n#10 xp\n#20 0q\n#30 0s\n#40 1p 1q\n#50 1s\n",
+        "unreadable U1 at instant 2 time 10 line AS\n",
+    ),
+];
+
+fn dump_of(alloc: Global, body: &str) -> Result<String, AllocError> {
+    let mut dump = String::from_str(alloc, HEAD)?;
+    dump.push_str(body)?;
+    Ok(dump)
+}
+
+/// A sink that holds what it took, as long as that is shorter than its room.
+#[derive(Drop)]
+struct Page {
+    bytes: Vec<u8>,
+    room: usize,
+    failures: u64,
+}
+
+impl Page {
+    fn new(alloc: Global, room: usize) -> Page {
+        Page {
+            bytes: Vec::new(alloc),
+            room,
+            failures: 0,
+        }
+    }
+}
+
+impl Sink for Page {
+    ghost writing = { λ page. record { taken = None; failures = page.failures } };
+
+    fn write(&mut self, bytes: &[u8]) -> Result<usize, Failed> {
+        if self.bytes.len() < self.room && self.bytes.extend_from_slice(bytes).is_ok() {
+            return Ok(bytes.len());
+        }
+        match self.failures.checked_add(1) {
+            Some(failures) => {
+                self.failures = failures;
+                Err(Failed)
+            }
+            None => Ok(bytes.len()),
+        }
+    }
+}
+
+/// The verdict on what the inputs say, in blocks of so many steps.
+fn judged(alloc: Global, binding: &str, dump: &str, block: u32) -> Result<Verdict, Refusal>
+    requires { (1 ≤ block) × (block ≤ 65536) }
+{
+    let capture = capture_from(
+        alloc,
+        &mut Bytes::new(binding.as_bytes()),
+        &mut Bytes::new(dump.as_bytes()),
+    )?;
+    verdict_on(alloc, &capture, block)
+}
+
+/// Whether a verdict is told by this line.
+fn has_line(found: Result<Verdict, Refusal>, line: &str) -> bool {
+    match found {
+        Ok(verdict) => verdict_line(&verdict).as_bytes() == line.as_bytes(),
+        Err(_) => false,
+    }
+}
+
+/// Whether a dump has this verdict in blocks of one, three and 16,384 steps.
+fn has_verdict(alloc: Global, dump: &str, line: &str) -> bool {
+    has_line(judged(alloc, BINDING, dump, 1), line)
+        && has_line(judged(alloc, BINDING, dump, 3), line)
+        && has_line(judged(alloc, BINDING, dump, 16_384), line)
+}
+
+/// Whether the dump of a body has.
+fn body_has_verdict(alloc: Global, body: &str, line: &str) -> bool {
+    match dump_of(alloc, body) {
+        Ok(dump) => has_verdict(alloc, dump.as_str(), line),
+        Err(_) => false,
+    }
+}
+
+#[test]
+fn worked_recordings_have_their_verdicts(rt: HostRuntime) {
+    for (body, line) in WORKED.iter() {
+        assert!(rt; body_has_verdict(rt.alloc(), body, line), "{line}");
+    }
+}
+
+/// The verdict on a recording whose inputs are read before it is made.
+fn judged_in(alloc: Global, dump: &[u8]) -> Result<Verdict, Refusal> {
+    let bound = binding_in(alloc, BINDING.as_bytes())?;
+    let capture = captured_in(alloc, &bound, dump)?;
+    verdict_on(alloc, &capture, 1)
+}
+
+/// The verdict on a recording whose binding is read before its dump.
+fn judged_by_and_by(alloc: Global, dump: &[u8]) -> Result<Verdict, Refusal> {
+    let bound = binding_from(alloc, &mut Bytes::new(BINDING.as_bytes()))?;
+    match recorded_from(alloc, &bound, &mut Bytes::new(dump))? {
+        Ok(capture) => verdict_on(alloc, &capture, 16_384),
+        Err(fault) => Err(Refusal::BadBinding(fault)),
+    }
+}
+
+/// Whether a dump has this verdict in both ways.
+fn has_verdict_each_way(alloc: Global, dump: &[u8], line: &str) -> bool {
+    has_line(judged_in(alloc, dump), line) && has_line(judged_by_and_by(alloc, dump), line)
+}
+
+/// Whether the dump of a body has.
+fn body_has_verdict_each_way(alloc: Global, body: &str, line: &str) -> bool {
+    match dump_of(alloc, body) {
+        Ok(dump) => has_verdict_each_way(alloc, dump.as_bytes(), line),
+        Err(_) => false,
+    }
+}
+
+#[test]
+fn each_way_to_a_recording_gives_the_same(rt: HostRuntime) {
+    for (body, line) in WORKED.iter() {
+        assert!(rt; body_has_verdict_each_way(rt.alloc(), body, line), "{line}");
+    }
+}
+
+/// Whether a verdict is told so, with a status, where there is so much room.
+fn tells(alloc: Global, room: usize, text: &[u8], told: &[u8], status: u8) -> bool {
+    let mut out = Page::new(alloc, room);
+    let mut err = Page::new(alloc, 100);
+    let ended = tell_verdict(&STRAY, &mut out, &mut err);
+    out.bytes.as_slice() == text && err.bytes.as_slice() == told && ended == status
+}
+
+#[test]
+fn a_verdict_is_told(rt: HostRuntime) {
+    let line = b"broken H4 at instant 3 time 20 line DTACK\n";
+    let full = b"vmecheck: cannot write\n";
+    assert!(rt; tells(rt.alloc(), 100, line, b"", 1));
+    assert!(rt; tells(rt.alloc(), 0, b"", full, 5));
+    assert!(rt; verdict_line(&STRAY).as_bytes() == line.as_slice());
+    assert!(rt; cannot_write_line().as_bytes() == full.as_slice());
+    assert!(rt;
+        verdict_status(&Verdict::Conforming) == 0 && verdict_status(&Verdict::NeverIdle) == 2
+    );
+}
+
+/// Whether inputs are refused for this reason.
+fn is_refused(alloc: Global, binding: &str, dump: &str, wanted: &Refusal) -> bool {
+    match judged(alloc, binding, dump, 16_384) {
+        Ok(_) => false,
+        Err(refusal) => refusal == *wanted,
+    }
+}
+
+#[test]
+fn the_first_reason_is_answered(rt: HostRuntime) {
+    let bad_binding = Refusal::BadBinding(BindFault {
+        line: 1,
+        kind: BindFaultKind::SlotsFirst,
+    });
+    let bad_dump = Refusal::BadDump(VcdFault {
+        line: 1,
+        kind: FaultKind::BadToken,
+    });
+    let no_path = Refusal::BadBinding(BindFault {
+        line: 2,
+        kind: BindFaultKind::NoSuchPath,
+    });
+    assert!(rt; is_refused(rt.alloc(), "AS = 1\n", "AS\n", &bad_binding));
+    assert!(rt; is_refused(rt.alloc(), BINDING, "AS\n", &bad_dump));
+    assert!(rt; is_refused(rt.alloc(), BINDING, "$enddefinitions $end\n#0\n", &no_path));
+}
+
+/// Whether a refusal is told by this line, with this status.
+fn is_told(refusal: Refusal, text: &str, status: u8) -> bool {
+    refusal_line(&refusal).as_bytes() == text.as_bytes() && refusal.status() == status
+}
+
+/// Whether inputs that can't be read are.
+fn are_inputs_told() -> bool {
+    is_told(
+        Refusal::CannotOpen(Input::Binding),
+        "vmecheck: cannot open binding\n",
+        3,
+    ) && is_told(
+        Refusal::of_input(Input::Dump, InFault::Read),
+        "vmecheck: cannot read dump\n",
+        3,
+    ) && is_told(
+        Refusal::of_input(Input::Listing, InFault::TooLong),
+        "vmecheck: listing too long\n",
+        3,
+    )
+}
+
+/// Whether faults of inputs are.
+fn are_faults_told() -> bool {
+    let unbound = BindFault {
+        line: 7,
+        kind: BindFaultKind::Unbound(Line::DTACK),
+    };
+    let backwards = VcdFault {
+        line: 12,
+        kind: FaultKind::TimeBackwards,
+    };
+    is_told(
+        Refusal::of_binding(unbound),
+        "vmecheck: binding line 7: Unbound DTACK\n",
+        3,
+    ) && is_told(
+        Refusal::of_dump(backwards),
+        "vmecheck: dump line 12: TimeBackwards\n",
+        3,
+    ) && is_told(
+        Refusal::of_listing(ListFault::BadRow { row: 2 }),
+        "vmecheck: listing row 2: BadRow\n",
+        3,
+    )
+}
+
+/// Whether recordings that aren't judged are.
+fn are_recordings_told() -> bool {
+    is_told(
+        Refusal::of_judging(NoVerdict::TooManyBlocks),
+        "vmecheck: too many blocks\n",
+        3,
+    ) && is_told(
+        Refusal::of_listing(ListFault::Memory),
+        "vmecheck: out of memory\n",
+        4,
+    )
+}
+
+#[test]
+fn refusals_are_told(rt: HostRuntime) {
+    assert!(rt; are_inputs_told());
+    assert!(rt; are_faults_told());
+    assert!(rt; are_recordings_told());
+}
