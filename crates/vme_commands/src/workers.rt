@@ -69,7 +69,8 @@ impl<'r, R: Threads + Sync> Workers<'r, R> {
         self.count > 1 && len < self.share.saturating_mul(self.count as usize)
     }
 
-    /// Takes the next piece of a dump, which ends behind a space, or where the dump does.
+    /// Takes the next piece of a dump, which ends behind a space, or where the dump does. One worker reads it in order,
+    /// without a thread.
     pub fn read<J: ChunkJudge + Send>(
         &self,
         alloc: Global,
@@ -81,6 +82,9 @@ impl<'r, R: Threads + Sync> Workers<'r, R> {
         ensures rest { TextContinuesAs (λ next. outcome_ahead (text_reached next) []) result
             (outcome_ahead (text_reached text) (tokens_from (text_reached text).body.line piece.now)) }
     {
+        if self.count <= 1 {
+            return text.read(alloc, piece);
+        }
         read_by_workers(self.rt, alloc, text, piece, self.count, &self.speculation)
     }
 }

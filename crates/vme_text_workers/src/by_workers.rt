@@ -155,9 +155,13 @@ fn read_up_to_last_time<R: Threads + Sync, J: ChunkJudge + Send>(
     text.read(alloc, behind)
 }
 
-/// The same, from its first time on. It is a function of its own, so that one worker takes no room for it.
+/// Takes the next piece of the text, which ends behind a space, or where the text does. From its first time to its last
+/// it is read and judged by so many workers, each in a thread of its own, as far as it fits behind what stands before;
+/// all else is read in order. The assumption is what the pieces before left of it, or a new one: it changes no answer.
+/// Errors are those of `TextPieces::read`. It is never inlined, so that a caller with one worker, which reads in order
+/// without it, takes no room for it.
 #[inline(never)]
-fn read_from_first_time<R: Threads + Sync, J: ChunkJudge + Send>(
+pub fn read_by_workers<R: Threads + Sync, J: ChunkJudge + Send>(
     rt: &R,
     alloc: Global,
     text: TextPieces<StreamJudge<J>>,
@@ -175,27 +179,4 @@ fn read_from_first_time<R: Threads + Sync, J: ChunkJudge + Send>(
     };
     let text = text.read(alloc, front)?;
     read_up_to_last_time(rt, alloc, text, behind, workers, speculation)
-}
-
-/// Takes the next piece of the text, which ends behind a space, or where the text does. From its first time to its last
-/// it is read and judged by so many workers, each in a thread of its own, as far as it fits behind what stands before;
-/// all else is read in order. One worker reads all of it in order, without a thread. The assumption is what the pieces
-/// before left of it, or a new one: it changes no answer. Errors are those of `TextPieces::read`.
-pub fn read_by_workers<R: Threads + Sync, J: ChunkJudge + Send>(
-    rt: &R,
-    alloc: Global,
-    text: TextPieces<StreamJudge<J>>,
-    piece: &[u8],
-    workers: u32,
-    speculation: &Speculation,
-) -> Result<TextPieces<StreamJudge<J>>, CaptureFault>
-    ensures line { IfOk result (λ text'. (text_reached text').body.line
-        ≡ line_behind (text_reached text).body.line piece.now) }
-    ensures rest { TextContinuesAs (λ text'. outcome_ahead (text_reached text') []) result
-        (outcome_ahead (text_reached text) (tokens_from (text_reached text).body.line piece.now)) }
-{
-    if workers <= 1 {
-        return text.read(alloc, piece);
-    }
-    read_from_first_time(rt, alloc, text, piece, workers, speculation)
 }

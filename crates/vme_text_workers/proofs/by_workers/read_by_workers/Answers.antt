@@ -1,6 +1,6 @@
 use Rattle.vme_bind.specs.TextPieces.{text_reached}
 use Rattle.vme_text_workers.proofs.ReadLemmas.{both-lead, both-lines}
-use Rattle.vme_text_workers.proofs.by_workers.read_from_first_time.Goals as goal
+use Rattle.vme_text_workers.proofs.by_workers.read_by_workers.Goals as goal
 
 pub returns-clause-line : goal.returns-clause-line
 returns-clause-line g c =
