@@ -38,6 +38,15 @@ impl<T> Io<T> {
     }
 }
 
+impl<T: Read> Io<T> {
+    /// What it reads by.
+    pub fn reader(&self) -> &T
+        ensures { (⟦<Io<T> as Source>⟧.reading self.now).left ≡ T.remaining result.now }
+    {
+        &self.inner
+    }
+}
+
 impl<T: Read> Source for Io<T> {
     ghost reading = { λ io. record {
       left = T.remaining io.inner;

@@ -105,6 +105,12 @@ fn a_source_is_read_to_its_end(rt: HostRuntime) -> Result<(), Fail> {
     Ok(())
 }
 
+#[test]
+fn the_reader_of_a_source_is_lent(rt: HostRuntime) {
+    let source = Io::new(Pieces::new(TEXT, 7, false));
+    assert!(rt; source.reader().left == TEXT);
+}
+
 /// Each read has room for 4,096 bytes, whether the reader gives one byte at once, or all that it has room for.
 #[test]
 fn each_read_has_room(rt: HostRuntime) -> Result<(), Fail> {

@@ -9,14 +9,13 @@ use vme_explain::{FileId, PathEntry, is_save_file};
 use vme_picture::is_picture;
 use vme_program::{Environment, WriteResult};
 use vme_stream::Io;
-use vme_trace::{Failed, Source};
 
 /// How many bytes of a file tell whether the program wrote it.
 const BEGIN: usize = 64;
 
 /// What bytes are read from.
 #[derive(Drop)]
-enum Stream {
+pub(crate) enum Stream {
     /// A file.
     File(File),
     /// Standard input.
@@ -29,22 +28,6 @@ impl Read for Stream {
             Stream::File(file) => file.read(buffer),
             Stream::Input(input) => input.read(buffer),
         }
-    }
-}
-
-/// What reads a file, or standard input.
-#[derive(Drop)]
-pub(crate) struct HostReader {
-    source: Io<Stream>,
-    /// Which file it is, if it can be told.
-    id: Option<FileId>,
-}
-
-impl Source for HostReader {
-    ghost reading = { λ reader. ⟦<Io<Stream> as Source>⟧.reading reader.source };
-
-    fn read(&mut self, buffer: &mut [u8]) -> Result<usize, Failed> {
-        self.source.read(buffer)
     }
 }
 
@@ -62,7 +45,7 @@ impl<'a> Host<'a> {
 
 // What a file, standard input or a path gives is nothing that a contract can say.
 impl Environment for Host<'_> {
-    type Reader = HostReader;
+    type Reader = Io<Stream>;
 
     ghost opens = { λ _ _ _. Unit {0} };
 
@@ -80,32 +63,26 @@ impl Environment for Host<'_> {
 
     ghost writes = { λ _ _ _ _. Unit {0} };
 
-    fn open_file(&self, name: &str) -> Option<HostReader> {
+    fn open_file(&self, name: &str) -> Option<Io<Stream>> {
         match fs::open(self.rt, name) {
-            Ok(file) => {
-                let id = id_of(file.metadata());
-                Some(HostReader {
-                    source: Io::new(Stream::File(file)),
-                    id,
-                })
-            }
+            Ok(file) => Some(Io::new(Stream::File(file))),
             Err(_) => None,
         }
     }
 
-    fn input(&self) -> HostReader {
-        HostReader {
-            source: Io::new(Stream::Input(self.rt.stdin())),
-            id: None,
-        }
+    fn input(&self) -> Io<Stream> {
+        Io::new(Stream::Input(self.rt.stdin()))
     }
 
     fn is_terminal(&self) -> bool {
         self.rt.stdin().is_terminal()
     }
 
-    fn id_of(&self, reader: &HostReader) -> Option<FileId> {
-        reader.id
+    fn id_of(&self, source: &Io<Stream>) -> Option<FileId> {
+        match source.reader() {
+            Stream::File(file) => id_of(file.metadata()),
+            Stream::Input(_) => None,
+        }
     }
 
     fn id_at(&self, path: &str) -> Option<FileId> {
