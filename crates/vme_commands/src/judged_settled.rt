@@ -2,7 +2,7 @@
 
 ghost use Rattle.std.specs.Prelude.{◌≡◌, ◌≤◌, ℕ, List, Option, None, IfOk, length};
 ghost use Rattle.vme_bind.specs.Capture.{limited};
-ghost use Rattle.vme_stream.specs.Answers.{AnswerGives, dump_read, or_bad_binding, recording_by, recording_read};
+ghost use Rattle.vme_stream.specs.Answers.{AnswerGives, dump_read, or_bad_binding, recording_by};
 ghost use Rattle.vme_stream.specs.Inputs.{IsReading, longest_input};
 ghost use Rattle.vme_trace.specs.WellFormed.{capture_limit, malformed_step};
 ghost use Rattle.vme_commands.specs.Settled.{settled_read};
@@ -56,37 +56,17 @@ fn judged_by_skew<K: GhostSkew, B: Source, D: Source, J: ChunkJudge>(
     ensures formed { IfOk result (λ w. malformed_step w ≡ None) }
     ensures short { IfOk result (λ w. length w.steps ≤ capture_limit) }
 {
-    match settled_dump::<K, B, D, J>(alloc, piece, binding, dump, skew) {
-        Ok(settling) => settled_judge(alloc, settling),
-        Err(refusal) => Err(refusal),
-    }
-}
-
-/// What settled that recording as far as it is complete, in front of what judges it.
-fn settled_dump<K: GhostSkew, B: Source, D: Source, J: ChunkJudge>(
-    alloc: Global,
-    piece: usize,
-    binding: &mut B,
-    dump: &mut D,
-    skew: u64,
-) -> Result<SettlingVisitor<K, StreamJudge<J>>, Refusal>
-    requires piece { (1 ≤ piece) × (piece ≤ longest_input) }
-    requires skew { skew ≡ K.skew }
-    ensures gives { (binding_bytes dump_bytes : Option (List ℕ))
-        × IsReading (B.reading binding.old) (B.reading binding.new) binding_bytes
-        × IsReading (D.reading dump.old) (D.reading dump.new) dump_bytes
-        × AnswerGives (λ w. w) result (recording_read binding_bytes dump_bytes) }
-    ensures formed { IfOk result (λ w. malformed_step w ≡ None) }
-{
-    match binding_from(alloc, binding) {
-        Ok(bound) => {
-            let lines = bound.lines();
-            let stream_judge = StreamJudge::new(alloc, lines);
-            let settling = SettlingVisitor::new(alloc, lines, skew, stream_judge);
-            taken_in_order(alloc, piece, &bound, dump, settling)
-        }
-        Err(refusal) => Err(refusal),
-    }
+    let bound = binding_from(alloc, binding)?;
+    let lines = bound.lines();
+    let stream_judge = StreamJudge::new(alloc, lines);
+    let settling: SettlingVisitor<K, StreamJudge<J>> = SettlingVisitor::new(
+        alloc,
+        lines,
+        skew,
+        stream_judge,
+    );
+    let settled = taken_in_order(alloc, piece, &bound, dump, settling)?;
+    settled_judge(alloc, settled)
 }
 
 /// What took the recording that a binding makes of a dump, which is read in order, so many bytes at once.
