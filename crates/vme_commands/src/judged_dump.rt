@@ -1,7 +1,7 @@
 //! The recording that a binding makes of a dump, judged as the dump is read.
 
 ghost use Rattle.std.specs.Prelude.{◌≡◌, ℕ, List, Option, None, IfOk};
-ghost use Rattle.vme_stream.specs.Answers.{AnswerGives, dump_read, recording_by, recording_read};
+ghost use Rattle.vme_stream.specs.Answers.{AnswerGives, recording_read};
 ghost use Rattle.vme_stream.specs.Inputs.{IsReading};
 ghost use Rattle.vme_trace.specs.WellFormed.{malformed_step};
 
@@ -9,7 +9,6 @@ use crate::dump_judge::DumpJudge;
 use crate::workers::Workers;
 use std::alloc::Global;
 use std::thread::Threads;
-use vme_bind::Binding;
 use vme_stream::{Input, Refusal, binding_from, read_by};
 use vme_summary::chunk_judge::ChunkJudge;
 use vme_summary::stream_judge::StreamJudge;
@@ -29,25 +28,8 @@ pub(crate) fn judged_dump<R: Threads + Sync, B: Source, D: Source, J: ChunkJudge
         × AnswerGives (λ w. w) result (recording_read binding_bytes dump_bytes) }
     ensures formed { IfOk result (λ w. malformed_step w ≡ None) }
 {
-    match binding_from(alloc, binding) {
-        Ok(bound) => judged_dump_by(alloc, workers, &bound, dump),
-        Err(refusal) => Err(refusal),
-    }
-}
-
-/// The same where the binding was read.
-pub(crate) fn judged_dump_by<R: Threads + Sync, D: Source, J: ChunkJudge + Send>(
-    alloc: Global,
-    workers: &Workers<'_, R>,
-    bound: &Binding,
-    dump: &mut D,
-) -> Result<StreamJudge<J>, Refusal>
-    ensures gives { (bytes : Option (List ℕ))
-        × IsReading (D.reading dump.old) (D.reading dump.new) bytes
-        × AnswerGives (λ w. w) result (recording_by bound.now (dump_read bytes)) }
-    ensures formed { IfOk result (λ w. malformed_step w ≡ None) }
-{
-    let dump_judge = DumpJudge::new(workers, bound, StreamJudge::new(alloc, bound.lines()));
+    let bound = binding_from(alloc, binding)?;
+    let dump_judge = DumpJudge::new(workers, &bound, StreamJudge::new(alloc, bound.lines()));
     match read_by(
         alloc,
         dump,
