@@ -132,10 +132,8 @@ fn judge_in_order<B: Source, D: Source>(
         × IsReading (D.reading dump.old) (D.reading dump.new) dump_bytes
         × AnswerGives (λ verdict. verdict) result (settled_judgement skew binding_bytes dump_bytes block) }
 {
-    match judged_settled(alloc, piece, binding, dump, skew) {
-        Ok(judge) => verdict_of(alloc, judge, block),
-        Err(refusal) => Err(refusal),
-    }
+    let judge = judged_settled(alloc, piece, binding, dump, skew)?;
+    verdict_of(alloc, judge, block)
 }
 
 /// The verdict on the recording that a binding makes of a dump, or the first reason that there is none.
@@ -153,10 +151,8 @@ fn judge<R: Threads + Sync, B: Source, D: Source>(
         × IsReading (D.reading dump.old) (D.reading dump.new) dump_bytes
         × AnswerGives (λ verdict. verdict) result (judgement_of binding_bytes dump_bytes block) }
 {
-    match judged_dump(alloc, workers, binding, dump) {
-        Ok(judge) => verdict_of(alloc, judge, block),
-        Err(refusal) => Err(refusal),
-    }
+    let judge = judged_dump(alloc, workers, binding, dump)?;
+    verdict_of(alloc, judge, block)
 }
 
 /// The verdict on a recording whose steps were judged.

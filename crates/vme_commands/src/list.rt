@@ -180,10 +180,8 @@ fn listing_in_order<B: Source, D: Source>(
         × IsReading (D.reading dump.old) (D.reading dump.new) dump_bytes
         × GivesListing result (settled_recording skew binding_bytes dump_bytes block) }
 {
-    match judged_settled(alloc, piece, binding, dump, skew) {
-        Ok(lister) => listing_of_steps(alloc, lister, block),
-        Err(refusal) => Err(refusal),
-    }
+    let lister = judged_settled(alloc, piece, binding, dump, skew)?;
+    listing_of_steps(alloc, lister, block)
 }
 
 /// The listing of the recording that a binding makes of a dump, or the first reason that there is none.
@@ -201,10 +199,8 @@ fn listing<R: Threads + Sync, B: Source, D: Source>(
         × IsReading (D.reading dump.old) (D.reading dump.new) dump_bytes
         × GivesListing result (recording_in_blocks binding_bytes dump_bytes block) }
 {
-    match judged_dump(alloc, workers, binding, dump) {
-        Ok(lister) => listing_of_steps(alloc, lister, block),
-        Err(refusal) => Err(refusal),
-    }
+    let lister = judged_dump(alloc, workers, binding, dump)?;
+    listing_of_steps(alloc, lister, block)
 }
 
 /// The listing of a recording whose steps were judged.

@@ -1,26 +1,31 @@
 use Rattle.std.proofs.Common.{◌∙◌, sym}
+use Rattle.std.proofs.lemmas.Result.{err_from_is_err_and}
 use Rattle.vme_commands.proofs.JudgedLemmas.{judged-short}
 use Rattle.vme_commands.proofs.SettledLemmas.{judgement-given, judgement-refused}
 use Rattle.vme_commands.proofs.check.judge_in_order.Goals as goal
 
-pub returns-in-Ok : goal.returns-in-Ok
-returns-in-Ok g c =
-    let (bound, bytes, bound_reading, reading, is) = c.in-Ok.ensures.gives in
-    let t = c.in-Ok.judge in (
+pub returns-in_err-judge : goal.returns-in_err-judge
+returns-in_err-judge g c =
+    let p = err_from_is_err_and c.from_residual.result c.from_residual.ensures.1 in
+    let refusal = c.in_err-judge.field-0.0 in
+    let (bound, bytes, bound_reading, reading, refused) = c.in_err-judge.ensures.gives in
+    rw (p.1, p.2) (
+      bound,
+      bytes,
+      bound_reading,
+      reading,
+      judgement-refused c.args.skew bound bytes c.args.block refusal refused,
+    )
+
+pub returns : goal.returns
+returns g c =
+    let (bound, bytes, bound_reading, reading, is) = c.in_ok-judge.ensures.gives in
+    let t = c.in_ok-judge.judge in (
       bound,
       bytes,
       bound_reading,
       reading,
       rw (judgement-given c.args.skew bound bytes c.args.block t is
-          ∙ sym (judged-short t c.args.block c.in-Ok.ensures.short)) (c.verdict_of.ensures c.in-Ok.ensures.formed),
-    )
-
-pub returns-in-Err : goal.returns-in-Err
-returns-in-Err g c =
-    let (bound, bytes, bound_reading, reading, refused) = c.in-Err.ensures.gives in (
-      bound,
-      bytes,
-      bound_reading,
-      reading,
-      judgement-refused c.args.skew bound bytes c.args.block c.in-Err.refusal refused,
+          ∙ sym (judged-short t c.args.block c.in_ok-judge.ensures.short))
+          (c.verdict_of.ensures c.in_ok-judge.ensures.formed),
     )

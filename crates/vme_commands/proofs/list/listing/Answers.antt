@@ -1,25 +1,29 @@
+use Rattle.std.proofs.lemmas.Result.{err_from_is_err_and}
 use Rattle.vme_stream.proofs.AnswerLemmas.{capture_read-unrecorded}
 use Rattle.vme_commands.proofs.ListLemmas.{recording_in_blocks-refused, recording_in_blocks-recorded}
 use Rattle.vme_commands.proofs.list.listing.Goals as goal
 
-pub returns-in-Ok : goal.returns-in-Ok
-returns-in-Ok g c =
-    let (bound, bytes, bound_reading, reading, recorded) = c.in-Ok.ensures.gives in (
+pub returns-in_err-lister : goal.returns-in_err-lister
+returns-in_err-lister g c =
+    let p = err_from_is_err_and c.from_residual.result c.from_residual.ensures.1 in
+    let refusal = c.in_err-lister.field-0.0 in
+    let (bound, bytes, bound_reading, reading, refused) = c.in_err-lister.ensures.gives in
+    rw (p.1, p.2) (
+      bound,
+      bytes,
+      bound_reading,
+      reading,
+      recording_in_blocks-refused bound bytes c.args.block refusal
+          (capture_read-unrecorded bound bytes refusal refused),
+    )
+
+pub returns : goal.returns
+returns g c =
+    let (bound, bytes, bound_reading, reading, recorded) = c.in_ok-lister.ensures.gives in (
       bound,
       bytes,
       bound_reading,
       reading,
       rw (recording_in_blocks-recorded bound bytes c.args.block _ recorded)
-          (c.listing_of_steps.ensures c.in-Ok.ensures.formed),
-    )
-
-pub returns-in-Err : goal.returns-in-Err
-returns-in-Err g c =
-    let (bound, bytes, bound_reading, reading, refused) = c.in-Err.ensures.gives in (
-      bound,
-      bytes,
-      bound_reading,
-      reading,
-      recording_in_blocks-refused bound bytes c.args.block c.in-Err.refusal
-          (capture_read-unrecorded bound bytes c.in-Err.refusal refused),
+          (c.listing_of_steps.ensures c.in_ok-lister.ensures.formed),
     )

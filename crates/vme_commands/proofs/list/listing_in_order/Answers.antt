@@ -1,29 +1,32 @@
 use Rattle.std.proofs.Common.{◌∙◌, sym}
+use Rattle.std.proofs.lemmas.Result.{err_from_is_err_and}
 use Rattle.vme_commands.proofs.JudgedLemmas.{limited-short}
 use Rattle.vme_commands.proofs.ListLemmas.{refused_listing}
 use Rattle.vme_commands.proofs.SettledLemmas.{recording-given, recording-refused}
 use Rattle.vme_commands.proofs.list.listing_in_order.Goals as goal
 
-pub returns-in-Ok : goal.returns-in-Ok
-returns-in-Ok g c =
-    let (bound, bytes, bound_reading, reading, is) = c.in-Ok.ensures.gives in
-    let t = c.in-Ok.lister in (
+pub returns-in_err-lister : goal.returns-in_err-lister
+returns-in_err-lister g c =
+    let p = err_from_is_err_and c.from_residual.result c.from_residual.ensures.1 in
+    let refusal = c.in_err-lister.field-0.0 in
+    let (bound, bytes, bound_reading, reading, refused) = c.in_err-lister.ensures.gives in
+    rw (p.1, p.2) (
+      bound,
+      bytes,
+      bound_reading,
+      reading,
+      refused_listing refusal _ (recording-refused c.args.skew bound bytes c.args.block refusal refused),
+    )
+
+pub returns : goal.returns
+returns g c =
+    let (bound, bytes, bound_reading, reading, is) = c.in_ok-lister.ensures.gives in
+    let t = c.in_ok-lister.lister in (
       bound,
       bytes,
       bound_reading,
       reading,
       rw (recording-given c.args.skew bound bytes c.args.block t is
-          ∙ sym (limited-short t c.args.block c.in-Ok.ensures.short))
-          (c.listing_of_steps.ensures c.in-Ok.ensures.formed),
-    )
-
-pub returns-in-Err : goal.returns-in-Err
-returns-in-Err g c =
-    let (bound, bytes, bound_reading, reading, refused) = c.in-Err.ensures.gives in (
-      bound,
-      bytes,
-      bound_reading,
-      reading,
-      refused_listing c.in-Err.refusal _
-          (recording-refused c.args.skew bound bytes c.args.block c.in-Err.refusal refused),
+          ∙ sym (limited-short t c.args.block c.in_ok-lister.ensures.short))
+          (c.listing_of_steps.ensures c.in_ok-lister.ensures.formed),
     )
