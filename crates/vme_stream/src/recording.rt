@@ -25,23 +25,8 @@ pub fn capture_from<B: Source, D: Source>(
         × IsReading (D.reading dump.old) (D.reading dump.new) dump_bytes
         × AnswerGives (λ capture. capture) result (capture_read binding_bytes dump_bytes) }
 {
-    match binding_from(alloc, binding) {
-        Ok(bound) => capture_of_dump(alloc, &bound, dump),
-        Err(refusal) => Err(refusal),
-    }
-}
-
-/// The recording that a binding makes of a dump that is to be read.
-fn capture_of_dump<D: Source>(
-    alloc: Global,
-    bound: &Binding,
-    dump: &mut D,
-) -> Result<Capture, Refusal>
-    ensures { (bytes : Option (List ℕ))
-        × IsReading (D.reading dump.old) (D.reading dump.new) bytes
-        × AnswerGives (λ capture. capture) result (capture_by bound.now (dump_read bytes)) }
-{
-    match recorded_from(alloc, bound, dump) {
+    let bound = binding_from(alloc, binding)?;
+    match recorded_from(alloc, &bound, dump) {
         Ok(Ok(capture)) => Ok(capture),
         Ok(Err(fault)) => Err(Refusal::BadBinding(fault)),
         Err(refusal) => Err(refusal),

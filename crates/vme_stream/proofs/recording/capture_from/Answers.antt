@@ -1,15 +1,43 @@
+use Rattle.std.proofs.lemmas.Result.{err_from_is_err_and}
+use Rattle.vme_stream.specs.Answers.{dump_read}
 use Rattle.vme_stream.proofs.InputLemmas.{unread}
-use Rattle.vme_stream.proofs.AnswerLemmas.{capture_read-refused, capture_read-bound}
+use Rattle.vme_stream.proofs.AnswerLemmas.{capture_by-recorded, capture_by-refused, capture_read-bound}
+use Rattle.vme_stream.proofs.AnswerLemmas.{capture_read-refused}
 use Rattle.vme_stream.proofs.recording.capture_from.Goals as goal
 
-pub returns-in-Ok : goal.returns-in-Ok
-returns-in-Ok g c =
-    let (bound, bound_reading, bound_is) = c.in-Ok.ensures in
-    let (bytes, reading, given) = c.capture_of_dump.ensures in
-    (bound, bytes, bound_reading, reading, rw (capture_read-bound bound bytes _ bound_is) given)
+pub returns-in_err-bound : goal.returns-in_err-bound
+returns-in_err-bound g c =
+    let p = err_from_is_err_and c.from_residual.result c.from_residual.ensures.1 in
+    let refusal = c.in_err-bound.field-0.0 in
+    let (bound, bound_reading, refused) = c.in_err-bound.ensures in
+    let left = unread (g.D.Source.reading c.args.dump.now) in
+    rw (p.1, p.2) (bound, left.0, bound_reading, left.1, capture_read-refused bound left.0 refusal refused)
+
+pub returns-in-Ok-Ok : goal.returns-in-Ok-Ok
+returns-in-Ok-Ok g c =
+    let bound = c.in_ok-bound.bound in
+    let (binding, bound_reading, bound_is) = c.in_ok-bound.ensures in
+    let (bytes, reading, is) = c.in-Ok-Ok.ensures in
+    let captured = rw c.in-Ok-Ok.field-0-is at (capture_by-recorded bound (dump_read bytes) _ is) in
+    (binding, bytes, bound_reading, reading, rw (capture_read-bound binding bytes bound bound_is) captured)
+
+pub returns-in-Ok-Err : goal.returns-in-Ok-Err
+returns-in-Ok-Err g c =
+    let bound = c.in_ok-bound.bound in
+    let (binding, bound_reading, bound_is) = c.in_ok-bound.ensures in
+    let (bytes, reading, is) = c.in-Ok-Err.ensures in
+    let captured = rw c.in-Ok-Err.field-0-is at (capture_by-recorded bound (dump_read bytes) _ is) in
+    (binding, bytes, bound_reading, reading, rw (capture_read-bound binding bytes bound bound_is) captured)
 
 pub returns-in-Err : goal.returns-in-Err
 returns-in-Err g c =
-    let (bound, bound_reading, refused) = c.in-Err.ensures in
-    let left = unread (g.D.Source.reading c.args.dump.now) in
-    (bound, left.0, bound_reading, left.1, capture_read-refused bound left.0 c.in-Err.refusal refused)
+    let bound = c.in_ok-bound.bound in
+    let (binding, bound_reading, bound_is) = c.in_ok-bound.ensures in
+    let (bytes, reading, refused) = c.in-Err.ensures in (
+      binding,
+      bytes,
+      bound_reading,
+      reading,
+      rw (capture_read-bound binding bytes bound bound_is)
+          (capture_by-refused bound (dump_read bytes) c.in-Err.refusal refused),
+    )
