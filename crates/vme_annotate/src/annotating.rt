@@ -1,7 +1,6 @@
 //! A dump that is written again, annotated with the listing of its recording.
 
 ghost use Rattle.std.specs.Prelude.{◌≡◌, ◌↔◌, ℕ, suc, List, Ok, Option, Some};
-ghost use Rattle.vme_stream.specs.Answers.{dump_read};
 ghost use Rattle.vme_stream.specs.Ends.{Ends};
 ghost use Rattle.vme_commands.specs.Settled.{settled_recording};
 ghost use Rattle.vme_commands.specs.declared.built_in.TheConstants.{BLOCK};
@@ -10,7 +9,6 @@ ghost use Rattle.vme_trace.specs.Trace.{Trace};
 ghost use Rattle.vme_annotation.specs.Annotated.{IsAnnotated};
 ghost use Rattle.vme_annotate.specs.Answers.{Annotates, AnnotatesExactly, annotation_answer_by};
 ghost use Rattle.vme_annotate.specs.Prepared.{GivesPrepared, IsPrepared, recording_in};
-ghost use Rattle.vme_annotate.specs.TimedListings.{listed_in};
 
 use crate::added::{AddedVariables, added_to};
 use crate::changes::{PlannedChange, changes_of};
@@ -117,25 +115,9 @@ fn annotated_from<B: Source, D: Source>(
         × IsReading (D.reading dump.old) (D.reading dump.new) dump_bytes
         × GivesPrepared dump_bytes result (settled_recording skew binding_bytes dump_bytes BLOCK) }
 {
-    match binding_from(alloc, binding) {
-        Ok(bound) => annotated_by(alloc, &bound, dump, skew),
-        Err(refusal) => Err(refusal),
-    }
-}
-
-/// The same, by a binding.
-fn annotated_by<D: Source>(
-    alloc: Global,
-    bound: &Binding,
-    dump: &mut D,
-    skew: u64,
-) -> Result<AnnotatedDump, Refusal>
-    ensures { (bytes : Option (List ℕ))
-        × IsReading (D.reading dump.old) (D.reading dump.new) bytes
-        × GivesPrepared bytes result (listed_in skew bound.now (dump_read bytes) BLOCK) }
-{
+    let bound = binding_from(alloc, binding)?;
     match read_all(alloc, dump) {
-        Ok(text) => annotated_in(alloc, bound, text, skew),
+        Ok(text) => annotated_in(alloc, &bound, text, skew),
         Err(fault) => Err(Refusal::of_input(Input::Dump, fault)),
     }
 }

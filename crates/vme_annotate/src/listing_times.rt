@@ -115,10 +115,7 @@ fn listing_from<B: Source, D: Source>(
         × IsReading (D.reading dump.old) (D.reading dump.new) dump_bytes
         × GivesTimed result (settled_recording skew binding_bytes dump_bytes block) }
 {
-    let bound = match binding_from(alloc, binding) {
-        Ok(bound) => bound,
-        Err(refusal) => return Err(refusal),
-    };
+    let bound = binding_from(alloc, binding)?;
     match read_all(alloc, dump) {
         Ok(text) => listed_in(alloc, &bound, &text, skew, block),
         Err(fault) => Err(Refusal::of_input(Input::Dump, fault)),

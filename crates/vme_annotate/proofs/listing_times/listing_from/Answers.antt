@@ -1,5 +1,6 @@
 use Rattle.std.proofs.Common.{◌≤◌, ◌∙◌, ap, length, rules, subst, sym}
 use Rattle.std.proofs.lemmas.List.{places}
+use Rattle.std.proofs.lemmas.Result.{err_from_is_err_and}
 use Rattle.std.specs.Prelude.{Result, Some}
 use Rattle.vcd_read.specs.Contents.{Contents}
 use Rattle.vme_stream.specs.declared.refusal.Refusal.{Refusal}
@@ -10,37 +11,40 @@ use Rattle.vme_annotate.specs.TimedListings.{GivesTimed, listed_in}
 use Rattle.vme_annotate.proofs.ListedLemmas.{recording_is, unbound, unread_dump}
 use Rattle.vme_annotate.proofs.listing_times.listing_from.Goals as goal
 
-pub returns-in-Err : goal.returns-in-Err
-returns-in-Err g c =
-    let (binding, binding_reading, refused) = c.in-Err.ensures in
+pub returns-in_err-bound : goal.returns-in_err-bound
+returns-in_err-bound g c =
+    let p = err_from_is_err_and c.from_residual.result c.from_residual.ensures.1 in
+    let refusal = c.in_err-bound.field-0.0 in
+    let (binding, binding_reading, refused) = c.in_err-bound.ensures in
     let left = unread (g.D.Source.reading c.args.dump.now) in
-    (binding, left.0, binding_reading, left.1, unbound c.args.skew c.args.block binding left.0 c.in-Err.refusal refused)
+    rw (p.1, p.2)
+    (binding, left.0, binding_reading, left.1, unbound c.args.skew c.args.block binding left.0 refusal refused)
 
-pub returns-in-Ok-read_all : goal.returns-in-Ok-read_all
-returns-in-Ok-read_all g c =
-    let (binding, binding_reading, bound_is) = c.in-Ok.ensures in
-    let text = c.in-Ok-read_all.text.items in
+pub returns-in-Ok : goal.returns-in-Ok
+returns-in-Ok g c =
+    let (binding, binding_reading, bound_is) = c.in_ok-bound.ensures in
+    let text = c.in-Ok.text.items in
     let short : length text ≤ longest_input = search (rules, places) in
-    let read = recording_is c.args.skew c.args.block binding (Some text) c.in-Ok.bound bound_is
-    ∙ ap (λ (dump : Result Contents Refusal). listed_in c.args.skew c.in-Ok.bound dump c.args.block)
+    let read = recording_is c.args.skew c.args.block binding (Some text) c.in_ok-bound.bound bound_is
+    ∙ ap (λ (dump : Result Contents Refusal). listed_in c.args.skew c.in_ok-bound.bound dump c.args.block)
     (dump_read-whole text short) in (
       binding,
       Some text,
       binding_reading,
-      c.in-Ok-read_all.ensures.bytes,
+      c.in-Ok.ensures.bytes,
       subst (GivesTimed c.listed_in.result)
           (sym read) (rw c.deref.ensures.value at c.listed_in.ensures),
     )
 
 pub returns : goal.returns
 returns g c =
-    let (binding, binding_reading, bound_is) = c.in-Ok.ensures in
-    let (dump, dump_reading, refused) = dump_refused _ _ c.read_all.result c.in-Err-read_all.fault c.in-Err-read_all.is
+    let (binding, binding_reading, bound_is) = c.in_ok-bound.ensures in
+    let (dump, dump_reading, refused) = dump_refused _ _ c.read_all.result c.in-Err.fault c.in-Err.is
     c.read_all.ensures.read c.read_all.ensures.too_long c.read_all.ensures.memory in
     rw c.of_input.ensures (
       binding,
       dump,
       binding_reading,
       dump_reading,
-      unread_dump c.args.skew c.args.block binding dump c.in-Ok.bound _ bound_is refused,
+      unread_dump c.args.skew c.args.block binding dump c.in_ok-bound.bound _ bound_is refused,
     )
