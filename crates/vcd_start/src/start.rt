@@ -75,10 +75,10 @@ fn start_by_tokens(alloc: Global, front: &[u8]) -> Result<Start, AllocError>
     match read_in(alloc, front) {
         Ok(Some(pieces)) => Ok(told_by(pieces)),
         Ok(None) => Ok(Start::NotTold),
-        Err(fault) => match unless_memory(fault) {
-            Ok(()) => Ok(Start::Told(None)),
-            Err(error) => Err(error),
-        },
+        Err(fault) => {
+            unless_memory(fault)?;
+            Ok(Start::Told(None))
+        }
     }
 }
 
@@ -98,15 +98,15 @@ pub fn start_of_text(alloc: Global, text: &[u8]) -> Result<Option<u64>, AllocErr
     match read_in(alloc, text) {
         Ok(Some(pieces)) => match pieces.finish(alloc) {
             Ok(first) => Ok(first.into_time()),
-            Err(fault) => match unless_memory(fault) {
-                Ok(()) => Ok(None),
-                Err(error) => Err(error),
-            },
+            Err(fault) => {
+                unless_memory(fault)?;
+                Ok(None)
+            }
         },
         Ok(None) => Ok(None),
-        Err(fault) => match unless_memory(fault) {
-            Ok(()) => Ok(None),
-            Err(error) => Err(error),
-        },
+        Err(fault) => {
+            unless_memory(fault)?;
+            Ok(None)
+        }
     }
 }

@@ -15,17 +15,18 @@ returns-in-Ok c dump whole =
     same-start r c.in-Ok.first.time dump c.in-Ok.ensures
     (read text [] dump (sym (append-nil (tokens text))) whole) ∙ sym c.into_time.ensures
 
-pub returns-in-Ok-unless_memory : goal.returns-in-Ok-unless_memory
-returns-in-Ok-unless_memory c dump whole =
+pub returns-in_ok-unless_memory-in-Err-finish : goal.returns-in_ok-unless_memory-in-Err-finish
+returns-in_ok-unless_memory-in-Err-finish c dump whole =
     let text = c.args.text.now in
     let r = reached (λ v. v.time) c.in-Ok-Some.pieces in
     let read = rw c.in-Ok-Some.field-0-is at c.in-Ok-Some.ensures.read in
     let fault = c.in-Err-finish.fault in
-    absurd (never-gives (outcome_of unchanged or_time r) fault.line fault.kind c.in-Ok-unless_memory.ensures
+    let other = c.in_ok-unless_memory-in-Err-finish.ensures in
+    absurd (never-gives (outcome_of unchanged or_time r) fault.line fault.kind other
     c.in-Err-finish.ensures (start_of dump) (read text [] dump (sym (append-nil (tokens text))) whole))
 
-pub returns-in-Ok-unless_memory-2 : goal.returns-in-Ok-unless_memory-2
-returns-in-Ok-unless_memory-2 c dump whole =
+pub returns-in_ok-unless_memory-in-Err : goal.returns-in_ok-unless_memory-in-Err
+returns-in_ok-unless_memory-in-Err c dump whole =
     let text = c.args.text.now in
-    absurd (never-gives (dump_of text) c.in-Err.fault.line c.in-Err.fault.kind c.in-Ok-unless_memory-2.ensures
+    absurd (never-gives (dump_of text) c.in-Err.fault.line c.in-Err.fault.kind c.in_ok-unless_memory-in-Err.ensures
     (c.in-Err.ensures.fails text [] (sym (append-nil (tokens text)))) dump whole)
