@@ -278,10 +278,8 @@ fn account_of(taken: Result<AccountVisitor, Refusal>) -> Result<Account, Refusal
     ensures { (read : Result Trace Refused) → AnswerGives (λ v. v) taken read
         → IfOk taken (λ v. malformed_step v ≡ None) → GivesAccount result (short_read read) }
 {
-    match taken {
-        Ok(visitor) => account_in(visitor),
-        Err(refusal) => Err(refusal),
-    }
+    let visitor = taken?;
+    account_in(visitor)
 }
 
 /// The account of a recording whose steps came.
@@ -305,10 +303,8 @@ fn account_by_skew<K: GhostSkew>(
         → IfOk taken (λ v. malformed_step v ≡ None)
         → GivesAccount result (settled_or K.skew (short_read read)) }
 {
-    match taken {
-        Ok(settling) => settled_account_in(alloc, settling),
-        Err(refusal) => Err(refusal),
-    }
+    let settling = taken?;
+    settled_account_in(alloc, settling)
 }
 
 /// The account of a recording whose last group ends. The limit holds on the steps before they settle.
@@ -339,10 +335,8 @@ fn explained_account(
         → AnswerGives (λ told. told.verdict) result (judged_whole captured) }
     ensures begins { IsExplained result }
 {
-    match account {
-        Ok(account) => explained_by_account(alloc, binding, &account, kept, name),
-        Err(refusal) => Err(refusal),
-    }
+    let account = account?;
+    explained_by_account(alloc, binding, &account, kept, name)
 }
 
 /// What is told of a recording of which this is the account.

@@ -1,4 +1,5 @@
 use Rattle.std.proofs.Common.{◌≡◌, Result, Ok, ap, subst, sym}
+use Rattle.std.proofs.lemmas.Result.{err_from_is_err_and}
 use Rattle.std.specs.Prelude.{IfOk, None}
 use Rattle.vcd_read.specs.Header.{◌>>=◌}
 use Rattle.vme_stream.specs.Answers.{AnswerGives}
@@ -10,17 +11,19 @@ use Rattle.vme_text_commands.specs.ExplainedDumps.{GivesAccount, or_too_long}
 use Rattle.vme_text_commands.proofs.ExplainLemmas.{account-unsettled}
 use Rattle.vme_text_commands.proofs.explain.account_by_skew.Goals as goal
 
-pub returns-in-Ok : goal.returns-in-Ok
-returns-in-Ok g c = λ read gives formed.
-    let is : read ≡ Ok c.in-Ok.settling =
-    subst (λ (r : Result Trace Refusal). AnswerGives (λ (t : Trace). t) r read) c.in-Ok.is gives in
-    let ok : malformed_step c.in-Ok.settling ≡ None =
-    subst (λ (r : Result Trace Refusal). IfOk r (λ t. malformed_step t ≡ None)) c.in-Ok.is formed in
+pub returns : goal.returns
+returns g c = λ read gives formed.
+    let is : read ≡ Ok c.in_ok-settling.settling =
+    subst (λ (r : Result Trace Refusal). AnswerGives (λ (t : Trace). t) r read) c.in_ok-settling.was gives in
+    let ok : malformed_step c.in_ok-settling.settling ≡ None =
+    subst (λ (r : Result Trace Refusal). IfOk r (λ t. malformed_step t ≡ None)) c.in_ok-settling.was formed in
     subst (GivesAccount c.settled_account_in.result)
     (sym (ap (λ (r : Result Trace Refusal). settled_or g.K.GhostSkew.skew (r >>= or_too_long)) is))
     (c.settled_account_in.ensures ok)
 
-pub returns-in-Err : goal.returns-in-Err
-returns-in-Err g c = λ read gives formed.
-    account-unsettled g.K.GhostSkew.skew c.in-Err.refusal read
-    (subst (λ (r : Result Trace Refusal). AnswerGives (λ (t : Trace). t) r read) c.in-Err.is gives)
+pub returns-in_err-settling : goal.returns-in_err-settling
+returns-in_err-settling g c =
+    let p = err_from_is_err_and c.from_residual.result c.from_residual.ensures.1 in
+    rw (p.1, p.2)
+    (λ read gives formed. account-unsettled g.K.GhostSkew.skew c.in_err-settling.field-0.0 read
+    (subst (λ (r : Result Trace Refusal). AnswerGives (λ (t : Trace). t) r read) c.in_err-settling.was gives))
