@@ -100,10 +100,8 @@ fn tell_end<O: Sink>(
         (O.writing out.old) (O.writing out.new) result }
 {
     let outcome = auditor.outcome(transfers);
-    match tell_line(alloc, &outcome, head, out) {
-        Ok(()) => end_case(alloc, auditor, &outcome, case),
-        Err(fault) => Err(fault),
-    }
+    tell_line(alloc, &outcome, head, out)?;
+    end_case(alloc, auditor, &outcome, case)
 }
 
 /// Tells what a recording has, and the outcome of its audit, of which this is the exit status.
@@ -122,10 +120,8 @@ fn tell_outcome<O: Sink>(
         (outcome_of auditor.now.allowances options.entry.transfers (read_of auditor.now))
         (O.writing out.old) (O.writing out.new) result }
 {
-    match tell_counts(alloc, auditor, options.is_quiet, head, out) {
-        Ok(()) => tell_end(alloc, auditor, options.transfers, head, case, out),
-        Err(fault) => Err(fault),
-    }
+    tell_counts(alloc, auditor, options.is_quiet, head, out)?;
+    tell_end(alloc, auditor, options.transfers, head, case, out)
 }
 
 /// The audit of a body before its first step.

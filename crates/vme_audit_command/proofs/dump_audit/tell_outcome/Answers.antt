@@ -1,22 +1,26 @@
+use Rattle.std.proofs.lemmas.Result.{err_from_is_err_and}
 use Rattle.vme_audit.specs.Covered.{outcome as outcome_of}
 use Rattle.vme_step_auditor.specs.ReadBy.{read_of}
 use Rattle.vme_audit_command.specs.LastLines.{counts_unless, outcome_line_of}
 use Rattle.vme_audit_command.proofs.LastLemmas.{outcome-after, outcome-unreached}
 use Rattle.vme_audit_command.proofs.dump_audit.tell_outcome.Goals as goal
 
-pub returns-in-Ok : goal.returns-in-Ok
-returns-in-Ok g c = λ formed.
+pub returns : goal.returns
+returns g c = λ formed.
     let audit = c.args.auditor.now in
     let o = outcome_of audit.allowances c.args.options.transfers (read_of audit) in
     outcome-after o (g.O.Sink.writing c.args.out.now) (g.O.Sink.writing c.tell_counts.new.out)
     (g.O.Sink.writing c.tell_end.new.out)
     (counts_unless c.args.options.is_quiet audit.allowances c.args.head.now (read_of audit))
-    (outcome_line_of c.args.head.now o) c.tell_end.result (c.in-Ok.ensures formed) (c.tell_end.ensures formed)
+    (outcome_line_of c.args.head.now o) c.tell_end.result (c.in_ok-tell_counts.ensures formed)
+    (c.tell_end.ensures formed)
 
-pub returns-in-Err : goal.returns-in-Err
-returns-in-Err g c = λ formed.
+pub returns-in_err-tell_counts : goal.returns-in_err-tell_counts
+returns-in_err-tell_counts g c =
     let audit = c.args.auditor.now in
     let o = outcome_of audit.allowances c.args.options.transfers (read_of audit) in
-    outcome-unreached (Unit {0}) o (g.O.Sink.writing c.args.out.now) (g.O.Sink.writing c.tell_counts.new.out)
+    let e = err_from_is_err_and c.from_residual.result c.from_residual.ensures.1 in
+    rw (e.1, e.2)
+    (λ formed. outcome-unreached (Unit {0}) o (g.O.Sink.writing c.args.out.now) (g.O.Sink.writing c.tell_counts.new.out)
     (counts_unless c.args.options.is_quiet audit.allowances c.args.head.now (read_of audit))
-    (outcome_line_of c.args.head.now o) c.in-Err.fault (c.in-Err.ensures formed)
+    (outcome_line_of c.args.head.now o) c.in_err-tell_counts.field-0.0 (c.in_err-tell_counts.ensures formed))
