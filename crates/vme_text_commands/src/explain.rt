@@ -1,7 +1,6 @@
 //! Why a recording is judged as it is.
 
-ghost use Rattle.std.specs.Prelude.{◌≡◌, ◌++◌, ℕ, List, None, Ok, Option, IfOk, IfSome, Result};
-ghost use Rattle.vme_account.specs.Accounts.{IsAccountOf};
+ghost use Rattle.std.specs.Prelude.{◌≡◌, ◌++◌, ℕ, List, None, Option, IfOk, IfSome, Result};
 ghost use Rattle.vme_bind.specs.Binding.{binding_of};
 ghost use Rattle.vme_stream.specs.Answers.{AnswerGives, binding_read, capture_by, dump_read, or_bad_binding};
 ghost use Rattle.vme_stream.specs.Ends.{Ends};
@@ -16,7 +15,6 @@ ghost use Rattle.vme_picture.specs.Pictures.{IsPicture};
 ghost use Rattle.vme_skew.specs.Settled.{settled_or};
 ghost use Rattle.vme_stream.specs.Inputs.{IsReading};
 ghost use Rattle.vme_trace.specs.Trace.{Trace};
-ghost use Rattle.vme_trace.specs.Verdict.{verdict};
 ghost use Rattle.vme_trace.specs.WellFormed.{malformed_step};
 
 use crate::explained_input::{KeptDump, taken_dump};
@@ -336,22 +334,7 @@ fn explained_account(
     ensures begins { IsExplained result }
 {
     let account = account?;
-    explained_by_account(alloc, binding, &account, kept, name)
-}
-
-/// What is told of a recording of which this is the account.
-fn explained_by_account(
-    alloc: Global,
-    binding: &[u8],
-    account: &Account,
-    kept: &KeptDump,
-    name: &[u8],
-) -> Result<Explained, Refusal>
-    ensures read { (t : Trace) → IsAccountOf account.now t
-        → AnswerGives (λ told. told.verdict) result (Ok (verdict t)) }
-    ensures begins { IsExplained result }
-{
-    match told_of(alloc, binding, account, account.verdict(), kept, name) {
+    match told_of(alloc, binding, &account, account.verdict(), kept, name) {
         Ok(told) => Ok(told),
         Err(_) => Err(Refusal::Memory),
     }
