@@ -14,7 +14,6 @@ use Rattle.std.proofs.lemmas.Slice.Eq.{bytes_eq-Decides}
 use Rattle.vcd_read.specs.declared.code_index.CodeIndex.{CodeIndex}
 use Rattle.vcd_read.specs.Header.{Net, has_code, net_of, size_of}
 use Rattle.vcd_read.specs.CodeIndexes.{net_at}
-use Rattle.vcd_read.specs.declared.one_byte_codes.OneByteCodes.{OneByteCodes}
 use Rattle.vcd_read.specs.OneByteCodes.{HasOneByteCodes, one_byte_net_at, sized_net, sized_net_of}
 use Rattle.vcd_read.specs.Nets.{AreIndexed}
 
@@ -84,6 +83,12 @@ indexed_push nets old new code size net was none last room changed = record {
 
 -- ---- the codes of one byte
 
+-- a code of one byte is that byte
+pub only-byte : (code : List ℕ) → 1 ≤ length code → length code < 2 → get_or code 0 0 ∷ [] ≡ code
+only-byte [] least below = absurd (omega (arith, least))
+only-byte (byte ∷ []) least below = refl
+only-byte (byte ∷ next ∷ rest) least below = absurd (omega (arith, below))
+
 size_of-before : (nets : List Net) (i : ℕ) (n : Net) → i < length nets → size_of (nets ++ n ∷ []) i ≡ size_of nets i
 unfolding size_of
 size_of-before [] i n lt = absurd (omega (arith, lt))
@@ -116,13 +121,16 @@ sized-push nets code size none other =
     go false = sized-before nets n (net_of nets other) (net_within nets other)
 
 -- one more net
-pub one_byte_push : (nets : List Net) (old new : OneByteCodes) (code : List ℕ) (size : ℕ) (net : ℕ × ℕ)
-    → HasOneByteCodes nets old → net_of nets code ≡ None → net ≡ (length nets, size)
+pub one_byte_push : (nets : List Net) (old new : List (Option (ℕ × ℕ))) (code : List ℕ) (size : ℕ) (net : ℕ × ℕ)
+    → HasOneByteCodes nets old → net_of nets code ≡ None → net ≡ (length nets, size) → length new ≡ 256
     → ((byte : ℕ) → byte < 256 → one_byte_net_at new byte
     ≡ (if bytes_eq code (byte ∷ []) then Some net else one_byte_net_at old byte))
     → HasOneByteCodes (nets ++ record { code = code; size = size } ∷ []) new
-one_byte_push nets old new code size net was none is changed = λ byte lt.
-    changed byte lt
-    ∙ ap (λ (o : Option (ℕ × ℕ)). cond (bytes_eq code (byte ∷ [])) (Some net) o) (was byte lt)
-    ∙ ap (λ (n : ℕ × ℕ). cond (bytes_eq code (byte ∷ [])) (Some n) (sized_net_of nets (byte ∷ []))) is
-    ∙ sym (sized-push nets code size none (byte ∷ []))
+one_byte_push nets old new code size net was none is whole changed = (
+  whole,
+  λ byte lt.
+      changed byte lt
+      ∙ ap (λ (o : Option (ℕ × ℕ)). cond (bytes_eq code (byte ∷ [])) (Some net) o) (was.1 byte lt)
+      ∙ ap (λ (n : ℕ × ℕ). cond (bytes_eq code (byte ∷ [])) (Some n) (sized_net_of nets (byte ∷ []))) is
+      ∙ sym (sized-push nets code size none (byte ∷ [])),
+)

@@ -5,7 +5,7 @@ ghost use Rattle.vcd_read.specs.Header.{net_of, size_of};
 ghost use Rattle.vcd_read.specs.OneByteCodes.{sized_net_of};
 
 use crate::code_index::CodeIndex;
-use crate::one_byte_codes::OneByteCodes;
+use crate::one_byte_codes::{enter_one_byte_code, no_one_byte_codes, one_byte_net};
 use std::alloc::{AllocError, Global};
 use std::marker::Model;
 
@@ -22,8 +22,8 @@ pub(crate) struct Codes {
     nets: Vec<NetCode>,
     /// The net of each code.
     index: CodeIndex,
-    /// The net of each code of one byte.
-    one_byte: OneByteCodes,
+    /// The net of each code of one byte, and how many bits it has, by that byte.
+    one_byte: Vec<Option<(u32, u32)>>,
 }
 
 impl Model for Codes {
@@ -37,7 +37,7 @@ impl Model for Codes {
     ghost view = { λ c. map net_code c.nets.items };
 
     ghost invariant = { λ c. AreIndexed (map net_code c.nets.items) c.index
-        × HasOneByteCodes (map net_code c.nets.items) c.one_byte };
+        × HasOneByteCodes (map net_code c.nets.items) c.one_byte.items };
 }
 
 impl Codes {
@@ -48,7 +48,7 @@ impl Codes {
         Ok(Codes {
             nets: Vec::new(alloc),
             index: CodeIndex::new(alloc),
-            one_byte: OneByteCodes::new(alloc)?,
+            one_byte: no_one_byte_codes(alloc)?,
         })
     }
 
@@ -67,13 +67,21 @@ impl Codes {
         self.index.get(code)
     }
 
+    /// The net of the code that is this byte and its size, where it has one.
+    #[inline(always)]
+    fn of_one_byte(&self, byte: u8) -> Option<(u32, u32)>
+        ensures { result ≡ sized_net_of self.now (byte ∷ []) }
+    {
+        one_byte_net(self.one_byte.as_slice(), byte)
+    }
+
     /// The net of a code and its size, where it has one.
     #[inline(always)]
     pub fn find(&self, code: &[u8]) -> Option<(u32, u32)>
         ensures { result ≡ sized_net_of self.now code.now }
     {
         if let [byte] = code {
-            return self.one_byte.get(*byte);
+            return self.of_one_byte(*byte);
         }
         let number = self.net(code)?;
         let size = self.size(number);
@@ -106,7 +114,7 @@ impl Codes {
         self.nets.reserve(1)?;
         self.index.insert(alloc, code, net)?;
         self.nets.push_reserved(NetCode { code: bytes, size });
-        self.one_byte.insert(code, (net, size));
+        enter_one_byte_code(&mut self.one_byte, code, (net, size));
         Ok(net)
     }
 }

@@ -1,47 +1,41 @@
-//! The nets of the codes of one byte, found by that byte.
+//! The nets of the codes of one byte, found by that byte. A small dump has few other codes, and one look-up tells the
+//! net: a table has for each byte the net of that code and how many bits it has, if it has one.
 
 ghost use Rattle.std.specs.Prelude.{◌≡◌, ◌<◌, ◌∷◌, [], if◌then◌else◌, ℕ, None, Some, IfOk, bytes_eq, length};
+ghost use Rattle.vcd_read.specs.OneByteCodes.{one_byte_net_at};
 
 use std::alloc::{AllocError, Global};
 
 /// How many bytes there are.
 const BYTES: usize = 256;
 
-/// The net of each code of one byte that has one. A small dump has few other codes, and one look-up tells the net.
-#[derive(Drop)]
-pub(crate) struct OneByteCodes {
-    /// By that byte, each with how many bits it has.
-    nets: Vec<Option<(u32, u32)>>,
-    ghost all: { length nets.items ≡ 256 },
+/// The table where no code has a net.
+pub(crate) fn no_one_byte_codes(alloc: Global) -> Result<Vec<Option<(u32, u32)>>, AllocError>
+    ensures whole { IfOk result (λ table. length table.items ≡ 256) }
+    ensures none { IfOk result (λ table. (byte : ℕ) → one_byte_net_at table.items byte ≡ None) }
+{
+    let mut table = Vec::new(alloc);
+    table.resize(BYTES, None)?;
+    Ok(table)
 }
 
-impl OneByteCodes {
-    ghost use Rattle.vcd_read.specs.OneByteCodes.{one_byte_net_at};
+/// The net of the code that is this byte and its size, where it has one.
+#[inline(always)]
+pub(crate) fn one_byte_net(table: &[Option<(u32, u32)>], byte: u8) -> Option<(u32, u32)>
+    requires { length table.now ≡ 256 }
+    ensures { result ≡ one_byte_net_at table.now byte }
+{
+    table[byte as usize]
+}
 
-    /// No code has a net.
-    pub fn new(alloc: Global) -> Result<OneByteCodes, AllocError>
-        ensures { IfOk result (λ table. (byte : ℕ) → one_byte_net_at table byte ≡ None) }
-    {
-        let mut nets = Vec::new(alloc);
-        nets.resize(BYTES, None)?;
-        Ok(OneByteCodes { nets })
-    }
-
-    /// The net of the code that is this byte and its size, where it has one.
-    #[inline(always)]
-    pub fn get(&self, byte: u8) -> Option<(u32, u32)>
-        ensures { result ≡ one_byte_net_at self.now byte }
-    {
-        self.nets[byte as usize]
-    }
-
-    /// Gives a code a net and its size, where it has one byte.
-    pub fn insert(&mut self, code: &[u8], net: (u32, u32))
-        ensures { (byte : ℕ) → byte < 256 → one_byte_net_at self.new byte
-            ≡ (if bytes_eq code.now (byte ∷ []) then Some net else one_byte_net_at self.old byte) }
-    {
-        if let [byte] = code {
-            self.nets[*byte as usize] = Some(net);
-        }
+/// Gives a code a net and its size, where it has one byte.
+pub(crate) fn enter_one_byte_code(table: &mut Vec<Option<(u32, u32)>>, code: &[u8], net: (u32, u32))
+    requires { length table.old.items ≡ 256 }
+    ensures whole { length table.new.items ≡ 256 }
+    ensures net { (byte : ℕ) → byte < 256 → one_byte_net_at table.new.items byte
+        ≡ (if bytes_eq code.now (byte ∷ []) then Some net else one_byte_net_at table.old.items byte) }
+{
+    if let [byte] = code {
+        table[*byte as usize] = Some(net);
     }
 }

@@ -7,6 +7,9 @@ use Rattle.vcd_read.specs.Nets.{net_code, AreIndexed}
 use Rattle.vcd_read.proofs.CodesLemmas.{indexed_push, one_byte_push}
 use Rattle.vcd_read.proofs.codes.Codes.add.Goals as goal
 
+pub enter_one_byte_code-requires : goal.enter_one_byte_code-requires
+enter_one_byte_code-requires c = c.self.invariant.1.0
+
 pub invariant_of-self-2 : goal.invariant_of-self-2
 invariant_of-self-2 c =
     let nets : List Net = map net_code c.self.inside.nets.items in
@@ -23,9 +26,10 @@ invariant_of-self-2 c =
     c.self.invariant.0 none (simp length-map (omega (arith, c.len-net.ensures))) (omega (arith, c.if-net.false))
     c.in_ok-insert.ensures.ok in
     let number : c.len-net.result ≡ length nets = simp length-map (omega (arith, c.len-net.ensures)) in
-    let one_byte = one_byte_push nets c.self.inside.one_byte c.insert-2.new.self c.args.code.now c.args.size
+    let table = c.enter_one_byte_code.new.table.items in
+    let one_byte = one_byte_push nets c.self.inside.one_byte.items table c.args.code.now c.args.size
     (c.len-net.result, c.args.size) c.self.invariant.1 none
-    (ap (λ (n : ℕ). (n, c.args.size)) number) c.insert-2.ensures in (
+    (ap (λ (n : ℕ). (n, c.args.size)) number) c.enter_one_byte_code.ensures.whole c.enter_one_byte_code.ensures.net in (
       subst (λ (nets : List Net). AreIndexed nets c.insert.new.self) (sym more) indexed,
-      subst (λ (nets : List Net). HasOneByteCodes nets c.insert-2.new.self) (sym more) one_byte,
+      subst (λ (nets : List Net). HasOneByteCodes nets table) (sym more) one_byte,
     )
