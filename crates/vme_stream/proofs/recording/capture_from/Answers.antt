@@ -29,8 +29,8 @@ returns-in-Ok-Err g c =
     let captured = rw c.in-Ok-Err.field-0-is at (capture_by-recorded bound (dump_read bytes) _ is) in
     (binding, bytes, bound_reading, reading, rw (capture_read-bound binding bytes bound bound_is) captured)
 
-pub returns-in-Err : goal.returns-in-Err
-returns-in-Err g c =
+pub returns : goal.returns
+returns g c =
     let bound = c.in_ok-bound.bound in
     let (binding, bound_reading, bound_is) = c.in_ok-bound.ensures in
     let (bytes, reading, refused) = c.in-Err.ensures in (
