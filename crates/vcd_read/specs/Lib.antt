@@ -21,3 +21,4 @@ pub mod DetachedPieces
 pub mod Scopes
 pub mod Sections
 pub mod Fronts
+pub mod ByteConsumers

@@ -15,6 +15,8 @@
 //! - `head`, `pieces`, `detached_piece`: a text whose definitions are read; a body that comes in
 //!   pieces; pieces that are read before the ones that precede them.
 //! - `lines`: how many lines a text ends.
+//! - `byte_consumer`: what takes the bytes of an input as they are read, and what they come to
+//!   ([`ByteConsumer`]); `read_by` of vme_stream gives them to it.
 //!
 //! # What is proved
 //!
@@ -52,6 +54,7 @@ mod bits;
 mod body;
 mod body_piece;
 mod body_state;
+mod byte_consumer;
 mod change_visitor;
 mod code_index;
 mod codes;
@@ -78,6 +81,7 @@ mod token;
 mod variables;
 
 pub use bits::bit_at;
+pub use byte_consumer::ByteConsumer;
 pub use change_visitor::ChangeVisitor;
 pub use declaration_visitor::{Declaration, DeclarationVisitor};
 pub use detached_piece::DetachedPiece;

@@ -2,7 +2,7 @@
 
 ghost use Rattle.std.specs.Prelude.{◌≡◌, ◌≤◌, ℕ, List, length, take, false, Result, Err, IfOk};
 ghost use Rattle.vme_trace.specs.Trace.{Trace};
-ghost use Rattle.vme_stream.specs.ByteConsumers.{ContinuesAs};
+ghost use Rattle.vcd_read.specs.ByteConsumers.{ContinuesAs};
 ghost use Rattle.vme_bind.specs.TextCapture.{GivesBy, recording_of_text};
 ghost use Rattle.vme_bind.specs.declared.fault.CaptureFault.{CaptureFault};
 ghost use Rattle.vme_commands.specs.DumpJudge.{ahead_of};
@@ -12,9 +12,8 @@ use crate::input_fault::InputFault;
 use crate::workers::Workers;
 use std::alloc::{AllocError, Global};
 use std::thread::Threads;
-use vcd_read::whole_tokens;
+use vcd_read::{ByteConsumer, whole_tokens};
 use vme_bind::{Binding, CaptureFault, TextPieces};
-use vme_stream::ByteConsumer;
 use vme_summary::chunk_judge::ChunkJudge;
 use vme_summary::stream_judge::StreamJudge;
 use vme_trace::StepVisitor;

@@ -2,7 +2,7 @@
 
 ghost use Rattle.std.specs.Prelude.{◌≡◌, ◌≤◌, ℕ, List, length, take, false, Result, Err, IfOk, IfSome};
 ghost use Rattle.vme_trace.specs.Trace.{Trace};
-ghost use Rattle.vme_stream.specs.ByteConsumers.{ContinuesAs};
+ghost use Rattle.vcd_read.specs.ByteConsumers.{ContinuesAs};
 ghost use Rattle.vme_bind.specs.TextCapture.{GivesBy, recording_of_text};
 ghost use Rattle.vme_bind.specs.declared.fault.CaptureFault.{CaptureFault};
 ghost use Rattle.vme_bind.specs.declared.fault.CaptureFault.TheVariants.{Dump};
@@ -12,9 +12,8 @@ ghost use Rattle.vme_commands.specs.Wants.{is_want};
 use crate::dump_judge::ReadStage;
 use crate::input_fault::InputFault;
 use std::alloc::{AllocError, Global};
-use vcd_read::{VcdFault, whole_tokens};
+use vcd_read::{ByteConsumer, VcdFault, whole_tokens};
 use vme_bind::{Binding, CaptureFault};
-use vme_stream::ByteConsumer;
 use vme_trace::StepVisitor;
 
 /// A dump whose recording by a binding is given to what takes it as it is read, one piece after the other.

@@ -9,7 +9,7 @@ use Rattle.std.proofs.lemmas.List.Edits.{take-paste}
 use Rattle.std.specs.Io.KnownBytes.{Consumes, IsAtEnd}
 use Rattle.std.proofs.KnownBytes.{Consumes-trans}
 use Rattle.vme_stream.specs.Inputs.{IsReading, least_room, longest_input, most_reads}
-use Rattle.vme_stream.specs.ByteConsumers.{ContinuesAs}
+use Rattle.vcd_read.specs.ByteConsumers.{ContinuesAs}
 use Rattle.vme_stream.proofs.InputLemmas.{IsRoomy, gives_more, reads_more, read_to_end, roomy-on}
 use Rattle.vme_trace.specs.Streams.{Reading}
 

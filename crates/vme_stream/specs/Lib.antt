@@ -1,5 +1,4 @@
 pub mod Answers
-pub mod ByteConsumers
 pub mod Ends
 pub mod InFaults
 pub mod Inputs

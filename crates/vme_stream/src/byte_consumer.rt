@@ -3,20 +3,12 @@
 ghost use Rattle.std.specs.Prelude.{◌≡◌, ℕ, ◌+◌, ◌*◌, ◌-◌, ◌≤◌, ◌<◌, List, length, take, drop, Some, None, Ok, Err};
 ghost use Rattle.std.specs.Prelude.{IfOk, vec_len};
 ghost use Rattle.vme_stream.specs.Inputs.{HasFewFullReads, IsInTime, IsReading, least_room, longest_input, most_reads};
-ghost use Rattle.vme_stream.specs.ByteConsumers.{ContinuesAs};
+ghost use Rattle.vcd_read.specs.ByteConsumers.{ContinuesAs};
 
 use crate::input::{InFault, LEAST_ROOM, LONGEST, MOST_READS, lengthen, read_behind};
 use std::alloc::{AllocError, Global};
+use vcd_read::ByteConsumer;
 use vme_trace::Source;
-
-/// What the bytes of an input come to, as they are read.
-pub trait ByteConsumer: Drop + Sized {
-    /// What an input can come to.
-    ghost Outcome: { Type 0 };
-
-    /// What comes of these bytes, behind those that were taken.
-    ghost ahead: { Self → List ℕ → Self.Outcome };
-}
 
 /// Reads a source to its end, and has its bytes taken, `piece` of them at once, or more where none of so many can be
 /// taken: `taker` takes some of the first of those that it is given, and says how many. The others come again, with

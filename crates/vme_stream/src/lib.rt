@@ -56,7 +56,7 @@ mod refusal;
 mod text;
 mod verdict;
 
-pub use byte_consumer::{ByteConsumer, read_by};
+pub use byte_consumer::read_by;
 pub use input::{InFault, read_all};
 pub use io::{Bytes, Io};
 pub use message::Message;

@@ -3,9 +3,9 @@ ghost use Rattle.std.specs.Prelude.{ℕ, ◌≤◌, length, IfOk};
 use std::alloc::{AllocError, Global};
 use std::io::{self, Error, ErrorKind, Read, Write};
 use std::test::Fail;
+use vcd_read::ByteConsumer;
 use vme_stream::{
-    ByteConsumer, Bytes, InFault, Io, Message, complain, read_all, read_by, write_all,
-    write_message,
+    Bytes, InFault, Io, Message, complain, read_all, read_by, write_all, write_message,
 };
 
 const TEXT: &[u8] = b"a line of some bytes\nand another\n";

@@ -6,16 +6,16 @@ ghost use Rattle.vme_stream.specs.Answers.{AnswerGives, dump_read, or_bad_dump, 
 ghost use Rattle.vme_bind.specs.Binding.{BoundLines};
 ghost use Rattle.vme_bind.specs.TextCapture.{recording_of_text};
 ghost use Rattle.vme_commands.specs.DumpJudge.{ahead_of};
-ghost use Rattle.vme_stream.specs.ByteConsumers.{ContinuesAs};
+ghost use Rattle.vcd_read.specs.ByteConsumers.{ContinuesAs};
 ghost use Rattle.vme_stream.specs.Inputs.{IsReading};
 ghost use Rattle.vme_trace.specs.WellFormed.{malformed_step};
 
 use crate::seen_dump::SeenDump;
 use std::alloc::{AllocError, Global};
-use vcd_read::{FaultKind, Variables, read_definitions};
+use vcd_read::{ByteConsumer, FaultKind, Variables, read_definitions};
 use vme_bind::{Binding, CaptureFault};
 use vme_commands::OrderedDump;
-use vme_stream::{ByteConsumer, Input, Refusal, read_by};
+use vme_stream::{Input, Refusal, read_by};
 use vme_text::Text;
 use vme_trace::{Source, StepVisitor};
 use vme_variables::{time_scale, time_unit};

@@ -4,12 +4,12 @@ ghost use Rattle.std.specs.Prelude.{◌≡◌, ◌≤◌, ℕ, List, Result, IfO
 ghost use Rattle.vcd_read.specs.declared.fault.VcdFault.{VcdFault};
 ghost use Rattle.vme_declarations.specs.SurveyStages.{survey_ahead};
 ghost use Rattle.vme_declarations.specs.Surveys.{Survey, survey_of};
-ghost use Rattle.vme_stream.specs.ByteConsumers.{ContinuesAs};
+ghost use Rattle.vcd_read.specs.ByteConsumers.{ContinuesAs};
 
 use crate::seen_dump::SeenDump;
 use std::alloc::{AllocError, Global};
+use vcd_read::ByteConsumer;
 use vme_declarations::DumpSurvey;
-use vme_stream::ByteConsumer;
 
 /// A dump that is surveyed, and what is kept of it for what is shown where it is refused.
 #[derive(Drop)]

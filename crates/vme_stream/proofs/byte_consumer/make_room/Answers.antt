@@ -1,5 +1,5 @@
 use Rattle.std.proofs.Common.{ℕ, ◌≤◌, List, arith, subst, take-take}
-use Rattle.vme_stream.specs.ByteConsumers.{ContinuesAs}
+use Rattle.vcd_read.specs.ByteConsumers.{ContinuesAs}
 use Rattle.vme_stream.proofs.IntakeLemmas.{left_behind}
 use Rattle.vme_stream.proofs.byte_consumer.make_room.Goals as goal
 
