@@ -14,6 +14,7 @@ pub mod BuilderLemmas
 pub mod TextCaptureLemmas
 pub mod TextPieceLemmas
 pub mod TextReadingLemmas
+pub mod DumpReaderLemmas
 pub mod AssignedLineLemmas
 pub mod SpeculativeReadingLemmas
 pub mod FollowingLemmas

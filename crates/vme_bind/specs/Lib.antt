@@ -14,4 +14,6 @@ pub mod AssignedLines
 pub mod TextCapture
 pub mod TextPieces
 pub mod TextReading
+pub mod Wants
+pub mod DumpReading
 pub mod SpeculativeReading

@@ -13,6 +13,8 @@
 //! - `capture`, `text_capture`: the recording of a dump that was read, and of a text that is read
 //!   once and isn't kept.
 //! - `text_pieces`, `text_state`: the recording of a text that comes piece by piece.
+//! - `dump_reader`, `input_fault`: a dump that is read as its text comes, its definitions first; its
+//!   fault, if one is met.
 //! - `laws`: what was recorded before a place is a prefix of what is recorded.
 //! - `speculative_reader`, `assigned_lines`: pieces that are read before the ones that precede
 //!   them, from assumed levels.
@@ -29,6 +31,8 @@
 //!   visitor that took the steps of the instants that are complete before it, and with the last
 //!   time there (`ReadingContinuesAs`), and a fault of the binding is known before the body
 //!   (`binding_fault`).
+//! - [`DumpReader`] gives exactly the recording that the binding makes of the dump to what takes
+//!   it, or exactly the first fault, wherever the text is cut as it comes.
 //! - What follows a place of a text doesn't depend on what was recorded before it
 //!   ([`recorded_before_is_a_prefix`]).
 //! - A piece that [`SpeculativeReader`] reads ahead may be joined exactly where the levels before
@@ -51,7 +55,7 @@
 //! # In which order to read
 //!
 //! docs/FORMATS.md, `specs/Binding`, `specs/Capture` and `specs/TextCapture`; then `binding`,
-//! `capture` and `text_pieces`; `speculative_reader` last.
+//! `capture`, `text_pieces` and `dump_reader`; `speculative_reader` last.
 #![tactic(auto)]
 
 mod assigned_lines;
@@ -60,8 +64,10 @@ mod binding;
 mod bound_groups;
 mod capture;
 mod capture_builder;
+mod dump_reader;
 mod fault;
 mod group;
+mod input_fault;
 mod laws;
 mod net_lines;
 mod path_search;
@@ -78,7 +84,9 @@ mod text_state;
 mod words;
 
 pub use binding::{Binding, read_binding};
+pub use dump_reader::DumpReader;
 pub use fault::{BindFault, BindFaultKind, CaptureFault};
+pub use input_fault::InputFault;
 pub use laws::recorded_before_is_a_prefix;
 pub use speculative_reader::{SpeculativeChunk, SpeculativeReader};
 pub use step_collector::StepCollector;

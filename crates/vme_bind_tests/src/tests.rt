@@ -5,7 +5,8 @@ use std::process::Abort;
 use std::test::Fail;
 use vcd_read::{FaultKind, Stopped, VcdFault, read_vcd};
 use vme_bind::{
-    BindFault, BindFaultKind, Binding, CaptureFault, SpeculativeReader, TextPieces, read_binding,
+    BindFault, BindFaultKind, Binding, CaptureFault, DumpReader, SpeculativeReader, TextPieces,
+    read_binding,
 };
 use vme_trace::{Capture, Level, Line, Lines, Step, StepVisitor};
 
@@ -968,5 +969,100 @@ fn the_fault_of_a_binding_is_known_before_the_body(rt: HostRuntime) {
         Some((before, behind)) => before == known && behind == told,
         None => false,
     };
+    assert!(rt; is_so);
+}
+
+/// Some bytes are given to a reader of a dump: what it leaves of them.
+fn left_of<'b, 't>(
+    alloc: Global,
+    reader: DumpReader<'b, KeptSteps>,
+    bytes: &'t [u8],
+) -> Option<(DumpReader<'b, KeptSteps>, &'t [u8])> {
+    let Ok((reader, count)) = reader.take(alloc, bytes) else {
+        return None;
+    };
+    Some((reader, &bytes[count..]))
+}
+
+/// Whether its body is read, which isn't at fault so far.
+fn is_at_body(reader: &DumpReader<'_, KeptSteps>) -> bool {
+    matches!(reader, DumpReader::Body(_))
+}
+
+/// What comes of a dump of the bus, of whose body this comes first and this last, and the fault that is known between.
+fn read_in_two(
+    alloc: Global,
+    first: &str,
+    last: &str,
+) -> Option<(Option<VcdFault>, Result<KeptSteps, CaptureFault>)> {
+    let binding = bound(alloc, &[BUS_LINES])?;
+    let reader = DumpReader::new(&binding, none_kept(alloc, Lines::new(1)?));
+    // no definitions end here
+    let Some((reader, left)) = left_of(alloc, reader, BUS.as_bytes()) else {
+        return None;
+    };
+    if left.len() != BUS.len() || is_at_body(&reader) {
+        return None;
+    }
+    let front = together(alloc, &[BUS, DECLARED]).ok()?;
+    let Some((reader, _)) = left_of(alloc, reader, front.as_slice()) else {
+        return None;
+    };
+    if !is_at_body(&reader) {
+        return None;
+    }
+    let Some((reader, left)) = left_of(alloc, reader, first.as_bytes()) else {
+        return None;
+    };
+    let known = reader.fault();
+    let mut rest = Vec::from_slice(alloc, left).ok()?;
+    rest.extend_from_slice(last.as_bytes()).ok()?;
+    Some((known, reader.finish(alloc, rest.as_slice())))
+}
+
+/// A dump is cut within a token.
+#[test]
+fn a_dump_is_read_as_its_text_comes(rt: HostRuntime) {
+    let (alloc, first) = (rt.alloc(), "#0 1p 1q 1r 1s 1t 1u\n#10 0p\n#20 0");
+    let read = read_in_two(alloc, first, "q\n#30 0s\n#40 1p 1q\n#50 1s\n");
+    let is_so = match &read {
+        Some((None, Ok(kept))) => are_written(alloc, &kept.steps, READ_STEPS),
+        _ => false,
+    };
+    assert!(rt; is_so);
+}
+
+/// A fault is known once it is met, and is that of the dump.
+#[test]
+fn a_fault_is_known_as_the_text_comes(rt: HostRuntime) {
+    let wanted = VcdFault {
+        line: 11,
+        kind: FaultKind::BadToken,
+    };
+    let is_so = match read_in_two(rt.alloc(), "#0 1p\n2p\n", "#10 0p\n") {
+        Some((Some(known), Err(CaptureFault::Dump(told)))) => known == wanted && told == wanted,
+        _ => false,
+    };
+    assert!(rt; is_so);
+}
+
+/// The fault of a dump that has this one.
+fn fault_after(met: VcdFault) -> Option<VcdFault> {
+    let reader: DumpReader<'_, KeptSteps> = DumpReader::failed(CaptureFault::Dump(met)).ok()?;
+    reader.fault()
+}
+
+/// Whoever reads a body in another way tells its fault. Want of memory is none.
+#[test]
+fn a_fault_may_be_met_elsewhere(rt: HostRuntime) {
+    let met = VcdFault {
+        line: 3,
+        kind: FaultKind::BadToken,
+    };
+    let none = VcdFault {
+        line: 0,
+        kind: FaultKind::Memory,
+    };
+    let is_so = fault_after(met) == Some(met) && fault_after(none).is_none();
     assert!(rt; is_so);
 }

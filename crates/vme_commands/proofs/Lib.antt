@@ -3,4 +3,3 @@ pub mod CheckLemmas
 pub mod JudgedLemmas
 pub mod ListLemmas
 pub mod SettledLemmas
-pub mod DumpJudgeLemmas

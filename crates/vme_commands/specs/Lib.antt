@@ -2,5 +2,3 @@ pub mod AllowanceTexts
 pub mod Judged
 pub mod Listings
 pub mod Settled
-pub mod DumpJudge
-pub mod Wants

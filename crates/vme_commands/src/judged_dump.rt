@@ -1,14 +1,18 @@
 //! The recording that a binding makes of a dump, judged as the dump is read.
 
-ghost use Rattle.std.specs.Prelude.{◌≡◌, ℕ, List, Option, None, IfOk};
+ghost use Rattle.std.specs.Prelude.{◌≡◌, ◌≤◌, ℕ, List, Option, None, IfOk, length, take};
+ghost use Rattle.vcd_read.specs.ByteConsumers.{ContinuesAs};
+ghost use Rattle.vme_bind.specs.DumpReading.{dump_ahead};
+ghost use Rattle.vme_bind.specs.TextCapture.{GivesBy};
 ghost use Rattle.vme_stream.specs.Answers.{AnswerGives, recording_read};
 ghost use Rattle.vme_stream.specs.Inputs.{IsReading};
 ghost use Rattle.vme_trace.specs.WellFormed.{malformed_step};
 
-use crate::dump_judge::DumpJudge;
 use crate::workers::Workers;
-use std::alloc::Global;
+use std::alloc::{AllocError, Global};
 use std::thread::Threads;
+use vcd_read::whole_tokens;
+use vme_bind::{CaptureFault, DumpReader};
 use vme_stream::{Input, Refusal, binding_from, read_by};
 use vme_summary::chunk_judge::ChunkJudge;
 use vme_summary::stream_judge::StreamJudge;
@@ -29,18 +33,63 @@ pub(crate) fn judged_dump<R: Threads + Sync, B: Source, D: Source, J: ChunkJudge
     ensures formed { IfOk result (λ w. malformed_step w ≡ None) }
 {
     let bound = binding_from(alloc, binding)?;
-    let dump_judge = DumpJudge::new(workers, &bound, StreamJudge::new(alloc, bound.lines()));
+    let reader = DumpReader::new(&bound, StreamJudge::new(alloc, bound.lines()));
     match read_by(
         alloc,
         dump,
-        dump_judge,
+        reader,
         workers.piece(),
-        &|dump_judge: DumpJudge<'_, R, J>, bytes: &[u8]| dump_judge.take(alloc, bytes),
+        &|reader: DumpReader<'_, StreamJudge<J>>, bytes: &[u8]| take_by_workers(
+            alloc, workers, reader, bytes,
+        ),
     ) {
-        Ok((dump_judge, rest)) => match dump_judge.finish(alloc, rest.as_slice()) {
+        Ok((reader, rest)) => match finish(alloc, workers, reader, rest.as_slice()) {
             Ok(stream_judge) => Ok(stream_judge),
             Err(fault) => Err(Refusal::of_capture(fault)),
         },
         Err(fault) => Err(Refusal::of_input(Input::Dump, fault)),
+    }
+}
+
+/// Has a dump take some of the first of these bytes, and says how many. A body waits for enough of them to share, and
+/// is read by the workers.
+fn take_by_workers<'b, R: Threads + Sync, J: ChunkJudge + Send>(
+    alloc: Global,
+    workers: &Workers<'_, R>,
+    reader: DumpReader<'b, StreamJudge<J>>,
+    bytes: &[u8],
+) -> Result<(DumpReader<'b, StreamJudge<J>>, usize), AllocError>
+    ensures within { IfOk result (λ made. made.1 ≤ length bytes.now) }
+    ensures taken { IfOk result (λ made. ContinuesAs (dump_ahead reader.entry) (dump_ahead made.0)
+        (take made.1 bytes.now)) }
+{
+    let count = whole_tokens(bytes);
+    match reader {
+        DumpReader::Body(text) if workers.want_more(bytes.len()) => {
+            Ok((DumpReader::Body(text), 0))
+        }
+        DumpReader::Body(text) => match workers.read(alloc, text, &bytes[..count]) {
+            Ok(text) => Ok((DumpReader::Body(text), count)),
+            Err(fault) => Ok((DumpReader::failed(fault)?, count)),
+        },
+        other => other.take(alloc, bytes),
+    }
+}
+
+/// What judged the recording of a dump, whose last bytes these are.
+fn finish<R: Threads + Sync, J: ChunkJudge + Send>(
+    alloc: Global,
+    workers: &Workers<'_, R>,
+    reader: DumpReader<'_, StreamJudge<J>>,
+    last: &[u8],
+) -> Result<StreamJudge<J>, CaptureFault>
+    ensures { GivesBy (λ w. w) result (dump_ahead reader.entry last.now) }
+{
+    match reader {
+        DumpReader::Body(text) => match workers.read(alloc, text, last) {
+            Ok(text) => text.finish(alloc),
+            Err(fault) => Err(fault),
+        },
+        other => other.finish(alloc, last),
     }
 }

@@ -8,10 +8,9 @@ ghost use Rattle.vme_trace.specs.WellFormed.{capture_limit, malformed_step};
 ghost use Rattle.vme_commands.specs.Settled.{settled_read};
 ghost use Rattle.vme_skew.specs.Settled.{settled_or};
 
-use crate::ordered_dump::OrderedDump;
 use std::alloc::Global;
 use std::marker::Brand;
-use vme_bind::Binding;
+use vme_bind::{Binding, DumpReader};
 use vme_skew::{GhostSkew, SettlingVisitor};
 use vme_stream::{Input, Refusal, binding_from, read_by};
 use vme_summary::NoVerdict;
@@ -83,15 +82,15 @@ fn taken_in_order<F: StepVisitor, D: Source>(
         × AnswerGives (λ w. F.recorded w) result (recording_by bound.now (dump_read bytes)) }
     ensures formed { IfOk result (λ w. malformed_step (F.recorded w) ≡ None) }
 {
-    let ordered = OrderedDump::new(bound, taker);
+    let reader = DumpReader::new(bound, taker);
     match read_by(
         alloc,
         dump,
-        ordered,
+        reader,
         piece,
-        &|ordered: OrderedDump<'_, F>, bytes: &[u8]| ordered.take(alloc, bytes),
+        &|reader: DumpReader<'_, F>, bytes: &[u8]| reader.take(alloc, bytes),
     ) {
-        Ok((ordered, rest)) => match ordered.finish(alloc, rest.as_slice()) {
+        Ok((reader, rest)) => match reader.finish(alloc, rest.as_slice()) {
             Ok(taker) => Ok(taker),
             Err(fault) => Err(Refusal::of_capture(fault)),
         },

@@ -6,14 +6,11 @@
 //! - `check`, `list`: [`check::check`] judges a recording and [`list::list`] lists it, by
 //!   [`Workers`]. A listing is compared with that of a recording by vme_confirm_command. The commands
 //!   that write texts for people, as `explain`, are vme_text_commands'.
-//! - `dump_judge`, `judged_dump`, `workers`: a dump that is judged as it is read, in which pieces
-//!   and by how many.
-//! - `ordered_dump`, `judged_settled`: a dump whose steps are taken in order as it is read
-//!   ([`OrderedDump`]), and one that is judged so with a skew; `settled`: by a skew of 0 a recording
-//!   is itself ([`unsettled`]).
-//! - `allowance`, `words`, `built_in`, `input_fault`: which breaks the arguments of an audit allow;
-//!   how a call without an order ends; what is used without arguments; faults that aren't lack of
-//!   memory. The audit itself is vme_audit_command's.
+//! - `judged_dump`, `workers`: a dump that is judged as it is read, in which pieces and by how
+//!   many; `judged_settled`: one that is judged so in order, with a skew; `settled`: by a skew of 0
+//!   a recording is itself ([`unsettled`]).
+//! - `allowance`, `words`, `built_in`: which breaks the arguments of an audit allow; how a call
+//!   without an order ends; what is used without arguments. The audit is vme_audit_command's.
 //!
 //! # What is proved
 //!
@@ -23,8 +20,6 @@
 //!   says what is written, and `unwritten` when the status is 5.
 //! - No answer depends on the size of a piece or the number of workers, nor on the size of a block,
 //!   except that a recording may fill too many.
-//! - [`OrderedDump`] gives exactly the recording that the binding makes of the dump to what takes it,
-//!   or exactly the first fault, in whatever pieces the text comes.
 //! - [`words_status`]: 3 for invalid arguments; help and version 0, or 5 where they weren't written.
 //! - [`allowance_of`] reads each allowance from its text, and nothing else from any text.
 //!
@@ -45,21 +40,15 @@
 mod allowance;
 mod built_in;
 pub mod check;
-mod dump_judge;
-mod input_fault;
 mod judged_dump;
 mod judged_settled;
 pub mod list;
-mod ordered_dump;
 mod settled;
 mod words;
 mod workers;
 
 pub use allowance::{allowance_of, allowances_of};
 pub use built_in::{BLOCK, BUILT_IN, READS_TERMINAL};
-pub use dump_judge::ReadStage;
-pub use input_fault::InputFault;
-pub use ordered_dump::OrderedDump;
 pub use settled::unsettled;
 pub use words::{unread_words, words_status};
 pub use workers::Workers;

@@ -5,7 +5,7 @@ ghost use Rattle.vcd_read.specs.Meaning.{dump_of};
 ghost use Rattle.vme_stream.specs.Answers.{AnswerGives, dump_read, or_bad_dump, recording_by};
 ghost use Rattle.vme_bind.specs.Binding.{BoundLines};
 ghost use Rattle.vme_bind.specs.TextCapture.{recording_of_text};
-ghost use Rattle.vme_commands.specs.DumpJudge.{ahead_of};
+ghost use Rattle.vme_bind.specs.DumpReading.{dump_ahead};
 ghost use Rattle.vcd_read.specs.ByteConsumers.{ContinuesAs};
 ghost use Rattle.vme_stream.specs.Inputs.{IsReading};
 ghost use Rattle.vme_trace.specs.WellFormed.{malformed_step};
@@ -13,8 +13,7 @@ ghost use Rattle.vme_trace.specs.WellFormed.{malformed_step};
 use crate::seen_dump::SeenDump;
 use std::alloc::{AllocError, Global};
 use vcd_read::{ByteConsumer, FaultKind, Variables, read_definitions};
-use vme_bind::{Binding, CaptureFault};
-use vme_commands::OrderedDump;
+use vme_bind::{Binding, CaptureFault, DumpReader};
 use vme_stream::{Input, Refusal, read_by};
 use vme_text::Text;
 use vme_trace::{Source, StepVisitor};
@@ -105,7 +104,7 @@ fn kept_after(
 /// A dump whose recording by a binding is taken as it is read, and what is kept of it for what is said beside.
 #[derive(Drop)]
 pub(crate) struct ExplainedInput<'b, F: StepVisitor> {
-    ordered: OrderedDump<'b, F>,
+    reader: DumpReader<'b, F>,
     seen: SeenDump,
     kept: Option<KeptDump>,
 }
@@ -113,11 +112,10 @@ pub(crate) struct ExplainedInput<'b, F: StepVisitor> {
 impl<'b, F: StepVisitor> ExplainedInput<'b, F> {
     /// Before the first byte.
     pub fn new(alloc: Global, bound: &'b Binding, visitor: F) -> ExplainedInput<'b, F>
-        ensures { (rest : List ℕ) → ahead_of result.ordered.bound.now result.ordered.stage rest
-            ≡ recording_of_text bound.now rest }
+        ensures { (rest : List ℕ) → dump_ahead result.reader rest ≡ recording_of_text bound.now rest }
     {
         ExplainedInput {
-            ordered: OrderedDump::new(bound, visitor),
+            reader: DumpReader::new(bound, visitor),
             seen: SeenDump::new(alloc),
             kept: None,
         }
@@ -130,28 +128,16 @@ impl<'b, F: StepVisitor> ExplainedInput<'b, F> {
         bytes: &[u8],
     ) -> Result<(ExplainedInput<'b, F>, usize), AllocError>
         ensures within { IfOk result (λ made. made.1 ≤ length bytes.now) }
-        ensures taken { IfOk result (λ made.
-            ContinuesAs (ahead_of self.entry.ordered.bound.now self.entry.ordered.stage)
-            (ahead_of made.0.ordered.bound.now made.0.ordered.stage) (take made.1 bytes.now)) }
+        ensures taken { IfOk result (λ made. ContinuesAs (dump_ahead self.entry.reader) (dump_ahead made.0.reader)
+            (take made.1 bytes.now)) }
     {
-        let ExplainedInput {
-            ordered,
-            seen,
-            kept,
-        } = self;
+        let ExplainedInput { reader, seen, kept } = self;
         let mut seen = seen;
-        let (ordered, count) = ordered.take(alloc, bytes)?;
+        let (reader, count) = reader.take(alloc, bytes)?;
         let taken = &bytes[..count];
-        seen.pass(alloc, taken, ordered.fault())?;
+        seen.pass(alloc, taken, reader.fault())?;
         let kept = kept_after(alloc, kept, taken)?;
-        Ok((
-            ExplainedInput {
-                ordered,
-                seen,
-                kept,
-            },
-            count,
-        ))
+        Ok((ExplainedInput { reader, seen, kept }, count))
     }
 }
 
@@ -159,11 +145,11 @@ impl<F: StepVisitor> ByteConsumer for ExplainedInput<'_, F> {
     ghost use Rattle.std.specs.Prelude.{Result};
     ghost use Rattle.vme_trace.specs.Trace.{Trace};
     ghost use Rattle.vme_bind.specs.declared.fault.CaptureFault.{CaptureFault};
-    ghost use Rattle.vme_commands.specs.DumpJudge.{ahead_of};
+    ghost use Rattle.vme_bind.specs.DumpReading.{dump_ahead};
 
     ghost Outcome = { Result Trace CaptureFault };
 
-    ghost ahead = { λ u. ahead_of u.ordered.bound.now u.ordered.stage };
+    ghost ahead = { λ u. dump_ahead u.reader };
 }
 
 /// What took the recording that a binding makes of a dump, which is read piece by piece, or the first reason that there
@@ -202,21 +188,17 @@ fn taken_input<F: StepVisitor>(
     rest: &[u8],
 ) -> (Result<F, Refusal>, KeptDump)
     ensures gives { (b : BoundLines) (bytes : List ℕ)
-        → recording_of_text b bytes ≡ ahead_of input.entry.ordered.bound.now input.entry.ordered.stage rest.now
+        → recording_of_text b bytes ≡ dump_ahead input.entry.reader rest.now
         → AnswerGives (λ w. F.recorded w) result.0 (recording_by b (or_bad_dump (dump_of bytes))) }
     ensures formed { (b : BoundLines) (bytes : List ℕ)
-        → recording_of_text b bytes ≡ ahead_of input.entry.ordered.bound.now input.entry.ordered.stage rest.now
+        → recording_of_text b bytes ≡ dump_ahead input.entry.reader rest.now
         → IfOk result.0 (λ w. malformed_step (F.recorded w) ≡ None) }
 {
-    let ExplainedInput {
-        ordered,
-        seen,
-        kept,
-    } = input;
+    let ExplainedInput { reader, seen, kept } = input;
     let Ok(kept) = KeptDump::by_end(alloc, kept, rest) else {
         return (Err(Refusal::Memory), KeptDump::nothing(alloc));
     };
-    match ordered.finish(alloc, rest) {
+    match reader.finish(alloc, rest) {
         Ok(taker) => (Ok(taker), kept),
         Err(fault) => {
             let kept = kept.with_fault(seen, &fault, rest);

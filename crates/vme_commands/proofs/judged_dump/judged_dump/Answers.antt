@@ -26,7 +26,7 @@ returns-in-Ok-finish g c =
     let (binding, bound_reading, bound_is) = c.in_ok-bound.ensures in
     let (bytes, short, reading, same) = c.in-Ok.ensures.bytes in
     let rest = rw c.as_slice.ensures.value at c.in-Ok-finish.ensures in
-    let is : recording_of_text bound bytes ≡ Ok t = sym (c.new-dump_judge.ensures bytes) ∙ same ∙ rest in
+    let is : recording_of_text bound bytes ≡ Ok t = sym (c.new-reader.ensures bytes) ∙ same ∙ rest in
     record {
       gives = (
         binding,
@@ -47,7 +47,7 @@ returns-in-Ok-clause-gives g c =
     let (bytes, short, reading, same) = c.in-Ok.ensures.bytes in
     let rest = rw c.as_slice.ensures.value at c.in-Err-finish.ensures in
     let fails = subst (λ (r : Result Trace CaptureFault). CaptureFailsBy fault r)
-    (sym (sym (c.new-dump_judge.ensures bytes) ∙ same)) rest in (
+    (sym (sym (c.new-reader.ensures bytes) ∙ same)) rest in (
       binding,
       Some bytes,
       bound_reading,

@@ -14,7 +14,7 @@ returns-in-Ok-finish g c =
     let t = g.F.StepVisitor.recorded c.in-Ok-finish.taker in
     let (bytes, short, reading, same) = c.in-Ok.ensures.bytes in
     let rest = rw c.as_slice.ensures.value at c.in-Ok-finish.ensures in
-    let is : recording_of_text bound bytes ≡ Ok t = sym (c.new-ordered.ensures bytes) ∙ same ∙ rest in
+    let is : recording_of_text bound bytes ≡ Ok t = sym (c.new-reader.ensures bytes) ∙ same ∙ rest in
     record {
       gives = (Some bytes, reading, rw (dump_read-whole bytes short) (recording_by-text bound bytes t is));
       formed = recorded-formed bound bytes t is;
@@ -27,7 +27,7 @@ returns-in-Ok-clause-gives g c =
     let (bytes, short, reading, same) = c.in-Ok.ensures.bytes in
     let rest = rw c.as_slice.ensures.value at c.in-Err-finish.ensures in
     let fails = subst (λ (r : Result Trace CaptureFault). CaptureFailsBy fault r)
-    (sym (sym (c.new-ordered.ensures bytes) ∙ same)) rest in (
+    (sym (sym (c.new-reader.ensures bytes) ∙ same)) rest in (
       Some bytes,
       reading,
       rw (c.of_capture.ensures, dump_read-whole bytes short) (recording_by-fails bound bytes fault

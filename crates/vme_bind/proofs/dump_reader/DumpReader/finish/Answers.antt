@@ -2,8 +2,8 @@ use Rattle.std.proofs.Common.{[], Result, Err, refl, sym, subst}
 use Rattle.vme_trace.specs.Trace.{Trace}
 use Rattle.vme_bind.specs.TextCapture.{GivesBy}
 use Rattle.vme_bind.specs.declared.fault.CaptureFault.{CaptureFault}
-use Rattle.vme_commands.proofs.DumpJudgeLemmas.{is-told}
-use Rattle.vme_commands.proofs.ordered_dump.OrderedDump.finish.Goals as goal
+use Rattle.vme_bind.proofs.DumpReaderLemmas.{is-told}
+use Rattle.vme_bind.proofs.dump_reader.DumpReader.finish.Goals as goal
 
 pub returns-in-Definitions : goal.returns-in-Definitions
 returns-in-Definitions g c = rw c.in-Definitions.is c.record_text.ensures.gives

@@ -1,25 +1,25 @@
-use Rattle.std.proofs.Common.{◌∙◌, sym, take}
+use Rattle.std.proofs.Common.{◌∙◌, refl, sym, take}
 use Rattle.vme_bind.specs.TextPieces.{text_reached}
-use Rattle.vme_commands.proofs.DumpJudgeLemmas.{begun-on, failed-at-front, failed-on, read-on}
-use Rattle.vme_commands.proofs.dump_judge.DumpJudge.take.Goals as goal
+use Rattle.vme_bind.proofs.DumpReaderLemmas.{begun-on, failed-at-front, failed-on, read-on}
+use Rattle.vme_bind.proofs.dump_reader.DumpReader.take.Goals as goal
 
 pub returns-in-Ok-Ok-clause-taken : goal.returns-in-Ok-Ok-clause-taken
 returns-in-Ok-Ok-clause-taken g c =
-    let b = c.args.self.bound.now in
+    let b = c.in-Definitions.bound.now in
     let front = take c.whole_tokens-count.result c.args.bytes.now in
     let text = c.in-Ok-Ok.text in
     let begins = rw c.in-Ok-Ok.field-0-is at c.in-Ok-Ok.ensures.begins in
     let line = rw c.in-Ok-Ok.field-0-is at c.in-Ok-Ok.ensures.line in
     rw c.in-Definitions.is
     (λ rest. begun-on (text_reached text) b front (text_reached text).body.line line c.whole_tokens-count.ensures.apart
-    begins rest ∙ sym (c.at.ensures rest))
+    begins rest)
 
 pub returns-in-Ok-Err-clause-taken : goal.returns-in-Ok-Err-clause-taken
 returns-in-Ok-Err-clause-taken g c = rw c.in-Definitions.is (λ rest. sym (c.new.ensures rest))
 
 pub returns-in_ok-failed-in-Err-clause-taken : goal.returns-in_ok-failed-in-Err-clause-taken
 returns-in_ok-failed-in-Err-clause-taken g c =
-    let b = c.args.self.bound.now in
+    let b = c.in-Definitions.bound.now in
     let front = take c.whole_tokens-count.result c.args.bytes.now in
     rw c.in-Definitions.is
     (λ rest. failed-at-front b front c.in-Err.fault c.whole_tokens-count.ensures.apart
@@ -33,8 +33,7 @@ returns-in-Ok-clause-taken g c =
     rw c.in-Body.is
     (λ rest.
     read-on (text_reached text) (text_reached next) piece (text_reached text).body.line (text_reached next).body.line
-    c.in-Ok.ensures.line c.whole_tokens-count.ensures.apart c.in-Ok.ensures.rest rest
-    ∙ sym (c.at-in-Ok.ensures rest))
+    c.in-Ok.ensures.line c.whole_tokens-count.ensures.apart c.in-Ok.ensures.rest rest)
 
 pub returns-in_ok-failed-in-Err-read-clause-taken : goal.returns-in_ok-failed-in-Err-read-clause-taken
 returns-in_ok-failed-in-Err-read-clause-taken g c =
@@ -47,4 +46,4 @@ returns-in_ok-failed-in-Err-read-clause-taken g c =
     ∙ sym (c.in_ok-failed-in-Err-read.ensures.ahead rest))
 
 pub returns-in-Failed-clause-taken : goal.returns-in-Failed-clause-taken
-returns-in-Failed-clause-taken g c = rw c.in-Failed.is (λ rest. sym (c.at-in-Failed.ensures rest))
+returns-in-Failed-clause-taken g c = rw c.in-Failed.is (λ rest. refl)

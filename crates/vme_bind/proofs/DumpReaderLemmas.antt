@@ -1,4 +1,4 @@
--- A dump that is judged as it is read: what comes of it, piece by piece.
+-- A dump that is read as its text comes: what comes of it, piece by piece.
 use Rattle.std.proofs.Common.{◌≡◌, ℕ, false, List, [], ◌++◌, Result, Err, sym, ap, ◌∙◌, append-nil}
 use Rattle.vme_trace.specs.Trace.{Trace}
 use Rattle.vcd_read.specs.Header.{◌>>=◌}
@@ -16,7 +16,7 @@ use Rattle.vme_bind.specs.Binding.{BoundLines}
 use Rattle.vme_bind.specs.BuilderState.{builder_change, builder_instant}
 use Rattle.vme_bind.specs.TextCapture.{BindingFails, DumpFails, CaptureFailsBy, recording_of_text}
 use Rattle.vme_bind.specs.TextPieces.{TextReached, outcome, outcome_ahead}
-use Rattle.vme_commands.specs.Wants.{is_want}
+use Rattle.vme_bind.specs.Wants.{is_want}
 
 -- no token of a text goes on behind this front of it
 abbrev EndsThere : List ℕ → Type 0

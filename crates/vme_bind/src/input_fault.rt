@@ -1,0 +1,25 @@
+//! A fault that is told, and isn't want of memory.
+
+ghost use Rattle.std.specs.Prelude.{◌≡◌, false};
+ghost use Rattle.vme_bind.specs.Wants.{is_want};
+
+use crate::fault::{BindFaultKind, CaptureFault};
+use vcd_read::FaultKind;
+
+/// Why a dump has no recording: no want of memory.
+#[derive(Drop)]
+pub struct InputFault {
+    /// The fault.
+    pub fault: CaptureFault,
+    ghost told: { is_want fault ≡ false },
+}
+
+/// Whether a fault is none but want of memory.
+pub(crate) fn is_want(fault: &CaptureFault) -> bool
+    ensures { result ≡ is_want fault.now }
+{
+    match fault {
+        CaptureFault::Dump(fault) => matches!(fault.kind, FaultKind::Memory),
+        CaptureFault::Binding(fault) => matches!(fault.kind, BindFaultKind::Memory),
+    }
+}
