@@ -191,7 +191,7 @@ module _ {Whole Source : Type 0} (whole : Whole) (source : Source) (gave : Whole
 -- the dump is read somehow
 pub begun-read : (bound : BoundLines) (old now : Reading) (input : InputSoFar) (begun : Begun)
     → BeginsDump bound old now input (Ok begun) → (bytes : Option (List ℕ)) × IsReading old now bytes
-begun-read bound old now input (Body r) at = some-reading old now at.done input at.read
+begun-read bound old now input (Body r count) at = some-reading old now [] input at.read
 begun-read bound old now input (Unusable fault) is =
     let (contents, dump, fault_is) = is in
     (Some dump.text, dump.reading)

@@ -10,7 +10,7 @@ ghost use Rattle.vme_cert.specs.Checking.{HasCompared};
 ghost use Rattle.vme_dump_input.specs.SettledReadings.{skew_of};
 ghost use Rattle.vme_dump_input.specs.DumpBeginnings.{IsAtBody, IsBodyUnread};
 ghost use Rattle.vme_confirm_command.specs.DumpChecks.{Compares, IsChecked};
-ghost use Rattle.vme_dump_input.specs.DumpBeginnings.{MayBeRead, BeginsDump};
+ghost use Rattle.vme_dump_input.specs.DumpBeginnings.{BeginsDump, HoldsDefinitions, MayBeRead};
 ghost use Rattle.vme_dump_input.specs.BodyPieces.{IsAtEnd, ReadsPiece};
 ghost use Rattle.vme_confirm_command.specs.PieceChecks.{ChecksOn};
 ghost use Rattle.vme_confirm_command.specs.StepChecks.{IsComparing};
@@ -150,13 +150,15 @@ pub(crate) fn compare_begun<D: Source, S: RowSource>(
     version: Version,
     rows: S,
 ) -> (Result<Result<Answer, BindFault>, Refusal>, S)
-    requires { MayBeRead begun }
+    requires begun { MayBeRead begun }
+    requires held { HoldsDefinitions input.old begun }
     ensures { (bound : BoundLines) (old : Reading) (whole : S.Whole) → S.gave whole rows []
         → BeginsDump bound old (D.reading dump.old) input.old (Ok begun) → input.old.limit ≡ longest_input
         → Compares S.gave S.is_over whole version bound skew old (D.reading dump.new) result.0 result.1 }
 {
     match begun {
-        Begun::Body(reader) => {
+        Begun::Body(reader, count) => {
+            input.take_first(count);
             let check = first_check(alloc, &reader, skew, version, rows);
             compare_body(alloc, dump, input, reader, check)
         }

@@ -14,7 +14,7 @@ ghost use Rattle.vme_bind.specs.Binding.{BoundLines};
 ghost use Rattle.vme_bind.specs.declared.fault.BindFault.{BindFault};
 ghost use Rattle.vme_listing.specs.declared.row.Row.{Row};
 ghost use Rattle.vme_listing.specs.declared.row.Version.{Version};
-ghost use Rattle.vme_dump_input.specs.DumpBeginnings.{MayBeRead, BeginsDump};
+ghost use Rattle.vme_dump_input.specs.DumpBeginnings.{BeginsDump, HoldsDefinitions, MayBeRead};
 ghost use Rattle.vme_confirm_command.specs.FoundRows.{EndsFound, FindsRows};
 ghost use Rattle.vme_confirm_command.specs.RowsOfListing.{GaveRows, IsOver};
 ghost use Rattle.vme_stream.specs.declared.refusal.Refusal.{Refusal};
@@ -168,7 +168,8 @@ fn comparison_begun<D: Source, L: Source + Drop>(
     listing: L,
     skew: u64,
 ) -> (Result<Answer, Refusal>, L)
-    requires { MayBeRead begun }
+    requires begun { MayBeRead begun }
+    requires held { HoldsDefinitions input.old begun }
     ensures { (bound : BoundLines) (old : Reading)
         → BeginsDump bound old (D.reading dump.old) input.old (Ok begun) → input.old.limit ≡ longest_input
         → (dump_bytes listing_bytes : Option (List ℕ)) × (given : Result Listed Refusal)

@@ -13,8 +13,8 @@ use Rattle.vme_stream.proofs.InputLemmas.{gives_more, in_time, read_to_end, read
 use Rattle.vme_stream.specs.InFaults.{InputFailsBy}
 use Rattle.vme_stream.specs.declared.input.InFault.{InFault}
 use Rattle.vme_stream.specs.declared.input.InFault.TheVariants as failed
-use Rattle.vme_dump_input.specs.BufferedInputs.{FailsAs, InputSoFar, IsAllOf, IsReadTo, IsToldWhole, MayLimit}
-use Rattle.vme_dump_input.specs.BufferedInputs.{not_read}
+use Rattle.vme_dump_input.specs.BufferedInputs.{FailsAs, InputSoFar, IsAllOf, IsGrown, IsReadOn, IsReadTo}
+use Rattle.vme_dump_input.specs.BufferedInputs.{IsToldWhole, MayLimit, not_read}
 
 module _ (old now : Reading) (done : List ℕ) (input : InputSoFar) (h : IsReadTo old now done input) where
   -- some of what is held is taken
@@ -266,3 +266,26 @@ module _ (done held : List ℕ) (n : ℕ) where
       append_assoc done (take n held) (drop n held ++ future)
       ∙ ap (λ l. done ++ l) (sym (append_assoc (take n held) (drop n held) future))
       ∙ ap (λ l. done ++ (l ++ future)) (take-append-drop n held)
+
+-- ---- more is read, and nothing is taken
+
+ends_not : (flag : Bool) → flag ≡ false → flag ≡ true → ⊥
+ends_not true e h = absurd (cc)
+ends_not false e h = absurd (cc)
+
+pub on-none : (input : InputSoFar) → IsReadOn input input
+on-none input = record {
+  more = [];
+  held = sym (append-nil input.held);
+  follows = λ rest ends. ends;
+}
+
+pub on-grown : (before here after : InputSoFar) → IsReadOn before here → here.is_whole ≡ false → IsGrown here after
+    → IsReadOn before after
+on-grown before here after on going grown = record {
+  more = on.more ++ grown.more;
+  held = grown.held ∙ ap (λ (l : List ℕ). l ++ grown.more) on.held ∙ append_assoc before.held on.more grown.more;
+  follows = λ rest ends whole.
+      append_assoc on.more grown.more rest
+      ∙ on.follows (grown.more ++ rest) (λ here_whole. absurd (ends_not here.is_whole going here_whole)) whole;
+}

@@ -1,5 +1,7 @@
 -- The definitions of a dump as they are read.
 use Rattle.std.proofs.Common.{◌≡◌, ◌≤◌, ℕ, true, List, [], ◌++◌, length, drop, take, sym, ap, subst, ◌∙◌, append-nil}
+use Rattle.std.proofs.Common.{append_assoc, arith, length-append}
+use Rattle.std.proofs.lemmas.List.{drop-append-le}
 use Rattle.std.specs.Prelude.{Ok}
 use Rattle.vcd_read.specs.declared.fault.FaultKind.{FaultKind}
 use Rattle.vcd_read.specs.declared.fault.FaultKind.TheVariants as vcd
@@ -15,8 +17,9 @@ use Rattle.vme_bind.specs.declared.fault.CaptureFault.{CaptureFault}
 use Rattle.vme_bind.specs.declared.fault.CaptureFault.TheVariants.{Dump}
 use Rattle.vme_listing.specs.Reading.{IsFollowedBy}
 use Rattle.vme_step_reader.specs.StepReading.{StepReading, whole_reading}
-use Rattle.vme_dump_input.specs.DumpBeginnings.{HasFault, HasFaultBefore, IsAtBody, IsBodyUnread, IsSound}
-use Rattle.vme_dump_input.specs.BufferedInputs.{InputSoFar, IsReadTo}
+use Rattle.vme_dump_input.specs.DumpBeginnings.{HasFault, HasFaultBefore, IsAtBody, IsAtDefinitions}
+use Rattle.vme_dump_input.specs.DumpBeginnings.{IsBodyUnread, IsSound}
+use Rattle.vme_dump_input.specs.BufferedInputs.{InputSoFar, IsReadOn, IsReadTo}
 use Rattle.vme_dump_input.proofs.DumpTexts.{agree}
 use Rattle.vme_dump_input.proofs.BufferedLemmas.{taken-first}
 use Rattle.vme_dump_input.proofs.BufferedLemmas.{split-at}
@@ -49,23 +52,47 @@ module _ (bound : BoundLines) (old now : Reading) (input : InputSoFar) (h : IsRe
     (within : n ≤ length input.held) (r : StepReading) where
   pub begun-body : ((rest : List ℕ) → IsFollowedBy input.is_whole rest
       → reading_of_text bound (input.held ++ rest) ≡ Ok (whole_reading r (drop n input.held ++ rest)))
-      → IsAtBody bound old now (record input { held = drop n input.held }) r
-  begun-body begins = record {
-    done = take n input.held;
-    read = taken-first old now [] input h n within;
-    body = λ rest ends.
-        ap (reading_of_text bound) (split-at [] input.held n rest) ∙ begins rest ends;
-  }
+      → IsAtDefinitions bound old now input r n
+  begun-body begins = record { read = h; within = within; body = begins }
 
   pub begun-last : input.is_whole ≡ true
       → reading_of_text bound input.held ≡ Ok (whole_reading r (drop n input.held))
-      → IsAtBody bound old now (record input { held = drop n input.held }) r
+      → IsAtDefinitions bound old now input r n
   begun-last whole begins = begun-body (λ rest ends.
       let none : rest ≡ [] = ends whole in
       subst (λ (l : List ℕ). reading_of_text bound (input.held ++ l) ≡ Ok (whole_reading r (drop n input.held ++ l)))
       (sym none)
       (ap (reading_of_text bound) (append-nil input.held) ∙ begins
       ∙ ap (λ l. Ok (whole_reading r l)) (sym (append-nil (drop n input.held)))))
+
+module _ (bound : BoundLines) (old now : Reading) (input : InputSoFar) (r : StepReading) (n : ℕ)
+    (at : IsAtDefinitions bound old now input r n) where
+  -- the definitions are taken
+  pub definitions-taken : IsAtBody bound old now (record input { held = drop n input.held }) r
+  definitions-taken = record {
+    done = take n input.held;
+    read = taken-first old now [] input at.read n at.within;
+    body = λ rest ends.
+        ap (reading_of_text bound) (split-at [] input.held n rest) ∙ at.body rest ends;
+  }
+
+  module _ (after : InputSoFar) (on : IsReadOn input after) where
+    -- more is read behind them
+    pub held-on : n ≤ length after.held
+    held-on = omega (arith, at.within, ap (λ (l : List ℕ). length l) on.held, length-append input.held on.more)
+
+    pub body-on : (rest : List ℕ) → IsFollowedBy after.is_whole rest
+        → reading_of_text bound (after.held ++ rest) ≡ Ok (whole_reading r (drop n after.held ++ rest))
+    body-on rest ends =
+        ap (reading_of_text bound) (ap (λ (l : List ℕ). l ++ rest) on.held ∙ append_assoc input.held on.more rest)
+        ∙ at.body (on.more ++ rest) (on.follows rest ends)
+        ∙ ap (λ (l : List ℕ). Ok (whole_reading r l)) (sym behind)
+      where
+        behind : drop n after.held ++ rest ≡ drop n input.held ++ (on.more ++ rest)
+        behind =
+            ap (λ (l : List ℕ). drop n l ++ rest) on.held
+            ∙ ap (λ (l : List ℕ). l ++ rest) (drop-append-le n input.held on.more at.within)
+            ∙ append_assoc (drop n input.held) on.more rest
 
 -- ---- before the first step
 

@@ -5,6 +5,7 @@ use Rattle.std.specs.Io.KnownBytes.{Consumes}
 use Rattle.vme_trace.specs.Streams.{Reading}
 use Rattle.vme_stream.specs.Inputs.{IsReading, most_reads}
 use Rattle.vme_stream.specs.declared.input.InFault.{InFault}
+use Rattle.vme_listing.specs.Reading.{IsFollowedBy}
 use Rattle.vme_stream.specs.declared.input.InFault.TheVariants.{Read, TooLong, Memory}
 
 -- the bytes that are held of an input; its limit, and how much room each read has; how many bytes were read, and how
@@ -56,6 +57,12 @@ pub record IsReadTo (old now : Reading) (done : List ℕ) (input : InputSoFar) :
 pub record IsGrown (before after : InputSoFar) : Type 0 where
   pub more : List ℕ
   pub held : after.held ≡ before.held ++ more
+
+-- more bytes are held, and none where nothing followed
+pub record IsReadOn (before after : InputSoFar) : Type 0 where
+  pub more : List ℕ
+  pub held : after.held ≡ before.held ++ more
+  pub follows : (rest : List ℕ) → IsFollowedBy after.is_whole rest → IsFollowedBy before.is_whole (more ++ rest)
 
 -- so many reads may follow
 abbrev pub reads_left : InputSoFar → ℕ

@@ -1,5 +1,5 @@
 -- What reading a dump piece by piece comes to.
-use Rattle.std.specs.Prelude.{◌≡◌, ℕ, ◌≤◌, List, [], ◌++◌, length, Option, None, Some, Result, Ok, Err}
+use Rattle.std.specs.Prelude.{◌≡◌, ℕ, ◌≤◌, List, [], ◌++◌, drop, length, Option, None, Some, Result, Ok, Err}
 use Rattle.vcd_read.specs.Contents.{Contents}
 use Rattle.vcd_read.specs.Meaning.{dump_of}
 use Rattle.vcd_read.specs.declared.fault.FaultKind.{FaultKind}
@@ -49,6 +49,15 @@ pub record IsAtBody (bound : BoundLines) (old now : Reading) (input : InputSoFar
   pub body : (rest : List ℕ) → IsFollowedBy input.is_whole rest
       → reading_of_text bound (done ++ (input.held ++ rest)) ≡ Ok (whole_reading r (input.held ++ rest))
 
+-- nothing of a dump was taken: its definitions have so many bytes of those that are held, and behind them this reader
+-- goes on
+pub record IsAtDefinitions (bound : BoundLines) (old now : Reading) (input : InputSoFar) (r : StepReading) (count : ℕ)
+    : Type 0 where
+  pub read : IsReadTo old now [] input
+  pub within : count ≤ length input.held
+  pub body : (rest : List ℕ) → IsFollowedBy input.is_whole rest
+      → reading_of_text bound (input.held ++ rest) ≡ Ok (whole_reading r (drop count input.held ++ rest))
+
 -- what is read goes on with a recording as one is made
 pub record IsSound (r : StepReading) : Type 0 where
   pub few : r.given.opening.slots ≤ 21
@@ -61,16 +70,25 @@ pub record IsBodyUnread (r : StepReading) : Type 0 where
   pub formed : (rest : List ℕ) → malformed_step (whole_reading r rest).recorded ≡ None
 
 abbrev pub MayBeRead : Begun → Type 0
-MayBeRead (Body r) = IsBodyUnread r
+MayBeRead (Body r count) = IsBodyUnread r
 MayBeRead (Unusable fault) = Unit {0}
 
 abbrev pub MayBeReadIf : Option Begun → Type 0
 MayBeReadIf None = Unit {0}
 MayBeReadIf (Some begun) = MayBeRead begun
 
+-- so many bytes of the definitions are held
+abbrev pub HoldsDefinitions : InputSoFar → Begun → Type 0
+HoldsDefinitions input (Body r count) = count ≤ length input.held
+HoldsDefinitions input (Unusable fault) = Unit {0}
+
+abbrev pub HoldsDefinitionsIf : InputSoFar → Option Begun → Type 0
+HoldsDefinitionsIf input None = Unit {0}
+HoldsDefinitionsIf input (Some begun) = HoldsDefinitions input begun
+
 -- the definitions of a dump were read; or the binding can't be used on it, and all of it was; or it is refused
 abbrev pub BeginsDump : BoundLines → Reading → Reading → InputSoFar → Result Begun Refusal → Type 0
-BeginsDump bound old now input (Ok (Body r)) = IsAtBody bound old now input r
+BeginsDump bound old now input (Ok (Body r count)) = IsAtDefinitions bound old now input r count
 BeginsDump bound old now input (Ok (Unusable fault)) =
     (contents : Contents) × IsReadDump old now contents × (capture_of bound contents ≡ Err fault)
 BeginsDump bound old now input (Err refusal) = IsDumpRefused old now refusal

@@ -1,6 +1,6 @@
 //! The definitions of a dump.
 
-ghost use Rattle.std.specs.Prelude.{◌≡◌, ◌≤◌, ℕ, List, [], ◌++◌, drop, length, true, None, Ok, IfOk, IfErr};
+ghost use Rattle.std.specs.Prelude.{◌≡◌, ℕ, List, [], ◌++◌, true, None, Ok, IfOk, IfErr};
 ghost use Rattle.vme_trace.specs.Streams.{Reading};
 ghost use Rattle.vme_bind.specs.TextCapture.{CaptureFailsBy};
 ghost use Rattle.vme_bind.specs.TextReading.{reading_of_text};
@@ -12,9 +12,9 @@ ghost use Rattle.vme_stream.specs.declared.refusal.Refusal.TheVariants.{BadBindi
 ghost use Rattle.vme_bind.specs.declared.fault.BindFault.{BindFault};
 ghost use Rattle.vme_dump_input.specs.declared.definitions.Begun.TheVariants.{Body, Unusable};
 ghost use Rattle.vme_dump_input.specs.BufferedInputs.{IsReadTo, not_read};
-ghost use Rattle.vme_dump_input.specs.DumpBeginnings.{HasFaultBefore, IsDumpRefused, MayBeRead, MayBeReadIf};
+ghost use Rattle.vme_dump_input.specs.DumpBeginnings.{BeginsDump, HasFaultBefore, HoldsDefinitions};
+ghost use Rattle.vme_dump_input.specs.DumpBeginnings.{HoldsDefinitionsIf, IsDumpRefused, MayBeRead, MayBeReadIf};
 ghost use Rattle.vme_dump_input.specs.DumpBeginnings.{MayBegin};
-ghost use Rattle.vme_dump_input.specs.DumpBeginnings.{BeginsDump};
 
 use crate::buffered_input::BufferedInput;
 use crate::definitions_end::DefinitionsEnd;
@@ -38,11 +38,11 @@ pub fn dump_input(alloc: Global) -> Result<BufferedInput, AllocError>
     BufferedInput::new(alloc, LONGEST_DUMP, DUMP_ROOM)
 }
 
-/// The definitions of a dump were read.
+/// The definitions of a dump were read, of which nothing is taken.
 #[derive(Drop)]
 pub enum Begun {
-    /// What reads its body.
-    Body(StepReader),
+    /// What reads its body, and how many bytes its definitions have.
+    Body(StepReader, usize),
     /// The binding can't be used on it.
     Unusable(BindFault),
 }
@@ -106,7 +106,7 @@ fn unusable<D: Source>(
 }
 
 /// What a fault that is met before the body is.
-pub fn not_begun<D: Source>(
+fn not_begun<D: Source>(
     alloc: Global,
     bound: &Binding,
     dump: &mut D,
@@ -136,28 +136,23 @@ fn begin_last<D: Source>(
 ) -> Result<Begun, Refusal>
     requires { input.old.is_whole ≡ true }
     ensures begun { IfOk result MayBeRead }
+    ensures held { IfOk result (HoldsDefinitions input.new) }
     ensures read { (old : Reading) → IsReadTo old (D.reading dump.old) [] input.old → input.old.limit ≡ longest_input
         → BeginsDump bound.now old (D.reading dump.new) input.new result }
     ensures limit { input.old.limit ≡ longest_input → input.new.limit ≡ longest_input }
 {
     match begin_last_steps(alloc, bound, input.bytes()) {
-        Ok((reader, count)) => {
-            input.take_first(count);
-            Ok(Begun::Body(reader))
-        }
+        Ok((reader, count)) => Ok(Begun::Body(reader, count)),
         Err(fault) => not_begun(alloc, bound, dump, input, fault),
     }
 }
 
-/// Takes the definitions away, which have so many bytes: the body is left.
-fn body_behind(input: &mut BufferedInput, found: (StepReader, usize)) -> Begun
-    requires { found.1 ≤ length input.old.held }
-    ensures body { result ≡ Body found.0 }
-    ensures input { input.new ≡ record input.old { held = drop found.1 input.old.held } }
+/// The body begins behind so many bytes.
+fn body_behind(found: (StepReader, usize)) -> Begun
+    ensures { result ≡ Body found.0 found.1 }
 {
     let (reader, count) = found;
-    input.take_first(count);
-    Begun::Body(reader)
+    Begun::Body(reader, count)
 }
 
 /// Begins with the body, if the definitions end in what is held.
@@ -168,13 +163,14 @@ fn begin<D: Source>(
     input: &mut BufferedInput,
 ) -> Result<Option<Begun>, Refusal>
     ensures begun { IfOk result MayBeReadIf }
+    ensures held { IfOk result (HoldsDefinitionsIf input.new) }
     ensures read { (old : Reading) → IsReadTo old (D.reading dump.old) [] input.old → input.old.limit ≡ longest_input
         → MayBegin bound.now old (D.reading dump.new) input.old input.new result }
     ensures left { result ≡ Ok None → input.new ≡ input.old }
     ensures limit { input.old.limit ≡ longest_input → input.new.limit ≡ longest_input }
 {
     match begin_steps(alloc, bound, input.bytes()) {
-        Ok(Some(found)) => Ok(Some(body_behind(input, found))),
+        Ok(Some(found)) => Ok(Some(body_behind(found))),
         Ok(None) => Ok(None),
         Err(fault) => match not_begun(alloc, bound, dump, input, fault) {
             Ok(begun) => Ok(Some(begun)),
@@ -183,7 +179,7 @@ fn begin<D: Source>(
     }
 }
 
-/// Reads the definitions of a dump, of which nothing is read.
+/// Reads the definitions of a dump, of which nothing is taken: they are held yet.
 pub fn read_definitions<D: Source>(
     alloc: Global,
     bound: &Binding,
@@ -191,6 +187,7 @@ pub fn read_definitions<D: Source>(
     input: &mut BufferedInput,
 ) -> Result<Begun, Refusal>
     ensures begun { IfOk result MayBeRead }
+    ensures held { IfOk result (HoldsDefinitions input.new) }
     ensures read { (old : Reading) → IsReadTo old (D.reading dump.old) [] input.old → input.old.limit ≡ longest_input
         → BeginsDump bound.now old (D.reading dump.new) input.new result }
     ensures limit { input.old.limit ≡ longest_input → input.new.limit ≡ longest_input }

@@ -5,8 +5,8 @@
 //!
 //! - `buffered_input`: [`BufferedInput`], the bytes of an input that were read and not taken, up to
 //!   a limit.
-//! - `definitions`: [`read_definitions`] reads the definitions of a dump, up to its body.
-//!   [`refused_for`] and [`not_begun`] say what a fault is that is met in them.
+//! - `definitions`: [`read_definitions`] reads the definitions of a dump, up to its body, and takes
+//!   none of their bytes. [`refused_for`] says what a fault of the dump is.
 //! - `definitions_end`: [`DefinitionsEnd`] looks for where the definitions of a dump may end, in
 //!   time in proportion to the bytes.
 //! - `body`: what a fault is that is met in the body.
@@ -18,9 +18,9 @@
 //! - The bytes that are held and those that were taken are what was read (`IsReadTo`). At the end
 //!   they are all of the input (`IsAllOf`), and an input that can't be had, or is too long, is told
 //!   so (`FailsAs`).
-//! - Behind the definitions the body goes on with what is held (`BeginsDump`, `IsAtBody`), or the
-//!   binding can't be used on the dump, all of which was read; or the dump is refused for its first
-//!   reason (`IsDumpRefused`): one that can't be had has no fault.
+//! - Behind the definitions the body goes on with what is held (`BeginsDump`, `IsAtDefinitions`,
+//!   `IsAtBody`), or the binding can't be used on the dump, all of which was read; or the dump is
+//!   refused for its first reason (`IsDumpRefused`): one that can't be had has no fault.
 //! - The steps that come out, piece by piece, are those that the recording settles to as far as it is
 //!   complete by the last time that was read, and all of it at the end (`settled`, and the contract
 //!   of [`last_steps`]). Without a skew they are the steps themselves.
@@ -47,6 +47,6 @@ mod settling;
 
 pub use body::{fault_of, opening_of, refused_in_body};
 pub use buffered_input::BufferedInput;
-pub use definitions::{Begun, dump_input, not_begun, read_definitions, refused_for, unread};
+pub use definitions::{Begun, dump_input, read_definitions, refused_for, unread};
 pub use definitions_end::DefinitionsEnd;
 pub use settling::{last_steps, settled_steps, settler_for};

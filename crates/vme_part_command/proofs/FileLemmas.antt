@@ -2,19 +2,17 @@
 use Rattle.std.proofs.Common.{◌≡◌, ◌≤◌, ℕ, Bool, true, false, List, [], ◌++◌, length, take, drop, Option}
 use Rattle.std.proofs.Common.{refl, sym, ap, subst, ◌∙◌, append_assoc, append-nil, take-append-drop}
 use Rattle.std.specs.Prelude.{Ok}
-use Rattle.vcd_start.specs.Starts.{TellsStart}
-use Rattle.vcd_start.specs.declared.start.Start.{Start}
-use Rattle.vcd_start.specs.declared.start.Start.TheVariants.{NotTold, Told}
 use Rattle.vme_trace.specs.Streams.{Reading}
 use Rattle.vme_bind.specs.Binding.{BoundLines}
 use Rattle.vme_bind.specs.TextReading.{TextReading, reading_of_text}
 use Rattle.vme_listing.specs.Reading.{IsFollowedBy}
 use Rattle.vme_stream.specs.Inputs.{longest_input}
 use Rattle.vme_step_reader.specs.StepReading.{StepReading, whole_reading}
-use Rattle.vme_dump_input.specs.DumpBeginnings.{IsAtBody}
-use Rattle.vme_dump_input.specs.BufferedInputs.{InputSoFar, IsAllOf, IsGrown, IsReadTo}
+use Rattle.vme_dump_input.specs.DumpBeginnings.{IsAtBody, IsAtDefinitions}
+use Rattle.vme_dump_input.specs.BufferedInputs.{InputSoFar, IsAllOf, IsGrown, IsReadOn, IsReadTo}
 use Rattle.vme_dump_input.proofs.BufferedLemmas.{all-read, split-at, taken-first}
-use Rattle.vme_part_command.specs.FileReadings.{IsAtFile, IsAtFileEnd, IsStartFor, TellsStartFor}
+use Rattle.vme_dump_input.proofs.DefinitionLemmas.{body-on, held-on}
+use Rattle.vme_part_command.specs.FileReadings.{IsAtFile, IsAtFileEnd, IsStartFor}
 
 ends_not : (flag : Bool) → flag ≡ false → flag ≡ true → ⊥
 ends_not true e h = absurd (cc)
@@ -37,19 +35,15 @@ module _ (bound : BoundLines) (number : ℕ) (start : Option ℕ) (old now : Rea
         (starts rest ends);
   }
 
-  pub begun-last-file : input.is_whole ≡ true
-      → reading_of_text bound input.held ≡ Ok (whole_reading r (drop n input.held))
-      → IsStartFor number input.held start
-      → IsAtFile bound number start old now (record input { held = drop n input.held }) r
-  begun-last-file whole begins starts = begun-file
-      (λ rest ends.
-      let none : rest ≡ [] = ends whole in
-      subst (λ (l : List ℕ). reading_of_text bound (input.held ++ l) ≡ Ok (whole_reading r (drop n input.held ++ l)))
-      (sym none)
-      (ap (reading_of_text bound) (append-nil input.held) ∙ begins
-      ∙ ap (λ l. Ok (whole_reading r l)) (sym (append-nil (drop n input.held)))))
-      (λ rest ends. subst (λ (l : List ℕ). IsStartFor number l start)
-      (sym (ap (λ (l : List ℕ). input.held ++ l) (ends whole) ∙ append-nil input.held)) starts)
+-- behind definitions that were held until the first time was known
+pub file-behind : (bound : BoundLines) (number : ℕ) (start : Option ℕ) (old before now : Reading)
+    (here after : InputSoFar) (r : StepReading) (n : ℕ) → IsAtDefinitions bound old before here r n
+    → IsReadOn here after → IsReadTo old now [] after
+    → ((rest : List ℕ) → IsFollowedBy after.is_whole rest → IsStartFor number (after.held ++ rest) start)
+    → IsAtFile bound number start old now (record after { held = drop n after.held }) r
+file-behind bound number start old before now here after r n at on read starts =
+    begun-file bound number start old now after read n (held-on bound old before here r n at after on) r
+    (body-on bound old before here r n at after on) starts
 
 -- ---- a piece
 
@@ -106,10 +100,3 @@ module _ (bound : BoundLines) (number : ℕ) (start : Option ℕ) (old now : Rea
     starts = subst (λ (l : List ℕ). IsStartFor number (at.done ++ l) start) (append-nil input.held)
         (at.starts [] (λ _. refl));
   }
-
--- ---- the first time
-
--- what is told of it is told of the file of each number
-pub tells-for : (number : ℕ) (text : List ℕ) (start : Start) → TellsStart text start → TellsStartFor number text start
-tells-for number text NotTold tells = tt
-tells-for number text (Told time) tells = λ other. tells

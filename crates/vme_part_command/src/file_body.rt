@@ -1,24 +1,25 @@
 //! The body of a dump that is a file of a recording, judged as it is read.
 
-ghost use Rattle.std.specs.Prelude.{◌≡◌, ℕ, Bool, IfOk, Ok, Option};
+ghost use Rattle.std.specs.Prelude.{◌≡◌, ◌≤◌, ℕ, Bool, IfOk, Ok, Option, length};
 ghost use Rattle.vme_trace.specs.Streams.{Reading};
 ghost use Rattle.vme_bind.specs.Binding.{BoundLines};
 ghost use Rattle.vme_stream.specs.Inputs.{longest_input};
-ghost use Rattle.vme_dump_input.specs.DumpBeginnings.{IsBodyUnread};
+ghost use Rattle.vme_dump_input.specs.DumpBeginnings.{BeginsDump, HoldsDefinitions, IsAtDefinitions, IsBodyUnread};
+ghost use Rattle.vme_dump_input.specs.DumpBeginnings.{MayBeRead};
 ghost use Rattle.vme_part_command.specs.Backplane.{backplane_of};
 ghost use Rattle.vme_part_command.specs.FileChecks.{IsFileJudged};
-ghost use Rattle.vme_part_command.specs.FileReadings.{BeginsFile, IsAtFile, IsAtFileEnd, MayBeBegun, ReadsFile};
+ghost use Rattle.vme_part_command.specs.FileReadings.{IsAtFile, IsAtFileEnd, ReadsFile};
 ghost use Rattle.vme_part_command.specs.Written.{FindsOfDump};
 ghost use Rattle.vme_part_command.specs.declared.part.PartOptions.{PartOptions as Options};
 
 use crate::backplane::backplane_sum;
 use crate::file_check::FileCheck;
-use crate::file_definitions::BegunFile;
+use crate::first_time::read_start;
 use crate::no_part::NoPart;
 use crate::part::PartOptions;
 use std::alloc::Global;
 use vcd_read::VcdFault;
-use vme_dump_input::{BufferedInput, fault_of, opening_of, refused_in_body, unread};
+use vme_dump_input::{Begun, BufferedInput, fault_of, opening_of, refused_in_body, unread};
 use vme_part_format::Part;
 use vme_step_reader::StepReader;
 use vme_stream::Refusal;
@@ -128,23 +129,45 @@ fn part_of_body<D: Source>(
     judge_body(alloc, dump, input, reader, check, backplane)
 }
 
+/// Judges the body behind definitions that are held, which have so many bytes, once the dump's first time is known.
+fn part_behind<D: Source>(
+    alloc: Global,
+    options: PartOptions,
+    dump: &mut D,
+    input: &mut BufferedInput,
+    reader: StepReader,
+    count: usize,
+) -> Result<Part, NoPart>
+    requires unread { IsBodyUnread reader }
+    requires held { count ≤ length input.old.held }
+    ensures { (bound : BoundLines) (old : Reading)
+        → IsAtDefinitions bound old (D.reading dump.old) input.old reader count
+        → input.old.limit ≡ longest_input → FindsOfDump options bound old (D.reading dump.new) result }
+{
+    match read_start(alloc, dump, input, options.number) {
+        Ok(start) => {
+            input.take_first(count);
+            part_of_body(alloc, options, dump, input, reader, start)
+        }
+        Err(refusal) => Err(NoPart::Refused(refusal)),
+    }
+}
+
 /// The part of a dump whose definitions were read, or why there is none.
 pub(crate) fn part_of_begun<D: Source>(
     alloc: Global,
     options: PartOptions,
     dump: &mut D,
     input: &mut BufferedInput,
-    begun: BegunFile,
+    begun: Begun,
 ) -> Result<Part, NoPart>
-    requires { MayBeBegun begun }
-    ensures { (bound : BoundLines) (old : Reading)
-        → BeginsFile bound options.number old (D.reading dump.old) input.old (Ok begun)
+    requires begun { MayBeRead begun }
+    requires held { HoldsDefinitions input.old begun }
+    ensures { (bound : BoundLines) (old : Reading) → BeginsDump bound old (D.reading dump.old) input.old (Ok begun)
         → input.old.limit ≡ longest_input → FindsOfDump options bound old (D.reading dump.new) result }
 {
     match begun {
-        BegunFile::Body(reader, start) => {
-            part_of_body(alloc, options, dump, input, reader, start)
-        }
-        BegunFile::Unusable(fault) => Err(NoPart::Refused(Refusal::BadBinding(fault))),
+        Begun::Body(reader, count) => part_behind(alloc, options, dump, input, reader, count),
+        Begun::Unusable(fault) => Err(NoPart::Refused(Refusal::BadBinding(fault))),
     }
 }

@@ -4,9 +4,8 @@
 //! # Parts of this crate
 //!
 //! - `part`: [`write_part_of`] judges a dump that is a file of a recording, and writes its part.
-//!   `file_definitions` reads its definitions and its first time, `file_body` its body, piece by
-//!   piece; `file_check` judges the steps of each piece. `backplane`: the sum of the backplane that
-//!   a recording is of.
+//!   `first_time` reads it up to its first time, `file_body` its body, piece by piece; `file_check`
+//!   judges the steps of each piece. `backplane`: the sum of the backplane that a recording is of.
 //! - `inputs`: [`NamedPart`], and the one part of all that inputs are.
 //! - `join`: [`write_joined`] writes one part of several.
 //! - `tell`: [`tell_whole`] tells the verdict of the whole recording, [`list_whole`] writes its
@@ -38,7 +37,7 @@ mod backplane;
 mod complaints;
 mod file_body;
 mod file_check;
-mod file_definitions;
+mod first_time;
 mod inputs;
 mod join;
 mod lines;

@@ -9,13 +9,12 @@ ghost use Rattle.vme_part_command.specs.Written.{FindsOfDump, FindsPart, WritesP
 
 use crate::complaints::refuse;
 use crate::file_body::part_of_begun;
-use crate::file_definitions::read_definitions;
 use crate::join::put_part;
 use crate::lines::refusing_line;
 use crate::no_part::NoPart;
 use std::alloc::Global;
 use vme_bind::Binding;
-use vme_dump_input::dump_input;
+use vme_dump_input::{dump_input, read_definitions};
 use vme_part_format::Part;
 use vme_stream::{Refusal, binding_from, complain, refusal_line};
 use vme_trace::{Sink, Source};
@@ -41,7 +40,7 @@ fn part_of_dump<D: Source>(
     let Ok(mut input) = dump_input(alloc) else {
         return Err(NoPart::Refused(Refusal::Memory));
     };
-    match read_definitions(alloc, bound, dump, &mut input, options.number) {
+    match read_definitions(alloc, bound, dump, &mut input) {
         Ok(begun) => part_of_begun(alloc, options, dump, &mut input, begun),
         Err(refusal) => Err(NoPart::Refused(refusal)),
     }

@@ -4,8 +4,7 @@ use Rattle.std.specs.Prelude.{IfSome, Ok}
 use Rattle.vme_bind.specs.TextCapture.{CaptureFailsBy}
 use Rattle.vme_bind.specs.TextReading.{reading_of_text}
 use Rattle.vme_step_reader.specs.StepReading.{StepReading, whole_reading}
-use Rattle.vme_dump_input.specs.DumpBeginnings.{BeginsDump, IsAtBody}
-use Rattle.vme_dump_input.specs.BufferedInputs.{InputSoFar}
+use Rattle.vme_dump_input.specs.DumpBeginnings.{BeginsDump, HoldsDefinitions}
 use Rattle.vme_dump_input.specs.declared.definitions.Begun.{Begun}
 use Rattle.vme_dump_input.specs.declared.definitions.Begun.TheVariants.{Body}
 use Rattle.vme_dump_input.proofs.DefinitionLemmas.{begun-body}
@@ -17,10 +16,18 @@ within-held found one bytes held is same within =
     subst (λ (l : List ℕ). one.1 ≤ length l) same
     (subst (λ (f : Option (StepReading × ℕ)). IfSome f (λ begun. begun.1 ≤ length bytes)) is within)
 
-pub body_behind-requires : goal.body_behind-requires
-body_behind-requires g c =
-    rw c.in-Ok-Some.field-0-is (within-held c.in-Ok-Some.field-0 c.in-Ok-Some.found c.bytes.result.now
-    c.args.input.now.held c.in-Ok-Some.field-0-is c.bytes.ensures.held c.in-Ok-Some.ensures.within)
+pub returns-in-Ok-Some-clause-held : goal.returns-in-Ok-Some-clause-held
+returns-in-Ok-Some-clause-held g c =
+    let found = c.in-Ok-Some.found in
+    let body_is : c.body_behind.result ≡ Body found.0 found.1 = rw c.in-Ok-Some.field-0-is at c.body_behind.ensures in
+    subst (HoldsDefinitions c.args.input.now) (sym body_is)
+    (within-held c.in-Ok-Some.field-0 found c.bytes.result.now c.args.input.now.held c.in-Ok-Some.field-0-is
+    c.bytes.ensures.held c.in-Ok-Some.ensures.within)
+
+pub returns-in-Ok-clause-held : goal.returns-in-Ok-clause-held
+returns-in-Ok-clause-held g c =
+    let (fault, is) = c.in-Ok.ensures.unusable in
+    subst (HoldsDefinitions c.not_begun.new.input) (sym is) tt
 
 pub returns-in-Ok-Some-clause-read : goal.returns-in-Ok-Some-clause-read
 returns-in-Ok-Some-clause-read g c old h limit =
@@ -34,14 +41,11 @@ returns-in-Ok-Some-clause-read g c old h limit =
     → reading_of_text bound (c.bytes.result.now ++ rest)
     ≡ Ok (whole_reading begun.0 (drop begun.1 c.bytes.result.now ++ rest)))) c.in-Ok-Some.field-0-is
     c.in-Ok-Some.ensures.begins in
-    let body_is : c.body_behind.result ≡ Body found.0 = rw c.in-Ok-Some.field-0-is at c.body_behind.ensures.body in
-    let input_is : c.body_behind.new.input ≡ record input { held = drop found.1 input.held } =
-    rw c.in-Ok-Some.field-0-is at c.body_behind.ensures.input in
-    subst (λ (b : Begun). BeginsDump bound old now c.body_behind.new.input (Ok b)) (sym body_is)
-    (subst (λ (i : InputSoFar). IsAtBody bound old now i found.0) (sym input_is)
+    let body_is : c.body_behind.result ≡ Body found.0 found.1 = rw c.in-Ok-Some.field-0-is at c.body_behind.ensures in
+    subst (λ (b : Begun). BeginsDump bound old now input (Ok b)) (sym body_is)
     (begun-body bound old now input h found.1 within found.0
     (λ rest ends. subst (λ (l : List ℕ). reading_of_text bound (l ++ rest)
-    ≡ Ok (whole_reading found.0 (drop found.1 l ++ rest))) c.bytes.ensures.held (begins rest))))
+    ≡ Ok (whole_reading found.0 (drop found.1 l ++ rest))) c.bytes.ensures.held (begins rest)))
 
 pub returns-in-Ok-None-clause-read : goal.returns-in-Ok-None-clause-read
 returns-in-Ok-None-clause-read g c old h limit = (refl, h)

@@ -1,7 +1,7 @@
 -- The definitions are read on until they end.
 use Rattle.std.proofs.Common.{◌<◌, [], Option, ap, subst, sym, ◌∙◌}
 use Rattle.std.specs.Prelude.{Ok}
-use Rattle.vme_dump_input.specs.DumpBeginnings.{MayBegin}
+use Rattle.vme_dump_input.specs.DumpBeginnings.{HoldsDefinitionsIf, MayBegin}
 use Rattle.vme_dump_input.specs.BufferedInputs.{FailsAs, InputSoFar, reads_left}
 use Rattle.vme_dump_input.specs.declared.definitions.Begun.{Begun}
 use Rattle.vme_dump_input.proofs.DumpRefusals.{unread-is}
@@ -40,6 +40,10 @@ returns-in-Err-clause-read g c old h limit =
     rw c.unread.ensures (unread-is old now c.in-Err.fault
     (subst (λ n. FailsAs n old now c.in-Err.fault) (c.loop-search.invariant.limit limit)
     (c.in-Err.ensures.fails old [] (c.loop-search.invariant.read old h limit))))
+
+pub returns-in-Ok-Some-clause-held : goal.returns-in-Ok-Some-clause-held
+returns-in-Ok-Some-clause-held g c =
+    subst (HoldsDefinitionsIf c.begin.new.input) c.in-Ok-Some.field-0-is c.in-Ok-Some.ensures.held
 
 pub returns-in-Ok-Some-clause-read : goal.returns-in-Ok-Some-clause-read
 returns-in-Ok-Some-clause-read g c old h limit =
