@@ -18,7 +18,7 @@ use crate::reading::read_declarations;
 use crate::told_fault::ToldFault;
 use std::alloc::{AllocError, Global};
 use std::marker::Model;
-use vcd_read::{Pieces, VcdFault, read_front, whole_tokens};
+use vcd_read::{FaultKind, Pieces, VcdFault, read_front, whole_tokens};
 
 /// A dump whose definitions are read, and its body as far as some pieces go.
 #[derive(Drop)]
@@ -100,14 +100,12 @@ impl SurveyedBody {
             names,
             pieces,
         } = self;
-        match pieces.read(alloc, piece) {
-            Ok(pieces) => Ok(SurveyedBody {
-                front,
-                names,
-                pieces,
-            }),
-            Err(fault) => Err(fault),
-        }
+        let pieces = pieces.read(alloc, piece)?;
+        Ok(SurveyedBody {
+            front,
+            names,
+            pieces,
+        })
     }
 
     /// What was surveyed, where nothing of the text is left.
@@ -197,9 +195,12 @@ fn failed(fault: VcdFault) -> Result<DumpSurvey, AllocError>
     ensures told { IfOk result (λ survey. is_want_of_memory fault.kind ≡ false) }
     ensures ahead { IfOk result (λ survey. (rest : List ℕ) → survey_ahead survey rest ≡ Err fault) }
 {
-    match ToldFault::new(fault) {
-        Some(told) => Ok(DumpSurvey::at(SurveyStage::Failed(told))),
-        None => Err(AllocError),
+    match fault.kind {
+        FaultKind::Memory => Err(AllocError),
+        _ => {
+            let told = ToldFault { fault };
+            Ok(DumpSurvey::at(SurveyStage::Failed(told)))
+        }
     }
 }
 
@@ -207,14 +208,12 @@ fn failed(fault: VcdFault) -> Result<DumpSurvey, AllocError>
 fn survey_whole(alloc: Global, text: &[u8]) -> Result<SurveyedDump, VcdFault>
     ensures { ReadGives (λ dump. dump) result (survey_of text.now) }
 {
-    match read_declarations(alloc, text) {
-        Ok((names, levels)) => Ok(SurveyedDump {
-            front: Vec::from_slice(alloc, text)?,
-            names,
-            levels,
-        }),
-        Err(fault) => Err(fault),
-    }
+    let (names, levels) = read_declarations(alloc, text)?;
+    Ok(SurveyedDump {
+        front: Vec::from_slice(alloc, text)?,
+        names,
+        levels,
+    })
 }
 
 impl SurveyedDump {
