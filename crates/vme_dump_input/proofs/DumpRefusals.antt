@@ -1,6 +1,6 @@
 -- Why a dump is refused.
 use Rattle.std.proofs.Common.{◌≡◌, ◌≤◌, ℕ, List, length, Option, None, Some, refl, sym, ap, subst, ◌∙◌}
-use Rattle.std.specs.Prelude.{IfErr, IfOk, Result, Ok, Err}
+use Rattle.std.specs.Prelude.{Result, Ok, Err}
 use Rattle.vcd_read.specs.Contents.{Contents}
 use Rattle.vcd_read.specs.Header.{◌>>=◌}
 use Rattle.vcd_read.specs.Meaning.{dump_of}
@@ -15,16 +15,14 @@ use Rattle.vme_bind.specs.declared.fault.BindFault.{BindFault}
 use Rattle.vme_stream.specs.Inputs.{IsReading, longest_input}
 use Rattle.vme_stream.specs.declared.input.InFault.{InFault}
 use Rattle.vme_stream.specs.declared.input.InFault.TheVariants as read
-use Rattle.vme_stream.specs.Answers.{AnswerGives, capture_by, dump_read, or_bad_binding, or_bad_dump}
+use Rattle.vme_stream.specs.Answers.{AnswerGives, dump_read, or_bad_dump, recorded_by}
 use Rattle.vme_stream.specs.Refusals.{dump_refusal, refused}
 use Rattle.vme_stream.specs.declared.refusal.Input.TheVariants.{Dump}
 use Rattle.vme_stream.specs.declared.refusal.Refusal.{Refusal}
-use Rattle.vme_stream.specs.declared.refusal.Refusal.TheVariants.{BadBinding, BadDump, Memory}
+use Rattle.vme_stream.specs.declared.refusal.Refusal.TheVariants.{BadDump, Memory}
 use Rattle.vme_stream.proofs.AnswerLemmas.{too_long_is, whole_is}
-use Rattle.vme_dump_input.specs.DumpBeginnings.{BeginsDump, HasFault, IsReadDump, IsDumpRefused}
-use Rattle.vme_dump_input.specs.BufferedInputs.{FailsAs, InputSoFar, IsAllOf}
-use Rattle.vme_dump_input.specs.declared.definitions.Begun.{Begun}
-use Rattle.vme_dump_input.specs.declared.definitions.Begun.TheVariants.{Unusable}
+use Rattle.vme_dump_input.specs.DumpBeginnings.{HasFault, IsDumpRefused, IsReadDump}
+use Rattle.vme_dump_input.specs.BufferedInputs.{FailsAs, IsAllOf}
 
 abbrev read_or : Result (List ℕ) Refusal → Result Contents Refusal
 read_or whole = whole >>= λ text. or_bad_dump (dump_of text)
@@ -62,55 +60,29 @@ some-read old now refusal is = (is.0, is.1)
 -- ---- a binding that can't be used
 
 module _ (bound : BoundLines) (old now : Reading) (text : List ℕ) (all : IsAllOf old now text longest_input) where
-  abbrev GivesCapture : Result Trace Refusal → Result Contents VcdFault → Type 0
-  GivesCapture result dump = AnswerGives (λ (t : Trace). t) result (capture_by bound (or_bad_dump dump))
-
-  bound_of : (captured : Result Trace BindFault) (fault : BindFault)
-      → or_bad_binding captured ≡ Err (BadBinding fault) → captured ≡ Err fault
-  bound_of (Ok t) fault is = absurd (cc)
-  bound_of (Err own) fault is = let same : own ≡ fault = cc in ap (λ (f : BindFault). Err f) same
+  abbrev recorded : Result Contents VcdFault → Result (Result Trace BindFault) Refusal
+  recorded dump = recorded_by bound (or_bad_dump dump)
 
   pub unusable-is : (dump : Result Contents VcdFault) → dump_of text ≡ dump → (fault : BindFault)
-      → GivesCapture (Err (BadBinding fault)) dump
+      → recorded dump ≡ Ok (Err fault)
       → (contents : Contents) × IsReadDump old now contents × (capture_of bound contents ≡ Err fault)
-  unusable-is (Ok contents) is fault gives = (
-    contents,
-    record { text = text; reading = all.0; is = dump-is text all.1 (Ok contents) is },
-    bound_of (capture_of bound contents) fault gives,
-  )
+  unusable-is (Ok contents) is fault gives =
+      let same : capture_of bound contents ≡ Err fault = cc in (
+        contents,
+        record { text = text; reading = all.0; is = dump-is text all.1 (Ok contents) is },
+        same,
+      )
   unusable-is (Err own) is fault gives = absurd (cc)
 
-  other_bound : (captured : Result Trace BindFault) (refusal : Refusal)
-      → ((fault : BindFault) → refusal ≡ BadBinding fault → ⊥) → or_bad_binding captured ≡ Err refusal → ⊥
-  other_bound (Ok t) refusal other is = absurd (cc)
-  other_bound (Err own) refusal other is = let same : BadBinding own ≡ refusal = cc in other own (sym same)
-
   refused_by : (dump : Result Contents VcdFault) → dump_of text ≡ dump → (refusal : Refusal)
-      → ((fault : BindFault) → refusal ≡ BadBinding fault → ⊥)
-      → capture_by bound (or_bad_dump dump) ≡ Err refusal → dump_read (Some text) ≡ Err refusal
-  refused_by (Ok contents) is refusal other gives =
-      absurd (other_bound (capture_of bound contents) refusal other gives)
-  refused_by (Err own) is refusal other gives =
+      → recorded dump ≡ Err refusal → dump_read (Some text) ≡ Err refusal
+  refused_by (Ok contents) is refusal gives = absurd (cc)
+  refused_by (Err own) is refusal gives =
       let same : BadDump own ≡ refusal = cc in
       dump-is text all.1 (Err own) is ∙ ap (λ (r : Refusal). Err r) same
 
   -- the dump has a fault of its own
   pub other-is : (dump : Result Contents VcdFault) → dump_of text ≡ dump → (refusal : Refusal)
-      → ((fault : BindFault) → refusal ≡ BadBinding fault → ⊥) → GivesCapture (Err refusal) dump
-      → IsDumpRefused old now refusal
-  other-is dump is Memory other gives = (Some text, all.0)
-  other-is dump is refusal other gives = (Some text, all.0, refused_by dump is refusal other gives)
-
-  -- what it is then
-  pub ends-unusable : (input : InputSoFar) (refusal : Refusal) → GivesCapture (Err refusal) (dump_of text)
-      → (r : Result Begun Refusal)
-      → IfOk r (λ begun. (fault : BindFault) × (refusal ≡ BadBinding fault) × (begun ≡ Unusable fault))
-      → IfErr r (λ other. (other ≡ refusal) × ((fault : BindFault) → refusal ≡ BadBinding fault → ⊥))
-      → BeginsDump bound old now input r
-  ends-unusable input refusal gives (Ok begun) is no_other =
-      let (fault, refusal_is, begun_is) = is in
-      subst (λ (b : Begun). BeginsDump bound old now input (Ok b)) (sym begun_is)
-      (unusable-is (dump_of text) refl fault (subst (λ (r : Refusal). GivesCapture (Err r) (dump_of text)) refusal_is
-      gives))
-  ends-unusable input refusal gives (Err other) no_begun is =
-      subst (IsDumpRefused old now) (sym is.0) (other-is (dump_of text) refl refusal is.1 gives)
+      → AnswerGives (λ (r : Result Trace BindFault). r) (Err refusal) (recorded dump) → IsDumpRefused old now refusal
+  other-is dump is Memory gives = (Some text, all.0)
+  other-is dump is refusal gives = (Some text, all.0, refused_by dump is refusal gives)

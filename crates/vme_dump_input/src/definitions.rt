@@ -1,6 +1,6 @@
 //! The definitions of a dump.
 
-ghost use Rattle.std.specs.Prelude.{◌≡◌, ℕ, List, [], ◌++◌, true, None, Ok, IfOk, IfErr};
+ghost use Rattle.std.specs.Prelude.{◌≡◌, ℕ, List, [], ◌++◌, true, None, Ok, IfOk};
 ghost use Rattle.vme_trace.specs.Streams.{Reading};
 ghost use Rattle.vme_bind.specs.TextCapture.{CaptureFailsBy};
 ghost use Rattle.vme_bind.specs.TextReading.{reading_of_text};
@@ -8,7 +8,6 @@ ghost use Rattle.vme_listing.specs.Reading.{IsFollowedBy};
 ghost use Rattle.vme_stream.specs.Inputs.{longest_input};
 ghost use Rattle.vme_stream.specs.Refusals.{refused};
 ghost use Rattle.vme_stream.specs.declared.refusal.Input.TheVariants.{Dump};
-ghost use Rattle.vme_stream.specs.declared.refusal.Refusal.TheVariants.{BadBinding};
 ghost use Rattle.vme_bind.specs.declared.fault.BindFault.{BindFault};
 ghost use Rattle.vme_dump_input.specs.declared.definitions.Begun.TheVariants.{Body, Unusable};
 ghost use Rattle.vme_dump_input.specs.BufferedInputs.{IsReadTo, not_read};
@@ -22,7 +21,7 @@ use std::alloc::{AllocError, Global};
 use vcd_read::{VcdFault, whole_tokens};
 use vme_bind::{BindFault, Binding, CaptureFault};
 use vme_step_reader::{StepReader, begin_last_steps, begin_steps};
-use vme_stream::{InFault, Input, Refusal, captured_in};
+use vme_stream::{InFault, Input, Refusal, recorded_in};
 use vme_trace::Source;
 
 /// How many bytes a dump has at most.
@@ -67,19 +66,6 @@ pub fn refused_for<D: Source>(dump: &mut D, input: &mut BufferedInput, fault: Vc
     }
 }
 
-/// What it is that a binding makes no recording of a dump.
-fn unusable_for(refusal: Refusal) -> Result<Begun, Refusal>
-    ensures unusable { IfOk result (λ begun. (fault : BindFault) × (refusal ≡ BadBinding fault)
-        × (begun ≡ Unusable fault)) }
-    ensures refused { IfErr result (λ other. (other ≡ refusal) × ((fault : BindFault)
-        → refusal ≡ BadBinding fault → ⊥)) }
-{
-    match refusal {
-        Refusal::BadBinding(fault) => Ok(Begun::Unusable(fault)),
-        _ => Err(refusal),
-    }
-}
-
 /// What a dump is of whose definitions nothing is begun: the rest of it is read for its own faults before one of the
 /// binding.
 fn unusable<D: Source>(
@@ -99,10 +85,11 @@ fn unusable<D: Source>(
             return Err(unread(fault));
         }
     }
-    let Err(refusal) = captured_in(alloc, bound, input.bytes()) else {
-        return Err(Refusal::Memory);
-    };
-    unusable_for(refusal)
+    match recorded_in(alloc, bound, input.bytes()) {
+        Ok(Ok(_recording)) => Err(Refusal::Memory),
+        Ok(Err(fault)) => Ok(Begun::Unusable(fault)),
+        Err(refusal) => Err(refusal),
+    }
 }
 
 /// What a fault that is met before the body is.

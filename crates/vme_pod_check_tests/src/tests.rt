@@ -11,7 +11,7 @@ use vme_book::{Book, Whole};
 use vme_pod_check::{
     Plan, PodsOrder, Unjudged, check_by_pods, deliveries_of, order_of, verdict_by_pods,
 };
-use vme_stream::{Bytes, Refusal, binding_in, captured_in};
+use vme_stream::{Bytes, Refusal, binding_in, recorded_in};
 use vme_summary::Judged;
 use vme_trace::{Block, Capture, Failed, Sink, Verdict};
 
@@ -92,7 +92,7 @@ $enddefinitions $end
 /// The recording of the read.
 fn recorded_read(alloc: Global) -> Option<Capture> {
     let binding = binding_in(alloc, BINDING).ok()?;
-    captured_in(alloc, &binding, READ).ok()
+    recorded_in(alloc, &binding, READ).ok()?.ok()
 }
 
 /// A sink that holds what it took, as long as that is shorter than its room.

@@ -61,7 +61,7 @@ pub use input::{InFault, read_all};
 pub use io::{Bytes, Io};
 pub use message::Message;
 pub use output::{complain, write_all, write_message};
-pub use recording::{binding_from, binding_in, capture_from, captured_in, recorded_from};
+pub use recording::{binding_from, binding_in, capture_from, recorded_from, recorded_in};
 pub use refusal::{Input, Refusal};
 pub use text::{cannot_write_line, refusal_line, verdict_line, verdict_status};
 pub use verdict::{tell_verdict, verdict_on};

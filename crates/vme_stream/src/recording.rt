@@ -5,7 +5,6 @@ ghost use Rattle.vme_stream.specs.Inputs.{IsReading};
 ghost use Rattle.vcd_read.specs.Meaning.{dump_of};
 ghost use Rattle.vme_bind.specs.Binding.{binding_of};
 ghost use Rattle.vme_stream.specs.Answers.{AnswerGives, or_bad_binding, or_bad_dump, binding_read, dump_read};
-ghost use Rattle.vme_stream.specs.Answers.{capture_by};
 ghost use Rattle.vme_stream.specs.Answers.{capture_read, recorded_by};
 
 use crate::input::read_all;
@@ -50,19 +49,8 @@ pub fn recorded_from<D: Source>(
     }
 }
 
-/// The recording that a binding makes of the text of a dump.
-pub fn captured_in(alloc: Global, bound: &Binding, text: &[u8]) -> Result<Capture, Refusal>
-    ensures { AnswerGives (λ capture. capture) result (capture_by bound.now (or_bad_dump (dump_of text.now))) }
-{
-    match recorded_in(alloc, bound, text) {
-        Ok(Ok(capture)) => Ok(capture),
-        Ok(Err(fault)) => Err(Refusal::BadBinding(fault)),
-        Err(refusal) => Err(refusal),
-    }
-}
-
-/// The recording that a binding makes of the text of a dump, which is read once.
-fn recorded_in(
+/// The same of the text of a dump, which is read once.
+pub fn recorded_in(
     alloc: Global,
     bound: &Binding,
     text: &[u8],

@@ -6,7 +6,7 @@ use vme_bind::{BindFault, BindFaultKind};
 use vme_listing::ListFault;
 use vme_stream::{
     Bytes, InFault, Input, Refusal, binding_from, binding_in, cannot_write_line, capture_from,
-    captured_in, recorded_from, refusal_line, tell_verdict, verdict_line, verdict_on,
+    recorded_from, recorded_in, refusal_line, tell_verdict, verdict_line, verdict_on,
     verdict_status,
 };
 use vme_summary::NoVerdict;
@@ -131,8 +131,10 @@ fn worked_recordings_have_their_verdicts(rt: HostRuntime) {
 /// The verdict on a recording whose inputs are read before it is made.
 fn judged_in(alloc: Global, dump: &[u8]) -> Result<Verdict, Refusal> {
     let bound = binding_in(alloc, BINDING.as_bytes())?;
-    let capture = captured_in(alloc, &bound, dump)?;
-    verdict_on(alloc, &capture, 1)
+    match recorded_in(alloc, &bound, dump)? {
+        Ok(capture) => verdict_on(alloc, &capture, 1),
+        Err(fault) => Err(Refusal::BadBinding(fault)),
+    }
 }
 
 /// The verdict on a recording whose binding is read before its dump.

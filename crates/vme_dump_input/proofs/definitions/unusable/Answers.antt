@@ -1,12 +1,12 @@
 -- All of the dump is read.
-use Rattle.std.proofs.Common.{ℕ, List, [], refl, subst, sym, ◌∙◌}
-use Rattle.std.specs.Prelude.{Err}
-use Rattle.std.proofs.lemmas.Result.{IfOk-weaker}
+use Rattle.std.proofs.Common.{◌≡◌, ℕ, List, [], refl, subst, sym, ◌∙◌}
+use Rattle.std.specs.Prelude.{Err, Ok, Result}
 use Rattle.vme_trace.specs.Trace.{Trace}
-use Rattle.vme_stream.specs.Answers.{AnswerGives, capture_by, or_bad_dump}
+use Rattle.vme_stream.specs.Answers.{AnswerGives, or_bad_dump, recorded_by}
+use Rattle.vme_bind.specs.declared.fault.BindFault.{BindFault}
 use Rattle.vcd_read.specs.Meaning.{dump_of}
 use Rattle.vme_dump_input.specs.BufferedInputs.{FailsAs, IsAllOf}
-use Rattle.vme_dump_input.proofs.DumpRefusals.{ends-unusable, unread-is}
+use Rattle.vme_dump_input.proofs.DumpRefusals.{other-is, unread-is, unusable-is}
 use Rattle.vme_dump_input.proofs.BufferedLemmas.{all-read, some-reading}
 use Rattle.vme_dump_input.proofs.definitions.unusable.Goals as goal
 
@@ -26,22 +26,36 @@ returns-in-Err-clause-read g c old h limit =
     (subst (λ n. FailsAs n old now c.in-Err.fault) (c.loop-input.invariant.limit ∙ limit)
     (c.in-Err.ensures.fails old [] (c.loop-input.invariant.read old h))))
 
-pub returns-in_default-captured_in-clause-read : goal.returns-in_default-captured_in-clause-read
-returns-in_default-captured_in-clause-read g c old h limit =
+pub returns-in-Ok-Ok-clause-read : goal.returns-in-Ok-Ok-clause-read
+returns-in-Ok-Ok-clause-read g c old h limit =
     some-reading old (g.D.Source.reading c.loop-input.dump) [] c.loop-input.input (c.loop-input.invariant.read old h)
 
-pub returns-clause-read : goal.returns-clause-read
-returns-clause-read g c old h limit =
+pub returns-in-Ok-Err-clause-unusable : goal.returns-in-Ok-Err-clause-unusable
+returns-in-Ok-Err-clause-unusable g c = (c.in-Ok-Err.fault, refl)
+
+pub returns-in-Ok-Err-clause-read : goal.returns-in-Ok-Err-clause-read
+returns-in-Ok-Err-clause-read g c old h limit =
+    let bound = c.args.bound.now in
     let now = g.D.Source.reading c.loop-input.dump in
     let input = c.loop-input.input in
     let all = subst (IsAllOf old now input.held) (c.loop-input.invariant.limit ∙ limit)
     (all-read old now [] input (c.loop-input.invariant.read old h) (sym c.is_whole.ensures ∙ c.loop-input-test.false))
     in
-    ends-unusable c.args.bound.now old now input.held all input c.in-Err-captured_in.refusal
-    (subst (λ (l : List ℕ). AnswerGives (λ (t : Trace). t) (Err c.in-Err-captured_in.refusal)
-    (capture_by c.args.bound.now (or_bad_dump (dump_of l)))) c.bytes.ensures.held c.in-Err-captured_in.ensures)
-    c.unusable_for.result c.unusable_for.ensures.unusable c.unusable_for.ensures.refused
+    let recorded = subst (λ (r : Result Trace BindFault).
+    recorded_by bound (or_bad_dump (dump_of c.bytes.result.now)) ≡ Ok r) c.in-Ok-Err.field-0-is c.in-Ok-Err.ensures in
+    unusable-is bound old now input.held all (dump_of input.held) refl c.in-Ok-Err.fault
+    (subst (λ (l : List ℕ). recorded_by bound (or_bad_dump (dump_of l)) ≡ Ok (Err c.in-Ok-Err.fault))
+    c.bytes.ensures.held recorded)
 
-pub returns-clause-unusable : goal.returns-clause-unusable
-returns-clause-unusable g c =
-    IfOk-weaker c.unusable_for.result _ _ (λ begun h. (h.0, h.2)) c.unusable_for.ensures.unusable
+pub returns-in-Err-recorded_in-clause-read : goal.returns-in-Err-recorded_in-clause-read
+returns-in-Err-recorded_in-clause-read g c old h limit =
+    let bound = c.args.bound.now in
+    let now = g.D.Source.reading c.loop-input.dump in
+    let input = c.loop-input.input in
+    let refusal = c.in-Err-recorded_in.refusal in
+    let all = subst (IsAllOf old now input.held) (c.loop-input.invariant.limit ∙ limit)
+    (all-read old now [] input (c.loop-input.invariant.read old h) (sym c.is_whole.ensures ∙ c.loop-input-test.false))
+    in
+    other-is bound old now input.held all (dump_of input.held) refl refusal
+    (subst (λ (l : List ℕ). AnswerGives (λ (r : Result Trace BindFault). r) (Err refusal)
+    (recorded_by bound (or_bad_dump (dump_of l)))) c.bytes.ensures.held c.in-Err-recorded_in.ensures)
