@@ -48,7 +48,7 @@ use Rattle.vme_dtb.proofs.CycleBreaks.{cycle_starts_is, here_is}
 use Rattle.vme_dtb.proofs.CycleMemory.{cycle_before, in_interrupt_acknowledge, in_answered_interrupt_acknowledge, told}
 use Rattle.vme_dtb.proofs.CycleMemory.{told_of}
 use Rattle.vme_dtb.proofs.HandshakeBreaks.{answer_is}
-use Rattle.vme_dtb.proofs.Held.{Holds}
+use Rattle.vme_dtb.proofs.HandshakeMeaning.{Holds}
 use Rattle.vme_dtb.proofs.OpenState.{started_is}
 use Rattle.vme_dtb.proofs.StepFacts.{falls_is, judged, new, old, rises_is, starts_is}
 use Rattle.vme_audit.specs.Asked.{any_grant_falls, answer_rises, answered_again_in_class}

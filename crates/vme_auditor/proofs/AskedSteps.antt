@@ -38,8 +38,8 @@ use Rattle.vme_monitor.proofs.Spans.{IsAtWork, JudgesOn, Loses, Resets, Stands, 
 use Rattle.vme_monitor.proofs.Transitions.{outer_judging, waits}
 use Rattle.vme_dtb.specs.Machine.{dtb_begin, dtb_end_fault, dtb_start_marks, dtb_observation, dtb_step}
 use Rattle.vme_dtb.specs.declared.memory.HandshakeMemory.{HandshakeMemory}
-use Rattle.vme_dtb.proofs.Held.{Holds}
-use Rattle.vme_dtb.proofs.Holding.{holds_at}
+use Rattle.vme_dtb.proofs.HandshakeMeaning.{Holds}
+use Rattle.vme_dtb.proofs.HandshakeInstants.{holds_at}
 use Rattle.vme_dtb.proofs.Searches.{any_more}
 use Rattle.vme_dtb.proofs.StillSteps.{machine_step_is}
 use Rattle.vme_audit.specs.Asked.{happens}

@@ -15,9 +15,9 @@ use Rattle.vme_monitor.specs.declared.mark.Next.{Next}
 use Rattle.vme_monitor.specs.declared.over_stretches.StretchPhase.{StretchPhase}
 use Rattle.vme_dtb.specs.Machine.{dtb_begin, dtb_end_fault, dtb_start_marks, dtb_observation, dtb_step}
 use Rattle.vme_dtb.specs.declared.memory.HandshakeMemory.{HandshakeMemory}
-use Rattle.vme_stability.specs.StabilityRules.{stability_begin, stability_end_fault, stability_next}
-use Rattle.vme_stability.specs.StabilityRules.{stability_start_marks, stability_observation}
-use Rattle.vme_stability.specs.declared.holding.Holding.{Holding}
+use Rattle.vme_dtb.specs.StabilityRules.{stability_begin, stability_end_fault, stability_next}
+use Rattle.vme_dtb.specs.StabilityRules.{stability_start_marks, stability_observation}
+use Rattle.vme_dtb.specs.declared.holding.Holding.{Holding}
 use Rattle.vme_chains.specs.GrantRules.{grant_begin, grant_end_fault, grant_next, grant_start_marks, grant_observation}
 use Rattle.vme_chains.specs.declared.grant_memory.Arbitration.{Arbitration}
 use Rattle.vme_chains.specs.AcknowledgeRules.{acknowledge_begin, acknowledge_end_fault, acknowledge_next}

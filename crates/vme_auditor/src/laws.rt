@@ -23,8 +23,8 @@ ghost use Rattle.vme_auditor.specs.Memories.{memories_at};
 use vme_chains::acknowledge::acknowledge_over_recordings;
 use vme_chains::grant::grants_over_recordings;
 use vme_dtb::handshake::handshake_over_recordings;
+use vme_dtb::stability::stability_over_recordings;
 use vme_monitor::known::known_over_recordings;
-use vme_stability::stability::stability_over_recordings;
 
 /// The first break of a recording, step by step, is the one that its verdict names.
 pub fn first_break_is_found()

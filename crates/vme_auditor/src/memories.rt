@@ -11,14 +11,14 @@ use vme_chains::acknowledge::{AcknowledgeRules, Acknowledgement};
 use vme_chains::grant::GrantRules;
 use vme_chains::grant_memory::Arbitration;
 use vme_dtb::handshake::HandshakeRules;
+use vme_dtb::holding::Holding;
 use vme_dtb::memory::HandshakeMemory;
+use vme_dtb::stability::StabilityRules;
 use vme_monitor::known::{KnownRules, Stateless};
 use vme_monitor::machine::Machine;
 use vme_monitor::mark::{Fault, NOTHING, StepMarks};
 use vme_monitor::over_stretches::{OverStretches, StretchPhase};
 use vme_monitor::view::StepView;
-use vme_stability::holding::Holding;
-use vme_stability::stability::StabilityRules;
 use vme_trace::{Change, Lines};
 
 type KnownMachine = OverStretches<KnownRules>;

@@ -33,7 +33,7 @@ use Rattle.vme_dtb.proofs.CycleMemory.{before_is, cycle_before, in_interrupt_ack
 use Rattle.vme_dtb.proofs.CycleMemory.{in_answered_interrupt_acknowledge, in_broken_read_modify_write}
 use Rattle.vme_dtb.proofs.CycleMemory.{in_changed_direction}
 use Rattle.vme_dtb.proofs.HandshakeBreaks.{answer_is}
-use Rattle.vme_dtb.proofs.Held.{Holds}
+use Rattle.vme_dtb.proofs.HandshakeMeaning.{Holds}
 use Rattle.vme_dtb.proofs.StepFacts.{old, new, answer_fall_is, falls_is, gathered, judged, on_answers, rule_from}
 use Rattle.vme_dtb.proofs.StepFacts.{same_cond, some_of}
 

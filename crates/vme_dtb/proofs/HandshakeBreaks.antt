@@ -26,7 +26,7 @@ use Rattle.vme_dtb.specs.declared.edges.Edges.{Edges}
 use Rattle.vme_dtb.specs.declared.memory.HandshakeMemory.{HandshakeMemory}
 use Rattle.vme_dtb.proofs.Faults.{AreBreaksOf}
 use Rattle.vme_dtb.proofs.AnswerRises.{may_rise_at, held_is}
-use Rattle.vme_dtb.proofs.Held.{Holds}
+use Rattle.vme_dtb.proofs.HandshakeMeaning.{Holds}
 use Rattle.vme_dtb.proofs.OpenState.{doubled_is, replied_is, left_unanswered_is}
 use Rattle.vme_dtb.proofs.StepFacts.{old, new, answer_falls_is, answer_fall_is, falls_is, gathered, on_address}
 use Rattle.vme_dtb.proofs.StepFacts.{on_answers, on_strobes, rises_is, rule_from, same_cond, same_first, some_of}

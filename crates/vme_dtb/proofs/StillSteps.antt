@@ -32,7 +32,7 @@ use Rattle.vme_dtb.specs.declared.cycle.CyclePhase.{CyclePhase}
 use Rattle.vme_dtb.specs.declared.edges.Edges.{Edges}
 use Rattle.vme_dtb.specs.declared.memory.HandshakeMemory.{HandshakeMemory}
 use Rattle.vme_dtb.proofs.Faults.{none-first, not_applied, unanswered, unnamed}
-use Rattle.vme_dtb.proofs.Held.{Holds}
+use Rattle.vme_dtb.proofs.HandshakeMeaning.{Holds}
 use Rattle.vme_dtb.proofs.StepFacts.{old, new}
 
 pub same_is : (x y : Level) → same_level x y ≡ true → y ≡ x

@@ -4,3 +4,5 @@ pub mod Edge
 pub mod UsualSteps
 pub mod Machine
 pub mod Shown
+pub mod HoldingNumbers
+pub mod StabilityRules

@@ -1,4 +1,4 @@
--- The usual kinds of steps, and what they leave.
+-- The usual kinds of steps of the handshake, and what they leave.
 use Rattle.std.specs.Prelude.{Bool, false, not, ◌&&◌, ◌||◌, if◌then◌else◌}
 use Rattle.vme_trace.specs.Edges.{falls_between, starts_between, strobes_high_in}
 use Rattle.vme_trace.specs.LineNumbers.{AS, DS0, DS1, DTACK, BERR}

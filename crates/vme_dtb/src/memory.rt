@@ -1,4 +1,4 @@
-//! What is remembered from one step to the next.
+//! What is remembered of the handshake from one step to the next.
 
 ghost use Rattle.std.specs.Prelude.{◌≡◌, ◌<◌};
 ghost use Rattle.vme_dtb.specs.MemoryNumbers.{bit, transfer_phase_nth, transfer_phase_place};

@@ -17,7 +17,7 @@ use Rattle.vme_monitor.specs.Outcome.{Outcome}
 use Rattle.vme_monitor.specs.OverStretches.{phase_place}
 use Rattle.vme_monitor.specs.Runs.{levels_after-append}
 use Rattle.vme_dtb.specs.MemoryNumbers.{memory_place}
-use Rattle.vme_stability.specs.HoldingNumbers.{holding_place}
+use Rattle.vme_dtb.specs.HoldingNumbers.{holding_place}
 use Rattle.vme_chains.specs.GrantMemory.{arbitration_place}
 use Rattle.vme_chains.specs.AcknowledgeRules.{acknowledgement_place}
 use Rattle.vme_summary.specs.Joins.{block_of, first_time, last_time}

@@ -1,5 +1,4 @@
-//! Tests of the monitors in vme_monitor, vme_dtb, vme_stability and vme_chains: worked recordings,
-//! joined and run.
+//! Tests of the monitors in vme_monitor, vme_dtb and vme_chains: worked recordings, joined and run.
 //!
 //! The breaks and marks that are found are compared with those that stand beside the recordings,
 //! whatever the size of the blocks; and each memory stands at its place.

@@ -3,7 +3,7 @@
 
 use crate::recordings::{Recording, break_of, finds, has_places};
 use std::alloc::Global;
-use vme_stability::stability::Stability;
+use vme_dtb::stability::Stability;
 use vme_trace::{Line, Rule};
 
 /// The steps of a recording on three slots, and its break, the line by its name.

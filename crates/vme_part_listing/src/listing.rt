@@ -21,6 +21,7 @@ use std::alloc::{AllocError, Global};
 use vme_chains::acknowledge::{Iack, acknowledge_over_recordings};
 use vme_chains::grant::{Grant, grants_over_recordings};
 use vme_dtb::handshake::{Dtb, handshake_over_recordings};
+use vme_dtb::stability::{Stability, stability_over_recordings};
 use vme_monitor::both::marks_together;
 use vme_monitor::finite::Finite;
 use vme_monitor::known::{Known, known_over_recordings};
@@ -28,7 +29,6 @@ use vme_monitor::mark::Mark;
 use vme_part_format::{OutcomeTable, Part, Segment, WideBreak, WideMark};
 use vme_part_tables::{follow, put_marks_on_way};
 use vme_parts::{JudgedSegments, judged};
-use vme_stability::stability::{Stability, stability_over_recordings};
 use vme_summary::listing_by;
 use vme_trace::{Break, Lines};
 

@@ -11,7 +11,7 @@ use Rattle.vme_trace.specs.declared.block.Block.{Block}
 use Rattle.vme_monitor.specs.KnownRules.{nil_place}
 use Rattle.vme_monitor.specs.OverStretches.{phase_place}
 use Rattle.vme_dtb.specs.MemoryNumbers.{memory_place}
-use Rattle.vme_stability.specs.HoldingNumbers.{holding_place}
+use Rattle.vme_dtb.specs.HoldingNumbers.{holding_place}
 use Rattle.vme_chains.specs.GrantMemory.{arbitration_place}
 use Rattle.vme_chains.specs.AcknowledgeRules.{acknowledgement_place}
 use Rattle.vme_summary.specs.Extents.{IsExtent, joined_extent}

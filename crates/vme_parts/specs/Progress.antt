@@ -11,8 +11,8 @@ use Rattle.vme_monitor.specs.OverStretches.{phase_place, start_in}
 use Rattle.vme_monitor.specs.KnownRules.{known_begin, nil_place}
 use Rattle.vme_dtb.specs.Machine.{dtb_begin}
 use Rattle.vme_dtb.specs.MemoryNumbers.{memory_place}
-use Rattle.vme_stability.specs.HoldingNumbers.{holding_place}
-use Rattle.vme_stability.specs.StabilityRules.{stability_begin}
+use Rattle.vme_dtb.specs.HoldingNumbers.{holding_place}
+use Rattle.vme_dtb.specs.StabilityRules.{stability_begin}
 use Rattle.vme_chains.specs.GrantMemory.{arbitration_place}
 use Rattle.vme_chains.specs.GrantRules.{grant_begin}
 use Rattle.vme_chains.specs.AcknowledgeRules.{acknowledge_begin, acknowledgement_place}

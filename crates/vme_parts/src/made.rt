@@ -20,13 +20,13 @@ use std::alloc::{AllocError, Global};
 use vme_chains::acknowledge::{AcknowledgeRules, Iack};
 use vme_chains::grant::{Grant, GrantRules};
 use vme_dtb::handshake::{Dtb, HandshakeRules};
+use vme_dtb::stability::{Stability, StabilityRules};
 use vme_monitor::finite::Finite;
 use vme_monitor::known::{Known, KnownRules};
 use vme_monitor::monitor::Monitor;
 use vme_monitor::without_marks::BreakMonitor;
 use vme_part_format::{OutcomeTable, Part, Segment, SegmentTimes, TableEntry};
 use vme_part_tables::widened;
-use vme_stability::stability::{Stability, StabilityRules};
 use vme_summary::each_monitor::summarise_monitors;
 use vme_trace::{Lines, Step};
 

@@ -20,11 +20,11 @@ use crate::answers::WideVerdict;
 use vme_chains::acknowledge::{Iack, acknowledge_over_recordings};
 use vme_chains::grant::{Grant, grants_over_recordings};
 use vme_dtb::handshake::{Dtb, handshake_over_recordings};
+use vme_dtb::stability::{Stability, stability_over_recordings};
 use vme_monitor::finite::Finite;
 use vme_monitor::known::{Known, known_over_recordings};
 use vme_part_format::{OutcomeTable, Segment, WideBreak};
 use vme_part_tables::{follow, later_break};
-use vme_stability::stability::{Stability, stability_over_recordings};
 use vme_trace::Lines;
 
 /// What a monitor has come to: the memory that it is in, and the first break.

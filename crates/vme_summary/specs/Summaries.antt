@@ -13,7 +13,7 @@ use Rattle.vme_monitor.specs.WholeTables.{table_outcome, table_steps}
 use Rattle.vme_monitor.specs.declared.known.Stateless.{Stateless}
 use Rattle.vme_monitor.specs.declared.over_stretches.StretchPhase.{StretchPhase}
 use Rattle.vme_dtb.specs.declared.memory.HandshakeMemory.{HandshakeMemory}
-use Rattle.vme_stability.specs.declared.holding.Holding.{Holding}
+use Rattle.vme_dtb.specs.declared.holding.Holding.{Holding}
 use Rattle.vme_chains.specs.declared.grant_memory.Arbitration.{Arbitration}
 use Rattle.vme_chains.specs.declared.acknowledge.Acknowledgement.{Acknowledgement}
 use Rattle.vme_summary.specs.Runs.{known_run, handshake_run, stability_run, grant_run, acknowledge_run}

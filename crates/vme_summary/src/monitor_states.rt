@@ -16,6 +16,7 @@ ghost use Rattle.vme_summary.specs.Progressed.{HasFound, HasFoundAll};
 
 use vme_chains::acknowledge::Acknowledgement;
 use vme_chains::grant_memory::Arbitration;
+use vme_dtb::holding::Holding;
 use vme_dtb::memory::HandshakeMemory;
 use vme_monitor::known::Stateless;
 use vme_monitor::link::later_break;
@@ -24,7 +25,6 @@ use vme_monitor::mark::{NOTHING, Next, quiet};
 use vme_monitor::over_stretches::{Rules, StretchPhase};
 use vme_monitor::table::Table;
 use vme_monitor::view::{End, StepView};
-use vme_stability::holding::Holding;
 use vme_trace::{Break, Change, Lines, Step, Verdict};
 
 /// What a monitor that began at an opening has come to: the memory that it is in, and the first break that it found.

@@ -21,6 +21,7 @@ use std::alloc::{AllocError, Global};
 use vme_chains::acknowledge::{AcknowledgeRules, Iack, acknowledge_over_recordings};
 use vme_chains::grant::{Grant, GrantRules, grants_over_recordings};
 use vme_dtb::handshake::{Dtb, HandshakeRules, handshake_over_recordings};
+use vme_dtb::stability::{Stability, StabilityRules, stability_over_recordings};
 use vme_monitor::both::{least, marks_together};
 use vme_monitor::known::{Known, KnownRules, known_over_recordings};
 use vme_monitor::mark::Mark;
@@ -29,7 +30,6 @@ use vme_monitor::over_stretches::phase_at;
 use vme_monitor::table::Table;
 use vme_monitor::view::StepView;
 use vme_monitor::without_marks::BreakMonitor;
-use vme_stability::stability::{Stability, StabilityRules, stability_over_recordings};
 use vme_trace::{Break, Lines, Step};
 
 impl MonitorSummaries {

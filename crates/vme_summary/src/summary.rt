@@ -6,12 +6,12 @@ ghost use Rattle.vme_summary.specs.SameSteps.{SameSteps};
 
 use vme_chains::acknowledge::Acknowledgement;
 use vme_chains::grant_memory::Arbitration;
+use vme_dtb::holding::Holding;
 use vme_dtb::memory::HandshakeMemory;
 use vme_monitor::known::Stateless;
 use vme_monitor::link::Link;
 use vme_monitor::over_stretches::StretchPhase;
 use vme_monitor::table::Table;
-use vme_stability::holding::Holding;
 
 /// What steps say to all monitors, whatever stood before them: a table for each.
 #[derive(Drop)]

@@ -1,4 +1,4 @@
-use Rattle.vme_dtb.proofs.Judging.{dtb_first_break, dtb_marks}
+use Rattle.vme_dtb.proofs.HandshakeJudges.{dtb_first_break, dtb_marks}
 use Rattle.vme_dtb.proofs.handshake.handshake_over_recordings.Goals as goal
 
 pub returns-clause-first_break : goal.returns-clause-first_break

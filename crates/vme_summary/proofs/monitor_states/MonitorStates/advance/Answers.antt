@@ -4,8 +4,8 @@ use Rattle.vme_monitor.specs.OverStretches.{observed, phase_step, start_in}
 use Rattle.vme_monitor.specs.KnownRules.{known_begin, known_end_fault, known_next, known_start_marks, known_reset_marks}
 use Rattle.vme_monitor.specs.KnownRules.{known_observation}
 use Rattle.vme_dtb.specs.Machine.{dtb_begin, dtb_end_fault, dtb_start_marks, dtb_observation, dtb_step}
-use Rattle.vme_stability.specs.StabilityRules.{stability_begin, stability_end_fault, stability_next}
-use Rattle.vme_stability.specs.StabilityRules.{stability_start_marks, stability_observation}
+use Rattle.vme_dtb.specs.StabilityRules.{stability_begin, stability_end_fault, stability_next}
+use Rattle.vme_dtb.specs.StabilityRules.{stability_start_marks, stability_observation}
 use Rattle.vme_chains.specs.GrantRules.{grant_begin, grant_end_fault, grant_next, grant_start_marks, grant_observation}
 use Rattle.vme_chains.specs.AcknowledgeRules.{acknowledge_begin, acknowledge_end_fault, acknowledge_next}
 use Rattle.vme_chains.specs.AcknowledgeRules.{acknowledge_start_marks, acknowledge_observation}

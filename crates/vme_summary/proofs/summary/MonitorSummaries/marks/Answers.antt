@@ -6,7 +6,7 @@ use Rattle.vme_monitor.specs.Outcome.{Outcome}
 use Rattle.vme_monitor.specs.OverStretches.{start_in}
 use Rattle.vme_monitor.specs.KnownRules.{known_begin}
 use Rattle.vme_dtb.specs.Machine.{dtb_begin}
-use Rattle.vme_stability.specs.StabilityRules.{stability_begin}
+use Rattle.vme_dtb.specs.StabilityRules.{stability_begin}
 use Rattle.vme_chains.specs.GrantRules.{grant_begin}
 use Rattle.vme_chains.specs.AcknowledgeRules.{acknowledge_begin}
 use Rattle.vme_summary.specs.Runs.{known_run, handshake_run, stability_run, grant_run, acknowledge_run}

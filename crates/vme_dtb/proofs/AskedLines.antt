@@ -1,0 +1,100 @@
+-- A line that is unknown as it is asked for.
+use Rattle.std.proofs.Common.{◌≡◌, ℕ, suc, ◌<◌, ◌≤◌, Bool, true, false, ◌&&◌, not, refl, ◌∙◌, ap, arith, cond, lit<}
+use Rattle.std.proofs.Common.{lit≤}
+use Rattle.std.specs.Prelude.{None, Some, ◌==◌}
+use Rattle.std.proofs.lemmas.Bool.Decides.{nat_tests}
+use Rattle.vme_trace.specs.Edges.{falls_between, starts_between}
+use Rattle.vme_trace.specs.Instants.{least}
+use Rattle.vme_trace.specs.LineNumbers.{line_count, AS, WRITE, has_line}
+use Rattle.vme_trace.specs.Cycle.{is_needed, is_within, needs_of}
+use Rattle.vme_trace.specs.Levels.{Levels, is_known_on}
+use Rattle.vme_trace.specs.Trace.{Trace, levels_at}
+use Rattle.vme_trace.specs.Signals.{known}
+use Rattle.vme_trace.specs.Judged.{Stretch, is_judged}
+use Rattle.vme_trace.specs.Transfers.{transfer_starts}
+use Rattle.vme_trace.specs.Cycles.{cycle_starts}
+use Rattle.vme_trace.specs.Rules.{breaks, is_broken}
+use Rattle.vme_trace.specs.declared.rule.Rule.TheVariants.{U2, U3}
+use Rattle.vme_trace.proofs.OpenTransfers.{ReadsStrobes}
+use Rattle.vme_trace.proofs.Ranges.{fails-any, least-alike, least-is, least-none}
+use Rattle.vme_dtb.specs.StabilityRules.{lacks, unknown_address, unknown_direction}
+use Rattle.vme_dtb.proofs.StabilityMeaning.{judged, cycle_starts_is, transfer_starts_is}
+use Rattle.vme_dtb.proofs.Needed.{bused_line, needed_below}
+
+pub least_and : (b : Bool) (p : ℕ → Bool) → least (λ l. b && p l) 0 line_count ≡ cond b (least p 0 line_count) None
+least_and true p = refl
+least_and false p = least-none (λ l. false) 0 line_count (fails-any (λ l. false) 0 line_count (λ l a b. refl))
+
+-- a rule on WRITE* alone
+pub least_write : (p : ℕ → Bool) → ((l : ℕ) → (l == WRITE) ≡ false → p l ≡ false) → least p 0 line_count
+    ≡ cond (p WRITE) (Some WRITE) None
+least_write p elsewhere = by_test (p WRITE) refl
+  where
+    unlike : (l k : ℕ) → l < k → (l == k) ≡ false
+    unlike l k h = grind (arith, nat_tests)
+
+    equal : (l k : ℕ) → (l == k) ≡ true → l ≡ k
+    equal l k h = grind (arith, nat_tests)
+
+    nowhere : p WRITE ≡ false → (l : ℕ) (b : Bool) → (l == WRITE) ≡ b → p l ≡ false
+    nowhere h l true e = ap p (equal l WRITE e) ∙ h
+    nowhere h l false e = elsewhere l e
+
+    by_test : (b : Bool) → p WRITE ≡ b → least p 0 line_count ≡ cond b (Some WRITE) None
+    by_test true e = least-is p 0 line_count WRITE (lit≤ tt) (lit< tt) e
+        (fails-any p 0 WRITE (λ l a b. elsewhere l (unlike l WRITE b)))
+    by_test false e = least-none p 0 line_count (fails-any p 0 line_count (λ l a b. nowhere e l (l == WRITE) refl))
+
+asked : (j h c f d k : Bool) → j ≡ true → c ≡ f → (d ≡ true → h ≡ true) → (j && h && (c && d && not k))
+    ≡ (f && (d && not k))
+asked j h c f d k jt cf hd = rw (jt, cf) (by_need d h f hd)
+  where
+    by_need : (d h f : Bool) → (d ≡ true → h ≡ true) → (h && (f && d && not k)) ≡ (f && (d && not k))
+    by_need true h true hd = rw (hd refl) refl
+    by_need true h false hd = rw (hd refl) refl
+    by_need false true true hd = refl
+    by_need false true false hd = refl
+    by_need false false true hd = refl
+    by_need false false false hd = refl
+
+off_line : (j h e a b : Bool) → e ≡ false → (j && h && (e && a && b)) ≡ false
+off_line j h e a b x = grind (arith, nat_tests)
+
+on_line : (j a b : Bool) → j ≡ true → (j && true && (true && a && b)) ≡ (a && b)
+on_line j a b x = rw x refl
+
+module _ (t : Trace) (span : Stretch) (reads : ReadsStrobes t span) (n : ℕ) (from : span.start ≤ n)
+    (before : suc n < span.end) where
+  abbrev old : Levels
+  old = levels_at t n
+
+  abbrev new : Levels
+  new = levels_at t (suc n)
+
+  address_asked : (l : ℕ) → breaks t span U2 (suc n) l ≡ (falls_between old new AS && lacks new l)
+  unfolding breaks is_broken known is_needed
+  address_asked l =
+      asked (is_judged span (suc n)) (has_line t.opening.slots l) (cycle_starts t span (suc n))
+      (falls_between old new AS) (is_within (needs_of new) l) (is_known_on new l)
+      (judged t span reads n from before) (cycle_starts_is t span reads n from before)
+      (λ e. bused_line t.opening.slots l (omega (arith, needed_below new l e)))
+
+  -- the least line that is unknown as a cycle starts that needs it
+  pub address_least : least (breaks t span U2 (suc n)) 0 line_count ≡ unknown_address old new
+  address_least = least-alike (breaks t span U2 (suc n)) (λ l. falls_between old new AS && lacks new l) 0 line_count
+      (λ l a b. address_asked l) ∙ least_and (falls_between old new AS) (lacks new)
+
+  direction_elsewhere : (l : ℕ) → (l == WRITE) ≡ false → breaks t span U3 (suc n) l ≡ false
+  unfolding breaks is_broken
+  direction_elsewhere l h = off_line (is_judged span (suc n)) (has_line t.opening.slots l) (l == WRITE)
+      (transfer_starts t span (suc n)) (not (known t l (suc n))) h
+
+  direction_asked : breaks t span U3 (suc n) WRITE ≡ (starts_between old new && not (is_known_on new WRITE))
+  unfolding breaks is_broken known
+  direction_asked = rw (transfer_starts_is t span reads n from before)
+      (on_line (is_judged span (suc n)) (starts_between old new) (not (is_known_on new WRITE))
+      (judged t span reads n from before))
+
+  -- WRITE*, where it is unknown as a transfer starts
+  pub direction_least : least (breaks t span U3 (suc n)) 0 line_count ≡ unknown_direction old new
+  direction_least = least_write (breaks t span U3 (suc n)) direction_elsewhere ∙ rw direction_asked refl

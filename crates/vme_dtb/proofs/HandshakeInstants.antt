@@ -1,0 +1,142 @@
+-- The memory of the handshake says what is so at each judged instant, whatever rule is broken.
+use Rattle.std.proofs.Common.{◌≡◌, ℕ, zero, suc, ◌<◌, ◌≤◌, Bool, true, false, ◌&&◌, ◌||◌, not, refl, sym, ◌∙◌, ap}
+use Rattle.std.proofs.Common.{arith, lit<, Option, Some, None, cond, subst, inl, inr, ◌⊎◌}
+use Rattle.std.specs.Prelude.{is_some, slice_get}
+use Rattle.vme_trace.specs.LineNumbers.{line_count, DTACK, BERR}
+use Rattle.vme_trace.specs.Levels.{Levels, level_at, is_low, is_known, is_idle, is_idle_on}
+use Rattle.vme_trace.specs.Trace.{Trace, levels_at}
+use Rattle.vme_trace.specs.Signals.{low}
+use Rattle.vme_trace.specs.Judged.{Stretch}
+use Rattle.vme_trace.specs.Transfers.{strobe_rises, is_answer, answers_write}
+use Rattle.vme_trace.proofs.Ranges.{any-fails}
+use Rattle.vme_monitor.specs.Along.{changes_of, memory_from}
+use Rattle.vme_monitor.specs.Run.{machine_step}
+use Rattle.vme_monitor.specs.Tracking.{entered, is_unanswered, is_writing}
+use Rattle.vme_monitor.specs.declared.mark.Next.{Next}
+use Rattle.vme_monitor.specs.declared.tracking.TransferPhase.{TransferPhase}
+use Rattle.vme_monitor.proofs.SpanFacts.{IsSpan}
+use Rattle.vme_monitor.proofs.Alongside.{memory_early}
+use Rattle.vme_monitor.proofs.TrackedTransfers.{says_start, tracked_is}
+use Rattle.vme_dtb.specs.CycleState.{after_answer, cycle_entered}
+use Rattle.vme_dtb.specs.Edge.{edges_between}
+use Rattle.vme_dtb.specs.Machine.{answer_in, dtb_begin, dtb_observation, dtb_step, may_rise, memory_after}
+use Rattle.vme_dtb.specs.declared.cycle.CyclePhase.{CyclePhase}
+use Rattle.vme_dtb.specs.declared.edges.Edges.{Edges}
+use Rattle.vme_dtb.specs.declared.memory.HandshakeMemory.{HandshakeMemory}
+use Rattle.vme_dtb.proofs.CycleBreaks.{here_is, write_is}
+use Rattle.vme_dtb.proofs.CycleMemory.{after_is, cycle_after, cycle_before, cycle_start}
+use Rattle.vme_dtb.proofs.AnswerRises.{may_rise_at, may_rise_start, may_rise_suc}
+use Rattle.vme_dtb.proofs.HandshakeBreaks.{answer_is}
+use Rattle.vme_dtb.proofs.HandshakeMeaning.{Holds}
+use Rattle.vme_dtb.proofs.Searches.{lt_fails}
+use Rattle.vme_dtb.proofs.StepFacts.{old, new, strobe_rises_is}
+use Rattle.vme_dtb.proofs.StillSteps.{machine_step_is}
+
+true_of_not : (b : Bool) → not b ≡ false → b ≡ true
+true_of_not true h = refl
+true_of_not false h = absurd (cc)
+
+false_of_not : (b : Bool) → not b ≡ true → b ≡ false
+false_of_not true h = absurd (cc)
+false_of_not false h = refl
+
+idle_line : (v : Levels) (l : ℕ) → l < line_count → is_idle v ≡ true → is_idle_on v l ≡ true
+unfolding is_idle
+idle_line v l below idle = true_of_not _ (any-fails (λ k. not (is_idle_on v k)) 0 line_count l (false_of_not _ idle)
+    (omega arith) below)
+
+-- an answer counts where an answer line falls
+counted : (u w : Bool) (o : Option ℕ) (c : CyclePhase) → cond (u && is_some o) (after_answer c (w && is_some o)) c
+    ≡ cond (is_some (cond u o None)) (after_answer c w) c
+counted true true None c = refl
+counted true true (Some l) c = refl
+counted true false None c = refl
+counted true false (Some l) c = refl
+counted false w o c = refl
+
+start_or_after : (s n : ℕ) → s ≤ suc n → (s ≡ suc n) ⊎ (s ≤ n)
+start_or_after s n h = grind arith
+
+module _ (t : Trace) (span : Stretch) (facts : IsSpan t span) where
+  pub holds_start : Holds t span span.start (dtb_begin (levels_at t span.start))
+  holds_start =
+      record {
+        transfer = says_start t span facts.reads;
+        cycle = sym (cycle_start t span);
+        dtack = may_rise_start t span DTACK span.start (idle_line (levels_at t span.start) 3 (lit< tt) facts.idle);
+        berr = may_rise_start t span BERR span.start (idle_line (levels_at t span.start) 4 (lit< tt) facts.idle);
+      }
+
+  module _ (n : ℕ) (from : span.start ≤ n) (before : suc n < span.end) (m : HandshakeMemory) (holds : Holds t span n m)
+    where
+      abbrev seen : Edges
+      seen = edges_between (old t n) (new t n)
+
+      abbrev within : TransferPhase
+      within = entered m.transfer (old t n) (new t n)
+
+      abbrev here : CyclePhase
+      here = cycle_entered m.cycle seen.shown.cycle
+
+      cycle_next : cond (is_some (answer_in within seen)) (after_answer here (is_writing within)) here
+          ≡ cycle_after t span (suc n)
+      cycle_next =
+          sym
+          (after_is t span (suc n)
+          ∙ same_counted (is_answer t span (suc n)) (is_unanswered within && is_some seen.answer_fall)
+          (cycle_before t span (suc n)) here (answers_write t span (suc n)) (is_writing within
+          && is_some seen.answer_fall)
+          (answer_is t span facts.reads n from before m holds) (here_is t span facts.reads n from before m holds)
+          (write_is t span facts.reads n from before m holds)
+          ∙ counted (is_unanswered within) (is_writing within) seen.answer_fall here)
+        where
+          same_counted : (a b : Bool) (c d : CyclePhase) (w x : Bool) → a ≡ b → c ≡ d → w ≡ x
+              → cond a (after_answer c w) c
+              ≡ cond b (after_answer d x) d
+          same_counted a b c d w x e f g = rw (e, f, g) refl
+
+      may_rise_next : (l : ℕ) (was : Bool) → was ≡ may_rise_at t span l n → is_known (level_at (old t n) l) ≡ true
+          → (is_low (level_at (new t n) l) && may_rise was seen) ≡ may_rise_at t span l (suc n)
+      unfolding low
+      may_rise_next l was e readable =
+          same_may_rise (is_low (level_at (new t n) l)) was (may_rise_at t span l n) (is_some seen.strobe_rise)
+          (strobe_rises t (suc n)) e (sym (strobe_rises_is t n))
+          ∙ sym (may_rise_suc t span l n from readable)
+        where
+          same_may_rise : (a b c d f : Bool) → b ≡ c → d ≡ f → (a && (b || d)) ≡ (a && (c || f))
+          same_may_rise a b c d f x y = rw (x, y) refl
+
+      pub holds_next : Holds t span (suc n) (memory_after m (old t n) (new t n) (edges_between (old t n) (new t n)))
+      holds_next =
+          record {
+            transfer = tracked_is t span facts.reads n from before m.transfer holds.transfer;
+            cycle = cycle_next;
+            dtack = may_rise_next DTACK m.dtack_may_rise holds.dtack
+                (facts.known n 3 from (omega (arith, before)) (lit< tt)
+                refl);
+            berr = may_rise_next BERR m.berr_may_rise holds.berr (facts.known n 4 from (omega (arith, before)) (lit< tt)
+                refl);
+          }
+
+  abbrev pub memory_at : ℕ → HandshakeMemory
+  memory_at k = memory_from (machine_step dtb_observation dtb_step) t (dtb_begin (levels_at t span.start)) span.start k
+
+  held_start : Holds t span span.start (memory_at span.start)
+  held_start = subst (Holds t span span.start)
+      (sym (memory_early (machine_step dtb_observation dtb_step) t (dtb_begin (levels_at t span.start)) span.start
+      span.start
+      (omega arith))) holds_start
+
+  pub holds_at : (k : ℕ) → span.start ≤ k → k < span.end → Holds t span k (memory_at k)
+  holds_at zero from before = let e : span.start ≡ 0 = omega arith in subst (λ (k : ℕ). Holds t span k (memory_at k)) e
+      held_start
+  holds_at (suc n) from before =
+      elim (start_or_after span.start n from) [
+        | inl e ↦ subst (λ (k : ℕ). Holds t span k (memory_at k)) e held_start
+        | inr earlier ↦
+            let so_far = holds_at n earlier (omega arith) in
+            rw (lt_fails n span.start earlier)
+            (subst (Holds t span (suc n)) (ap (λ (x : Next HandshakeMemory). x.memory)
+            (sym (machine_step_is t span n (memory_at n) so_far (changes_of (slice_get t.steps n)))))
+            (holds_next n earlier before (memory_at n) so_far))
+      ]

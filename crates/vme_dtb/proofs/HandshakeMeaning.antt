@@ -1,0 +1,15 @@
+-- What the memory of the handshake says of a judged instant, in the words of transfers, cycles and edges.
+use Rattle.std.proofs.Common.{◌≡◌, ℕ}
+use Rattle.vme_trace.specs.LineNumbers.{DTACK, BERR}
+use Rattle.vme_trace.specs.Trace.{Trace}
+use Rattle.vme_trace.specs.Judged.{Stretch}
+use Rattle.vme_monitor.specs.Tracked.{IsTransferPhase}
+use Rattle.vme_dtb.specs.declared.memory.HandshakeMemory.{HandshakeMemory}
+use Rattle.vme_dtb.proofs.CycleMemory.{cycle_after}
+use Rattle.vme_dtb.proofs.AnswerRises.{may_rise_at}
+
+pub record Holds (t : Trace) (span : Stretch) (n : ℕ) (m : HandshakeMemory) : Type 0 where
+  pub transfer : IsTransferPhase t span n m.transfer
+  pub cycle : m.cycle ≡ cycle_after t span n
+  pub dtack : m.dtack_may_rise ≡ may_rise_at t span DTACK n
+  pub berr : m.berr_may_rise ≡ may_rise_at t span BERR n

@@ -1,0 +1,57 @@
+-- WRITE* changes in a transfer before a strobe rises.
+use Rattle.std.proofs.Common.{◌≡◌, ℕ, suc, ◌+◌, ◌<◌, ◌≤◌, Bool, true, false, ◌&&◌, refl, sym, ◌∙◌, arith}
+use Rattle.std.specs.Prelude.{◌==◌, List}
+use Rattle.std.proofs.lemmas.Bool.Decides.{nat_tests}
+use Rattle.vme_trace.specs.Instants.{any, least}
+use Rattle.vme_trace.specs.LineNumbers.{line_count, WRITE, has_line}
+use Rattle.vme_trace.specs.Levels.{Levels}
+use Rattle.vme_trace.specs.Trace.{Trace, levels_at}
+use Rattle.vme_trace.specs.Signals.{has_edge}
+use Rattle.vme_trace.specs.Judged.{Stretch, is_judged}
+use Rattle.vme_trace.specs.Rules.{breaks, is_broken}
+use Rattle.vme_trace.specs.declared.rule.Rule.TheVariants.{S2}
+use Rattle.vme_trace.specs.declared.step.Change.{Change}
+use Rattle.vme_trace.proofs.OpenTransfers.{ReadsStrobes, suc-sub-one}
+use Rattle.vme_dtb.specs.StabilityRules.{direction_turned, keeps_direction, observation_of, turned_fault}
+use Rattle.vme_dtb.specs.declared.holding.Holding.{Holding}
+use Rattle.vme_dtb.proofs.AskedLines.{least_write}
+use Rattle.vme_dtb.proofs.StabilityMeaning.{Holds, holds_direction, judged, keeps_direction_is}
+
+off_line : (j h e a b : Bool) → e ≡ false → (j && h && (e && a && b)) ≡ false
+off_line j h e a b x = grind (arith, nat_tests)
+
+on_line : (j a b c d : Bool) → j ≡ true → a ≡ d → b ≡ c → (j && true && (true && a && b)) ≡ (c && d)
+on_line j a b c d x y z = rw (x, y, z) (turn d c)
+  where
+    turn : (a b : Bool) → (a && b) ≡ (b && a)
+    turn true true = refl
+    turn true false = refl
+    turn false true = refl
+    turn false false = refl
+
+module _ (t : Trace) (span : Stretch) (reads : ReadsStrobes t span) (n : ℕ) (from : span.start ≤ n)
+    (before : suc n < span.end) (m : Holding) (holds : Holds t span n m) where
+  abbrev old : Levels
+  old = levels_at t n
+
+  abbrev new : Levels
+  new = levels_at t (suc n)
+
+  elsewhere : (l : ℕ) → (l == WRITE) ≡ false → breaks t span S2 (suc n) l ≡ false
+  unfolding breaks is_broken
+  elsewhere l h = off_line (is_judged span (suc n)) (has_line t.opening.slots l) (l == WRITE) (has_edge t l (suc n)) _ h
+
+  turns : has_edge t WRITE (suc n) ≡ direction_turned old new
+  unfolding has_edge
+  turns = rw (suc-sub-one n) refl
+
+  on_write : breaks t span S2 (suc n) WRITE ≡ (keeps_direction m old new && direction_turned old new)
+  unfolding breaks is_broken
+  on_write =
+      on_line (is_judged span (suc n)) (has_edge t WRITE (suc n)) (any (holds_direction t span (suc n)) (span.start + 1)
+      (suc n)) (keeps_direction m old new) (direction_turned old new)
+      (judged t span reads n from before) turns (sym (keeps_direction_is t span reads n from before m holds))
+
+  pub turned_least : (cs : List Change) → least (breaks t span S2 (suc n)) 0 line_count ≡ turned_fault m old new
+      (observation_of old new cs)
+  turned_least cs = least_write (breaks t span S2 (suc n)) elsewhere ∙ rw on_write refl

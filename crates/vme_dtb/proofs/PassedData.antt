@@ -1,0 +1,38 @@
+-- Changes of lines that no transfer moves.
+use Rattle.std.proofs.Common.{◌≡◌, ℕ, ◌+◌, ◌<◌, ◌≤◌, Bool, true, false, List, ◌∷◌, length, get_or, drop, refl, ap, sym}
+use Rattle.std.proofs.Common.{◌∙◌, arith}
+use Rattle.std.proofs.lemmas.List.{drop_more}
+use Rattle.std.proofs.lemmas.Bool.Decides.{nat_tests}
+use Rattle.vme_trace.specs.LineNumbers.{is_data}
+use Rattle.vme_trace.specs.Levels.{Levels}
+use Rattle.vme_trace.specs.declared.step.Change.{Change}
+use Rattle.vme_dtb.specs.StabilityRules.{first_among, is_shifted}
+use Rattle.vme_dtb.proofs.ChangedLines.{and_true}
+use Rattle.vme_dtb.proofs.HeldData.{selected_from, selected_to}
+
+not_true : (b : Bool) → (b ≡ true → ⊥) → b ≡ false
+not_true true h = absurd (h refl)
+not_true false h = refl
+
+not_moved : (v w : Levels) (l : ℕ) → is_data l ≡ false → is_shifted v w l ≡ false
+not_moved v w l h =
+    not_true (is_shifted v w l) (λ e. let moved = (and_true _ _ (and_true _ _ e).1).0 in
+    apart l h (selected_from v l moved) (selected_to v l moved))
+  where
+    apart : (l : ℕ) → is_data l ≡ false → 159 ≤ l → l < 191 → ⊥
+    apart l h k m = grind (arith, nat_tests)
+
+pub not_data : (l : ℕ) → l < 159 → is_data l ≡ false
+not_data l h = grind (arith, nat_tests)
+
+passed_first : (v w : Levels) (c : Change) (cs : List Change) → is_data c.line ≡ false → first_among (is_shifted v w)
+    (c ∷ cs) ≡ first_among (is_shifted v w) cs
+passed_first v w c cs h = rw (not_moved v w c.line h) refl
+
+-- one change more is passed
+pub passed_more : (v w : Levels) (cs : List Change) (i : ℕ) (c : Change) → i < length cs → c ≡ get_or cs i c
+    → is_data c.line ≡ false → first_among (is_shifted v w) (drop i cs) ≡ first_among (is_shifted v w) cs
+    → first_among (is_shifted v w) (drop (i + 1) cs) ≡ first_among (is_shifted v w) cs
+passed_more v w cs i c h e few so_far =
+    let split : drop i cs ≡ c ∷ drop (i + 1) cs = drop_more cs i c h ∙ ap (λ x. x ∷ drop (i + 1) cs) (sym e) in
+    sym (passed_first v w c (drop (i + 1) cs) few) ∙ (sym (ap (first_among (is_shifted v w)) split) ∙ so_far)

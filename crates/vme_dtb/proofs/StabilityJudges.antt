@@ -1,0 +1,221 @@
+-- What the monitor of stability finds at each judged instant is what the rules say.
+use Rattle.std.proofs.Common.{◌≡◌, ℕ, zero, suc, ◌<◌, ◌≤◌, Bool, true, false, not, ◌&&◌, List, [], refl, sym, arith}
+use Rattle.std.proofs.Common.{cond, inl, inr, ◌⊎◌, length, lit<, subst}
+use Rattle.std.specs.Prelude.{Option, None, Some, option_map, slice_get, nat_lt}
+use Rattle.std.specs.Option.{option_map_or, option_or}
+use Rattle.std.proofs.lemmas.Bool.Decides.{nat_tests}
+use Rattle.vme_trace.specs.LineNumbers.{line_count, AS, WRITE, is_control}
+use Rattle.vme_trace.specs.Levels.{Levels, level_at, is_low, is_high, is_idle, is_idle_on, same_level}
+use Rattle.vme_trace.specs.Trace.{Trace, levels_at, time_at}
+use Rattle.vme_trace.specs.WellFormed.{malformed_step}
+use Rattle.vme_trace.specs.Judged.{Stretch}
+use Rattle.vme_trace.specs.Verdict.{break_at, break_before, rule_break}
+use Rattle.vme_trace.specs.declared.level.Level.{Level}
+use Rattle.vme_trace.specs.declared.level.Level.TheVariants.{Low, High, Unknown}
+use Rattle.vme_trace.specs.declared.rule.Rule.TheVariants.{U2, U3, U4, S1, S2, S3}
+use Rattle.vme_trace.specs.declared.step.Change.{Change}
+use Rattle.vme_trace.proofs.Ranges.{any-fails}
+use Rattle.vme_monitor.specs.Along.{changes_of, memory_from, next_at}
+use Rattle.vme_monitor.specs.Run.{break_of_fault, no_step_marks, machine_step, quiet, run_of}
+use Rattle.vme_monitor.specs.OverStretches.{observed, phase_step, start_in}
+use Rattle.vme_monitor.specs.Whole.{FindsLeast, ShowsAll}
+use Rattle.vme_monitor.specs.declared.mark.Next.{Next}
+use Rattle.vme_monitor.proofs.InsideRules.{inside_first_break, inside_marks}
+use Rattle.vme_monitor.proofs.SpanFacts.{IsSpan}
+use Rattle.vme_monitor.proofs.Alongside.{changes_fit, levels_step, memory_early}
+use Rattle.vme_dtb.specs.StabilityRules.{fault_on, is_observed, shifted_fault, undriven_fault, keeps_direction}
+use Rattle.vme_dtb.specs.StabilityRules.{direction_turned, moved_fault, observation_of, stability_begin}
+use Rattle.vme_dtb.specs.StabilityRules.{stability_end_fault}
+use Rattle.vme_dtb.specs.StabilityRules.{stability_next, stability_start_marks, stability_rules, stability_shown}
+use Rattle.vme_dtb.specs.StabilityRules.{stability_observation, turned_fault, unknown_address, unknown_direction}
+use Rattle.vme_dtb.specs.declared.holding.Holding.{Holding}
+use Rattle.vme_dtb.specs.declared.observation.HoldingObservation.{HoldingObservation}
+use Rattle.vme_dtb.proofs.AskedLines.{address_least, direction_least}
+use Rattle.vme_dtb.proofs.ChangedLines.{false_of_not}
+use Rattle.vme_dtb.proofs.HeldAddress.{S2_least, before_last, moved_least, no_fault}
+use Rattle.vme_dtb.proofs.HeldData.{shifted_least, undriven_least}
+use Rattle.vme_dtb.proofs.HeldDirection.{turned_least}
+use Rattle.vme_dtb.proofs.StabilityMeaning.{Holds, holds_next, holds_start}
+use Rattle.vme_dtb.proofs.Unobserved.{quiet_there}
+
+abbrev step : Holding → Levels → Levels → List Change → Next Holding
+step = machine_step stability_observation stability_next
+
+-- the least rule, of six, that is broken on a line
+first_fault : (n time : ℕ) (a b c d e f : Option ℕ)
+    → option_map (break_of_fault n time) (option_or (option_or (fault_on U2 a) (fault_on U3 b))
+    (option_or (fault_on U4 c) (option_or (option_or (fault_on S1 d) (fault_on S2 e)) (fault_on S3 f))))
+    ≡ option_or (option_map (λ (l : ℕ). record { instant = n; time = time; rule = U2; line = l }) a)
+    (option_or (option_map (λ (l : ℕ). record { instant = n; time = time; rule = U3; line = l }) b)
+    (option_or (option_map (λ (l : ℕ). record { instant = n; time = time; rule = U4; line = l }) c)
+    (option_or (option_map (λ (l : ℕ). record { instant = n; time = time; rule = S1; line = l }) d)
+    (option_or (option_map (λ (l : ℕ). record { instant = n; time = time; rule = S2; line = l }) e)
+    (option_or (option_map (λ (l : ℕ). record { instant = n; time = time; rule = S3; line = l }) f) None)))))
+first_fault n time (Some l) b c d e f = refl
+first_fault n time None (Some l) c d e f = refl
+first_fault n time None None (Some l) d e f = refl
+first_fault n time None None None (Some l) e f = refl
+first_fault n time None None None None (Some l) f = refl
+first_fault n time None None None None None (Some l) = refl
+first_fault n time None None None None None None = refl
+
+module _ (t : Trace) (span : Stretch) (ok : malformed_step t ≡ None) (facts : IsSpan t span) where
+  abbrev memory_at : ℕ → Holding
+  memory_at n = memory_from step t (stability_begin (levels_at t span.start)) span.start n
+
+  abbrev changes_at : ℕ → List Change
+  changes_at n = changes_of (slice_get t.steps n)
+
+  module _ (n : ℕ) (from : span.start ≤ n) (before : suc n < span.end) (within : n < length t.steps) (m : Holding)
+      (holds : Holds t span n m) where
+    abbrev full : Next Holding
+    full = stability_next m (levels_at t n) (levels_at t (suc n)) (observation_of (levels_at t n) (levels_at t (suc n))
+        (changes_at n))
+
+    -- a step in which nothing is observed would change nothing
+    next_is : next_at step t m n ≡ full
+    next_is = by_test (is_observed (levels_at t n) (levels_at t (suc n)) (changes_at n)) refl
+      where
+        by_test : (b : Bool) → is_observed (levels_at t n) (levels_at t (suc n)) (changes_at n) ≡ b
+            → option_map_or (stability_next m (levels_at t n) (levels_at t (suc n)))
+            (cond b (Some (observation_of (levels_at t n) (levels_at t (suc n)) (changes_at n))) None) (quiet m) ≡ full
+        by_test true e = refl
+        by_test false e = sym (quiet_there t span facts n from before m (changes_at n) holds e)
+
+    fault_is : break_before t span stability_rules (suc n) ≡ None
+        → option_map (break_of_fault (suc n) (time_at t (suc n)))
+        full.fault ≡ break_at t span stability_rules (suc n)
+    unfolding break_at rule_break
+    fault_is unbroken =
+        rw (
+          address_least t span facts.reads n from before,
+          direction_least t span facts.reads n from before,
+          undriven_least t span facts.reads n from before m holds unbroken (changes_at n),
+          moved_least t span facts n from before unbroken (changes_at n) (levels_step t n within)
+              (changes_fit t n ok within) m holds,
+          turned_least t span facts.reads n from before m holds (changes_at n),
+          shifted_least t span facts.reads n from before m holds unbroken (changes_at n) (levels_step t n within)
+              (changes_fit t n ok within),
+        )
+        (first_fault (suc n) (time_at t (suc n)) (unknown_address (levels_at t n) (levels_at t (suc n)))
+        (unknown_direction (levels_at t n) (levels_at t (suc n)))
+        (undriven_fault m (levels_at t n) (levels_at t (suc n)) (observation_of (levels_at t n) (levels_at t (suc n))
+        (changes_at n)))
+        (moved_fault m (levels_at t n) (levels_at t (suc n)) (observation_of (levels_at t n) (levels_at t (suc n))
+        (changes_at n)))
+        (turned_fault m (levels_at t n) (levels_at t (suc n)) (observation_of (levels_at t n) (levels_at t (suc n))
+        (changes_at n)))
+        (shifted_fault m (levels_at t n) (levels_at t (suc n)) (observation_of (levels_at t n) (levels_at t (suc n))
+        (changes_at n))))
+
+  earlier : (n : ℕ) → break_before t span stability_rules (suc (suc n)) ≡ None → break_before t span stability_rules
+      (suc n) ≡ None
+  earlier n h = (before_last t span (suc n) h).0
+
+  unturned : (b c : Bool) → b ≡ true → cond (b && c) (Some WRITE) None ≡ None → c ≡ false
+  unturned true true e h = absurd (cc)
+  unturned true false e h = refl
+  unturned false c e h = absurd (cc)
+
+  same_low : (x y : Level) → not (same_level x y) ≡ false → is_low y ≡ is_low x
+  same_low Low Low h = refl
+  same_low Low High h = absurd (cc)
+  same_low Low Unknown h = absurd (cc)
+  same_low High Low h = absurd (cc)
+  same_low High High h = refl
+  same_low High Unknown h = refl
+  same_low Unknown Low h = absurd (cc)
+  same_low Unknown High h = refl
+  same_low Unknown Unknown h = refl
+
+  -- while the direction is held it stays, where no rule is broken
+  stays : (n : ℕ) → span.start ≤ n → suc n < span.end → (m : Holding) → Holds t span n m → break_before t span
+      stability_rules (suc (suc n)) ≡ None → keeps_direction m (levels_at t n) (levels_at t (suc n)) ≡ true
+      → is_low (level_at (levels_at t (suc n)) WRITE) ≡ is_low (level_at (levels_at t n) WRITE)
+  stays n from before m holds unbroken keeps =
+      same_low (level_at (levels_at t n) WRITE) (level_at (levels_at t (suc n)) WRITE)
+      (unturned (keeps_direction m (levels_at t n) (levels_at t (suc n)))
+      (direction_turned (levels_at t n) (levels_at t (suc n))) keeps
+      (no_fault t span (suc n) (turned_fault m (levels_at t n) (levels_at t (suc n))
+      (observation_of (levels_at t n) (levels_at t (suc n)) []))
+      (turned_least t span facts.reads n from before m holds [])
+      (S2_least t span (suc n) (before_last t span (suc n) unbroken).1)))
+
+  after_test : (n s : ℕ) → s ≤ n → nat_lt n s ≡ false
+  after_test n s h = grind (arith, nat_tests)
+
+  strobe_control : (s l : ℕ) → l < 3 → is_control s l ≡ true
+  strobe_control s l h = grind (arith, nat_tests)
+
+  first_or_later : (s n : ℕ) → s ≤ suc n → (s ≡ suc n) ⊎ (s ≤ n)
+  first_or_later s n h = grind arith
+
+  -- the address strobe is high where the span starts
+  address_high : is_low (level_at (levels_at t span.start) AS) ≡ false
+  unfolding is_idle
+  address_high = not_low (level_at (levels_at t span.start) AS)
+      (any-fails (λ k. not (is_idle_on (levels_at t span.start) k)) 0 line_count AS (false_of_not _ facts.idle)
+      (omega arith) (lit< tt))
+    where
+      not_low : (x : Level) → not (is_high x) ≡ false → is_low x ≡ false
+      not_low High h = refl
+      not_low Low h = absurd (cc)
+      not_low Unknown h = refl
+
+  -- at each judged instant the memory says what it should
+  holds_at : (n : ℕ) → span.start ≤ n → n < span.end → n ≤ length t.steps → Holds t span n (memory_at n)
+  holds_at zero from before within = let e : span.start ≡ 0 = omega arith in
+      subst (λ k. Holds t span k (stability_begin (levels_at t span.start))) e
+      (holds_start t span facts.reads address_high (levels_at t span.start))
+  holds_at (suc n) from before within =
+      elim (first_or_later span.start n from) [
+        | inl e ↦ at_start e
+        | inr later ↦ let holds = holds_at n later (omega arith) (omega arith) in
+            rw (after_test n span.start later, next_is n later before (omega arith) (memory_at n) holds)
+            (holds_next t span facts.reads n later before (earlier n) (stays n later before)
+            (λ l below. facts.known n l later (omega arith) (omega arith) (strobe_control t.opening.slots l below))
+            (λ l below. facts.known (suc n) l (omega arith) before (omega arith)
+            (strobe_control t.opening.slots l below)) (memory_at n) holds)
+      ]
+    where
+      at_start : span.start ≡ suc n → Holds t span (suc n) (memory_at (suc n))
+      at_start e = rw (
+        memory_early step t (stability_begin (levels_at t span.start)) span.start (suc n) (omega arith),
+        ← e,
+      ) (holds_start t span facts.reads address_high (levels_at t span.start))
+
+  judges_inside : (n : ℕ) → span.start ≤ n → suc n < span.end → n < length t.steps → break_before t span stability_rules
+      (suc n) ≡ None
+      → option_map (break_of_fault (suc n) (time_at t (suc n))) (next_at step t (memory_at n) n).fault ≡ break_at t span
+      stability_rules (suc n)
+  judges_inside n from before within unbroken =
+      let holds = holds_at n from (omega arith) (omega arith) in
+      rw (next_is n from before within (memory_at n) holds) (fault_is n from before within (memory_at n) holds unbroken)
+
+pub stability_first_break : FindsLeast
+    (run_of (machine_step (observed stability_observation)
+    (phase_step stability_begin stability_start_marks no_step_marks
+    (λ l. None)
+    stability_next))) (start_in stability_begin) stability_rules
+stability_first_break = inside_first_break stability_begin stability_start_marks stability_observation stability_next
+    stability_rules refl
+    (λ t span ok few facts n from before within unbroken. judges_inside t span ok facts n from before within unbroken)
+
+pub stability_marks : ShowsAll
+    (run_of (machine_step (observed stability_observation)
+    (phase_step stability_begin stability_start_marks no_step_marks stability_end_fault
+    stability_next))) (start_in stability_begin) no_step_marks stability_shown
+stability_marks =
+    inside_marks stability_begin stability_start_marks stability_observation stability_next stability_end_fault
+    stability_shown (λ t span ok few facts. record {
+      at_start = refl;
+      inside = λ n from before within. by_observation (stability_observation (levels_at t n) (levels_at t (suc n))
+          (changes_of (slice_get t.steps n))) (memory_from step t (stability_begin (levels_at t span.start)) span.start
+          n)
+          (levels_at t n) (levels_at t (suc n));
+    })
+  where
+    by_observation : (o : Option HoldingObservation) (m : Holding) (v w : Levels)
+        → (option_map_or (stability_next m v w) o (quiet m)).shown ≡ no_step_marks
+    by_observation None m v w = refl
+    by_observation (Some seen) m v w = refl

@@ -1,0 +1,377 @@
+-- What the memory of what is held says of a judged instant, in the words of transfers and cycles; it keeps saying so,
+-- whatever rule is broken.
+use Rattle.std.proofs.Common.{◌≡◌, ℕ, suc, ◌+◌, ◌<◌, ◌≤◌, Bool, true, false, ◌||◌, ◌&&◌, not, refl, sym, ◌∙◌, ap, arith}
+use Rattle.std.proofs.Common.{cond}
+use Rattle.vme_trace.specs.Edges.{answer_between, falls_between, rises_between, starts_between, strobe_low_in}
+use Rattle.vme_trace.specs.Edges.{strobe_rises_between, strobes_high_in}
+use Rattle.vme_trace.specs.Instants.{any, none}
+use Rattle.std.proofs.Common.{inl, inr, ◌⊎◌}
+use Rattle.std.specs.Prelude.{None}
+use Rattle.vme_trace.specs.LineNumbers.{AS, DS0, DS1, WRITE}
+use Rattle.vme_trace.specs.Levels.{Levels, level_at, is_low, is_high, is_known}
+use Rattle.vme_trace.specs.Trace.{Trace, levels_at}
+use Rattle.vme_trace.specs.Signals.{low, high, falls, rises}
+use Rattle.vme_trace.specs.Judged.{Stretch, is_judged}
+use Rattle.vme_trace.specs.Transfers.{strobe_rises, strobes_high, transfer_starts, is_answer}
+use Rattle.vme_trace.specs.Verdict.{break_before}
+use Rattle.vme_trace.specs.Cycles.{cycle_starts, cycle_runs}
+use Rattle.vme_trace.specs.declared.level.Level.{Level}
+use Rattle.vme_trace.specs.declared.level.Level.TheVariants.{Low, High, Unknown}
+use Rattle.vme_trace.proofs.OpenTransfers.{suc-sub-one, is_judged-holds, ReadsStrobes}
+use Rattle.vme_trace.proofs.Ranges.{any-step, clash, fails-any}
+use Rattle.vme_monitor.specs.Tracked.{IsTransferPhase}
+use Rattle.vme_monitor.specs.Tracking.{answered_by, is_unanswered, is_writing, tracked}
+use Rattle.vme_monitor.specs.declared.tracking.TransferPhase.{TransferPhase}
+use Rattle.vme_monitor.specs.declared.tracking.TransferPhase.TheVariants.{Closed, Reading, Writing, Answered}
+use Rattle.vme_monitor.proofs.TrackedTransfers.{says_start, tracked_is, is_answer_is}
+use Rattle.vme_dtb.specs.StabilityRules.{answers_in, awaits_answer, holds_direction as holds_direction_of}
+use Rattle.vme_dtb.specs.StabilityRules.{keeps_address, keeps_direction, stability_begin, stability_rules, stepped}
+use Rattle.vme_dtb.specs.declared.holding.Holding.{Holding}
+use Rattle.vme_dtb.specs.HoldingNumbers.{has_risen, was_answered, writes_of}
+use Rattle.vme_dtb.proofs.Progressing.{directed_by, fresh_here, fresh_more, is_answered_state, is_closed}
+use Rattle.vme_dtb.proofs.Progressing.{risen_passed, was_passed}
+use Rattle.vme_dtb.proofs.ChangedLines.{and_true, or_false}
+use Rattle.vme_dtb.proofs.Lasting.{none_more, none_empty, none_one, lasts_on}
+use Rattle.vme_dtb.proofs.Searches.{le_holds}
+
+-- the transfer that the step enters, or that was open, has had no answer
+unanswered_is : (p : TransferPhase) (h l w : Bool) → h ≡ is_closed p
+    → is_unanswered (cond (h && l) (cond w Writing Reading)
+    p) ≡ (not (is_answered_state p) && (not h || l))
+unanswered_is Closed h l w e = rw e (by_tests l w)
+  where
+    by_tests : (l w : Bool) → is_unanswered (cond l (cond w Writing Reading) Closed) ≡ l
+    by_tests true true = refl
+    by_tests true false = refl
+    by_tests false w = refl
+unanswered_is Reading h l w e = rw e refl
+unanswered_is Writing h l w e = rw e refl
+unanswered_is Answered h l w e = rw e refl
+
+answered_next : (p : TransferPhase) (h l w k a : Bool) → h ≡ is_closed p → l ≡ not k → is_answered_state
+    (cond k Closed (answered_by a (cond (h && l) (cond w Writing Reading) p))) ≡ (not k && (is_answered_state p || a))
+answered_next p h l w true a e low = refl
+answered_next Closed h l w false a e low = rw (e, low) (by_tests w a)
+  where
+    by_tests : (w a : Bool) → is_answered_state (answered_by a (cond w Writing Reading)) ≡ a
+    by_tests true true = refl
+    by_tests true false = refl
+    by_tests false true = refl
+    by_tests false false = refl
+answered_next Reading h l w false true e low = rw e refl
+answered_next Reading h l w false false e low = rw e refl
+answered_next Writing h l w false true e low = rw e refl
+answered_next Writing h l w false false e low = rw e refl
+answered_next Answered h l w false true e low = rw e refl
+answered_next Answered h l w false false e low = rw e refl
+
+-- a strobe is low where both are known, and not both high
+low_is : (x y : Level) → is_known x ≡ true → is_known y ≡ true → (is_low x || is_low y) ≡ not (is_high x && is_high y)
+low_is Low y k j = refl
+low_is High Low k j = refl
+low_is High High k j = refl
+low_is High Unknown k j = absurd (cc)
+low_is Unknown y k j = absurd (cc)
+
+-- high strobes don't rise
+no_rise : (x y a b : Level) → (is_high x && is_high y) ≡ true → ((is_low x && is_high a) || (is_low y && is_high b))
+    ≡ false
+no_rise High High a b h = refl
+no_rise High Low a b h = absurd (cc)
+no_rise High Unknown a b h = absurd (cc)
+no_rise Low y a b h = absurd (cc)
+no_rise Unknown y a b h = absurd (cc)
+
+-- a known level that doesn't rise was high before, if it is high now
+was_high : (x y : Level) → is_known x ≡ true → (is_low x && is_high y) ≡ false → is_high y ≡ true → is_high x ≡ true
+was_high High y k r h = refl
+was_high Low y k r h = absurd (clash (is_high y) h r)
+was_high Unknown y k r h = absurd (cc)
+
+-- so strobes that don't rise, and are high, were high
+pub high_before : (v w : Levels) → is_known (level_at v DS0) ≡ true → is_known (level_at v DS1) ≡ true
+    → strobe_rises_between v w ≡ false → strobes_high_in w ≡ true → strobes_high_in v ≡ true
+high_before v w first second still h =
+    let rises = or_false (rises_between v w DS0) (rises_between v w DS1) still in
+    let highs = and_true (is_high (level_at w DS0)) (is_high (level_at w DS1)) h in
+    rw (
+      was_high (level_at v DS0) (level_at w DS0) first rises.0 highs.0,
+      was_high (level_at v DS1) (level_at w DS1)
+          second rises.1 highs.1,
+    ) refl
+
+-- whether a transfer is open in which no strobe has risen, by the strobes before and after
+unturned_next : (h k l r s : Bool) → (h ≡ true → s ≡ false) → (h ≡ true → r ≡ false) → l ≡ not k
+    → (r ≡ false → k ≡ true → h ≡ true)
+    → (not k && not (not k && (s || r))) ≡ (((not h && not s) && not r) || (h && l))
+unturned_next true k l r s fresh still low back = rw (fresh refl, still refl, low) (by_test k)
+  where
+    by_test : (k : Bool) → (not k && not (not k && false)) ≡ not k
+    by_test true = refl
+    by_test false = refl
+unturned_next false true l true true fresh still low back = refl
+unturned_next false true l true false fresh still low back = refl
+unturned_next false true l false s fresh still low back = absurd (clash false (back refl refl) refl)
+unturned_next false false l true true fresh still low back = refl
+unturned_next false false l true false fresh still low back = refl
+unturned_next false false l false true fresh still low back = refl
+unturned_next false false l false false fresh still low back = refl
+
+module _ (t : Trace) (span : Stretch) where
+  -- a cycle that started at i runs at n, and has had no answer
+  abbrev pub holds_address : ℕ → ℕ → Bool
+  holds_address n i = cycle_starts t span i && cycle_runs t span i n && none (is_answer t span) i (n + 1)
+
+  -- a transfer started at i, and no strobe has risen since
+  abbrev pub holds_direction : ℕ → ℕ → Bool
+  holds_direction n i = transfer_starts t span i && none (strobe_rises t) (i + 1) (n + 1)
+
+  pub record Holds (n : ℕ) (m : Holding) : Type 0 where
+    pub state : TransferPhase
+    pub says : IsTransferPhase t span n state
+    pub transfer : is_answered_state state ≡ was_answered m.transfer
+    pub closed : strobes_high_in (levels_at t n) ≡ true → has_risen m.transfer ≡ false
+    pub fresh : (i : ℕ) → i ≤ n → transfer_starts t span i ≡ true → ((r : ℕ) → i ≤ r → r ≤ n → strobes_high t r ≡ false)
+        → none (strobe_rises t) (i + 1) (n + 1) ≡ not (has_risen m.transfer)
+    pub directed : break_before t span stability_rules (suc n) ≡ None → strobes_high_in (levels_at t n) ≡ false
+        → writes_of m.transfer (is_low (level_at (levels_at t n) WRITE)) ≡ is_writing state
+    pub idle : is_low (level_at (levels_at t n) AS) ≡ false → m.cycle_answered ≡ false
+    pub address : awaits_answer m (levels_at t n) ≡ any (holds_address n) (span.start + 1) (n + 1)
+    pub direction : holds_direction_of m (levels_at t n) ≡ any (holds_direction n) (span.start + 1) (n + 1)
+
+  -- at the start of a span nothing is held
+  pub holds_start : ReadsStrobes t span → is_low (level_at (levels_at t span.start) AS) ≡ false → (v : Levels)
+      → Holds span.start (stability_begin v)
+  unfolding high
+  holds_start reads off v =
+      record {
+        state = Closed;
+        says = says_start t span reads;
+        transfer = refl;
+        closed = λ h. refl;
+        fresh = λ i a s low. absurd (clash (strobes_high t span.start) reads.opens (low_there i a low));
+        directed = λ unbroken low. absurd (clash (strobes_high t span.start) reads.opens low);
+        idle = λ h. refl;
+        address = rw off (sym (fails-any (holds_address span.start) (span.start + 1) (span.start + 1)
+            (λ i a b. absurd (omega arith))));
+        direction = rw reads.opens (sym (fails-any (holds_direction span.start) (span.start + 1) (span.start + 1)
+            (λ i a b. absurd (omega arith))));
+      }
+    where
+      low_there : (i : ℕ) → i ≤ span.start → ((r : ℕ) → i ≤ r → r ≤ span.start → strobes_high t r ≡ false)
+          → strobes_high t span.start ≡ false
+      low_there i a low = low span.start a (omega arith)
+
+  -- the levels on both sides of the step to suc n
+  module _ (reads : ReadsStrobes t span) (n : ℕ) (from : span.start ≤ n) (before : suc n < span.end) where
+    abbrev pub old : Levels
+    old = levels_at t n
+
+    abbrev pub new : Levels
+    new = levels_at t (suc n)
+
+    pub judged : is_judged span (suc n) ≡ true
+    judged = is_judged-holds span (suc n) (omega arith) before
+
+    pub falls_is : (l : ℕ) → falls t l (suc n) ≡ falls_between old new l
+    unfolding falls high low
+    falls_is l = rw (suc-sub-one n) refl
+
+    pub rises_is : (l : ℕ) → rises t l (suc n) ≡ rises_between old new l
+    unfolding rises high low
+    rises_is l = rw (suc-sub-one n) refl
+
+    pub strobe_rises_is : strobe_rises t (suc n) ≡ strobe_rises_between old new
+    strobe_rises_is = rw (rises_is DS0, rises_is DS1) refl
+
+    pub transfer_starts_is : transfer_starts t span (suc n) ≡ starts_between old new
+    unfolding transfer_starts high low
+    transfer_starts_is = rw (judged, suc-sub-one n) refl
+
+    pub cycle_starts_is : cycle_starts t span (suc n) ≡ falls_between old new AS
+    unfolding cycle_starts
+    cycle_starts_is = rw (judged, falls_is AS) refl
+
+    -- both strobes are high where no transfer is open
+    pub high_is : (p : TransferPhase) → IsTransferPhase t span n p → strobes_high_in old ≡ is_closed p
+    unfolding high
+    high_is Closed says = says
+    high_is Reading says = says.1.still n says.1.within (omega arith)
+    high_is Writing says = says.1.still n says.1.within (omega arith)
+    high_is Answered says = says.2.still n says.2.within (omega arith)
+
+    pub answer_is : (m : Holding) → Holds n m → is_answer t span (suc n) ≡ answers_in m old new
+    answer_is m h =
+        is_answer_is t span reads n from before h.state h.says
+        ∙ rw (
+          unanswered_is h.state (strobes_high_in old) (strobe_low_in new) (is_low (level_at new WRITE))
+              (high_is h.state h.says),
+          h.transfer,
+        ) refl
+
+    runs_more : (i : ℕ) → i ≤ n → cycle_runs t span i (suc n) ≡ (cycle_runs t span i n && not (rises t AS (suc n)))
+    unfolding cycle_runs
+    runs_more i h = none_more (rises t AS) (i + 1) n (omega arith)
+
+    runs_here : cycle_runs t span (suc n) (suc n) ≡ true
+    unfolding cycle_runs
+    runs_here = none_empty (rises t AS) (suc n + 1)
+
+    -- the address is held on where the cycle runs on and no answer comes
+    pub address_more : (i : ℕ) → span.start + 1 ≤ i → i ≤ n → holds_address (suc n) i
+        ≡ (holds_address n i && (not (rises t AS (suc n)) && not (is_answer t span (suc n))))
+    address_more i a b = rw (runs_more i b, none_more (is_answer t span) i n (omega arith))
+        (regroup (cycle_starts t span i) (cycle_runs t span i n) (not (rises t AS (suc n)))
+        (none (is_answer t span) i (n + 1)) (not (is_answer t span (suc n))))
+      where
+        regroup : (a b c d e : Bool) → (a && (b && c) && (d && e)) ≡ ((a && b && d) && (c && e))
+        regroup false b c d e = refl
+        regroup true false c d e = refl
+        regroup true true true d e = refl
+        regroup true true false true e = refl
+        regroup true true false false e = refl
+
+    address_here : holds_address (suc n) (suc n) ≡ (falls_between old new AS && not (is_answer t span (suc n)))
+    address_here = rw (cycle_starts_is, runs_here, none_one (is_answer t span) (suc n))
+        (no_test (falls_between old new AS) (not (is_answer t span (suc n))))
+      where
+        no_test : (a b : Bool) → (a && true && b) ≡ (a && b)
+        no_test true b = refl
+        no_test false b = refl
+
+    pub direction_more : (i : ℕ) → span.start + 1 ≤ i → i ≤ n → holds_direction (suc n) i
+        ≡ (holds_direction n i && not (strobe_rises t (suc n)))
+    direction_more i a b = rw (none_more (strobe_rises t) (i + 1) n (omega arith)) (regroup (transfer_starts t span i)
+        (none (strobe_rises t) (i + 1) (n + 1)) (not (strobe_rises t (suc n))))
+      where
+        regroup : (a b c : Bool) → (a && (b && c)) ≡ ((a && b) && c)
+        regroup true b c = refl
+        regroup false b c = refl
+
+    direction_here : holds_direction (suc n) (suc n) ≡ starts_between old new
+    direction_here = rw (transfer_starts_is, none_empty (strobe_rises t) (suc n + 1)) (no_test (starts_between old new))
+      where
+        no_test : (a : Bool) → (a && true) ≡ a
+        no_test true = refl
+        no_test false = refl
+
+    -- what is held up to the instant itself
+    pub keeps_address_is : (m : Holding) → Holds n m → keeps_address m old new ≡ any (holds_address (suc n))
+        (span.start + 1) (suc n)
+    keeps_address_is m h =
+        regroup (awaits_answer m old) (rises_between old new AS) (answers_in m old new)
+        ∙ sym (lasts_on (holds_address n) (holds_address (suc n)) (not (rises t AS (suc n))
+        && not (is_answer t span (suc n))) (span.start + 1) n (omega arith) address_more
+        ∙ rw (rises_is AS, answer_is m h, ← h.address) refl)
+      where
+        regroup : (a b c : Bool) → (a && not b && not c) ≡ (a && (not b && not c))
+        regroup true b c = refl
+        regroup false b c = refl
+
+    pub keeps_direction_is : (m : Holding) → Holds n m → keeps_direction m old new ≡ any (holds_direction (suc n))
+        (span.start + 1) (suc n)
+    keeps_direction_is m h =
+        sym (lasts_on (holds_direction n) (holds_direction (suc n)) (not (strobe_rises t (suc n))) (span.start + 1) n
+        (omega arith) direction_more ∙ rw (strobe_rises_is, ← h.direction) refl)
+
+    address_next : (m : Holding) → Holds n m
+        → (keeps_address m old new || (falls_between old new AS && not (answers_in m old new)))
+        ≡ any (holds_address (suc n)) (span.start + 1) (suc n + 1)
+    address_next m h =
+        rw (keeps_address_is m h, ← answer_is m h) (sym (any-step (holds_address (suc n)) (span.start + 1) (suc n)
+        ∙ rw (le_holds (span.start + 1) (suc n) (omega arith), address_here) refl))
+
+    awaits_next : (x y : Level) (a u : Bool) → is_known x ≡ true → is_known y ≡ true → (is_low x ≡ false → a ≡ false)
+        → (is_low y && not (is_low y && (a || u))) ≡ (((is_low x && not a) && not (is_low x && is_high y) && not u) ||
+        ((is_high x && is_low y) && not u))
+    awaits_next Low Low true u k j idle = refl
+    awaits_next Low Low false true k j idle = refl
+    awaits_next Low Low false false k j idle = refl
+    awaits_next Low High true u k j idle = refl
+    awaits_next Low High false u k j idle = refl
+    awaits_next High Low true u k j idle = absurd (clash true refl (idle refl))
+    awaits_next High Low false u k j idle = refl
+    awaits_next High High a u k j idle = refl
+    awaits_next Unknown y a u k j idle = absurd (cc)
+    awaits_next Low Unknown a u k j idle = absurd (cc)
+    awaits_next High Unknown a u k j idle = absurd (cc)
+
+    direction_next : (m : Holding) → Holds n m → (keeps_direction m old new || starts_between old new)
+        ≡ any (holds_direction (suc n)) (span.start + 1) (suc n + 1)
+    direction_next m h =
+        rw (keeps_direction_is m h) (sym (any-step (holds_direction (suc n)) (span.start + 1) (suc n)
+        ∙ rw (le_holds (span.start + 1) (suc n) (omega arith), direction_here) refl))
+
+    abbrev answered_now : Holding → Bool
+    answered_now m = not (strobes_high_in new) && (was_answered m.transfer || answer_between old new)
+
+    abbrev risen_now : Holding → Bool
+    risen_now m = not (strobes_high_in new) && (has_risen m.transfer || strobe_rises_between old new)
+
+    abbrev writing_now : Holding → Bool
+    writing_now m = writes_of m.transfer (is_low (level_at old WRITE))
+
+    high_old : transfer_starts t span (suc n) ≡ true → strobes_high_in old ≡ true
+    high_old s = (and_true (strobes_high_in old) (strobe_low_in new) (sym transfer_starts_is ∙ s)).0
+
+    last_or_before : (i : ℕ) → i ≤ suc n → (i ≡ suc n) ⊎ (i ≤ n)
+    last_or_before i h = grind arith
+
+    -- no strobe has risen in the transfer that is open
+    fresh_next : (m : Holding) → Holds n m → (i : ℕ) → i ≤ suc n → transfer_starts t span i ≡ true
+        → ((r : ℕ) → i ≤ r → r ≤ suc n → strobes_high t r ≡ false) → none (strobe_rises t) (i + 1) (suc n + 1)
+        ≡ not (risen_now m)
+    unfolding high
+    fresh_next m h i a s low =
+        elim (last_or_before i a) [
+          | inl e ↦
+              rw e
+              (none_empty (strobe_rises t) (suc n + 1)
+              ∙ fresh_here (strobes_high_in new) (has_risen m.transfer) (strobe_rises_between old new)
+              (h.closed (high_old (rw e at s)))
+              (no_rise (level_at old DS0) (level_at old DS1) (level_at new DS0) (level_at new DS1)
+              (high_old (rw e at s))))
+          | inr b ↦
+              none_more (strobe_rises t) (i + 1) n (omega arith)
+              ∙ rw (h.fresh i b s (λ r x y. low r x (omega arith)), strobe_rises_is)
+              (fresh_more (strobes_high_in new) (has_risen m.transfer) (strobe_rises_between old new)
+              (low (suc n) a (omega arith)))
+        ]
+
+    -- so the memory says the same one instant later, where the direction stays while it is held
+    pub holds_next : (break_before t span stability_rules (suc (suc n)) ≡ None → break_before t span stability_rules
+        (suc n) ≡ None)
+        → ((m : Holding) → Holds n m → break_before t span stability_rules (suc (suc n)) ≡ None → keeps_direction m old
+        new ≡ true → is_low (level_at new WRITE) ≡ is_low (level_at old WRITE))
+        → ((l : ℕ) → l < 3 → is_known (level_at old l) ≡ true) → ((l : ℕ) → l < 3 → is_known (level_at new l) ≡ true)
+        → (m : Holding) → Holds n m → Holds (suc n) (stepped m old new)
+    holds_next earlier stays known_old known_new m h =
+        let low_new = low_is (level_at new DS0) (level_at new DS1) (known_new DS0 (omega arith))
+        (known_new DS1 (omega arith)) in
+        record {
+          state = tracked h.state old new;
+          says = tracked_is t span reads n from before h.state h.says;
+          transfer = answered_next h.state (strobes_high_in old) (strobe_low_in new) (is_low (level_at new WRITE))
+              (strobes_high_in new) (answer_between old new) (high_is h.state h.says) low_new
+              ∙ rw h.transfer (sym (was_passed (answered_now m) (risen_now m) (writing_now m)));
+          closed = λ highs. risen_passed (answered_now m) (risen_now m) (writing_now m) ∙ rw highs refl;
+          fresh = λ i a s low. fresh_next m h i a s low
+              ∙ ap not (sym (risen_passed (answered_now m) (risen_now m) (writing_now m)));
+          directed = λ unbroken low.
+              directed_by h.state m.transfer (strobes_high_in old) (strobe_low_in new) (strobes_high_in new)
+              (answer_between old new) (strobe_rises_between old new)
+              (is_low (level_at old WRITE)) (is_low (level_at new WRITE)) (high_is h.state h.says) low_new low
+              h.transfer h.closed
+              (no_rise (level_at old DS0) (level_at old DS1) (level_at new DS0) (level_at new DS1))
+              (h.directed (earlier unbroken)) (stays m h unbroken);
+          idle = λ off. rw off refl;
+          address = awaits_next (level_at old AS) (level_at new AS) m.cycle_answered (answers_in m old new)
+              (known_old AS (omega arith)) (known_new AS (omega arith)) h.idle ∙ address_next m h;
+          direction =
+              rw (risen_passed (answered_now m) (risen_now m) (writing_now m))
+              (unturned_next (strobes_high_in old) (strobes_high_in new) (strobe_low_in new)
+              (strobe_rises_between old new) (has_risen m.transfer) h.closed
+              (no_rise (level_at old DS0) (level_at old DS1) (level_at new DS0) (level_at new DS1)) low_new
+              (high_before old new (known_old DS0 (omega arith)) (known_old DS1 (omega arith)))
+              ∙ direction_next m h);
+        }

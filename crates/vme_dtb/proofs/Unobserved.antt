@@ -1,0 +1,121 @@
+-- Where nothing is observed in a step, it changes nothing that is remembered and breaks no rule.
+use Rattle.std.proofs.Common.{◌≡◌, ℕ, suc, ◌<◌, ◌≤◌, Bool, true, false, ◌||◌, ◌&&◌, not, List, refl, sym, ◌∙◌, arith}
+use Rattle.std.proofs.Common.{cond, lit<}
+use Rattle.std.specs.Prelude.{Option, None, Some}
+use Rattle.std.specs.Option.{is_some, option_or}
+use Rattle.vme_trace.specs.Edges.{answer_between, rises_between, strobe_low_in, strobe_rises_between, strobes_high_in}
+use Rattle.vme_trace.specs.LineNumbers.{AS, DS0, DS1, WRITE}
+use Rattle.vme_trace.specs.Levels.{Levels, level_at, is_low, is_high, is_known}
+use Rattle.vme_trace.specs.Trace.{Trace, levels_at}
+use Rattle.vme_trace.specs.Judged.{Stretch}
+use Rattle.vme_trace.specs.declared.level.Level.{Level}
+use Rattle.vme_trace.specs.declared.level.Level.TheVariants.{Low, High, Unknown}
+use Rattle.vme_trace.specs.declared.rule.Rule.TheVariants.{S1, S2}
+use Rattle.vme_trace.specs.declared.step.Change.{Change}
+use Rattle.vme_trace.proofs.Ranges.{clash}
+use Rattle.vme_monitor.specs.Run.{quiet}
+use Rattle.vme_monitor.specs.declared.tracking.TransferPhase.{TransferPhase}
+use Rattle.vme_monitor.specs.declared.tracking.TransferPhase.TheVariants.{Closed, Reading, Writing, Answered}
+use Rattle.vme_monitor.proofs.SpanFacts.{IsSpan}
+use Rattle.vme_dtb.specs.StabilityRules.{address_moved, changes_holding, direction_turned, fault_on}
+use Rattle.vme_dtb.specs.StabilityRules.{faults_unknown, held_fault, is_observed, keeps_address, keeps_direction}
+use Rattle.vme_dtb.specs.StabilityRules.{observation_of, shifted_line, stability_next, stepped, undriven_line}
+use Rattle.vme_dtb.specs.declared.holding.Holding.{Holding}
+use Rattle.vme_dtb.specs.HoldingNumbers.{has_risen, was_answered}
+use Rattle.vme_dtb.proofs.ChangedLines.{or_false}
+use Rattle.vme_dtb.proofs.StabilityMeaning.{Holds, high_before, high_is}
+use Rattle.vme_dtb.proofs.Progressing.{is_answered_state, is_closed, passed_same}
+
+none_of : {A : Type 0} (o : Option A) → is_some o ≡ false → o ≡ None
+none_of None h = refl
+none_of (Some x) h = absurd (cc)
+
+same_answered : (x y : Level) (a u : Bool) → is_known y ≡ true → (is_low x ≡ false → a ≡ false)
+    → (is_low x && is_high y) ≡ false → (is_low y && (a || (u && false))) ≡ a
+same_answered x Unknown a u k idle r = absurd (cc)
+same_answered x High false u k idle r = refl
+same_answered x Low false true k idle r = refl
+same_answered x Low false false k idle r = refl
+same_answered x Low true u k idle r = refl
+same_answered Low High true u k idle r = absurd (cc)
+same_answered High High true u k idle r = sym (idle refl)
+same_answered Unknown High true u k idle r = sym (idle refl)
+
+same_open : (b a : Bool) → (b ≡ true → a ≡ false) → (not b && (a || false)) ≡ a
+same_open true a off = sym (off refl)
+same_open false true off = refl
+same_open false false off = refl
+
+-- where a step changes nothing that is remembered
+same_memory : (v w : Levels) (m : Holding) → answer_between v w ≡ false → strobe_rises_between v w ≡ false
+    → rises_between v w AS ≡ false
+    → (strobes_high_in w ≡ true → was_answered m.transfer ≡ false) → (strobes_high_in w ≡ true → has_risen m.transfer
+    ≡ false) → (is_low (level_at v AS) ≡ false → m.cycle_answered ≡ false) → is_known (level_at w AS) ≡ true
+    → stepped m v w ≡ m
+same_memory v w m answer strobe address closed still idle known =
+    rw (answer, strobe)
+    (rw (
+      same_open (strobes_high_in w) (was_answered m.transfer) closed,
+      same_open (strobes_high_in w) (has_risen m.transfer) still,
+      passed_same m.transfer (is_low (level_at v WRITE)),
+      same_answered (level_at v AS) (level_at w AS) m.cycle_answered (not (was_answered m.transfer)
+          && (not (strobes_high_in v) || strobe_low_in w)) known idle address,
+    )
+    refl)
+
+none_held : (v w : Levels) (m : Holding) (cs : List Change) → address_moved v cs ≡ None → direction_turned v w ≡ false
+    → held_fault m v w (observation_of v w cs) ≡ None
+none_held v w m cs moved turned = rw (moved, turned) (by_tests (keeps_address m v w) (keeps_direction m v w))
+  where
+    by_tests : (a b : Bool) → option_or (fault_on S1 (cond a None None))
+        (fault_on S2 (cond (b && false) (Some WRITE) None)) ≡ None
+    by_tests true true = refl
+    by_tests true false = refl
+    by_tests false true = refl
+    by_tests false false = refl
+
+module _ (t : Trace) (span : Stretch) (facts : IsSpan t span) (n : ℕ) (from : span.start ≤ n)
+    (before : suc n < span.end) where
+  abbrev old : Levels
+  old = levels_at t n
+
+  abbrev new : Levels
+  new = levels_at t (suc n)
+
+  -- no transfer is open where both strobes are high
+  closed_there : (p : TransferPhase) → strobes_high_in old ≡ is_closed p → strobes_high_in old ≡ true
+      → is_answered_state p
+      ≡ false
+  closed_there Closed e h = refl
+  closed_there Reading e h = refl
+  closed_there Writing e h = refl
+  closed_there Answered e h = absurd (clash (strobes_high_in old) h e)
+
+  pub quiet_there : (m : Holding) (cs : List Change) → Holds t span n m → is_observed old new cs ≡ false
+      → stability_next m old new (observation_of old new cs) ≡ quiet m
+  quiet_there m cs holds h =
+      let all = or_false (is_some (faults_unknown old new) || is_some (address_moved old cs) || direction_turned old new
+      || changes_holding old new || is_some (undriven_line old new)) (is_some (shifted_line old new cs)) h in
+      let most = or_false (is_some (faults_unknown old new) || is_some (address_moved old cs) || direction_turned old
+      new || changes_holding old new) (is_some (undriven_line old new)) all.0 in
+      let held = or_false (is_some (faults_unknown old new) || is_some (address_moved old cs) || direction_turned old
+      new) (changes_holding old new) most.0 in
+      let turned = or_false (is_some (faults_unknown old new) || is_some (address_moved old cs))
+      (direction_turned old new) held.0 in
+      let moved = or_false (is_some (faults_unknown old new)) (is_some (address_moved old cs)) turned.0 in
+      let address = or_false (answer_between old new || strobe_rises_between old new) (rises_between old new AS)
+      held.1 in
+      let strobe = or_false (answer_between old new) (strobe_rises_between old new) address.0 in
+      let highs = high_before old new (facts.known n DS0 from (omega arith) (lit< tt) refl)
+      (facts.known n DS1 from (omega arith) (lit< tt) refl) strobe.1 in
+      rw (
+        none_of (faults_unknown old new) moved.0,
+        none_of (undriven_line old new) most.1,
+        none_of (shifted_line old new cs) all.1,
+        none_held old new m cs (none_of (address_moved old cs) moved.1) turned.1,
+        same_memory old new m strobe.0 strobe.1 address.1
+            (λ h. sym holds.transfer ∙ closed_there holds.state (high_is t span facts.reads n from before holds.state
+            holds.says) (highs h))
+            (λ h. holds.closed (highs h)) holds.idle (facts.known (suc n) AS (omega arith) before (lit< tt) refl),
+      )
+      refl

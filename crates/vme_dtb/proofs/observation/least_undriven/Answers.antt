@@ -1,0 +1,45 @@
+-- A line that was looked at is undriven where it is moved and not known.
+use Rattle.std.proofs.Common.{ℕ, ◌+◌, ◌∙◌, ap, sym, arith, Some}
+use Rattle.vme_trace.specs.Instants.{every}
+use Rattle.vme_trace.specs.Levels.{is_known, is_known_on}
+use Rattle.vme_trace.specs.LineNumbers.{D}
+use Rattle.vme_dtb.proofs.UndrivenLines.{next_line, not_moved, not_unknown, undriven_first, undriven_here}
+use Rattle.vme_dtb.proofs.UndrivenLines.{undriven_known, undriven_more, undriven_none, undriven_there}
+use Rattle.vme_dtb.proofs.observation.least_undriven.Goals as goal
+
+pub loop-bit-init : goal.loop-bit-init
+loop-bit-init c = undriven_first c.args.lines.now
+
+pub returns-then-is_selected : goal.returns-then-is_selected
+returns-then-is_selected c =
+    let n = D c.loop-bit.bit in
+    ap Some c.data-line.ensures
+    ∙ sym
+    (undriven_here c.args.lines.now n (omega arith) c.loop-bit.invariant
+    (undriven_there c.args.lines.now n c.data-line.result c.data-line.ensures (sym c.is_selected.ensures
+    ∙ c.if-is_selected.true)
+    (ap is_known (sym c.level.ensures) ∙ (sym c.is_known.ensures ∙ c.if-not-is_known.true))))
+
+pub loop-bit-preserved : goal.loop-bit-preserved
+loop-bit-preserved c = next_line c.args.lines.now c.loop-bit.bit (undriven_more c.args.lines.now (D c.loop-bit.bit)
+    c.loop-bit.invariant (elim c.else-not-is_known.branch [
+      | goal.else-not-is_known-via-then-not-is_known+else-is_selected w ↦
+          not_moved c.args.lines.now (D c.loop-bit.bit) c.data-line.result c.data-line.ensures
+          (sym w.is_selected.ensures
+          ∙ w.if-is_selected.false)
+      | goal.else-not-is_known-via-else-not-is_known w ↦
+          not_unknown c.args.lines.now (D c.loop-bit.bit) c.data-line.result c.data-line.ensures
+          (ap is_known (sym c.level.ensures) ∙ (sym c.is_known.ensures ∙ w.if-not-is_known.false))
+    ]))
+
+pub returns : goal.returns
+returns c = sym (undriven_none c.args.lines.now (D c.loop-bit.bit) (omega arith) c.loop-bit.invariant)
+
+pub returns-then-are_known : goal.returns-then-are_known
+returns-then-are_known c =
+    let lines = c.args.lines.now in
+    sym
+    (undriven_known lines
+    (ap (λ (n : ℕ). every (is_known_on lines) n 191) (sym c.data.ensures)
+    ∙ (ap (λ (n : ℕ). every (is_known_on lines) c.data.result (n + 1)) (sym c.data-2.ensures)
+    ∙ (sym c.are_known.ensures ∙ c.if-are_known.true))))

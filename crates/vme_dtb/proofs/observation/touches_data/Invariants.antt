@@ -1,0 +1,8 @@
+use Rattle.std.proofs.Common.{◌≡◌, drop}
+use Rattle.vme_trace.specs.Levels.{Levels}
+use Rattle.vme_dtb.specs.StabilityRules.{first_among, is_shifted}
+use Rattle.vme_dtb.proofs.observation.touches_data.Given as goal
+
+abbrev pub invariant-loop-change : goal.invariant-loop-change
+invariant-loop-change l = (v w : Levels) → first_among (is_shifted v w) (drop l.change-index l.changes)
+    ≡ first_among (is_shifted v w) l.changes

@@ -1,0 +1,11 @@
+use Rattle.std.proofs.Common.{◌≡◌, drop}
+use Rattle.vme_trace.specs.Cycle.{Needs}
+use Rattle.vme_trace.specs.Levels.{Levels}
+use Rattle.vme_dtb.specs.StabilityRules.{first_among, first_needed, is_shifted}
+use Rattle.vme_dtb.proofs.observation.touches_others.Given as goal
+
+abbrev pub invariant-loop-change : goal.invariant-loop-change
+invariant-loop-change l =
+    ((needs : Needs) → first_needed needs (drop l.change-index l.changes) ≡ first_needed needs l.changes)
+    × ((v w : Levels) → first_among (is_shifted v w) (drop l.change-index l.changes) ≡ first_among (is_shifted v w)
+    l.changes)

@@ -1,0 +1,196 @@
+-- What a step shows of the lines that are asked for and held, from the levels on both sides of it and its changes.
+use Rattle.std.specs.Prelude.{ℕ, Bool, false, not, ◌&&◌, ◌||◌, List, [], ◌∷◌, Option, None, Some, if◌then◌else◌}
+use Rattle.std.specs.Option.{option_or, is_some}
+use Rattle.vme_trace.specs.Edges.{answer_between, falls_between, rises_between, starts_between, strobe_falls_between}
+use Rattle.vme_trace.specs.Edges.{strobe_low_in, strobe_rises_between, strobes_high_in}
+use Rattle.vme_trace.specs.Instants.{least}
+use Rattle.vme_trace.specs.LineNumbers.{line_count, AS, WRITE, has_line}
+use Rattle.vme_trace.specs.Levels.{Levels, level_at, is_low, is_known_on, same_level}
+use Rattle.vme_trace.specs.Data.{is_selected}
+use Rattle.vme_trace.specs.Cycle.{Needs, is_needed, is_within, needs_of}
+use Rattle.vme_trace.specs.Judged.{Stretch}
+use Rattle.vme_trace.specs.Trace.{Trace}
+use Rattle.vme_trace.specs.declared.step.Change.{Change}
+use Rattle.vme_trace.specs.declared.rule.Rule.{Rule}
+use Rattle.vme_trace.specs.declared.rule.Rule.TheVariants.{U2, U3, U4, S1, S2, S3}
+use Rattle.vme_monitor.specs.Run.{no_step_marks}
+use Rattle.vme_monitor.specs.declared.mark.Fault.{Fault}
+use Rattle.vme_monitor.specs.declared.mark.StepMarks.{StepMarks}
+use Rattle.vme_monitor.specs.declared.mark.Next.{Next}
+use Rattle.vme_dtb.specs.HoldingNumbers.{has_risen, passed, was_answered, writes_of}
+use Rattle.vme_dtb.specs.declared.holding.Holding.{Holding}
+use Rattle.vme_dtb.specs.declared.holding.TransferState.{TransferState}
+use Rattle.vme_dtb.specs.declared.holding.TransferState.TheVariants.{Fresh}
+use Rattle.vme_dtb.specs.declared.observation.HoldingObservation.{HoldingObservation}
+
+abbrev pub stability_rules : List Rule
+stability_rules = U2 ∷ U3 ∷ U4 ∷ S1 ∷ S2 ∷ S3 ∷ []
+
+abbrev pub fault_at : Rule → ℕ → Fault
+fault_at r l = record { rule = r; line = l }
+
+abbrev pub fault_on : Rule → Option ℕ → Option Fault
+fault_on r None = None
+fault_on r (Some l) = Some (fault_at r l)
+
+-- a cycle that starts at these levels needs the line, and nothing is known of it
+abbrev pub lacks : Levels → ℕ → Bool
+lacks w l = is_needed w l && not (is_known_on w l)
+
+abbrev pub unknown_need : Levels → Option ℕ
+unknown_need w = least (lacks w) 0 line_count
+
+abbrev pub unknown_address : Levels → Levels → Option ℕ
+unknown_address v w = if falls_between v w AS then unknown_need w else None
+
+abbrev pub unknown_direction : Levels → Levels → Option ℕ
+unknown_direction v w = if starts_between v w && not (is_known_on w WRITE) then Some WRITE else None
+
+-- the first rule that a line breaks which isn't known as it is asked for
+abbrev pub faults_unknown : Levels → Levels → Option Fault
+faults_unknown v w = option_or (fault_on U2 (unknown_address v w)) (fault_on U3 (unknown_direction v w))
+
+-- a transfer at these levels moves the line, and nothing is known of it
+abbrev pub is_undriven : Levels → ℕ → Bool
+is_undriven w l = is_selected w l && not (is_known_on w l)
+
+-- the transfer may be a write: it was open, or WRITE* is low as it starts
+abbrev pub may_write : Levels → Levels → Bool
+may_write v w = not (strobes_high_in v) || is_low (level_at w WRITE)
+
+-- the least data line of which nothing is known, where a strobe falls that may be a write's
+abbrev pub undriven_line : Levels → Levels → Option ℕ
+undriven_line v w = if strobe_falls_between v w && may_write v w then least (is_undriven w) 0 line_count else None
+
+-- the first changed line that has a property
+abbrev pub first_among : (ℕ → Bool) → List Change → Option ℕ
+first_among p [] = None
+first_among p (c ∷ cs) = if p c.line then Some c.line else first_among p cs
+
+-- the first changed line of a set
+abbrev pub first_needed : Needs → List Change → Option ℕ
+first_needed needs cs = first_among (is_within needs) cs
+
+-- a transfer moved the line before the step, and the line has another level after it
+abbrev pub is_shifted : Levels → Levels → ℕ → Bool
+is_shifted v w l = has_line v.slots l && has_line w.slots l
+    && (is_selected v l && not (same_level (level_at v l) (level_at w l)))
+
+-- the first changed one, if the transfer was a write by what WRITE* showed
+abbrev pub shifted_line : Levels → Levels → List Change → Option ℕ
+shifted_line v w cs = if is_low (level_at v WRITE) then first_among (is_shifted v w) cs else None
+
+-- the first changed line that a cycle needs whose address strobe was low before
+abbrev pub address_moved : Levels → List Change → Option ℕ
+address_moved v cs = if is_low (level_at v AS) then first_needed (needs_of v) cs else None
+
+abbrev pub direction_turned : Levels → Levels → Bool
+direction_turned v w = not (same_level (level_at v WRITE) (level_at w WRITE))
+
+-- what is remembered may change: an answer comes, or a strobe rises
+abbrev pub changes_holding : Levels → Levels → Bool
+changes_holding v w = answer_between v w || strobe_rises_between v w || rises_between v w AS
+
+abbrev pub observation_of : Levels → Levels → List Change → HoldingObservation
+observation_of v w cs = record {
+  unknown = faults_unknown v w;
+  undriven = undriven_line v w;
+  moved = address_moved v cs;
+  turned = direction_turned v w;
+  shifted = shifted_line v w cs;
+}
+
+-- nothing that counts has changed where none of these holds
+abbrev pub is_observed : Levels → Levels → List Change → Bool
+is_observed v w cs = is_some (faults_unknown v w) || is_some (address_moved v cs) || direction_turned v w
+    || changes_holding v w || is_some (undriven_line v w) || is_some (shifted_line v w cs)
+
+abbrev pub stability_observation : Levels → Levels → List Change → Option HoldingObservation
+stability_observation v w cs = if is_observed v w cs then Some (observation_of v w cs) else None
+
+-- the answer of a transfer comes
+abbrev pub answers_in : Holding → Levels → Levels → Bool
+answers_in m v w = not (was_answered m.transfer) && (not (strobes_high_in v) || strobe_low_in w) && answer_between v w
+
+-- a cycle runs that has had no answer
+abbrev pub awaits_answer : Holding → Levels → Bool
+awaits_answer m v = is_low (level_at v AS) && not m.cycle_answered
+
+-- the lines that a cycle needs are held on
+abbrev pub keeps_address : Holding → Levels → Levels → Bool
+keeps_address m v w = awaits_answer m v && not (rises_between v w AS) && not (answers_in m v w)
+
+-- a transfer is open in which no strobe has risen
+abbrev pub holds_direction : Holding → Levels → Bool
+holds_direction m v = not (strobes_high_in v) && not (has_risen m.transfer)
+
+-- the direction is held on
+abbrev pub keeps_direction : Holding → Levels → Levels → Bool
+keeps_direction m v w = holds_direction m v && not (strobe_rises_between v w)
+
+-- the data lines of a write are held on: nothing has come of the transfer
+abbrev pub keeps_data : Holding → Levels → Levels → Bool
+keeps_data m v w = keeps_direction m v w && not (was_answered m.transfer) && not (answer_between v w)
+
+-- the transfer in which the instant after the step is, is a write that had no answer before
+abbrev pub writes_now : Holding → Levels → Levels → Bool
+writes_now m v w = if strobes_high_in v then strobe_low_in w
+    && is_low (level_at w WRITE) else writes_of m.transfer (is_low (level_at v WRITE))
+
+-- what has come of the transfer after a step
+abbrev pub passed_in : Holding → Levels → Levels → TransferState
+passed_in m v w =
+    passed (not (strobes_high_in w) && (was_answered m.transfer || answer_between v w))
+    (not (strobes_high_in w) && (has_risen m.transfer || strobe_rises_between v w))
+    (writes_of m.transfer (is_low (level_at v WRITE)))
+
+abbrev pub stepped : Holding → Levels → Levels → Holding
+stepped m v w =
+    record {
+      transfer = passed_in m v w;
+      cycle_answered = is_low (level_at w AS) && (m.cycle_answered || answers_in m v w);
+    }
+
+abbrev pub moved_fault : Holding → Levels → Levels → HoldingObservation → Option ℕ
+moved_fault m v w seen = if keeps_address m v w then seen.moved else None
+
+abbrev pub turned_fault : Holding → Levels → Levels → HoldingObservation → Option ℕ
+turned_fault m v w seen = if keeps_direction m v w && seen.turned then Some WRITE else None
+
+-- the first rule that a change of a held line breaks
+abbrev pub held_fault : Holding → Levels → Levels → HoldingObservation → Option Fault
+held_fault m v w seen = option_or (fault_on S1 (moved_fault m v w seen)) (fault_on S2 (turned_fault m v w seen))
+
+-- a line, where a test holds
+abbrev pub kept : Bool → Option ℕ → Option ℕ
+kept b None = None
+kept b (Some l) = if b then Some l else None
+
+abbrev pub undriven_fault : Holding → Levels → Levels → HoldingObservation → Option ℕ
+undriven_fault m v w seen = kept (writes_now m v w) seen.undriven
+
+abbrev pub shifted_fault : Holding → Levels → Levels → HoldingObservation → Option ℕ
+shifted_fault m v w seen = kept (keeps_data m v w) seen.shifted
+
+-- the first rule that the step breaks
+abbrev pub fault_in : Holding → Levels → Levels → HoldingObservation → Option Fault
+fault_in m v w seen =
+    option_or seen.unknown
+    (option_or (fault_on U4 (undriven_fault m v w seen))
+    (option_or (held_fault m v w seen) (fault_on S3 (shifted_fault m v w seen))))
+
+abbrev pub stability_begin : Levels → Holding
+stability_begin v = record { transfer = Fresh; cycle_answered = false }
+
+abbrev pub stability_start_marks : Levels → StepMarks
+stability_start_marks v = no_step_marks
+
+abbrev pub stability_end_fault : ℕ → Option Fault
+stability_end_fault l = None
+
+abbrev pub stability_next : Holding → Levels → Levels → HoldingObservation → Next Holding
+stability_next m v w seen = record { memory = stepped m v w; fault = fault_in m v w seen; shown = no_step_marks }
+
+-- nothing is shown
+abbrev pub stability_shown : Trace → Stretch → ℕ → StepMarks
+stability_shown t span j = no_step_marks

@@ -1,0 +1,252 @@
+//! What a step shows of the lines that are asked for and held, whatever is remembered.
+
+ghost use Rattle.std.specs.Prelude.{◌≡◌, None, false, true};
+ghost use Rattle.vme_trace.specs.Cycle.{Needs};
+ghost use Rattle.vme_trace.specs.Instants.{least};
+ghost use Rattle.vme_trace.specs.Levels.{Levels};
+ghost use Rattle.vme_trace.specs.LineNumbers.{line_count};
+ghost use Rattle.vme_dtb.specs.StabilityRules.{address_moved, changes_holding as changes_holding_of};
+ghost use Rattle.vme_dtb.specs.StabilityRules.{fault_on as fault_on_line, faults_unknown, first_among};
+ghost use Rattle.vme_dtb.specs.StabilityRules.{first_needed as first_needed_of, is_shifted, is_undriven};
+ghost use Rattle.vme_dtb.specs.StabilityRules.{may_write as may_write_of, shifted_line as shifted_line_of};
+ghost use Rattle.vme_dtb.specs.StabilityRules.{undriven_line as undriven_line_of};
+ghost use Rattle.vme_dtb.specs.StabilityRules.{unknown_direction as unknown_direction_of, unknown_need};
+
+use vme_monitor::mark::Fault;
+use vme_trace::edges::{
+    answer_falls, falls, has_strobes_high, rises, starts_transfer, strobe_falls, strobe_rises,
+};
+use vme_trace::{Change, Line, Lines, NeededLines, Rule, is_selected, needed};
+
+/// What one step shows.
+#[derive(Clone, Copy, Debug)]
+pub struct HoldingObservation {
+    /// A line is unknown that is asked for at this step.
+    pub unknown: Option<Fault>,
+    /// A data strobe falls, and this is the least line of which nothing is known that the transfer moves, which may be
+    /// a write.
+    pub undriven: Option<Line>,
+    /// The first changed line that a cycle needs whose address strobe was low before.
+    pub moved: Option<Line>,
+    /// WRITE* changes.
+    pub turned: bool,
+    /// The first changed line that a transfer moved before, which may be a write.
+    pub shifted: Option<Line>,
+}
+
+/// A rule that is broken on a line, if there is one.
+pub(crate) fn fault_on(rule: Rule, line: Option<Line>) -> Option<Fault>
+    ensures { result ≡ fault_on_line rule line }
+{
+    match line {
+        Some(line) => Some(Fault { rule, line }),
+        None => None,
+    }
+}
+
+/// The least line of which nothing is known, among those that a cycle needs whose address strobe falls at these levels.
+fn unknown_needed(lines: &Lines) -> Option<Line>
+    ensures { result ≡ unknown_need lines.now }
+{
+    if lines.are_known(Line::IACK, Line::address(31)) {
+        return None;
+    }
+    let needed = needed(lines);
+    for number in 5..45 {
+        if let Some(line) = Line::from_number(number) {
+            if !lines.level(line).is_known() && needed.has(line) {
+                return Some(line);
+            }
+        }
+    }
+    None
+}
+
+/// WRITE*, where a transfer starts and WRITE* is unknown.
+fn unknown_direction(before: &Lines, after: &Lines) -> Option<Line>
+    ensures { result ≡ unknown_direction_of before.now after.now }
+{
+    if !after.level(Line::WRITE).is_known() && starts_transfer(before, after) {
+        Some(Line::WRITE)
+    } else {
+        None
+    }
+}
+
+/// The rule that is broken by a line that isn't known as it is asked for.
+#[inline(always)]
+fn fault_of_unknown(before: &Lines, after: &Lines) -> Option<Fault>
+    ensures { result ≡ faults_unknown before.now after.now }
+{
+    if falls(before, after, Line::AS) {
+        if let Some(line) = unknown_needed(after) {
+            return Some(Fault {
+                rule: Rule::U2,
+                line,
+            });
+        }
+    }
+    fault_on(Rule::U3, unknown_direction(before, after))
+}
+
+/// The first changed line of a set.
+fn first_needed(needed: &NeededLines, changes: &[Change]) -> Option<Line>
+    ensures { result ≡ first_needed_of needed.now changes.now }
+{
+    for change in changes {
+        if needed.has(change.line) {
+            return Some(change.line);
+        }
+    }
+    None
+}
+
+/// Whether another line than AS*, the strobes and the answers is among the changes: no cycle needs those, and no
+/// transfer moves them.
+fn touches_others(changes: &[Change]) -> bool
+    ensures needed { result ≡ false → (needs : Needs) → first_needed_of needs changes.now ≡ None }
+    ensures moved { result ≡ false → (v w : Levels) → first_among (is_shifted v w) changes.now ≡ None }
+{
+    for change in changes {
+        if change.line.number() > Line::BERR.number() {
+            return true;
+        }
+    }
+    false
+}
+
+/// The first changed line that a cycle needs whose address strobe was low before, if `others` change.
+#[inline(always)]
+fn moved_line(others: bool, before: &Lines, changes: &[Change]) -> Option<Line>
+    requires { others ≡ false → (needs : Needs) → first_needed_of needs changes.now ≡ None }
+    ensures { result ≡ address_moved before.now changes.now }
+{
+    if others && before.level(Line::AS).is_low() {
+        first_needed(&needed(before), changes)
+    } else {
+        None
+    }
+}
+
+/// Whether the transfer after a step may be a write: it was open, or WRITE* is low as it starts.
+fn may_write(before: &Lines, after: &Lines) -> bool
+    ensures { result ≡ may_write_of before.now after.now }
+{
+    !has_strobes_high(before) || after.level(Line::WRITE).is_low()
+}
+
+/// The least line that is moved and of which nothing is known.
+fn least_undriven(lines: &Lines) -> Option<Line>
+    ensures { result ≡ least (is_undriven lines.now) 0 line_count }
+{
+    if lines.are_known(Line::data(0), Line::data(31)) {
+        return None;
+    }
+    for bit in 0..32 {
+        let line = Line::data(bit);
+        if !lines.level(line).is_known() && is_selected(lines, line) {
+            return Some(line);
+        }
+    }
+    None
+}
+
+/// The same, where a strobe falls that may be a write's.
+#[inline(always)]
+fn undriven_line(before: &Lines, after: &Lines) -> Option<Line>
+    ensures { result ≡ undriven_line_of before.now after.now }
+{
+    if strobe_falls(before, after) && may_write(before, after) {
+        least_undriven(after)
+    } else {
+        None
+    }
+}
+
+/// Whether a data line is among the changes: no transfer moves others.
+fn touches_data(changes: &[Change]) -> bool
+    ensures { result ≡ false → (v w : Levels) → first_among (is_shifted v w) changes.now ≡ None }
+{
+    for change in changes {
+        if change.line.is_data() {
+            return true;
+        }
+    }
+    false
+}
+
+/// Whether a transfer moved the line before the step, and the step gives it another level.
+fn data_line_changes(line: Line, before: &Lines, after: &Lines) -> bool
+    ensures { result ≡ is_shifted before.now after.now line }
+{
+    before.has(line)
+        && after.has(line)
+        && is_selected(before, line)
+        && !before.level(line).is_same(after.level(line))
+}
+
+/// The first changed line that a transfer moved before.
+fn first_shifted(before: &Lines, after: &Lines, changes: &[Change]) -> Option<Line>
+    ensures { result ≡ first_among (is_shifted before.now after.now) changes.now }
+{
+    for change in changes {
+        if data_line_changes(change.line, before, after) {
+            return Some(change.line);
+        }
+    }
+    None
+}
+
+/// The same, where WRITE* was low, if `others` change than AS*, the strobes and the answers.
+#[inline(always)]
+fn shifted_line(others: bool, before: &Lines, after: &Lines, changes: &[Change]) -> Option<Line>
+    requires { others ≡ false → (v w : Levels) → first_among (is_shifted v w) changes.now ≡ None }
+    ensures { result ≡ shifted_line_of before.now after.now changes.now }
+{
+    if others && before.level(Line::WRITE).is_low() && touches_data(changes) {
+        first_shifted(before, after, changes)
+    } else {
+        None
+    }
+}
+
+/// Whether what is remembered may change: an answer comes, or a strobe rises.
+fn changes_holding(before: &Lines, after: &Lines) -> bool
+    ensures { result ≡ changes_holding_of before.now after.now }
+{
+    answer_falls(before, after) || strobe_rises(before, after) || rises(before, after, Line::AS)
+}
+
+impl HoldingObservation {
+    ghost use Rattle.vme_dtb.specs.StabilityRules.{stability_observation};
+
+    /// What a step shows, if it shows anything.
+    #[inline(always)]
+    pub fn of(before: &Lines, after: &Lines, changes: &[Change]) -> Option<HoldingObservation>
+        ensures { result ≡ stability_observation before.now after.now changes.now }
+    {
+        let unknown = fault_of_unknown(before, after);
+        let others = touches_others(changes);
+        let moved = moved_line(others, before, changes);
+        let turned = !before.level(Line::WRITE).is_same(after.level(Line::WRITE));
+        let undriven = undriven_line(before, after);
+        let shifted = shifted_line(others, before, after, changes);
+        if unknown.is_some()
+            || moved.is_some()
+            || turned
+            || changes_holding(before, after)
+            || undriven.is_some()
+            || shifted.is_some()
+        {
+            Some(HoldingObservation {
+                unknown,
+                undriven,
+                moved,
+                turned,
+                shifted,
+            })
+        } else {
+            None
+        }
+    }
+}

@@ -1,6 +1,0 @@
-use Rattle.std.proofs.Common.{◌≡◌, drop}
-use Rattle.vme_stability.specs.StabilityRules.{first_needed}
-use Rattle.vme_stability.proofs.observation.first_needed.Given as goal
-
-abbrev pub invariant-loop-change : goal.invariant-loop-change
-invariant-loop-change l = first_needed l.needed (drop l.change-index l.changes) ≡ first_needed l.needed l.changes

@@ -1,7 +1,0 @@
-use Rattle.std.proofs.Common.{◌∙◌, sym}
-use Rattle.vme_stability.proofs.PassedData.{passed_more}
-use Rattle.vme_stability.proofs.observation.touches_data.Goals as goal
-
-pub loop-change-preserved : goal.loop-change-preserved
-loop-change-preserved c v w = passed_more v w c.args.changes.now c.loop-change.change-index c.change-item.result
-    c.loop-change-test.true c.change-item.is (sym c.is_data.ensures ∙ c.if-is_data.false) (c.loop-change.invariant v w)

@@ -1,2 +1,0 @@
-pub mod HoldingNumbers
-pub mod StabilityRules
