@@ -33,7 +33,7 @@ use Rattle.vme_parts.specs.declared.answers.RecordingAnswer.{RecordingAnswer}
 use Rattle.vme_parts.specs.declared.judged_segments.JudgedSegments.{JudgedSegments}
 use Rattle.vme_part_listing.specs.declared.listing.Ways.{Ways}
 use Rattle.vme_part_listing.proofs.MarkedWays.{opened_so}
-use Rattle.vme_parts.proofs.Passing.{tells_all}
+use Rattle.vme_parts.proofs.SegmentLemmas.{tells_all}
 use Rattle.vme_parts.proofs.ToldFiles.{contained_at, drop_value}
 use Rattle.vme_parts.proofs.WholeFiles.{HasComeTo, come_first, come_on, files_more, found_all}
 

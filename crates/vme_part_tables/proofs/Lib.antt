@@ -4,7 +4,7 @@ pub mod Composing
 pub mod Joining
 mod Pruning
 mod Keeping
-mod Marking
+mod MarkedLemmas
 pub mod Fitting
 mod FittingPruned
 mod PruningAll

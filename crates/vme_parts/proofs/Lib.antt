@@ -15,7 +15,7 @@ pub mod JoinedParts
 mod SameFiles
 mod Likeness
 pub mod StateLemmas
-pub mod Passing
+pub mod SegmentLemmas
 mod TornFiles
 mod Covered
 pub mod WholeFiles

@@ -1,3 +1,3 @@
 pub mod Contents
 pub mod DeliveryLemmas
-pub mod Judging
+pub mod CheckLemmas

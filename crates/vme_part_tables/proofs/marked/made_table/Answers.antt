@@ -1,7 +1,7 @@
 use Rattle.std.proofs.Common.{ap, ◌∙◌, arith, map, rules}
 use Rattle.std.proofs.lemmas.List.{length-map}
 use Rattle.vme_part_format.specs.Tables.{node_value}
-use Rattle.vme_part_tables.proofs.Marking.{map_reverse, table_says, table_ways}
+use Rattle.vme_part_tables.proofs.MarkedLemmas.{map_reverse, table_says, table_ways}
 use Rattle.vme_part_tables.proofs.marked.made_table.Goals as goal
 
 pub returns-clause-says : goal.returns-clause-says

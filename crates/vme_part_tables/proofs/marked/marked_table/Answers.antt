@@ -1,6 +1,6 @@
 use Rattle.std.proofs.Common.{◌∙◌, map}
 use Rattle.vme_part_format.specs.Tables.{node_value, table_value}
-use Rattle.vme_part_tables.proofs.Marking.{marked_tells}
+use Rattle.vme_part_tables.proofs.MarkedLemmas.{marked_tells}
 use Rattle.vme_part_tables.proofs.marked.marked_table.Goals as goal
 
 pub returns : goal.returns

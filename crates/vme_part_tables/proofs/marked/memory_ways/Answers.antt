@@ -1,7 +1,7 @@
 use Rattle.std.proofs.Common.{◌≡◌, ◌<◌, None, ap, subst, ◌∙◌, arith, map, rules}
 use Rattle.vme_part_format.specs.Tables.{node_value}
 use Rattle.vme_part_tables.specs.Marked.{SaysBehind, if_needed, is_needed, made_says, marks_if, says_at}
-use Rattle.vme_part_tables.proofs.Marking.{made_step, memory_step, row_tells}
+use Rattle.vme_part_tables.proofs.MarkedLemmas.{made_step, memory_step, row_tells}
 use Rattle.vme_part_tables.proofs.marked.memory_ways.Goals as goal
 
 pub loop-place-preserved : goal.loop-place-preserved

@@ -1,5 +1,5 @@
 use Rattle.vme_trace.specs.Streams.{Reading, Writing}
-use Rattle.vme_pod_check.proofs.Judging.{Checks-unwritten, Checks-exact}
+use Rattle.vme_pod_check.proofs.CheckLemmas.{Checks-unwritten, Checks-exact}
 use Rattle.vme_pod_check.proofs.check.check_by_pods.Goals as goal
 
 pub returns-clause-unwritten : goal.returns-clause-unwritten

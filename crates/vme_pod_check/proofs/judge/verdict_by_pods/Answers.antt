@@ -1,6 +1,6 @@
 use Rattle.vme_trace.specs.Blocks.{block_count}
 use Rattle.vme_pod_check.proofs.Contents.{cut_count, cut_joins, cut_numbered, cut_recording, few_of}
-use Rattle.vme_pod_check.proofs.Judging.{told_few}
+use Rattle.vme_pod_check.proofs.CheckLemmas.{told_few}
 use Rattle.vme_pod_check.proofs.judge.verdict_by_pods.Goals as goal
 
 pub verdict_on_blocks-requires-clause-numbered : goal.verdict_on_blocks-requires-clause-numbered

@@ -1,6 +1,6 @@
 use Rattle.std.specs.Prelude.{Ok}
 use Rattle.vme_floor.specs.declared.report.RunFault.TheVariants as fault
-use Rattle.vme_pod_check.proofs.Judging.{passed, same_fault, same_verdict}
+use Rattle.vme_pod_check.proofs.CheckLemmas.{passed, same_fault, same_verdict}
 use Rattle.vme_pod_check.proofs.judge.verdict_of.Goals as goal
 
 pub returns-in-Ok-clause-exact : goal.returns-in-Ok-clause-exact

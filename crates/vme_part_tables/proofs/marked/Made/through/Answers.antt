@@ -2,8 +2,8 @@ use Rattle.std.proofs.Common.{◌≡◌, ◌+◌, ◌<◌, [], ap, sym, ◌∙�
 use Rattle.vme_part_format.specs.Tables.{node_value}
 use Rattle.vme_part_format.specs.declared.table.TableNode.{TableNode}
 use Rattle.vme_part_tables.specs.Marked.{turned}
-use Rattle.vme_part_tables.proofs.Marking.{no_marks, pushed_go_on, pushed_kept, pushed_says, through_nothing}
-use Rattle.vme_part_tables.proofs.Marking.{turned_below}
+use Rattle.vme_part_tables.proofs.MarkedLemmas.{no_marks, pushed_go_on, pushed_kept, pushed_says, through_nothing}
+use Rattle.vme_part_tables.proofs.MarkedLemmas.{turned_below}
 use Rattle.vme_part_tables.proofs.marked.Made.through.Goals as goal
 
 pub returns-then-is_empty-clause-says : goal.returns-then-is_empty-clause-says

@@ -1,6 +1,6 @@
 use Rattle.std.proofs.Common.{arith, refl}
 use Rattle.vme_part_format.specs.Tables.{segment_value}
-use Rattle.vme_parts.proofs.Passing.{past_segment}
+use Rattle.vme_parts.proofs.SegmentLemmas.{past_segment}
 use Rattle.vme_parts.proofs.TornFiles.{torn_in}
 use Rattle.vme_parts.proofs.judged_segments.JudgedSegments.go_past.Goals as goal
 

@@ -1,6 +1,6 @@
 use Rattle.std.proofs.Common.{arith, refl}
 use Rattle.vme_part_format.specs.Tables.{segment_value}
-use Rattle.vme_parts.proofs.Passing.{first_judged}
+use Rattle.vme_parts.proofs.SegmentLemmas.{first_judged}
 use Rattle.vme_parts.proofs.judged_segments.JudgedSegments.of.Goals as goal
 
 pub returns-clause-judged : goal.returns-clause-judged
