@@ -43,7 +43,7 @@ use Rattle.vme_account.proofs.ReachedLemmas.{after_fault, at, found_stays, reach
 use Rattle.vme_account.specs.UnendedRows.{open_row}
 use Rattle.vme_account.specs.StepsReached.{StepsReached, reached, with_step}
 use Rattle.vme_account.specs.RowCounts.{one_if}
-use Rattle.vme_account.specs.Rows.{is_of, is_open, is_reset, unless_reset}
+use Rattle.vme_account.specs.RowKinds.{is_of, is_open, is_reset, unless_reset}
 use Rattle.vme_account.specs.declared.row_kind.Part.{Part}
 use Rattle.vme_account.specs.declared.row_kind.Part.TheVariants as part
 use Rattle.vme_account.specs.declared.row_kind.RowKind.{RowKind}

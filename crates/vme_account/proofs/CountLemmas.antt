@@ -15,7 +15,7 @@ use Rattle.vme_account.proofs.KindLemmas.{kind-says-no-end, weight}
 use Rattle.vme_account.proofs.KnownLemmas.{all-knowns}
 use Rattle.vme_account.specs.RowCounts.{count_in, is_counted, is_place, no_rows, one_if, place_of, tenures_of}
 use Rattle.vme_account.specs.RowCounts.{with_one, with_row, with_tenure}
-use Rattle.vme_account.specs.Rows.{is_of}
+use Rattle.vme_account.specs.RowKinds.{is_of}
 use Rattle.vme_account.specs.KnownRows.{knowns_from, pending_rows}
 use Rattle.vme_account.specs.UnendedRows.{nothing_open, opens}
 use Rattle.vme_account.specs.declared.row_counts.RowCounts.{RowCounts}

@@ -25,7 +25,7 @@ use Rattle.vme_trace.specs.declared.verdict.Break.{Break}
 use Rattle.vme_trace.proofs.CutBlocks.{levels_at-taken}
 use Rattle.vme_trace.proofs.WellFormedSteps.{levels_at-step, time_at-step}
 use Rattle.vme_account.proofs.ReachedLemmas.{reached-more}
-use Rattle.vme_account.specs.Judging.{AreNoted, FollowsSteps, IsNotedAtOpening, recorded}
+use Rattle.vme_account.specs.FollowedSteps.{AreNotesAtOpening, AreNotesOfStep, FollowsSteps, recorded}
 use Rattle.vme_account.specs.KnownTimes.{AreTimes}
 use Rattle.vme_account.specs.Marked.{marked, marked_next, nothing_marked}
 use Rattle.vme_account.specs.StepsReached.{StepsReached, judged, marks_in, passed, reached, reached_at, with_step}
@@ -33,7 +33,7 @@ use Rattle.vme_account.specs.StretchEvents.{AreEvents}
 use Rattle.vme_account.specs.declared.followed_steps.FollowedSteps.{FollowedSteps}
 use Rattle.vme_account.specs.declared.marked.Marked.{Marked}
 use Rattle.vme_account.specs.declared.marked_lines.LineNotes.{LineNotes}
-use Rattle.vme_account.specs.declared.noted.Noted.{Noted}
+use Rattle.vme_account.specs.declared.step_notes.StepNotes.{StepNotes}
 
 -- ---- the levels and the instant that are reached
 
@@ -113,29 +113,29 @@ apart o x s y P h = subst (λ (l : List Step). P (recorded o l)) (sym (append_as
 
 -- ---- before the first step
 
-pub follows-first : (o : Levels) (v : StepView) (m : Memories) (n : Noted) (l : LineNotes) → v.before ≡ o → v.after ≡ o
-    → m ≡ (reached_at o).memories → IsNotedAtOpening o n
-    → FollowsSteps o [] (record { view = v; memories = m; noted = n; lines = l })
+pub follows-first : (o : Levels) (v : StepView) (m : Memories) (n : StepNotes) (l : LineNotes) → v.before ≡ o
+    → v.after ≡ o → m ≡ (reached_at o).memories → AreNotesAtOpening o n
+    → FollowsSteps o [] (record { view = v; memories = m; notes = n; lines = l })
 unfolding reached
-follows-first o v m n l before after memories noted =
+follows-first o v m n l before after memories notes =
     record {
-      found = noted.found;
-      marked = noted.marked;
-      times = λ y. noted.times (recorded o y);
-      events = λ y. noted.events (recorded o y);
+      found = notes.found;
+      marked = notes.marked;
+      times = λ y. notes.times (recorded o y);
+      events = λ y. notes.events (recorded o y);
       broken = subst
           (λ (f : Option Break). IfSome f (λ b. (b.instant ≡ n.events.seen) × (is_some n.events.before ≡ true)))
-          (sym noted.found) tt;
+          (sym notes.found) tt;
       before = λ e. before;
       after = λ e. after;
       memories = λ e. memories;
-      seen = λ e. noted.seen;
+      seen = λ e. notes.seen;
     }
 
 -- ---- behind a break
 
 pub follows-found : (o : Levels) (x : List Step) (s : Step) (j : FollowedSteps) (b : Break) → FollowsSteps o x j
-    → j.noted.found ≡ Some b → FollowsSteps o (x ++ s ∷ []) j
+    → j.notes.found ≡ Some b → FollowsSteps o (x ++ s ∷ []) j
 follows-found o x s j b f e =
     let r = reached o x in
     let next : reached o (x ++ s ∷ []) ≡ passed r s =
@@ -144,8 +144,8 @@ follows-found o x s j b f e =
     record {
       found = f.found ∙ sym (ap (λ (r : StepsReached). r.found) next);
       marked = f.marked ∙ ap (λ (ms : List Mark). marked ms) (sym (ap (λ (r : StepsReached). r.marks) next));
-      times = λ y. apart o x s y (λ (t : Trace). AreTimes t j.noted.times) (f.times (s ∷ y));
-      events = λ y. apart o x s y (λ (t : Trace). AreEvents t j.noted.events) (f.events (s ∷ y));
+      times = λ y. apart o x s y (λ (t : Trace). AreTimes t j.notes.times) (f.times (s ∷ y));
+      events = λ y. apart o x s y (λ (t : Trace). AreEvents t j.notes.events) (f.events (s ∷ y));
       broken = f.broken;
       before = λ none. absurd (cc (sym none ∙ e));
       after = λ none. absurd (cc (sym none ∙ e));
@@ -163,11 +163,11 @@ same_kinds a b c d e g p q r =
     ∙ ap (λ (k : StepMarks). kinds_of d ++ (kinds_of e ++ kinds_of k)) r)
 
 module _ (o : Levels) (x : List Step) (s : Step) (j : FollowedSteps) (f : FollowsSteps o x j)
-    (quiet : j.noted.found ≡ None)
+    (quiet : j.notes.found ≡ None)
     (instant : ℕ) (at : instant ≡ length x + 1) (cs : List Change) (own : cs ≡ s.changes) (u : StepView)
     (seen : u ≡ seen_in u.before cs) (same : u.before ≡ j.view.before) (shown : AllShown) (m : Memories)
-    (goes : AllGoOn j.memories u.before u.after cs m shown) (n : Noted)
-    (noted : AreNoted u.before u.after instant s.time shown j.noted n) where
+    (goes : AllGoOn j.memories u.before u.after cs m shown) (n : StepNotes)
+    (notes : AreNotesOfStep u.before u.after instant s.time shown j.notes n) where
   abbrev r : StepsReached
   r = reached o x
 
@@ -217,12 +217,12 @@ module _ (o : Levels) (x : List Step) (s : Step) (j : FollowedSteps) (f : Follow
 
   found_is : n.found ≡ (judged r s).found
   found_is =
-      noted.found
+      notes.found
       ∙ (ap (λ (i : ℕ). option_map (break_of_fault i s.time) shown.fault) here
       ∙ ap (option_map (break_of_fault (r.instant + 1) s.time)) fault_is)
 
   by_fault : (g : Option Fault) → n.marked
-      ≡ (if is_some g then j.noted.marked else fold marked_next j.noted.marked (map (mark_at instant) kinds))
+      ≡ (if is_some g then j.notes.marked else fold marked_next j.notes.marked (map (mark_at instant) kinds))
       → n.marked ≡ marked
       (if is_some (option_map (break_of_fault (r.instant + 1) s.time) g) then r.marks else r.marks ++ marks_in r s)
   by_fault (Some g) e = e ∙ f.marked
@@ -235,17 +235,17 @@ module _ (o : Levels) (x : List Step) (s : Step) (j : FollowedSteps) (f : Follow
   marked_is : n.marked ≡ marked (judged r s).marks
   marked_is =
       by_fault fault
-      (noted.marked
-      ∙ ap (λ (g : Option Fault). if is_some g then j.noted.marked else fold marked_next j.noted.marked
+      (notes.marked
+      ∙ ap (λ (g : Option Fault). if is_some g then j.notes.marked else fold marked_next j.notes.marked
       (map (mark_at instant) kinds)) fault_is)
 
   broken_by : (g : Option Fault) → IfSome g (λ f. is_some n.events.before ≡ true)
       → IfSome (option_map (break_of_fault instant s.time) g)
       (λ b. (b.instant ≡ n.events.seen) × (is_some n.events.before ≡ true))
   broken_by None h = tt
-  broken_by (Some g) h = (sym noted.seen, h)
+  broken_by (Some g) h = (sym notes.seen, h)
 
-  seen_there : j.noted.events.seen ≡ length x
+  seen_there : j.notes.events.seen ≡ length x
   seen_there = f.seen quiet
 
   module _ (y : List Step) where
@@ -257,25 +257,25 @@ module _ (o : Levels) (x : List Step) (s : Step) (j : FollowedSteps) (f : Follow
 
     events_are : AreEvents t n.events
     events_are =
-        noted.events t (f.events (s ∷ y)) (at ∙ ap (λ (i : ℕ). i + 1) (sym seen_there))
+        notes.events t (f.events (s ∷ y)) (at ∙ ap (λ (i : ℕ). i + 1) (sym seen_there))
         (from ∙ sym (ap (levels_at t) seen_there ∙ levels_there o x (s ∷ y)))
         (to ∙ sym (ap (λ (i : ℕ). levels_at t (i + 1)) seen_there ∙ levels_then o x s y))
         (sym (ap (λ (i : ℕ). time_at t (i + 1)) seen_there ∙ time_then o x s y))
 
   pub follows-judged : (v : StepView) (l : LineNotes) → v.before ≡ u.after → v.after ≡ u.after
-      → FollowsSteps o (x ++ s ∷ []) (record { view = v; memories = m; noted = n; lines = l })
+      → FollowsSteps o (x ++ s ∷ []) (record { view = v; memories = m; notes = n; lines = l })
   follows-judged v l before after =
       record {
         found = found_is ∙ sym (ap (λ (r : StepsReached). r.found) next);
         marked = marked_is ∙ ap (λ (ms : List Mark). marked ms) (sym (ap (λ (r : StepsReached). r.marks) next));
         times = λ y. apart o x s y (λ (t : Trace). AreTimes t n.times)
-            (noted.times (t y) (f.times (s ∷ y)) (time_is y));
+            (notes.times (t y) (f.times (s ∷ y)) (time_is y));
         events = λ y. apart o x s y (λ (t : Trace). AreEvents t n.events) (events_are y);
         broken = subst
             (λ (g : Option Break). IfSome g (λ b. (b.instant ≡ n.events.seen) × (is_some n.events.before ≡ true)))
-            (sym noted.found) (broken_by shown.fault noted.broken);
+            (sym notes.found) (broken_by shown.fault notes.broken);
         before = λ e. before ∙ (to ∙ sym (ap (λ (r : StepsReached). r.levels) next));
         after = λ e. after ∙ (to ∙ sym (ap (λ (r : StepsReached). r.levels) next));
         memories = λ e. goes.memories ∙ (alike memories_next ∙ sym (ap (λ (r : StepsReached). r.memories) next));
-        seen = λ e. noted.seen ∙ (at ∙ sym (length-append x (s ∷ [])));
+        seen = λ e. notes.seen ∙ (at ∙ sym (length-append x (s ∷ [])));
       }

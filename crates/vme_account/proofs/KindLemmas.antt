@@ -9,7 +9,7 @@ use Rattle.vme_monitor.specs.declared.mark.TransferAnswer.{TransferAnswer}
 use Rattle.vme_summary.specs.MarkedRows.{marked_answer, marked_cycle, marked_line}
 use Rattle.vme_account.proofs.KnownLemmas.{SaysNoEnd}
 use Rattle.vme_account.specs.RowCounts.{one_if}
-use Rattle.vme_account.specs.Rows.{is_of}
+use Rattle.vme_account.specs.RowKinds.{is_of}
 use Rattle.vme_account.specs.declared.row_kind.RowKind.{RowKind}
 use Rattle.vme_account.specs.declared.row_kind.RowKind.TheVariants as kind
 

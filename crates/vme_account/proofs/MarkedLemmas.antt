@@ -21,7 +21,7 @@ use Rattle.vme_account.specs.KnownRows.{known_at, knowns_from}
 use Rattle.vme_account.specs.Marked.{counts_in, marked, marked_next, nothing_marked}
 use Rattle.vme_account.specs.UnendedRows.{open_in, open_next, open_row}
 use Rattle.vme_account.specs.RowCounts.{count_in, is_counted, with_row}
-use Rattle.vme_account.specs.Rows.{is_of}
+use Rattle.vme_account.specs.RowKinds.{is_of}
 use Rattle.vme_account.specs.declared.marked.Marked.{Marked}
 use Rattle.vme_account.specs.declared.row_kind.Part.{Part}
 use Rattle.vme_account.specs.declared.row_kind.RowKind.{RowKind}

@@ -251,10 +251,10 @@ none_shifted (Some b) = ap (λ (i : ℕ). Some (record { instant = i; time = b.t
     no_more : (i : ℕ) → i + 0 ≡ i
     no_more i = omega arith
 
-unmoved : (ms : List Mark) → map (shifted_mark 0) ms ≡ ms
-unmoved [] = refl
-unmoved (m ∷ ms) = ap (λ (i : ℕ). mark_at i m.kind ∷ map (shifted_mark 0) ms) (no_more m.instant)
-    ∙ ap (λ (ms : List Mark). m ∷ ms) (unmoved ms)
+marks_shifted-zero : (ms : List Mark) → map (shifted_mark 0) ms ≡ ms
+marks_shifted-zero [] = refl
+marks_shifted-zero (m ∷ ms) = ap (λ (i : ℕ). mark_at i m.kind ∷ map (shifted_mark 0) ms) (no_more m.instant)
+    ∙ ap (λ (ms : List Mark). m ∷ ms) (marks_shifted-zero ms)
   where
     no_more : (i : ℕ) → i + 0 ≡ i
     no_more i = omega arith
@@ -269,4 +269,4 @@ pub reached-marks : (o : Levels) (x : List Step) → (reached o x).marks
 unfolding reached
 reached-marks o x = marks-found x o 0 (memories_at o) (opening_marks o)
     ∙ ap (λ (ms : List Mark). opening_marks o ++ ms)
-    (unmoved (marks_listed (first_break_from (memories_at o) o x) (joined_marks (memories_at o) o x)))
+    (marks_shifted-zero (marks_listed (first_break_from (memories_at o) o x) (joined_marks (memories_at o) o x)))

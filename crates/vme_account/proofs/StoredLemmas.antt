@@ -8,7 +8,7 @@ use Rattle.vme_trace.specs.Levels.{Levels}
 use Rattle.vme_trace.specs.Trace.{Trace, levels_after, levels_at, time_at, time_of}
 use Rattle.vme_trace.specs.declared.step.Step.{Step}
 use Rattle.vme_trace.proofs.CutBlocks.{levels_at-taken}
-use Rattle.vme_account.specs.Judging.{recorded}
+use Rattle.vme_account.specs.FollowedSteps.{recorded}
 use Rattle.vme_account.specs.StoredSteps.{AreStored}
 use Rattle.vme_account.specs.RecentSteps.{AreRecent, levels_of}
 use Rattle.vme_account.specs.declared.stored_steps.StoredSteps.{StoredSteps}

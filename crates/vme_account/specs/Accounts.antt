@@ -12,12 +12,12 @@ use Rattle.vme_trace.specs.Verdict.{verdict}
 use Rattle.vme_trace.specs.WellFormed.{capture_limit}
 use Rattle.vme_trace.specs.declared.step.Step.{Step}
 use Rattle.vme_trace.specs.declared.verdict.Break.{Break}
-use Rattle.vme_account.specs.Judging.{FollowsSteps}
+use Rattle.vme_account.specs.FollowedSteps.{FollowsSteps}
 use Rattle.vme_account.specs.StoredSteps.{AreStored}
 use Rattle.vme_account.specs.KnownTimes.{AreTimes}
 use Rattle.vme_account.specs.UnendedRows.{open_in, open_row}
 use Rattle.vme_account.specs.RowCounts.{count_in, is_counted}
-use Rattle.vme_account.specs.Rows.{is_of}
+use Rattle.vme_account.specs.RowKinds.{is_of}
 use Rattle.vme_account.specs.StretchEvents.{AreEvents}
 use Rattle.vme_account.specs.declared.account.Account.{Account}
 use Rattle.vme_account.specs.declared.row_kind.Part.{Part}
@@ -40,11 +40,11 @@ pub record IsRunning (o : Levels) (x : List Step) (a : Option (Box RunningAccoun
 
 -- the break that is found
 abbrev pub found_break : Account → Option Break
-found_break a = a.running.value.judged.noted.found
+found_break a = a.running.value.judged.notes.found
 
 -- the instant from which on the last stretch is judged
 abbrev pub judged_from : Account → ℕ
-judged_from a = a.running.value.judged.noted.events.start
+judged_from a = a.running.value.judged.notes.events.start
 
 -- the first instant whose levels are kept
 abbrev pub first_kept : Account → ℕ
@@ -64,7 +64,7 @@ pub record IsAccountOf (a : Account) (t : Trace) : Type 0 where
   pub unended : (p : Part) → open_in a.opened p ≡ open_row p (recorded_rows t)
   pub counts : (k : RowKind) → is_counted k ≡ true → count_in a.counts k ≡ count_by (is_of k) (recorded_rows t)
   pub kept : AreStored t.opening t.steps a.running.value.kept
-  pub times : AreTimes t a.running.value.judged.noted.times
-  pub events : AreEvents t a.running.value.judged.noted.events
-  pub broken : IfSome (found_break a) (λ b. (b.instant ≡ a.running.value.judged.noted.events.seen)
-      × (is_some a.running.value.judged.noted.events.before ≡ true))
+  pub times : AreTimes t a.running.value.judged.notes.times
+  pub events : AreEvents t a.running.value.judged.notes.events
+  pub broken : IfSome (found_break a) (λ b. (b.instant ≡ a.running.value.judged.notes.events.seen)
+      × (is_some a.running.value.judged.notes.events.before ≡ true))

@@ -1,6 +1,6 @@
 pub mod Accounts
 pub mod Idle
-pub mod Judging
+pub mod FollowedSteps
 pub mod KnownRows
 pub mod KnownTimes
 pub mod LastEvents
@@ -8,7 +8,7 @@ pub mod Marked
 pub mod RecentSteps
 pub mod RelatedEvents
 pub mod RowCounts
-pub mod Rows
+pub mod RowKinds
 pub mod StepsReached
 pub mod StoredSteps
 pub mod StretchEvents

@@ -6,8 +6,8 @@ use Rattle.vme_listing.specs.declared.row.Direction.TheVariants.{Read, Write}
 use Rattle.vme_listing.specs.declared.row.Row.{Row}
 use Rattle.vme_listing.specs.declared.row.Row.TheVariants as row
 use Rattle.vme_trace.specs.declared.class.Class.TheVariants.{S, K}
-use Rattle.vme_account.specs.Rows.{is_answered_by, is_cycle_of, is_free_cycle, is_interrupt_cycle, is_open_tenure_row}
-use Rattle.vme_account.specs.Rows.{is_pending, is_reset, is_transfer_in}
+use Rattle.vme_account.specs.RowKinds.{is_answered_by, is_cycle_of, is_free_cycle, is_interrupt_cycle}
+use Rattle.vme_account.specs.RowKinds.{is_open_tenure_row, is_pending, is_reset, is_transfer_in}
 use Rattle.vme_account.specs.declared.row_counts.RowCounts.{RowCounts}
 use Rattle.vme_account.specs.declared.row_kind.RowKind.{RowKind}
 use Rattle.vme_account.specs.declared.row_kind.RowKind.TheVariants as kind

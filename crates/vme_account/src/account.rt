@@ -12,7 +12,7 @@ ghost use Rattle.vme_account.specs.UnendedRows.{open_row};
 ghost use Rattle.vme_account.specs.RecentSteps.{levels_of};
 ghost use Rattle.vme_account.specs.RelatedEvents.{instant_of};
 ghost use Rattle.vme_account.specs.RowCounts.{is_counted};
-ghost use Rattle.vme_account.specs.Rows.{is_of};
+ghost use Rattle.vme_account.specs.RowKinds.{is_of};
 ghost use Rattle.vme_account.specs.StretchEvents.{is_kept};
 
 use crate::last_events::Moment;
@@ -49,7 +49,7 @@ impl Account {
     pub fn verdict(&self) -> Verdict
         ensures { (t : Trace) → IsAccountOf self.now t → result ≡ verdict t }
     {
-        match self.running.judged.noted.found {
+        match self.running.judged.notes.found {
             Some(found) => verdict_of(found),
             None => unbroken_verdict(self.running.judged.have_started()),
         }
@@ -77,7 +77,7 @@ impl Account {
             → is_kept other.now ≡ true
             → result ≡ moment t (instant_of t other.now (judged_from self.now) found.instant) }
     {
-        self.running.judged.noted.events.moment_of(other)
+        self.running.judged.notes.events.moment_of(other)
     }
 
     /// The time of an instant, if it is kept: the opening has none, and counts as 0. Kept are the last instants, the
@@ -88,7 +88,7 @@ impl Account {
         if self.running.kept.first() <= instant && instant <= self.running.kept.end() {
             Some(self.running.kept.time_at(instant))
         } else {
-            self.running.judged.noted.times.of(instant)
+            self.running.judged.notes.times.of(instant)
         }
     }
 
@@ -122,19 +122,19 @@ impl Account {
 
     /// Where judging starts first.
     pub fn first_start(&self) -> Option<u32> {
-        self.running.judged.noted.stretches.first_start
+        self.running.judged.notes.stretches.first_start
     }
 
     /// The last reset that ended what was judged.
     pub fn last_reset(&self) -> Option<u32> {
-        self.running.judged.noted.stretches.last_reset
+        self.running.judged.notes.stretches.last_reset
     }
 
     /// The last instant that is judged: the bus may be reset there, and never idle behind.
     pub fn last_judged(&self) -> u32 {
         self.running
             .judged
-            .noted
+            .notes
             .stretches
             .ended
             .unwrap_or(self.running.kept.end())
@@ -142,7 +142,7 @@ impl Account {
 
     /// The last tenure that a grant began.
     pub fn last_tenure(&self) -> Option<StartedTenure> {
-        self.running.judged.noted.stretches.tenure
+        self.running.judged.notes.stretches.tenure
     }
 
     /// Whether a line moved since judging started first.

@@ -4,10 +4,10 @@ ghost use Rattle.std.specs.Prelude.{◌≡◌, ◌+◌, ◌∷◌, ◌++◌, [],
 ghost use Rattle.vme_monitor.specs.OverStretches.{has_started};
 ghost use Rattle.vme_trace.specs.Levels.{Levels};
 ghost use Rattle.vme_trace.specs.declared.step.Step.{Step as StepOf};
-ghost use Rattle.vme_account.specs.Judging.{FollowsSteps};
+ghost use Rattle.vme_account.specs.FollowedSteps.{FollowsSteps};
 
 use crate::marked_lines::LineNotes;
-use crate::noted::Noted;
+use crate::step_notes::StepNotes;
 use std::alloc::AllocError;
 use vme_auditor::Memories;
 use vme_monitor::view::StepView;
@@ -19,7 +19,7 @@ pub(crate) struct FollowedSteps {
     /// The levels that the steps leave, on both sides.
     view: StepView,
     memories: Memories,
-    pub noted: Noted,
+    pub notes: StepNotes,
     pub lines: LineNotes,
 }
 
@@ -31,7 +31,7 @@ impl FollowedSteps {
         FollowedSteps {
             view: StepView::new(opening),
             memories: Memories::at(opening),
-            noted: Noted::at_opening(opening),
+            notes: StepNotes::at_opening(opening),
             lines: LineNotes::at_opening(opening),
         }
     }
@@ -43,7 +43,7 @@ impl FollowedSteps {
         ensures { (o : Levels) (x : List StepOf) → FollowsSteps o x self.old → instant ≡ length x + 1
             → OnOk result (FollowsSteps o (x ++ step.now ∷ []) self.new) }
     {
-        match self.noted.found {
+        match self.notes.found {
             Some(_) => Ok(()),
             None => self.judge(step, instant),
         }
@@ -52,18 +52,18 @@ impl FollowedSteps {
     /// Judges the step, where no break was found.
     fn judge(&mut self, step: &Step, instant: u32) -> Result<(), AllocError>
         requires follows { (o : Levels) × (x : List StepOf) × FollowsSteps o x self.old }
-        requires quiet { self.old.noted.found ≡ None }
+        requires quiet { self.old.notes.found ≡ None }
         ensures { (o : Levels) (x : List StepOf) → FollowsSteps o x self.old → instant ≡ length x + 1
             → OnOk result (FollowsSteps o (x ++ step.now ∷ []) self.new) }
     {
         let changes = step.changes.as_slice();
         self.lines
-            .note_lines(self.noted.stretches.first_start.is_some(), changes);
+            .note_lines(self.notes.stretches.first_start.is_some(), changes);
         self.view.go_to(changes);
         let shown = self.memories.go_on(&self.view, changes);
-        let noted = self.noted.take(&self.view, step, instant, &shown);
+        let outcome = self.notes.take(&self.view, step, instant, &shown);
         self.view.go_past(changes);
-        noted
+        outcome
     }
 
     /// Whether judging started.

@@ -5,8 +5,8 @@
 //!
 //! - `account_visitor`: [`AccountVisitor`] takes one step after the other, and gives the account;
 //!   `account`: [`Account`], and what can be asked of it. `running_account`: how far it has come.
-//! - `followed_steps`, `noted`: the monitors of all rules, led from step to step up to the first
-//!   break, and what is noted of the steps.
+//! - `followed_steps`, `step_notes`: the monitors of all rules, led from step to step up to the
+//!   first break, and what is noted of the steps.
 //! - `marked`, `open_rows`, `row_counts`, `row_kind`: the rows of the listing, by the marks of which
 //!   it is made: the last that is open of each part, and how many there are of each kind.
 //! - `stretch_events`, `last_events`, `related_event`: of which other events a rule speaks, and when
@@ -46,13 +46,13 @@ mod known_times;
 mod last_events;
 mod marked;
 mod marked_lines;
-mod noted;
 mod open_rows;
 mod recent_steps;
 mod related_event;
 mod row_counts;
 mod row_kind;
 mod running_account;
+mod step_notes;
 mod stored_steps;
 mod stretch_events;
 mod stretches;

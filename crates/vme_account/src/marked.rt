@@ -11,7 +11,7 @@ ghost use Rattle.vme_summary.specs.MarkedRows.{opening_marks, rows_of};
 ghost use Rattle.vme_account.specs.Marked.{counts_in, marked, marked_next, nothing_marked};
 ghost use Rattle.vme_account.specs.UnendedRows.{open_in, open_row};
 ghost use Rattle.vme_account.specs.RowCounts.{count_in, is_counted};
-ghost use Rattle.vme_account.specs.Rows.{is_of};
+ghost use Rattle.vme_account.specs.RowKinds.{is_of};
 ghost use Rattle.vme_account.specs.declared.row_kind.Part.{Part as PartOf};
 ghost use Rattle.vme_account.specs.declared.row_kind.RowKind.{RowKind as KindOf};
 

@@ -1,8 +1,8 @@
 //! Of which kind a row is, and which are open where a listing ends.
 
 ghost use Rattle.std.specs.Prelude.{◌≡◌};
-ghost use Rattle.vme_account.specs.Rows.{is_answered_by, is_cycle_of, is_of, is_reset, is_tenure_of};
-ghost use Rattle.vme_account.specs.Rows.{is_transfer_in};
+ghost use Rattle.vme_account.specs.RowKinds.{is_answered_by, is_cycle_of, is_of, is_reset, is_tenure_of};
+ghost use Rattle.vme_account.specs.RowKinds.{is_transfer_in};
 
 use vme_listing::{AnswerLine, Direction, Row};
 use vme_trace::Class;

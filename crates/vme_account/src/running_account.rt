@@ -61,7 +61,7 @@ impl RunningAccount {
 
     /// Whether the next step is wanted: at most three are behind the break.
     fn wants_more(&self) -> bool {
-        match self.judged.noted.found {
+        match self.judged.notes.found {
             Some(found) => self.kept.steps() < found.instant.saturating_add(BEHIND),
             None => true,
         }
@@ -80,7 +80,7 @@ pub(crate) fn account_of(
     first_break_is_found();
     marks_are_found();
     known_over_recordings();
-    let marked = running.judged.noted.marked;
+    let marked = running.judged.notes.marked;
     let counts = marked.counts()?;
     let opened = marked.opened();
     Ok(Account {

@@ -5,7 +5,7 @@ use Rattle.vme_summary.specs.Runs.{known_run}
 use Rattle.vme_trace.specs.Levels.{Levels}
 use Rattle.vme_trace.specs.declared.step.Step.{Step}
 use Rattle.vme_account.proofs.AccountLemmas.{counts-listed, found-named, open-listed, started-reached}
-use Rattle.vme_account.specs.Judging.{recorded}
+use Rattle.vme_account.specs.FollowedSteps.{recorded}
 use Rattle.vme_account.specs.KnownTimes.{AreTimes}
 use Rattle.vme_account.specs.StepsReached.{reached}
 use Rattle.vme_account.specs.StretchEvents.{AreEvents}
@@ -20,7 +20,7 @@ returns c = λ t keeps opens ok.
     let finds = c.first_break_is_found.ensures in
     let shows = c.marks_are_found.ensures in
     let j = keeps.judged in
-    let is_marked = ap (λ (r : RunningAccount). r.judged.noted.marked) c.deref.ensures ∙ j.marked in
+    let is_marked = ap (λ (r : RunningAccount). r.judged.notes.marked) c.deref.ensures ∙ j.marked in
     record {
       opening = opens;
       found = j.found ∙ found-named finds shows t ok few;
@@ -33,9 +33,9 @@ returns c = λ t keeps opens ok.
       counts = λ k is. c.in_ok-counts.ensures.listed (reached t.opening t.steps).marks k is_marked is
           ∙ counts-listed finds shows t ok few k;
       kept = keeps.kept;
-      times = subst (λ (x : List Step). AreTimes (recorded t.opening x) c.args.running.value.judged.noted.times)
+      times = subst (λ (x : List Step). AreTimes (recorded t.opening x) c.args.running.value.judged.notes.times)
           (append-nil t.steps) (j.times []);
-      events = subst (λ (x : List Step). AreEvents (recorded t.opening x) c.args.running.value.judged.noted.events)
+      events = subst (λ (x : List Step). AreEvents (recorded t.opening x) c.args.running.value.judged.notes.events)
           (append-nil t.steps) (j.events []);
       broken = j.broken;
     }

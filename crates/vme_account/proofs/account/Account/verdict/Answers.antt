@@ -7,12 +7,12 @@ use Rattle.vme_account.proofs.account.Account.verdict.Goals as goal
 
 pub returns-in-Some : goal.returns-in-Some
 returns-in-Some c = λ t is.
-    let named = ap (λ (r : RunningAccount). r.judged.noted.found) (sym c.deref.ensures) ∙ c.in-Some.is in
+    let named = ap (λ (r : RunningAccount). r.judged.notes.found) (sym c.deref.ensures) ∙ c.in-Some.is in
     c.verdict_of.ensures ∙ sym (named-verdict t c.in-Some.found (sym is.found ∙ named))
 
 pub returns-in-None : goal.returns-in-None
 returns-in-None c = λ t is.
-    let none = ap (λ (r : RunningAccount). r.judged.noted.found) (sym c.deref.ensures) ∙ c.in-None.is in
+    let none = ap (λ (r : RunningAccount). r.judged.notes.found) (sym c.deref.ensures) ∙ c.in-None.is in
     c.unbroken_verdict.ensures
     ∙ (ap (λ b. cond b Conforming NeverIdle)
     (c.have_started.ensures

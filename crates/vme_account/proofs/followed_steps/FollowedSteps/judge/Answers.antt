@@ -10,16 +10,16 @@ go_to-requires c =
     let (o, x, f) = c.requires.follows in
     f.after c.requires.quiet ∙ sym (f.before c.requires.quiet)
 
-pub take-noted-requires : goal.take-noted-requires
-take-noted-requires c =
+pub take-outcome-requires : goal.take-outcome-requires
+take-outcome-requires c =
     c.go_to.ensures.seen
     ∙ ap (λ (cs : List Change). seen_in c.go_to.new.self.before cs) c.as_slice-changes.ensures
 
 pub returns : goal.returns
 returns c = λ o x f at.
-    on-ok c.take-noted.result
-    (λ noted. follows-judged o x c.args.step.now c.args.self.now f c.requires.quiet c.args.instant at
+    on-ok c.take-outcome.result
+    (λ notes. follows-judged o x c.args.step.now c.args.self.now f c.requires.quiet c.args.instant at
     c.as_slice-changes.result.now c.as_slice-changes.ensures c.go_to.new.self c.go_to.ensures.seen
-    c.go_to.ensures.before c.go_on-shown.result c.go_on-shown.new.self c.go_on-shown.ensures c.take-noted.new.self noted
-    c.go_past.new.self c.note_lines.new.self c.go_past.ensures.before c.go_past.ensures.after)
-    (c.take-noted.ensures c.requires.quiet)
+    c.go_to.ensures.before c.go_on-shown.result c.go_on-shown.new.self c.go_on-shown.ensures c.take-outcome.new.self
+    notes c.go_past.new.self c.note_lines.new.self c.go_past.ensures.before c.go_past.ensures.after)
+    (c.take-outcome.ensures c.requires.quiet)

@@ -1,7 +1,7 @@
 use Rattle.std.proofs.Common.{◌+◌, ◌-◌, ◌∙◌, arith}
 use Rattle.std.proofs.lemmas.Result.{IfOk-weaker}
 use Rattle.vme_account.proofs.StoredLemmas.{cut-levels}
-use Rattle.vme_account.specs.Judging.{recorded}
+use Rattle.vme_account.specs.FollowedSteps.{recorded}
 use Rattle.std.specs.Prelude.{take}
 use Rattle.vme_account.proofs.stored_steps.StoredSteps.levels_from.Goals as goal
 

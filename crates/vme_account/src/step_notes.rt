@@ -3,7 +3,7 @@
 ghost use Rattle.std.specs.Prelude.{◌≡◌, OnOk, None};
 ghost use Rattle.vme_monitor.specs.Run.{break_of_fault};
 ghost use Rattle.vme_monitor.specs.StepRuns.{seen_in};
-ghost use Rattle.vme_account.specs.Judging.{AreNoted, IsNotedAtOpening};
+ghost use Rattle.vme_account.specs.FollowedSteps.{AreNotesAtOpening, AreNotesOfStep};
 
 use crate::known_times::{KnownTimes, TimedInstant};
 use crate::marked::Marked;
@@ -17,7 +17,7 @@ use vme_trace::{Break, Lines, Step};
 
 /// What is noted of the steps so far, up to the first break.
 #[derive(Clone, Copy, Debug, PartialEq, Eq)]
-pub(crate) struct Noted {
+pub(crate) struct StepNotes {
     pub found: Option<Break>,
     /// What is kept of the marks before the break.
     pub marked: Marked,
@@ -28,13 +28,13 @@ pub(crate) struct Noted {
     pub stretches: Stretches,
 }
 
-impl Noted {
+impl StepNotes {
     /// Before the first step.
-    pub fn at_opening(opening: &Lines) -> Noted
-        ensures { IsNotedAtOpening opening.now result }
+    pub fn at_opening(opening: &Lines) -> StepNotes
+        ensures { AreNotesAtOpening opening.now result }
     {
         let has_started = opening.is_idle();
-        Noted {
+        StepNotes {
             found: None,
             marked: Marked::at_opening(opening),
             events: StretchEvents::none(),
@@ -53,7 +53,7 @@ impl Noted {
     ) -> Result<(), AllocError>
         requires { view.now ≡ seen_in view.now.before step.now.changes }
         ensures { self.old.found ≡ None → OnOk result
-            (AreNoted view.now.before view.now.after instant step.now.time shown.now self.old self.new) }
+            (AreNotesOfStep view.now.before view.now.after instant step.now.time shown.now self.old self.new) }
     {
         match shown.fault {
             Some(fault) => {
@@ -77,7 +77,7 @@ impl Noted {
         requires seen { view.now ≡ seen_in view.now.before step.now.changes }
         requires quiet { shown.now.fault ≡ None }
         ensures { self.old.found ≡ None → OnOk result
-            (AreNoted view.now.before view.now.after instant step.now.time shown.now self.old self.new) }
+            (AreNotesOfStep view.now.before view.now.after instant step.now.time shown.now self.old self.new) }
     {
         self.marked.take_shown(instant, &shown.stretch)?;
         self.marked.take_shown(instant, &shown.tenure)?;

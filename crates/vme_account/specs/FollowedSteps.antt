@@ -13,14 +13,14 @@ use Rattle.vme_account.specs.Marked.{marked, marked_next}
 use Rattle.vme_account.specs.StepsReached.{reached}
 use Rattle.vme_account.specs.StretchEvents.{AreEvents}
 use Rattle.vme_account.specs.declared.followed_steps.FollowedSteps.{FollowedSteps}
-use Rattle.vme_account.specs.declared.noted.Noted.{Noted}
+use Rattle.vme_account.specs.declared.step_notes.StepNotes.{StepNotes}
 
 abbrev pub recorded : Levels → List Step → Trace
 recorded o x = record { opening = o; steps = x }
 
 -- ---- what is noted
 
-pub record IsNotedAtOpening (o : Levels) (n : Noted) : Type 0 where
+pub record AreNotesAtOpening (o : Levels) (n : StepNotes) : Type 0 where
   pub found : n.found ≡ None
   pub marked : n.marked ≡ marked (opening_marks o)
   pub times : (t : Trace) → AreTimes t n.times
@@ -28,7 +28,7 @@ pub record IsNotedAtOpening (o : Levels) (n : Noted) : Type 0 where
   pub seen : n.events.seen ≡ 0
 
 -- this is noted of a step at an instant and a time, between these levels, that shows this
-pub record AreNoted (v w : Levels) (instant time : ℕ) (shown : AllShown) (old new : Noted) : Type 0 where
+pub record AreNotesOfStep (v w : Levels) (instant time : ℕ) (shown : AllShown) (old new : StepNotes) : Type 0 where
   pub found : new.found ≡ option_map (break_of_fault instant time) shown.fault
   pub marked : new.marked
       ≡ (if is_some shown.fault then old.marked
@@ -45,12 +45,12 @@ pub record AreNoted (v w : Levels) (instant time : ℕ) (shown : AllShown) (old 
 -- Behind some steps the break is found that they have, and the marks before it are taken; the times and the events that
 -- are noted are those of the recording, however it goes on; and up to the break the monitors are where the steps lead.
 pub record FollowsSteps (o : Levels) (x : List Step) (j : FollowedSteps) : Type 0 where
-  pub found : j.noted.found ≡ (reached o x).found
-  pub marked : j.noted.marked ≡ marked (reached o x).marks
-  pub times : (y : List Step) → AreTimes (recorded o (x ++ y)) j.noted.times
-  pub events : (y : List Step) → AreEvents (recorded o (x ++ y)) j.noted.events
-  pub broken : IfSome j.noted.found (λ b. (b.instant ≡ j.noted.events.seen) × (is_some j.noted.events.before ≡ true))
-  pub before : j.noted.found ≡ None → j.view.before ≡ (reached o x).levels
-  pub after : j.noted.found ≡ None → j.view.after ≡ (reached o x).levels
-  pub memories : j.noted.found ≡ None → j.memories ≡ (reached o x).memories
-  pub seen : j.noted.found ≡ None → j.noted.events.seen ≡ length x
+  pub found : j.notes.found ≡ (reached o x).found
+  pub marked : j.notes.marked ≡ marked (reached o x).marks
+  pub times : (y : List Step) → AreTimes (recorded o (x ++ y)) j.notes.times
+  pub events : (y : List Step) → AreEvents (recorded o (x ++ y)) j.notes.events
+  pub broken : IfSome j.notes.found (λ b. (b.instant ≡ j.notes.events.seen) × (is_some j.notes.events.before ≡ true))
+  pub before : j.notes.found ≡ None → j.view.before ≡ (reached o x).levels
+  pub after : j.notes.found ≡ None → j.view.after ≡ (reached o x).levels
+  pub memories : j.notes.found ≡ None → j.memories ≡ (reached o x).memories
+  pub seen : j.notes.found ≡ None → j.notes.events.seen ≡ length x

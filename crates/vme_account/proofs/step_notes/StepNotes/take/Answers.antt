@@ -3,7 +3,7 @@ use Rattle.std.specs.Prelude.{Some}
 use Rattle.vme_monitor.specs.declared.view.StepView.{StepView}
 use Rattle.vme_trace.specs.Trace.{changed}
 use Rattle.vme_trace.specs.declared.step.Change.{Change}
-use Rattle.vme_account.proofs.noted.Noted.take.Goals as goal
+use Rattle.vme_account.proofs.step_notes.StepNotes.take.Goals as goal
 
 pub take_break-requires : goal.take_break-requires
 take_break-requires c =

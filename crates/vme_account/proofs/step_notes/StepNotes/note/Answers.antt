@@ -4,7 +4,7 @@ use Rattle.vme_monitor.specs.declared.view.StepView.{StepView}
 use Rattle.vme_trace.specs.Trace.{changed}
 use Rattle.vme_trace.specs.declared.step.Change.{Change}
 use Rattle.vme_account.proofs.MarkedLemmas.{three-kinds}
-use Rattle.vme_account.proofs.noted.Noted.note.Goals as goal
+use Rattle.vme_account.proofs.step_notes.StepNotes.note.Goals as goal
 
 pub take_step-requires : goal.take_step-requires
 take_step-requires c =

@@ -1,5 +1,5 @@
 use Rattle.std.proofs.Common.{refl}
-use Rattle.vme_account.proofs.noted.Noted.at_opening.Goals as goal
+use Rattle.vme_account.proofs.step_notes.StepNotes.at_opening.Goals as goal
 
 pub returns : goal.returns
 returns c = record {
