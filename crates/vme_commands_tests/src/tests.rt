@@ -7,7 +7,7 @@ use std::thread::Threads;
 use vme_commands::check::check;
 use vme_commands::list::list;
 use vme_commands::{BLOCK, BUILT_IN, allowance_of, allowances_of};
-use vme_faults::Kind;
+use vme_faults::RefusalKind;
 use vme_stream::Bytes;
 use vme_text_commands::bind::bind;
 use vme_text_commands::explain::{InputNames, explain};
@@ -643,7 +643,7 @@ fn a_binding_is_written_for_a_scope(rt: HostRuntime) -> Result<(), Fail> {
 fn a_kind_of_refusal_is_told(rt: HostRuntime) {
     let mut out = Page::new(rt.alloc(), 5000);
     let mut err = Page::new(rt.alloc(), 100);
-    let status = tell_faults(rt.alloc(), Some(Kind::BadVar), &mut out, &mut err);
+    let status = tell_faults(rt.alloc(), Some(RefusalKind::BadVar), &mut out, &mut err);
     let told =
         b"BadVar: a declaration that is none\n  expected: `$var`, a type, a size in digits, ";
     let is_told = out.bytes.as_slice().starts_with(told);

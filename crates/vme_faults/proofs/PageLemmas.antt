@@ -1,10 +1,10 @@
 -- The rows of the texts of a kind are its page.
 use Rattle.std.proofs.Common.{◌≡◌, ℕ, List, ap, ◌∙◌}
-use Rattle.vme_faults.specs.Kinds.{kind_name}
+use Rattle.vme_faults.specs.RefusalKinds.{kind_name}
 use Rattle.vme_faults.specs.Pages.{causes_of, expected_of, means_of, page_text, remedy_of, rows}
-use Rattle.vme_faults.specs.declared.kind.Kind.{Kind}
+use Rattle.vme_faults.specs.declared.refusal_kind.RefusalKind.{RefusalKind}
 
-pub rows-are : (k : Kind) (n m e u r : List ℕ) → n ≡ kind_name k → m ≡ means_of k → e ≡ expected_of k
+pub rows-are : (k : RefusalKind) (n m e u r : List ℕ) → n ≡ kind_name k → m ≡ means_of k → e ≡ expected_of k
     → u ≡ causes_of k → r ≡ remedy_of k → rows n m e u r ≡ page_text k
 unfolding page_text
 rows-are k n m e u r name means expected causes remedy =

@@ -1,5 +1,5 @@
 pub mod Files
-pub mod Kinds
+pub mod RefusalKinds
 pub mod Nearness
 pub mod Pages
 pub mod Refusals

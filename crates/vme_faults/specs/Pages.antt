@@ -1,15 +1,15 @@
 -- What is told of each kind of fault or refusal.
 use Rattle.std.specs.Prelude.{ℕ, List, [], ◌∷◌, ◌++◌, Option, None, Some, codes, flat_map}
-use Rattle.vme_faults.specs.Kinds.{all_kinds, kind_name}
-use Rattle.vme_faults.specs.declared.kind.Kind.{Kind}
-use Rattle.vme_faults.specs.declared.kind.Kind.TheVariants as kind
+use Rattle.vme_faults.specs.RefusalKinds.{all_kinds, kind_name}
+use Rattle.vme_faults.specs.declared.refusal_kind.RefusalKind.{RefusalKind}
+use Rattle.vme_faults.specs.declared.refusal_kind.RefusalKind.TheVariants as kind
 
 -- where a text goes on in the next line
 abbrev pub turn : List ℕ
 turn = 10 ∷ 32 ∷ 32 ∷ 32 ∷ 32 ∷ []
 
 -- what it means
-abbrev pub means_of : Kind → List ℕ
+abbrev pub means_of : RefusalKind → List ℕ
 means_of kind.BadToken = codes "a token of the dump may not stand where it stands"
 means_of kind.UnfinishedSection = codes "a section, a change or a bracket that the dump ends in"
 means_of kind.BadVar = codes "a declaration that is none"
@@ -39,7 +39,7 @@ means_of kind.TooManyBlocks = codes "over 4,096 blocks of the size that was aske
 means_of kind.OutOfMemory = codes "there is no memory, or none is given"
 
 -- what was expected there
-abbrev pub expected_of : Kind → List ℕ
+abbrev pub expected_of : RefusalKind → List ℕ
 expected_of kind.BadToken =
     codes "in the header a section, as `$var wire 1 ! AS $end`; behind `$enddefinitions` a time"
     ++ turn ++ codes "(`#100`), a change (`0!`, `x!`, `b01z !`), `$dumpvars`, `$dumpall`, `$dumpon`, `$dumpoff` or"
@@ -81,7 +81,7 @@ expected_of kind.TooManyBlocks = codes "a greater block"
 expected_of kind.OutOfMemory = codes "memory for the inputs and for the steps of the recording"
 
 -- what usually causes it
-abbrev pub causes_of : Kind → List ℕ
+abbrev pub causes_of : RefusalKind → List ℕ
 causes_of kind.BadToken =
     codes "in line 1 no plain dump: an FST, an LXT or a compressed file, UTF-16, a byte order mark,"
     ++ turn ++ codes "or a binding in the dump's place; a letter such as U, W, L, H or - in a value: nine states; a"
@@ -134,7 +134,7 @@ causes_of kind.TooManyBlocks = codes "a small `--block` of a long recording"
 causes_of kind.OutOfMemory = codes "a limit, as by `ulimit -v` or of a container; a long recording"
 
 -- the remedy
-abbrev pub remedy_of : Kind → List ℕ
+abbrev pub remedy_of : RefusalKind → List ℕ
 remedy_of kind.BadToken =
     codes "`fst2vcd bus.fst > bus.vcd`, `zcat bus.vcd.gz > bus.vcd`, `iconv -f UTF-16 -t UTF-8`, or"
     ++ turn ++ codes "`tail -c +4` for a mark of three bytes, make it plain; GHDL writes four states by"
@@ -193,10 +193,10 @@ rows name means expected causes remedy =
     ++ row (codes "  remedy") remedy
 
 -- what is told of a kind
-unfoldable pub page_text : Kind → List ℕ
+unfoldable pub page_text : RefusalKind → List ℕ
 page_text k = rows (kind_name k) (means_of k) (expected_of k) (causes_of k) (remedy_of k)
 
 -- what is told of one kind, or of each
-abbrev pub pages_of : Option Kind → List ℕ
+abbrev pub pages_of : Option RefusalKind → List ℕ
 pages_of (Some k) = page_text k
 pages_of None = flat_map page_text all_kinds

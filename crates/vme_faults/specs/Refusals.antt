@@ -7,11 +7,11 @@ use Rattle.vme_listing.specs.declared.fault.ListFault.{ListFault}
 use Rattle.vme_listing.specs.declared.fault.ListFault.TheVariants as list
 use Rattle.vme_stream.specs.declared.refusal.Refusal.{Refusal}
 use Rattle.vme_stream.specs.declared.refusal.Refusal.TheVariants as refusal
-use Rattle.vme_faults.specs.declared.kind.Kind.{Kind}
-use Rattle.vme_faults.specs.declared.kind.Kind.TheVariants as kind
+use Rattle.vme_faults.specs.declared.refusal_kind.RefusalKind.{RefusalKind}
+use Rattle.vme_faults.specs.declared.refusal_kind.RefusalKind.TheVariants as kind
 
 -- a fault of a dump
-abbrev pub dump_kind : FaultKind → Kind
+abbrev pub dump_kind : FaultKind → RefusalKind
 dump_kind vcd.BadToken = kind.BadToken
 dump_kind vcd.UnfinishedSection = kind.UnfinishedSection
 dump_kind vcd.BadVar = kind.BadVar
@@ -25,7 +25,7 @@ dump_kind vcd.NumberTooLarge = kind.NumberTooLarge
 dump_kind vcd.Memory = kind.OutOfMemory
 
 -- a fault of a binding
-abbrev pub binding_kind : BindFaultKind → Kind
+abbrev pub binding_kind : BindFaultKind → RefusalKind
 binding_kind bind.BadLine = kind.BadLine
 binding_kind bind.SlotsFirst = kind.SlotsFirst
 binding_kind bind.UnknownName = kind.UnknownName
@@ -38,14 +38,14 @@ binding_kind bind.WrongWidth = kind.WrongWidth
 binding_kind bind.TooManySteps = kind.TooManySteps
 
 -- a fault of a listing
-abbrev pub listing_kind : ListFault → Kind
+abbrev pub listing_kind : ListFault → RefusalKind
 listing_kind list.BadHeader = kind.BadHeader
 listing_kind (list.BadRow row) = kind.BadRow
 listing_kind (list.Unsorted row) = kind.Unsorted
 listing_kind list.Memory = kind.OutOfMemory
 
 -- a refusal
-abbrev pub kind_of : Refusal → Kind
+abbrev pub kind_of : Refusal → RefusalKind
 kind_of (refusal.CannotOpen input) = kind.CannotOpen
 kind_of (refusal.CannotRead input) = kind.CannotRead
 kind_of (refusal.TooLong input) = kind.TooLong

@@ -5,10 +5,10 @@
 //!
 //! # Parts
 //!
-//! - `kind`: [`Kind`], each kind of refusal, by the name that a refusal has.
+//! - `refusal_kind`: [`RefusalKind`], each kind of refusal, by the name that a refusal has.
 //! - `page`: the page of each, [`Page::of`], the only source of these texts; and the pages as text.
 //!   `vmecheck faults` and docs/RECORDING.md say what it says.
-//! - `refusal`: [`Kind::of`] says of which kind a refusal is.
+//! - `refusal`: [`RefusalKind::of`] says of which kind a refusal is.
 //! - `file_kind`: [`FileKind::of`] says by its first bytes what kind of file some bytes are, and
 //!   which program makes a plain dump of it.
 //! - `nearness`: [`nearest`], the variables whose paths are nearest to one.
@@ -19,7 +19,7 @@
 //!
 //! - The page of a kind is exactly that of `specs/Pages`, and exactly this page is written; each
 //!   kind has one, and `faults_text` has all of them (`pages_of`).
-//! - A kind has the name of `specs/Kinds`, and a name finds the kind that has it (`found`).
+//! - A kind has the name of `specs/RefusalKinds`, and a name finds the kind that has it (`found`).
 //! - The kind of a refusal is exactly that of `specs/Refusals`.
 //! - A kind of file is exactly that of `specs/Files`, by the bytes that the formats begin with.
 //! - The nearest variables are exactly those that come first, where all stand in the order of how
@@ -42,14 +42,14 @@
 
 mod file_kind;
 mod kept_lines;
-mod kind;
 mod line_words;
 mod nearness;
 mod page;
 mod refusal;
+mod refusal_kind;
 
 pub use file_kind::FileKind;
 pub use kept_lines::KeptLines;
-pub use kind::Kind;
 pub use nearness::{NearVariable, nearest};
 pub use page::{Page, faults_text, push_page};
+pub use refusal_kind::RefusalKind;

@@ -3,7 +3,7 @@
 ghost use Rattle.std.specs.Prelude.{◌≡◌, ◌++◌, IfOk, OnOk, flat_map};
 ghost use Rattle.vme_faults.specs.Pages.{causes_of, expected_of, means_of, page_text, pages_of, remedy_of, row, rows};
 
-use crate::kind::Kind;
+use crate::refusal_kind::RefusalKind;
 use std::alloc::{AllocError, Global};
 use vme_text::Text;
 
@@ -11,7 +11,7 @@ use vme_text::Text;
 #[derive(Clone, Copy, Debug)]
 pub struct Page {
     /// The kind.
-    pub kind: Kind,
+    pub kind: RefusalKind,
     /// What it means.
     pub means: &'static str,
     /// What was expected there.
@@ -23,7 +23,7 @@ pub struct Page {
 }
 
 const BAD_TOKEN: Page = Page {
-    kind: Kind::BadToken,
+    kind: RefusalKind::BadToken,
     means: "a token of the dump may not stand where it stands",
     expected: "in the header a section, as `$var wire 1 ! AS $end`; behind `$enddefinitions` a time\n    \
      (`#100`), a change (`0!`, `x!`, `b01z !`), `$dumpvars`, `$dumpall`, `$dumpon`, `$dumpoff` or\n    \
@@ -39,7 +39,7 @@ const BAD_TOKEN: Page = Page {
 };
 
 const UNFINISHED_SECTION: Page = Page {
-    kind: Kind::UnfinishedSection,
+    kind: RefusalKind::UnfinishedSection,
     means: "a section, a change or a bracket that the dump ends in",
     expected: "the `$end` of that section, or the code of that change",
     causes: "the simulation was killed, or the disk was full, so the dump ends in the middle; in the\n    \
@@ -48,7 +48,7 @@ const UNFINISHED_SECTION: Page = Page {
 };
 
 const BAD_VAR: Page = Page {
-    kind: Kind::BadVar,
+    kind: RefusalKind::BadVar,
     means: "a declaration that is none",
     expected: "`$var`, a type, a size in digits, a code of visible characters, a name and `$end`",
     causes: "a vector of extended VCD, by `$dumpports`; a header that was edited by hand",
@@ -56,7 +56,7 @@ const BAD_VAR: Page = Page {
 };
 
 const SCOPE_UNDERFLOW: Page = Page {
-    kind: Kind::ScopeUnderflow,
+    kind: RefusalKind::ScopeUnderflow,
     means: "an `$upscope` where no scope is open",
     expected: "a `$scope` for each `$upscope`, before it",
     causes: "two headers were joined; a header that was edited by hand",
@@ -64,7 +64,7 @@ const SCOPE_UNDERFLOW: Page = Page {
 };
 
 const NO_END_DEFINITIONS: Page = Page {
-    kind: Kind::NoEndDefinitions,
+    kind: RefusalKind::NoEndDefinitions,
     means: "the dump ends before its `$enddefinitions`",
     expected: "a header up to `$enddefinitions $end`, and changes behind it",
     causes: "an empty dump, or one whose simulation ended before `$dumpvars`",
@@ -73,7 +73,7 @@ const NO_END_DEFINITIONS: Page = Page {
 };
 
 const UNDECLARED_CODE: Page = Page {
-    kind: Kind::UndeclaredCode,
+    kind: RefusalKind::UndeclaredCode,
     means: "a change of a code that no variable has",
     expected: "the code of a variable of the header",
     causes: "a header that belongs to another run; two headers that were joined; a string with a space\n    \
@@ -82,7 +82,7 @@ const UNDECLARED_CODE: Page = Page {
 };
 
 const SIZE_CONFLICT: Page = Page {
-    kind: Kind::SizeConflict,
+    kind: RefusalKind::SizeConflict,
     means: "a code is declared again with another size",
     expected: "one size for each code",
     causes: "a header that belongs to another run; two headers that were joined",
@@ -90,7 +90,7 @@ const SIZE_CONFLICT: Page = Page {
 };
 
 const TOO_WIDE: Page = Page {
-    kind: Kind::TooWide,
+    kind: RefusalKind::TooWide,
     means: "a change of more digits than its variable has bits",
     expected: "at most as many digits as the header declares bits",
     causes: "a header that belongs to another run; two headers that were joined; a writer that pads\n    \
@@ -100,7 +100,7 @@ const TOO_WIDE: Page = Page {
 };
 
 const TIME_BACKWARDS: Page = Page {
-    kind: Kind::TimeBackwards,
+    kind: RefusalKind::TimeBackwards,
     means: "a time before the one that came last",
     expected: "times that never go back",
     causes: "the changes of two runs in one file, such as two that wrote to the same name at once",
@@ -108,7 +108,7 @@ const TIME_BACKWARDS: Page = Page {
 };
 
 const NUMBER_TOO_LARGE: Page = Page {
-    kind: Kind::NumberTooLarge,
+    kind: RefusalKind::NumberTooLarge,
     means: "a size over 65,536 bits, or a time past 18,446,744,073,709,551,615",
     expected: "a smaller number",
     causes: "a variable of over 65,536 bits, such as a memory",
@@ -116,7 +116,7 @@ const NUMBER_TOO_LARGE: Page = Page {
 };
 
 const SLOTS_FIRST: Page = Page {
-    kind: Kind::SlotsFirst,
+    kind: RefusalKind::SlotsFirst,
     means: "the first line of the binding that says something isn't `slots N`",
     expected: "`slots N`, N from 1 to 21 without leading zeros",
     causes: "binding and dump in the wrong order; an empty file, as `bind` leaves where it is refused\n    \
@@ -126,7 +126,7 @@ const SLOTS_FIRST: Page = Page {
 };
 
 const BAD_LINE: Page = Page {
-    kind: Kind::BadLine,
+    kind: RefusalKind::BadLine,
     means: "a line of the binding isn't `NAME = SOURCE`",
     expected: "three words with spaces between them: a line or a group, `=`, and a path, `0`, `1` or\n    \
      `x`",
@@ -137,7 +137,7 @@ const BAD_LINE: Page = Page {
 };
 
 const UNKNOWN_NAME: Page = Page {
-    kind: Kind::UnknownName,
+    kind: RefusalKind::UnknownName,
     means: "a name that no line of the backplane has, and no group",
     expected: "AS, DS0, DS1, DTACK, BERR, IACK, AM0 to AM5, A01 to A31, D00 to D31, LWORD, WRITE, BBSY,\n    \
      BR0 to BR3, SYSRESET, of N slots BG0.0 to BG3.N and IA.1 to IA.N, or a group: AM, A, D, BR, BG0\n    \
@@ -148,7 +148,7 @@ const UNKNOWN_NAME: Page = Page {
 };
 
 const NAMED_TWICE: Page = Page {
-    kind: Kind::NamedTwice,
+    kind: RefusalKind::NamedTwice,
     means: "a line of the backplane that is bound before",
     expected: "each line once",
     causes: "a line by itself and in its group, such as AM0 and AM",
@@ -156,7 +156,7 @@ const NAMED_TWICE: Page = Page {
 };
 
 const UNBOUND: Page = Page {
-    kind: Kind::Unbound,
+    kind: RefusalKind::Unbound,
     means: "a line of the backplane that isn't bound, the least one",
     expected: "a source for each line; the data lines may be left out together, and so may SYSRESET",
     causes: "a line that wasn't recorded; a binding that was made for fewer slots",
@@ -165,7 +165,7 @@ const UNBOUND: Page = Page {
 };
 
 const NO_SUCH_PATH: Page = Page {
-    kind: Kind::NoSuchPath,
+    kind: RefusalKind::NoSuchPath,
     means: "the dump has no variable of this path, or none with these bits",
     expected: "the scopes and the name of a variable, joined by dots, and bits that its index has",
     causes: "another case of letters; a scope left out, such as `TOP.`; an index that isn't the\n    \
@@ -175,7 +175,7 @@ const NO_SUCH_PATH: Page = Page {
 };
 
 const AMBIGUOUS_PATH: Page = Page {
-    kind: Kind::AmbiguousPath,
+    kind: RefusalKind::AmbiguousPath,
     means: "the dump has several variables of this path, and they aren't the same bits",
     expected: "a path that means one variable",
     causes: "two variables of one path; nets such as `AM [5]` and `AM [4]`, bound without the index",
@@ -184,7 +184,7 @@ const AMBIGUOUS_PATH: Page = Page {
 };
 
 const WRONG_WIDTH: Page = Page {
-    kind: Kind::WrongWidth,
+    kind: RefusalKind::WrongWidth,
     means: "the variable has more bits than the lines, or fewer",
     expected: "one bit for a line; 6 for AM, 31 for A, 32 for D, 4 for BR, N + 1 for BG0 to BG3 and N\n    \
      for IA of N slots",
@@ -193,7 +193,7 @@ const WRONG_WIDTH: Page = Page {
 };
 
 const TOO_MANY_STEPS: Page = Page {
-    kind: Kind::TooManySteps,
+    kind: RefusalKind::TooManySteps,
     means: "over 268,435,456 instants at which a bound line changes",
     expected: "a shorter recording",
     causes: "a long simulation; a clock that is bound as a line",
@@ -201,7 +201,7 @@ const TOO_MANY_STEPS: Page = Page {
 };
 
 const BAD_HEADER: Page = Page {
-    kind: Kind::BadHeader,
+    kind: RefusalKind::BadHeader,
     means: "the first line of the listing isn't that of a listing",
     expected: "`vmecheck listing 3`, or 2 or 1",
     causes: "another file; other line ends; a listing of a later version",
@@ -209,7 +209,7 @@ const BAD_HEADER: Page = Page {
 };
 
 const BAD_ROW: Page = Page {
-    kind: Kind::BadRow,
+    kind: RefusalKind::BadRow,
     means: "a row of the listing isn't written as a row is, or may not stand there",
     expected: "a row as `list` writes it, with one space between its words",
     causes: "a listing that was edited by hand, has other line ends, or ends in the middle",
@@ -217,7 +217,7 @@ const BAD_ROW: Page = Page {
 };
 
 const UNSORTED: Page = Page {
-    kind: Kind::Unsorted,
+    kind: RefusalKind::Unsorted,
     means: "a row of the listing isn't behind the one before it",
     expected: "rows in the order of their first instants",
     causes: "a listing that was sorted or edited by hand",
@@ -225,7 +225,7 @@ const UNSORTED: Page = Page {
 };
 
 const CANNOT_OPEN: Page = Page {
-    kind: Kind::CannotOpen,
+    kind: RefusalKind::CannotOpen,
     means: "the file of an input can't be opened",
     expected: "the name of a file that may be read",
     causes: "a name that is misspelt; another folder; a file that this user may not read",
@@ -233,7 +233,7 @@ const CANNOT_OPEN: Page = Page {
 };
 
 const CANNOT_READ: Page = Page {
-    kind: Kind::CannotRead,
+    kind: RefusalKind::CannotRead,
     means: "the bytes of an input can't be had",
     expected: "a file, or a pipe that ends",
     causes: "a folder in the file's place; a disk or a network that fails; a pipe that gives a few\n    \
@@ -242,7 +242,7 @@ const CANNOT_READ: Page = Page {
 };
 
 const TOO_LONG: Page = Page {
-    kind: Kind::TooLong,
+    kind: RefusalKind::TooLong,
     means: "an input has over 268,435,456 bytes, or a listing over 137,438,953,472",
     expected: "a shorter input",
     causes: "a long simulation; a dump of the whole design",
@@ -251,7 +251,7 @@ const TOO_LONG: Page = Page {
 };
 
 const TOO_MANY_BLOCKS: Page = Page {
-    kind: Kind::TooManyBlocks,
+    kind: RefusalKind::TooManyBlocks,
     means: "over 4,096 blocks of the size that was asked",
     expected: "a greater block",
     causes: "a small `--block` of a long recording",
@@ -259,7 +259,7 @@ const TOO_MANY_BLOCKS: Page = Page {
 };
 
 const OUT_OF_MEMORY: Page = Page {
-    kind: Kind::OutOfMemory,
+    kind: RefusalKind::OutOfMemory,
     means: "there is no memory, or none is given",
     expected: "memory for the inputs and for the steps of the recording",
     causes: "a limit, as by `ulimit -v` or of a container; a long recording",
@@ -268,7 +268,7 @@ const OUT_OF_MEMORY: Page = Page {
 
 impl Page {
     /// The page of a kind.
-    pub fn of(kind: Kind) -> Page
+    pub fn of(kind: RefusalKind) -> Page
         ensures kind { result.kind ≡ kind }
         ensures means { result.means.now ≡ means_of kind }
         ensures expected { result.expected.now ≡ expected_of kind }
@@ -276,33 +276,33 @@ impl Page {
         ensures remedy { result.remedy.now ≡ remedy_of kind }
     {
         let page: &'static Page = match kind {
-            Kind::BadToken => &BAD_TOKEN,
-            Kind::UnfinishedSection => &UNFINISHED_SECTION,
-            Kind::BadVar => &BAD_VAR,
-            Kind::ScopeUnderflow => &SCOPE_UNDERFLOW,
-            Kind::NoEndDefinitions => &NO_END_DEFINITIONS,
-            Kind::UndeclaredCode => &UNDECLARED_CODE,
-            Kind::SizeConflict => &SIZE_CONFLICT,
-            Kind::TooWide => &TOO_WIDE,
-            Kind::TimeBackwards => &TIME_BACKWARDS,
-            Kind::NumberTooLarge => &NUMBER_TOO_LARGE,
-            Kind::SlotsFirst => &SLOTS_FIRST,
-            Kind::BadLine => &BAD_LINE,
-            Kind::UnknownName => &UNKNOWN_NAME,
-            Kind::NamedTwice => &NAMED_TWICE,
-            Kind::Unbound => &UNBOUND,
-            Kind::NoSuchPath => &NO_SUCH_PATH,
-            Kind::AmbiguousPath => &AMBIGUOUS_PATH,
-            Kind::WrongWidth => &WRONG_WIDTH,
-            Kind::TooManySteps => &TOO_MANY_STEPS,
-            Kind::BadHeader => &BAD_HEADER,
-            Kind::BadRow => &BAD_ROW,
-            Kind::Unsorted => &UNSORTED,
-            Kind::CannotOpen => &CANNOT_OPEN,
-            Kind::CannotRead => &CANNOT_READ,
-            Kind::TooLong => &TOO_LONG,
-            Kind::TooManyBlocks => &TOO_MANY_BLOCKS,
-            Kind::OutOfMemory => &OUT_OF_MEMORY,
+            RefusalKind::BadToken => &BAD_TOKEN,
+            RefusalKind::UnfinishedSection => &UNFINISHED_SECTION,
+            RefusalKind::BadVar => &BAD_VAR,
+            RefusalKind::ScopeUnderflow => &SCOPE_UNDERFLOW,
+            RefusalKind::NoEndDefinitions => &NO_END_DEFINITIONS,
+            RefusalKind::UndeclaredCode => &UNDECLARED_CODE,
+            RefusalKind::SizeConflict => &SIZE_CONFLICT,
+            RefusalKind::TooWide => &TOO_WIDE,
+            RefusalKind::TimeBackwards => &TIME_BACKWARDS,
+            RefusalKind::NumberTooLarge => &NUMBER_TOO_LARGE,
+            RefusalKind::SlotsFirst => &SLOTS_FIRST,
+            RefusalKind::BadLine => &BAD_LINE,
+            RefusalKind::UnknownName => &UNKNOWN_NAME,
+            RefusalKind::NamedTwice => &NAMED_TWICE,
+            RefusalKind::Unbound => &UNBOUND,
+            RefusalKind::NoSuchPath => &NO_SUCH_PATH,
+            RefusalKind::AmbiguousPath => &AMBIGUOUS_PATH,
+            RefusalKind::WrongWidth => &WRONG_WIDTH,
+            RefusalKind::TooManySteps => &TOO_MANY_STEPS,
+            RefusalKind::BadHeader => &BAD_HEADER,
+            RefusalKind::BadRow => &BAD_ROW,
+            RefusalKind::Unsorted => &UNSORTED,
+            RefusalKind::CannotOpen => &CANNOT_OPEN,
+            RefusalKind::CannotRead => &CANNOT_READ,
+            RefusalKind::TooLong => &TOO_LONG,
+            RefusalKind::TooManyBlocks => &TOO_MANY_BLOCKS,
+            RefusalKind::OutOfMemory => &OUT_OF_MEMORY,
         };
         *page
     }
@@ -310,7 +310,7 @@ impl Page {
 
 /// Appends the page of a kind, four lines: its name and what it means, what was expected, what usually causes it, and
 /// the remedy. Without memory the text ends somewhere in them.
-pub fn push_page(text: &mut Text, kind: Kind) -> Result<(), AllocError>
+pub fn push_page(text: &mut Text, kind: RefusalKind) -> Result<(), AllocError>
     ensures { OnOk result (text.new ≡ text.old ++ page_text kind) }
 {
     let page = Page::of(kind);
@@ -352,7 +352,7 @@ fn push_row(text: &mut Text, name: &[u8], value: &[u8]) -> Result<(), AllocError
 }
 
 /// Appends the pages of some kinds.
-fn push_pages(text: &mut Text, kinds: &[Kind]) -> Result<(), AllocError>
+fn push_pages(text: &mut Text, kinds: &[RefusalKind]) -> Result<(), AllocError>
     ensures { OnOk result (text.new ≡ text.old ++ flat_map page_text kinds.now) }
 {
     for kind in kinds {
@@ -362,13 +362,13 @@ fn push_pages(text: &mut Text, kinds: &[Kind]) -> Result<(), AllocError>
 }
 
 /// The page of a kind, or that of each kind, in their order.
-pub fn faults_text(alloc: Global, only: Option<Kind>) -> Result<Text, AllocError>
+pub fn faults_text(alloc: Global, only: Option<RefusalKind>) -> Result<Text, AllocError>
     ensures { IfOk result (λ text. text ≡ pages_of only) }
 {
     let mut text = Text::new(alloc);
     match only {
         Some(kind) => push_page(&mut text, kind)?,
-        None => push_pages(&mut text, &Kind::ALL)?,
+        None => push_pages(&mut text, &RefusalKind::ALL)?,
     }
     Ok(text)
 }

@@ -3,75 +3,75 @@
 ghost use Rattle.std.specs.Prelude.{◌≡◌};
 ghost use Rattle.vme_faults.specs.Refusals.{binding_kind, dump_kind, kind_of, listing_kind};
 
-use crate::kind::Kind;
+use crate::refusal_kind::RefusalKind;
 use vcd_read::FaultKind;
 use vme_bind::BindFaultKind;
 use vme_listing::ListFault;
 use vme_stream::Refusal;
 
-impl Kind {
+impl RefusalKind {
     /// The kind of a refusal.
-    pub fn of(refusal: &Refusal) -> Kind
+    pub fn of(refusal: &Refusal) -> RefusalKind
         ensures { result ≡ kind_of refusal.now }
     {
         match refusal {
-            Refusal::CannotOpen(_) => Kind::CannotOpen,
-            Refusal::CannotRead(_) => Kind::CannotRead,
-            Refusal::TooLong(_) => Kind::TooLong,
+            Refusal::CannotOpen(_) => RefusalKind::CannotOpen,
+            Refusal::CannotRead(_) => RefusalKind::CannotRead,
+            Refusal::TooLong(_) => RefusalKind::TooLong,
             Refusal::BadBinding(fault) => binding_kind(fault.kind),
             Refusal::BadDump(fault) => dump_kind(fault.kind),
             Refusal::BadListing(fault) => listing_kind(*fault),
-            Refusal::TooManyBlocks => Kind::TooManyBlocks,
-            Refusal::Memory => Kind::OutOfMemory,
+            Refusal::TooManyBlocks => RefusalKind::TooManyBlocks,
+            Refusal::Memory => RefusalKind::OutOfMemory,
         }
     }
 }
 
 /// The kind of a fault of a dump.
-fn dump_kind(kind: FaultKind) -> Kind
+fn dump_kind(kind: FaultKind) -> RefusalKind
     ensures { result ≡ dump_kind kind }
 {
     match kind {
-        FaultKind::BadToken => Kind::BadToken,
-        FaultKind::UnfinishedSection => Kind::UnfinishedSection,
-        FaultKind::BadVar => Kind::BadVar,
-        FaultKind::ScopeUnderflow => Kind::ScopeUnderflow,
-        FaultKind::NoEndDefinitions => Kind::NoEndDefinitions,
-        FaultKind::UndeclaredCode => Kind::UndeclaredCode,
-        FaultKind::TooWide => Kind::TooWide,
-        FaultKind::SizeConflict => Kind::SizeConflict,
-        FaultKind::TimeBackwards => Kind::TimeBackwards,
-        FaultKind::NumberTooLarge => Kind::NumberTooLarge,
-        FaultKind::Memory => Kind::OutOfMemory,
+        FaultKind::BadToken => RefusalKind::BadToken,
+        FaultKind::UnfinishedSection => RefusalKind::UnfinishedSection,
+        FaultKind::BadVar => RefusalKind::BadVar,
+        FaultKind::ScopeUnderflow => RefusalKind::ScopeUnderflow,
+        FaultKind::NoEndDefinitions => RefusalKind::NoEndDefinitions,
+        FaultKind::UndeclaredCode => RefusalKind::UndeclaredCode,
+        FaultKind::TooWide => RefusalKind::TooWide,
+        FaultKind::SizeConflict => RefusalKind::SizeConflict,
+        FaultKind::TimeBackwards => RefusalKind::TimeBackwards,
+        FaultKind::NumberTooLarge => RefusalKind::NumberTooLarge,
+        FaultKind::Memory => RefusalKind::OutOfMemory,
     }
 }
 
 /// The kind of a fault of a binding.
-fn binding_kind(kind: BindFaultKind) -> Kind
+fn binding_kind(kind: BindFaultKind) -> RefusalKind
     ensures { result ≡ binding_kind kind }
 {
     match kind {
-        BindFaultKind::BadLine => Kind::BadLine,
-        BindFaultKind::SlotsFirst => Kind::SlotsFirst,
-        BindFaultKind::UnknownName => Kind::UnknownName,
-        BindFaultKind::NamedTwice => Kind::NamedTwice,
-        BindFaultKind::Unbound(_) => Kind::Unbound,
-        BindFaultKind::Memory => Kind::OutOfMemory,
-        BindFaultKind::NoSuchPath => Kind::NoSuchPath,
-        BindFaultKind::AmbiguousPath => Kind::AmbiguousPath,
-        BindFaultKind::WrongWidth => Kind::WrongWidth,
-        BindFaultKind::TooManySteps => Kind::TooManySteps,
+        BindFaultKind::BadLine => RefusalKind::BadLine,
+        BindFaultKind::SlotsFirst => RefusalKind::SlotsFirst,
+        BindFaultKind::UnknownName => RefusalKind::UnknownName,
+        BindFaultKind::NamedTwice => RefusalKind::NamedTwice,
+        BindFaultKind::Unbound(_) => RefusalKind::Unbound,
+        BindFaultKind::Memory => RefusalKind::OutOfMemory,
+        BindFaultKind::NoSuchPath => RefusalKind::NoSuchPath,
+        BindFaultKind::AmbiguousPath => RefusalKind::AmbiguousPath,
+        BindFaultKind::WrongWidth => RefusalKind::WrongWidth,
+        BindFaultKind::TooManySteps => RefusalKind::TooManySteps,
     }
 }
 
 /// The kind of a fault of a listing.
-fn listing_kind(fault: ListFault) -> Kind
+fn listing_kind(fault: ListFault) -> RefusalKind
     ensures { result ≡ listing_kind fault }
 {
     match fault {
-        ListFault::BadHeader => Kind::BadHeader,
-        ListFault::BadRow { .. } => Kind::BadRow,
-        ListFault::Unsorted { .. } => Kind::Unsorted,
-        ListFault::Memory => Kind::OutOfMemory,
+        ListFault::BadHeader => RefusalKind::BadHeader,
+        ListFault::BadRow { .. } => RefusalKind::BadRow,
+        ListFault::Unsorted { .. } => RefusalKind::Unsorted,
+        ListFault::Memory => RefusalKind::OutOfMemory,
     }
 }

@@ -3,7 +3,7 @@ use std::process::Abort;
 use std::test::Fail;
 use vcd_read::{FaultKind, Variables, VcdFault, read_definitions};
 use vme_bind::{BindFault, BindFaultKind};
-use vme_faults::{FileKind, Kind, NearVariable, Page, faults_text, nearest};
+use vme_faults::{FileKind, NearVariable, Page, RefusalKind, faults_text, nearest};
 use vme_listing::ListFault;
 use vme_stream::Refusal;
 
@@ -19,7 +19,7 @@ const OF_NO_SUCH_PATH: &str =
 
 #[test]
 fn a_kind_is_told(rt: HostRuntime) -> Result<(), Fail> {
-    let text = faults_text(rt.alloc(), Some(Kind::NoSuchPath))?;
+    let text = faults_text(rt.alloc(), Some(RefusalKind::NoSuchPath))?;
     assert_eq!(rt; text.as_bytes(), OF_NO_SUCH_PATH.as_bytes());
     Ok(())
 }
@@ -43,16 +43,25 @@ fn all_kinds_are_told_in_their_order(rt: HostRuntime) -> Result<(), Fail> {
             .split(|byte| *byte == b'\n')
             .all(|line| line.len() <= 100)
     );
-    assert_eq!(rt; Page::of(Kind::BadVar).remedy, "record with `$dumpvars`");
+    assert_eq!(rt;
+        Page::of(RefusalKind::BadVar).remedy,
+        "record with `$dumpvars`"
+    );
     Ok(())
 }
 
 #[test]
 fn a_kind_has_its_name(rt: HostRuntime) -> Result<(), Fail> {
-    assert_eq!(rt; Kind::from_name(b"cannot open"), Some(Kind::CannotOpen));
-    assert_eq!(rt; Kind::from_name(b"listing header"), Some(Kind::BadHeader));
-    assert_eq!(rt; Kind::from_name(b"badtoken"), None);
-    assert_eq!(rt; Kind::TooManySteps.name(), "TooManySteps");
+    assert_eq!(rt;
+        RefusalKind::from_name(b"cannot open"),
+        Some(RefusalKind::CannotOpen)
+    );
+    assert_eq!(rt;
+        RefusalKind::from_name(b"listing header"),
+        Some(RefusalKind::BadHeader)
+    );
+    assert_eq!(rt; RefusalKind::from_name(b"badtoken"), None);
+    assert_eq!(rt; RefusalKind::TooManySteps.name(), "TooManySteps");
     Ok(())
 }
 
@@ -62,15 +71,24 @@ fn a_refusal_has_a_kind(rt: HostRuntime) -> Result<(), Fail> {
         line: 7,
         kind: FaultKind::TooWide,
     };
-    assert_eq!(rt; Kind::of(&Refusal::BadDump(fault)), Kind::TooWide);
+    assert_eq!(rt;
+        RefusalKind::of(&Refusal::BadDump(fault)),
+        RefusalKind::TooWide
+    );
     let fault = BindFault {
         line: 3,
         kind: BindFaultKind::NoSuchPath,
     };
-    assert_eq!(rt; Kind::of(&Refusal::BadBinding(fault)), Kind::NoSuchPath);
+    assert_eq!(rt;
+        RefusalKind::of(&Refusal::BadBinding(fault)),
+        RefusalKind::NoSuchPath
+    );
     let fault = ListFault::BadRow { row: 2 };
-    assert_eq!(rt; Kind::of(&Refusal::BadListing(fault)), Kind::BadRow);
-    assert_eq!(rt; Kind::of(&Refusal::Memory), Kind::OutOfMemory);
+    assert_eq!(rt;
+        RefusalKind::of(&Refusal::BadListing(fault)),
+        RefusalKind::BadRow
+    );
+    assert_eq!(rt; RefusalKind::of(&Refusal::Memory), RefusalKind::OutOfMemory);
     Ok(())
 }
 

@@ -7,8 +7,8 @@ use Rattle.vme_stream.specs.Ends.{Ends}
 use Rattle.vme_stream.specs.declared.refusal.Input.TheVariants.{Dump}
 use Rattle.vme_stream.specs.declared.refusal.Refusal.{Refusal}
 use Rattle.vme_text_commands.specs.TextAnswers.{ArePages, IsText, TellsVariables, text_answer_by}
-use Rattle.vme_faults.specs.Kinds.{kind_named}
-use Rattle.vme_faults.specs.declared.kind.Kind.{Kind}
+use Rattle.vme_faults.specs.RefusalKinds.{kind_named}
+use Rattle.vme_faults.specs.declared.refusal_kind.RefusalKind.{RefusalKind}
 use Rattle.vme_words.specs.declared.order.FaultsOrder.{FaultsOrder}
 use Rattle.vme_words.specs.declared.order.RulesOrder.{RulesOrder}
 use Rattle.vme_words.specs.declared.order.VariablesOrder.{VariablesOrder}
@@ -44,7 +44,7 @@ abbrev pub kind_word : FaultsOrder → Option (List ℕ)
 kind_word order = option_map string_bytes order.kind
 
 -- the kind that an order names, if it names one
-abbrev pub IsKindOf : FaultsOrder → Option Kind → Type 0
+abbrev pub IsKindOf : FaultsOrder → Option RefusalKind → Type 0
 IsKindOf order kind = MatchOption (kind_word order) (kind ≡ None) (λ name. kind_named name ≡ kind)
 
 -- it names none that there is
@@ -53,5 +53,5 @@ NamesNoKind order = IsSomeAnd (kind_word order) (λ name. kind_named name ≡ No
 
 -- the page of the kind that an order names is told, or that of each
 abbrev pub TellsFaults : FaultsOrder → Writing × Writing → Writing × Writing → ℕ → Type 0
-TellsFaults order out err status = (only : Option Kind) × (made : Result (List ℕ) Refusal)
+TellsFaults order out err status = (only : Option RefusalKind) × (made : Result (List ℕ) Refusal)
     × IsKindOf order only × ArePages only made × Ends (text_answer_by 0 made) out err status

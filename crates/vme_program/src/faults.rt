@@ -5,7 +5,7 @@ ghost use Rattle.vme_program.specs.Texts.{IsKindOf, NamesNoKind, TellsFaults};
 ghost use Rattle.vme_words.specs.OrderFaults.{IsOfWords};
 
 use std::alloc::Global;
-use vme_faults::Kind;
+use vme_faults::RefusalKind;
 use vme_text_commands::tell_faults;
 use vme_trace::Sink;
 use vme_words::{FaultsOrder, OrderFault, Task, task_fault};
@@ -33,7 +33,7 @@ pub fn faults_named<O: Sink, E: Sink>(
 }
 
 /// The kind of refusal that an order names, if it names one.
-fn kind_of(alloc: Global, order: &FaultsOrder) -> Result<Option<Kind>, OrderFault>
+fn kind_of(alloc: Global, order: &FaultsOrder) -> Result<Option<RefusalKind>, OrderFault>
     ensures kind { IfOk result (IsKindOf order.now) }
     ensures faulty { OnErr result (NamesNoKind order.now) }
     ensures of_words { IfErr result IsOfWords }
@@ -41,7 +41,7 @@ fn kind_of(alloc: Global, order: &FaultsOrder) -> Result<Option<Kind>, OrderFaul
     let Some(name) = &order.kind else {
         return Ok(None);
     };
-    match Kind::from_name(name.as_bytes()) {
+    match RefusalKind::from_name(name.as_bytes()) {
         Some(kind) => Ok(Some(kind)),
         None => Err(task_fault(alloc, Task::Faults, "there is no such refusal")),
     }

@@ -17,7 +17,7 @@ use Rattle.vme_text_commands.specs.declared.bind.NoBinding.TheVariants.{Refused,
 use Rattle.vme_text_commands.specs.Refused.{IsMore, MayHaveMore, refusal_with}
 use Rattle.vme_stream.specs.Inputs.{IsReading}
 use Rattle.vme_faults.specs.Pages.{pages_of}
-use Rattle.vme_faults.specs.declared.kind.Kind.{Kind}
+use Rattle.vme_faults.specs.declared.refusal_kind.RefusalKind.{RefusalKind}
 use denote.Ref.{Bor}
 
 abbrev pub text_answer : ℕ → List ℕ → CommandAnswer
@@ -39,7 +39,7 @@ IsText (Ok text) = Unit {0}
 IsText (Err refusal) = refusal ≡ Memory
 
 -- these are the pages of a kind, or of each, unless there was no memory
-abbrev pub ArePages : Option Kind → Result (List ℕ) Refusal → Type 0
+abbrev pub ArePages : Option RefusalKind → Result (List ℕ) Refusal → Type 0
 ArePages only (Ok text) = text ≡ pages_of only
 ArePages only (Err refusal) = refusal ≡ Memory
 

@@ -7,7 +7,7 @@ ghost use Rattle.vme_stream.specs.declared.refusal.Refusal.{Refusal};
 
 use crate::telling::tell_text;
 use std::alloc::Global;
-use vme_faults::{Kind, faults_text};
+use vme_faults::{RefusalKind, faults_text};
 use vme_stream::Refusal;
 use vme_text::Text;
 use vme_trace::Sink;
@@ -16,7 +16,7 @@ use vme_trace::Sink;
 /// and the remedy. The answer is the exit status: 0, 4 for want of memory, or 5 where the text can't be written.
 pub fn tell_faults<O: Sink, E: Sink>(
     alloc: Global,
-    only: Option<Kind>,
+    only: Option<RefusalKind>,
     out: &mut O,
     err: &mut E,
 ) -> u8
@@ -27,7 +27,7 @@ pub fn tell_faults<O: Sink, E: Sink>(
     tell_text(&made, 0, out, err)
 }
 
-fn text_of_faults(alloc: Global, only: Option<Kind>) -> Result<Text, Refusal>
+fn text_of_faults(alloc: Global, only: Option<RefusalKind>) -> Result<Text, Refusal>
     ensures { ArePages only result }
 {
     match faults_text(alloc, only) {

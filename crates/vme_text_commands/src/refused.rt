@@ -12,7 +12,7 @@ use crate::telling::say;
 use std::alloc::{AllocError, Global};
 use vcd_read::{FaultKind, Variable, VcdFault};
 use vme_bind::BindFaultKind;
-use vme_faults::{FileKind, Kind, push_page};
+use vme_faults::{FileKind, RefusalKind, push_page};
 use vme_stream::{Refusal, complain, refusal_line};
 use vme_text::{Text, push_escaped};
 use vme_trace::Sink;
@@ -62,7 +62,7 @@ fn refused_text(alloc: Global, refusal: &Refusal, shown: &Text) -> Result<Text, 
     let mut text = Text::new(alloc);
     text.push(refusal_line(refusal).as_bytes())?;
     text.push(shown.as_bytes())?;
-    push_page(&mut text, Kind::of(refusal))?;
+    push_page(&mut text, RefusalKind::of(refusal))?;
     Ok(text)
 }
 

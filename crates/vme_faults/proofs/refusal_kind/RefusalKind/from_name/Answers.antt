@@ -1,6 +1,6 @@
-use Rattle.vme_faults.specs.Kinds.{kind_named}
+use Rattle.vme_faults.specs.RefusalKinds.{kind_named}
 use Rattle.vme_faults.proofs.NameLemmas.{named_by}
-use Rattle.vme_faults.proofs.kind.Kind.from_name.Goals as goal
+use Rattle.vme_faults.proofs.refusal_kind.RefusalKind.from_name.Goals as goal
 
 pub returns-clause-kind : goal.returns-clause-kind
 unfolding kind_named

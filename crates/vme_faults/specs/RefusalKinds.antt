@@ -1,11 +1,11 @@
 -- The kinds of faults and refusals, and their names.
 use Rattle.std.specs.Prelude.{ℕ, Bool, List, [], ◌∷◌, Option, codes, find}
 use Rattle.std.specs.Str.{bytes_eq}
-use Rattle.vme_faults.specs.declared.kind.Kind.{Kind}
-use Rattle.vme_faults.specs.declared.kind.Kind.TheVariants as kind
+use Rattle.vme_faults.specs.declared.refusal_kind.RefusalKind.{RefusalKind}
+use Rattle.vme_faults.specs.declared.refusal_kind.RefusalKind.TheVariants as kind
 
 -- every kind, in the order in which they are told
-abbrev pub all_kinds : List Kind
+abbrev pub all_kinds : List RefusalKind
 all_kinds =
     kind.BadToken ∷ kind.UnfinishedSection ∷ kind.BadVar ∷ kind.ScopeUnderflow ∷ kind.NoEndDefinitions ∷
     kind.UndeclaredCode ∷ kind.SizeConflict ∷ kind.TooWide ∷ kind.TimeBackwards ∷ kind.NumberTooLarge ∷
@@ -14,7 +14,7 @@ all_kinds =
     kind.CannotOpen ∷ kind.CannotRead ∷ kind.TooLong ∷ kind.TooManyBlocks ∷ kind.OutOfMemory ∷ []
 
 -- its name, as a refusal tells it
-abbrev pub kind_name : Kind → List ℕ
+abbrev pub kind_name : RefusalKind → List ℕ
 kind_name kind.BadToken = codes "BadToken"
 kind_name kind.UnfinishedSection = codes "UnfinishedSection"
 kind_name kind.BadVar = codes "BadVar"
@@ -43,9 +43,9 @@ kind_name kind.TooLong = codes "too long"
 kind_name kind.TooManyBlocks = codes "too many blocks"
 kind_name kind.OutOfMemory = codes "out of memory"
 
-abbrev pub is_kind_name : List ℕ → Kind → Bool
+abbrev pub is_kind_name : List ℕ → RefusalKind → Bool
 is_kind_name name k = bytes_eq (kind_name k) name
 
 -- the kind that has a name
-unfoldable pub kind_named : List ℕ → Option Kind
+unfoldable pub kind_named : List ℕ → Option RefusalKind
 kind_named name = find (is_kind_name name) all_kinds

@@ -1,11 +1,11 @@
 //! The kinds of faults and refusals.
 
 ghost use Rattle.std.specs.Prelude.{◌≡◌, IfSome, Some, find};
-ghost use Rattle.vme_faults.specs.Kinds.{all_kinds, is_kind_name, kind_name, kind_named};
+ghost use Rattle.vme_faults.specs.RefusalKinds.{all_kinds, is_kind_name, kind_name, kind_named};
 
 /// A kind of refusal: of a dump, of a binding, of a listing, or of any input, in this order.
 #[derive(Clone, Copy, Debug, PartialEq, Eq)]
-pub enum Kind {
+pub enum RefusalKind {
     /// A token of the dump may not stand where it stands.
     BadToken,
     /// A section, a change or a bracket that the dump ends in.
@@ -65,36 +65,36 @@ pub enum Kind {
 /// How many kinds there are.
 const KIND_COUNT: usize = 27;
 
-impl Kind {
+impl RefusalKind {
     /// All kinds.
-    pub const ALL: [Kind; KIND_COUNT] = [
-        Kind::BadToken,
-        Kind::UnfinishedSection,
-        Kind::BadVar,
-        Kind::ScopeUnderflow,
-        Kind::NoEndDefinitions,
-        Kind::UndeclaredCode,
-        Kind::SizeConflict,
-        Kind::TooWide,
-        Kind::TimeBackwards,
-        Kind::NumberTooLarge,
-        Kind::SlotsFirst,
-        Kind::BadLine,
-        Kind::UnknownName,
-        Kind::NamedTwice,
-        Kind::Unbound,
-        Kind::NoSuchPath,
-        Kind::AmbiguousPath,
-        Kind::WrongWidth,
-        Kind::TooManySteps,
-        Kind::BadHeader,
-        Kind::BadRow,
-        Kind::Unsorted,
-        Kind::CannotOpen,
-        Kind::CannotRead,
-        Kind::TooLong,
-        Kind::TooManyBlocks,
-        Kind::OutOfMemory,
+    pub const ALL: [RefusalKind; KIND_COUNT] = [
+        RefusalKind::BadToken,
+        RefusalKind::UnfinishedSection,
+        RefusalKind::BadVar,
+        RefusalKind::ScopeUnderflow,
+        RefusalKind::NoEndDefinitions,
+        RefusalKind::UndeclaredCode,
+        RefusalKind::SizeConflict,
+        RefusalKind::TooWide,
+        RefusalKind::TimeBackwards,
+        RefusalKind::NumberTooLarge,
+        RefusalKind::SlotsFirst,
+        RefusalKind::BadLine,
+        RefusalKind::UnknownName,
+        RefusalKind::NamedTwice,
+        RefusalKind::Unbound,
+        RefusalKind::NoSuchPath,
+        RefusalKind::AmbiguousPath,
+        RefusalKind::WrongWidth,
+        RefusalKind::TooManySteps,
+        RefusalKind::BadHeader,
+        RefusalKind::BadRow,
+        RefusalKind::Unsorted,
+        RefusalKind::CannotOpen,
+        RefusalKind::CannotRead,
+        RefusalKind::TooLong,
+        RefusalKind::TooManyBlocks,
+        RefusalKind::OutOfMemory,
     ];
 
     /// The name of the kind, as a refusal tells it.
@@ -102,48 +102,48 @@ impl Kind {
         ensures { result.now ≡ kind_name self }
     {
         match self {
-            Kind::BadToken => "BadToken",
-            Kind::UnfinishedSection => "UnfinishedSection",
-            Kind::BadVar => "BadVar",
-            Kind::ScopeUnderflow => "ScopeUnderflow",
-            Kind::NoEndDefinitions => "NoEndDefinitions",
-            Kind::UndeclaredCode => "UndeclaredCode",
-            Kind::SizeConflict => "SizeConflict",
-            Kind::TooWide => "TooWide",
-            Kind::TimeBackwards => "TimeBackwards",
-            Kind::NumberTooLarge => "NumberTooLarge",
-            Kind::SlotsFirst => "SlotsFirst",
-            Kind::BadLine => "BadLine",
-            Kind::UnknownName => "UnknownName",
-            Kind::NamedTwice => "NamedTwice",
-            Kind::Unbound => "Unbound",
-            Kind::NoSuchPath => "NoSuchPath",
-            Kind::AmbiguousPath => "AmbiguousPath",
-            Kind::WrongWidth => "WrongWidth",
-            Kind::TooManySteps => "TooManySteps",
-            Kind::BadHeader => "listing header",
-            Kind::BadRow => "BadRow",
-            Kind::Unsorted => "Unsorted",
-            Kind::CannotOpen => "cannot open",
-            Kind::CannotRead => "cannot read",
-            Kind::TooLong => "too long",
-            Kind::TooManyBlocks => "too many blocks",
-            Kind::OutOfMemory => "out of memory",
+            RefusalKind::BadToken => "BadToken",
+            RefusalKind::UnfinishedSection => "UnfinishedSection",
+            RefusalKind::BadVar => "BadVar",
+            RefusalKind::ScopeUnderflow => "ScopeUnderflow",
+            RefusalKind::NoEndDefinitions => "NoEndDefinitions",
+            RefusalKind::UndeclaredCode => "UndeclaredCode",
+            RefusalKind::SizeConflict => "SizeConflict",
+            RefusalKind::TooWide => "TooWide",
+            RefusalKind::TimeBackwards => "TimeBackwards",
+            RefusalKind::NumberTooLarge => "NumberTooLarge",
+            RefusalKind::SlotsFirst => "SlotsFirst",
+            RefusalKind::BadLine => "BadLine",
+            RefusalKind::UnknownName => "UnknownName",
+            RefusalKind::NamedTwice => "NamedTwice",
+            RefusalKind::Unbound => "Unbound",
+            RefusalKind::NoSuchPath => "NoSuchPath",
+            RefusalKind::AmbiguousPath => "AmbiguousPath",
+            RefusalKind::WrongWidth => "WrongWidth",
+            RefusalKind::TooManySteps => "TooManySteps",
+            RefusalKind::BadHeader => "listing header",
+            RefusalKind::BadRow => "BadRow",
+            RefusalKind::Unsorted => "Unsorted",
+            RefusalKind::CannotOpen => "cannot open",
+            RefusalKind::CannotRead => "cannot read",
+            RefusalKind::TooLong => "too long",
+            RefusalKind::TooManyBlocks => "too many blocks",
+            RefusalKind::OutOfMemory => "out of memory",
         }
     }
 
     /// The kind of a name, if there is one; kinds differ in their names.
-    pub fn from_name(name: &[u8]) -> Option<Kind>
+    pub fn from_name(name: &[u8]) -> Option<RefusalKind>
         ensures kind { result ≡ kind_named name.now }
         ensures named { IfSome result (λ kind. kind_name kind ≡ name.now) }
-        ensures found { (kind : Kind) → kind_name kind ≡ name.now → result ≡ Some kind }
+        ensures found { (kind : RefusalKind) → kind_name kind ≡ name.now → result ≡ Some kind }
     {
-        first_named(&Kind::ALL, name)
+        first_named(&RefusalKind::ALL, name)
     }
 }
 
 /// The first of some kinds that has a name.
-fn first_named(kinds: &[Kind], name: &[u8]) -> Option<Kind>
+fn first_named(kinds: &[RefusalKind], name: &[u8]) -> Option<RefusalKind>
     ensures { result ≡ find (is_kind_name name.now) kinds.now }
 {
     kinds
