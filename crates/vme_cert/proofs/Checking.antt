@@ -29,15 +29,15 @@ use Rattle.vme_cert.specs.Words.{lost_among, outcome_of, recorded_rows, rows_bef
 use Rattle.vme_cert.specs.Words.{span_from, stops_at, time_at, AS, BBSY, Broken, IsCapture, Levels, Reset, Step}
 use Rattle.vme_cert.specs.Words.{Unreadable, Version, is_idle, is_idle_at, is_reset, is_step, is_unreadable}
 use Rattle.vme_cert.specs.Words.{Awaits, malformed_step, span_starts, spans_after, those, with_steps}
-use Rattle.vme_cert.specs.Checking.{reset_at, rows_by, rows_from, Checks, HasCompared, HasFollowed, IsEnded, IsJudging}
-use Rattle.vme_cert.specs.Checking.{IsStage, IsWaiting, MayGoOn, last_levels}
+use Rattle.vme_cert.specs.Checking.{reset_at, rows_by, rows_from, Checks, HasCompared, HasFollowed, IsEnded}
+use Rattle.vme_cert.specs.Checking.{IsInStretch, IsPhase, IsWaiting, MayGoOn, last_levels}
 use Rattle.vme_cert.specs.Following.{rows_to, CanClose, Follows}
 use Rattle.vme_cert.specs.Instant.{LeadToInstant, named, IsBusOf}
 use Rattle.vme_cert.specs.State.{Holds, IsStateOf}
 use Rattle.vme_cert.specs.declared.bus.Bus.{Bus}
 use Rattle.vme_cert.specs.declared.checker.Checker.{Checker}
-use Rattle.vme_cert.specs.declared.checker.Stage.{Stage}
-use Rattle.vme_cert.specs.declared.checker.Stage.TheVariants.{Ended, Judging, Waiting}
+use Rattle.vme_cert.specs.declared.checker.CheckPhase.{CheckPhase}
+use Rattle.vme_cert.specs.declared.checker.CheckPhase.TheVariants.{Ended, InStretch, Waiting}
 use Rattle.vme_cert.specs.declared.open_rows.OpenRows.{OpenRows}
 use Rattle.vme_cert.specs.declared.state.State.{State}
 use Rattle.vme_cert.proofs.Ranges.{second_fails, eq_fails, unjudged, case_of, same_value, eq_past, true_of_not}
@@ -354,7 +354,7 @@ module _ {Whole Source : Type 0} {gave : Whole → Source → List Row → Type 
     pub starts : (h : IsWaiting gave is_over whole v t n outcome rows) → is_idle_at t n ≡ true → {state : State}
         → Holds t (span_from t n) (n + 1) (n + 1) state → {later : OpenRows Source}
         → Follows gave is_over whole v h.done t (span_from t n) (n + 1) later
-        → IsJudging gave is_over whole v t (n + 1) Conforming later state
+        → IsInStretch gave is_over whole v t (n + 1) Conforming later state
     starts h idle holds follows =
         let found = spans_next t n n h.awaits (omega arith) within idle
         (fails-any (is_idle_at t) n n (λ i a b. absurd (omega arith))) in
@@ -372,7 +372,7 @@ module _ {Whole Source : Type 0} {gave : Whole → Source → List Row → Type 
           rows_are = follows;
         }
 
-    module _ {state : State} (h : IsJudging gave is_over whole v t n outcome rows state) where
+    module _ {state : State} (h : IsInStretch gave is_over whole v t n outcome rows state) where
       abbrev span : Stretch
       span = span_from t h.start
 
@@ -445,7 +445,7 @@ module _ {Whole Source : Type 0} {gave : Whole → Source → List Row → Type 
       pub goes-later : n < span_end t h.start → break_at t span all_rules n ≡ None → {new : State}
           → Holds t span (n + 1) (n + 1) new → {taken : OpenRows Source}
           → Follows gave is_over whole v h.done t span (n + 1) taken
-          → IsJudging gave is_over whole v t (n + 1) outcome taken new
+          → IsInStretch gave is_over whole v t (n + 1) outcome taken new
       goes-later before here holds follows = record {
         start = h.start;
         is = h.is;
@@ -487,13 +487,13 @@ named-none (Some b) e = absurd (cc)
 module _ {Whole Source : Type 0} {gave : Whole → Source → List Row → Type 0} {is_over : Source → Type 0} {whole : Whole}
     {v : Version} {t : Trace} {bus : Bus} {rows : OpenRows Source} {outcome : ListedVerdict}
     (new : Checker Source) where
-  pub checks-ended : new.bus ≡ bus → new.rows ≡ rows → new.stage ≡ Ended → new.outcome ≡ outcome → IsBusOf t bus
+  pub checks-ended : new.bus ≡ bus → new.rows ≡ rows → new.phase ≡ Ended → new.outcome ≡ outcome → IsBusOf t bus
       → IsEnded gave is_over whole v t outcome rows → Checks gave is_over whole v t new
-  checks-ended same_bus same_rows stage same_outcome at h = record {
+  checks-ended same_bus same_rows phase same_outcome at h = record {
     at = subst (IsBusOf t) (sym same_bus) at;
-    stage_is =
-        subst (λ (s : Stage). IsStage gave is_over whole v t (new.bus.instant + 1) new.outcome new.rows s) (sym stage)
-        (subst (λ (o : ListedVerdict). IsEnded gave is_over whole v t o new.rows) (sym same_outcome)
+    phase_is =
+        subst (λ (s : CheckPhase). IsPhase gave is_over whole v t (new.bus.instant + 1) new.outcome new.rows s)
+        (sym phase) (subst (λ (o : ListedVerdict). IsEnded gave is_over whole v t o new.rows) (sym same_outcome)
         (subst (λ (r : OpenRows Source). IsEnded gave is_over whole v t outcome r) (sym same_rows) h));
   }
 
@@ -502,7 +502,7 @@ module _ {Whole Source : Type 0} {gave : Whole → Source → List Row → Type 
     {v : Version} {t : Trace} {bus : Bus} {cs : List Change} {outcome : ListedVerdict} {rows : OpenRows Source}
     {state : State} (at : IsBusOf t bus) (lead : LeadToInstant bus cs) (few : bus.before.slots ≤ 21)
     (within : bus.instant ≤ last_instant t)
-    (h : IsJudging gave is_over whole v t bus.instant outcome rows state) where
+    (h : IsInStretch gave is_over whole v t bus.instant outcome rows state) where
   made : levels_at t bus.instant ≡ changed (levels_at t (bus.instant - 1)) cs
   made = sym at.levels ∙ (lead.made ∙ ap (λ (w : Levels). changed w cs) at.before)
 
@@ -549,7 +549,7 @@ module _ {Whole Source : Type 0} {gave : Whole → Source → List Row → Type 
 -- the state with what starts at the instant
 pub judge-state : {Whole Source : Type 0} {gave : Whole → Source → List Row → Type 0} {is_over : Source → Type 0}
     {whole : Whole} {v : Version} {t : Trace} {bus : Bus} {outcome : ListedVerdict} {rows : OpenRows Source}
-    {state opened : State} → IsBusOf t bus → (h : IsJudging gave is_over whole v t bus.instant outcome rows state)
+    {state opened : State} → IsBusOf t bus → (h : IsInStretch gave is_over whole v t bus.instant outcome rows state)
     → bus.instant < span_end t h.start
     → (is_judged (span_from t h.start) bus.instant ≡ true
     → Holds t (span_from t h.start) (bus.instant + 1) bus.instant opened)
@@ -636,24 +636,24 @@ pub arrives : {Whole Source : Type 0} {gave : Whole → Source → List Row → 
     {whole : Whole} {v : Version} {recorded : Trace} {old : Checker Source} {bus : Bus} {cs : List Change}
     (step : Step) → HasFollowed recorded old → bus.instant ≡ old.bus.instant + 1 → bus.before ≡ old.bus.levels
     → bus.levels ≡ changed old.bus.levels cs → cs ≡ step.changes → HasCompared gave is_over whole v recorded old
-    → {stage : Stage} → old.stage ≡ stage → (more : List Step)
+    → {phase : CheckPhase} → old.phase ≡ phase → (more : List Step)
     → IsBusOf (with_steps (with_steps recorded (step ∷ [])) more) bus
     × (bus.instant ≤ last_instant (with_steps (with_steps recorded (step ∷ [])) more))
-    × IsStage gave is_over whole v (with_steps (with_steps recorded (step ∷ [])) more) bus.instant old.outcome old.rows
-    stage
+    × IsPhase gave is_over whole v (with_steps (with_steps recorded (step ∷ [])) more) bus.instant old.outcome old.rows
+    phase
 arrives {gave = gave} {is_over = is_over} {whole = whole} {v = v} {recorded = recorded} {old = old} {bus = bus}
-    {cs = cs} step taken instant before levels same compared {stage} is more =
+    {cs = cs} step taken instant before levels same compared {phase} is more =
     let t : Trace = with_steps recorded (step ∷ more) in
     let n = last_instant recorded in
     let h = compared (step ∷ more) in
     subst (λ (u : Trace). IsBusOf u bus × (bus.instant ≤ last_instant u)
-    × IsStage gave is_over whole v u bus.instant old.outcome old.rows stage) (goes_to recorded step more) (
+    × IsPhase gave is_over whole v u bus.instant old.outcome old.rows phase) (goes_to recorded step more) (
       advanced t old.bus bus cs h.at instant before levels
           (subst (λ i. levels_at t (i + 1) ≡ changed (levels_at t i) cs) (sym taken.instant)
           (levels-made t n step (next-is recorded step more) ∙ ap (changed (levels_at t n)) (sym same))),
       omega (arith, instant, taken.instant, length-append recorded.steps (step ∷ more)),
-      subst (λ n. IsStage gave is_over whole v t n old.outcome old.rows stage) (sym instant)
-          (subst (IsStage gave is_over whole v t (old.bus.instant + 1) old.outcome old.rows) is h.stage_is),
+      subst (λ n. IsPhase gave is_over whole v t n old.outcome old.rows phase) (sym instant)
+          (subst (IsPhase gave is_over whole v t (old.bus.instant + 1) old.outcome old.rows) is h.phase_is),
     )
 
 -- a recording up to an instant
@@ -683,8 +683,8 @@ module _ (t : Trace) (n : ℕ) where
 module _ {Whole Source : Type 0} (gave : Whole → Source → List Row → Type 0) (is_over : Source → Type 0) (whole : Whole)
     (v : Version) (t : Trace) where
   -- at the last instant
-  ended : (outcome : ListedVerdict) (rows : OpenRows Source) (stage : Stage)
-      → IsStage gave is_over whole v t (last_instant t + 1) outcome rows stage
+  ended : (outcome : ListedVerdict) (rows : OpenRows Source) (phase : CheckPhase)
+      → IsPhase gave is_over whole v t (last_instant t + 1) outcome rows phase
       → IsEnded gave is_over whole v t outcome rows
   unfolding least_break
   ended outcome rows Ended h = h
@@ -694,7 +694,7 @@ module _ {Whole Source : Type 0} (gave : Whole → Source → List Row → Type 
         (sym (no_spans t (last_instant t + 1) (omega arith))) ∙ h.all;
     rows_are = h.rows_are;
   }
-  ended outcome rows (Judging state) h =
+  ended outcome rows (InStretch state) h =
       let span = span_from t h.start in
       let ends : span.end ≡ last_instant t + 1 = omega (arith, h.upto, end-within t h.start) in
       record {
@@ -723,6 +723,6 @@ pub ended-all : {Whole Source : Type 0} {gave : Whole → Source → List Row �
     → HasCompared gave is_over whole v t checker → IsEnded gave is_over whole v t checker.outcome checker.rows
 ended-all {gave = gave} {is_over = is_over} {whole = whole} {v = v} {t = t} {checker = checker} taken compared =
     let h = subst (λ (u : Trace). Checks gave is_over whole v u checker) (all-taken t) (compared []) in
-    ended gave is_over whole v t checker.outcome checker.rows checker.stage
-    (subst (λ n. IsStage gave is_over whole v t (n + 1) checker.outcome checker.rows checker.stage) taken.instant
-    h.stage_is)
+    ended gave is_over whole v t checker.outcome checker.rows checker.phase
+    (subst (λ n. IsPhase gave is_over whole v t (n + 1) checker.outcome checker.rows checker.phase) taken.instant
+    h.phase_is)

@@ -8,7 +8,7 @@ use Rattle.std.proofs.lemmas.List.{append-nil}
 use Rattle.std.proofs.lemmas.Bool.{eqb-true}
 use Rattle.vme_cert.specs.Words.{Row}
 use Rattle.vme_cert.specs.Comparing.{Decides, Extends, IsBegun, IsCompared, IsDue, IsGiven, IsGivenNext, IsSame}
-use Rattle.vme_cert.specs.Comparing.{IsSettled, same_to, spares}
+use Rattle.vme_cert.specs.Comparing.{HasComparedRow, same_to, spares}
 use Rattle.vme_cert.specs.declared.comparison.Comparison.{Comparison}
 use Rattle.vme_cert.specs.declared.comparison.OpenRow.{OpenRow}
 use Rattle.vme_cert.specs.declared.compare.Answer.TheVariants.{Yes, No}
@@ -58,10 +58,10 @@ spared still row n off = decide (n == row.place) (λ f. inl (eqb-true n row.plac
 
 module _ (given right : List Row) (taken : ℕ) (still : ℕ → Bool) (row : OpenRow) where
   -- of an open one it was seen that it isn't the same
-  pub settle-other : (wrong : Option ℕ) → IsCompared given right taken still wrong → row.place < taken
+  pub compare_row-other : (wrong : Option ℕ) → IsCompared given right taken still wrong → row.place < taken
       → row.place ≤ same_to taken wrong → (IsSame given right row.place → ⊥)
       → IsCompared given right taken (spares still (Some row)) (Some (row.place + 1))
-  settle-other wrong h within sooner other =
+  compare_row-other wrong h within sooner other =
       let back : row.place + 1 - 1 ≡ row.place = omega arith in
       record {
         same = λ n below off. elim (spared still row n off) [
@@ -71,9 +71,9 @@ module _ (given right : List Row) (taken : ℕ) (still : ℕ → Bool) (row : Op
         differs = (omega arith, omega arith, rw back other);
       }
 
-  pub settle-later : (wrong : Option ℕ) → IsCompared given right taken still wrong → same_to taken wrong ≤ row.place
-      → IsCompared given right taken (spares still (Some row)) wrong
-  settle-later wrong h later = record {
+  pub compare_row-later : (wrong : Option ℕ) → IsCompared given right taken still wrong
+      → same_to taken wrong ≤ row.place → IsCompared given right taken (spares still (Some row)) wrong
+  compare_row-later wrong h later = record {
     same = λ n below off. elim (spared still row n off) [
       | inl e ↦ absurd (omega arith)
       | inr closed ↦ h.same n below closed
@@ -116,17 +116,17 @@ compared-fewer now h kept = record {
 
 -- one is compared
 module _ {Source : Type 0} {o : Option OpenRow} {edge : Option ℕ} {old new : Comparison Source}
-    (s : IsSettled o edge old new) where
-  pub settled-compared : {given right : List Row} {still : ℕ → Bool}
+    (s : HasComparedRow o edge old new) where
+  pub compare_row-compared : {given right : List Row} {still : ℕ → Bool}
       → IsCompared given right old.taken still old.wrong → IsDue given right old.taken edge o
       → IsCompared given right new.taken (spares still o) new.wrong
-  settled-compared {given} {right} {still} h due = subst (λ n. IsCompared given right n (spares still o) new.wrong)
+  compare_row-compared {given} {right} {still} h due = subst (λ n. IsCompared given right n (spares still o) new.wrong)
       (sym s.taken) (s.wrong given right still h due)
 
-  pub settled-given : {Whole : Type 0} {gave : Whole → Source → List Row → Type 0} {is_over : Source → Type 0}
+  pub compare_row-given : {Whole : Type 0} {gave : Whole → Source → List Row → Type 0} {is_over : Source → Type 0}
       {whole : Whole} {given : List Row} → IsGiven gave is_over whole given old.source old.taken
       → IsGiven gave is_over whole given new.source new.taken
-  settled-given {gave = gave} {is_over = is_over} {whole = whole} {given = given} h =
+  compare_row-given {gave = gave} {is_over = is_over} {whole = whole} {given = given} h =
       subst (IsGiven gave is_over whole given new.source) (sym s.taken)
       (subst (λ (c : Source). IsGiven gave is_over whole given c old.taken) (sym s.source) h)
 

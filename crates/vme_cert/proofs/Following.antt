@@ -17,7 +17,7 @@ use Rattle.vme_cert.specs.Words.{row_in, rows_in, strobes_high, transfer_row, tr
 use Rattle.vme_cert.specs.Words.{Class, IsSpanOf, Levels, OpenTenure, PendingTransfer, Tenure, class_of, cycle_row}
 use Rattle.vme_cert.specs.Words.{cycle_rows, rows_before, tenure_level, tenure_row, tenure_rows, tenure_slot}
 use Rattle.vme_cert.specs.Words.{tenure_starts, WRITE, is_write, transfer_rows}
-use Rattle.vme_cert.specs.Comparing.{Extends, IsBegun, IsCompared, IsDue, IsGiven, IsSettled, is_at, spares}
+use Rattle.vme_cert.specs.Comparing.{Extends, HasComparedRow, IsBegun, IsCompared, IsDue, IsGiven, is_at, spares}
 use Rattle.vme_cert.specs.Ended.{ended}
 use Rattle.vme_cert.specs.Following.{AreAtPlaces, CanClose, IsOpenAt, IsTakenAt, IsTransferAt, is_open, right_to}
 use Rattle.vme_cert.specs.Following.{AreOpen, AreTaken, Follows, NoneIsOpen, WithAnswer, WithCycle, WithTenure}
@@ -28,8 +28,8 @@ use Rattle.vme_cert.specs.declared.open_rows.OpenRows.{OpenRows}
 use Rattle.vme_cert.specs.Instant.{starts_transfer}
 use Rattle.vme_cert.specs.State.{IsOpenTransfer, IsTransfer}
 use Rattle.vme_cert.specs.declared.state.Transfer.{Transfer}
-use Rattle.vme_cert.proofs.Comparing.{begun-compared, compared-fewer, settled-compared, settled-given, slice_get-front}
-use Rattle.vme_cert.proofs.Comparing.{compared-on}
+use Rattle.vme_cert.proofs.Comparing.{begun-compared, compare_row-compared, compare_row-given, compared-fewer}
+use Rattle.vme_cert.proofs.Comparing.{compared-on, slice_get-front}
 use Rattle.vme_cert.proofs.Fields.{low-no_fall, stays-low, answers-is, is_answer-is, starts-is, high-and-low}
 use Rattle.vme_cert.proofs.Fields.{high-between, answer-is, fall-low, no-fall}
 use Rattle.vme_cert.proofs.Placing.{row_behind, rows_in-append, rows_in-length, cycle-place, next-count, tenure-place}
@@ -147,9 +147,9 @@ module _ (v : Version) (done : List Row) (t : Trace) (span : Stretch) (l j : ℕ
 module _ {Whole Source : Type 0} {gave : Whole → Source → List Row → Type 0} {is_over : Source → Type 0} {whole : Whole}
     {v : Version} {rights : List Row} {old : OpenRows Source} (h : CanClose gave is_over whole v rights old)
     {c1 c2 c3 c4 c5 : Comparison Source} {row : OpenRow} {right : Row} (edge : ended right None ≡ right)
-    (s1 : IsSettled old.tenure None old.compared c1) (s2 : IsSettled old.cycle None c1 c2)
-    (s3 : IsSettled old.transfer None c2 c3) (b : IsBegun gave is_over right c3 c4 row)
-    (s4 : IsSettled (Some row) None c4 c5) where
+    (s1 : HasComparedRow old.tenure None old.compared c1) (s2 : HasComparedRow old.cycle None c1 c2)
+    (s3 : HasComparedRow old.transfer None c2 c3) (b : IsBegun gave is_over right c3 c4 row)
+    (s4 : HasComparedRow (Some row) None c4 c5) where
   abbrev all : List Row
   all = rows_in v rights
 
@@ -158,14 +158,14 @@ module _ {Whole Source : Type 0} {gave : Whole → Source → List Row → Type 
 
   closed_all : IsCompared h.given all c3.taken still c3.wrong
   closed_all =
-      settled-compared s3 (settled-compared s2 (settled-compared s1 h.compared h.tenure)
+      compare_row-compared s3 (compare_row-compared s2 (compare_row-compared s1 h.compared h.tenure)
       (subst (λ n. IsDue h.given all n None old.cycle) (sym s1.taken) h.cycle))
       (subst (λ n. IsDue h.given all n None old.transfer) (sym (s2.taken ∙ s1.taken)) h.transfer)
 
   pub closes : CanClose gave is_over whole v (rights ++ right ∷ [])
       (record { compared = c5; tenure = None; cycle = None; transfer = None })
   closes =
-      let g = b.given whole h.given (settled-given s3 (settled-given s2 (settled-given s1 h.is_given))) in
+      let g = b.given whole h.given (compare_row-given s3 (compare_row-given s2 (compare_row-given s1 h.is_given))) in
       let upto : c3.taken ≡ length rights = s3.taken ∙ (s2.taken ∙ (s1.taken ∙ h.taken_is)) in
       let more = rows_in v (rights ++ right ∷ []) in
       let begun = begun-compared b g.more more (λ n. n == row.place) closed_all g.extends
@@ -178,8 +178,8 @@ module _ {Whole Source : Type 0} {gave : Whole → Source → List Row → Type 
         version_is = s4.version ∙ (b.version ∙ (s3.version ∙ (s2.version ∙ (s1.version ∙ h.version_is))));
         taken_is = omega (arith, s4.taken, b.taken, upto, length-append rights (right ∷ []));
         given = g.more;
-        is_given = settled-given s4 (subst (IsGiven gave is_over whole g.more c4.source) (sym b.taken) g.is_given);
-        compared = compared-fewer (λ n. false) (settled-compared s4 begun (
+        is_given = compare_row-given s4 (subst (IsGiven gave is_over whole g.more c4.source) (sym b.taken) g.is_given);
+        compared = compared-fewer (λ n. false) (compare_row-compared s4 begun (
           omega (arith, b.place, b.taken),
           g.given_is ∙ ap (slice_get g.more) (sym b.place),
           ap (slice_get more) (b.place ∙ upto) ∙ (row_behind v rights [] right ∙ ap (λ (r : Row). Some r)
@@ -448,21 +448,22 @@ module _ (t : Trace) (span : Stretch) where
 
 -- ---- The rows that are open, by their kinds.
 
-pub data Kind : Type 0 where
-  Tenures : Kind
-  Cycles : Kind
-  Transfers : Kind
+pub data OpenRowKind : Type 0 where
+  Tenures : OpenRowKind
+  Cycles : OpenRowKind
+  Transfers : OpenRowKind
 
-abbrev pub pick : {A : Type 0} → Kind → A → A → A → A
+abbrev pub pick : {A : Type 0} → OpenRowKind → A → A → A → A
 pick Tenures a b c = a
 pick Cycles a b c = b
 pick Transfers a b c = c
 
 -- the open row of a kind, and another one in its place
-abbrev pub at : {Source : Type 0} → Kind → OpenRows Source → Option OpenRow
+abbrev pub at : {Source : Type 0} → OpenRowKind → OpenRows Source → Option OpenRow
 at k rows = pick k rows.tenure rows.cycle rows.transfer
 
-abbrev pub put : {Source : Type 0} → Kind → OpenRows Source → Comparison Source → Option OpenRow → OpenRows Source
+abbrev pub put : {Source : Type 0} → OpenRowKind → OpenRows Source → Comparison Source → Option OpenRow
+    → OpenRows Source
 put k rows compared o = record {
   compared = compared;
   tenure = pick k o rows.tenure rows.tenure;
@@ -472,7 +473,7 @@ put k rows compared o = record {
 
 module _ {Source : Type 0} (rows : OpenRows Source) (compared : Comparison Source) (o : Option OpenRow) where
   -- a place that isn't open then isn't that of the new one, nor of the others
-  put-off : (k : Kind) (n : ℕ) → is_open (put k rows compared o) n ≡ false
+  put-off : (k : OpenRowKind) (n : ℕ) → is_open (put k rows compared o) n ≡ false
       → (is_at o n ≡ false) × (is_at (at k rows) n ≡ false → is_open rows n ≡ false)
   put-off Tenures n off = let each = each-off (is_at o n) (is_at rows.cycle n) (is_at rows.transfer n) off in (
     each.0,
@@ -487,13 +488,13 @@ module _ {Source : Type 0} (rows : OpenRows Source) (compared : Comparison Sourc
     λ e. all-off (is_at rows.tenure n) (is_at rows.cycle n) (is_at rows.transfer n) each.0 each.1 e,
   )
 
-  put-placed : (k : Kind) {given : List Row} {taken : ℕ} → AreAtPlaces given taken rows → IsTakenAt given taken o
+  put-placed : (k : OpenRowKind) {given : List Row} {taken : ℕ} → AreAtPlaces given taken rows → IsTakenAt given taken o
       → AreAtPlaces given taken (put k rows compared o)
   put-placed Tenures p new = record { tenure = new; cycle = p.cycle; transfer = p.transfer }
   put-placed Cycles p new = record { tenure = p.tenure; cycle = new; transfer = p.transfer }
   put-placed Transfers p new = record { tenure = p.tenure; cycle = p.cycle; transfer = new }
 
-at-place : {Source : Type 0} {given : List Row} {taken : ℕ} {rows : OpenRows Source} (k : Kind)
+at-place : {Source : Type 0} {given : List Row} {taken : ℕ} {rows : OpenRows Source} (k : OpenRowKind)
     → AreAtPlaces given taken rows → IsTakenAt given taken (at k rows)
 at-place Tenures p = p.tenure
 at-place Cycles p = p.cycle
@@ -513,18 +514,18 @@ module _ {Whole Source : Type 0} {gave : Whole → Source → List Row → Type 
     placed = h.placed;
   }
 
-  module _ (k : Kind) {new : Comparison Source} where
-    settles : {many : ℕ} {edge : Option ℕ} → IsSettled (at k old) edge old.compared new
+  module _ (k : OpenRowKind) {new : Comparison Source} where
+    compares_row : {many : ℕ} {edge : Option ℕ} → HasComparedRow (at k old) edge old.compared new
         → ((end : ℕ) → next ≤ end → end ≤ span.end
         → IsDue h.given (right_to v done t span end) old.compared.taken edge (at k old))
         → taken ≡ many → AreTaken gave is_over whole v done t span next many (put k old new None)
-    settles s due e = record {
+    compares_row s due e = record {
       version_is = s.version ∙ h.version_is;
       taken_is = s.taken ∙ (h.taken_is ∙ e);
       given = h.given;
-      is_given = settled-given s h.is_given;
+      is_given = compare_row-given s h.is_given;
       compared = λ end from within. compared-fewer (is_open (put k old new None))
-          (settled-compared s (h.compared end (omega arith) within) (due end from within))
+          (compare_row-compared s (h.compared end (omega arith) within) (due end from within))
           (λ n off. spares-off (is_open old n) (is_at (at k old) n) (put-off old new None k n off).1);
       placed = put-placed old new None k (subst (λ n. AreAtPlaces h.given n old) (sym s.taken) h.placed) tt;
     }
@@ -557,7 +558,7 @@ module _ {Whole Source : Type 0} {gave : Whole → Source → List Row → Type 
     right-is {right} b = b.right_is ∙ ap (λ (w : Version). row_in w right) h.version_is
 
   -- a tenure or a cycle
-  module _ (k : Kind) (l : ℕ) {new : Comparison Source} where
+  module _ (k : OpenRowKind) (l : ℕ) {new : Comparison Source} where
     line-begins : {right : Row} {row : OpenRow} {many : ℕ} (j : ℕ) → next ≡ j + 1 → at k old ≡ None → low t l j ≡ true
         → IsBegun gave is_over right old.compared new row → taken + 1 ≡ many
         → ((end : ℕ) → j + 1 ≤ end → slice_get (right_to v done t span end) taken
@@ -571,9 +572,9 @@ module _ {Whole Source : Type 0} {gave : Whole → Source → List Row → Type 
     )
 
     line-ends : {many : ℕ} (j : ℕ) → next ≡ j + 1 → IsOpenAt v done t span l j (at k old) → rises t l j ≡ true
-        → IsSettled (at k old) (Some j) old.compared new → taken ≡ many
+        → HasComparedRow (at k old) (Some j) old.compared new → taken ≡ many
         → AreTaken gave is_over whole v done t span next many (put k old new None)
-    line-ends j here opened high s = settles k s (λ end from within. open-due v done t span l j h.given
+    line-ends j here opened high s = compares_row k s (λ end from within. open-due v done t span l j h.given
         old.compared.taken (at k old) high (at-place k h.placed) opened end (omega arith) within)
 
 -- which rows start at an instant
@@ -671,7 +672,7 @@ module _ {Whole Source : Type 0} {gave : Whole → Source → List Row → Type 
         none_of (Some level) = refl
 
     pub tenure-ends : rises t BBSY j ≡ true → {new : Comparison Source}
-        → IsSettled old.tenure (Some j) old.compared new
+        → HasComparedRow old.tenure (Some j) old.compared new
         → WithTenure gave is_over whole v done t span j (put Tenures old new None)
     tenure-ends here s = record {
       are_taken =
@@ -706,8 +707,8 @@ module _ {Whole Source : Type 0} {gave : Whole → Source → List Row → Type 
         ∙ ap (λ (w : Levels). cycle_row j w (least (rises t AS) (j + 1) end) (class_of w)) same)))) in
         record { are_taken = taken; tenure = h.tenure; cycle = opened; transfer = h.transfer }
 
-    pub cycle-ends : rises t AS j ≡ true → {new : Comparison Source} → IsSettled old.cycle (Some j) old.compared new
-        → WithCycle gave is_over whole v done t span j (put Cycles old new None)
+    pub cycle-ends : rises t AS j ≡ true → {new : Comparison Source} → HasComparedRow old.cycle (Some j)
+        old.compared new → WithCycle gave is_over whole v done t span j (put Cycles old new None)
     cycle-ends here s = record {
       are_taken =
           let none = same-length (cycle-rows-not t span j judged j (no-fall t AS j here)) in
@@ -786,10 +787,10 @@ module _ {Whole Source : Type 0} {gave : Whole → Source → List Row → Type 
   -- and closes, if it does
   module _ (h : WithAnswer gave is_over whole v done t span j old) where
     pub transfer-closes : strobes_high t j ≡ true → {new : Comparison Source}
-        → IsSettled old.transfer (Some j) old.compared new
+        → HasComparedRow old.transfer (Some j) old.compared new
         → Follows gave is_over whole v done t span (j + 1) (put Transfers old new None)
     transfer-closes here s = record {
-      are_taken = settles h.are_taken (j + 1) (omega arith) Transfers s
+      are_taken = compares_row h.are_taken (j + 1) (omega arith) Transfers s
           (λ end from within. transfer-due t span v done j judged h.are_taken.given old.compared.taken old.transfer here
           h.are_taken.placed.transfer h.transfer end from within) refl;
       tenure = h.tenure;

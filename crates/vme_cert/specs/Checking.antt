@@ -10,8 +10,8 @@ use Rattle.vme_cert.specs.Following.{CanClose, Follows, rows_to}
 use Rattle.vme_cert.specs.Instant.{IsBusOf}
 use Rattle.vme_cert.specs.State.{Holds}
 use Rattle.vme_cert.specs.declared.checker.Checker.{Checker}
-use Rattle.vme_cert.specs.declared.checker.Stage.{Stage}
-use Rattle.vme_cert.specs.declared.checker.Stage.TheVariants.{Ended, Judging, Waiting}
+use Rattle.vme_cert.specs.declared.checker.CheckPhase.{CheckPhase}
+use Rattle.vme_cert.specs.declared.checker.CheckPhase.TheVariants.{Ended, InStretch, Waiting}
 use Rattle.vme_cert.specs.declared.compare.Answer.{Answer}
 use Rattle.vme_cert.specs.declared.open_rows.OpenRows.{OpenRows}
 use Rattle.vme_cert.specs.declared.state.State.{State}
@@ -32,8 +32,8 @@ module _ (t : Trace) where
   rows_from outcome (span ∷ spans) = rows_by span (least_break t span all_rules) (rows_from Conforming spans)
 
   -- these are the rows of the recording behind those that are done
-  abbrev pub AreLeft : List Row → List Row → Type 0
-  AreLeft done rows = done ++ rows ≡ recorded_rows t
+  abbrev pub AreRemainingRows : List Row → List Row → Type 0
+  AreRemainingRows done rows = done ++ rows ≡ recorded_rows t
 
 module _ {Whole Source : Type 0} (gave : Whole → Source → List Row → Type 0) (is_over : Source → Type 0) (whole : Whole)
     (version : Version) (t : Trace) where
@@ -41,11 +41,11 @@ module _ {Whole Source : Type 0} (gave : Whole → Source → List Row → Type 
   pub record IsWaiting (n : ℕ) (outcome : ListedVerdict) (rows : OpenRows Source) : Type 0 where
     pub awaits : Awaits t n
     pub done : List Row
-    pub all : AreLeft t done (rows_from t outcome (spans_after t n))
+    pub all : AreRemainingRows t done (rows_from t outcome (spans_after t n))
     pub rows_are : CanClose gave is_over whole version done rows
 
   -- it may go on with a stretch of which no rule was broken so far
-  pub record IsJudging (n : ℕ) (outcome : ListedVerdict) (rows : OpenRows Source) (state : State) : Type 0 where
+  pub record IsInStretch (n : ℕ) (outcome : ListedVerdict) (rows : OpenRows Source) (state : State) : Type 0 where
     pub start : ℕ
     pub is : IsSpanOf t (span_from t start)
     pub after : start < n
@@ -54,25 +54,25 @@ module _ {Whole Source : Type 0} (gave : Whole → Source → List Row → Type 
     pub holds : Holds t (span_from t start) n n state
     pub conforms : outcome ≡ Conforming
     pub done : List Row
-    pub all : AreLeft t done (rows_by t (span_from t start) (least_break t (span_from t start) all_rules)
+    pub all : AreRemainingRows t done (rows_by t (span_from t start) (least_break t (span_from t start) all_rules)
         (rows_from t Conforming (spans_after t (span_end t start + 1))))
     pub rows_are : Follows gave is_over whole version done t (span_from t start) n rows
 
   -- all rows were started, but for the verdict
   pub record IsEnded (outcome : ListedVerdict) (rows : OpenRows Source) : Type 0 where
     pub done : List Row
-    pub all : AreLeft t done (Verdict outcome ∷ [])
+    pub all : AreRemainingRows t done (Verdict outcome ∷ [])
     pub rows_are : CanClose gave is_over whole version done rows
 
-  abbrev pub IsStage : ℕ → ListedVerdict → OpenRows Source → Stage → Type 0
-  IsStage n outcome rows Waiting = IsWaiting n outcome rows
-  IsStage n outcome rows (Judging state) = IsJudging n outcome rows state
-  IsStage n outcome rows Ended = IsEnded outcome rows
+  abbrev pub IsPhase : ℕ → ListedVerdict → OpenRows Source → CheckPhase → Type 0
+  IsPhase n outcome rows Waiting = IsWaiting n outcome rows
+  IsPhase n outcome rows (InStretch state) = IsInStretch n outcome rows state
+  IsPhase n outcome rows Ended = IsEnded outcome rows
 
   -- the recording is followed up to an instant
   pub record Checks (checker : Checker Source) : Type 0 where
     pub at : IsBusOf t checker.bus
-    pub stage_is : IsStage (checker.bus.instant + 1) checker.outcome checker.rows checker.stage
+    pub phase_is : IsPhase (checker.bus.instant + 1) checker.outcome checker.rows checker.phase
 
 -- ---- what a check says of itself to those who make it step by step
 

@@ -72,8 +72,8 @@ module _ {Whole Source : Type 0} (gave : Whole → Source → List Row → Type 
         → IsGivenNext gave is_over whole given row.given new.source old.taken
 
 -- a row was compared, if there was one
-pub record IsSettled {Source : Type 0} (row : Option OpenRow) (edge : Option ℕ) (old new : Comparison Source) : Type
-    0 where
+pub record HasComparedRow {Source : Type 0} (row : Option OpenRow) (edge : Option ℕ) (old new : Comparison Source)
+    : Type 0 where
   pub source : new.source ≡ old.source
   pub version : new.version ≡ old.version
   pub taken : new.taken ≡ old.taken

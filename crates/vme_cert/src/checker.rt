@@ -15,11 +15,11 @@ use vme_trace::{Change, Line, Lines, Rule, Step};
 
 /// What is judged at an instant.
 #[derive(Clone, Copy)]
-enum Stage {
+enum CheckPhase {
     /// Nothing so far since the opening or the last reset.
     Waiting,
     /// A stretch, of which the state is known.
-    Judging(State),
+    InStretch(State),
     /// Nothing any more: a rule was broken.
     Ended,
 }
@@ -30,17 +30,17 @@ enum Stage {
 pub struct Checker<S: RowSource> {
     bus: Bus,
     rows: OpenRows<S>,
-    stage: Stage,
+    phase: CheckPhase,
     /// The verdict so far.
     outcome: ListedVerdict,
 }
 
 impl<S: RowSource> Checker<S> {
     ghost use Rattle.vme_cert.specs.Instant.{LeadToInstant, IsBusOf};
-    ghost use Rattle.vme_cert.specs.Checking.{Checks, HasCompared, HasDecided, HasFollowed, IsJudging, IsWaiting};
+    ghost use Rattle.vme_cert.specs.Checking.{Checks, HasCompared, HasDecided, HasFollowed, IsInStretch, IsWaiting};
     ghost use Rattle.vme_cert.specs.Checking.{MayGoOn};
     ghost use Rattle.vme_cert.specs.Checking.{at_opening};
-    ghost use Rattle.vme_cert.specs.declared.checker.Stage.TheVariants.{Ended, Waiting};
+    ghost use Rattle.vme_cert.specs.declared.checker.CheckPhase.TheVariants.{Ended, Waiting};
 
     /// At the opening: of the rows none was given, and they are to be in this version.
     pub fn new(opening: &Lines, version: Version, source: S) -> Checker<S>
@@ -51,7 +51,7 @@ impl<S: RowSource> Checker<S> {
         let mut checker = Checker {
             bus: Bus::opening(opening),
             rows: OpenRows::new(version, source),
-            stage: Stage::Waiting,
+            phase: CheckPhase::Waiting,
             outcome: ListedVerdict::NeverIdle,
         };
         checker.begin_where_idle();
@@ -60,7 +60,7 @@ impl<S: RowSource> Checker<S> {
 
     /// Begins a stretch, where the bus is idle.
     fn begin_where_idle(&mut self)
-        requires waits { self.old.stage ≡ Waiting }
+        requires waits { self.old.phase ≡ Waiting }
         requires few { self.old.rows.compared.taken ≤ 4 * self.old.bus.instant }
         ensures bus { self.new.bus ≡ self.old.bus }
         ensures few { self.new.rows.compared.taken ≤ 4 * self.old.bus.instant + 4 }
@@ -73,7 +73,7 @@ impl<S: RowSource> Checker<S> {
             return;
         }
         self.rows.start(&self.bus);
-        self.stage = Stage::Judging(State::starting(&self.bus));
+        self.phase = CheckPhase::InStretch(State::starting(&self.bus));
         self.outcome = ListedVerdict::Conforming;
     }
 
@@ -81,7 +81,7 @@ impl<S: RowSource> Checker<S> {
     fn end(&mut self, rule: Rule, line: Line)
         ensures bus { self.new.bus ≡ self.old.bus }
         ensures rows { self.new.rows ≡ self.old.rows }
-        ensures stage { self.new.stage ≡ Ended }
+        ensures phase { self.new.phase ≡ Ended }
         ensures outcome { self.new.outcome ≡ (if is_unreadable rule
             then Unreadable rule self.old.bus.instant line else Broken rule self.old.bus.instant line) }
     {
@@ -91,7 +91,7 @@ impl<S: RowSource> Checker<S> {
         } else {
             ListedVerdict::Broken(rule, instant, line)
         };
-        self.stage = Stage::Ended;
+        self.phase = CheckPhase::Ended;
     }
 
     /// Judges an instant of a stretch.
@@ -102,14 +102,14 @@ impl<S: RowSource> Checker<S> {
         ensures few { self.new.rows.compared.taken ≤ 4 * self.old.bus.instant + 4 }
         ensures checks { (whole : S.Whole) (version : Version) (t : Trace) → IsBusOf t self.old.bus
             → self.old.bus.instant ≤ last_instant t
-            → IsJudging S.gave S.is_over whole version t self.old.bus.instant self.old.outcome self.old.rows state.now
+            → IsInStretch S.gave S.is_over whole version t self.old.bus.instant self.old.outcome self.old.rows state.now
             → Checks S.gave S.is_over whole version t self.new }
     {
         let instant = self.bus.instant;
         prove!(self.bus.before.slots() <= 21);
         if self.bus.levels.is_reset() {
             self.rows.close_before(Row::Reset { instant });
-            self.stage = Stage::Waiting;
+            self.phase = CheckPhase::Waiting;
             return;
         }
         if let Some(line) = self.bus.levels.lost_among(changes) {
@@ -122,7 +122,7 @@ impl<S: RowSource> Checker<S> {
             return;
         }
         self.rows.follow_instant(&self.bus, &state);
-        self.stage = Stage::Judging(state.later(&self.bus));
+        self.phase = CheckPhase::InStretch(state.later(&self.bus));
     }
 
     /// Takes the next step of the recording.
@@ -136,10 +136,10 @@ impl<S: RowSource> Checker<S> {
     {
         let changes = step.changes.as_slice();
         self.bus.advance(changes);
-        match self.stage {
-            Stage::Waiting => self.begin_where_idle(),
-            Stage::Judging(state) => self.judge(&state, changes),
-            Stage::Ended => {}
+        match self.phase {
+            CheckPhase::Waiting => self.begin_where_idle(),
+            CheckPhase::InStretch(state) => self.judge(&state, changes),
+            CheckPhase::Ended => {}
         }
     }
 

@@ -66,7 +66,7 @@ fn is_given(given: Option<Row>, row: Row) -> bool
 }
 
 impl<S: RowSource> Comparison<S> {
-    ghost use Rattle.vme_cert.specs.Comparing.{Decides, IsBegun, IsCompared, IsGiven, IsSettled};
+    ghost use Rattle.vme_cert.specs.Comparing.{Decides, HasComparedRow, IsBegun, IsCompared, IsGiven};
 
     /// The next right row starts, and the next given one is taken.
     pub(crate) fn begin(&mut self, right: Row) -> OpenRow
@@ -83,8 +83,8 @@ impl<S: RowSource> Comparison<S> {
     }
 
     /// Compares a row, if there is one, whose edge is here, or which has none.
-    pub(crate) fn settle(&mut self, row: Option<OpenRow>, edge: Option<u32>)
-        ensures { IsSettled row edge self.old self.new }
+    pub(crate) fn compare_row(&mut self, row: Option<OpenRow>, edge: Option<u32>)
+        ensures { HasComparedRow row edge self.old self.new }
     {
         let Some(row) = row else {
             return;

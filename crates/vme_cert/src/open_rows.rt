@@ -49,13 +49,13 @@ impl<S: RowSource> OpenRows<S> {
         ensures closed { NoneIsOpen self.new }
         ensures taken { self.new.compared.taken ≡ self.old.compared.taken + 1 }
     {
-        self.compared.settle(self.tenure, None);
-        self.compared.settle(self.cycle, None);
-        self.compared.settle(self.transfer, None);
+        self.compared.compare_row(self.tenure, None);
+        self.compared.compare_row(self.cycle, None);
+        self.compared.compare_row(self.transfer, None);
         self.tenure = None;
         self.cycle = None;
         self.transfer = None;
         let row = self.compared.begin(row);
-        self.compared.settle(Some(row), None);
+        self.compared.compare_row(Some(row), None);
     }
 }

@@ -149,7 +149,7 @@ impl<S: RowSource> OpenRows<S> {
         ensures taken { self.new.compared.taken ≤ self.old.compared.taken + 1 }
     {
         if bus.rises(Line::BBSY) {
-            self.compared.settle(self.tenure, Some(bus.instant));
+            self.compared.compare_row(self.tenure, Some(bus.instant));
             self.tenure = None;
             return;
         }
@@ -180,7 +180,7 @@ impl<S: RowSource> OpenRows<S> {
         ensures taken { self.new.compared.taken ≤ self.old.compared.taken + 1 }
     {
         if bus.rises(Line::AS) {
-            self.compared.settle(self.cycle, Some(bus.instant));
+            self.compared.compare_row(self.cycle, Some(bus.instant));
             self.cycle = None;
             return;
         }
@@ -246,7 +246,7 @@ impl<S: RowSource> OpenRows<S> {
         if !bus.strobes_high() {
             return;
         }
-        self.compared.settle(self.transfer, Some(bus.instant));
+        self.compared.compare_row(self.transfer, Some(bus.instant));
         self.transfer = None;
     }
 

@@ -1,7 +1,7 @@
 use Rattle.std.proofs.Common.{◌+◌, ◌∙◌, refl, sym, subst}
 use Rattle.vme_cert.specs.Words.{span_from}
-use Rattle.vme_cert.specs.Checking.{IsStage}
-use Rattle.vme_cert.specs.declared.checker.Stage.{Stage}
+use Rattle.vme_cert.specs.Checking.{IsPhase}
+use Rattle.vme_cert.specs.declared.checker.CheckPhase.{CheckPhase}
 use Rattle.vme_cert.proofs.Checking.{idle-is, starts, waits-on}
 use Rattle.vme_cert.proofs.checker.Checker.begin_where_idle.Goals as goal
 
@@ -11,9 +11,9 @@ returns-then-not-is_idle-clause-checks g c whole v t at within h =
     let n = old.bus.instant in
     record {
       at = at;
-      stage_is = subst
-          (λ (s : Stage). IsStage g.S.RowSource.gave g.S.RowSource.is_over whole v t (n + 1) old.outcome old.rows s)
-          (sym c.requires.waits) (waits-on within h
+      phase_is = subst
+          (λ (s : CheckPhase). IsPhase g.S.RowSource.gave g.S.RowSource.is_over whole v t (n + 1) old.outcome
+          old.rows s) (sym c.requires.waits) (waits-on within h
           (idle-is t old.bus.levels n at.levels ∙ (sym c.is_idle.ensures ∙ c.if-not-is_idle.true)));
     }
 
@@ -22,7 +22,7 @@ returns-clause-checks g c whole v t at within h =
     let n = c.args.self.now.bus.instant in
     record {
       at = at;
-      stage_is = starts within h
+      phase_is = starts within h
           (idle-is t c.args.self.now.bus.levels n at.levels ∙ (sym c.is_idle.ensures ∙ c.if-not-is_idle.false))
           (c.starting.ensures t (span_from t n) at refl)
           (c.start.ensures.rows whole v h.done t (span_from t n) at refl h.rows_are);

@@ -8,7 +8,7 @@ use Rattle.vme_cert.proofs.checker.Checker.judge.Goals as goal
 pub returns-then-is_reset-clause-checks : goal.returns-then-is_reset-clause-checks
 returns-then-is_reset-clause-checks g c whole v t at within h = record {
   at = at;
-  stage_is = judge-resets at c.requires.lead (omega (arith, c.slots.ensures.most, c.slots.ensures.slots)) within h
+  phase_is = judge-resets at c.requires.lead (omega (arith, c.slots.ensures.most, c.slots.ensures.slots)) within h
       (sym c.is_reset.ensures ∙ c.if-is_reset.true)
       (c.close_before.ensures.rows whole v (h.done ++ rows_to t (span_from t h.start) c.args.self.now.bus.instant) refl
       (follows-close h.rows_are h.upto));
@@ -16,7 +16,7 @@ returns-then-is_reset-clause-checks g c whole v t at within h = record {
 
 pub returns-in-Some-clause-checks : goal.returns-in-Some-clause-checks
 returns-in-Some-clause-checks g c whole v t at within h =
-    checks-ended c.end.new.self c.end.ensures.bus c.end.ensures.rows c.end.ensures.stage c.end.ensures.outcome at
+    checks-ended c.end.new.self c.end.ensures.bus c.end.ensures.rows c.end.ensures.phase c.end.ensures.outcome at
     (judge-loses at c.requires.lead (omega (arith, c.slots.ensures.most, c.slots.ensures.slots)) within h
     c.in-Some.line (sym c.in-Some.is ∙ c.lost_among.ensures))
 
@@ -28,7 +28,7 @@ returns-in-Some-break_at-clause-checks g c whole v t at within h =
     (sym c.in_default.is ∙ c.lost_among.ensures) in
     let judges = judge-state at h before (λ judged. c.opened-state.ensures t span at judged h.holds) in
     let end = c.end-in-Some-break_at in
-    checks-ended end.new.self end.ensures.bus end.ensures.rows end.ensures.stage end.ensures.outcome at
+    checks-ended end.new.self end.ensures.bus end.ensures.rows end.ensures.phase end.ensures.outcome at
     (judge-breaks at c.requires.lead few within h c.in-Some-break_at.found.0 c.in-Some-break_at.found.1
     (sym c.in-Some-break_at.is ∙ c.break_at.ensures t span judges))
 
@@ -41,7 +41,7 @@ returns-clause-checks g c whole v t at within h =
     let judges = judge-state at h before (λ judged. c.opened-state.ensures t span at judged h.holds) in
     record {
       at = at;
-      stage_is = goes-later within h before
+      phase_is = goes-later within h before
           (named-none _ (sym c.in_default-break_at.is ∙ c.break_at.ensures t span judges))
           (c.later.ensures t span judges) (c.follow_instant.ensures.rows whole v h.done t span judges h.rows_are);
     }

@@ -31,8 +31,8 @@ returns-in-Waiting-clause-taken g c recorded taken =
     has-taken c.args.step.now taken c.advance.ensures.instant c.advance.ensures.levels c.as_slice-changes.ensures
     c.begin_where_idle.new.self c.begin_where_idle.ensures.bus c.begin_where_idle.ensures.few
 
-pub returns-in-Judging-clause-taken : goal.returns-in-Judging-clause-taken
-returns-in-Judging-clause-taken g c recorded taken =
+pub returns-in-InStretch-clause-taken : goal.returns-in-InStretch-clause-taken
+returns-in-InStretch-clause-taken g c recorded taken =
     has-taken c.args.step.now taken c.advance.ensures.instant c.advance.ensures.levels c.as_slice-changes.ensures
     c.judge.new.self c.judge.ensures.bus c.judge.ensures.few
 
@@ -43,18 +43,18 @@ returns-in-Ended-clause-taken g c recorded taken =
 
 pub returns-in-Waiting-clause-compared : goal.returns-in-Waiting-clause-compared
 returns-in-Waiting-clause-compared g c whole version recorded taken compared more =
-    let (at, within, stage) = arrives c.args.step.now taken c.advance.ensures.instant c.advance.ensures.before
+    let (at, within, phase) = arrives c.args.step.now taken c.advance.ensures.instant c.advance.ensures.before
     c.advance.ensures.levels c.as_slice-changes.ensures compared c.in-Waiting.is more in
-    c.begin_where_idle.ensures.checks whole version _ at within stage
+    c.begin_where_idle.ensures.checks whole version _ at within phase
 
-pub returns-in-Judging-clause-compared : goal.returns-in-Judging-clause-compared
-returns-in-Judging-clause-compared g c whole version recorded taken compared more =
-    let (at, within, stage) = arrives c.args.step.now taken c.advance.ensures.instant c.advance.ensures.before
-    c.advance.ensures.levels c.as_slice-changes.ensures compared c.in-Judging.is more in
-    c.judge.ensures.checks whole version _ at within stage
+pub returns-in-InStretch-clause-compared : goal.returns-in-InStretch-clause-compared
+returns-in-InStretch-clause-compared g c whole version recorded taken compared more =
+    let (at, within, phase) = arrives c.args.step.now taken c.advance.ensures.instant c.advance.ensures.before
+    c.advance.ensures.levels c.as_slice-changes.ensures compared c.in-InStretch.is more in
+    c.judge.ensures.checks whole version _ at within phase
 
 pub returns-in-Ended-clause-compared : goal.returns-in-Ended-clause-compared
 returns-in-Ended-clause-compared g c whole version recorded taken compared more =
-    let (at, within, stage) = arrives c.args.step.now taken c.advance.ensures.instant c.advance.ensures.before
+    let (at, within, phase) = arrives c.args.step.now taken c.advance.ensures.instant c.advance.ensures.before
     c.advance.ensures.levels c.as_slice-changes.ensures compared c.in-Ended.is more in
-    record { at = at; stage_is = rw c.in-Ended.is stage }
+    record { at = at; phase_is = rw c.in-Ended.is phase }

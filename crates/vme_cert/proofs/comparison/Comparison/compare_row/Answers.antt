@@ -5,11 +5,11 @@ use Rattle.vme_cert.specs.Words.{Row}
 use Rattle.vme_cert.specs.Comparing.{IsCompared, IsDue, IsSame, spares}
 use Rattle.vme_cert.specs.Ended.{ended}
 use Rattle.vme_cert.specs.declared.comparison.OpenRow.{OpenRow}
-use Rattle.vme_cert.proofs.Comparing.{settle-later, settle-other}
-use Rattle.vme_cert.proofs.comparison.Comparison.settle.Goals.{in-Some-wrong, in_default-wrong}
-use Rattle.vme_cert.proofs.comparison.Comparison.settle.Goals.{in_default-wrong-via-in-Some-wrong+else-wrong-row}
-use Rattle.vme_cert.proofs.comparison.Comparison.settle.Goals.{in_default-wrong-via-in_default-wrong}
-use Rattle.vme_cert.proofs.comparison.Comparison.settle.Goals as goal
+use Rattle.vme_cert.proofs.Comparing.{compare_row-later, compare_row-other}
+use Rattle.vme_cert.proofs.comparison.Comparison.compare_row.Goals.{in-Some-wrong, in_default-wrong}
+use Rattle.vme_cert.proofs.comparison.Comparison.compare_row.Goals.{in_default-wrong-via-in-Some-wrong+else-wrong-row}
+use Rattle.vme_cert.proofs.comparison.Comparison.compare_row.Goals.{in_default-wrong-via-in_default-wrong}
+use Rattle.vme_cert.proofs.comparison.Comparison.compare_row.Goals as goal
 
 -- what is due differs, if the given row is another
 differs : (given right : List Row) (taken : ℕ) (edge : Option ℕ) (row : OpenRow) (shown : Row)
@@ -32,15 +32,15 @@ returns g c = record {
       subst (λ (o : Option OpenRow). IsCompared given right taken (spares still o) c.match-self.self) (sym c.in-Some.is)
       (elim c.match-self.branch [
         | in-Some-wrong w ↦
-            rw w.self-is (settle-later given right taken still row (Some w.in-Some-wrong.wrong)
+            rw w.self-is (compare_row-later given right taken still row (Some w.in-Some-wrong.wrong)
             (rw w.in-Some-wrong.is at h) (omega (arith, w.if-wrong-row.true)))
         | in_default-wrong w ↦
             elim w.in_default-wrong.branch [
               | in_default-wrong-via-in-Some-wrong+else-wrong-row v ↦
-                  rw w.self-is (settle-other given right taken still row (Some v.in-Some-wrong.wrong)
+                  rw w.self-is (compare_row-other given right taken still row (Some v.in-Some-wrong.wrong)
                   (rw v.in-Some-wrong.is at h) due.0 (omega (arith, v.if-wrong-row.false)) other)
               | in_default-wrong-via-in_default-wrong v ↦
-                  rw w.self-is (settle-other given right taken still row None (rw v.in_default-wrong.is at h) due.0
+                  rw w.self-is (compare_row-other given right taken still row None (rw v.in_default-wrong.is at h) due.0
                   (omega (arith, due.0)) other)
             ]
       ]);
