@@ -12,8 +12,8 @@ use Rattle.vme_stream.specs.Ends.{Ends}
 use Rattle.vme_stream.specs.Texts.{line_of}
 use Rattle.vme_stream.specs.declared.refusal.Refusal.TheVariants.{Memory}
 use Rattle.vme_part_format.specs.Tables.{PartValue}
-use Rattle.vme_part_command.specs.Answered.{Complains, ComplainsUnlessMemory, DoesOfParts, EndsUnlessMemory}
-use Rattle.vme_part_command.specs.Answered.{ListsPart, ListsRecording, no_join_answer, refusing}
+use Rattle.vme_part_command.specs.PartAnswers.{Complains, ComplainsUnlessMemory, DoesOfParts, EndsUnlessMemory}
+use Rattle.vme_part_command.specs.PartAnswers.{ListsPart, ListsRecording, no_join_answer, refusing}
 use Rattle.vme_part_command.specs.Inputs.{IsJoinOf, IsNoJoin}
 use Rattle.vme_part_command.specs.Written.{FindsPart, WritesPart, dump_recording, no_part_answer, written_part}
 use Rattle.vme_part_command.specs.declared.inputs.NoJoin.{NoJoin}

@@ -4,7 +4,7 @@ use Rattle.std.specs.Prelude.{Option, None, Some, slice_get}
 use Rattle.std.specs.List.{last_or}
 use Rattle.std.specs.Option.{option_map_or}
 use Rattle.vme_listing.specs.declared.row.Row.{Row}
-use Rattle.vme_part_command.specs.Answered.{row_status}
+use Rattle.vme_part_command.specs.PartAnswers.{row_status}
 
 last_or-get : (o : Option Row) (row : Row) (rows : List Row) → last_or o (row ∷ rows) ≡ slice_get (row ∷ rows)
     (length rows)

@@ -57,7 +57,7 @@ pub record HasFaultAt (old new : List Reading) (place : ℕ) (fault : NoPartInpu
 abbrev pub IsNoJoin : List Reading → List Reading → NoJoin → Type 0
 IsNoJoin old new none.Memory = Unit {0}
 IsNoJoin old new (none.Input place fault) = HasFaultAt old new place fault
-IsNoJoin old new (none.Apart why has_marks) =
+IsNoJoin old new (none.Refused why has_marks) =
     (ps : List PartValue) × ReadParts old new ps × (has_marks ≡ first_listing ps) × AreRefused ps why
 
 -- one part of all inputs, which can be written: they make one together, whose nodes are few if theirs are

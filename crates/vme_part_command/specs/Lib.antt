@@ -4,4 +4,4 @@ pub mod FileReadings
 pub mod FileChecks
 pub mod Written
 pub mod Inputs
-pub mod Answered
+pub mod PartAnswers

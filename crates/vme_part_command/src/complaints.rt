@@ -5,7 +5,7 @@ ghost use Rattle.vme_stream.specs.Outputs.{TriesToWrite};
 ghost use Rattle.vme_stream.specs.Answers.{refusal_answer};
 ghost use Rattle.vme_stream.specs.Texts.{line_of};
 ghost use Rattle.vme_stream.specs.declared.refusal.Refusal.TheVariants.{Memory};
-ghost use Rattle.vme_part_command.specs.Answered.{Complains, ComplainsUnlessMemory, refusing};
+ghost use Rattle.vme_part_command.specs.PartAnswers.{Complains, ComplainsUnlessMemory, refusing};
 ghost use Rattle.vme_part_command.specs.Lines.{input_text};
 
 use std::alloc::{AllocError, Global};

@@ -6,8 +6,8 @@ ghost use Rattle.vme_part_format.specs.Bounds.{FitsPart};
 ghost use Rattle.vme_part_format.specs.PartText.{part_bytes};
 ghost use Rattle.vme_part_format.specs.Tables.{part_value};
 ghost use Rattle.vme_parts.specs.Alike.{first_listing};
-ghost use Rattle.vme_part_command.specs.Answered.{ComplainsUnlessMemory, name_at, no_join_answer, refusing};
-ghost use Rattle.vme_part_command.specs.Answered.{what_is_wrong};
+ghost use Rattle.vme_part_command.specs.PartAnswers.{ComplainsUnlessMemory, name_at, no_join_answer, refusing};
+ghost use Rattle.vme_part_command.specs.PartAnswers.{what_is_wrong};
 ghost use Rattle.vme_part_command.specs.Inputs.{IsPartInputError, IsJoinOf, IsNoJoin, ReadParts};
 ghost use Rattle.vme_part_command.specs.Lines.{input_text, marks_text};
 ghost use Rattle.vme_part_command.specs.declared.inputs.NoJoin.TheVariants as none;
@@ -52,7 +52,7 @@ pub(crate) enum NoJoin {
     /// The input at this place is no part.
     Input(usize, NoPartInput),
     /// They make none together, of which the first has marks or none.
-    Apart(JoinRefusal, bool),
+    Refused(JoinRefusal, bool),
 }
 
 impl From<AllocError> for NoJoin {
@@ -147,7 +147,7 @@ pub(crate) fn joined<P: Source>(
     let has_marks = has_marks(parts.as_slice());
     match join_parts(alloc, parts) {
         Ok(part) => Ok(part),
-        Err(why) => Err(NoJoin::Apart(why, has_marks)),
+        Err(why) => Err(NoJoin::Refused(why, has_marks)),
     }
 }
 
@@ -189,14 +189,14 @@ fn refuse_marks<E: Sink>(alloc: Global, name: &[u8], has_marks: bool, err: &mut 
 }
 
 /// Tells why inputs make no part together. The answer is the exit status.
-fn refuse_apart<P, E: Sink>(
+fn tell_join_refusal<P, E: Sink>(
     alloc: Global,
     inputs: &[NamedPart<'_, P>],
     has_marks: bool,
     why: JoinRefusal,
     err: &mut E,
 ) -> u8
-    ensures { ComplainsUnlessMemory (no_join_answer (map (λ i. i.name.now) inputs.now) (none.Apart why has_marks))
+    ensures { ComplainsUnlessMemory (no_join_answer (map (λ i. i.name.now) inputs.now) (none.Refused why has_marks))
         (E.writing err.old, E.writing err.new) result }
 {
     match why {
@@ -225,6 +225,6 @@ pub(crate) fn refuse_joined<P, E: Sink>(
     match why {
         NoJoin::Memory => no_memory(err),
         NoJoin::Input(place, fault) => refuse_input(alloc, name_of(inputs, place), &fault, err),
-        NoJoin::Apart(why, has_marks) => refuse_apart(alloc, inputs, has_marks, why, err),
+        NoJoin::Refused(why, has_marks) => tell_join_refusal(alloc, inputs, has_marks, why, err),
     }
 }

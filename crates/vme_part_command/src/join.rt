@@ -4,7 +4,7 @@ ghost use Rattle.std.specs.Prelude.{map};
 ghost use Rattle.vme_stream.specs.Ends.{Ends};
 ghost use Rattle.vme_part_format.specs.Bounds.{FitsPart};
 ghost use Rattle.vme_part_format.specs.Tables.{part_value};
-ghost use Rattle.vme_part_command.specs.Answered.{EndsUnlessMemory, WritesJoin};
+ghost use Rattle.vme_part_command.specs.PartAnswers.{EndsUnlessMemory, WritesJoin};
 ghost use Rattle.vme_part_command.specs.Written.{written, written_part};
 
 use crate::complaints::no_memory;

@@ -4,7 +4,7 @@ ghost use Rattle.std.specs.Prelude.{ℕ, List, Ok, Option};
 ghost use Rattle.vme_stream.specs.Inputs.{IsReading};
 ghost use Rattle.vme_stream.specs.Answers.{binding_read, dump_read};
 ghost use Rattle.vme_part_format.specs.Tables.{part_value};
-ghost use Rattle.vme_part_command.specs.Answered.{Complains};
+ghost use Rattle.vme_part_command.specs.PartAnswers.{Complains};
 ghost use Rattle.vme_part_command.specs.Written.{FindsOfDump, FindsPart, WritesPart, dump_recording, no_part_answer};
 
 use crate::complaints::refuse;

@@ -4,10 +4,10 @@ ghost use Rattle.std.specs.Prelude.{◌≡◌, map};
 ghost use Rattle.vme_stream.specs.Ends.{Ends};
 ghost use Rattle.vme_part_format.specs.Bounds.{FitsPart};
 ghost use Rattle.vme_part_format.specs.Tables.{part_value};
-ghost use Rattle.vme_part_command.specs.Answered.{ListsPart};
-ghost use Rattle.vme_part_command.specs.Answered.{ListsRecording, TellsRecording};
-ghost use Rattle.vme_part_command.specs.Answered.{listed_answer, listed_status, verdict_row_status};
-ghost use Rattle.vme_part_command.specs.Answered.{row_status, told_answer};
+ghost use Rattle.vme_part_command.specs.PartAnswers.{ListsPart};
+ghost use Rattle.vme_part_command.specs.PartAnswers.{ListsRecording, TellsRecording};
+ghost use Rattle.vme_part_command.specs.PartAnswers.{listed_answer, listed_status, verdict_row_status};
+ghost use Rattle.vme_part_command.specs.PartAnswers.{row_status, told_answer};
 ghost use Rattle.vme_part_listing.specs.declared.answers.ListingAnswer.TheVariants as listed;
 ghost use Rattle.vme_parts.specs.declared.answers.RecordingAnswer.TheVariants as told;
 

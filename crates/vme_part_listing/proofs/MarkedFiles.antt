@@ -25,7 +25,7 @@ use Rattle.vme_parts.specs.Files.{AllStand, AreFiles, files_of}
 use Rattle.vme_part_listing.specs.Marks.{HasMarks, ListsFiles, ShowsFiles, marks_of_ways}
 use Rattle.vme_parts.specs.Progress.{HasJudgedFiles, TellsAll}
 use Rattle.vme_parts.specs.Stands.{SegmentStandsFor, extent_of}
-use Rattle.vme_part_listing.specs.Listings.{ListsOfWhole}
+use Rattle.vme_part_listing.specs.Listings.{DeterminesListingAnswer}
 use Rattle.vme_parts.specs.Telling.{JudgesFiles}
 use Rattle.vme_part_listing.specs.declared.answers.ListingAnswer.{ListingAnswer}
 use Rattle.vme_part_listing.specs.declared.answers.ListingAnswer.TheVariants as listed
@@ -145,7 +145,7 @@ marks_whole j w s xs i h law was files end are stand next t is few =
 
 -- what is listed of what judging came to
 pub listing_told : (p : PartValue) (count : Option ℕ) (j : JudgedSegments) (what : ListingAnswer) → p.listing ≡ true
-    → JudgesFiles p count (Ok j) → ListsFiles j p.segments what → ListsOfWhole p count what
+    → JudgesFiles p count (Ok j) → ListsFiles j p.segments what → DeterminesListingAnswer p count what
 listing_told p count j (listed.Listing l) marked judges lists files n are part has =
     let r = judges files n are part has in (
       r.0,
@@ -162,9 +162,10 @@ listing_told p count j listed.TooLong marked judges lists files n are part has =
 listing_told p count j listed.Unmarked marked judges lists files n are part has = absurd lists
 listing_told p count j (listed.Refused what) marked judges lists files n are part has = absurd lists
 
-pub unmarked_told : (p : PartValue) (count : Option ℕ) → p.listing ≡ false → ListsOfWhole p count listed.Unmarked
+pub unmarked_told : (p : PartValue) (count : Option ℕ) → p.listing ≡ false
+    → DeterminesListingAnswer p count listed.Unmarked
 unmarked_told p count e files n are part has = e
 
 pub refused_told : (p : PartValue) (count : Option ℕ) (what : RecordingAnswer) → JudgesFiles p count (Err what)
-    → ListsOfWhole p count (listed.Refused what)
+    → DeterminesListingAnswer p count (listed.Refused what)
 refused_told p count what judges files n are part has = judges files n are part has

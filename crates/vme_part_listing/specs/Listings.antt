@@ -7,7 +7,7 @@ use Rattle.vme_listing.specs.Recorded.{listing_of}
 use Rattle.vme_summary.specs.Joins.{BlocksJoin, joined_trace}
 use Rattle.vme_part_format.specs.Tables.{PartValue}
 use Rattle.vme_parts.specs.Files.{AreFiles, IsPartOf}
-use Rattle.vme_parts.specs.Telling.{AllCovered, HasFiles, TellsOf}
+use Rattle.vme_parts.specs.Telling.{AllCovered, HasFiles, IsRecordingAnswer}
 use Rattle.vme_part_listing.specs.declared.answers.ListingAnswer.{ListingAnswer}
 use Rattle.vme_part_listing.specs.declared.answers.ListingAnswer.TheVariants as listed
 
@@ -17,13 +17,14 @@ IsListingOfFiles files l =
     BlocksJoin files × ((t : Trace) → joined_trace files ≡ Some t → listing_of t ≡ l)
 
 -- this is listed of a recording of so many files
-abbrev pub ListsOf : List Block → PartValue → ℕ → ListingAnswer → Type 0
-ListsOf files p n (listed.Listing l) = AllCovered p n × (p.listing ≡ true) × IsListingOfFiles (take n files) l
-ListsOf files p n (listed.Refused what) = TellsOf files p n what
-ListsOf files p n listed.Unmarked = p.listing ≡ false
-ListsOf files p n listed.TooLong = AllCovered p n × (p.listing ≡ true)
+abbrev pub IsListingAnswer : List Block → PartValue → ℕ → ListingAnswer → Type 0
+IsListingAnswer files p n (listed.Listing l) = AllCovered p n × (p.listing ≡ true) × IsListingOfFiles (take n files) l
+IsListingAnswer files p n (listed.Refused what) = IsRecordingAnswer files p n what
+IsListingAnswer files p n listed.Unmarked = p.listing ≡ false
+IsListingAnswer files p n listed.TooLong = AllCovered p n × (p.listing ≡ true)
 
 -- whatever files it is a part of, this is listed of them
-abbrev pub ListsOfWhole : PartValue → Option ℕ → ListingAnswer → Type 0
-ListsOfWhole p count what =
-    (files : List Block) (n : ℕ) → AreFiles files → IsPartOf files p → HasFiles p count n → ListsOf files p n what
+abbrev pub DeterminesListingAnswer : PartValue → Option ℕ → ListingAnswer → Type 0
+DeterminesListingAnswer p count what =
+    (files : List Block) (n : ℕ) → AreFiles files → IsPartOf files p → HasFiles p count n
+    → IsListingAnswer files p n what

@@ -8,7 +8,7 @@
 //! # What is proved
 //!
 //! Whatever files a part is one of, the listing is that of the recording that they make, and what
-//! is told in its place is so (`ListsOfWhole`).
+//! is told in its place is so (`DeterminesListingAnswer`).
 //!
 //! # What isn't proved
 //!

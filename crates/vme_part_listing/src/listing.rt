@@ -14,7 +14,7 @@ ghost use Rattle.vme_parts.specs.Buddies.{HasTables};
 ghost use Rattle.vme_parts.specs.Gathering.{IsSegment};
 ghost use Rattle.vme_part_listing.specs.Marks.{FitWays, HasMarks, ListsFiles, ShowsFiles, marks_of_ways};
 ghost use Rattle.vme_parts.specs.Progress.{FitStates, TellsAll};
-ghost use Rattle.vme_part_listing.specs.Listings.{ListsOfWhole};
+ghost use Rattle.vme_part_listing.specs.Listings.{DeterminesListingAnswer};
 
 use crate::answers::ListingAnswer;
 use std::alloc::{AllocError, Global};
@@ -275,7 +275,7 @@ pub fn tell_listing(
     files: Option<u64>,
 ) -> Result<ListingAnswer, AllocError>
     requires { FitsPart (part_value part.now) }
-    ensures { IfOk result (λ what. ListsOfWhole (part_value part.now) files what) }
+    ensures { IfOk result (λ what. DeterminesListingAnswer (part_value part.now) files what) }
 {
     let judging = match judged(part, files) {
         Ok(judging) => judging,

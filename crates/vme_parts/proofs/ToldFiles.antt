@@ -20,7 +20,7 @@ use Rattle.vme_parts.specs.Files.{AllStand, AreFiles, PartCovers, IsPartOf, file
 use Rattle.vme_parts.specs.Gathering.{Ascend}
 use Rattle.vme_parts.specs.Progress.{FoundAll, HasJudgedFiles, IsTornIn, StopsAt}
 use Rattle.vme_parts.specs.Stands.{SegmentStandsFor, extent_of}
-use Rattle.vme_parts.specs.Telling.{AllCovered, HasFiles, JudgesAll, JudgesFiles, TellsOfWhole, told_of}
+use Rattle.vme_parts.specs.Telling.{AllCovered, DeterminesRecordingAnswer, HasFiles, JudgesAll, JudgesFiles, told_of}
 use Rattle.vme_parts.specs.Telling.{verdict_of}
 use Rattle.vme_parts.specs.declared.answers.RecordingAnswer.{RecordingAnswer}
 use Rattle.vme_parts.specs.declared.answers.RecordingAnswer.TheVariants as told
@@ -214,7 +214,7 @@ module _ (p : PartValue) (count : Option ℕ) (end : ℕ) (w : AreWithinFiles p.
 pub verdict_told : (p : PartValue) (count : Option ℕ) (j : JudgedSegments) (v : WideVerdict)
     → JudgesFiles p count (Ok j)
     → ((t : Trace) → FoundAll j.states t → verdict_by rules_in_force t ≡ verdict_of v)
-    → TellsOfWhole p count (told.Verdict v)
+    → DeterminesRecordingAnswer p count (told.Verdict v)
 verdict_told p count j v judges found files n are part has =
     let r = judges files n are part has in (
       r.0,
@@ -222,5 +222,5 @@ verdict_told p count j v judges found files n are part has =
     )
 
 pub refusal_told : (p : PartValue) (count : Option ℕ) (what : RecordingAnswer) → JudgesFiles p count (Err what)
-    → TellsOfWhole p count what
+    → DeterminesRecordingAnswer p count what
 refusal_told p count what judges files n are part has = judges files n are part has

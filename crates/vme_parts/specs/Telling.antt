@@ -56,17 +56,18 @@ IsVerdictOfFiles files v =
     BlocksJoin files × ((t : Trace) → joined_trace files ≡ Some t → verdict_by rules_in_force t ≡ v)
 
 -- this is told of a recording of so many files
-abbrev pub TellsOf : List Block → PartValue → ℕ → RecordingAnswer → Type 0
-TellsOf files p n (told.Beyond k) = PartCovers p k × (n ≤ k)
-TellsOf files p n (told.Missing k) = IsMissing p k × (k < n)
-TellsOf files p n (told.Torn k) = AllCovered p n × IsTornFile files k × (k < n)
-TellsOf files p n told.TooManySteps = AllCovered p n
-TellsOf files p n (told.Verdict v) = AllCovered p n × IsVerdictOfFiles (take n files) (verdict_of v)
+abbrev pub IsRecordingAnswer : List Block → PartValue → ℕ → RecordingAnswer → Type 0
+IsRecordingAnswer files p n (told.Beyond k) = PartCovers p k × (n ≤ k)
+IsRecordingAnswer files p n (told.Missing k) = IsMissing p k × (k < n)
+IsRecordingAnswer files p n (told.Torn k) = AllCovered p n × IsTornFile files k × (k < n)
+IsRecordingAnswer files p n told.TooManySteps = AllCovered p n
+IsRecordingAnswer files p n (told.Verdict v) = AllCovered p n × IsVerdictOfFiles (take n files) (verdict_of v)
 
 -- whatever files it is a part of, this is told of them
-abbrev pub TellsOfWhole : PartValue → Option ℕ → RecordingAnswer → Type 0
-TellsOfWhole p count what =
-    (files : List Block) (n : ℕ) → AreFiles files → IsPartOf files p → HasFiles p count n → TellsOf files p n what
+abbrev pub DeterminesRecordingAnswer : PartValue → Option ℕ → RecordingAnswer → Type 0
+DeterminesRecordingAnswer p count what =
+    (files : List Block) (n : ℕ) → AreFiles files → IsPartOf files p → HasFiles p count n
+    → IsRecordingAnswer files p n what
 
 -- what is told where judging stops
 abbrev pub told_of : Stop → RecordingAnswer
@@ -92,4 +93,5 @@ JudgesFiles p count (Ok j) =
     → AllCovered p n × AreNext 0 p.segments n × ((e : Extent) × HasJudgedFiles j e (take n files)
     × (e.opening.slots ≤ 21))
 JudgesFiles p count (Err what) =
-    (files : List Block) (n : ℕ) → AreFiles files → IsPartOf files p → HasFiles p count n → TellsOf files p n what
+    (files : List Block) (n : ℕ) → AreFiles files → IsPartOf files p → HasFiles p count n
+    → IsRecordingAnswer files p n what

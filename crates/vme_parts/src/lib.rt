@@ -24,7 +24,7 @@
 //!   do, it is so (`AreRefused`).
 //! - Whatever files a part is one of, [`tell_verdict`] says the verdict of the recording that they
 //!   make, or the least number that isn't covered, or the least file that doesn't follow those
-//!   before it (`TellsOfWhole`).
+//!   before it (`DeterminesRecordingAnswer`).
 //!
 //! # What isn't proved
 //!

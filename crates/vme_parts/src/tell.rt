@@ -5,7 +5,7 @@ ghost use Rattle.vme_part_format.specs.Bounds.{FitsPart};
 ghost use Rattle.vme_part_format.specs.Tables.{part_value, segment_value};
 ghost use Rattle.vme_parts.specs.Gathering.{IsSegment};
 ghost use Rattle.vme_parts.specs.Progress.{FitStates};
-ghost use Rattle.vme_parts.specs.Telling.{JudgesAll, JudgesFiles, TellsOfWhole, told_of as told_of_stop};
+ghost use Rattle.vme_parts.specs.Telling.{DeterminesRecordingAnswer, JudgesAll, JudgesFiles, told_of as told_of_stop};
 
 use crate::answers::RecordingAnswer;
 use crate::cover::{beyond, covered, lacks};
@@ -78,7 +78,7 @@ pub fn judged(part: &Part, files: Option<u64>) -> Result<JudgedSegments, Recordi
 /// What a part says of a recording of so many files, or of those up to the last that is covered.
 pub fn tell_verdict(part: &Part, files: Option<u64>) -> RecordingAnswer
     requires { FitsPart (part_value part.now) }
-    ensures { TellsOfWhole (part_value part.now) files result }
+    ensures { DeterminesRecordingAnswer (part_value part.now) files result }
 {
     match judged(part, files) {
         Ok(judging) => RecordingAnswer::Verdict(judging.states.verdict()),

@@ -3,7 +3,7 @@ use Rattle.std.specs.Prelude.{◌≡◌, ◌⊎◌, ℕ, Bool, true, false, List
 use Rattle.std.specs.Prelude.{string_bytes}
 use Rattle.std.specs.List.{AllZip}
 use Rattle.vme_trace.specs.Streams.{Reading, Writing}
-use Rattle.vme_part_command.specs.Answered.{ListsRecording, TellsRecording, WritesJoin}
+use Rattle.vme_part_command.specs.PartAnswers.{ListsRecording, TellsRecording, WritesJoin}
 use Rattle.vme_part_command.specs.Written.{WritesPart}
 use Rattle.vme_part_command.specs.declared.part.PartOptions.{PartOptions}
 use Rattle.vme_words.specs.declared.order.JoinOrder.{JoinOrder}

@@ -1,5 +1,5 @@
 use Rattle.std.proofs.Common.{subst, sym}
-use Rattle.vme_part_command.specs.Answered.{ComplainsUnlessMemory, refusing, what_is_wrong}
+use Rattle.vme_part_command.specs.PartAnswers.{ComplainsUnlessMemory, refusing, what_is_wrong}
 use Rattle.vme_part_command.specs.Lines.{input_text}
 use Rattle.vme_part_command.specs.declared.inputs.NoPartInput.{NoPartInput}
 use Rattle.vme_part_command.proofs.inputs.refuse_input.Goals as goal

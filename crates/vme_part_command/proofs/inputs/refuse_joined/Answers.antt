@@ -1,6 +1,6 @@
 use Rattle.std.proofs.Common.{List, ℕ, inl, map, subst, sym}
 use Rattle.vme_trace.specs.Streams.{Writing}
-use Rattle.vme_part_command.specs.Answered.{ComplainsUnlessMemory, no_join_answer}
+use Rattle.vme_part_command.specs.PartAnswers.{ComplainsUnlessMemory, no_join_answer}
 use Rattle.vme_part_command.specs.declared.inputs.NoJoin.{NoJoin}
 use Rattle.vme_part_command.proofs.inputs.refuse_joined.Goals as goal
 

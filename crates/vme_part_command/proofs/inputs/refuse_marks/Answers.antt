@@ -1,5 +1,5 @@
 use Rattle.std.proofs.Common.{Bool, subst, sym}
-use Rattle.vme_part_command.specs.Answered.{ComplainsUnlessMemory, refusing}
+use Rattle.vme_part_command.specs.PartAnswers.{ComplainsUnlessMemory, refusing}
 use Rattle.vme_part_command.specs.Lines.{input_text, marks_text}
 use Rattle.vme_part_command.proofs.inputs.refuse_marks.Goals as goal
 

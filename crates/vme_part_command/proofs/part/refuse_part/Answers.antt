@@ -1,7 +1,7 @@
 use Rattle.std.proofs.Common.{subst, sym}
 use Rattle.std.specs.Prelude.{codes}
 use Rattle.vme_trace.specs.Streams.{Writing}
-use Rattle.vme_part_command.specs.Answered.{Complains}
+use Rattle.vme_part_command.specs.PartAnswers.{Complains}
 use Rattle.vme_part_command.specs.Lines.{refusing_text}
 use Rattle.vme_part_command.specs.Written.{no_part_answer}
 use Rattle.vme_part_command.specs.declared.no_part.NoPart.{NoPart}

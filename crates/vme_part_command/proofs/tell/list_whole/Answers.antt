@@ -1,7 +1,7 @@
 use Rattle.std.proofs.Common.{List, ℕ, map}
 use Rattle.vme_trace.specs.Streams.{Reading, Writing}
 use Rattle.vme_part_format.specs.Tables.{part_value}
-use Rattle.vme_part_command.specs.Answered.{IsListedOf, listed_answer}
+use Rattle.vme_part_command.specs.PartAnswers.{IsListedOf, listed_answer}
 use Rattle.vme_part_command.proofs.EndLemmas.{ends_listed, ends_unjoined}
 use Rattle.vme_part_command.proofs.tell.list_whole.Goals as goal
 

@@ -3,7 +3,7 @@ use Rattle.std.specs.Prelude.{codes}
 use Rattle.vme_trace.specs.Streams.{Writing}
 use Rattle.vme_stream.specs.Ends.{Ends}
 use Rattle.vme_part_listing.specs.declared.answers.ListingAnswer.{ListingAnswer}
-use Rattle.vme_part_command.specs.Answered.{listed_answer}
+use Rattle.vme_part_command.specs.PartAnswers.{listed_answer}
 use Rattle.vme_part_command.specs.Lines.{refusing_text, told_text}
 use Rattle.vme_part_command.proofs.EndLemmas.{refused_ends}
 use Rattle.vme_part_command.proofs.tell.put_listed.Goals as goal

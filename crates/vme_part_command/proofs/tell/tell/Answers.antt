@@ -3,7 +3,7 @@ use Rattle.std.specs.Prelude.{codes}
 use Rattle.vme_trace.specs.Streams.{Writing}
 use Rattle.vme_stream.specs.Ends.{Ends}
 use Rattle.vme_parts.specs.declared.answers.RecordingAnswer.{RecordingAnswer}
-use Rattle.vme_part_command.specs.Answered.{told_answer}
+use Rattle.vme_part_command.specs.PartAnswers.{told_answer}
 use Rattle.vme_part_command.specs.Lines.{part_text, refusing_text}
 use Rattle.vme_part_command.proofs.EndLemmas.{refused_ends}
 use Rattle.vme_part_command.proofs.tell.tell.Goals as goal

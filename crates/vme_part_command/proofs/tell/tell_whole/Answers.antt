@@ -1,7 +1,7 @@
 use Rattle.std.proofs.Common.{List, ℕ, map}
 use Rattle.vme_trace.specs.Streams.{Reading, Writing}
 use Rattle.vme_part_format.specs.Tables.{part_value}
-use Rattle.vme_part_command.specs.Answered.{IsToldOf, told_answer}
+use Rattle.vme_part_command.specs.PartAnswers.{IsToldOf, told_answer}
 use Rattle.vme_part_command.proofs.EndLemmas.{ends_found, ends_unjoined}
 use Rattle.vme_part_command.proofs.tell.tell_whole.Goals as goal
 

@@ -1,5 +1,5 @@
 use Rattle.std.proofs.Common.{◌∙◌, ap, map, string_bytes, subst}
-use Rattle.vme_part_command.specs.Answered.{WritesJoin}
+use Rattle.vme_part_command.specs.PartAnswers.{WritesJoin}
 use Rattle.vme_program.specs.Parts.{AreOpened}
 use Rattle.vme_program.proofs.PartLemmas.{does_with}
 use Rattle.vme_program.proofs.parts.join_files.Goals as goal

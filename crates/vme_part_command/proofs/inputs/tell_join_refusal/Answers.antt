@@ -2,18 +2,18 @@ use Rattle.std.proofs.Common.{List, ℕ, inl, map, subst, sym}
 use Rattle.std.specs.Prelude.{codes}
 use Rattle.vme_trace.specs.Streams.{Writing}
 use Rattle.vme_parts.specs.declared.join_refusal.JoinRefusal.{JoinRefusal}
-use Rattle.vme_part_command.specs.Answered.{ComplainsUnlessMemory, no_join_answer}
+use Rattle.vme_part_command.specs.PartAnswers.{ComplainsUnlessMemory, no_join_answer}
 use Rattle.vme_part_command.specs.Lines.{part_text, refusing_text}
 use Rattle.vme_part_command.specs.declared.inputs.NoJoin.TheVariants as none
 use Rattle.vme_part_command.proofs.EndLemmas.{refused}
-use Rattle.vme_part_command.proofs.inputs.refuse_apart.Goals as goal
+use Rattle.vme_part_command.proofs.inputs.tell_join_refusal.Goals as goal
 
 pub returns-in-Memory : goal.returns-in-Memory
 returns-in-Memory g c =
     let names : List (List ℕ) = map (λ i. i.name.now) c.args.inputs.now in
     let told = c.no_memory in
     let err : Writing × Writing = (g.E.Sink.writing c.args.err.now, g.E.Sink.writing told.new.err) in
-    subst (λ (w : JoinRefusal). ComplainsUnlessMemory (no_join_answer names (none.Apart w c.args.has_marks)) err
+    subst (λ (w : JoinRefusal). ComplainsUnlessMemory (no_join_answer names (none.Refused w c.args.has_marks)) err
     told.result) (sym c.in-Memory.is) (inl told.ensures)
 
 pub returns-in-Backplane : goal.returns-in-Backplane
@@ -21,7 +21,7 @@ returns-in-Backplane g c =
     let names : List (List ℕ) = map (λ i. i.name.now) c.args.inputs.now in
     let told = c.tell_input in
     let err : Writing × Writing = (g.E.Sink.writing c.args.err.now, g.E.Sink.writing told.new.err) in
-    subst (λ (w : JoinRefusal). ComplainsUnlessMemory (no_join_answer names (none.Apart w c.args.has_marks)) err
+    subst (λ (w : JoinRefusal). ComplainsUnlessMemory (no_join_answer names (none.Refused w c.args.has_marks)) err
     told.result) (sym c.in-Backplane.is) (rw c.name_of.ensures at told.ensures)
 
 pub returns-in-Marks : goal.returns-in-Marks
@@ -29,7 +29,7 @@ returns-in-Marks g c =
     let names : List (List ℕ) = map (λ i. i.name.now) c.args.inputs.now in
     let told = c.refuse_marks in
     let err : Writing × Writing = (g.E.Sink.writing c.args.err.now, g.E.Sink.writing told.new.err) in
-    subst (λ (w : JoinRefusal). ComplainsUnlessMemory (no_join_answer names (none.Apart w c.args.has_marks)) err
+    subst (λ (w : JoinRefusal). ComplainsUnlessMemory (no_join_answer names (none.Refused w c.args.has_marks)) err
     told.result) (sym c.in-Marks.is) (rw c.name_of-in-Marks.ensures at told.ensures)
 
 pub returns-in-Differs : goal.returns-in-Differs
@@ -37,7 +37,7 @@ returns-in-Differs g c =
     let names : List (List ℕ) = map (λ i. i.name.now) c.args.inputs.now in
     let told = c.refuse in
     let err : Writing × Writing = (g.E.Sink.writing c.args.err.now, g.E.Sink.writing told.new.err) in
-    subst (λ (w : JoinRefusal). ComplainsUnlessMemory (no_join_answer names (none.Apart w c.args.has_marks)) err
+    subst (λ (w : JoinRefusal). ComplainsUnlessMemory (no_join_answer names (none.Refused w c.args.has_marks)) err
     told.result) (sym c.in-Differs.is) (inl (refused (part_text c.in-Differs.number
     (codes " differs")) err told.result (rw c.part_line.ensures at told.ensures.told) told.ensures.status))
 
@@ -46,7 +46,7 @@ returns-in-TooManySteps g c =
     let names : List (List ℕ) = map (λ i. i.name.now) c.args.inputs.now in
     let told = c.refuse-in-TooManySteps in
     let err : Writing × Writing = (g.E.Sink.writing c.args.err.now, g.E.Sink.writing told.new.err) in
-    subst (λ (w : JoinRefusal). ComplainsUnlessMemory (no_join_answer names (none.Apart w c.args.has_marks)) err
+    subst (λ (w : JoinRefusal). ComplainsUnlessMemory (no_join_answer names (none.Refused w c.args.has_marks)) err
     told.result) (sym c.in-TooManySteps.is) (inl (refused (refusing_text (codes "too many steps")) err told.result
     (rw c.refusing_line.ensures at told.ensures.told) told.ensures.status))
 
@@ -55,7 +55,7 @@ returns-in-TooManyNodes g c =
     let names : List (List ℕ) = map (λ i. i.name.now) c.args.inputs.now in
     let told = c.refuse-in-TooManyNodes in
     let err : Writing × Writing = (g.E.Sink.writing c.args.err.now, g.E.Sink.writing told.new.err) in
-    subst (λ (w : JoinRefusal). ComplainsUnlessMemory (no_join_answer names (none.Apart w c.args.has_marks)) err
+    subst (λ (w : JoinRefusal). ComplainsUnlessMemory (no_join_answer names (none.Refused w c.args.has_marks)) err
     told.result) (sym c.in-TooManyNodes.is) (inl (refused (refusing_text (codes "too many marks")) err told.result
     (rw c.refusing_line-in-TooManyNodes.ensures at told.ensures.told) told.ensures.status))
 
@@ -64,6 +64,6 @@ returns-in-TooManySegments g c =
     let names : List (List ℕ) = map (λ i. i.name.now) c.args.inputs.now in
     let told = c.refuse-in-TooManySegments in
     let err : Writing × Writing = (g.E.Sink.writing c.args.err.now, g.E.Sink.writing told.new.err) in
-    subst (λ (w : JoinRefusal). ComplainsUnlessMemory (no_join_answer names (none.Apart w c.args.has_marks)) err
+    subst (λ (w : JoinRefusal). ComplainsUnlessMemory (no_join_answer names (none.Refused w c.args.has_marks)) err
     told.result) (sym c.in-TooManySegments.is) (inl (refused (refusing_text (codes "too many parts")) err told.result
     (rw c.refusing_line-in-TooManySegments.ensures at told.ensures.told) told.ensures.status))

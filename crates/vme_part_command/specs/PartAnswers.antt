@@ -17,14 +17,14 @@ use Rattle.vme_listing.specs.declared.row.Row.TheVariants.{Start, Reset, OpenTen
 use Rattle.vme_listing.specs.declared.row.Row.TheVariants.{FreeCycle, InterruptCycle, Transfer, PendingTransfer}
 use Rattle.vme_listing.specs.declared.row.Row.TheVariants.{Verdict}
 use Rattle.vme_part_format.specs.Tables.{PartValue}
-use Rattle.vme_part_listing.specs.Listings.{ListsOfWhole}
+use Rattle.vme_part_listing.specs.Listings.{DeterminesListingAnswer}
 use Rattle.vme_part_listing.specs.declared.answers.ListingAnswer.{ListingAnswer}
 use Rattle.vme_part_listing.specs.declared.answers.ListingAnswer.TheVariants as listed
-use Rattle.vme_parts.specs.Telling.{TellsOfWhole, verdict_of}
+use Rattle.vme_parts.specs.Telling.{DeterminesRecordingAnswer, verdict_of}
 use Rattle.vme_parts.specs.declared.answers.RecordingAnswer.{RecordingAnswer}
 use Rattle.vme_parts.specs.declared.answers.RecordingAnswer.TheVariants as told
 use Rattle.vme_parts.specs.declared.join_refusal.JoinRefusal.{JoinRefusal}
-use Rattle.vme_parts.specs.declared.join_refusal.JoinRefusal.TheVariants as apart
+use Rattle.vme_parts.specs.declared.join_refusal.JoinRefusal.TheVariants as refusal
 use Rattle.vme_part_command.specs.Inputs.{IsJoinOf, IsNoJoin}
 use Rattle.vme_part_command.specs.Lines.{fault_text, input_text, marks_text, part_text, refusing_text, told_text}
 use Rattle.vme_part_command.specs.Written.{written_part}
@@ -47,33 +47,34 @@ what_is_wrong (input.Faulty fault) = fault_text fault
 abbrev pub name_at : List (List ℕ) → ℕ → List ℕ
 name_at names place = get_or names place []
 
-abbrev pub apart_text : List (List ℕ) → JoinRefusal → Bool → List ℕ
-apart_text names apart.Memory has_marks = refusal_text Memory
-apart_text names (apart.Backplane place) has_marks = input_text (name_at names place) (codes "of another backplane")
-apart_text names (apart.Marks place) has_marks = input_text (name_at names place) (marks_text has_marks)
-apart_text names (apart.Differs number) has_marks = part_text number (codes " differs")
-apart_text names apart.TooManySteps has_marks = refusing_text (codes "too many steps")
-apart_text names apart.TooManyNodes has_marks = refusing_text (codes "too many marks")
-apart_text names apart.TooManySegments has_marks = refusing_text (codes "too many parts")
+abbrev pub join_refusal_text : List (List ℕ) → JoinRefusal → Bool → List ℕ
+join_refusal_text names refusal.Memory has_marks = refusal_text Memory
+join_refusal_text names (refusal.Backplane place) has_marks =
+    input_text (name_at names place) (codes "of another backplane")
+join_refusal_text names (refusal.Marks place) has_marks = input_text (name_at names place) (marks_text has_marks)
+join_refusal_text names (refusal.Differs number) has_marks = part_text number (codes " differs")
+join_refusal_text names refusal.TooManySteps has_marks = refusing_text (codes "too many steps")
+join_refusal_text names refusal.TooManyNodes has_marks = refusing_text (codes "too many marks")
+join_refusal_text names refusal.TooManySegments has_marks = refusing_text (codes "too many parts")
 
-abbrev pub apart_status : JoinRefusal → ℕ
-apart_status apart.Memory = 4
-apart_status (apart.Backplane place) = 3
-apart_status (apart.Marks place) = 3
-apart_status (apart.Differs number) = 3
-apart_status apart.TooManySteps = 3
-apart_status apart.TooManyNodes = 3
-apart_status apart.TooManySegments = 3
+abbrev pub join_refusal_status : JoinRefusal → ℕ
+join_refusal_status refusal.Memory = 4
+join_refusal_status (refusal.Backplane place) = 3
+join_refusal_status (refusal.Marks place) = 3
+join_refusal_status (refusal.Differs number) = 3
+join_refusal_status refusal.TooManySteps = 3
+join_refusal_status refusal.TooManyNodes = 3
+join_refusal_status refusal.TooManySegments = 3
 
 abbrev pub no_join_text : List (List ℕ) → NoJoin → List ℕ
 no_join_text names none.Memory = refusal_text Memory
 no_join_text names (none.Input place fault) = input_text (name_at names place) (what_is_wrong fault)
-no_join_text names (none.Apart why has_marks) = apart_text names why has_marks
+no_join_text names (none.Refused why has_marks) = join_refusal_text names why has_marks
 
 abbrev pub no_join_status : NoJoin → ℕ
 no_join_status none.Memory = 4
 no_join_status (none.Input place fault) = 3
-no_join_status (none.Apart why has_marks) = apart_status why
+no_join_status (none.Refused why has_marks) = join_refusal_status why
 
 abbrev pub no_join_answer : List (List ℕ) → NoJoin → CommandAnswer
 no_join_answer names why =
@@ -163,7 +164,7 @@ WritesJoin names inputs out err status =
 pub record IsToldOf (inputs : List Reading × List Reading) (files : Option ℕ) (what : RecordingAnswer) : Type 0 where
   pub part : PartValue
   pub join : IsJoinOf inputs.0 inputs.1 part
-  pub tells : TellsOfWhole part files what
+  pub tells : DeterminesRecordingAnswer part files what
 
 abbrev pub TellsRecording : List (List ℕ) → List Reading × List Reading → Option ℕ → Writing × Writing
     → Writing × Writing
@@ -174,14 +175,14 @@ TellsRecording names inputs files out err status =
 -- something is listed of a recording by a part, and its answer is told, or that there was no memory
 abbrev pub ListsPart : PartValue → Option ℕ → Writing × Writing → Writing × Writing → ℕ → Type 0
 ListsPart p files out err status =
-    ((what : ListingAnswer) × ListsOfWhole p files what × Ends (listed_answer what) out err status)
+    ((what : ListingAnswer) × DeterminesListingAnswer p files what × Ends (listed_answer what) out err status)
     ⊎ Ends (refusal_answer Memory) out err status
 
 -- this is listed of it
 pub record IsListedOf (inputs : List Reading × List Reading) (files : Option ℕ) (what : ListingAnswer) : Type 0 where
   pub part : PartValue
   pub join : IsJoinOf inputs.0 inputs.1 part
-  pub lists : ListsOfWhole part files what
+  pub lists : DeterminesListingAnswer part files what
 
 abbrev pub ListsRecording : List (List ℕ) → List Reading × List Reading → Option ℕ → Writing × Writing
     → Writing × Writing
