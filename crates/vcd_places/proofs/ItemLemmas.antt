@@ -20,7 +20,7 @@ use Rattle.vcd_places.specs.Items.{BegunKind, kind_of, named, remark, single, te
 use Rattle.vcd_places.specs.Places.{AreWholeItems, IsAtTime, begins_apart, body_in}
 use Rattle.vcd_places.specs.Places.{if_time, time_told}
 use Rattle.vcd_places.specs.Places.{times_told}
-use Rattle.vcd_places.specs.Taken.{IsNextToken, IsTakenToEnd, ends_section}
+use Rattle.vcd_places.specs.NextTokens.{IsNextToken, IsTakenToEnd, ends_section}
 use Rattle.vcd_places.specs.Times.{IsBetweenItems, times_left}
 use Rattle.vcd_places.proofs.PutInLemmas.{header_ended}
 

@@ -2,7 +2,7 @@ pub mod PutInLemmas
 pub mod SkippedLemmas
 pub mod MoreNetsLemmas
 pub mod StringStepLemmas
-pub mod TakenLemmas
+pub mod NextTokenLemmas
 pub mod ItemLemmas
 pub mod SectionLemmas
 pub mod CodeLemmas

@@ -14,11 +14,11 @@ use Rattle.vcd_read.specs.Body.{body_from, ready}
 use Rattle.vcd_read.specs.Meaning.{last_time}
 use Rattle.vcd_places.specs.Places.{IsAtTime, begins_apart, begins_with_token, body_in, ends_apart, ends_definitions_at}
 use Rattle.vcd_places.specs.Places.{is_between_sections, is_unfinished, times_of_body, times_told}
-use Rattle.vcd_places.specs.Taken.{IsNextToken, IsTakenToEnd, StandsAt, ends_section, is_seam}
+use Rattle.vcd_places.specs.NextTokens.{IsNextToken, IsTakenToEnd, StandsAt, ends_section, is_seam}
 use Rattle.vcd_places.specs.Times.{IsBetweenItems, times_left}
 use Rattle.vcd_places.proofs.PutInLemmas.{GoOn, behind_items, header_ended, header_split}
 use Rattle.vcd_places.proofs.ItemLemmas.{section_taken, token}
-use Rattle.vcd_places.proofs.TakenLemmas.{tokens_at_seam, tokens_detached}
+use Rattle.vcd_places.proofs.NextTokenLemmas.{tokens_at_seam, tokens_detached}
 
 both_true : (a b : Bool) → (a && b) ≡ true → (a ≡ true) × (b ≡ true)
 both_true true b e = (refl, e)

@@ -1,5 +1,5 @@
 pub mod Places
-pub mod Taken
+pub mod NextTokens
 pub mod Times
 pub mod Items
 pub mod Codes

@@ -6,7 +6,7 @@ ghost use Rattle.vcd_read.specs.Body.{body_from, ready};
 ghost use Rattle.vcd_read.specs.Header.{is_end, opens_section};
 ghost use Rattle.vcd_read.specs.Reading.{left_from};
 ghost use Rattle.vcd_places.specs.Places.{ends_definitions_at, IsAtTime, times_of_body, body_in};
-ghost use Rattle.vcd_places.specs.Taken.{IsTakenToEnd, ends_section};
+ghost use Rattle.vcd_places.specs.NextTokens.{IsTakenToEnd, ends_section};
 ghost use Rattle.vcd_places.specs.Times.{times_left};
 
 use crate::times::TimePlaces;

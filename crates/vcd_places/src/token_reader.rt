@@ -3,7 +3,7 @@
 ghost use Rattle.std.specs.Prelude.{◌≡◌, ℕ, [], ◌<◌, ◌≤◌, true, false, IfNone, IfSome, length, slice_index};
 ghost use Rattle.vcd_read.specs.Tokens.{is_space};
 ghost use Rattle.vcd_read.specs.Reading.{left_from};
-ghost use Rattle.vcd_places.specs.Taken.{IsNextToken, StandsAt, is_seam};
+ghost use Rattle.vcd_places.specs.NextTokens.{IsNextToken, StandsAt, is_seam};
 
 /// A token, and the place of its first byte.
 #[derive(Clone, Copy)]

@@ -13,7 +13,7 @@ use Rattle.vcd_read.specs.Reached.{Reached}
 use Rattle.vcd_read.specs.BodyFold.{State, BodyFold, advanced, at_end, ended, progress_after, state_at, steps}
 use Rattle.vcd_read.specs.Tokens.{Token}
 use Rattle.vcd_start.specs.Starts.{start_of}
-use Rattle.vcd_start.specs.Taken.{StartComesTo, or_time, unchanged}
+use Rattle.vcd_start.specs.StartReading.{StartComesTo, or_time, unchanged}
 
 module _ (nets : List Net) (time : ℕ) where
   abbrev HasTime : BodyFold (Option ℕ) → Type 0

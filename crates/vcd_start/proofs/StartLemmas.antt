@@ -23,7 +23,7 @@ use Rattle.vcd_read.proofs.DumpLemmas.{contents_behind, dump_behind, dump_of-hea
 use Rattle.vcd_read.proofs.CurrentValues.{CurrentValues}
 use Rattle.vcd_read.proofs.BodyFoldLemmas.{Ends, Follows, fails-followed, taken-follows}
 use Rattle.vcd_start.specs.Starts.{first_time_of, start_of}
-use Rattle.vcd_start.specs.Taken.{StartComesTo, or_time, unchanged}
+use Rattle.vcd_start.specs.StartReading.{StartComesTo, or_time, unchanged}
 
 -- ---- the first time of instants
 

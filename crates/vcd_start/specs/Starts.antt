@@ -4,7 +4,7 @@ use Rattle.vcd_read.specs.Contents.{Contents}
 use Rattle.vcd_read.specs.Meaning.{dump_of}
 use Rattle.vcd_read.specs.declared.dump.Instant.{Instant}
 use Rattle.vcd_start.specs.declared.start.Start.{Start}
-use Rattle.vcd_start.specs.declared.start.Start.TheVariants.{NotTold, Told}
+use Rattle.vcd_start.specs.declared.start.Start.TheVariants.{Determined, Undetermined}
 
 -- the time of the first of some instants, if there is one
 abbrev pub first_time_of : List Instant → Option ℕ
@@ -20,6 +20,6 @@ abbrev pub StartsAt : List ℕ → Option ℕ → Type 0
 StartsAt text time = (dump : Contents) → dump_of text ≡ Ok dump → start_of dump ≡ time
 
 -- what is told of the first time of a text is so
-abbrev pub TellsStart : List ℕ → Start → Type 0
-TellsStart text NotTold = Unit {0}
-TellsStart text (Told time) = StartsAt text time
+abbrev pub DeterminesStart : List ℕ → Start → Type 0
+DeterminesStart text Undetermined = Unit {0}
+DeterminesStart text (Determined time) = StartsAt text time

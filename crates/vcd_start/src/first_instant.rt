@@ -22,7 +22,7 @@ impl FirstInstant {
 
 impl ChangeVisitor for FirstInstant {
     ghost use Rattle.std.specs.Prelude.{ℕ, Option};
-    ghost use Rattle.vcd_start.specs.Taken.{or_time, unchanged};
+    ghost use Rattle.vcd_start.specs.StartReading.{or_time, unchanged};
 
     ghost Taken = { Option ℕ };
 

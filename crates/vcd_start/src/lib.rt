@@ -11,7 +11,7 @@
 //!
 //! Where a text is a dump, what is answered is the time of its first instant, if it has one
 //! (`StartsAt`): 0 where a change stands before each time that the dump tells, or else the first
-//! that it tells. Of a front that isn't whole this holds whatever follows (`TellsStart`).
+//! that it tells. Of a front that isn't whole this holds whatever follows (`DeterminesStart`).
 //!
 //! # What isn't proved
 //!

@@ -6,8 +6,8 @@ ghost use Rattle.vcd_read.specs.Meaning.{ReadFails, dump_of};
 ghost use Rattle.vcd_read.specs.Reached.{reached};
 ghost use Rattle.vcd_read.specs.Tokens.{Token, tokens};
 ghost use Rattle.vcd_read.specs.declared.fault.FaultKind.TheVariants.{Memory};
-ghost use Rattle.vcd_start.specs.Starts.{StartsAt, TellsStart};
-ghost use Rattle.vcd_start.specs.Taken.{IsStartRead};
+ghost use Rattle.vcd_start.specs.Starts.{DeterminesStart, StartsAt};
+ghost use Rattle.vcd_start.specs.StartReading.{IsStartRead};
 
 use crate::first_instant::FirstInstant;
 use crate::no_variables::NoVariables;
@@ -18,9 +18,9 @@ use vcd_read::{FaultKind, Pieces, VcdFault, read_front, whole_tokens};
 #[derive(Clone, Copy, Debug)]
 pub enum Start {
     /// The first instant doesn't end in it.
-    NotTold,
+    Undetermined,
     /// The first time of the text, if it has one.
-    Told(Option<u64>),
+    Determined(Option<u64>),
 }
 
 /// Reads the body that a front of a text has, if its definitions end in it. A fault is that of every text that goes on
@@ -56,35 +56,35 @@ fn unless_memory(fault: VcdFault) -> Result<(), AllocError>
 }
 
 /// What is known of the first time where the body is read so far.
-fn told_by(pieces: Pieces<FirstInstant>) -> Start
+fn start_by_pieces(pieces: Pieces<FirstInstant>) -> Start
     ensures { (front text : List ℕ) (more : List Token) → IsStartRead front (reached (λ v. v.time) pieces)
-        → tokens text ≡ tokens front ++ more → TellsStart text result }
+        → tokens text ≡ tokens front ++ more → DeterminesStart text result }
 {
     let (_, first) = pieces.with_visitor(FirstInstant { time: None });
     match first.into_time() {
-        Some(time) => Start::Told(Some(time)),
-        None => Start::NotTold,
+        Some(time) => Start::Determined(Some(time)),
+        None => Start::Undetermined,
     }
 }
 
 /// What the whole tokens of a front tell.
 fn start_by_tokens(alloc: Global, front: &[u8]) -> Result<Start, AllocError>
     ensures { IfOk result (λ start. (text : List ℕ) (more : List Token) → tokens text ≡ tokens front.now ++ more
-        → TellsStart text start) }
+        → DeterminesStart text start) }
 {
     match read_in(alloc, front) {
-        Ok(Some(pieces)) => Ok(told_by(pieces)),
-        Ok(None) => Ok(Start::NotTold),
+        Ok(Some(pieces)) => Ok(start_by_pieces(pieces)),
+        Ok(None) => Ok(Start::Undetermined),
         Err(fault) => {
             unless_memory(fault)?;
-            Ok(Start::Told(None))
+            Ok(Start::Determined(None))
         }
     }
 }
 
 /// The first time of each dump that begins with these bytes, if they tell it. The only error is want of memory.
 pub fn start_in(alloc: Global, front: &[u8]) -> Result<Start, AllocError>
-    ensures { IfOk result (λ start. (rest : List ℕ) → TellsStart (front.now ++ rest) start) }
+    ensures { IfOk result (λ start. (rest : List ℕ) → DeterminesStart (front.now ++ rest) start) }
 {
     let count = whole_tokens(front);
     start_by_tokens(alloc, &front[..count])

@@ -1,7 +1,7 @@
 //! The first time of a dump that is a file of a recording.
 
 ghost use Rattle.std.specs.Prelude.{◌≡◌, ◌++◌, ℕ, List, [], IfOk, OnOk};
-ghost use Rattle.vcd_start.specs.Starts.{TellsStart};
+ghost use Rattle.vcd_start.specs.Starts.{DeterminesStart};
 ghost use Rattle.vme_trace.specs.Streams.{Reading};
 ghost use Rattle.vme_stream.specs.Inputs.{longest_input};
 ghost use Rattle.vme_dump_input.specs.BufferedInputs.{IsReadOn, IsReadTo};
@@ -16,10 +16,10 @@ use vme_trace::Source;
 /// What a front of a dump tells of its first time. Fewer bytes than these aren't read, which are twice as many then: so
 /// that all tries together take time in proportion to the bytes.
 fn start_in_time(alloc: Global, front: &[u8], least: &mut usize) -> Result<Start, AllocError>
-    ensures { IfOk result (λ start. (rest : List ℕ) → TellsStart (front.now ++ rest) start) }
+    ensures { IfOk result (λ start. (rest : List ℕ) → DeterminesStart (front.now ++ rest) start) }
 {
     if front.len() < *least {
-        return Ok(Start::NotTold);
+        return Ok(Start::Undetermined);
     }
     *least = front.len().saturating_mul(2);
     start_in(alloc, front)
@@ -45,8 +45,8 @@ pub(crate) fn read_start<D: Source>(
     'reading: while !input.is_whole() {
         let held = input.bytes();
         match start_in_time(alloc, held, &mut least) {
-            Ok(Start::Told(start)) => return Ok(start),
-            Ok(Start::NotTold) => {}
+            Ok(Start::Determined(start)) => return Ok(start),
+            Ok(Start::Undetermined) => {}
             Err(_) => return Err(Refusal::Memory),
         }
         if let Err(fault) = input.read(dump) {

@@ -15,7 +15,7 @@ use Rattle.vme_auditor.specs.Findings.{AreBreakCountsOf}
 use Rattle.vme_auditor.specs.declared.findings.BreakCounts.{BreakCounts}
 use Rattle.vme_step_auditor.specs.ReadBy.{is_stopped, read_by, stops_by}
 use Rattle.vme_step_auditor.specs.Counting.{all_counted, faults_counted, with_category}
-use Rattle.vme_step_auditor.specs.Taken.{HasAuditedSteps}
+use Rattle.vme_step_auditor.specs.AuditedSteps.{HasAuditedSteps}
 use Rattle.vme_step_auditor.proofs.ReadOn.{BreaksWithin, StepsBreak, front_sound, reads_all, reads_no_more, reads_step}
 use Rattle.vme_step_auditor.proofs.ReadOn.{reads_unbroken, stays_stopped}
 use Rattle.vme_step_auditor.proofs.Tallying.{counted_none, counted_once_more, counted_still, counts_one, faults_are}

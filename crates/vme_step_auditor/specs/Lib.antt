@@ -1,3 +1,3 @@
 pub mod Counting
 pub mod ReadBy
-pub mod Taken
+pub mod AuditedSteps

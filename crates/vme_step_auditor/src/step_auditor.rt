@@ -42,7 +42,7 @@ pub struct StepAuditor<'a> {
 
 impl<'a> Model for StepAuditor<'a> {
     ghost use Rattle.vme_step_auditor.specs.ReadBy.{GivenSteps};
-    ghost use Rattle.vme_step_auditor.specs.Taken.{HasAuditedSteps};
+    ghost use Rattle.vme_step_auditor.specs.AuditedSteps.{HasAuditedSteps};
 
     ghost Value = { GivenSteps };
 

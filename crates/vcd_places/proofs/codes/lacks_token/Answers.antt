@@ -1,5 +1,5 @@
 use Rattle.vcd_places.specs.Codes.{is_token}
-use Rattle.vcd_places.proofs.TakenLemmas.{none_at_start, none_of_all, seam_at_start}
+use Rattle.vcd_places.proofs.NextTokenLemmas.{none_at_start, none_of_all, seam_at_start}
 use Rattle.vcd_places.proofs.codes.lacks_token.Goals as goal
 
 pub loop-token-init : goal.loop-token-init

@@ -2,7 +2,7 @@ use Rattle.std.proofs.Common.{◌≡◌, ◌-◌, length, take, true, false}
 use Rattle.std.specs.List.{list_any}
 use Rattle.vcd_read.specs.Tokens.{tokens}
 use Rattle.vcd_places.specs.Codes.{is_token}
-use Rattle.vcd_places.specs.Taken.{is_seam}
+use Rattle.vcd_places.specs.NextTokens.{is_seam}
 use Rattle.vcd_places.proofs.codes.lacks_token.Given as goal
 
 abbrev pub invariant-loop-token : goal.invariant-loop-token

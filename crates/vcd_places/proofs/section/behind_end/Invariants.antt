@@ -1,5 +1,5 @@
 use Rattle.std.proofs.Common.{◌≡◌, ◌-◌, length}
-use Rattle.vcd_places.proofs.TakenLemmas.{IsTakenSoFar}
+use Rattle.vcd_places.proofs.NextTokenLemmas.{IsTakenSoFar}
 use Rattle.vcd_places.proofs.section.behind_end.Given as goal
 
 abbrev pub invariant-loop-token : goal.invariant-loop-token

@@ -2,7 +2,7 @@ use Rattle.std.proofs.Common.{◌≡◌, true, false, refl, rules, sym, ◌∙�
 use Rattle.std.specs.Prelude.{bytes_eq, codes}
 use Rattle.vcd_places.proofs.SectionLemmas.{between_at, ended_at, goes_at_start, none_behind, none_left, stray_goes}
 use Rattle.vcd_places.proofs.SectionLemmas.{times_at, whole_goes}
-use Rattle.vcd_places.proofs.TakenLemmas.{seam_at_start, seam_from}
+use Rattle.vcd_places.proofs.NextTokenLemmas.{seam_at_start, seam_from}
 use Rattle.vcd_places.proofs.section.definitions_end.Goals as goal
 
 pub loop-first-init : goal.loop-first-init

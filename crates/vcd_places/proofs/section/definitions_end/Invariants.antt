@@ -1,6 +1,6 @@
 use Rattle.std.proofs.Common.{◌≡◌, ◌-◌, length, take, true}
 use Rattle.vcd_places.specs.Places.{is_between_sections}
-use Rattle.vcd_places.specs.Taken.{is_seam}
+use Rattle.vcd_places.specs.NextTokens.{is_seam}
 use Rattle.vcd_places.proofs.section.definitions_end.Given as goal
 
 abbrev pub invariant-loop-first : goal.invariant-loop-first

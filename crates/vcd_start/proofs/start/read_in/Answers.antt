@@ -3,7 +3,7 @@ use Rattle.std.proofs.Common.{List, refl, subst, [], ◌≡◌}
 use Rattle.vcd_read.specs.Meaning.{ReadFails}
 use Rattle.vcd_read.specs.Reached.{reached, rest_of}
 use Rattle.vcd_read.specs.Tokens.{Token, tokens}
-use Rattle.vcd_start.specs.Taken.{or_time, unchanged}
+use Rattle.vcd_start.specs.StartReading.{or_time, unchanged}
 use Rattle.vcd_start.proofs.StartLemmas.{fails-start, header-fails, no-dump, reads-start}
 use Rattle.vcd_start.proofs.start.read_in.Goals as goal
 

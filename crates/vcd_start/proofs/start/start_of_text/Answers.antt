@@ -3,7 +3,7 @@ use Rattle.vcd_read.specs.Meaning.{dump_of}
 use Rattle.vcd_read.specs.Reached.{outcome_of, reached}
 use Rattle.vcd_read.specs.Tokens.{tokens}
 use Rattle.vcd_start.specs.Starts.{start_of}
-use Rattle.vcd_start.specs.Taken.{or_time, unchanged}
+use Rattle.vcd_start.specs.StartReading.{or_time, unchanged}
 use Rattle.vcd_start.proofs.StartLemmas.{never-gives, same-start}
 use Rattle.vcd_start.proofs.start.start_of_text.Goals as goal
 

@@ -26,16 +26,16 @@ reading-preserved g c =
       limit = c.read.ensures.limit ∙ inv.limit;
     }
 
-pub returns-in-Ok-Told-clause-told : goal.returns-in-Ok-Told-clause-told
-returns-in-Ok-Told-clause-told g c old h limit =
-    let told = rw c.in-Ok-Told.field-0-is at c.in-Ok-Told.ensures in (
+pub returns-in-Ok-Determined-clause-told : goal.returns-in-Ok-Determined-clause-told
+returns-in-Ok-Determined-clause-told g c old h limit =
+    let told = rw c.in-Ok-Determined.field-0-is at c.in-Ok-Determined.ensures in (
       c.reading.invariant.read old h,
-      λ rest ends other. subst (λ (l : List ℕ). StartsAt (l ++ rest) c.in-Ok-Told.start) c.bytes-held.ensures.held
+      λ rest ends other. subst (λ (l : List ℕ). StartsAt (l ++ rest) c.in-Ok-Determined.start) c.bytes-held.ensures.held
           (told rest),
     )
 
-pub returns-in-Ok-Told-clause-on : goal.returns-in-Ok-Told-clause-on
-returns-in-Ok-Told-clause-on g c = c.reading.invariant.on
+pub returns-in-Ok-Determined-clause-on : goal.returns-in-Ok-Determined-clause-on
+returns-in-Ok-Determined-clause-on g c = c.reading.invariant.on
 
 pub returns-in-Err-clause-told : goal.returns-in-Err-clause-told
 returns-in-Err-clause-told g c old h limit =

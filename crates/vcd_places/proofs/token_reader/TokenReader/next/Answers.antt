@@ -1,5 +1,5 @@
 use Rattle.std.proofs.Common.{◌<◌, length, arith}
-use Rattle.vcd_places.proofs.TakenLemmas.{detached, is_taken, nothing_left, seam_from, stands_at, word_some}
+use Rattle.vcd_places.proofs.NextTokenLemmas.{detached, is_taken, nothing_left, seam_from, stands_at, word_some}
 use Rattle.vcd_places.proofs.token_reader.TokenReader.next.Goals as goal
 
 pub returns-then-start-self-clause-none : goal.returns-then-start-self-clause-none

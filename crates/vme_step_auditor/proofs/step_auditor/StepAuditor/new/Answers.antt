@@ -4,7 +4,7 @@ use Rattle.vme_trace.specs.Trace.{Trace}
 use Rattle.vme_trace.specs.declared.step.Step.{Step}
 use Rattle.vme_audit.specs.Parts.{breaks}
 use Rattle.vme_step_auditor.specs.ReadBy.{read_by}
-use Rattle.vme_step_auditor.specs.Taken.{HasAuditedSteps}
+use Rattle.vme_step_auditor.specs.AuditedSteps.{HasAuditedSteps}
 use Rattle.vme_step_auditor.proofs.ReadOn.{reads_unbroken}
 use Rattle.vme_step_auditor.proofs.Taking.{takes_none}
 use Rattle.vme_step_auditor.proofs.step_auditor.StepAuditor.new.Goals as goal

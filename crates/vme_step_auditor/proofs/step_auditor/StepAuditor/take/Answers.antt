@@ -10,7 +10,7 @@ use Rattle.vme_auditor.specs.declared.audit_break.AuditBreak.{AuditBreak}
 use Rattle.vme_auditor.specs.declared.findings.BreakCounts.{BreakCounts}
 use Rattle.vme_step_auditor.specs.ReadBy.{GivenSteps, read_by, read_of}
 use Rattle.vme_step_auditor.specs.Counting.{with_category}
-use Rattle.vme_step_auditor.specs.Taken.{HasAuditedSteps}
+use Rattle.vme_step_auditor.specs.AuditedSteps.{HasAuditedSteps}
 use Rattle.vme_step_auditor.proofs.Taking.{takes_break, takes_conforming, takes_stopped, tells_found, tells_none}
 use Rattle.vme_step_auditor.proofs.step_auditor.StepAuditor.take.Goals as goal
 

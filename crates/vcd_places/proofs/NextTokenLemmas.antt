@@ -14,7 +14,7 @@ use Rattle.vcd_read.specs.Reading.{left_from}
 use Rattle.vcd_read.specs.Header.{is_end}
 use Rattle.vcd_read.proofs.TokenLemmas.{between, left_end, left_step, line_in, token_in, token_step}
 use Rattle.vcd_places.specs.Places.{begins_apart, ends_apart}
-use Rattle.vcd_places.specs.Taken.{IsNextToken, IsTakenToEnd, StandsAt, ends_section, is_seam}
+use Rattle.vcd_places.specs.NextTokens.{IsNextToken, IsTakenToEnd, StandsAt, ends_section, is_seam}
 use Rattle.vcd_places.proofs.PutInLemmas.{tokens_apart, tokens_spaced}
 
 -- ---- seams

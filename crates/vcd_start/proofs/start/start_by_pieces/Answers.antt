@@ -1,7 +1,7 @@
 use Rattle.std.proofs.Common.{sym, ◌∙◌}
 use Rattle.vcd_read.specs.Reached.{reached}
 use Rattle.vcd_start.proofs.KeptStart.{kept-start}
-use Rattle.vcd_start.proofs.start.told_by.Goals as goal
+use Rattle.vcd_start.proofs.start.start_by_pieces.Goals as goal
 
 pub returns-in-Some : goal.returns-in-Some
 returns-in-Some c front text more read same dump whole =
