@@ -1,5 +1,5 @@
 pub mod Allowances
-pub mod Asked
+pub mod AskedRules
 pub mod Counted
 pub mod Covered
 pub mod Event

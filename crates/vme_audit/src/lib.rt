@@ -5,8 +5,8 @@
 //!
 //! - `specs/Parts`: a recording is judged anew after each break, from the first idle instant on;
 //!   all breaks of it.
-//! - `specs/Asked`: what has to happen for a rule to be asked at all. A rule that is never asked
-//!   can't be broken.
+//! - `specs/AskedRules`: what has to happen for a rule to be asked at all. A rule that is never
+//!   asked can't be broken.
 //! - `specs/Counted`, and `counts`: what a recording has, in rows of the listings of its parts.
 //! - `specs/Covered`, and `outcome`: when a recording is covered, and what its audit comes to.
 //! - `specs/Allowances`, and `allowance`: breaks that are allowed.

@@ -2,7 +2,7 @@
 use Rattle.std.proofs.Common.{◌≡◌, ℕ, List, [], ◌++◌, Result, Ok, Err, refl, IfErr, IfOk}
 use Rattle.vme_trace.specs.Streams.{Writing}
 use Rattle.vme_trace.specs.Trace.{Trace}
-use Rattle.vme_audit.specs.Asked.{never_asked}
+use Rattle.vme_audit.specs.AskedRules.{never_asked}
 use Rattle.vme_audit.specs.declared.allowance.Allowance.{Allowance}
 use Rattle.vme_audit.specs.declared.outcome.Outcome.{Outcome}
 use Rattle.vme_auditor.specs.Findings.{AreBreakCountsOf, AreFindingsOf}

@@ -5,7 +5,7 @@ use Rattle.vme_trace.specs.Trace.{Trace}
 use Rattle.vme_stream.specs.Outputs.{Writes, FailsToWrite}
 use Rattle.vme_stream.specs.Texts.{line_of}
 use Rattle.vme_audit.specs.Allowances.{unreadables, wrongs}
-use Rattle.vme_audit.specs.Asked.{never_asked}
+use Rattle.vme_audit.specs.AskedRules.{never_asked}
 use Rattle.vme_audit.specs.Counted.{counts}
 use Rattle.vme_audit.specs.Covered.{allowed_count}
 use Rattle.vme_audit.specs.Parts.{breaks}

@@ -1,7 +1,7 @@
 -- All that has to unfold for an audit to compute, beside what a verdict and a listing take.
 use Rattle.std.specs.Prelude.{ℕ}
 use Rattle.vme_audit.specs.Allowances.{is_allowed, stopped_at}
-use Rattle.vme_audit.specs.Asked.{asks, asks_in, happens, is_asked}
+use Rattle.vme_audit.specs.AskedRules.{asks, asks_in, happens, is_asked}
 use Rattle.vme_audit.specs.Counted.{counts_of_rows}
 use Rattle.vme_audit.specs.Covered.{gap, hang, is_judged_part, outcome}
 use Rattle.vme_audit.specs.Parts.{own_break, parts, parts_from}

@@ -5,7 +5,7 @@ use Rattle.vme_trace.specs.Trace.{Trace}
 use Rattle.vme_trace.specs.WellFormed.{malformed_step}
 use Rattle.vme_trace.specs.declared.rule.Rule.{Rule}
 use Rattle.vme_trace.specs.declared.verdict.Break.{Break}
-use Rattle.vme_audit.specs.Asked.{is_asked}
+use Rattle.vme_audit.specs.AskedRules.{is_asked}
 use Rattle.vme_audit.specs.Counted.{counts}
 use Rattle.vme_audit.specs.Covered.{outcome}
 use Rattle.vme_audit.specs.Parts.{Part, breaks, parts}

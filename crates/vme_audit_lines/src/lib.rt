@@ -28,7 +28,7 @@
 ghost use Rattle.std.specs.Prelude.{◌≡◌, List};
 ghost use Rattle.vme_trace.specs.Trace.{Trace};
 ghost use Rattle.vme_trace.specs.declared.rule.Rule.{Rule};
-ghost use Rattle.vme_audit.specs.Asked.{is_asked, never_asked};
+ghost use Rattle.vme_audit.specs.AskedRules.{is_asked, never_asked};
 ghost use Rattle.vme_auditor.specs.Events.{asks_by};
 ghost use Rattle.vme_auditor.specs.declared.asked.AskedEvents.{AskedEvents};
 ghost use Rattle.vme_audit_lines.specs.AuditLines.{unasked};

@@ -51,9 +51,9 @@ use Rattle.vme_dtb.proofs.HandshakeBreaks.{answer_is}
 use Rattle.vme_dtb.proofs.HandshakeMeaning.{Holds}
 use Rattle.vme_dtb.proofs.OpenState.{started_is}
 use Rattle.vme_dtb.proofs.StepFacts.{falls_is, judged, new, old, rises_is, starts_is}
-use Rattle.vme_audit.specs.Asked.{any_grant_falls, answer_rises, answered_again_in_class}
-use Rattle.vme_audit.specs.Asked.{answered_in_class, event_happens, happens, within_transfer}
-use Rattle.vme_audit.specs.Asked.{write_starts}
+use Rattle.vme_audit.specs.AskedRules.{any_grant_falls, answer_rises, answered_again_in_class}
+use Rattle.vme_audit.specs.AskedRules.{answered_in_class, event_happens, happens, within_transfer}
+use Rattle.vme_audit.specs.AskedRules.{write_starts}
 use Rattle.vme_audit.specs.Event.{Event, event_of}
 use Rattle.vme_audit.specs.Event as event
 use Rattle.vme_auditor.specs.Events.{asks_by, at_step, has_happened, is_interrupt_cycle, is_interrupt_entered}

@@ -35,7 +35,7 @@ use Rattle.vme_dtb.specs.Machine.{dtb_begin}
 use Rattle.vme_dtb.specs.declared.memory.HandshakeMemory.{HandshakeMemory}
 use Rattle.vme_summary.specs.Runs.{handshake_run, known_run}
 use Rattle.vme_summary.proofs.Sound.{sound_apart}
-use Rattle.vme_audit.specs.Asked.{asking_end, asks, asks_in, happens}
+use Rattle.vme_audit.specs.AskedRules.{asking_end, asks, asks_in, happens}
 use Rattle.vme_audit.specs.Parts.{Part, named_break, own_break, part_behind, parts_from}
 use Rattle.vme_auditor.specs.Audited.{AuditReached, events_by, with_step, with_stretch}
 use Rattle.vme_auditor.specs.Events.{asks_by}

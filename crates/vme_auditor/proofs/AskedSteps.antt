@@ -42,7 +42,7 @@ use Rattle.vme_dtb.proofs.HandshakeMeaning.{Holds}
 use Rattle.vme_dtb.proofs.HandshakeInstants.{holds_at}
 use Rattle.vme_dtb.proofs.Searches.{any_more}
 use Rattle.vme_dtb.proofs.StillSteps.{machine_step_is}
-use Rattle.vme_audit.specs.Asked.{happens}
+use Rattle.vme_audit.specs.AskedRules.{happens}
 use Rattle.vme_auditor.specs.Audited.{events_by, events_in, with_stretch}
 use Rattle.vme_auditor.specs.Events.{asks_by, at_step}
 use Rattle.vme_auditor.specs.Memories.{handshake_at, known_at}

@@ -10,7 +10,7 @@ use Rattle.vme_trace.specs.declared.rule.Rule.TheVariants as rule
 use Rattle.vme_trace.specs.declared.step.Step.{Step}
 use Rattle.vme_monitor.specs.OverStretches.{has_started}
 use Rattle.vme_monitor.specs.declared.view.StepView.{StepView}
-use Rattle.vme_audit.specs.Asked.{is_asked}
+use Rattle.vme_audit.specs.AskedRules.{is_asked}
 use Rattle.vme_audit.specs.Counted.{counts, rows_of}
 use Rattle.vme_audit.specs.Covered.{hang, hanging, is_judged_part}
 use Rattle.vme_audit.specs.Parts.{breaks, last_part, parts}

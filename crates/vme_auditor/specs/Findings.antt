@@ -6,7 +6,7 @@ use Rattle.std.specs.Option.{option_map_or}
 use Rattle.vme_trace.specs.Trace.{Trace, time_at}
 use Rattle.vme_trace.specs.declared.rule.Rule.{Rule}
 use Rattle.vme_audit.specs.Allowances.{unreadables, wrongs}
-use Rattle.vme_audit.specs.Asked.{is_asked}
+use Rattle.vme_audit.specs.AskedRules.{is_asked}
 use Rattle.vme_audit.specs.Counted.{counts as counts_of}
 use Rattle.vme_audit.specs.Covered.{allowed_count, hang as hang_of, is_judged_part}
 use Rattle.vme_audit.specs.Parts.{breaks, last_part}

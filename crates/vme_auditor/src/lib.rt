@@ -47,7 +47,7 @@
 //!
 //! # In which order to read
 //!
-//! `specs/Parts`, `Counted` and `Asked` of vme_audit; `specs/Findings`; then `auditor`.
+//! `specs/Parts`, `Counted` and `AskedRules` of vme_audit; `specs/Findings`; then `auditor`.
 //! `specs/Audited` says how an audit goes on, as a fold over the steps.
 #![tactic(auto)]
 

@@ -4,7 +4,7 @@ use Rattle.std.proofs.lemmas.List.Elements.{filter_agree}
 use Rattle.vme_trace.specs.Rules.{all_rules}
 use Rattle.vme_trace.specs.Trace.{Trace}
 use Rattle.vme_trace.specs.declared.rule.Rule.{Rule}
-use Rattle.vme_audit.specs.Asked.{is_asked}
+use Rattle.vme_audit.specs.AskedRules.{is_asked}
 use Rattle.vme_auditor.specs.Events.{asks_by}
 use Rattle.vme_auditor.specs.declared.asked.AskedEvents.{AskedEvents}
 use Rattle.vme_audit_lines.specs.AuditLines.{unasked_among}
