@@ -19,18 +19,18 @@ use Rattle.vme_audit_command.proofs.WriteLemmas.{fails-after, writes-both, write
 -- ---- the status
 
 -- this is none of some statuses
-abbrev Apart : ℕ → List ℕ → Type 0
-Apart s statuses = (occurred : List ℕ) → nat_eq (first_occurred statuses occurred) s ≡ false
+abbrev IsNoneOf : ℕ → List ℕ → Type 0
+IsNoneOf s statuses = (occurred : List ℕ) → nat_eq (first_occurred statuses occurred) s ≡ false
 
-apart-none : (s : ℕ) → nat_eq 0 s ≡ false → Apart s []
-apart-none s other occurred = other
+is_none_of-empty : (s : ℕ) → nat_eq 0 s ≡ false → IsNoneOf s []
+is_none_of-empty s other occurred = other
 
-apart-then : (s t : ℕ) (statuses : List ℕ) → nat_eq t s ≡ false → Apart s statuses → Apart s (t ∷ statuses)
-apart-then s t statuses other apart occurred = by (list_any (λ n. nat_eq n t) occurred)
+is_none_of-then : (s t : ℕ) (statuses : List ℕ) → nat_eq t s ≡ false → IsNoneOf s statuses → IsNoneOf s (t ∷ statuses)
+is_none_of-then s t statuses other none occurred = by (list_any (λ n. nat_eq n t) occurred)
   where
     by : (b : Bool) → nat_eq (if b then t else first_occurred statuses occurred) s ≡ false
     by true = other
-    by false = apart occurred
+    by false = none occurred
 
 -- what is first of all is first of the first of those before, and of the last
 abbrev IsFirst : List ℕ → Type 0
@@ -38,8 +38,8 @@ IsFirst statuses = (occurred : List ℕ) (last : ℕ)
     → first_occurred statuses (occurred ++ last ∷ [])
     ≡ first_occurred statuses (first_occurred statuses occurred ∷ last ∷ [])
 
-first-then : (s : ℕ) (statuses : List ℕ) → Apart s statuses → IsFirst statuses → IsFirst (s ∷ statuses)
-first-then s statuses apart first occurred last =
+first-then : (s : ℕ) (statuses : List ℕ) → IsNoneOf s statuses → IsFirst statuses → IsFirst (s ∷ statuses)
+first-then s statuses none first occurred last =
     ap (λ (b : Bool). if b then s else first_occurred statuses (occurred ++ last ∷ []))
     (list_any-append (λ n. nat_eq n s) occurred (last ∷ []))
     ∙ by (list_any (λ n. nat_eq n s) occurred) (nat_eq last s)
@@ -55,27 +55,28 @@ first-then s statuses apart first occurred last =
     by true b = ap (λ (e : Bool). if e || (b || false) then s else first_occurred statuses (s ∷ last ∷ []))
         (sym (eq-eqb s s refl))
     by false true = ap (λ (e : Bool). if e || true then s else first_occurred statuses (r ∷ last ∷ []))
-        (sym (apart occurred))
+        (sym (none occurred))
     by false false = first occurred last
-        ∙ ap (λ (e : Bool). if e || false then s else first_occurred statuses (r ∷ last ∷ [])) (sym (apart occurred))
+        ∙ ap (λ (e : Bool). if e || false then s else first_occurred statuses (r ∷ last ∷ [])) (sym (none occurred))
 
 -- a dump more
 pub status-then : (occurred : List ℕ) (last : ℕ)
     → audit_status (occurred ++ last ∷ []) ≡ audit_status (audit_status occurred ∷ last ∷ [])
 status-then =
-    let n0 : (s : ℕ) → nat_eq 0 s ≡ false → Apart s [] = apart-none in
+    let n0 : (s : ℕ) → nat_eq 0 s ≡ false → IsNoneOf s [] = is_none_of-empty in
     let l6 = 6 ∷ [] in
     let l2 = 2 ∷ l6 in
     let l1 = 1 ∷ l2 in
     let l3 = 3 ∷ l1 in
     let l4 = 4 ∷ l3 in
-    first-then 5 l4 (apart-then 5 4 l3 refl (apart-then 5 3 l1 refl (apart-then 5 1 l2 refl
-    (apart-then 5 2 l6 refl (apart-then 5 6 [] refl (n0 5 refl))))))
-    (first-then 4 l3 (apart-then 4 3 l1 refl (apart-then 4 1 l2 refl (apart-then 4 2 l6 refl
-    (apart-then 4 6 [] refl (n0 4 refl)))))
-    (first-then 3 l1 (apart-then 3 1 l2 refl (apart-then 3 2 l6 refl (apart-then 3 6 [] refl (n0 3 refl))))
-    (first-then 1 l2 (apart-then 1 2 l6 refl (apart-then 1 6 [] refl (n0 1 refl)))
-    (first-then 2 l6 (apart-then 2 6 [] refl (n0 2 refl))
+    first-then 5 l4 (is_none_of-then 5 4 l3 refl (is_none_of-then 5 3 l1 refl (is_none_of-then 5 1 l2 refl
+    (is_none_of-then 5 2 l6 refl (is_none_of-then 5 6 [] refl (n0 5 refl))))))
+    (first-then 4 l3 (is_none_of-then 4 3 l1 refl (is_none_of-then 4 1 l2 refl (is_none_of-then 4 2 l6 refl
+    (is_none_of-then 4 6 [] refl (n0 4 refl)))))
+    (first-then 3 l1 (is_none_of-then 3 1 l2 refl (is_none_of-then 3 2 l6 refl
+    (is_none_of-then 3 6 [] refl (n0 3 refl))))
+    (first-then 1 l2 (is_none_of-then 1 2 l6 refl (is_none_of-then 1 6 [] refl (n0 1 refl)))
+    (first-then 2 l6 (is_none_of-then 2 6 [] refl (n0 2 refl))
     (first-then 6 [] (n0 6 refl) (λ occurred last. refl))))))
 
 -- ---- standard error

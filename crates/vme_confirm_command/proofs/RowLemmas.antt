@@ -45,9 +45,10 @@ fill-more first now later more filled held limit going = record {
 }
 
 -- what follows a shorter front
-followed : (old new : InputSoFar) (filled : HoldsMore old new) (future : List ℕ) → IsFollowedBy new.is_whole future
+followed_by-more : (old new : InputSoFar) (filled : HoldsMore old new) (future : List ℕ)
+    → IsFollowedBy new.is_whole future
     → IsFollowedBy old.is_whole (filled.more ++ future)
-followed old new filled future ends whole =
+followed_by-more old new filled future ends whole =
     let none = filled.none whole in
     ap (λ l. l ++ future) none.0 ∙ ends none.1
 
@@ -60,7 +61,7 @@ pub rows-filled : (done : List ℕ) (old new : InputSoFar) (so_far : RowsSoFar) 
     → HasReadRows done old so_far rows → HasReadRows done new so_far rows
 rows-filled done old new so_far rows filled has future ends =
     subst (λ l. HasRead (done ++ l) rows (behind_rows so_far l)) (behind old new filled future)
-    (has (filled.more ++ future) (followed old new filled future ends))
+    (has (filled.more ++ future) (followed_by-more old new filled future ends))
 
 -- ---- some of them are taken
 

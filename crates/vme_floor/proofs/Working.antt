@@ -59,11 +59,12 @@ has_right [] ys n b h = h
 has_right (x ∷ xs) ys n b h = inr (has_right xs ys n b h)
 
 -- what one list has, the other has too
-abbrev Within : List (ℕ × Block) → List (ℕ × Block) → Type 0
-Within xs ys = (n : ℕ) (b : Block) → HasPair xs n b → HasPair ys n b
+abbrev IsSubset : List (ℕ × Block) → List (ℕ × Block) → Type 0
+IsSubset xs ys = (n : ℕ) (b : Block) → HasPair xs n b → HasPair ys n b
 
 -- a reply stays right where the list grows
-listed_grows : (xs ys : List (ℕ × Block)) → Within xs ys → (a : Answer) (b : Block) → IsListed xs b a → IsListed ys b a
+listed_grows : (xs ys : List (ℕ × Block)) → IsSubset xs ys → (a : Answer) (b : Block) → IsListed xs b a
+    → IsListed ys b a
 listed_grows xs ys f Filed b r = f b.number b r
 listed_grows xs ys f Stranger b r = tt
 listed_grows xs ys f TooLong b r = tt
@@ -71,7 +72,7 @@ listed_grows xs ys f (Malformed step) b r = tt
 listed_grows xs ys f Doubled b r = tt
 listed_grows xs ys f Memory b r = tt
 
-replies_grow : (total : ℕ) (ds : List Block) (xs ys : List (ℕ × Block)) → Within xs ys → (rs : List Reply)
+replies_grow : (total : ℕ) (ds : List Block) (xs ys : List (ℕ × Block)) → IsSubset xs ys → (rs : List Reply)
     → Each (IsReply total ds xs) rs → Each (IsReply total ds ys) rs
 replies_grow total ds xs ys f = each_map (IsReply total ds xs) (IsReply total ds ys)
     (λ t r. (r.0, λ b e. let s = r.1 b e in (s.0, listed_grows xs ys f t.answer b s.1)))
@@ -129,10 +130,10 @@ module _ (old new : List (ℕ × Block)) (b : Block) where
   counted Doubled r n = omega (arith, ap (λ (xs : List (ℕ × Block)). occurrences n (numbers xs)) r)
   counted Memory r n = omega (arith, ap (λ (xs : List (ℕ × Block)). occurrences n (numbers xs)) r)
 
-  kept_by : new ≡ old → Within old new
+  kept_by : new ≡ old → IsSubset old new
   kept_by e n c h = subst (λ (xs : List (ℕ × Block)). HasPair xs n c) (sym e) h
 
-  kept : (a : Answer) → Lists old new b a → Within old new
+  kept : (a : Answer) → Lists old new b a → IsSubset old new
   kept Filed r n c h = subst (λ (xs : List (ℕ × Block)). HasPair xs n c) (sym r.1) (inr h)
   kept Stranger r n c h = kept_by r n c h
   kept TooLong r n c h = kept_by r n c h

@@ -254,9 +254,9 @@ pub(crate) fn push_readings(
     Ok(())
 }
 
-/// A word that was met in a name: what stands before it, and what it says itself.
+/// A word that a name has: what stands before it, and what it says itself.
 #[derive(Clone, Copy)]
-struct MetWord<'n> {
+struct MatchedWord<'n> {
     before: &'n [u8],
     direction: Direction,
     is_standard: bool,
@@ -265,21 +265,21 @@ struct MetWord<'n> {
 /// Puts a reading behind others: what a word stands for, and what stands behind it.
 fn push_reading(
     readings: &mut Vec<NameReading>,
-    met: &MetWord<'_>,
+    matched: &MatchedWord<'_>,
     named: Option<Named>,
     after: &[u8],
 ) -> Result<(), AllocError> {
     let Some(named) = named else {
         return Ok(());
     };
-    let mut affix = affix_of(met.before, after);
+    let mut affix = affix_of(matched.before, after);
     if affix.direction == Direction::Unsaid {
-        affix.direction = met.direction;
+        affix.direction = matched.direction;
     }
     readings.push(NameReading {
         named,
         affix,
-        is_standard: met.is_standard,
+        is_standard: matched.is_standard,
     })?;
     Ok(())
 }
@@ -287,16 +287,16 @@ fn push_reading(
 /// Puts the readings of a word for a line or a group behind others, its number close behind it or at the end.
 fn push_word(
     readings: &mut Vec<NameReading>,
-    met: &MetWord<'_>,
+    matched: &MatchedWord<'_>,
     meaning: &Meaning,
     behind: &[u8],
 ) -> Result<(), AllocError> {
-    push_reading(readings, met, group(meaning), behind)?;
+    push_reading(readings, matched, group(meaning), behind)?;
     if let Some((bit, after)) = number(behind) {
-        push_reading(readings, met, numbered(meaning, bit), after)?;
+        push_reading(readings, matched, numbered(meaning, bit), after)?;
     }
     if let Some((bit, after)) = ending_number(behind) {
-        push_reading(readings, met, numbered(meaning, bit), after)?;
+        push_reading(readings, matched, numbered(meaning, bit), after)?;
     }
     Ok(())
 }
@@ -312,15 +312,15 @@ fn level_behind(behind: &[u8]) -> Option<(u8, &[u8])> {
 /// Puts the readings of a grant behind others.
 fn push_grants(
     readings: &mut Vec<NameReading>,
-    met: &MetWord<'_>,
+    matched: &MatchedWord<'_>,
     behind: &[u8],
 ) -> Result<(), AllocError> {
     if let Some((level, rest)) = level_behind(behind) {
-        return push_level(readings, met, level, rest);
+        return push_level(readings, matched, level, rest);
     }
     if let Some((level, after)) = ending_number(behind) {
         if level < 4 {
-            push_reading(readings, met, Some(Named::Grants(level)), after)?;
+            push_reading(readings, matched, Some(Named::Grants(level)), after)?;
         }
     }
     Ok(())
@@ -330,18 +330,18 @@ fn push_grants(
 /// what the first slot does, or the place of a net.
 fn push_level(
     readings: &mut Vec<NameReading>,
-    met: &MetWord<'_>,
+    matched: &MatchedWord<'_>,
     level: u8,
     behind: &[u8],
 ) -> Result<(), AllocError> {
-    push_reading(readings, met, Some(Named::Grants(level)), behind)?;
+    push_reading(readings, matched, Some(Named::Grants(level)), behind)?;
     let Some((direction, after)) = behind_way(behind) else {
-        return push_nets(readings, met, level, behind);
+        return push_nets(readings, matched, level, behind);
     };
-    let way = MetWord {
-        before: met.before,
+    let way = MatchedWord {
+        before: matched.before,
         direction,
-        is_standard: met.is_standard,
+        is_standard: matched.is_standard,
     };
     let place = if direction == Direction::Input { 0 } else { 1 };
     push_reading(readings, &way, Some(Named::Grant(level, place)), after)?;
@@ -351,15 +351,15 @@ fn push_level(
 /// Puts the readings of a net of a level's chain behind others, its place close behind or at the end.
 fn push_nets(
     readings: &mut Vec<NameReading>,
-    met: &MetWord<'_>,
+    matched: &MatchedWord<'_>,
     level: u8,
     behind: &[u8],
 ) -> Result<(), AllocError> {
     if let Some((net, after)) = number(behind) {
-        push_reading(readings, met, net_of(level, net), after)?;
+        push_reading(readings, matched, net_of(level, net), after)?;
     }
     if let Some((net, after)) = ending_number(behind) {
-        push_reading(readings, met, net_of(level, net), after)?;
+        push_reading(readings, matched, net_of(level, net), after)?;
     }
     Ok(())
 }
@@ -382,15 +382,15 @@ fn push_readings_at(
     for place in 0..WORDS.len() {
         let (word, meaning, is_standard) = WORDS[place];
         if let Some(behind) = behind_word(text, word) {
-            let met = MetWord {
+            let matched = MatchedWord {
                 before,
                 direction: direction_of(word),
                 is_standard,
             };
             if matches!(&meaning, Meaning::Grants) {
-                push_grants(readings, &met, behind)?;
+                push_grants(readings, &matched, behind)?;
             } else {
-                push_word(readings, &met, &meaning, behind)?;
+                push_word(readings, &matched, &meaning, behind)?;
             }
         }
     }

@@ -9,8 +9,9 @@ use Rattle.vme_listing.specs.declared.row.Row.{Row}
 use Rattle.vme_listing.specs.declared.row.Row.TheVariants.{Start, Reset, OpenTenure, Tenure, AddressedCycle, FreeCycle}
 use Rattle.vme_listing.specs.declared.row.Row.TheVariants.{InterruptCycle, Transfer, PendingTransfer}
 use Rattle.vme_listing.specs.declared.row.Row.TheVariants as row
-use Rattle.vme_split.specs.Split.{Interval, interval, AreInTurn, Covers, Answered, answered, transfer_in, dtack_in}
-use Rattle.vme_split.specs.Split.{berr_in, answered_by_dtack, answered_by_berr, IsAnsweredInCycle}
+use Rattle.vme_split.specs.Split.{Interval, interval, AreInTurn, Covers, AnsweredTransfer, answered_transfer}
+use Rattle.vme_split.specs.Split.{transfer_in, dtack_in, berr_in, answered_by_dtack, answered_by_berr}
+use Rattle.vme_split.specs.Split.{IsAnsweredInCycle}
 
 -- ---- members of a list
 
@@ -85,16 +86,15 @@ one_covers n i (x ∷ xs) a b turn c d covers also = elim (first_or_later x xs a
 -- ---- answered transfers
 
 -- one of the transfers starts where it says, one of the cycles is the one that it names, and both cover the answer
-abbrev pub IsPlaced : List Interval → List Interval → Answered → Type 0
+abbrev pub IsPlaced : List Interval → List Interval → AnsweredTransfer → Type 0
 IsPlaced transfers cycles x =
     ((close : Option ℕ) × Contains transfers (interval x.start close) × Covers (interval x.start close) x.answer)
     × ((end : Option ℕ) × Contains cycles (interval x.cycle end) × Covers (interval x.cycle end) x.answer)
 
 module _ (transfers cycles : List Interval) (n : ℕ) (m : ℕ) (apart : AreInTurn n transfers) (also : AreInTurn m cycles)
   where
-    placed_alike : (x y : Answered) → IsPlaced transfers cycles x → IsPlaced transfers cycles y → x.answer ≡ y.answer
-        → x
-        ≡ y
+    placed_alike : (x y : AnsweredTransfer) → IsPlaced transfers cycles x → IsPlaced transfers cycles y
+        → x.answer ≡ y.answer → x ≡ y
     placed_alike x y p q is =
         let transfer = one_covers n x.answer transfers (interval x.start p.0.0) (interval y.start q.0.0) apart p.0.1
         q.0.1
@@ -104,18 +104,20 @@ module _ (transfers cycles : List Interval) (n : ℕ) (m : ℕ) (apart : AreInTu
         (subst (λ (i : ℕ). Covers (interval y.cycle q.1.0) i) (sym is) q.1.2) in
         let starts : x.start ≡ y.start = ap (λ (a : Interval). a.start) transfer in
         let named : x.cycle ≡ y.cycle = ap (λ (a : Interval). a.start) cycle in
-        ap (λ (s : ℕ). answered s x.cycle x.answer) starts ∙ (ap (λ (c : ℕ). answered y.start c x.answer) named
-        ∙ ap (λ (a : ℕ). answered y.start y.cycle a) is)
+        ap (λ (s : ℕ). answered_transfer s x.cycle x.answer) starts
+        ∙ (ap (λ (c : ℕ). answered_transfer y.start c x.answer) named
+        ∙ ap (λ (a : ℕ). answered_transfer y.start y.cycle a) is)
 
-    pub all_alike : (xs ys : List Answered) → ((x : Answered) → Contains xs x → IsPlaced transfers cycles x)
-        → ((y : Answered) → Contains ys y → IsPlaced transfers cycles y) → map (λ (x : Answered). x.answer) xs
-        ≡ map (λ (y : Answered). y.answer) ys → xs ≡ ys
+    pub all_alike : (xs ys : List AnsweredTransfer)
+        → ((x : AnsweredTransfer) → Contains xs x → IsPlaced transfers cycles x)
+        → ((y : AnsweredTransfer) → Contains ys y → IsPlaced transfers cycles y)
+        → map (λ (x : AnsweredTransfer). x.answer) xs ≡ map (λ (y : AnsweredTransfer). y.answer) ys → xs ≡ ys
     all_alike [] [] p q is = refl
     all_alike [] (y ∷ ys) p q is = absurd (cc)
     all_alike (x ∷ xs) [] p q is = absurd (cc)
     all_alike (x ∷ xs) (y ∷ ys) p q is =
         let here : x.answer ≡ y.answer = head_same is in
-        ap₂ (λ (z : Answered) (zs : List Answered). z ∷ zs) (placed_alike x y (p x (is_first x xs))
+        ap₂ (λ (z : AnsweredTransfer) (zs : List AnsweredTransfer). z ∷ zs) (placed_alike x y (p x (is_first x xs))
         (q y (is_first y ys))
         here)
         (all_alike xs ys (λ z c. p z (is_later x xs z c)) (λ z c. q z (is_later y ys z c)) (tail_same is))
@@ -128,16 +130,17 @@ module _ (transfers cycles : List Interval) (n : ℕ) (m : ℕ) (apart : AreInTu
 
 module _ (all : List Row) (cycles : List Interval) (kept : (r : Row) → Contains all r → IsAnsweredInCycle cycles r)
   where
-    place : (x : Answered) (close : Option ℕ) → Contains (flat_map transfer_in all) (interval x.start close)
+    place : (x : AnsweredTransfer) (close : Option ℕ) → Contains (flat_map transfer_in all) (interval x.start close)
         → Covers (interval x.start close) x.answer × ((end : Option ℕ) × Contains cycles (interval x.cycle end)
         × Covers (interval x.cycle end) x.answer) → IsPlaced (flat_map transfer_in all) cycles x
     place x close there k = ((close, there, k.0), k.1)
 
-    by_dtack : (r : Row) (x : Answered) → Contains all r → Contains (answered_by_dtack r) x
+    by_dtack : (r : Row) (x : AnsweredTransfer) → Contains all r → Contains (answered_by_dtack r) x
         → IsPlaced (flat_map transfer_in all) cycles x
     by_dtack (Transfer direction Dtack start cycle answer close lanes) x there c = elim
-        (first_or_later (answered start cycle answer) [] x c) [
-          | inl is ↦ subst (IsPlaced (flat_map transfer_in all) cycles) is (place (answered start cycle answer) close
+        (first_or_later (answered_transfer start cycle answer) [] x c) [
+          | inl is ↦ subst (IsPlaced (flat_map transfer_in all) cycles) is (place
+              (answered_transfer start cycle answer) close
               (in_flat transfer_in all (Transfer direction Dtack start cycle answer close lanes) (interval start close)
               there
               (is_first (interval start close) [])) (kept (Transfer direction Dtack start cycle answer close lanes)
@@ -155,11 +158,12 @@ module _ (all : List Row) (cycles : List Interval) (kept : (r : Row) → Contain
     by_dtack (PendingTransfer i d) x there c = absurd (none_in x c)
     by_dtack (row.Verdict o) x there c = absurd (none_in x c)
 
-    by_berr : (r : Row) (x : Answered) → Contains all r → Contains (answered_by_berr r) x
+    by_berr : (r : Row) (x : AnsweredTransfer) → Contains all r → Contains (answered_by_berr r) x
         → IsPlaced (flat_map transfer_in all) cycles x
     by_berr (Transfer direction Berr start cycle answer close lanes) x there c = elim
-        (first_or_later (answered start cycle answer) [] x c) [
-          | inl is ↦ subst (IsPlaced (flat_map transfer_in all) cycles) is (place (answered start cycle answer) close
+        (first_or_later (answered_transfer start cycle answer) [] x c) [
+          | inl is ↦ subst (IsPlaced (flat_map transfer_in all) cycles) is (place
+              (answered_transfer start cycle answer) close
               (in_flat transfer_in all (Transfer direction Berr start cycle answer close lanes) (interval start close)
               there
               (is_first (interval start close) [])) (kept (Transfer direction Berr start cycle answer close lanes)
@@ -177,9 +181,10 @@ module _ (all : List Row) (cycles : List Interval) (kept : (r : Row) → Contain
     by_berr (PendingTransfer i d) x there c = absurd (none_in x c)
     by_berr (row.Verdict o) x there c = absurd (none_in x c)
 
-    placed_by : (told : Row → List Answered) → ((r : Row) (x : Answered) → Contains all r → Contains (told r) x
+    placed_by : (told : Row → List AnsweredTransfer)
+        → ((r : Row) (x : AnsweredTransfer) → Contains all r → Contains (told r) x
         → IsPlaced (flat_map transfer_in all) cycles x)
-        → (rows : List Row) → ((r : Row) → Contains rows r → Contains all r) → (x : Answered)
+        → (rows : List Row) → ((r : Row) → Contains rows r → Contains all r) → (x : AnsweredTransfer)
         → Contains (flat_map told rows) x → IsPlaced (flat_map transfer_in all) cycles x
     placed_by told of [] within x c = absurd (none_in x c)
     placed_by told of (r ∷ rows) within x c = elim (Contains-append_cases (told r) (flat_map told rows) x c) [
@@ -187,23 +192,24 @@ module _ (all : List Row) (cycles : List Interval) (kept : (r : Row) → Contain
       | inr later ↦ placed_by told of rows (λ s d. within s (is_later r rows s d)) x later
     ]
 
-    pub placed_dtack : (x : Answered) → Contains (flat_map answered_by_dtack all) x
+    pub placed_dtack : (x : AnsweredTransfer) → Contains (flat_map answered_by_dtack all) x
         → IsPlaced (flat_map transfer_in all)
         cycles x
     placed_dtack x c = placed_by answered_by_dtack by_dtack all (λ r d. d) x c
 
-    pub placed_berr : (x : Answered) → Contains (flat_map answered_by_berr all) x → IsPlaced (flat_map transfer_in all)
-        cycles x
+    pub placed_berr : (x : AnsweredTransfer) → Contains (flat_map answered_by_berr all) x
+        → IsPlaced (flat_map transfer_in all) cycles x
     placed_berr x c = placed_by answered_by_berr by_berr all (λ r d. d) x c
 
 -- the answers of the transfers that are told as answered by a line, are those of the line
-answers_of : (told : Row → List Answered) (f : Row → List ℕ) → ((r : Row) → map (λ (x : Answered). x.answer) (told r)
-    ≡ f r) → (rows : List Row) → map (λ (x : Answered). x.answer) (flat_map told rows) ≡ flat_map f rows
+answers_of : (told : Row → List AnsweredTransfer) (f : Row → List ℕ)
+    → ((r : Row) → map (λ (x : AnsweredTransfer). x.answer) (told r) ≡ f r) → (rows : List Row)
+    → map (λ (x : AnsweredTransfer). x.answer) (flat_map told rows) ≡ flat_map f rows
 answers_of told f same [] = refl
-answers_of told f same (r ∷ rows) = map-append (λ (x : Answered). x.answer) (told r) (flat_map told rows)
+answers_of told f same (r ∷ rows) = map-append (λ (x : AnsweredTransfer). x.answer) (told r) (flat_map told rows)
     ∙ ap₂ (λ (a b : List ℕ). a ++ b) (same r) (answers_of told f same rows)
 
-dtack_row : (r : Row) → map (λ (x : Answered). x.answer) (answered_by_dtack r) ≡ dtack_in r
+dtack_row : (r : Row) → map (λ (x : AnsweredTransfer). x.answer) (answered_by_dtack r) ≡ dtack_in r
 dtack_row (Transfer direction Dtack start cycle answer close lanes) = refl
 dtack_row (Transfer direction Berr start cycle answer close lanes) = refl
 dtack_row (Start i) = refl
@@ -216,7 +222,7 @@ dtack_row (InterruptCycle i l e) = refl
 dtack_row (PendingTransfer i d) = refl
 dtack_row (row.Verdict o) = refl
 
-berr_row : (r : Row) → map (λ (x : Answered). x.answer) (answered_by_berr r) ≡ berr_in r
+berr_row : (r : Row) → map (λ (x : AnsweredTransfer). x.answer) (answered_by_berr r) ≡ berr_in r
 berr_row (Transfer direction Dtack start cycle answer close lanes) = refl
 berr_row (Transfer direction Berr start cycle answer close lanes) = refl
 berr_row (Start i) = refl
@@ -229,10 +235,10 @@ berr_row (InterruptCycle i l e) = refl
 berr_row (PendingTransfer i d) = refl
 berr_row (row.Verdict o) = refl
 
-pub dtack_answers : (rows : List Row) → map (λ (x : Answered). x.answer) (flat_map answered_by_dtack rows)
+pub dtack_answers : (rows : List Row) → map (λ (x : AnsweredTransfer). x.answer) (flat_map answered_by_dtack rows)
     ≡ flat_map dtack_in rows
 dtack_answers = answers_of answered_by_dtack dtack_in dtack_row
 
-pub berr_answers : (rows : List Row) → map (λ (x : Answered). x.answer) (flat_map answered_by_berr rows)
+pub berr_answers : (rows : List Row) → map (λ (x : AnsweredTransfer). x.answer) (flat_map answered_by_berr rows)
     ≡ flat_map berr_in rows
 berr_answers = answers_of answered_by_berr berr_in berr_row

@@ -334,21 +334,21 @@ Splits t said.NeverIdle rows =
     ((i : ℕ) → i ≤ last_instant t → is_idle_at t i ≡ false) × (rows ≡ row.Verdict outcome.NeverIdle ∷ [])
 
 -- an answered transfer: where it starts, the cycle that it names, and its answer
-pub record Answered : Type 0 where
+pub record AnsweredTransfer : Type 0 where
   pub start : ℕ
   pub cycle : ℕ
   pub answer : ℕ
 
-abbrev pub answered : ℕ → ℕ → ℕ → Answered
-answered start cycle answer = record { start = start; cycle = cycle; answer = answer }
+abbrev pub answered_transfer : ℕ → ℕ → ℕ → AnsweredTransfer
+answered_transfer start cycle answer = record { start = start; cycle = cycle; answer = answer }
 
 -- the transfer that a row tells as answered by either line
-abbrev pub answered_by_dtack : Row → List Answered
-answered_by_dtack (Transfer direction Dtack start cycle answer close lanes) = answered start cycle answer ∷ []
+abbrev pub answered_by_dtack : Row → List AnsweredTransfer
+answered_by_dtack (Transfer direction Dtack start cycle answer close lanes) = answered_transfer start cycle answer ∷ []
 answered_by_dtack other = []
 
-abbrev pub answered_by_berr : Row → List Answered
-answered_by_berr (Transfer direction Berr start cycle answer close lanes) = answered start cycle answer ∷ []
+abbrev pub answered_by_berr : Row → List AnsweredTransfer
+answered_by_berr (Transfer direction Berr start cycle answer close lanes) = answered_transfer start cycle answer ∷ []
 answered_by_berr other = []
 
 -- rows that tell the cycle of one start are of one kind, with the same class, modifier and address, or level

@@ -16,8 +16,8 @@ ghost use Rattle.vme_declarations.specs.Surveys.{IsSurveyOf, survey_of};
 ghost use Rattle.vme_text_commands.specs.declared.bind.NoBinding.TheVariants.{Refused};
 ghost use Rattle.vme_find.specs.Recordings.{AreSlots};
 
-use crate::refused::{complain_with, show_seen_dump};
-use crate::seen_dump::SeenDump;
+use crate::fault_context::FaultContext;
+use crate::refused::{complain_with, show_fault_context};
 use crate::surveyed_input::SurveyedInput;
 use crate::telling::say;
 use std::alloc::Global;
@@ -178,10 +178,10 @@ fn binding_of_input(
         → IsBindingFor (or_bad_dump (dump_of bytes)) slots scope.entry result }
 {
     surveys_are_of_dumps();
-    let SurveyedInput { survey, seen } = input;
+    let SurveyedInput { survey, context } = input;
     match survey.finish(alloc, rest) {
         Ok(surveyed) => binding_by(alloc, &surveyed, slots, scope),
-        Err(fault) => Err(refused(alloc, fault, seen, rest, name, shown)),
+        Err(fault) => Err(refused(alloc, fault, context, rest, name, shown)),
     }
 }
 
@@ -189,7 +189,7 @@ fn binding_of_input(
 fn refused(
     alloc: Global,
     fault: VcdFault,
-    seen: SeenDump,
+    context: FaultContext,
     rest: &[u8],
     name: &[u8],
     shown: &mut Text,
@@ -197,9 +197,9 @@ fn refused(
     ensures { result ≡ Refused (dump_refusal fault) }
 {
     let refusal = Refusal::of_dump(fault);
-    let mut seen = seen;
-    if let Ok(()) = seen.stop(fault, rest) {
-        show_seen_dump(shown, alloc, &refusal, name, &seen);
+    let mut context = context;
+    if let Ok(()) = context.stop(fault, rest) {
+        show_fault_context(shown, alloc, &refusal, name, &context);
     }
     NoBinding::Refused(refusal)
 }

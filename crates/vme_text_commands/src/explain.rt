@@ -18,7 +18,9 @@ ghost use Rattle.vme_trace.specs.Trace.{Trace};
 ghost use Rattle.vme_trace.specs.WellFormed.{malformed_step};
 
 use crate::explained_input::{KeptDump, taken_dump};
-use crate::refused::{NamedInput, complain_with, show_binding, show_seen_dump, show_suggestions};
+use crate::refused::{
+    NamedInput, complain_with, show_binding, show_fault_context, show_suggestions,
+};
 use crate::telling::tell_bytes;
 use std::alloc::{AllocError, Global};
 use std::marker::Brand;
@@ -211,8 +213,8 @@ fn show_inputs(
         bound.lines().slots(),
         kept.variables.as_slice(),
     );
-    if let Some(seen) = &kept.seen {
-        show_seen_dump(shown, alloc, refusal, names.dump, seen);
+    if let Some(context) = &kept.context {
+        show_fault_context(shown, alloc, refusal, names.dump, context);
     }
 }
 

@@ -10,7 +10,7 @@ ghost use Rattle.vcd_read.specs.ByteConsumers.{ContinuesAs};
 ghost use Rattle.vme_stream.specs.Inputs.{IsReading};
 ghost use Rattle.vme_trace.specs.WellFormed.{malformed_step};
 
-use crate::seen_dump::SeenDump;
+use crate::fault_context::FaultContext;
 use std::alloc::{AllocError, Global};
 use vcd_read::{ByteConsumer, FaultKind, Variables, read_definitions};
 use vme_bind::{Binding, CaptureFault, DumpReader};
@@ -31,8 +31,8 @@ pub(crate) struct KeptDump {
     pub time_unit: u64,
     /// Its time scale, as `10ns`, or nothing.
     pub time_scale: Text,
-    /// What was seen of it, where it has a fault.
-    pub seen: Option<SeenDump>,
+    /// What is shown of it, where it has a fault.
+    pub context: Option<FaultContext>,
 }
 
 impl KeptDump {
@@ -42,7 +42,7 @@ impl KeptDump {
             variables: Variables::new(alloc),
             time_unit: 1,
             time_scale: Text::new(alloc),
-            seen: None,
+            context: None,
         }
     }
 
@@ -53,7 +53,7 @@ impl KeptDump {
             variables: variables_of(alloc, bytes)?,
             time_unit: time_unit(alloc, bytes)?,
             time_scale: time_scale(alloc, bytes)?,
-            seen: None,
+            context: None,
         })
     }
 
@@ -66,12 +66,12 @@ impl KeptDump {
     }
 
     /// The same where the dump, which ends with these bytes, has no recording.
-    fn with_fault(self, seen: SeenDump, fault: &CaptureFault, rest: &[u8]) -> KeptDump {
+    fn with_fault(self, context: FaultContext, fault: &CaptureFault, rest: &[u8]) -> KeptDump {
         let mut kept = self;
-        let mut seen = seen;
+        let mut context = context;
         if let CaptureFault::Dump(fault) = fault {
-            if let Ok(()) = seen.stop(*fault, rest) {
-                kept.seen = Some(seen);
+            if let Ok(()) = context.stop(*fault, rest) {
+                kept.context = Some(context);
             }
         }
         kept
@@ -105,7 +105,7 @@ fn kept_after(
 #[derive(Drop)]
 pub(crate) struct ExplainedInput<'b, F: StepVisitor> {
     reader: DumpReader<'b, F>,
-    seen: SeenDump,
+    context: FaultContext,
     kept: Option<KeptDump>,
 }
 
@@ -116,7 +116,7 @@ impl<'b, F: StepVisitor> ExplainedInput<'b, F> {
     {
         ExplainedInput {
             reader: DumpReader::new(bound, visitor),
-            seen: SeenDump::new(alloc),
+            context: FaultContext::new(alloc),
             kept: None,
         }
     }
@@ -131,13 +131,24 @@ impl<'b, F: StepVisitor> ExplainedInput<'b, F> {
         ensures taken { IfOk result (λ made. ContinuesAs (dump_ahead self.entry.reader) (dump_ahead made.0.reader)
             (take made.1 bytes.now)) }
     {
-        let ExplainedInput { reader, seen, kept } = self;
-        let mut seen = seen;
+        let ExplainedInput {
+            reader,
+            context,
+            kept,
+        } = self;
+        let mut context = context;
         let (reader, count) = reader.take(alloc, bytes)?;
         let taken = &bytes[..count];
-        seen.pass(alloc, taken, reader.fault())?;
+        context.pass(alloc, taken, reader.fault())?;
         let kept = kept_after(alloc, kept, taken)?;
-        Ok((ExplainedInput { reader, seen, kept }, count))
+        Ok((
+            ExplainedInput {
+                reader,
+                context,
+                kept,
+            },
+            count,
+        ))
     }
 }
 
@@ -194,14 +205,18 @@ fn taken_input<F: StepVisitor>(
         → recording_of_text b bytes ≡ dump_ahead input.entry.reader rest.now
         → IfOk result.0 (λ w. malformed_step (F.recorded w) ≡ None) }
 {
-    let ExplainedInput { reader, seen, kept } = input;
+    let ExplainedInput {
+        reader,
+        context,
+        kept,
+    } = input;
     let Ok(kept) = KeptDump::by_end(alloc, kept, rest) else {
         return (Err(Refusal::Memory), KeptDump::nothing(alloc));
     };
     match reader.finish(alloc, rest) {
         Ok(taker) => (Ok(taker), kept),
         Err(fault) => {
-            let kept = kept.with_fault(seen, &fault, rest);
+            let kept = kept.with_fault(context, &fault, rest);
             (Err(Refusal::of_capture(fault)), kept)
         }
     }

@@ -9,8 +9,8 @@
 //! - `variables`, `rules`, `faults`: [`tell_variables`] writes the variables of a dump,
 //!   [`tell_rules`] what the rules ask, and [`tell_faults`] what the refusals of inputs mean.
 //! - `refused`, `suggestions`: what follows the line of a refusal: the input's line, its kind by its
-//!   first bytes, and the paths and widths that the dump has instead; `seen_dump`: what is kept of a
-//!   dump for that.
+//!   first bytes, and the paths and widths that the dump has instead; `fault_context`: what is kept
+//!   of a dump for that.
 //! - `telling`: how texts are written.
 //!
 //! # What is proved
@@ -41,10 +41,10 @@
 pub mod bind;
 pub mod explain;
 mod explained_input;
+mod fault_context;
 mod faults;
 mod refused;
 mod rules;
-mod seen_dump;
 mod suggestions;
 mod surveyed_input;
 mod telling;

@@ -6,7 +6,7 @@ ghost use Rattle.vme_stream.specs.Texts.{line_of, refusal_text};
 ghost use Rattle.vme_text_commands.specs.Refused.{IsMore, IsRefusedText};
 ghost use Rattle.vme_stream.specs.Outputs.{TriesToWrite};
 
-use crate::seen_dump::SeenDump;
+use crate::fault_context::FaultContext;
 use crate::suggestions::{FaultySource, push_nearest, push_widths};
 use crate::telling::say;
 use std::alloc::{AllocError, Global};
@@ -82,15 +82,15 @@ pub(crate) fn show_dump(shown: &mut Text, alloc: Global, refusal: &Refusal, dump
 }
 
 /// The same of a dump that was read piece by piece.
-pub(crate) fn show_seen_dump(
+pub(crate) fn show_fault_context(
     shown: &mut Text,
     alloc: Global,
     refusal: &Refusal,
     name: &[u8],
-    seen: &SeenDump,
+    context: &FaultContext,
 ) {
     if let Refusal::BadDump(fault) = refusal {
-        let _ = push_dump(shown, alloc, name, seen.kind(), *fault, seen.line());
+        let _ = push_dump(shown, alloc, name, context.kind(), *fault, context.line());
     }
 }
 

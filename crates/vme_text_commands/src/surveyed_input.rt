@@ -6,7 +6,7 @@ ghost use Rattle.vme_declarations.specs.SurveyStages.{survey_ahead};
 ghost use Rattle.vme_declarations.specs.Surveys.{Survey, survey_of};
 ghost use Rattle.vcd_read.specs.ByteConsumers.{ContinuesAs};
 
-use crate::seen_dump::SeenDump;
+use crate::fault_context::FaultContext;
 use std::alloc::{AllocError, Global};
 use vcd_read::ByteConsumer;
 use vme_declarations::DumpSurvey;
@@ -15,7 +15,7 @@ use vme_declarations::DumpSurvey;
 #[derive(Drop)]
 pub(crate) struct SurveyedInput {
     pub survey: DumpSurvey,
-    pub seen: SeenDump,
+    pub context: FaultContext,
 }
 
 impl SurveyedInput {
@@ -25,7 +25,7 @@ impl SurveyedInput {
     {
         SurveyedInput {
             survey: DumpSurvey::new(),
-            seen: SeenDump::new(alloc),
+            context: FaultContext::new(alloc),
         }
     }
 
@@ -35,11 +35,11 @@ impl SurveyedInput {
         ensures taken { IfOk result (λ made. ContinuesAs (survey_ahead self.survey) (survey_ahead made.0.survey)
             (take made.1 bytes.now)) }
     {
-        let SurveyedInput { survey, seen } = self;
-        let mut seen = seen;
+        let SurveyedInput { survey, context } = self;
+        let mut context = context;
         let (survey, count) = survey.take(alloc, bytes)?;
-        seen.pass(alloc, &bytes[..count], survey.fault())?;
-        Ok((SurveyedInput { survey, seen }, count))
+        context.pass(alloc, &bytes[..count], survey.fault())?;
+        Ok((SurveyedInput { survey, context }, count))
     }
 }
 

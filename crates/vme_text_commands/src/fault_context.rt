@@ -4,19 +4,19 @@ use std::alloc::{AllocError, Global};
 use vcd_read::VcdFault;
 use vme_faults::{FileKind, KeptLines};
 
-/// What was seen of a dump.
+/// What is kept of a dump for its fault: the line, and the kind of file.
 #[derive(Drop)]
-pub(crate) struct SeenDump {
+pub(crate) struct FaultContext {
     lines: KeptLines,
     /// What kind of file it is, by the first bytes, once some were seen.
     kind: Option<Option<FileKind>>,
     is_stopped: bool,
 }
 
-impl SeenDump {
+impl FaultContext {
     /// Before the first byte.
-    pub fn new(alloc: Global) -> SeenDump {
-        SeenDump {
+    pub fn new(alloc: Global) -> FaultContext {
+        FaultContext {
             lines: KeptLines::new(alloc),
             kind: None,
             is_stopped: false,
@@ -37,7 +37,7 @@ impl SeenDump {
         match fault {
             Some(fault) => self.stop(fault, bytes),
             None => {
-                self.see(bytes);
+                self.detect_kind(bytes);
                 self.lines.pass(alloc, bytes)
             }
         }
@@ -46,7 +46,7 @@ impl SeenDump {
     /// Stops at the first fault of the dump, in these bytes or at their end; or goes on in its line. The only error is
     /// want of memory.
     pub fn stop(&mut self, fault: VcdFault, bytes: &[u8]) -> Result<(), AllocError> {
-        self.see(bytes);
+        self.detect_kind(bytes);
         if self.is_stopped {
             return self.lines.go_on(bytes);
         }
@@ -55,7 +55,7 @@ impl SeenDump {
     }
 
     /// Looks at the first bytes.
-    fn see(&mut self, bytes: &[u8]) {
+    fn detect_kind(&mut self, bytes: &[u8]) {
         if self.kind.is_none() {
             self.kind = Some(FileKind::of(bytes));
         }
