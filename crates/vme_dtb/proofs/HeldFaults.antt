@@ -20,8 +20,8 @@ never true = refl
 never false = refl
 
 module _ (m : Holding) (v w : Levels) (seen : HoldingObservation) where
-  pub unmoved : is_some seen.moved ≡ false → moved_fault m v w seen ≡ None
-  unmoved h = none_or_none (keeps_address m v w) seen.moved h
+  pub no_line_moved : is_some seen.moved ≡ false → moved_fault m v w seen ≡ None
+  no_line_moved h = none_or_none (keeps_address m v w) seen.moved h
 
   pub unkept : keeps_address m v w ≡ false → moved_fault m v w seen ≡ None
   unkept h = rw h refl

@@ -30,4 +30,4 @@ pub mod PassedNeeds
 pub mod HeldFaults
 pub mod PassedData
 pub mod UndrivenLines
-pub mod Passing
+pub mod UnchangedTransferState

@@ -57,7 +57,7 @@ impl Holding {
 
     /// What has come of the transfer after a step: mostly no more than before.
     #[inline(always)]
-    #[tactic(auto, using(crate::proofs::Passing::passed_same))]
+    #[tactic(auto, using(crate::proofs::UnchangedTransferState::passed_same))]
     fn passed(self, before: &Lines, after: &Lines) -> TransferState
         ensures { result ≡ passed_in self before.now after.now }
     {

@@ -2,7 +2,7 @@ use Rattle.std.proofs.Common.{◌≡◌, ◌∙◌, ap, sym}
 use Rattle.std.specs.Prelude.{None}
 use Rattle.vme_trace.specs.declared.rule.Rule.TheVariants.{S2}
 use Rattle.vme_dtb.specs.StabilityRules.{fault_on, moved_fault, turned_fault}
-use Rattle.vme_dtb.proofs.HeldFaults.{held-direction, turned, undirected, unkept, unmoved, unturned}
+use Rattle.vme_dtb.proofs.HeldFaults.{held-direction, no_line_moved, turned, undirected, unkept, unturned}
 use Rattle.vme_dtb.proofs.holding.Holding.broken.Goals as goal
 use Rattle.vme_dtb.proofs.holding.Holding.broken.Goals.{else-is_some-via-then-is_some+else-keeps_address}
 use Rattle.vme_dtb.proofs.holding.Holding.broken.Goals.{else-is_some-via-else-is_some}
@@ -19,7 +19,7 @@ returns-then-keeps_direction c =
     elim c.else-is_some.branch [
       | else-is_some-via-then-is_some+else-keeps_address x ↦ unkept m v w seen (sym x.keeps_address.ensures
           ∙ x.if-keeps_address.false)
-      | else-is_some-via-else-is_some x ↦ unmoved m v w seen (sym c.is_some.ensures ∙ x.if-is_some.false)
+      | else-is_some-via-else-is_some x ↦ no_line_moved m v w seen (sym c.is_some.ensures ∙ x.if-is_some.false)
     ]
     in
     c.fault_on-then-keeps_direction.ensures
@@ -36,7 +36,7 @@ returns-else-seen c =
     elim c.else-is_some.branch [
       | else-is_some-via-then-is_some+else-keeps_address x ↦ unkept m v w seen (sym x.keeps_address.ensures
           ∙ x.if-keeps_address.false)
-      | else-is_some-via-else-is_some x ↦ unmoved m v w seen (sym c.is_some.ensures ∙ x.if-is_some.false)
+      | else-is_some-via-else-is_some x ↦ no_line_moved m v w seen (sym c.is_some.ensures ∙ x.if-is_some.false)
     ]
     in
     let keeps : turned_fault m v w seen ≡ None =
