@@ -105,14 +105,15 @@ left_behind text rest at line space = by_length (length text - at) (sym (length-
     part : List ℕ
     part = drop at text
 
-    Apart : List ℕ → Type 0
-    Apart bytes = tokens_from line (bytes ++ rest) ≡ tokens_from line bytes ++ tokens_from (line_behind line bytes) rest
+    SplitsTokens : List ℕ → Type 0
+    SplitsTokens bytes = tokens_from line (bytes ++ rest)
+        ≡ tokens_from line bytes ++ tokens_from (line_behind line bytes) rest
 
-    by_length : (n : ℕ) → n ≡ length part → Apart part
-    by_length zero e = subst Apart (sym (drop_all at text (omega (arith, e, length-drop at text))))
+    by_length : (n : ℕ) → n ≡ length part → SplitsTokens part
+    by_length zero e = subst SplitsTokens (sym (drop_all at text (omega (arith, e, length-drop at text))))
         (none_behind [] rest line)
     by_length (suc n) e =
-        subst Apart (take_all (n + 1) part (omega (arith, e)))
+        subst SplitsTokens (take_all (n + 1) part (omega (arith, e)))
         (space_behind part rest n line (omega (arith, e))
         (ap is_space (get_or-drop at text n 0 ∙ ap (λ (i : ℕ). get_or text i 0) (omega (arith, e, length-drop at text)))
         ∙ space (omega (arith, e, length-drop at text))))

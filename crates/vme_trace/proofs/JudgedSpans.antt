@@ -562,14 +562,14 @@ module _ (t : Trace) where
       is_one : (i : ℕ) → i ≤ last_instant t → span_starts t i ≡ true → IsSpanOf t (span_from t i)
       is_one i within starts = record { within = within; starts = starts; ends = refl }
 
-      followed : span_starts t f ≡ true → (any (span_starts t) (f + 1) (last_instant t + 1) ≡ true) ⊎
+      by_next : span_starts t f ≡ true → (any (span_starts t) (f + 1) (last_instant t + 1) ≡ true) ⊎
           (any (span_starts t) (f + 1) (last_instant t + 1) ≡ false) → AreInOrder t (spans_after t (f + 1))
           → AreInOrder t (span_from t f ∷ spans_after t (f + 1))
-      followed starts (inr none) later =
+      by_next starts (inr none) later =
           let last : spans_after t (f + 1) ≡ [] = ap (map (span_from t)) (those-none (span_starts t) (f + 1)
           (last_instant t + 1) none) in
           subst (λ spans. AreInOrder t (span_from t f ∷ spans)) (sym last) (is_one f (omega arith) starts)
-      followed starts (inl some) later =
+      by_next starts (inl some) later =
           let i = any-least (span_starts t) (f + 1) (last_instant t + 1) some in
           let found = least-found (span_starts t) (f + 1) (last_instant t + 1) i.0 i.1 in
           let there = starts_there t (f + 1) i.0 found.first (omega (arith, found.below)) found.holds found.least in
@@ -592,7 +592,7 @@ module _ (t : Trace) where
           ∙ none)) in
           subst (AreInOrder t) (sym same) later
       by_start (inl starts) later = subst (AreInOrder t) (sym (starts_here t f (omega arith) starts))
-          (followed starts (bool_cases (any (span_starts t) (f + 1) (last_instant t + 1))) later)
+          (by_next starts (bool_cases (any (span_starts t) (f + 1) (last_instant t + 1))) later)
 
   pub spans_in_order : AreInOrder t (judged_spans t)
   spans_in_order = subst (AreInOrder t) (sym (spans_from_first t)) (ordered_from (last_instant t + 1) 0 (omega arith))
