@@ -7,7 +7,7 @@ use Rattle.vme_trace.specs.declared.step.Change.{Change}
 use Rattle.vme_trace.specs.declared.step.Step.{Step}
 use Rattle.vme_trace.specs.declared.verdict.Break.{Break}
 use Rattle.vme_monitor.specs.declared.mark.Fault.{Fault}
-use Rattle.vme_monitor.specs.Outcome.{Outcome, StandsFor, BreakWithin, MarksWithin, IsWithin, earlier, followed}
+use Rattle.vme_monitor.specs.Outcome.{Outcome, StandsFor, BreakWithin, MarksWithin, IsWithin, composed_outcome, earlier}
 use Rattle.vme_monitor.specs.Outcome.{shifted_break, shifted_mark}
 use Rattle.vme_monitor.specs.Run.{run_of, extended, break_of_fault, mark_at, kinds_of}
 use Rattle.vme_monitor.specs.Walk.{later, later_break, later_mark, later_outcome}
@@ -71,7 +71,7 @@ marks_moved m n [] p = tt
 marks_moved m n (k ∷ ms) p = (omega arith, omega arith, marks_moved m n ms p.2)
 
 pub followed_within : {P : Type 0} (m n : ℕ) (a b : Outcome P) → IsWithin m a → IsWithin n b
-    → IsWithin (m + n) (followed m a b)
+    → IsWithin (m + n) (composed_outcome m a b)
 followed_within m n a b p q = (
   break_earlier (m + n) a.first_break (option_map (shifted_break m) b.first_break) (break_more m n a.first_break p.0)
       (break_moved m n b.first_break q.0),
@@ -103,13 +103,13 @@ marks_here (m ∷ ms) = rw (add-zero, marks_here ms) refl
 
 -- the outcome of two tables is a run through both
 pub followed_same : {P : Type 0} (m n : ℕ) (a b : Outcome P) → IsWithin n b → m + n < 2 ^ 32
-    → extended a (later_outcome m b) ≡ followed m a b
+    → extended a (later_outcome m b) ≡ composed_outcome m a b
 followed_same m n a b q h =
     let hn : n + m < 2 ^ 32 = omega arith in
     rw (break_same n m b.first_break q.0 hn, marks_same n m b.marks q.1 hn) refl
 
 pub extended_same : {P : Type 0} (m n : ℕ) (a b : Outcome P) → IsWithin m a → IsWithin n b → m + n < 2 ^ 32
-    → extended (later_outcome 0 a) (later_outcome m b) ≡ followed m a b
+    → extended (later_outcome 0 a) (later_outcome m b) ≡ composed_outcome m a b
 extended_same m n a b p q h =
     let h0 : m + 0 < 2 ^ 32 = omega arith in
     rw (
@@ -123,8 +123,9 @@ extended_same m n a b p q h =
 module _ {P : Type 0} (run : P → Levels → List Step → Outcome P) where
   -- what is said of two parts in turn stands for the whole
   pub stands_joined : (wa wb wt : P → Outcome P) (ca cb ct : ℕ) (o : Levels) (x y : List Step)
-      → ((p : P) → run p o (x ++ y) ≡ followed (length x) (run p o x) (run (run p o x).leaving (levels_after o x) y))
-      → ((p : P) → wt p ≡ followed ca (wa p) (wb (wa p).leaving)) → ct ≡ ca + cb
+      → ((p : P) → run p o (x ++ y) ≡ composed_outcome (length x) (run p o x)
+      (run (run p o x).leaving (levels_after o x) y))
+      → ((p : P) → wt p ≡ composed_outcome ca (wa p) (wb (wa p).leaving)) → ct ≡ ca + cb
       → StandsFor run wa ca o x → StandsFor run wb cb (levels_after o x) y → StandsFor run wt ct o (x ++ y)
   stands_joined wa wb wt ca cb ct o x y joined e c a b =
       record {

@@ -3,7 +3,7 @@ use Rattle.std.specs.Prelude.{◌≡◌, ◌+◌, ◌≤◌, ℕ, List, [], map,
 use Rattle.std.specs.Global.{Vec}
 use Rattle.std.specs.declared.cmp.PartialEq.{Ghosts as Equality}
 use Rattle.vme_monitor.specs.Meeting.{marks_of}
-use Rattle.vme_monitor.specs.Outcome.{Outcome, followed}
+use Rattle.vme_monitor.specs.Outcome.{Outcome, composed_outcome}
 use Rattle.vme_monitor.specs.Tables.{outcome}
 use Rattle.vme_monitor.specs.Walk.{link_values, outcome_of}
 use Rattle.vme_monitor.specs.declared.link.Link.{Link}
@@ -35,7 +35,7 @@ module _ {P : Type 0} {places : Places P} {equal : Equality P} where
   abbrev pub outcome_of_both : Table P places equal → Table P places equal → P → Outcome P
   outcome_of_both first second p =
       let a = table_outcome first p in
-      followed (table_steps first) a (table_outcome second a.leaving)
+      composed_outcome (table_steps first) a (table_outcome second a.leaving)
 
   -- room to take over a second table: for a link in place of each row, and for its layers and one more
   pub record HasRoomFor (room : Vec Link) (first second : Table P places equal) : Type 0 where

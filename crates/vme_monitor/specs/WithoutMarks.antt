@@ -5,7 +5,7 @@ use Rattle.vme_trace.specs.Levels.{Levels}
 use Rattle.vme_trace.specs.Trace.{changed}
 use Rattle.vme_trace.specs.declared.step.Change.{Change}
 use Rattle.vme_trace.specs.declared.step.Step.{Step}
-use Rattle.vme_monitor.specs.Outcome.{Outcome, StandsFor, followed}
+use Rattle.vme_monitor.specs.Outcome.{Outcome, StandsFor, composed_outcome}
 use Rattle.vme_monitor.specs.Run.{machine_step, no_step_marks, outcome_at, quiet, run_of}
 use Rattle.vme_monitor.specs.declared.mark.Next.{Next}
 
@@ -67,9 +67,9 @@ module _ {P S : Type 0} (observation : Levels → Levels → List Change → Opt
   unmarked_run (s ∷ x) p o =
       let after = changed o s.changes in
       let first = machine_step observation next p o after s.changes in
-      ap (λ (n : Next P). followed 1 (outcome_at 1 s.time n)
+      ap (λ (n : Next P). composed_outcome 1 (outcome_at 1 s.time n)
       (run_of (machine_step observation (unmarked_step next)) n.memory after x)) (unmarked_step_is p o after s.changes)
-      ∙ ap (followed 1 (outcome_at 1 s.time (unmarked_next first))) (unmarked_run x first.memory after)
+      ∙ ap (composed_outcome 1 (outcome_at 1 s.time (unmarked_next first))) (unmarked_run x first.memory after)
 
   -- a summary of steps without marks finds what the steps do
   pub unmarked_finds : (says : P → Outcome P) (count : ℕ) (o : Levels) (x : List Step)

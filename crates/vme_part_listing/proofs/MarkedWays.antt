@@ -11,7 +11,7 @@ use Rattle.vme_trace.specs.declared.step.Step.{Step}
 use Rattle.vme_trace.specs.declared.verdict.Break.{Break}
 use Rattle.vme_listing.specs.Listed.{Listed, in_newest_version}
 use Rattle.vme_listing.specs.Recorded.{listing_of, recorded_rows}
-use Rattle.vme_monitor.specs.Outcome.{Outcome, followed}
+use Rattle.vme_monitor.specs.Outcome.{Outcome, composed_outcome}
 use Rattle.vme_monitor.specs.Whole.{has_span}
 use Rattle.vme_monitor.specs.declared.mark.Mark.{Mark}
 use Rattle.vme_summary.specs.AllShown.{all_marks}
@@ -43,7 +43,7 @@ past_way {P} run law begin place count t w r o v x y steps memory marks opens co
     let b : TellsRun true place (outcome_in t w.memory) (run p v y) = rw was.leaving (tells.tells p) in
     let both = marks_of_both (length x) (length y) fits place true a (outcome_in t w.memory) (run (begin o) o x)
     (run p v y) was.marks b.marks (law.within p v y) in
-    let whole : run (begin o) o (x ++ y) ≡ followed (length x) (run (begin o) o x) (run p v y) =
+    let whole : run (begin o) o (x ++ y) ≡ composed_outcome (length x) (run (begin o) o x) (run p v y) =
     rw opens (law.joined (begin o) o x y) in
     let shown : r.marks.items ≡ w.marks.items ++ map (later_mark (length x)) (outcome_in t w.memory).marks =
     marks ∙ ap (λ n. w.marks.items ++ map (later_mark n) (outcome_in t w.memory).marks) counted in

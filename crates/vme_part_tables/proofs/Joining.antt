@@ -5,8 +5,8 @@ use Rattle.std.proofs.Common.{refl, ap, ◌∙◌, arith}
 use Rattle.std.specs.Option.{option_map, option_or}
 use Rattle.std.proofs.lemmas.List.{map-append}
 use Rattle.vme_trace.specs.declared.verdict.Break.{Break}
-use Rattle.vme_monitor.specs.Outcome.{BreakWithin, IsWithin, MarksWithin, Outcome, earlier, followed, shifted_break}
-use Rattle.vme_monitor.specs.Outcome.{shifted_mark}
+use Rattle.vme_monitor.specs.Outcome.{BreakWithin, IsWithin, MarksWithin, Outcome, composed_outcome, earlier}
+use Rattle.vme_monitor.specs.Outcome.{shifted_break, shifted_mark}
 use Rattle.vme_monitor.specs.declared.mark.Mark.{Mark}
 use Rattle.vme_part_format.specs.Tables.{TableValue}
 use Rattle.vme_part_format.specs.declared.wide.WideBreak.{WideBreak}
@@ -54,7 +54,7 @@ module _ (m n : ℕ) (fits : m + n < 2 ^ 64) where
 
   module _ {P : Type 0} (place : P → ℕ) where
     pub marks_of_both : (listing : Bool) (a b : WayOutcome) (r s : Outcome P) → ShowsMarks listing a r
-        → ShowsMarks listing b s → IsWithin n s → ShowsMarks listing (gone_on m a b) (followed m r s)
+        → ShowsMarks listing b s → IsWithin n s → ShowsMarks listing (gone_on m a b) (composed_outcome m r s)
     marks_of_both true a b r s p q h =
         map-append mark_of a.marks (map (later_mark m) b.marks)
         ∙ (ap (λ k. k ++ map mark_of (map (later_mark m) b.marks)) p
@@ -63,7 +63,7 @@ module _ (m n : ℕ) (fits : m + n < 2 ^ 64) where
         ap (λ k. k ++ map (later_mark m) b.marks) p ∙ ap (map (later_mark m)) q
 
     pub tells_both : (listing : Bool) (a b : WayOutcome) (r s : Outcome P) → TellsRun listing place a r
-        → TellsRun listing place b s → IsWithin n s → TellsRun listing place (gone_on m a b) (followed m r s)
+        → TellsRun listing place b s → IsWithin n s → TellsRun listing place (gone_on m a b) (composed_outcome m r s)
     tells_both listing a b r s p q h =
         record {
           leaving = q.leaving;
@@ -76,7 +76,7 @@ module _ (m n : ℕ) (fits : m + n < 2 ^ 64) where
     pub tables_tell_both : (listing : Bool) (memories : ℕ) (first second both : TableValue) (f g h : P → Outcome P)
         → SaysBoth m first second both → TellsRuns listing memories place first f
         → TellsRuns listing memories place second g → ((p : P) → IsWithin n (g p))
-        → ((p : P) → h p ≡ followed m (f p) (g (f p).leaving)) → TellsRuns listing memories place both h
+        → ((p : P) → h p ≡ composed_outcome m (f p) (g (f p).leaving)) → TellsRuns listing memories place both h
     tables_tell_both listing memories first second both f g h s p q within whole =
         record {
           counted = s.counted ∙ p.counted;

@@ -7,7 +7,7 @@ use Rattle.vme_trace.specs.Levels.{Levels}
 use Rattle.vme_trace.specs.Trace.{levels_after}
 use Rattle.vme_trace.specs.WellFormed.{malformed_step}
 use Rattle.vme_trace.specs.declared.step.Step.{Step}
-use Rattle.vme_monitor.specs.Outcome.{Outcome, followed, nothing_shown}
+use Rattle.vme_monitor.specs.Outcome.{Outcome, composed_outcome, nothing_shown}
 use Rattle.vme_monitor.specs.Runs.{levels_after-append}
 use Rattle.vme_summary.proofs.Sound.{sound_apart}
 use Rattle.vme_part_format.specs.Tables.{TableValue}
@@ -72,13 +72,15 @@ needed_of_both {P} run law place count needs o v x y a b c placed e fits s neede
     (λ k. if_needed (is_needed needs (place k)) (run k v y)) (λ k. run k o (x ++ y)) s p q
     (λ k. needed_within (length y) (is_needed needs (place k)) (run k v y) (law.within k v y)) whole
   where
-    whole : (k : P) → run k o (x ++ y) ≡ followed (length x) (run k o x)
+    whole : (k : P) → run k o (x ++ y) ≡ composed_outcome (length x) (run k o x)
         (if_needed (is_needed needs (place (run k o x).leaving)) (run (run k o x).leaving v y))
     whole k =
         let left = (run k o x).leaving in
         let low : place k < length a.entries = omega (arith, placed k, p.counted) in
         let there : is_needed needs (place left) ≡ true =
         subst (λ j. is_needed needs j ≡ true) (p.tells k).leaving (needed (place k) low) in
-        let goes : run k o (x ++ y) ≡ followed (length x) (run k o x) (run left v y) = rw e (law.joined k o x y) in
+        let goes : run k o (x ++ y) ≡ composed_outcome (length x) (run k o x) (run left v y)
+        = rw e (law.joined k o x y) in
         goes
-        ∙ ap (followed (length x) (run k o x)) (sym (whole_needed (is_needed needs (place left)) (run left v y) there))
+        ∙ ap (composed_outcome (length x) (run k o x))
+        (sym (whole_needed (is_needed needs (place left)) (run left v y) there))

@@ -5,7 +5,7 @@ use Rattle.vme_trace.specs.Trace.{levels_after}
 use Rattle.vme_trace.specs.declared.step.Step.{Step}
 use Rattle.vme_monitor.specs.KnownRules.{known_begin, known_end_fault, known_next, known_start_marks, known_reset_marks}
 use Rattle.vme_monitor.specs.KnownRules.{known_observation}
-use Rattle.vme_monitor.specs.Outcome.{IsWithin, Outcome, followed}
+use Rattle.vme_monitor.specs.Outcome.{IsWithin, Outcome, composed_outcome}
 use Rattle.vme_monitor.specs.OverStretches.{observed, phase_step}
 use Rattle.vme_monitor.specs.Run.{no_step_marks, machine_step}
 use Rattle.vme_monitor.specs.RuleMonitors.{run_within}
@@ -24,7 +24,7 @@ use Rattle.vme_part_tables.proofs.Joining.{tables_tell_both}
 -- a run goes on where steps end, and its instants count from 1 to the number of steps
 pub record IsRun {P : Type 0} (run : P → Levels → List Step → Outcome P) : Type 0 where
   pub joined : (p : P) (o : Levels) (x y : List Step)
-      → run p o (x ++ y) ≡ followed (length x) (run p o x) (run (run p o x).leaving (levels_after o x) y)
+      → run p o (x ++ y) ≡ composed_outcome (length x) (run p o x) (run (run p o x).leaving (levels_after o x) y)
   pub within : (p : P) (o : Levels) (x : List Step) → IsWithin (length x) (run p o x)
 
 pub known_is_run : IsRun known_run

@@ -7,7 +7,7 @@ use Rattle.std.proofs.lemmas.Option.{slice_get-get_or}
 use Rattle.vme_trace.specs.Levels.{Levels}
 use Rattle.vme_trace.specs.Trace.{levels_after}
 use Rattle.vme_trace.specs.declared.step.Step.{Step}
-use Rattle.vme_monitor.specs.Outcome.{Outcome, followed}
+use Rattle.vme_monitor.specs.Outcome.{Outcome, composed_outcome}
 use Rattle.vme_part_format.specs.Tables.{TableValue}
 use Rattle.vme_part_format.specs.declared.table.TableEntry.{TableEntry}
 use Rattle.vme_part_tables.specs.Runs.{TellsRun, TellsRuns}
@@ -56,7 +56,7 @@ past_state {P} run law begin place listing count t s r o v x y steps memory firs
     (run (begin o) o x) (run p v y) a b (law.within p v y) in
     let way : way_of r ≡ gone_on (length x) (way_of s) (bare (outcome_in t s.memory)) =
     rw (memory, first_break, counted) refl in
-    let whole : run (begin o) o (x ++ y) ≡ followed (length x) (run (begin o) o x) (run p v y) =
+    let whole : run (begin o) o (x ++ y) ≡ composed_outcome (length x) (run (begin o) o x) (run p v y) =
     rw opens (law.joined (begin o) o x y) in
     subst (λ (w : WayOutcome). TellsRun false place w (run (begin o) o (x ++ y))) (sym way)
     (subst (λ (q : Outcome P). TellsRun false place (gone_on (length x) (way_of s) (bare (outcome_in t s.memory))) q)
