@@ -70,7 +70,7 @@ known_phase_step = phase_step known_begin known_start_marks known_reset_marks kn
 
 abbrev known_waiting : StretchPhase Stateless → Levels → Bool → Next (StretchPhase Stateless)
 known_waiting m w idle =
-    cond idle (record { memory = phase.Judging (known_begin w); fault = None; shown = known_start_marks w }) (quiet m)
+    cond idle (record { memory = phase.InStretch (known_begin w); fault = None; shown = known_start_marks w }) (quiet m)
 
 waiting_starts : (w : Levels) (idle : Bool) → StartsBy phase.Waiting (known_waiting phase.Waiting w idle)
 waiting_starts w true = refl
@@ -80,7 +80,7 @@ reset_starts : (w : Levels) (idle : Bool) → StartsBy phase.Reset (known_waitin
 reset_starts w true = refl
 reset_starts w false = refl
 
-judging_starts : (p : Stateless) (v w : Levels) (e : Option End) → StartsBy (phase.Judging p)
+judging_starts : (p : Stateless) (v w : Levels) (e : Option End) → StartsBy (phase.InStretch p)
     (judging known_begin known_start_marks known_reset_marks known_end_fault known_next p v w e None)
 judging_starts p v w (Some end.Reset) = refl
 judging_starts p v w (Some (end.Lost l)) = refl
@@ -89,7 +89,7 @@ judging_starts p v w None = refl
 phase_step_starts : (m : StretchPhase Stateless) (v w : Levels) (e : Option End) → StartsBy m
     (known_phase_step m v w (record { end = e; inner = None }))
 phase_step_starts phase.Waiting v w e = waiting_starts w (is_idle w)
-phase_step_starts (phase.Judging p) v w e = judging_starts p v w e
+phase_step_starts (phase.InStretch p) v w e = judging_starts p v w e
 phase_step_starts phase.Reset v w e = reset_starts w (is_idle w)
 phase_step_starts phase.Ended v w e = refl
 
@@ -104,8 +104,8 @@ starts_shown m v w cs = observed_starts m v w (end_among w cs) (touches_control 
 -- an event only happens in a phase that judges, where no span ends
 in_stretch : (e : AskedEvents) (m : StretchPhase HandshakeMemory) (o : Option End) (v w : Levels) (cs : List Change)
     (kinds : StepMarks) → (events_in e m o v w cs kinds).stretch ≡ e.stretch
-in_stretch e (phase.Judging p) None v w cs kinds = on_stretch e p v w cs kinds
-in_stretch e (phase.Judging p) (Some o) v w cs kinds = refl
+in_stretch e (phase.InStretch p) None v w cs kinds = on_stretch e p v w cs kinds
+in_stretch e (phase.InStretch p) (Some o) v w cs kinds = refl
 in_stretch e phase.Waiting o v w cs kinds = refl
 in_stretch e phase.Reset o v w cs kinds = refl
 in_stretch e phase.Ended o v w cs kinds = refl
@@ -113,7 +113,7 @@ in_stretch e phase.Ended o v w cs kinds = refl
 waits_on : (e : AskedEvents) (m : StretchPhase HandshakeMemory) (o : Option End) (v w : Levels) (cs : List Change)
     (kinds : StepMarks) → waits m ≡ true → events_in e m o v w cs kinds ≡ e
 waits_on e phase.Waiting o v w cs kinds h = refl
-waits_on e (phase.Judging p) o v w cs kinds h = absurd (cc)
+waits_on e (phase.InStretch p) o v w cs kinds h = absurd (cc)
 waits_on e phase.Reset o v w cs kinds h = refl
 waits_on e phase.Ended o v w cs kinds h = absurd (cc)
 
@@ -127,7 +127,7 @@ ends_here p v w None (Some s) h = absurd (cc)
 
 abbrev is_over : {P : Type 0} → StretchPhase P → Bool
 is_over phase.Waiting = false
-is_over (phase.Judging p) = false
+is_over (phase.InStretch p) = false
 is_over phase.Reset = false
 is_over phase.Ended = true
 
@@ -140,7 +140,7 @@ lost_here p v w None (Some s) h = absurd (cc)
 
 abbrev is_judging : {P : Type 0} → StretchPhase P → Bool
 is_judging phase.Waiting = false
-is_judging (phase.Judging p) = true
+is_judging (phase.InStretch p) = true
 is_judging phase.Reset = false
 is_judging phase.Ended = false
 
@@ -269,7 +269,7 @@ module _ (t : Trace) (ok : malformed_step t ≡ None) (few : t.opening.slots ≤
           next_is ∙ ap (λ (e : AskedEvents). asks_by e r) quiet ∙ so_far
           ∙ ap (λ b. asks_by e r || b) (sym over ∙ sym (happened_more (suc n) n (omega arith)))
 
-      step_of : (p : HandshakeMemory) → phase_at n ≡ phase.Judging p
+      step_of : (p : HandshakeMemory) → phase_at n ≡ phase.InStretch p
           → outer_next dtb_begin dtb_start_marks no_step_marks dtb_end_fault dtb_observation dtb_step t few ok n
           ≡ judging dtb_begin dtb_start_marks no_step_marks dtb_end_fault dtb_step p v w ends
           (dtb_observation v w (cs_at n))
@@ -277,7 +277,7 @@ module _ (t : Trace) (ok : malformed_step t ≡ None) (few : t.opening.slots ≤
           v w (cs_at n) p)
 
       -- it ends the span
-      ended : (p : HandshakeMemory) (l : End) → phase_at n ≡ phase.Judging p → ends ≡ Some l → now ≡ before
+      ended : (p : HandshakeMemory) (l : End) → phase_at n ≡ phase.InStretch p → ends ≡ Some l → now ≡ before
       ended p l at e = rw (at, e) refl
 
       module _ (work : IsAtWork dtb_begin dtb_start_marks no_step_marks dtb_end_fault dtb_observation dtb_step t few ok

@@ -42,7 +42,7 @@ module _ {P S : Type 0} (begin : Levels → P) (start_marks : Levels → StepMar
     (opened : (v : Levels) → IsOwn (start_marks v)) (reset : IsOwn reset_marks)
     (stepped : (p : P) (v w : Levels) (s : S) → IsOwn (next p v w s).shown) where
   waiting_own : (m : StretchPhase P) (w : Levels) (b : Bool)
-      → IsOwn (cond b (record { memory = phase.Judging (begin w); fault = None; shown = start_marks w })
+      → IsOwn (cond b (record { memory = phase.InStretch (begin w); fault = None; shown = start_marks w })
       (quiet m)).shown
   waiting_own m w true = opened w
   waiting_own m w false = none
@@ -62,7 +62,7 @@ module _ {P S : Type 0} (begin : Levels → P) (start_marks : Levels → StepMar
         → IsOwn (phase_step begin start_marks reset_marks end_fault next m v w
         (record { end = end_among w cs; inner = observation v w cs })).shown
     phase_step_own phase.Waiting = waiting_own phase.Waiting w (is_idle w)
-    phase_step_own (phase.Judging p) = judging_own p v w (end_among w cs) (observation v w cs)
+    phase_step_own (phase.InStretch p) = judging_own p v w (end_among w cs) (observation v w cs)
     phase_step_own phase.Reset = waiting_own phase.Reset w (is_idle w)
     phase_step_own phase.Ended = none
 

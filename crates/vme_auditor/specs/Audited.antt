@@ -12,7 +12,7 @@ use Rattle.vme_monitor.specs.OverStretches.{has_started}
 use Rattle.vme_monitor.specs.declared.mark.Fault.{Fault}
 use Rattle.vme_monitor.specs.declared.mark.StepMarks.{StepMarks}
 use Rattle.vme_monitor.specs.declared.over_stretches.StretchPhase.{StretchPhase}
-use Rattle.vme_monitor.specs.declared.over_stretches.StretchPhase.TheVariants.{Judging}
+use Rattle.vme_monitor.specs.declared.over_stretches.StretchPhase.TheVariants.{InStretch}
 use Rattle.vme_monitor.specs.declared.view.End.{End}
 use Rattle.vme_monitor.specs.declared.view.StepView.{StepView}
 use Rattle.vme_dtb.specs.declared.memory.HandshakeMemory.{HandshakeMemory}
@@ -30,7 +30,7 @@ with_stretch e starts = record e { stretch = e.stretch || starts }
 -- the events of a step are those of its instant, if that is judged: in a stretch before and after the step
 abbrev pub events_in : AskedEvents → StretchPhase HandshakeMemory → Option End → Levels → Levels → List Change
     → StepMarks → AskedEvents
-events_in e (Judging entered) None before after changes transfer = at_step e entered before after changes transfer
+events_in e (InStretch entered) None before after changes transfer = at_step e entered before after changes transfer
 events_in e phase end before after changes transfer = e
 
 abbrev pub events_by : AskedEvents → StretchPhase HandshakeMemory → Option End → Levels → Levels → List Change

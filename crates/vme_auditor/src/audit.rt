@@ -75,7 +75,7 @@ impl Audit {
               view.now.after changes.now shown.now.stretch shown.now.transfer;
         } }
     {
-        if let StretchPhase::Judging(memory) = entered {
+        if let StretchPhase::InStretch(memory) = entered {
             if view.end.is_none() {
                 self.events.take(memory, &view.before, &view.after, changes, &shown.transfer);
             }

@@ -11,7 +11,7 @@ use Rattle.vme_monitor.specs.declared.mark.Fault.{Fault}
 use Rattle.vme_monitor.specs.declared.mark.StepMarks.{StepMarks}
 use Rattle.vme_monitor.specs.declared.mark.Next.{Next}
 use Rattle.vme_monitor.specs.declared.over_stretches.StretchPhase.{StretchPhase}
-use Rattle.vme_monitor.specs.declared.over_stretches.StretchPhase.TheVariants.{Waiting, Judging, Reset, Ended}
+use Rattle.vme_monitor.specs.declared.over_stretches.StretchPhase.TheVariants.{Waiting, InStretch, Reset, Ended}
 use Rattle.vme_monitor.specs.declared.over_stretches.StretchObservation.{StretchObservation}
 use Rattle.vme_monitor.specs.declared.view.End.{End}
 use Rattle.vme_monitor.specs.declared.view.End.TheVariants as end
@@ -20,27 +20,27 @@ abbrev pub phase_place : {P : Type 0} → (P → ℕ) → StretchPhase P → ℕ
 phase_place place Waiting = 0
 phase_place place Reset = 1
 phase_place place Ended = 2
-phase_place place (Judging p) = suc (suc (suc (place p)))
+phase_place place (InStretch p) = suc (suc (suc (place p)))
 
 abbrev pub phase_nth : {P : Type 0} → (ℕ → P) → ℕ → StretchPhase P
 phase_nth nth zero = Waiting
 phase_nth nth (suc zero) = Reset
 phase_nth nth (suc (suc zero)) = Ended
-phase_nth nth (suc (suc (suc k))) = Judging (nth k)
+phase_nth nth (suc (suc (suc k))) = InStretch (nth k)
 
 abbrev pub start_in : {P : Type 0} → (Levels → P) → Levels → StretchPhase P
-start_in begin o = if is_idle o then Judging (begin o) else Waiting
+start_in begin o = if is_idle o then InStretch (begin o) else Waiting
 
 -- a span has started
 abbrev pub has_started : {P : Type 0} → StretchPhase P → Bool
 has_started Waiting = false
-has_started (Judging p) = true
+has_started (InStretch p) = true
 has_started Reset = true
 has_started Ended = true
 
 -- what the inner machine does, in the memory of the outer one
 abbrev pub inner : {P : Type 0} → Next P → Next (StretchPhase P)
-inner n = record { memory = Judging n.memory; fault = n.fault; shown = n.shown }
+inner n = record { memory = InStretch n.memory; fault = n.fault; shown = n.shown }
 
 abbrev pub observed : {S : Type 0} → (Levels → Levels → List Change → Option S)
     → Levels → Levels → List Change → Option (StretchObservation S)
@@ -53,7 +53,7 @@ observed observation before after cs =
 -- ends a span
 abbrev pub phase_sensitivity : {P : Type 0} → StretchPhase P → ℕ
 phase_sensitivity Waiting = 2
-phase_sensitivity (Judging p) = 1
+phase_sensitivity (InStretch p) = 1
 phase_sensitivity Reset = 3
 phase_sensitivity Ended = 0
 
@@ -71,7 +71,7 @@ module _ {P S : Type 0} (begin : Levels → P) (start_marks : Levels → StepMar
   -- in the memory of one who waits
   abbrev pub waiting : StretchPhase P → Levels → Next (StretchPhase P)
   waiting m after =
-      if is_idle after then record { memory = Judging (begin after); fault = None; shown = start_marks after }
+      if is_idle after then record { memory = InStretch (begin after); fault = None; shown = start_marks after }
       else quiet m
 
   abbrev pub resetting : Next (StretchPhase P)
@@ -87,6 +87,6 @@ module _ {P S : Type 0} (begin : Levels → P) (start_marks : Levels → StepMar
 
   abbrev pub phase_step : StretchPhase P → Levels → Levels → StretchObservation S → Next (StretchPhase P)
   phase_step Waiting before after seen = waiting Waiting after
-  phase_step (Judging p) before after seen = judging p before after seen.end seen.inner
+  phase_step (InStretch p) before after seen = judging p before after seen.end seen.inner
   phase_step Reset before after seen = waiting Reset after
   phase_step Ended before after seen = quiet Ended

@@ -10,7 +10,7 @@ use Rattle.vme_monitor.specs.declared.mark.StepMarks.{StepMarks}
 use Rattle.vme_monitor.specs.declared.mark.Next.{Next}
 use Rattle.vme_monitor.specs.declared.over_stretches.StretchObservation.{StretchObservation}
 use Rattle.vme_monitor.specs.declared.over_stretches.StretchPhase.{StretchPhase}
-use Rattle.vme_monitor.specs.declared.over_stretches.StretchPhase.TheVariants.{Waiting, Judging, Reset, Ended}
+use Rattle.vme_monitor.specs.declared.over_stretches.StretchPhase.TheVariants.{Waiting, InStretch, Reset, Ended}
 use Rattle.vme_monitor.specs.declared.view.End.{End}
 
 pub phase_placed : {P : Type 0} (count : ℕ) (place : P → ℕ) → ((p : P) → place p < count)
@@ -18,7 +18,7 @@ pub phase_placed : {P : Type 0} (count : ℕ) (place : P → ℕ) → ((p : P) �
 phase_placed count place h Waiting = omega arith
 phase_placed count place h Reset = omega arith
 phase_placed count place h Ended = omega arith
-phase_placed count place h (Judging p) = below (place p) (h p)
+phase_placed count place h (InStretch p) = below (place p) (h p)
   where
     below : (k : ℕ) → k < count → suc (suc (suc k)) < count + 3
     below k b = omega arith
@@ -28,7 +28,7 @@ pub phase_found : {P : Type 0} (place : P → ℕ) (nth : ℕ → P) → ((p : P
 phase_found place nth h Waiting = refl
 phase_found place nth h Reset = refl
 phase_found place nth h Ended = refl
-phase_found place nth h (Judging p) = ap Judging (h p)
+phase_found place nth h (InStretch p) = ap InStretch (h p)
 
 pub phases_few : (count : ℕ) → count ≤ 509 → count + 3 ≤ 512
 phases_few count h = omega arith
@@ -42,7 +42,7 @@ module _ {P S : Type 0} (begin : Levels → P) (start_marks : Levels → StepMar
   never_waiting None None h = omega arith
 
   judging_unchanged : (p : P) (before after : Levels) (end : Option End) (seen : Option S) → 1 < threshold_by end seen
-      → judging begin start_marks reset_marks end_fault next p before after end seen ≡ quiet (Judging p)
+      → judging begin start_marks reset_marks end_fault next p before after end seen ≡ quiet (InStretch p)
   judging_unchanged p before after (Some what) seen h = absurd (omega arith)
   judging_unchanged p before after None (Some s) h = absurd (omega arith)
   judging_unchanged p before after None None h = refl
@@ -51,7 +51,7 @@ module _ {P S : Type 0} (begin : Levels → P) (start_marks : Levels → StepMar
       → phase_sensitivity m < stretch_threshold seen
       → phase_step begin start_marks reset_marks end_fault next m before after seen ≡ quiet m
   phase_step_unchanged Waiting before after seen h = absurd (never_waiting seen.end seen.inner h)
-  phase_step_unchanged (Judging p) before after seen h = judging_unchanged p before after seen.end seen.inner h
+  phase_step_unchanged (InStretch p) before after seen h = judging_unchanged p before after seen.end seen.inner h
   phase_step_unchanged Reset before after seen h = absurd (never_waiting seen.end seen.inner (omega (arith, h)))
   phase_step_unchanged Ended before after seen h = refl
 
@@ -65,7 +65,7 @@ module _ {P S : Type 0} (begin : Levels → P) (start_marks : Levels → StepMar
   waiting_calm : (m : StretchPhase P) (after : Levels) → 1 ≤ phase_sensitivity m
       → phase_sensitivity (waiting begin start_marks reset_marks end_fault next m after).memory ≤ phase_sensitivity m
   waiting_calm m after h =
-      either (is_idle after) (record { memory = Judging (begin after); fault = None; shown = start_marks after })
+      either (is_idle after) (record { memory = InStretch (begin after); fault = None; shown = start_marks after })
       (quiet m) (phase_sensitivity m) h (omega arith)
 
   judging_calm : (p : P) (before after : Levels) (end : Option End) (seen : Option S) → 0 < threshold_by end seen
@@ -81,6 +81,6 @@ module _ {P S : Type 0} (begin : Levels → P) (start_marks : Levels → StepMar
       → phase_sensitivity (phase_step begin start_marks reset_marks end_fault next m before after seen).memory
       ≤ phase_sensitivity m
   phase_step_sensitivity Waiting before after seen h = waiting_calm Waiting after (omega arith)
-  phase_step_sensitivity (Judging p) before after seen h = judging_calm p before after seen.end seen.inner h
+  phase_step_sensitivity (InStretch p) before after seen h = judging_calm p before after seen.end seen.inner h
   phase_step_sensitivity Reset before after seen h = waiting_calm Reset after (omega arith)
   phase_step_sensitivity Ended before after seen h = omega arith

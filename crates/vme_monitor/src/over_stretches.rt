@@ -9,7 +9,7 @@ ghost use Rattle.vme_monitor.specs.Judges.{Judges};
 ghost use Rattle.vme_monitor.specs.Shows.{Shows};
 ghost use Rattle.vme_monitor.specs.Whole.{FindsLeastWhere, RemembersWithin, ShowsAllWhere, has_span, run_whole};
 ghost use Rattle.vme_monitor.specs.Along.{memory_from};
-ghost use Rattle.vme_monitor.specs.declared.over_stretches.StretchPhase.TheVariants.{Judging};
+ghost use Rattle.vme_monitor.specs.declared.over_stretches.StretchPhase.TheVariants.{InStretch};
 ghost use Rattle.vme_monitor.specs.Run.{machine_step};
 ghost use Rattle.vme_trace.specs.Levels.{Levels};
 ghost use Rattle.vme_trace.specs.declared.step.Change.{Change};
@@ -78,7 +78,7 @@ pub enum StretchPhase<P> {
     Reset,
     /// No span has started.
     Waiting,
-    Judging(P),
+    InStretch(P),
     /// A lost control line has ended a span.
     Ended,
 }
@@ -106,7 +106,7 @@ impl<P: Small> Enumerable for StretchPhase<P> {
             StretchPhase::Waiting => 0,
             StretchPhase::Reset => 1,
             StretchPhase::Ended => 2,
-            StretchPhase::Judging(memory) => memory.place() + 3,
+            StretchPhase::InStretch(memory) => memory.place() + 3,
         }
     }
 
@@ -118,7 +118,7 @@ impl<P: Small> Enumerable for StretchPhase<P> {
         } else if k == 2 {
             StretchPhase::Ended
         } else {
-            StretchPhase::Judging(P::nth(k - 3))
+            StretchPhase::InStretch(P::nth(k - 3))
         }
     }
 }
@@ -135,7 +135,7 @@ pub fn phase_at<R: Rules>(opening: &Lines) -> StretchPhase<R::Memory>
     ensures { result ≡ start_in R.begin opening.now }
 {
     if opening.is_idle() {
-        StretchPhase::Judging(R::at_start(opening))
+        StretchPhase::InStretch(R::at_start(opening))
     } else {
         StretchPhase::Waiting
     }
@@ -202,7 +202,7 @@ impl<R: Rules> Machine for OverStretches<R> {
             StretchPhase::Waiting | StretchPhase::Reset => {
                 if after.is_idle() {
                     Next {
-                        memory: StretchPhase::Judging(R::at_start(after)),
+                        memory: StretchPhase::InStretch(R::at_start(after)),
                         fault: None,
                         shown: R::shown_at_start(after),
                     }
@@ -210,7 +210,7 @@ impl<R: Rules> Machine for OverStretches<R> {
                     quiet(memory)
                 }
             }
-            StretchPhase::Judging(inner) => match seen.end {
+            StretchPhase::InStretch(inner) => match seen.end {
                 Some(End::Reset) => Next {
                     memory: StretchPhase::Reset,
                     fault: None,
@@ -225,12 +225,12 @@ impl<R: Rules> Machine for OverStretches<R> {
                     Some(machine_step) => {
                         let next = R::step(inner, before, after, machine_step);
                         Next {
-                            memory: StretchPhase::Judging(next.memory),
+                            memory: StretchPhase::InStretch(next.memory),
                             fault: next.fault,
                             shown: next.shown,
                         }
                     }
-                    None => quiet(StretchPhase::Judging(inner)),
+                    None => quiet(StretchPhase::InStretch(inner)),
                 },
             },
             StretchPhase::Ended => quiet(StretchPhase::Ended),
@@ -241,7 +241,7 @@ impl<R: Rules> Machine for OverStretches<R> {
         match memory {
             StretchPhase::Reset => 3,
             StretchPhase::Waiting => 2,
-            StretchPhase::Judging(_) => 1,
+            StretchPhase::InStretch(_) => 1,
             StretchPhase::Ended => 0,
         }
     }
@@ -271,6 +271,6 @@ pub fn rules_over_recordings<R: Rules>()
         → has_started (run_whole ⟦<RuleMonitor<R> as Monitor>⟧.run ⟦<RuleMonitor<R> as Monitor>⟧.begin t).leaving
         ≡ has_span (judged_spans t) }
     ensures memory { RemembersWithin ⟦<RuleMonitor<R> as Monitor>⟧.run ⟦<RuleMonitor<R> as Monitor>⟧.begin
-        (λ t span n. Judging (memory_from (machine_step R.observation R.next) t (R.begin (levels_at t span.start))
+        (λ t span n. InStretch (memory_from (machine_step R.observation R.next) t (R.begin (levels_at t span.start))
         span.start n)) }
 {}

@@ -21,7 +21,7 @@ use Rattle.vme_monitor.specs.declared.mark.Next.{Next}
 use Rattle.vme_monitor.specs.declared.mark.StepMarks.{StepMarks}
 use Rattle.vme_monitor.specs.declared.over_stretches.StretchObservation.{StretchObservation}
 use Rattle.vme_monitor.specs.declared.over_stretches.StretchPhase.{StretchPhase}
-use Rattle.vme_monitor.specs.declared.over_stretches.StretchPhase.TheVariants.{Ended, Judging, Reset, Waiting}
+use Rattle.vme_monitor.specs.declared.over_stretches.StretchPhase.TheVariants.{Ended, InStretch, Reset, Waiting}
 use Rattle.vme_monitor.specs.declared.view.End.{End}
 use Rattle.vme_monitor.specs.declared.view.End.TheVariants as end
 use Rattle.vme_monitor.specs.declared.view.StepView.{StepView}

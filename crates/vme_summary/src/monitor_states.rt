@@ -7,7 +7,7 @@ ghost use Rattle.vme_monitor.specs.Run.{break_of_fault, machine_step, quiet as q
 ghost use Rattle.vme_monitor.specs.StepRuns.{seen_in};
 ghost use Rattle.vme_monitor.specs.WholeTables.{table_outcome, table_steps};
 ghost use Rattle.vme_monitor.specs.WithoutMarks.{unmarked_next};
-ghost use Rattle.vme_monitor.specs.declared.over_stretches.StretchPhase.TheVariants.{Judging};
+ghost use Rattle.vme_monitor.specs.declared.over_stretches.StretchPhase.TheVariants.{InStretch};
 ghost use Rattle.vme_trace.specs.Levels.{Levels};
 ghost use Rattle.vme_trace.specs.Trace.{Trace, levels_after};
 ghost use Rattle.vme_trace.specs.Verdict.{rules_in_force, verdict_by, verdict_on};
@@ -74,16 +74,16 @@ fn next_judging<R: Rules>(
 ) -> Option<Next<StretchPhase<R::Memory>>>
     requires view { view.now ≡ seen_in view.now.before changes.now }
     requires goes_on { view.now.end ≡ None }
-    ensures { unwrap_or result (quiet_next (Judging memory)) ≡ unmarked_next
+    ensures { unwrap_or result (quiet_next (InStretch memory)) ≡ unmarked_next
         (machine_step (observed R.observation) (phase_step R.begin R.start_marks R.reset_marks R.end_fault R.next)
-        (Judging memory) view.now.before view.now.after changes.now) }
+        (InStretch memory) view.now.before view.now.after changes.now) }
 {
     let Some(seen) = R::observe(&view.before, &view.after, changes) else {
         return None;
     };
     let next = R::step(memory, &view.before, &view.after, &seen);
     Some(Next {
-        memory: StretchPhase::Judging(next.memory),
+        memory: StretchPhase::InStretch(next.memory),
         fault: next.fault,
         shown: NOTHING,
     })
@@ -108,12 +108,12 @@ fn next_in<R: Rules>(
             let machine_step = view.control
                 || R::observe(&view.before, &view.after, changes).is_some();
             if machine_step && view.after.is_idle() {
-                Some(quiet(StretchPhase::Judging(R::at_start(&view.after))))
+                Some(quiet(StretchPhase::InStretch(R::at_start(&view.after))))
             } else {
                 None
             }
         }
-        StretchPhase::Judging(inner) => match view.end {
+        StretchPhase::InStretch(inner) => match view.end {
             None => next_judging::<R>(inner, view, changes),
             Some(End::Reset) => Some(quiet(StretchPhase::Reset)),
             Some(End::Lost(line)) => Some(Next {
