@@ -60,10 +60,10 @@ any_of true b k l = refl
 any_of false true k l = refl
 any_of false false k l = refl
 
-calm_line : (r : Rule) (a b : Bool) (k l : ℕ) → (a || b) ≡ false → fault_if r true (first_of a k b l) ≡ None
-calm_line r false false k l h = refl
-calm_line r true b k l h = absurd (cc)
-calm_line r false true k l h = absurd (cc)
+no_line_fault : (r : Rule) (a b : Bool) (k l : ℕ) → (a || b) ≡ false → fault_if r true (first_of a k b l) ≡ None
+no_line_fault r false false k l h = refl
+no_line_fault r true b k l h = absurd (cc)
+no_line_fault r false true k l h = absurd (cc)
 
 neither : (a b : Bool) → (a || b) ≡ false → (a ≡ false) × (b ≡ false)
 neither false false h = (refl, refl)
@@ -75,15 +75,15 @@ broken_by_rise : (p : TransferPhase) (a b e f : Bool) → strobes_break_rule p (
     (first_of a DS0 b DS1) ≡ None
 broken_by_rise Closed a b e f h = refl
 broken_by_rise Answered a b e f h = refl
-broken_by_rise Reading a b e f h = calm_line H2 a b DS0 DS1 (neither (a || b) e h).0
-broken_by_rise Writing a b e f h = calm_line H2 a b DS0 DS1 (neither (a || b) e h).0
+broken_by_rise Reading a b e f h = no_line_fault H2 a b DS0 DS1 (neither (a || b) e h).0
+broken_by_rise Writing a b e f h = no_line_fault H2 a b DS0 DS1 (neither (a || b) e h).0
 
 broken_by_fall : (p : TransferPhase) (r e a b : Bool) → strobes_break_rule p r e (a || b) ≡ false
     → fault_if H3 (is_replied p) (first_of a DS0 b DS1) ≡ None
 broken_by_fall Closed r e a b h = refl
 broken_by_fall Reading r e a b h = refl
 broken_by_fall Writing r e a b h = refl
-broken_by_fall Answered r e a b h = calm_line H3 a b DS0 DS1 h
+broken_by_fall Answered r e a b h = no_line_fault H3 a b DS0 DS1 h
 
 broken_by_end : (p : TransferPhase) (r e f : Bool) → strobes_break_rule p r e f ≡ false
     → ((is_unanswered p && true) && e)

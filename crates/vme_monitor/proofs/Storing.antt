@@ -41,15 +41,15 @@ module _ {P : Type 0} where
     later_rows n rows,
   )
 
-  bridge_marks : (place : P → ℕ) (rows : List (Outcome P)) → sum_by link_marks (map (link_to_place place) rows)
+  linked_marks : (place : P → ℕ) (rows : List (Outcome P)) → sum_by link_marks (map (link_to_place place) rows)
       ≡ sum_by row_marks rows
-  bridge_marks place [] = refl
-  bridge_marks place (r ∷ rows) = omega (
+  linked_marks place [] = refl
+  linked_marks place (r ∷ rows) = omega (
     arith,
     sum_by-cons link_marks (link_to_place place r)
         (map (link_to_place place) rows),
     sum_by-cons row_marks r rows,
-    bridge_marks place rows,
+    linked_marks place rows,
   )
 
   pub unchanged_marks : (ms : List P) → sum_by row_marks (map nothing_shown ms) ≡ 0
@@ -99,7 +99,7 @@ module _ {P : Type 0} where
       → marks_of h3 rows ≡ marks_of ls ras + marks_of bs rbs
   marks_composed place m n h1 h2 h3 link_of rows ls ras bs rbs e1 eb e2 e3 er =
       let first : sum_by layer_marks h1 ≡ sum_by layer_marks ls = ap (sum_by layer_marks) e1 ∙ later_layers m ls in
-      let between : sum_by link_marks link_of ≡ sum_by row_marks ras = ap (sum_by link_marks) eb ∙ bridge_marks place
+      let between : sum_by link_marks link_of ≡ sum_by row_marks ras = ap (sum_by link_marks) eb ∙ linked_marks place
       (map (later_outcome m) ras) ∙ later_rows m ras in
       let middle : sum_by layer_marks h2 ≡ sum_by layer_marks h1 + sum_by layer_marks (link_of ∷ []) = ap
       (sum_by layer_marks) e2 ∙ sum_by-append layer_marks h1 (link_of ∷ []) in
@@ -117,7 +117,7 @@ module _ {P : Type 0} (place : P → ℕ) where
       → link_of ≡ map (link_to_place place) ras → h1 ≡ ls ++ link_of ∷ [] → h2 ≡ h1 ++ map (map (later_link_value n)) bs
       → rows ≡ map (later_outcome n) rbs → marks_of h2 rows ≡ marks_of ls ras + marks_of bs rbs
   marks_appended n h1 h2 link_of rows ls ras bs rbs eb e1 e2 er =
-      let between : sum_by link_marks link_of ≡ sum_by row_marks ras = ap (sum_by link_marks) eb ∙ bridge_marks place
+      let between : sum_by link_marks link_of ≡ sum_by row_marks ras = ap (sum_by link_marks) eb ∙ linked_marks place
       ras in
       let middle : sum_by layer_marks h1 ≡ sum_by layer_marks ls + sum_by layer_marks (link_of ∷ []) = ap
       (sum_by layer_marks) e1 ∙ sum_by-append layer_marks ls (link_of ∷ []) in

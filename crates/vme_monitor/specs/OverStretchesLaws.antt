@@ -62,17 +62,17 @@ module _ {P S : Type 0} (begin : Levels → P) (start_marks : Levels → StepMar
   either true x y n h k = h
   either false x y n h k = k
 
-  waiting_calm : (m : StretchPhase P) (after : Levels) → 1 ≤ phase_sensitivity m
+  waiting_sensitivity : (m : StretchPhase P) (after : Levels) → 1 ≤ phase_sensitivity m
       → phase_sensitivity (waiting begin start_marks reset_marks end_fault next m after).memory ≤ phase_sensitivity m
-  waiting_calm m after h =
+  waiting_sensitivity m after h =
       either (is_idle after) (record { memory = InStretch (begin after); fault = None; shown = start_marks after })
       (quiet m) (phase_sensitivity m) h (omega arith)
 
-  judging_calm : (p : P) (before after : Levels) (end : Option End) (seen : Option S) → 0 < threshold_by end seen
+  judging_sensitivity : (p : P) (before after : Levels) (end : Option End) (seen : Option S) → 0 < threshold_by end seen
       → phase_sensitivity (judging begin start_marks reset_marks end_fault next p before after end seen).memory ≤ 1
-  judging_calm p before after (Some what) seen h = absurd (omega arith)
-  judging_calm p before after None None h = omega arith
-  judging_calm p before after None (Some s) h = omega arith
+  judging_sensitivity p before after (Some what) seen h = absurd (omega arith)
+  judging_sensitivity p before after None None h = omega arith
+  judging_sensitivity p before after None (Some s) h = omega arith
 
   -- but for what ends a span, a machine waits after a reset, waits, judges and has ended, in this order
   pub phase_step_sensitivity : (m : StretchPhase P) (before after : Levels) (seen : StretchObservation S)
@@ -80,7 +80,7 @@ module _ {P S : Type 0} (begin : Levels → P) (start_marks : Levels → StepMar
       seen
       → phase_sensitivity (phase_step begin start_marks reset_marks end_fault next m before after seen).memory
       ≤ phase_sensitivity m
-  phase_step_sensitivity Waiting before after seen h = waiting_calm Waiting after (omega arith)
-  phase_step_sensitivity (InStretch p) before after seen h = judging_calm p before after seen.end seen.inner h
-  phase_step_sensitivity Reset before after seen h = waiting_calm Reset after (omega arith)
+  phase_step_sensitivity Waiting before after seen h = waiting_sensitivity Waiting after (omega arith)
+  phase_step_sensitivity (InStretch p) before after seen h = judging_sensitivity p before after seen.end seen.inner h
+  phase_step_sensitivity Reset before after seen h = waiting_sensitivity Reset after (omega arith)
   phase_step_sensitivity Ended before after seen h = omega arith

@@ -44,8 +44,8 @@ pub unmarked_unchanged : {P S : Type 0} (next : P → Levels → Levels → S �
     → ((p : P) (before after : Levels) (seen : S) → sensitivity p < threshold seen → next p before after seen ≡ quiet p)
     → (p : P) (before after : Levels) (seen : S) → sensitivity p < threshold seen
     → unmarked_step next p before after seen ≡ quiet p
-unmarked_unchanged next sensitivity threshold unchanged p before after seen faint = ap unmarked_next
-    (unchanged p before after seen faint)
+unmarked_unchanged next sensitivity threshold unchanged p before after seen is_below = ap unmarked_next
+    (unchanged p before after seen is_below)
 
 module _ {P S : Type 0} (observation : Levels → Levels → List Change → Option S)
     (next : P → Levels → Levels → S → Next P) where

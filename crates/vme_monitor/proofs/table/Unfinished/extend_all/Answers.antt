@@ -4,7 +4,7 @@ use Rattle.vme_monitor.specs.Run.{machine_step}
 use Rattle.vme_monitor.specs.Walk.{link_values, outcome_of}
 use Rattle.vme_monitor.specs.declared.view.StepView.{StepView}
 use Rattle.vme_monitor.proofs.DistinctRows.{keep_apart}
-use Rattle.vme_monitor.proofs.Summarising.{settled_gives}
+use Rattle.vme_monitor.proofs.Summarising.{merged_gives}
 use Rattle.vme_monitor.proofs.table.Unfinished.extend_all.Goals as goal
 
 pub returns : goal.returns
@@ -16,7 +16,7 @@ returns g c =
     let after = ap (λ (v : StepView). v.after) c.requires.view in
     record {
       runs = λ o x b n t.
-          settled_gives g.M.Machine.observation g.M.Machine.next g.M.Memory.Enumerable.place_of
+          merged_gives g.M.Machine.observation g.M.Machine.next g.M.Memory.Enumerable.place_of
           g.M.Machine.sensitivity_of g.M.Machine.threshold_of c.args.view.now.before o x c.args.step.now b
           g.met.M.Machine.below_threshold c.args.view.now.after c.args.seen.now after c.requires.seen c.args.instant n
           g.met.M.Machine.never_more_sensitive c.args.self.now.layers.items c.merge_rows.new.layers.items
