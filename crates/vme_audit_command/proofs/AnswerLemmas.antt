@@ -1,15 +1,10 @@
 -- The answer to a dump.
 use Rattle.std.proofs.Common.{◌≡◌, ◌≤◌, ℕ, Bool, true, false, List, [], ◌++◌, Option, None, Some, IfSome, Result, Ok}
-use Rattle.std.proofs.Common.{Err, zero, suc, ◌∷◌, length, arith}
+use Rattle.std.proofs.Common.{Err, length}
 use Rattle.std.proofs.Common.{sym, ap, subst, ◌∙◌, append-nil, flat_map, refl}
 use Rattle.std.specs.Io.KnownBytes.{Consumes}
-use Rattle.std.specs.Prelude.{filter}
-use Rattle.vme_trace.specs.Levels.{Levels}
 use Rattle.vme_trace.specs.LineNumbers.{line_count}
-use Rattle.vme_trace.specs.declared.step.Step.{Step}
-use Rattle.vme_skew.specs.Settled.{is_complete, settled, settled_until}
 use Rattle.vme_skew.specs.Settling.{Settling}
-use Rattle.vme_skew.proofs.Laws.{no_longer}
 use Rattle.vme_trace.specs.Streams.{Reading, Writing}
 use Rattle.vme_trace.specs.Trace.{Trace}
 use Rattle.vme_bind.specs.Binding.{BoundLines}
@@ -24,7 +19,7 @@ use Rattle.vme_step_auditor.specs.ReadBy.{GivenSteps, read_by, read_of}
 use Rattle.vme_step_reader.specs.StepReading.{StepReading, whole_reading}
 use Rattle.vme_audit_command.specs.Bodies.{AuditsRest, EndsBehind, HasGiven, IsLater, ended_at}
 use Rattle.vme_dump_input.specs.SettledReadings.{settled_by, skew_of}
-use Rattle.vme_dump_input.specs.SettledSteps.{ComesOut, IsSettlerFor}
+use Rattle.vme_dump_input.specs.SettledSteps.{ComesOut}
 use Rattle.vme_audit_command.specs.Definitions.{IsBodyBegun, ReadsDefinitions}
 use Rattle.vme_audit_command.specs.DumpAnswers.{AuditOptions, AuditsBehind, AuditsDump, DumpAnswer, EndsAs, answer_by}
 use Rattle.vme_audit_command.specs.DumpAnswers.{reading_answer, dump_answer, last_lines}

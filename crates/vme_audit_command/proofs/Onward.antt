@@ -1,23 +1,19 @@
 -- What is settled of a recording goes on with what is settled of it so far.
-use Rattle.std.proofs.Common.{◌≡◌, ◌≤◌, ℕ, List, [], ◌∷◌, ◌++◌, Option, None, Some, sym, ap, subst, ◌∙◌, arith}
-use Rattle.std.proofs.Common.{append-nil, append_assoc, refl, length}
+use Rattle.std.proofs.Common.{◌≡◌, ◌≤◌, ℕ, List, [], ◌++◌, Option, None, Some, sym, ap, subst, ◌∙◌, arith}
+use Rattle.std.proofs.Common.{append-nil, refl, length}
 use Rattle.std.specs.Prelude.{All}
-use Rattle.std.proofs.lemmas.List.Elements.{All-cons, All-head, All-nil, All-tail, All-weaker}
+use Rattle.std.proofs.lemmas.List.Elements.{All-weaker}
 use Rattle.vme_trace.specs.Followed.{with_steps}
 use Rattle.vme_trace.specs.Levels.{Levels}
 use Rattle.vme_trace.specs.LineNumbers.{line_count}
 use Rattle.vme_trace.specs.Trace.{Trace}
 use Rattle.vme_trace.specs.WellFormed.{malformed_step}
 use Rattle.vme_trace.specs.declared.step.Step.{Step}
-use Rattle.vcd_read.specs.declared.fault.FaultKind.{FaultKind}
 use Rattle.vcd_read.specs.declared.fault.FaultKind.TheVariants as vcd
 use Rattle.vcd_read.specs.declared.fault.VcdFault.{VcdFault}
-use Rattle.vme_bind.specs.TextReading.{StopsAs, TextReading}
-use Rattle.vme_skew.specs.Settled.{settled, settled_until}
+use Rattle.vme_skew.specs.Settled.{settled}
 use Rattle.vme_skew.specs.Settling.{Settling}
 use Rattle.vme_skew.proofs.Grown.{grows-settled, grows-until}
-use Rattle.vme_skew.proofs.Laws.{is_recording}
-use Rattle.vme_skew.proofs.SettlerSteps.{until-recording}
 use Rattle.vme_step_reader.specs.StepReading.{StepReading, whole_reading}
 use Rattle.vme_step_reader.specs.Stops.{StopsBehind}
 use Rattle.vme_step_reader.specs.declared.stopped_steps.StoppedSteps.{StoppedSteps}

@@ -3,7 +3,7 @@ use Rattle.std.proofs.Common.{◌≡◌, ℕ, zero, suc, ◌+◌, ◌*◌, ◌/�
 use Rattle.std.proofs.Common.{length-append, get_or, set, sym, refl, ap, ◌∙◌, subst, arith, bit_or, length-set, ⊎_elim}
 use Rattle.std.proofs.Common.{inl, inr, Option, Some, None, cond, ◌==◌, replicate, map}
 use mathlib.Core.Option as maybe
-use mathlib.Core.Option.{none, some, some-injective, some-ne-none}
+use mathlib.Core.Option.{some, some-injective, some-ne-none}
 use mathlib.Core.Logic.{dite}
 use native.Mathlib.Decide.{ℕ_discrete}
 use lib.ListN.{get_elem?}

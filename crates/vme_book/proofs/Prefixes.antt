@@ -1,6 +1,6 @@
 -- The blocks from number 0 on.
 use Rattle.std.proofs.Common.{◌≡◌, ℕ, zero, suc, ◌+◌, ◌*◌, ◌<◌, ◌≤◌, List, [], ◌∷◌, ◌++◌, length, length-append, map}
-use Rattle.std.proofs.Common.{take, get_or, set, replicate, Bool, true, false, Option, Some, None, Result, Ok, Err}
+use Rattle.std.proofs.Common.{take, get_or, set, replicate, true, false, Option, Some, None, Result, Ok, Err}
 use Rattle.std.proofs.Common.{append-nil, append_assoc, refl, sym, ◌∙◌, ap, subst, arith, inl, inr, ◌⊎◌, ◌≢◌}
 use Rattle.std.specs.Prelude.{OnOk}
 use Rattle.std.specs.Option.{is_some}
@@ -15,7 +15,7 @@ use Rattle.vme_trace.specs.Blocks.{joined_steps}
 use Rattle.vme_trace.specs.declared.block.Block.{Block}
 use Rattle.vme_trace.specs.declared.step.Step.{Step}
 use Rattle.vme_summary.specs.Joins.{BlocksJoin, joined_trace}
-use Rattle.vme_book.specs.Inserted.{AllJoin, IsJoinedPrefix, IsLeastTorn, IsLongestPrefix, stored}
+use Rattle.vme_book.specs.Inserted.{IsJoinedPrefix, IsLeastTorn, IsLongestPrefix, stored}
 use Rattle.vme_summary.specs.Progressed.{HasCome}
 use Rattle.vme_summary.specs.Stands.{SpanStandsFor, first_number}
 use Rattle.vme_summary.specs.declared.running_verdict.RunningVerdict.{RunningVerdict}

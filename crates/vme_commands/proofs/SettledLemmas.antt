@@ -10,15 +10,11 @@ use Rattle.vme_trace.specs.Trace.{Trace}
 use Rattle.vme_trace.specs.WellFormed.{capture_limit}
 use Rattle.vme_trace.specs.declared.verdict.Verdict.{Verdict}
 use Rattle.vme_bind.specs.Binding.{BoundLines}
-use Rattle.vme_bind.specs.BoundGroups.{bound_groups_in}
-use Rattle.vme_bind.specs.Capture.{capture_of, limited, recording, recording_of}
-use Rattle.vme_bind.specs.TextCapture.{or_binding, recording_of_text}
+use Rattle.vme_bind.specs.Capture.{capture_of, limited}
 use Rattle.vme_bind.specs.TextCapture as text
 use Rattle.vme_bind.specs.declared.fault.BindFault.{BindFault}
 use Rattle.vme_bind.specs.declared.fault.BindFaultKind.TheVariants.{TooManySteps}
-use Rattle.vme_bind.proofs.CaptureLemmas.{levels-all}
-use Rattle.vme_bind.proofs.TextCaptureLemmas.{recorded-formed}
-use Rattle.vme_skew.specs.Settled.{IsRecording, settled, settled_or}
+use Rattle.vme_skew.specs.Settled.{settled, settled_or}
 use Rattle.vme_skew.proofs.CapturesStay.{capture-stays}
 use Rattle.vme_skew.proofs.Laws.{no_longer}
 use Rattle.vme_stream.specs.Inputs.{longest_input}

@@ -1,6 +1,6 @@
 -- What is read of a binding and a dump by a skew: the recording settles before anything is said of it. The limit on
 -- its steps holds before that, and the limit on blocks behind it.
-use Rattle.std.specs.Prelude.{ℕ, List, Option, Result, Ok, Err}
+use Rattle.std.specs.Prelude.{ℕ, List, Option, Result}
 use Rattle.vcd_read.specs.Header.{◌>>=◌}
 use Rattle.vme_trace.specs.Streams.{Reading, Writing}
 use Rattle.vme_trace.specs.Trace.{Trace}

@@ -10,7 +10,6 @@ use Rattle.vme_trace.specs.WellFormed.{malformed_step}
 use Rattle.vme_trace.specs.declared.step.Step.{Step}
 use Rattle.vcd_read.specs.declared.fault.FaultKind.{FaultKind}
 use Rattle.vcd_read.specs.declared.fault.FaultKind.TheVariants as vcd
-use Rattle.vcd_read.specs.declared.fault.VcdFault.{VcdFault}
 use Rattle.vme_bind.specs.TextReading.{StopsAs, TextReading}
 use Rattle.vme_skew.specs.Settled.{settled, settled_until}
 use Rattle.vme_skew.proofs.Laws.{is_recording}

@@ -2,9 +2,8 @@
 use Rattle.std.proofs.Common.{◌≡◌, ℕ, ◌+◌, ◌-◌, ◌<◌, ◌≤◌, Bool, true, false, List, [], ◌∷◌, ◌++◌, drop, take, length}
 use Rattle.std.proofs.Common.{refl}
 use Rattle.std.proofs.Common.{sym, ap, ◌∙◌, subst, arith, append_assoc, append-nil, length-append}
-use Rattle.std.specs.Prelude.{None, Option, Some}
 use Rattle.std.proofs.lemmas.List.{drop_at, drop-append-le, take_at, take_rest, take-append-drop, take-append-le}
-use Rattle.vme_listing.specs.Places.{is_row, is_verdict}
+use Rattle.vme_listing.specs.Places.{is_row}
 use Rattle.vme_listing.specs.Reading.{HasRead, IsFollowedBy, IsFront, RowsSoFar, behind_rows}
 use Rattle.vme_listing.specs.RowText.{header, line_of}
 use Rattle.vme_listing.specs.declared.row.Row.{Row}

@@ -1,7 +1,7 @@
 -- How long the text of a row is at most.
-use Rattle.std.proofs.Common.{◌≡◌, ℕ, ◌+◌, ◌/◌, ◌^◌, ◌<◌, ◌≤◌, Bool, true, false, ◌&&◌, List, [], ◌∷◌, ◌++◌, length}
+use Rattle.std.proofs.Common.{◌≡◌, ℕ, ◌+◌, ◌/◌, ◌^◌, ◌<◌, ◌≤◌, Bool, true, false, ◌&&◌, length}
 use Rattle.std.proofs.Common.{refl}
-use Rattle.std.proofs.Common.{sym, ap, arith, length-append}
+use Rattle.std.proofs.Common.{arith, length-append}
 use Rattle.std.specs.Prelude.{Option, None, Some, ◌==◌, codes, decimal, nat_lt, nat_le, if◌then◌else◌}
 use Rattle.std.specs.Fmt.{digits}
 use Rattle.std.proofs.lemmas.Bool.{agree_below, agree_below_at, and_parts, eqb-true, leb-true, ltb-true}
@@ -18,7 +18,7 @@ use Rattle.vme_trace.proofs.EveryRule.{every-rule}
 use Rattle.vme_listing.specs.Listed.{tells_resets}
 use Rattle.vme_listing.specs.Places.{has_class, has_data, is_address, is_edge, is_number, is_outcome, is_row}
 use Rattle.vme_listing.specs.RowText.{address_digits, answer_text, break_text, class_text, data_text, direction_text}
-use Rattle.vme_listing.specs.RowText.{edge_text, hexadecimal, line_of, row_text}
+use Rattle.vme_listing.specs.RowText.{edge_text, line_of, row_text}
 use Rattle.vme_listing.specs.declared.row.AnswerLine.{AnswerLine}
 use Rattle.vme_listing.specs.declared.row.AnswerLine.TheVariants.{Dtack, Berr}
 use Rattle.vme_listing.specs.declared.row.Direction.{Direction}

@@ -1,5 +1,5 @@
 -- The parts that inputs are, and one part of them.
-use Rattle.std.specs.Prelude.{◌≡◌, ℕ, ◌<◌, ◌≤◌, Bool, false, List, [], ◌∷◌, All, length, None, Some, Err, slice_get}
+use Rattle.std.specs.Prelude.{◌≡◌, ℕ, ◌<◌, ◌≤◌, List, All, length, None, Some, Err, slice_get}
 use Rattle.vme_trace.specs.Streams.{Reading}
 use Rattle.vme_stream.specs.Inputs.{IsReading, longest_input}
 use Rattle.vme_part_format.specs.Bounds.{FitsPart}

@@ -1,28 +1,19 @@
 -- A monitor is advanced along the steps from the memory that it is in.
-use Rattle.std.proofs.Common.{◌≡◌, ℕ, ◌+◌, Bool, true, false, cond, ◌&&◌, ◌||◌, List, [], ◌∷◌, ◌++◌, length, refl, sym}
+use Rattle.std.proofs.Common.{◌≡◌, ℕ, ◌+◌, List, [], ◌∷◌, ◌++◌, length, sym}
 use Rattle.std.proofs.Common.{ap, ◌∙◌}
-use Rattle.std.proofs.Common.{Option, Some, None}
-use Rattle.std.specs.Option.{is_some, option_map, option_map_or}
-use Rattle.vme_trace.specs.Levels.{Levels, is_idle}
+use Rattle.std.proofs.Common.{Option}
+use Rattle.std.specs.Option.{option_map}
+use Rattle.vme_trace.specs.Levels.{Levels}
 use Rattle.vme_trace.specs.Trace.{changed, levels_after}
 use Rattle.vme_trace.specs.declared.step.Change.{Change}
 use Rattle.vme_trace.specs.declared.step.Step.{Step}
 use Rattle.vme_trace.specs.declared.verdict.Break.{Break}
 use Rattle.vme_monitor.specs.Outcome.{Outcome, earlier}
-use Rattle.vme_trace.specs.Changes.{touches_control}
-use Rattle.vme_monitor.specs.Ends.{end_among}
-use Rattle.vme_monitor.specs.OverStretches.{observed, phase_step}
-use Rattle.vme_monitor.specs.Run.{break_of_fault, no_step_marks, machine_step, quiet, run_of}
+use Rattle.vme_monitor.specs.Run.{break_of_fault, run_of}
 use Rattle.vme_monitor.specs.Runs.{run_more}
 use Rattle.vme_monitor.specs.StepRuns.{seen_in}
-use Rattle.vme_monitor.specs.WithoutMarks.{unmarked_next}
 use Rattle.vme_monitor.specs.declared.mark.Fault.{Fault}
 use Rattle.vme_monitor.specs.declared.mark.Next.{Next}
-use Rattle.vme_monitor.specs.declared.mark.StepMarks.{StepMarks}
-use Rattle.vme_monitor.specs.declared.over_stretches.StretchObservation.{StretchObservation}
-use Rattle.vme_monitor.specs.declared.over_stretches.StretchPhase.{StretchPhase}
-use Rattle.vme_monitor.specs.declared.over_stretches.StretchPhase.TheVariants.{Ended, InStretch, Reset, Waiting}
-use Rattle.vme_monitor.specs.declared.view.End.{End}
 use Rattle.vme_monitor.specs.declared.view.End.TheVariants as end
 use Rattle.vme_monitor.specs.declared.view.StepView.{StepView}
 use Rattle.vme_summary.specs.Progressed.{HasMonitorState}

@@ -1,4 +1,4 @@
-use Rattle.std.proofs.Common.{ℕ, ◌++◌, drop, take}
+use Rattle.std.proofs.Common.{◌++◌, drop, take}
 use Rattle.std.proofs.lemmas.Result.{IfOk-weaker}
 use Rattle.vcd_read.specs.Reading.{line_behind}
 use Rattle.vcd_read.specs.Tokens.{tokens_from}

@@ -1,8 +1,7 @@
-use Rattle.std.proofs.Common.{◌≡◌, List, length, sym, ap, subst, arith, true, false}
+use Rattle.std.proofs.Common.{◌≡◌, length, sym, ap, arith, true, false}
 use Rattle.std.proofs.lemmas.List.{length_push}
 use Rattle.vme_trace.specs.Levels.{same_level, level_at}
-use Rattle.vme_trace.specs.declared.step.Change.{Change}
-use Rattle.vme_bind.proofs.RecorderLemmas.{AreShown, differs-here, shown-all, shown-changes, shown-first, shown-more}
+use Rattle.vme_bind.proofs.RecorderLemmas.{shown-all, shown-changes, shown-first, shown-more}
 use Rattle.vme_bind.proofs.RecorderLemmas.{line-exists, shown-same, shown-within}
 use Rattle.vme_bind.proofs.recorder.show.Goals as goal
 use Rattle.vme_bind.proofs.recorder.show.Goals.{in-Some+then-not-is_same_on, in-Some+else-not-is_same_on, in_default}

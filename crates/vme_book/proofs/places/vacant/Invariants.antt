@@ -1,4 +1,4 @@
-use Rattle.std.proofs.Common.{◌≡◌, ◌+◌, ◌≤◌, replicate, None, vec_capacity, vec_len}
+use Rattle.std.proofs.Common.{◌≡◌, ◌≤◌, replicate, None, vec_capacity}
 use Rattle.vme_book.proofs.places.vacant.Given as goal
 
 abbrev pub invariant-loop : goal.invariant-loop

@@ -1,5 +1,5 @@
 -- The steps of the blocks, one block after the other.
-use Rattle.std.proofs.Common.{rules, ◌≡◌, ℕ, ◌+◌, ◌<◌, ◌≤◌, List, [], ◌∷◌, ◌++◌, length, length-append, map, get_or}
+use Rattle.std.proofs.Common.{◌≡◌, ◌+◌, ◌≤◌, List, [], ◌∷◌, ◌++◌, length, length-append, map}
 use Rattle.std.proofs.Common.{append-nil, arith, refl, sym, ◌∙◌, ap, subst, Option, None, Some}
 use Rattle.std.specs.Vec.Iter.{into_iter_items}
 use Rattle.std.proofs.lemmas.Option.{none-some}
@@ -7,7 +7,6 @@ use Rattle.vme_trace.specs.Blocks.{joined_steps}
 use Rattle.vme_trace.specs.declared.block.Block.{Block}
 use Rattle.vme_trace.specs.declared.step.Step.{Step}
 use Rattle.vme_summary.proofs.Whole.{joined_sound}
-use Rattle.vme_book.specs.Inserted.{stored}
 use Rattle.vme_book.proofs.Prefixes.{all_there, as_many, few_steps, found_at, next_of, next_part, read_at, trace_is}
 use Rattle.vme_book.proofs.recording.recording.Goals as goal
 

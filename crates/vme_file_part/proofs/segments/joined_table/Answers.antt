@@ -1,4 +1,4 @@
-use Rattle.std.proofs.Common.{ap, map, length, arith}
+use Rattle.std.proofs.Common.{arith}
 use Rattle.std.proofs.lemmas.List.{length-map}
 use Rattle.vme_part_format.specs.Tables.{node_value, table_value}
 use Rattle.vme_parts.proofs.Halves.{can_compose}

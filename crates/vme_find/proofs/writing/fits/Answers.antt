@@ -1,4 +1,3 @@
-use Rattle.std.proofs.Common.{◌∙◌, sym}
 use Rattle.vme_declarations.specs.Surveys.{variables_in}
 use Rattle.vme_find.proofs.RecordingLemmas.{records-surveyed}
 use Rattle.vme_find.proofs.writing.fits.Goals.{else-is_found, then-is_found}

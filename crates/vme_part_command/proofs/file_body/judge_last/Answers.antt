@@ -1,5 +1,4 @@
 -- The last steps are judged, or the dump has a fault.
-use Rattle.std.proofs.Common.{Some, ap, ◌∙◌}
 use Rattle.vme_trace.specs.Followed.{with_steps}
 use Rattle.vme_step_reader.specs.StepReading.{whole_reading}
 use Rattle.vme_dump_input.proofs.BodyLemmas.{stops-fault}

@@ -1,6 +1,5 @@
 -- The steps of a piece are judged, or the body isn't read on.
 use Rattle.std.proofs.Common.{◌≡◌, ◌≤◌, ℕ, List, ◌++◌, Some, ap, length, subst, sym, take, ◌∙◌}
-use Rattle.std.specs.Prelude.{None}
 use Rattle.vcd_read.specs.declared.fault.VcdFault.{VcdFault}
 use Rattle.vme_trace.specs.Followed.{with_steps}
 use Rattle.vme_trace.specs.Trace.{Trace}

@@ -1,5 +1,5 @@
 use Rattle.std.proofs.Common.{subst}
-use Rattle.std.specs.Prelude.{Option, Some}
+use Rattle.std.specs.Prelude.{Option}
 use Rattle.vme_file_part.specs.declared.file_so_far.FileSoFar.{FileSoFar}
 use Rattle.vme_part_command.specs.FileChecks.{IsFoundSoFar}
 use Rattle.vme_part_command.proofs.file_check.gone_on.Goals as goal

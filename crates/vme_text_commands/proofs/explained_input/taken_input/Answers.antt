@@ -1,6 +1,6 @@
-use Rattle.std.proofs.Common.{◌≡◌, ◌∙◌, Ok, Result, subst, sym}
+use Rattle.std.proofs.Common.{◌∙◌, Result, subst, sym}
 use Rattle.vme_stream.proofs.AnswerLemmas.{recording_by-fails, recording_by-text}
-use Rattle.vme_bind.specs.TextCapture.{CaptureFailsBy, recording_of_text}
+use Rattle.vme_bind.specs.TextCapture.{CaptureFailsBy}
 use Rattle.vme_bind.specs.declared.fault.CaptureFault.{CaptureFault}
 use Rattle.vme_bind.proofs.TextCaptureLemmas.{recorded-formed}
 use Rattle.vme_trace.specs.Trace.{Trace}

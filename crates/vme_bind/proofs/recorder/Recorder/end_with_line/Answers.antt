@@ -1,6 +1,6 @@
-use Rattle.std.proofs.Common.{◌≡◌, ◌∷◌, [], refl, sym, ap, subst, ◌∙◌, true, false, rules}
+use Rattle.std.proofs.Common.{◌≡◌, ◌∷◌, [], refl, sym, ap, ◌∙◌, true, false, rules}
 use Rattle.vme_trace.specs.Levels.{level_at, same_level, set_level}
-use Rattle.vme_bind.specs.Recording.{DifferWithin, change_to}
+use Rattle.vme_bind.specs.Recording.{change_to}
 use Rattle.vme_bind.proofs.RecorderLemmas.{reset_exists, within-none}
 use Rattle.vme_bind.proofs.EndLemmas.{line-shown, line-ended, line-step, line-none}
 use Rattle.vme_bind.proofs.recorder.Recorder.end_with_line.Goals as goal

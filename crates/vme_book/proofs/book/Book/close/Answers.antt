@@ -1,10 +1,10 @@
 -- Not all join, or all do.
-use Rattle.std.proofs.Common.{◌≡◌, ℕ, ◌<◌, ◌≤◌, List, [], ◌∷◌, length, map, get_or, arith, refl, sym, ◌∙◌, ap, subst}
-use Rattle.std.proofs.Common.{Option, None, Some}
+use Rattle.std.proofs.Common.{◌≡◌, ◌<◌, List, length, map, arith, sym, ◌∙◌, ap, subst}
+use Rattle.std.proofs.Common.{Option, Some}
 use Rattle.std.specs.Global.{Vec}
 use Rattle.vme_trace.specs.declared.block.Block.{Block}
 use Rattle.vme_summary.specs.Stands.{SpanStandsFor}
-use Rattle.vme_book.specs.Inserted.{IsLeastTorn, stored}
+use Rattle.vme_book.specs.Inserted.{IsLeastTorn}
 use Rattle.vme_book.specs.BookState.{StandsForSome}
 use Rattle.vme_book.proofs.Prefixes.{all_of, least_torn, no_longer, same_front, settled, starts_at_zero, there_all}
 use Rattle.vme_book.proofs.book.Book.close.Goals as goal

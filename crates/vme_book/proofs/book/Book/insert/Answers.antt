@@ -1,6 +1,6 @@
 -- The block is placed, and judging goes on.
-use Rattle.std.proofs.Common.{◌≡◌, ℕ, ◌<◌, ◌≤◌, List, [], ◌∷◌, length, get_or, arith, set, sym, ◌∙◌, ap, subst, Option}
-use Rattle.std.proofs.Common.{None, Some}
+use Rattle.std.proofs.Common.{◌≡◌, ◌<◌, ◌≤◌, List, [], ◌∷◌, length, arith, set, sym, ◌∙◌, ap, subst, Option}
+use Rattle.std.proofs.Common.{Some}
 use Rattle.vme_trace.specs.declared.block.Block.{Block}
 use Rattle.vme_summary.specs.Stands.{SpanStandsFor}
 use Rattle.vme_book.specs.Inserted.{stored}

@@ -1,8 +1,7 @@
 -- Judging has come past the longest list of blocks that join.
-use Rattle.std.proofs.Common.{◌≡◌, List, [], ◌∙◌, sym, ap, subst, Option, None, Some, length}
+use Rattle.std.proofs.Common.{◌≡◌, [], sym, ap, subst}
 use Rattle.std.specs.Option.{option_map}
 use Rattle.vme_trace.specs.Verdict.{rules_in_force, verdict_by}
-use Rattle.vme_trace.specs.declared.block.Block.{Block}
 use Rattle.vme_summary.specs.Joins.{joined_trace}
 use Rattle.vme_summary.specs.Progressed.{HasCome}
 use Rattle.vme_book.specs.Inserted.{IsLongestPrefix}

@@ -1,13 +1,11 @@
 -- The next block has a span of its own, and it joins.
-use Rattle.std.proofs.Common.{rules, arith, ◌≡◌, ℕ, ◌+◌, ◌<◌, ◌≤◌, List, [], ◌∷◌, ◌++◌, length, length-append, None}
-use Rattle.std.proofs.Common.{Some, refl, sym, ◌∙◌, ap, subst, get_or, set, Option}
-use Rattle.vme_trace.specs.declared.block.Block.{Block}
-use Rattle.vme_summary.specs.Joins.{BlocksJoin}
+use Rattle.std.proofs.Common.{arith, ◌≡◌, ℕ, ◌+◌, [], ◌∷◌, ◌++◌, length, length-append}
+use Rattle.std.proofs.Common.{Some, sym, ◌∙◌, ap, subst, set, Option}
 use Rattle.vme_summary.specs.Stands.{SpanStandsFor}
 use Rattle.vme_summary.specs.declared.span.Span.{Span}
 use Rattle.vme_summary.proofs.Progressing.{span_steps}
 use Rattle.vme_book.specs.Inserted.{stored}
-use Rattle.vme_book.specs.BookState.{AreJoinedTo, HaveSpans, StandsForSome}
+use Rattle.vme_book.specs.BookState.{HaveSpans, StandsForSome}
 use Rattle.vme_book.proofs.Prefixes.{joined_after, next_of, no_span, one_more, own_span, found_at, put_back}
 use Rattle.vme_book.proofs.Prefixes.{shorter_joins, spans_after, steps_fit, within_places}
 use Rattle.vme_book.proofs.joined.JoinedPrefix.go_on.Goals as goal

@@ -1,14 +1,14 @@
 -- One block more.
-use Rattle.std.proofs.Common.{rules, arith, ◌≡◌, ℕ, ◌+◌, ◌<◌, ◌≤◌, List, [], ◌∷◌, ◌++◌, length, length-append, map}
-use Rattle.std.proofs.Common.{take, get_or, Option, None, Some, IfSome, refl, sym, ◌∙◌, ap, subst}
+use Rattle.std.proofs.Common.{arith, ◌≡◌, ℕ, ◌+◌, List, [], ◌∷◌, ◌++◌, length}
+use Rattle.std.proofs.Common.{Option, Some, IfSome, sym, ◌∙◌, ap, subst}
 use Rattle.std.proofs.lemmas.Option.{same_Some}
 use Rattle.vme_trace.specs.declared.block.Block.{Block}
-use Rattle.vme_summary.specs.Progressed.{HasCome, judged_steps}
+use Rattle.vme_summary.specs.Progressed.{HasCome}
 use Rattle.vme_summary.specs.Stands.{SpanStandsFor}
 use Rattle.vme_summary.specs.declared.running_verdict.RunningVerdict.{RunningVerdict}
 use Rattle.vme_summary.proofs.Progressing.{come_steps, span_steps}
 use Rattle.vme_book.specs.Inserted.{stored}
-use Rattle.vme_book.specs.BookState.{ComeTo, IsPast}
+use Rattle.vme_book.specs.BookState.{ComeTo}
 use Rattle.vme_book.proofs.Prefixes.{found_at, own_span, past_one_more, read_at, some_of, steps_fit}
 use Rattle.vme_book.proofs.places.BookSlots.judged_on.Goals.{in-None, in-Some-progress}
 use Rattle.vme_book.proofs.places.BookSlots.judged_on.Goals as goal

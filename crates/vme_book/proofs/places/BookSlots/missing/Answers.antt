@@ -1,5 +1,5 @@
 -- A block stands here, and at each number before.
-use Rattle.std.proofs.Common.{◌≡◌, ℕ, ◌<◌, Some, arith, below_more, ◌∙◌, sym, ap, get_or, None}
+use Rattle.std.proofs.Common.{◌≡◌, Some, below_more, ◌∙◌, sym, ap, get_or, None}
 use Rattle.vme_trace.specs.declared.block.Block.{Block}
 use Rattle.vme_book.specs.Inserted.{stored}
 use Rattle.vme_book.proofs.Prefixes.{found_at, some_of}

@@ -1,5 +1,5 @@
 use Rattle.std.proofs.Common.{◌∙◌, ℕ, ap, false}
-use Rattle.vcd_read.specs.Reached.{Reached, reached}
+use Rattle.vcd_read.specs.Reached.{reached}
 use Rattle.vcd_read.specs.BodyFold.{BodyFold}
 use Rattle.vme_declarations.specs.declared.levels_seen.LevelsSeen.{LevelsSeen}
 use Rattle.vme_declarations.proofs.SurveyLemmas.{IsBegun, begun-fails, begun-read, front-fails}

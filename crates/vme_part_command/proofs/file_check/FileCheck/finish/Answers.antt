@@ -1,5 +1,5 @@
 -- All steps are counted and judged.
-use Rattle.std.proofs.Common.{Option, Some, ap, subst, arith, length-append}
+use Rattle.std.proofs.Common.{Option, ap, subst, arith}
 use Rattle.vme_stream.specs.Answers.{or_bad_binding}
 use Rattle.vme_trace.specs.Followed.{with_steps}
 use Rattle.vme_file_part.specs.declared.file_so_far.FileSoFar.{FileSoFar}

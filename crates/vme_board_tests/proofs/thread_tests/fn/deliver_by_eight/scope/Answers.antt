@@ -1,4 +1,4 @@
-use Rattle.std.proofs.Common.{rules, arith, ◌+◌, ◌∙◌}
+use Rattle.std.proofs.Common.{rules, ◌+◌}
 use Rattle.vme_board_tests.proofs.thread_tests.fn.deliver_by_eight.scope.Goals as goal
 
 pub loop-handle-preserved : goal.loop-handle-preserved
