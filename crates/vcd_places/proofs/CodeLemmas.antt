@@ -1,4 +1,4 @@
--- One more of the codes that are found.
+-- One more code is added to the unused codes that are found.
 use Rattle.std.proofs.Common.{◌≡◌, ℕ, ◌+◌, ◌<◌, List, [], ◌∷◌, ◌++◌, length, get_or, sym, subst, arith, inl, inr}
 use Rattle.std.proofs.Common.{map}
 use Rattle.std.specs.Prelude.{All}
@@ -31,12 +31,13 @@ increasing_push xs y increasing below k lt =
 weaker : (xs : List ℕ) (n : ℕ) → All (λ (k : ℕ). k < n) xs → All (λ (k : ℕ). k < n + 1) xs
 weaker xs n below k d lt = omega (arith, below k d lt)
 
--- codes of a text, in the order of their numbers, all below this
+-- codes that `text` doesn't use, in the order of their numbers, all below `number`
 pub record AreFound (text : List ℕ) (found : List (Vec ℕ)) (number : ℕ) : Type 0 where
   pub each : All (λ (code : Vec ℕ). IsUnused text (code_number code.items) code.items) found
   pub ascend : IsStrictlyIncreasing (map number_of found)
   pub below : All (λ (n : ℕ). n < number) (map number_of found)
 
+-- the code of `number` isn't added
 pub found_none : (text : List ℕ) (found : List (Vec ℕ)) (number : ℕ) → AreFound text found number
     → AreFound text found (number + 1)
 found_none text found number are = record {
@@ -45,6 +46,7 @@ found_none text found number are = record {
   below = weaker (map number_of found) number are.below;
 }
 
+-- the code of `number`, which `text` doesn't use, is added
 pub found_more : (text : List ℕ) (found : List (Vec ℕ)) (number : ℕ) (code : Vec ℕ) → AreFound text found number
     → IsUnused text number code.items → AreFound text (found ++ code ∷ []) (number + 1)
 found_more text found number code are one =

@@ -61,7 +61,7 @@ times_none = refl
 
 -- ---- whole items
 
--- these tokens are whole items, and these are the times that they tell
+-- the tokens `ts` are whole items, and `times` are their times below 2^64
 pub record IsItem (ts : List Token) (times : List ℕ) : Type 0 where
   pub whole : AreWholeItems ts
   pub told : times_told (body_from ready ts) ≡ times
@@ -92,7 +92,7 @@ comment_shaped end_shape e = absurd cc
 comment_shaped none e = absurd cc
 
 module _ (t : Token) where
-  -- a time
+  -- a token that is a time is read as a time item
   time_read : (digits : List ℕ) → kind_of (shape_of t.bytes) ≡ tells digits → (ts : List Token)
       → body_from ready (t ∷ ts) ≡ time_item t.line digits ∷ body_from ready ts
   time_read digits is ts = shape_read t ts (time_shape digits) (sym (time_shaped (shape_of t.bytes) digits is))
@@ -106,7 +106,7 @@ module _ (t : Token) where
     told = ap times_told (time_read digits is []);
   }
 
-  -- a token alone
+  -- the token `t` alone is `item`, which isn't a time
   record IsSingle (item : BodyItem) : Type 0 where
     told : time_told item ≡ None
     read : (ts : List Token) → body_from ready (t ∷ ts) ≡ item ∷ body_from ready ts
@@ -140,7 +140,7 @@ module _ (t : Token) where
         told = ap times_told (one.1.read []) ∙ ap (λ (o : Option ℕ). cons_option o []) one.1.told;
       }
 
-  -- a token and its code
+  -- the token `t` and the next one, its code, are an item without a time; `t` alone gives no time either (`alone`)
   record IsNamed : Type 0 where
     item : List ℕ → BodyItem
     told : (code : List ℕ) → time_told (item code) ≡ None
@@ -181,7 +181,7 @@ module _ (t : Token) where
   pub named_alone : kind_of (shape_of t.bytes) ≡ named → times_told (body_from ready (t ∷ [])) ≡ []
   named_alone is = (named_read (shape_of t.bytes) refl is).alone
 
-  -- a comment
+  -- after `$comment`, the tokens `ts` are read as those of a comment
   comment_read : kind_of (shape_of t.bytes) ≡ remark → (ts : List Token)
       → body_from ready (t ∷ ts) ≡ body_from (in_comment t.line) ts
   comment_read is ts = shape_read t ts comment (sym (comment_shaped (shape_of t.bytes) is))
@@ -190,13 +190,14 @@ not_either : (a b : Bool) → (a || b) ≡ false → (a ≡ false) × (b ≡ fal
 not_either true b e = absurd (true≢false e)
 not_either false b e = (refl, e)
 
--- behind a token of a comment
+-- the items from a token of a comment on, where `test` is whether it is `$end`, and `ts` are the tokens after it
 abbrev commented : ℕ → List Token → Bool → List BodyItem
 commented line ts test = elim test as (λ _. List BodyItem) [
   | true ↦ body_from ready ts
   | false ↦ body_from (in_comment line) ts
 ]
 
+-- a comment ends at the first `$end`, and items follow
 past_words : (line : ℕ) (words : List Token) (last : Token) (more : List Token) → list_any ends_section words ≡ false
     → is_end last.bytes ≡ true → body_from (in_comment line) (words ++ last ∷ more) ≡ body_from ready more
 unfolding body_from
@@ -205,6 +206,7 @@ past_words line (w ∷ words) last more none_ends ends =
     let parts = not_either (is_end w.bytes) (list_any ends_section words) none_ends in
     ap (commented line (words ++ last ∷ more)) parts.0 ∙ past_words line words last more parts.1 ends
 
+-- a comment without `$end` gives no times
 endless : (line : ℕ) (words : List Token) → list_any ends_section words ≡ false
     → times_told (body_from (in_comment line) words) ≡ []
 unfolding body_from times_told
@@ -231,7 +233,7 @@ comment_alone t words is none_ends = ap times_told (comment_read t is words) ∙
 
 -- ---- an item is taken
 
--- these tokens are taken from a place on, up to another
+-- the tokens of `text` from `at` up to `next` are `ts`
 pub record AreTaken (text : List ℕ) (at next : ℕ) (ts : List Token) : Type 0 where
   pub within : next ≤ length text
   pub detached : begins_apart (drop next text) ≡ true
@@ -333,15 +335,17 @@ at_time text at next bytes digits time b one is e =
           ∙ last_behind (body_from ready b.body) 0 t.line digits ∙ time_number digits time e;
     }
 
+-- a time token below 2^64 is an item with this time
 pub timed : (t : Token) (digits : List ℕ) (time : ℕ) → kind_of (shape_of t.bytes) ≡ tells digits
     → if_time (time_of digits) ≡ Some time → IsItem (t ∷ []) (time ∷ [])
 timed t digits time is e = subst (λ (o : Option ℕ). IsItem (t ∷ []) (cons_option o [])) e (time_is_item t digits is)
 
+-- a time token whose digits aren't a number below 2^64 is an item without a time
 pub untimed : (t : Token) (digits : List ℕ) → kind_of (shape_of t.bytes) ≡ tells digits
     → if_time (time_of digits) ≡ None → IsItem (t ∷ []) []
 untimed t digits is e = subst (λ (o : Option ℕ). IsItem (t ∷ []) (cons_option o [])) e (time_is_item t digits is)
 
--- an item that tells no time is passed
+-- after an item without a time, `next` is between two items, and the same times are left
 pub passed : (text : List ℕ) (at next : ℕ) (ts : List Token) → IsBetweenItems text at → AreTaken text at next ts
     → IsItem ts []
     → IsBetweenItems text next
@@ -349,7 +353,7 @@ pub passed : (text : List ℕ) (at next : ℕ) (ts : List Token) → IsBetweenIt
 passed text at next ts b taken item =
     (between_next text at next ts [] b taken item, sym (times_next text at next ts [] b taken item))
 
--- ---- nothing more is told
+-- ---- no time is left
 
 pub if_none : {A : Type 0} (o : Option A) (P : Type 0) → P → IfNone o P
 if_none None P p = p

@@ -1,4 +1,4 @@
--- A net more, of a code that no variable has: what is read of a body without a fault stays.
+-- One more net, of a code that no variable has: what is read of a body without a fault stays the same.
 use Rattle.std.proofs.Common.{◌≡◌, ℕ, zero, suc, ◌+◌, ◌<◌, ◌≤◌, Bool, true, false, cond, eqb, ltb, not, List, [], ◌∷◌}
 use Rattle.std.proofs.Common.{◌++◌}
 use Rattle.std.proofs.Common.{Option, Some, None, Result, Ok, Err, refl, sym, ap, subst, ◌∙◌, arith, length, zero-add}
@@ -52,7 +52,7 @@ kept_or_new true false k n o before e is h = is
 kept_or_new false true k n o before e is h = is
 kept_or_new false false k n o before e is h = is ∙ sym e
 
--- the net of a code, where one more is declared
+-- the net of each code after a net for `code` is added: for `code` the new one, for others the same as before
 pub net_of-push : (nets : List Net) (code : List ℕ) (size : ℕ) → net_of nets code ≡ None → (other : List ℕ)
     → net_of (nets ++ record { code = code; size = size } ∷ []) other ≡ update bytes_eq (net_of nets) code
     (Some (length nets)) other
@@ -97,7 +97,7 @@ none_more {Y = Y} h xs x none =
     ∙ ap (λ (o : Option Y). filter_map h xs ++ cons_option o []) none
     ∙ append-nil (filter_map h xs)
 
--- a net without a value is none of the values
+-- if the net `count` has no value at `t`, the values of the first `count` + 1 nets are those of the first `count`
 values_stay : (t count : ℕ) (changes : List NetChange) → value_at t changes count ≡ None
     → values_at (suc count) t changes ≡ values_at count t changes
 values_stay t count changes none =
@@ -105,7 +105,7 @@ values_stay t count changes none =
     (zero-add count))
     ∙ none_more (value_at t changes) (range_with_len 0 count) count none
 
--- ---- a net more
+-- ---- one more net
 
 module _ (nets : List Net) (code : List ℕ) (size : ℕ) (none : net_of nets code ≡ None) where
   abbrev pub added : Net
@@ -145,7 +145,7 @@ module _ (nets : List Net) (code : List ℕ) (size : ℕ) (none : net_of nets co
   has_net digits line None s next e = absurd cc
   has_net digits line (Some net) s next e = (net, refl)
 
-  -- an item that is read without a fault is read so
+  -- an item that is read without a fault by `nets` gives the same by `all`
   item_stays : (s next : BodyContext) (item : BodyItem) → context_after nets s item ≡ Ok next
       → context_after all s item ≡ Ok next
   item_stays s next (time_item line digits) e = e
@@ -161,7 +161,7 @@ module _ (nets : List Net) (code : List ℕ) (size : ℕ) (none : net_of nets co
   item_stays s next (dump_section_end line) e = e
   item_stays s next (wrong line kind) e = absurd cc
 
-  -- items without a fault: the first is read, and then the others
+  -- if `r >>= f` is without a fault, so is `r`, and `f` of its value
   first_read : (r : Result BodyContext VcdFault) (f : BodyContext → Result BodyContext VcdFault)
       (end : BodyContext) → (r >>= f) ≡ Ok end → (next : BodyContext) × (r ≡ Ok next) × (f next ≡ Ok end)
   first_read (Ok next) f end e = (next, refl, e)
@@ -280,7 +280,7 @@ module _ (nets : List Net) (code : List ℕ) (size : ℕ) (none : net_of nets co
       ∙ ap (λ (n : ℕ). instant_at n changes t) (length_push nets added ∙ add-one-is (length nets))
       ∙ ap (λ (vs : List Value). record { time = t; values = vs }) (values_stay t (length nets) changes none)
 
-  -- what comes of a body without a fault stays
+  -- a body that is read without a fault by `nets` gives the same instants by `all`
   pub instants_stay : (items : List BodyItem) (instants : List Instant) → instants_in nets items ≡ Ok instants
       → instants_in all items ≡ Ok instants
   instants_stay items instants e = go (context_after_all nets first_context items) refl e
@@ -304,14 +304,14 @@ both_ways : (same : Bool) (own found : Option ℕ) → same ≡ true → cond sa
 both_ways true own found is = refl
 both_ways false own found is = absurd (true≢false (sym is))
 
--- a code that none has is found where it is added
+-- if no net has `code`, a net that is added for it is the net of `code`
 pub net_of_added : (nets : List Net) (code : List ℕ) (size : ℕ) → net_of nets code ≡ None
     → net_of (nets ++ record { code = code; size = size } ∷ []) code ≡ Some (length nets)
 net_of_added nets code size none =
     net_of-push nets code size none code
     ∙ both_ways (bytes_eq code code) (Some (length nets)) (net_of nets code) ((bytes_eq-Decides code code).1 refl)
 
--- and another one that none has is still free
+-- another code that no net has still has none after a net for `code` is added
 pub still_free : (nets : List Net) (code : List ℕ) (size : ℕ) (other : List ℕ) → net_of nets code ≡ None
     → bytes_eq code other ≡ false → net_of nets other ≡ None
     → net_of (nets ++ record { code = code; size = size } ∷ []) other ≡ None

@@ -17,7 +17,7 @@ use Rattle.vcd_places.specs.Places.{begins_apart, ends_apart}
 use Rattle.vcd_places.specs.NextTokens.{IsNextToken, IsTakenToEnd, StandsAt, ends_section, is_seam}
 use Rattle.vcd_places.proofs.PutInLemmas.{tokens_apart, tokens_spaced}
 
--- ---- seams
+-- ---- token boundaries
 
 both_true : (a b : Bool) → (a && b) ≡ true → (a ≡ true) × (b ≡ true)
 both_true true b e = (refl, e)
@@ -40,7 +40,7 @@ seam_from text at within detached =
     ap (λ (test : Bool). test && (eqb at 0 || begins_apart (drop at text))) (le-leb at (length text) within)
     ∙ ap (λ (test : Bool). eqb at 0 || test) detached ∙ second_true (eqb at 0)
 
--- at a place behind which no token goes on
+-- if white space or the end follows `at`, the tokens are those before `at`, and then those from `at` on
 pub tokens_detached : (text : List ℕ) (at : ℕ) → begins_apart (drop at text) ≡ true
     → tokens text ≡ tokens (take at text) ++ left_from 1 text at
 tokens_detached text at detached =
@@ -141,7 +141,7 @@ module _ (text : List ℕ) (at start end : ℕ) (seam : is_seam text at ≡ true
         ∙ sym (append_assoc (tokens (take at text)) (token ∷ []) (left_from 1 text end)));
   }
 
-  -- ---- where it stands
+  -- ---- where the token is
 
   count : length bytes ≡ end - start
   count = omega (arith, length-take (end - start) (drop start text), length-drop start text, some, high)
@@ -194,13 +194,13 @@ module _ (text : List ℕ) (at start end : ℕ) (seam : is_seam text at ≡ true
     some = omega (arith, count, some);
   }
 
--- nothing is left where only spaces stand
+-- if only white space follows `at`, no token is left
 pub nothing_left : (text : List ℕ) (at start : ℕ) → at ≤ start → start ≡ length text
     → ((k : ℕ) → at ≤ k → k < start → is_space (get_or text k 0) ≡ true) → left_from 1 text at ≡ []
 nothing_left text at start le is spaces =
     sym (spaces_skipped text at start le (omega (arith, is)) spaces) ∙ left_end 1 text start (omega (arith, is))
 
--- a place before a space, or at the end, is behind the word before it
+-- a word that begins at `start` ends after `start`
 pub word_some : (text : List ℕ) (start end : ℕ) → start < length text → start ≤ end
     → is_space (get_or text start 0) ≡ false → (end < length text → is_space (get_or text end 0) ≡ true) → start < end
 word_some text start end lt le first space =
@@ -212,9 +212,9 @@ word_some text start end lt le first space =
           ∙ ap (λ (k : ℕ). is_space (get_or text k 0)) e ∙ first))
     ]
 
--- ---- tokens up to an end
+-- ---- tokens up to `$end`
 
--- these tokens are taken, and none is an end
+-- the tokens from `at` up to `next` are taken, and none of them is `$end`
 pub record IsTakenSoFar (text : List ℕ) (at next : ℕ) : Type 0 where
   pub words : List Token
   pub none : list_any ends_section words ≡ false
@@ -235,6 +235,7 @@ neither : (a b : Bool) → a ≡ false → b ≡ false → (a || b) ≡ false
 neither true b first second = absurd (true≢false first)
 neither false b first second = second
 
+-- the next token isn't `$end`, and is taken
 pub so_far_more : (text : List ℕ) (at mid next : ℕ) (bytes : List ℕ) → IsTakenSoFar text at mid
     → IsNextToken text mid next bytes → is_end bytes ≡ false → IsTakenSoFar text at next
 so_far_more text at mid next bytes so one no_end =
@@ -251,6 +252,7 @@ so_far_more text at mid next bytes so one no_end =
           ∙ append_assoc (tokens (take at text)) so.words (token ∷ []);
     }
 
+-- the next token is `$end`, and is taken
 pub to_end : (text : List ℕ) (at mid next : ℕ) (bytes : List ℕ) → IsTakenSoFar text at mid
     → IsNextToken text mid next bytes → is_end bytes ≡ true → IsTakenToEnd text at next
 to_end text at mid next bytes so one is =
@@ -279,12 +281,14 @@ pub none_at_start : (p : Token → Bool) (text : List ℕ) → list_any p (token
 unfolding cut_from
 none_at_start p text = refl
 
+-- if `p` holds of no token before `at`, and no token is left, `p` holds of no token of the text
 pub none_of_all : (p : Token → Bool) (text : List ℕ) (at : ℕ) → is_seam text at ≡ true
     → list_any p (tokens (take at text)) ≡ false → left_from 1 text at ≡ [] → list_any p (tokens text) ≡ false
 none_of_all p text at seam none left =
     ap (list_any p) (tokens_at_seam text at seam ∙ ap (λ (ts : List Token). tokens (take at text) ++ ts) left
     ∙ append-nil (tokens (take at text))) ∙ none
 
+-- if `p` holds neither of a token before `at` nor of the next one, it holds of no token before `next`
 pub none_of_next : (p : Token → Bool) (text : List ℕ) (at next : ℕ) (bytes : List ℕ)
     (one : IsNextToken text at next bytes)
     → list_any p (tokens (take at text)) ≡ false → p (record { line = one.line; bytes = bytes }) ≡ false

@@ -1,4 +1,4 @@
--- A text with tokens put in between: it reads as the text, with these tokens in between.
+-- A text with an insertion: it is read as the text, with the inserted tokens in between.
 use Rattle.std.proofs.Common.{◌≡◌, ℕ, ◌+◌, Bool, true, false, cond, eqb, List, [], ◌∷◌, ◌++◌}
 use Rattle.std.proofs.Common.{refl, sym, ap, ◌∙◌, arith, append_assoc, true≢false, zero-add}
 use Rattle.std.specs.Prelude.{Option, Some, Result, Ok, Err, not, ◌&&◌, ◌||◌, flat_map, is_some, map, unwrap_or}
@@ -18,11 +18,11 @@ use Rattle.vcd_places.specs.Places.{begins_apart, ends_apart, is_unfinished}
 
 -- ---- the tokens
 
--- a cut with more tokens behind
+-- `cut` with the tokens `more` after it
 abbrev behind : Cut → List Token → Cut
 behind cut more = record { run = cut.run; others = cut.others ++ more }
 
--- what stands behind a space
+-- the cut of a text that begins with white space: no run, and `tokens`
 abbrev spaced : List Token → Cut
 spaced tokens = record { run = []; others = tokens }
 
@@ -48,7 +48,7 @@ line_behind-cons line b bytes =
     one_more (eqb b 10) (count_by (λ (x : ℕ). eqb x 10) (b ∷ bytes)) (count_by (λ (x : ℕ). eqb x 10) bytes) line
     (sum_by-cons (λ (x : ℕ). cond (eqb x 10) 1 0) b bytes)
 
--- what begins with a space, or is empty, is cut at its beginning
+-- the cut of a text that is empty or begins with white space has no run
 spaced_cut : (line : ℕ) (rest : List ℕ) → begins_apart rest ≡ true → cut_from line rest ≡ spaced (tokens_from line rest)
 unfolding cut_from
 spaced_cut line [] e = refl
@@ -66,7 +66,7 @@ cut_apart (b ∷ front) rest line e =
     ∙ ap (λ (l : ℕ). behind (with_byte line b (cut_from (next_line line b) front)) (tokens_from l rest))
     (sym (line_behind-cons line b front))
 
--- the tokens of a text are those up to a place at which no token goes on, and those from there on
+-- if `rest` is empty or begins with white space, the tokens of `front ++ rest` are those of `front` and then of `rest`
 pub tokens_apart : (front rest : List ℕ) (line : ℕ) → begins_apart rest ≡ true
     → tokens_from line (front ++ rest) ≡ tokens_from line front ++ tokens_from (line_behind line front) rest
 tokens_apart front rest line e =
@@ -89,7 +89,7 @@ cut_spaced b (c ∷ front) rest line e =
     ∙ ap (λ (l : ℕ). behind (with_byte line b (cut_from (next_line line b) (c ∷ front))) (tokens_from l rest))
     (sym (line_behind-cons line b (c ∷ front)))
 
--- the same behind a space
+-- if `front` is empty or ends with white space, the tokens of `front ++ rest` are those of `front` and then of `rest`
 pub tokens_spaced : (front rest : List ℕ) (line : ℕ) → ends_apart front ≡ true
     → tokens_from line (front ++ rest) ≡ tokens_from line front ++ tokens_from (line_behind line front) rest
 unfolding cut_from
@@ -101,16 +101,17 @@ tokens_spaced (b ∷ front) rest line e =
 
 -- ---- the definitions
 
--- items before those of a header
+-- `header` with `items` before its own
 abbrev pub behind_items : List HeaderItem → Header → Header
 behind_items items header = record { items = items ++ header.items; body = header.body }
 
--- the definitions go on behind these tokens, and no section does
+-- the header has no body, and none of its items is unfinished
 abbrev pub GoOn : Header → Type 0
 GoOn header = (is_some header.body ≡ false) × (list_any is_unfinished header.items ≡ false)
 
 module _ (more : List Token) where
-  -- what is read of tokens behind which the definitions go on, and of others behind them
+  -- if the definitions don't end in `ts`, and each section does, the header of `ts ++ more` is that of `more`, with the
+  -- items of `ts` before its own
   abbrev Split : HeaderPlace → List Token → Type 0
   Split place ts = GoOn (header_from place ts)
       → header_from place (ts ++ more) ≡ behind_items (header_from place ts).items (header_from between more)
@@ -184,7 +185,7 @@ module _ (more : List Token) where
       (header_split ts (inside (with_word section t.bytes))) goes
 
 module _ (more : List Token) where
-  -- what is read of tokens in which the definitions end, and of others behind them
+  -- `header` with the body `body ++ more`
   abbrev longer : Header → List Token → Header
   longer header body = record { items = header.items; body = Some (body ++ more) }
 
@@ -255,7 +256,7 @@ module _ (more : List Token) where
   longer_between t ts body true rest goes_on ends = goes_on body ends
   longer_between t ts body false rest goes_on ends = ap (with_item (stray t.line)) (rest body ends)
 
-  -- behind the definitions other tokens are of the body
+  -- if the definitions end in `ts`, tokens after `ts` are added to the body
   pub header_ended : (ts : List Token) (place : HeaderPlace) → Longer place ts
   unfolding header_from
   header_ended [] between body ends = absurd cc
@@ -270,7 +271,7 @@ module _ (more : List Token) where
 -- ---- what items declare
 
 module _ {V : Type 0} (with_variable : V → Variable → V) where
-  -- items, and others behind them
+  -- to declare `xs ++ ys` is to declare `xs` and then `ys`
   pub declare_both : (xs ys : List HeaderItem) (d : Declared V)
       → declare_all with_variable d (xs ++ ys)
       ≡ (declare_all with_variable d xs >>= λ next. declare_all with_variable next ys)
@@ -320,7 +321,7 @@ stays_on_line line b unspaced = go (eqb b 10) refl
         space_is : eqb b 10 ≡ true → is_space b ≡ true
         space_is e = or_last (eqb b 32) (eqb b 9) (eqb b 10) (eqb b 13) e
 
--- a word, and what follows where no token goes on into it
+-- a word before a text that is empty or begins with white space is the first run
 word_cut : (line : ℕ) (word rest : List ℕ) → IsWord word → begins_apart rest ≡ true
     → cut_from line (word ++ rest) ≡ record { run = word; others = tokens_from line rest }
 unfolding cut_from
@@ -336,7 +337,7 @@ pub word_read : (line b : ℕ) (word rest : List ℕ) → IsWord (b ∷ word) �
     → tokens_from line ((b ∷ word) ++ rest) ≡ record { line = line; bytes = b ∷ word } ∷ tokens_from line rest
 word_read line b word rest is detached = ap (all_of line) (word_cut line (b ∷ word) rest is detached)
 
--- a space before a text
+-- a space before a text doesn't change its tokens
 pub space_read : (line : ℕ) (text : List ℕ) → tokens_from line (32 ∷ text) ≡ tokens_from line text
 unfolding cut_from
 space_read line text = refl
@@ -356,14 +357,14 @@ string_cut line text b code rest first second detached =
     ∙ ap (λ (ts : List Token). record { line = line; bytes = 115 ∷ text } ∷ ts)
     (space_read line ((b ∷ code) ++ rest) ∙ word_read line b code rest second detached)
 
--- a string and its code, where an item may begin
+-- where an item may begin, a string and its code are read as a skipped item
 pub string_read : (line : ℕ) (text code : List ℕ) (more : List Token)
     → body_from ready (record { line = line; bytes = 115 ∷ text } ∷ record { line = line; bytes = code } ∷ more)
     ≡ skipped line code ∷ body_from ready more
 unfolding body_from
 string_read line text code more = refl
 
--- ---- words with a space behind each
+-- ---- words with a space after each
 
 abbrev pub with_spaces : List (List ℕ) → List ℕ
 with_spaces words = flat_map (λ (word : List ℕ). word ++ 32 ∷ []) words
@@ -371,13 +372,13 @@ with_spaces words = flat_map (λ (word : List ℕ). word ++ 32 ∷ []) words
 abbrev pub on_line : ℕ → List ℕ → Token
 on_line line word = record { line = line; bytes = word }
 
--- each is a word, and has a byte
+-- each is a nonempty word
 abbrev pub AreWords : List (List ℕ) → Type 0
 AreWords [] = Unit {0}
 AreWords ([] ∷ words) = ⊥
 AreWords ((b ∷ word) ∷ words) = IsWord (b ∷ word) × AreWords words
 
--- they are as many tokens, and what follows comes behind them
+-- nonempty words with a space after each are one token each, before the tokens of `rest`
 pub words_read : (line : ℕ) (words : List (List ℕ)) (rest : List ℕ) → AreWords words
     → tokens_from line (with_spaces words ++ rest) ≡ map (on_line line) words ++ tokens_from line rest
 words_read line [] rest are = refl

@@ -42,7 +42,8 @@ words_of : Section → List Token → Section
 words_of section [] = section
 words_of section (w ∷ words) = words_of (with_word section w.bytes) words
 
--- behind a token of a section
+-- the header from a token `t` of `section` on, where `test` is whether `t` is `$end`, `kind` whether the section ends
+-- the definitions, and `ts` are the tokens after `t`
 abbrev continued : Section → Token → List Token → Bool → Bool → Header
 continued section t ts test kind = elim test as (λ _. Header) [
   | true ↦ elim kind as (λ _. Header) [
@@ -86,14 +87,14 @@ section_endless section (w ∷ words) none =
     ap (λ (test : Bool). (continued section w words test (ends_definitions section)).body) parts.0
     ∙ section_endless (with_word section w.bytes) words parts.1
 
--- behind a token between two sections
+-- the header from a token `t` between two sections on, where `test` is whether `t` opens a section
 abbrev opened_by : Token → List Token → Bool → Header
 opened_by t ts test = elim test as (λ _. Header) [
   | true ↦ header_from (inside (opened t)) ts
   | false ↦ with_item (stray t.line) (header_from between ts)
 ]
 
--- ---- the definitions go on
+-- ---- the definitions continue
 
 go_on : (front : List ℕ) → is_between_sections front ≡ true → GoOn (header_from between (tokens front))
 go_on front goes =
@@ -110,7 +111,7 @@ split_at : (text : List ℕ) (at : ℕ) → is_between_sections (take at text) �
     ≡ behind_items (header_from between (tokens (take at text))).items (header_from between ts)
 split_at text at goes ts = header_split ts (tokens (take at text)) between (go_on (take at text) goes)
 
--- a header whose last item is whole
+-- if neither `items` nor `last` is unfinished, and there is no body, `front` ends between two sections
 still_between : (front : List ℕ) (items : List HeaderItem) (last : HeaderItem) → list_any is_unfinished items ≡ false
     → is_unfinished last ≡ false
     → header_from between (tokens front) ≡ record { items = items ++ last ∷ []; body = None }
@@ -131,6 +132,7 @@ module _ (text : List ℕ) (at next : ℕ) (bytes : List ℕ) (goes : is_between
   none_unfinished : list_any is_unfinished items ≡ false
   none_unfinished = (go_on (take at text) goes).1
 
+  -- after a token that opens no section, the definitions continue
   pub stray_goes : opens_section bytes ≡ false → is_between_sections (take next text) ≡ true
   unfolding header_from
   stray_goes opens =
@@ -153,6 +155,7 @@ module _ (text : List ℕ) (at next : ℕ) (bytes : List ℕ) (goes : is_between
         ap (header_from between) tokens_behind ∙ split_at text at goes (first ∷ (e.words ++ e.last ∷ []))
         ∙ ap (behind_items items) (header_opened (e.words ++ e.last ∷ []) opens)
 
+    -- after a section other than `$enddefinitions`, the definitions continue
     pub whole_goes : bytes_eq bytes (codes "$enddefinitions") ≡ false → is_between_sections (take end text) ≡ true
     unfolding header_from
     whole_goes is =
@@ -164,7 +167,7 @@ module _ (text : List ℕ) (at next : ℕ) (bytes : List ℕ) (goes : is_between
         ap (λ (h : Header). h.body) header_at
         ∙ ap (λ (h : Header). h.body) (section_ends (opened first) e.words e.last [] e.none e.ends is)
 
-    -- the definitions end here
+    -- the place after the section `$enddefinitions` is one of the body, at time 0
     pub ended_at : bytes_eq bytes (codes "$enddefinitions") ≡ true → IsAtTime text 0 end
     unfolding body_from last_time
     ended_at is = record {
@@ -194,7 +197,7 @@ module _ (text : List ℕ) (at next : ℕ) (bytes : List ℕ) (goes : is_between
         ∙ ap (λ (h : Header). h.body)
         (header_ended (left_from 1 text end) (tokens (take end text)) between [] (body_at is))))
 
-  -- its start
+  -- if the token is `$enddefinitions`, the section that ends the definitions begins at its start
   pub starts_at : (start : ℕ) → StandsAt text at next start bytes → bytes_eq bytes (codes "$enddefinitions") ≡ true
       → ends_definitions_at text start ≡ true
   starts_at start stands is =
@@ -212,7 +215,7 @@ module _ (text : List ℕ) (at next : ℕ) (bytes : List ℕ) (goes : is_between
       ((bytes_eq-Decides (take 15 (drop start text)) (codes "$enddefinitions")).1 begins)
       (ap (λ (n : ℕ). begins_apart (drop n (drop start text))) (sym len) ∙ stands.behind))
 
-  -- a section without an end
+  -- if a section has no `$end`, the text has no body
   pub none_behind : is_seam text at ≡ true → opens_section bytes ≡ true
       → list_any ends_section (left_from 1 text next) ≡ false → body_in text ≡ None
   none_behind seam opens endless =
@@ -226,7 +229,7 @@ no_body : (o : Option (List Token)) → is_some o ≡ false → o ≡ None
 no_body None e = refl
 no_body (Some body) e = absurd (true≢false e)
 
--- nothing is left behind the last section
+-- if no token is left after the last section, and the definitions haven't ended, the text has no body
 pub none_left : (text : List ℕ) (at : ℕ) → is_between_sections (take at text) ≡ true → is_seam text at ≡ true
     → left_from 1 text at ≡ [] → body_in text ≡ None
 none_left text at goes seam left =

@@ -1,4 +1,4 @@
--- A string between the items of a body whose code is declared: nothing comes of it.
+-- A string with a declared code between the items of a body: what is read of the body stays the same.
 use Rattle.std.proofs.Common.{◌≡◌, ℕ, Bool, false, cond, List, [], ◌∷◌, ◌++◌, Option, Some, Result, Ok, Err}
 use Rattle.std.proofs.Common.{refl, ap, ◌∙◌, arith, length}
 use Rattle.std.specs.Prelude.{map, nat_eq, nat_lt}
@@ -14,7 +14,7 @@ use Rattle.vcd_read.specs.Body.{first_context}
 use Rattle.vcd_read.specs.Body.{fitting, skipped, context_after, context_after_all, time_item, wrong}
 use Rattle.vcd_read.specs.Meaning.{NetChange, change_of, changes_from, instant_at, instants_of, times_from}
 
--- what comes of the items of a body, or their first fault
+-- the instants of the items of a body, or their first fault
 abbrev pub instants_in : List Net → List BodyItem → Result (List Instant) VcdFault
 instants_in nets items = context_after_all nets first_context items
     >>= λ end. at_the_end end >>= λ stood. Ok (instants_of nets items)
@@ -72,7 +72,7 @@ module _ (nets : List Net) (line net : ℕ) (code : List ℕ) (is : net_of nets 
       ∙ ap (λ (ts : List ℕ). map (instant_at (length nets) (changes_from nets 0 (xs ++ ys))) (dedup nat_eq ts))
       (times_same xs ys 0)
 
-  -- what comes of a body with it is what comes of the body
+  -- a body with the skipped item gives the same instants, or fault, as without it
   pub skipped_in : (xs ys : List BodyItem)
       → instants_in nets (xs ++ skipped line code ∷ ys) ≡ instants_in nets (xs ++ ys)
   skipped_in xs ys =

@@ -1,4 +1,4 @@
--- A string that is put into the body of a text, behind an item: the definitions stay, and what comes of the body.
+-- A string is inserted into the body of a text after an item: the definitions and the instants stay the same.
 use Rattle.std.proofs.Common.{◌≡◌, ℕ, List, ◌∷◌, ◌++◌, Option, Some, Result, true}
 use Rattle.std.proofs.Common.{refl, sym, ap, ◌∙◌}
 use Rattle.std.specs.Prelude.{option_map}
@@ -12,7 +12,7 @@ use Rattle.vcd_places.specs.Places.{AreWholeItems, begins_apart, body_in}
 use Rattle.vcd_places.proofs.PutInLemmas.{IsWord, header_ended, string_cut, string_read, string_text, tokens_apart}
 use Rattle.vcd_places.proofs.SkippedLemmas.{instants_in, skipped_in}
 
--- ---- what a text comes to, by some nets
+-- ---- the definitions of a text, and its instants by given nets
 
 abbrev pub items_of_text : List ℕ → List HeaderItem
 items_of_text text = (header_from between (tokens text)).items
@@ -22,7 +22,7 @@ instants_of_text nets text = option_map (λ (body : List Token). instants_in net
 
 -- ---- strings
 
--- a text that is shown by a code: each is a word, and the code has a net
+-- `text` can be a string of the variable with the code `code`: both are words, and the code is nonempty and has a net
 pub record IsShown (nets : List Net) (text code : List ℕ) : Type 0 where
   pub word : IsWord text
   pub first : ℕ
@@ -32,9 +32,9 @@ pub record IsShown (nets : List Net) (text code : List ℕ) : Type 0 where
   pub net : ℕ
   pub net_is : net_of nets code ≡ Some net
 
--- ---- behind an item
+-- ---- after an item
 
--- the definitions end in a text, and so does an item of its body, or nothing stands behind the definitions
+-- the definitions end in `front`, and the tokens after them end with an item, or there are none
 pub record EndsBehindItem (front : List ℕ) : Type 0 where
   pub body : List Token
   pub ended : body_in front ≡ Some body
@@ -53,7 +53,7 @@ module _ (front : List ℕ) (behind : EndsBehindItem front) where
       ap (header_from between) (tokens_apart front rest 1 detached)
       ∙ header_ended (tokens_from line rest) (tokens front) between behind.body behind.ended
 
-  -- the definitions are those of the front
+  -- the definitions of `front ++ rest` are those of `front`
   pub items_behind : (rest : List ℕ) → begins_apart rest ≡ true → items_of_text (front ++ rest) ≡ items_of_text front
   items_behind rest detached = ap (λ (h : Header). h.items) (header_behind rest detached)
 
@@ -85,7 +85,7 @@ module _ (front : List ℕ) (behind : EndsBehindItem front) where
       (body_from ready behind.body) (body_from ready left)
       ∙ sym (ap (instants_in nets) (behind.whole left))
 
-  -- what a text comes to into which a string is put
+  -- a string that is inserted after `front` leaves the instants, or the fault, as they are
   pub instants_with : (nets : List Net) (text code rest : List ℕ) → IsShown nets text code → begins_apart rest ≡ true
       → instants_of_text nets (front ++ (string_text text code ++ rest)) ≡ instants_of_text nets (front ++ rest)
   instants_with nets text code rest is detached =

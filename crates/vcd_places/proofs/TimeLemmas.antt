@@ -39,7 +39,7 @@ time_in (Err kind) = 0
 not_below : (a b : ℕ) → nat_lt a b ≡ false → b ≤ a
 not_below a b e = grind (arith, nat_tests, e)
 
--- a time that is read isn't before the one before it
+-- a time that is read without a fault isn't before the time `now`
 after_time : (now n : ℕ) (test : Bool) → nat_lt n now ≡ test → (next : ℕ)
     → cond test (Err TimeBackwards) (Ok n) ≡ Ok next → (now ≤ n) × (n ≡ next)
 after_time now n true is next e = absurd cc
@@ -82,7 +82,7 @@ closed_context s next line e =
     read).2
 
 module _ (nets : List Net) where
-  -- the first of these items is read, and then the others
+  -- if `item` and then `items` are read without a fault, there is a context `next` between them
   first_read : (item : BodyItem) (items : List BodyItem) (s end : BodyContext)
       → (context_after nets s item >>= λ next. context_after_all nets next items) ≡ Ok end
       → (next : BodyContext) × (context_after nets s item ≡ Ok next) × (context_after_all nets next items ≡ Ok end)
@@ -119,7 +119,7 @@ module _ (nets : List Net) where
       at_now s read.0 (times_told items) (closed_context s read.0 line read.1) (times_rise items read.0 end read.2)
   times_rise (wrong line kind ∷ items) s end e = absurd cc
 
-  -- each time of an item is one that is told, or that before the items
+  -- `time` is `now`, or the time of a time item
   abbrev IsKnown : ℕ → ℕ → List BodyItem → Type 0
   IsKnown now time items = (time ≡ now) ⊎ (is_among time (times_told items) ≡ true)
 
@@ -134,6 +134,7 @@ module _ (nets : List Net) where
   first_true : (n time : ℕ) (b : Bool) → time ≡ n → (eqb n time || b) ≡ true
   first_true n time b e = ap (λ (test : Bool). test || b) (eq-eqb n time (sym e))
 
+  -- the time of each time item and each change is `now`, or the time of a time item
   pub times_known : (items : List BodyItem) (s end : BodyContext) (now time : ℕ) → context_after_all nets s items
       ≡ Ok end
       → is_among time (times_from now items) ≡ true → IsKnown now time items

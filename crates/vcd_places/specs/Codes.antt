@@ -12,7 +12,7 @@ is_token word t = bytes_eq t.bytes word
 abbrev pub number_of : Vec ℕ → ℕ
 number_of code = code_number code.items
 
--- the code of a number, which a variable may have, and no token of a text is it
+-- `code` has this number, is one that a variable may have, and is neither `$end` nor a token of `text`
 pub record IsUnused (text : List ℕ) (number : ℕ) (code : List ℕ) : Type 0 where
   pub number_is : code_number code ≡ number
   pub some : 0 < length code

@@ -1,17 +1,17 @@
--- What a token of a body begins, as far as the end of its item is concerned.
+-- What a token of a body begins, by how the item ends.
 use Rattle.std.specs.Prelude.{List, ℕ}
 use Rattle.vcd_read.specs.Body.{Shape, comment, end_shape, foreign, none, open_shape, scalar, time_shape, vector}
 use Rattle.vcd_places.specs.declared.times.BegunItem.{BegunItem}
 use Rattle.vcd_places.specs.declared.times.BegunItem.TheVariants.{Time, Code, Comment, Whole}
 
 pub data BegunKind : Type 0 where
-  -- a time, by the digits behind its #
+  -- a time stamp, by the digits after its #
   tells : List ℕ → BegunKind
-  -- its code is the next token
+  -- an item whose code is the next token
   named : BegunKind
-  -- up to the next `$end`
+  -- a comment, up to the next `$end`
   remark : BegunKind
-  -- the token alone
+  -- an item of one token
   single : BegunKind
 
 abbrev pub kind_of : Shape → BegunKind

@@ -7,11 +7,11 @@ use Rattle.vcd_read.specs.Reading.{left_from}
 use Rattle.vcd_read.specs.Header.{is_end}
 use Rattle.vcd_places.specs.Places.{begins_apart, ends_apart}
 
--- no token goes on behind a place of a text
+-- position `at` is a token boundary: the start of `text`, or followed by white space or the end
 abbrev pub is_seam : List ℕ → ℕ → Bool
 is_seam text at = nat_le at (length text) && (at == 0 || begins_apart (drop at text))
 
--- the first token behind a place is these bytes, and ends at another place
+-- the first token after `at` is `bytes`, and it ends at `next`
 pub record IsNextToken (text : List ℕ) (at next : ℕ) (bytes : List ℕ) : Type 0 where
   pub line : ℕ
   pub moves : at < next
@@ -20,7 +20,7 @@ pub record IsNextToken (text : List ℕ) (at next : ℕ) (bytes : List ℕ) : Ty
   pub left : left_from 1 text at ≡ record { line = line; bytes = bytes } ∷ left_from 1 text next
   pub taken : tokens (take next text) ≡ tokens (take at text) ++ record { line = line; bytes = bytes } ∷ []
 
--- it begins at a place, and spaces alone stand before it
+-- the token `bytes` begins at `start` and ends at `next`, and no token lies between `at` and `start`
 pub record StandsAt (text : List ℕ) (at next start : ℕ) (bytes : List ℕ) : Type 0 where
   pub ends : start + length bytes ≡ next
   pub bytes_are : bytes ≡ take (length bytes) (drop start text)
@@ -32,7 +32,7 @@ pub record StandsAt (text : List ℕ) (at next start : ℕ) (bytes : List ℕ) :
 abbrev pub ends_section : Token → Bool
 ends_section token = is_end token.bytes
 
--- tokens up to the first `$end`, and that, are taken, up to another place
+-- the tokens from `at` up to and including the next `$end` are taken, and `next` is the place after it
 pub record IsTakenToEnd (text : List ℕ) (at next : ℕ) : Type 0 where
   pub words : List Token
   pub last : Token

@@ -1,4 +1,4 @@
--- The places of a text at which something may be put in: before the end of its definitions, and between the items of
+-- The places of a text at which text can be inserted: before the end of its definitions, and between the items of
 -- its body. A place is the count of bytes before it.
 use Rattle.std.specs.Prelude.{◌≡◌, ℕ, ◌≤◌, Bool, true, false, ◌&&◌, not, List, [], ◌∷◌, ◌++◌, length, take, drop, codes}
 use Rattle.std.specs.Prelude.{bytes_eq, Option, Some, None, is_some, unwrap_or, Result, Ok, Err}
@@ -12,18 +12,18 @@ use Rattle.vcd_read.specs.Body.{BodyItem, time_item, change, skipped, dump_secti
 use Rattle.vcd_read.specs.Body.{body_from}
 use Rattle.vcd_read.specs.Meaning.{last_time}
 
--- a text begins with a space, or is empty: no token goes on into it
+-- the text is empty or begins with white space: no token before it continues into it
 abbrev pub begins_apart : List ℕ → Bool
 begins_apart [] = true
 begins_apart (b ∷ rest) = is_space b
 
--- a text ends with a space, or is empty: no token goes on behind it
+-- the text is empty or ends with white space: none of its tokens continues after it
 abbrev pub ends_apart : List ℕ → Bool
 ends_apart text = option_map_or is_space (last_or None text) true
 
 -- ---- the definitions
 
--- the tokens behind the definitions that a text has, if they end in it
+-- the tokens after the definitions of `text`, if the definitions end in it
 abbrev pub body_in : List ℕ → Option (List Token)
 body_in text = (header_from between (tokens text)).body
 
@@ -32,7 +32,7 @@ is_unfinished (whole section) = false
 is_unfinished (unfinished line) = true
 is_unfinished (stray line) = false
 
--- the definitions go on behind a text, and none of its sections does
+-- the definitions don't end in `text`, and each of its sections does
 abbrev pub is_between_sections : List ℕ → Bool
 is_between_sections text =
     let header = header_from between (tokens text) in
@@ -42,7 +42,7 @@ is_between_sections text =
 abbrev pub begins_with_token : List ℕ → List ℕ → Bool
 begins_with_token word text = bytes_eq (take (length word) text) word && begins_apart (drop (length word) text)
 
--- the section that ends the definitions begins at a place
+-- the section that ends the definitions of `text` begins at `place`
 abbrev pub ends_definitions_at : List ℕ → ℕ → Bool
 ends_definitions_at text place =
     ends_apart (take place text) && is_between_sections (take place text)
@@ -54,7 +54,7 @@ abbrev pub if_time : Result ℕ FaultKind → Option ℕ
 if_time (Ok time) = Some time
 if_time (Err kind) = None
 
--- the time that an item tells, if it tells one below 2^64
+-- the time of a time item, if it is below 2^64
 abbrev pub time_told : BodyItem → Option ℕ
 time_told (time_item line digits) = if_time (time_of digits)
 time_told (change line digits code) = None
@@ -63,20 +63,20 @@ time_told (dump_section_open line) = None
 time_told (dump_section_end line) = None
 time_told (wrong line kind) = None
 
--- the times that the items of a body tell, in their order
+-- the times below 2^64 of the time items, in their order
 unfoldable pub times_told : List BodyItem → List ℕ
 times_told [] = []
 times_told (item ∷ items) = cons_option (time_told item) (times_told items)
 
--- those of a text
+-- the times below 2^64 of the body of `text`, in their order
 abbrev pub times_of_body : List ℕ → List ℕ
 times_of_body text = times_told (body_from ready (unwrap_or (body_in text) []))
 
--- these tokens end with an item, or there are none: what follows is read as if it stood alone
+-- the tokens `body` end with an item, or there are none: what follows is read as if it were alone
 abbrev pub AreWholeItems : List Token → Type 0
 AreWholeItems body = (more : List Token) → body_from ready (body ++ more) ≡ body_from ready body ++ body_from ready more
 
--- between two items of a text's body, where this is the time of a change
+-- `place` is between two items of the body of `text`, and `time` is the current time there
 pub record IsAtTime (text : List ℕ) (time place : ℕ) : Type 0 where
   pub within : place ≤ length text
   pub detached : begins_apart (drop place text) ≡ true

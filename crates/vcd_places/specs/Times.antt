@@ -11,7 +11,7 @@ pub record TimesLeft : Type 0 where
   pub text : List ℕ
   pub at : ℕ
 
--- the times that are told from there on
+-- the times below 2^64 of the items from `at` on
 abbrev pub times_left : TimesLeft → List ℕ
 times_left s = times_told (body_from ready (left_from 1 s.text s.at))
 
@@ -23,7 +23,7 @@ pub record IsBetweenItems (text : List ℕ) (at : ℕ) : Type 0 where
   pub ended : body_in (take at text) ≡ Some body
   pub whole : AreWholeItems body
 
--- none of these numbers is below the one before it, nor the first below this one
+-- each of the numbers is at least the one before it, and the first is at least `least`
 abbrev pub IsFromOn : ℕ → List ℕ → Type 0
 IsFromOn least [] = Unit {0}
 IsFromOn least (x ∷ xs) = (least ≤ x) × IsFromOn x xs
@@ -31,6 +31,6 @@ IsFromOn least (x ∷ xs) = (least ≤ x) × IsFromOn x xs
 abbrev pub is_among : ℕ → List ℕ → Bool
 is_among n xs = list_any (λ (x : ℕ). x == n) xs
 
--- a time that the body of a text comes to: at 0 it begins
+-- `time` is 0, at which a body begins, or among the times of the body of `text`
 abbrev pub IsReached : List ℕ → ℕ → Type 0
 IsReached text time = (time ≡ 0) ⊎ (is_among time (times_of_body text) ≡ true)

@@ -12,7 +12,7 @@ use crate::section::is_end;
 use crate::token_reader::TokenReader;
 use std::alloc::{AllocError, Global};
 
-/// The number of a code, if a word is one whose number is below a limit.
+/// The number of `word`, if it is a code and its number is below `limit`.
 fn number_below(word: &[u8], limit: usize) -> Option<usize>
     requires { 0 < limit }
     ensures { IfSome result (λ n. n < limit) }
@@ -32,7 +32,7 @@ fn number_below(word: &[u8], limit: usize) -> Option<usize>
     Some(number)
 }
 
-/// Marks the number of each token of a text that is a code, where there is a mark for it.
+/// For each token of `text` that is a code with a number below `marks.len()`, sets the mark at that number.
 fn mark_tokens(text: &[u8], marks: &mut [bool])
     requires { 0 < length marks.old }
 {
@@ -44,7 +44,7 @@ fn mark_tokens(text: &[u8], marks: &mut [bool])
     }
 }
 
-/// So many marks, of which those are set whose numbers tokens of a text have.
+/// `limit` marks. The mark at a number is set exactly if a token of `text` is the code of that number.
 fn marks_of(alloc: Global, text: &[u8], limit: usize) -> Result<Vec<bool>, AllocError>
     requires { 0 < limit }
     ensures { IfOk result (λ marks. length marks.items ≡ limit) }
@@ -55,7 +55,7 @@ fn marks_of(alloc: Global, text: &[u8], limit: usize) -> Result<Vec<bool>, Alloc
     Ok(marks)
 }
 
-/// Whether no token of a text is this word.
+/// Whether no token of `text` is `word`.
 fn lacks_token(text: &[u8], word: &[u8]) -> bool
     ensures { result ≡ true → list_any (is_token word.now) (tokens text.now) ≡ false }
 {
@@ -84,7 +84,7 @@ fn code_of(alloc: Global, number: usize) -> Result<Vec<u8>, AllocError>
     Ok(code)
 }
 
-/// The code of a number, if no token of a text is it. Where the number is marked, one is.
+/// The code of `number`, or `None` if it is a token of `text` or `$end`. A set mark says that it is a token.
 fn unused_code(
     alloc: Global,
     text: &[u8],
@@ -105,8 +105,8 @@ fn unused_code(
     Ok(Some(code))
 }
 
-/// So many codes that are no tokens of a text, nor `$end`: the first, in the order of their numbers. There are more
-/// numbers with a mark than tokens, so that a failure is want of memory.
+/// The first `count` codes, in the order of their numbers, that are neither tokens of `text` nor `$end`. The numbers
+/// that are tried suffice for the tokens, `$end` and these codes. The only error is want of memory.
 pub fn unused_codes(alloc: Global, text: &[u8], count: usize) -> Result<Vec<Vec<u8>>, AllocError>
     ensures each { IfOk result
         (λ found. All (λ code. IsUnused text.now (code_number code.items) code.items) found.items) }

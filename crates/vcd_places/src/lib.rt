@@ -1,25 +1,29 @@
-//! Where texts may be put into a value change dump, and what is read of it then.
+//! Places at which text can be inserted into a value change dump, and what is read of the dump with
+//! it.
 //!
 //! # Parts
 //!
 //! - `section`: the section that ends the definitions of a text ([`definitions_end`]).
-//! - `times`: the times of a body, and where they stand ([`TimePlaces`]).
+//! - `times`: the time stamps of a body, and where they are ([`TimePlaces`]).
 //! - `codes`: codes that no variable has ([`unused_codes`]).
 //! - `token_reader`: the tokens of a text. `number`: decimal numbers.
 //!
 //! # What is proved
 //!
-//! - [`definitions_end`] finds the section that ends the definitions, exactly where they end.
-//! - [`TimePlaces`] gives all times that a body tells, in their order, each with a place between two
-//!   items at which the body has come to that time (`IsAtTime`).
+//! - [`definitions_end`] finds the section that ends the definitions, if and only if the text has
+//!   one.
+//! - [`TimePlaces`] gives all time stamps of a body below 2^64, in their order, each with a place
+//!   between two items at which it is the current time (`IsAtTime`).
 //! - [`unused_codes`] gives codes that are no tokens of a text, in the order of their numbers.
-//! - What is put in at such places is read as if it stood alone (`proofs/PutInLemmas`): a string
-//!   whose code is declared changes nothing of what a dump says (`proofs/StringStepLemmas`), and
-//!   neither do more declarations (`proofs/MoreNetsLemmas`).
+//! - Text that is inserted at such places is read as if it were alone (`proofs/PutInLemmas`). A
+//!   string whose code is declared changes nothing of what a dump says (`proofs/StringStepLemmas`).
+//!   Neither does one more net, a code with its size, if no variable has the code and the body has
+//!   no fault (`proofs/MoreNetsLemmas`).
 //!
 //! # What isn't proved
 //!
-//! How long it takes: each token is looked at once.
+//! How long it takes: each token is looked at once, by [`unused_codes`] once more for each code
+//! that it gives.
 //!
 //! `specs/Places` says what the places are. Start reading there.
 #![tactic(auto)]

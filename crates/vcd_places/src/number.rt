@@ -4,7 +4,7 @@ ghost use Rattle.std.specs.Prelude.{◌≡◌, ◌^◌, ◌≤◌, IsTrue, Match
 ghost use Rattle.vcd_read.specs.Numbers.{is_number, number, time_of};
 ghost use Rattle.vcd_places.specs.Places.{if_time};
 
-/// Whether these are decimal digits, at least one.
+/// Whether `text` is one or more decimal digits.
 fn is_number(text: &[u8]) -> bool
     ensures { result ≡ is_number text.now }
 {
@@ -19,7 +19,7 @@ fn is_number(text: &[u8]) -> bool
     true
 }
 
-/// The number that digits are, if it fits.
+/// The number that `digits` denote, if it is below 2^64.
 fn value(digits: &[u8]) -> Option<u64>
     requires { IsTrue (is_number digits.now) }
     ensures { MatchOption result (2 ^ 64 ≤ number digits.now) (λ n. n ≡ number digits.now) }
@@ -38,7 +38,7 @@ fn value(digits: &[u8]) -> Option<u64>
     Some(number)
 }
 
-/// The time that digits are, if it is one below 2^64.
+/// The time that `digits` denote, if they are decimal digits and it is below 2^64.
 pub(crate) fn time_of(digits: &[u8]) -> Option<u64>
     ensures { result ≡ if_time (time_of digits.now) }
 {

@@ -12,12 +12,12 @@ ghost use Rattle.vcd_places.specs.Times.{times_left};
 use crate::times::TimePlaces;
 use crate::token_reader::TokenReader;
 
-/// Where the section that ends the definitions of a text stands.
+/// Where the section that ends the definitions of a text is.
 #[derive(Clone, Copy, Debug, PartialEq, Eq)]
 pub struct EndSection {
     /// Where its `$enddefinitions` begins.
     pub start: usize,
-    /// The place behind its `$end`.
+    /// The place after its `$end`.
     pub end: usize,
 }
 
@@ -34,7 +34,7 @@ fn opens_section(word: &[u8]) -> bool
     matches!(word, [b'$', ..]) && !is_end(word)
 }
 
-/// Goes on behind the next `$end`, and answers whether there is one.
+/// Takes the tokens up to and including the next `$end`, or all that are left. Answers whether there is an `$end`.
 pub(crate) fn behind_end(reader: &mut TokenReader<'_>) -> bool
     ensures text { reader.new.text.now ≡ reader.old.text.now }
     ensures end { result ≡ true → IsTakenToEnd reader.old.text.now reader.old.at reader.new.at }
@@ -48,7 +48,8 @@ pub(crate) fn behind_end(reader: &mut TokenReader<'_>) -> bool
     false
 }
 
-/// The section that ends the definitions of a text, and the times of the body behind it, if the definitions end in it.
+/// The section that ends the definitions of `text`, and the times of the body after it. `None` if the definitions don't
+/// end in `text`.
 pub fn definitions_end(text: &[u8]) -> Option<(EndSection, TimePlaces<'_>)>
     ensures none { IfNone result (body_in text.now ≡ None) }
     ensures start { IfSome result (λ found. ends_definitions_at text.now found.0.start ≡ true) }

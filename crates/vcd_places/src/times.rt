@@ -1,4 +1,4 @@
-//! Where the times of a body stand.
+//! Where the time stamps of a body are.
 
 ghost use Rattle.std.specs.Prelude.{◌≡◌, ◌∷◌, ◌<◌, ◌≤◌, [], true, IfNone, IfSome};
 ghost use Rattle.std.specs.List.{list_all};
@@ -13,16 +13,16 @@ use crate::section::behind_end;
 use crate::token_reader::TokenReader;
 use std::marker::Model;
 
-/// A time that a body tells.
+/// A time stamp of a body.
 #[derive(Clone, Copy, Debug, PartialEq, Eq)]
 pub struct TimePlace {
     /// The time.
     pub time: u64,
-    /// The place behind its token.
+    /// The place after its token.
     pub end: usize,
 }
 
-/// The body of a text, whose times are taken in their order.
+/// The body of a text, whose time stamps are taken in their order.
 #[derive(Drop)]
 pub struct TimePlaces<'a> {
     text: &'a [u8],
@@ -39,10 +39,10 @@ impl<'a> Model for TimePlaces<'a> {
     ghost invariant = { λ p. IsBetweenItems p.text.now p.at };
 }
 
-/// What a token of a body begins, as far as its end is concerned.
+/// The item that a token of a body begins, by how the item ends.
 #[derive(Clone, Copy)]
 pub(crate) enum BegunItem<'a> {
-    /// A time, by the digits behind its `#`.
+    /// A time stamp, by the digits after its `#`.
     Time(&'a [u8]),
     /// An item whose code is the next token.
     Code,
@@ -58,7 +58,7 @@ fn is_bit(digit: u8) -> bool
     matches!(digit, b'0' | b'1' | b'x' | b'X' | b'z' | b'Z')
 }
 
-/// Whether these are digits of a vector, at least one.
+/// Whether `digits` is one or more digits of a vector.
 fn are_bits(digits: &[u8]) -> bool
     ensures { result ≡ are_bits digits.now }
 {
@@ -101,7 +101,7 @@ fn what_begins(token: &[u8]) -> BegunItem<'_>
 }
 
 impl<'a> TimePlaces<'a> {
-    /// From a place on.
+    /// The time stamps of `text` from the place `at` on.
     pub(crate) fn new(text: &'a [u8], at: usize) -> TimePlaces<'a>
         requires { IsBetweenItems text.now at }
         ensures { result ≡ record { text = text.now; at = at } }
@@ -109,7 +109,7 @@ impl<'a> TimePlaces<'a> {
         TimePlaces { text, at }
     }
 
-    /// The next time that the body tells, behind those that were taken. What is no time below 2^64 is passed over.
+    /// Takes the next time stamp below 2^64, if there is one. All other items are passed over.
     pub fn next(&mut self) -> Option<TimePlace>
         ensures text { self.new.text ≡ self.old.text }
         ensures time { IfSome result (λ found. times_left self.old ≡ found.time ∷ times_left self.new) }

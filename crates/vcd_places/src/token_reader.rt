@@ -1,4 +1,4 @@
-//! The tokens of a text, and where they stand.
+//! The tokens of a text, and where they are.
 
 ghost use Rattle.std.specs.Prelude.{◌≡◌, ℕ, [], ◌<◌, ◌≤◌, true, false, IfNone, IfSome, length, slice_index};
 ghost use Rattle.vcd_read.specs.Tokens.{is_space};
@@ -26,7 +26,7 @@ fn is_space(b: u8) -> bool
     matches!(b, b'\t' | b'\n' | b'\r' | b' ')
 }
 
-/// The first place from here on that is no space, or the end.
+/// The first place from `at` on whose byte is no white space, or the end.
 fn word_start(text: &[u8], at: usize) -> usize
     requires { at ≤ length text.now }
     ensures low { at ≤ result }
@@ -41,7 +41,7 @@ fn word_start(text: &[u8], at: usize) -> usize
     i
 }
 
-/// The first place from here on that is a space, or the end.
+/// The first place from `at` on whose byte is white space, or the end.
 fn word_end(text: &[u8], at: usize) -> usize
     requires { at ≤ length text.now }
     ensures low { at ≤ result }
@@ -57,7 +57,7 @@ fn word_end(text: &[u8], at: usize) -> usize
 }
 
 impl<'a> TokenReader<'a> {
-    /// At a place at which no token goes on.
+    /// A reader of the tokens of `text` from `at` on, a token boundary.
     pub fn new(text: &'a [u8], at: usize) -> TokenReader<'a>
         requires { is_seam text.now at ≡ true }
         ensures text { result.text.now ≡ text.now }

@@ -1,5 +1,5 @@
-//! Tests of vcd_places: where definitions end and times stand in texts, and codes that are free, by
-//! values that stand beside the texts.
+//! Tests of vcd_places: where definitions end and time stamps are in texts, and codes that are
+//! unused. The expected values are given beside the texts.
 #![tactic(auto)]
 
 #[cfg(test)]

@@ -2,14 +2,14 @@ use std::alloc::{AllocError, Global};
 use std::process::Abort;
 use vcd_places::{definitions_end, unused_codes};
 
-/// Definitions up to byte 43, and a body that tells four times: others stand in a comment and as codes, and one is too
+/// Definitions up to byte 43, and a body with four time stamps: others are in a comment or are codes, and one is too
 /// large.
 const TEXT: &[u8] =
     b"$var wire 1 ! a $end $enddefinitions x $end\n#0 1! $comment #5 #6 $end b1 #7 s#8 #9\n#10 0!\n\
 #18446744073709551616 r#1 #2 #10 $end #11";
 
-/// Whether the definitions of a text end by the section at these places, and its body tells these times, each up to its
-/// place.
+/// Whether the section from `start` to `end` ends the definitions of `text`, and its body has the time stamps `times`,
+/// each with the place after it.
 fn tells_times(text: &[u8], start: usize, end: usize, times: &[(u64, usize)]) -> bool {
     let Some((section, mut places)) = definitions_end(text) else {
         return false;
@@ -64,7 +64,7 @@ fn definitions_may_not_end(rt: HostRuntime) {
     }
 }
 
-/// The codes, each with a space behind it.
+/// The codes, each with a space after it.
 fn joined(alloc: Global, found: &[Vec<u8>]) -> Result<Vec<u8>, AllocError> {
     let mut all = Vec::new(alloc);
     for code in found {
@@ -74,14 +74,14 @@ fn joined(alloc: Global, found: &[Vec<u8>]) -> Result<Vec<u8>, AllocError> {
     Ok(all)
 }
 
-/// Whether four codes that a text doesn't have are these, each with a space behind it.
+/// Whether the first four codes that `text` doesn't use are `codes`, each with a space after it.
 fn lacks_codes(alloc: Global, text: &[u8], codes: &[u8]) -> Option<bool> {
     let found = unused_codes(alloc, text, 4).ok()?;
     let all = joined(alloc, &found).ok()?;
     Some(all.as_slice() == codes)
 }
 
-/// Texts, and four codes that each doesn't have. The last has all codes of one byte, and two of two.
+/// Texts, and the first four codes that each doesn't use. The last text uses all codes of one byte, and two of two.
 static CODES: [(&[u8], &[u8]); 4] = [
     (b"", b"! \" # $ "),
     (b"! # \xff !! $end", b"\" $ % & "),

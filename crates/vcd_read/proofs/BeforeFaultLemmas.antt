@@ -16,7 +16,7 @@ use Rattle.vcd_read.specs.DumpProgress.{DumpProgress, DumpState, ended, flushed,
 use Rattle.vcd_read.specs.DumpProgress.{values_from}
 use Rattle.vcd_read.proofs.InstantsLaw.{at_start, instants_law, instants_rise}
 
--- how far these items come: up to the first that is a fault, or all of them
+-- the state before the first of the items that is a fault, or after all of them
 abbrev pub whole_before : List Net → DumpState → List BodyItem → DumpState
 whole_before nets s [] = s
 whole_before nets s (item ∷ items) = elim (step nets s item) [
@@ -27,7 +27,7 @@ whole_before nets s (item ∷ items) = elim (step nets s item) [
 abbrev whole_of : DumpProgress → Result BodyContext VcdFault → Result DumpState VcdFault
 whole_of p r = r >>= λ next. Ok (record { context = next; progress = p })
 
--- ---- the items before the first fault have none
+-- ---- the items before the first fault have no fault
 
 before_step : (nets : List Net) (s : DumpState) (item : BodyItem) (items : List BodyItem)
     (stood : Result BodyContext VcdFault) → context_after nets s.context item ≡ stood
@@ -53,7 +53,7 @@ steps_before nets s [] = refl
 steps_before nets s (item ∷ items) = before_step nets s item items (context_after nets s.context item) refl
     (λ next. steps_before nets next items)
 
--- ---- where no instant is begun, none is before it
+-- ---- if there is no instant at the current time, none is before it
 
 abbrev Starts : DumpProgress → Type 0
 Starts p = p.has_instant ≡ false → p.done ≡ []
@@ -90,7 +90,7 @@ begins nets s [] h = h
 begins nets s (item ∷ items) h = begins_step nets s item items (context_after nets s.context item) h
     (λ next started. begins nets next items started)
 
--- ---- the instant at hand is the last
+-- ---- the current instant is the last
 
 at_hand : (has_instant : Bool) (done : List Instant) (x : Instant) → (has_instant ≡ false → done ≡ [])
     → (rest : List Instant) × (cond has_instant (done ++ x ∷ []) done ≡ done ++ rest)
@@ -99,7 +99,7 @@ at_hand true done x h = (x ∷ [], refl, omega (arith, length_push done x))
 at_hand false done x h = let e = ap (λ (xs : List Instant). length xs) (h refl) in
     ([], sym (append-nil done), omega (arith, e))
 
--- those before the first fault are those that are done, and the one at hand
+-- the instants before the first fault are those that are done, and at most one more
 pub before_fault : (nets : List Net) (items : List BodyItem)
     → (rest : List Instant) × (instants_of nets (items_before_fault nets first_context items)
     ≡ (whole_before nets (at_start nets) items).progress.done ++ rest)
@@ -117,7 +117,7 @@ before_fault nets items =
       hand.2 ∙ ap (λ (xs : List Instant). length xs - 1) law,
     )
 
--- their times ascend
+-- the times of the instants before the first fault ascend
 pub before_fault_rises : (nets : List Net) (items : List BodyItem) → TimesAscend
     (instants_of nets (items_before_fault nets first_context items))
 before_fault_rises nets items = instants_rise nets (items_before_fault nets first_context items)

@@ -75,7 +75,7 @@ module _ {A : Type 0} (with_change : A → ℕ → List Bit → A) (with_instant
     (on_instant : (done : List Instant) (current : CurrentValues) (a : A) (time : ℕ) → R done current a
     → R (done ++ record { time = time; values = values_from 0 current } ∷ []) (replicate (length current) None)
     (with_instant a time)) where
-  -- the state of the fold where the reading has come this far
+  -- the state of the fold with the accumulator `a` where the reading is at `p`
   abbrev fold_at : DumpProgress → A → BodyFold A
   fold_at p a = record { accumulator = a; time = p.time; has_instant = p.has_instant }
 
@@ -142,7 +142,7 @@ module _ {A : Type 0} (with_change : A → ℕ → List Bit → A) (with_instant
   steps-follow (item ∷ items) s a r = step-follows items item s a (context_after nets s.context item) refl r
       (λ s2 b kept. steps-follow items s2 b kept)
 
-  -- the same up to the first fault
+  -- before the first fault, the fold is at the state of the reading, and its accumulator is related to the instants
   abbrev KeepsBefore : Whole → State A → Type 0
   KeepsBefore w t = (a : A) × (t ≡ state_at w a) × R w.progress.done w.progress.current a
 
@@ -201,7 +201,7 @@ module _ {A : Type 0} (with_change : A → ℕ → List Bit → A) (with_instant
       (instants_at s.progress)) (t >>= at_end with_instant)) (sym k.1) (end-follows s k.0 (at_the_end s.context) k.2)
   ends-follow (Err fault) t k = ap (λ (t : Result (State A) VcdFault). t >>= at_end with_instant) k
 
-  -- the fold over a body and the instants of the body
+  -- the fold over a body follows the instants of the body
   pub taken-follows : (body : List Token) (a : A) → R [] (replicate (length nets) None) a → Follows (Ends R)
       (instants_from nets body) (fold_body with_change with_instant nets a body)
   taken-follows body a r =

@@ -38,6 +38,7 @@ items_of open_shape line ts = dump_section_open line ∷ body_from ready ts
 items_of end_shape line ts = dump_section_end line ∷ body_from ready ts
 items_of none line ts = wrong line BadToken ∷ body_from ready ts
 
+-- the items from a token on, by the shape of the token
 pub shape_read : (t : Token) (ts : List Token) (shape : Shape) → shape ≡ shape_of t.bytes → body_from ready (t ∷ ts)
     ≡ items_of shape t.line ts
 unfolding body_from
@@ -83,7 +84,7 @@ comment_more line before ts t cut e = ap (body_from (in_comment line)) cut ∙ c
 
 -- ---- what reading gives
 
--- what reading gives stays as it was, or it stops
+-- reading gives the same after a call as before it, or stops with the fault of the call
 abbrev LeavesOne : {A X : Type 0} → UntilFault A → UntilFault A → BodyFold A → Result X VcdFault → Type 0
 LeavesOne before after timed (Ok _) = before ≡ after
 LeavesOne before after timed (Err fault) = Stops fault timed.accumulator timed.time before
@@ -101,7 +102,7 @@ pub stopped_fails : {A Y : Type 0} (line : ℕ) (kind : FaultKind) (taken : A) (
 stopped_fails line Memory taken time before read h = h
 stopped_fails line kind taken time before read h = h.0
 
--- the same for each text that goes on
+-- if `LeavesOne` holds for all tokens `more` that follow, `BodyContinuesAs` holds
 leaves_each : {A X : Type 0} (before after : List Token → UntilFault A) (timed : BodyFold A) (r : Result X VcdFault)
     → ((more : List Token) → LeavesOne (before more) (after more) timed r)
     → BodyContinuesAs before after timed.accumulator timed.time r
@@ -116,7 +117,7 @@ leaves_same before before2 after taken time (Ok x) e h = λ more. e more ∙ h m
 leaves_same before before2 after taken time (Err fault) e h = λ more. stops_same fault taken time (before more)
     (before2 more) (e more) (h more)
 
--- what a `?` returns
+-- if reading stops with `fault`, whatever follows, `BodyContinuesAs` holds of the error `fault`, as `?` returns it
 pub leaves_err : {A X : Type 0} (before after : List Token → UntilFault A) (taken : A) (time : ℕ)
     (r : Result X VcdFault) (fault : VcdFault) → IsErrAnd r (λ e. e ≡ fault)
     → ((more : List Token) → Stops fault taken time (before more)) → BodyContinuesAs before after taken time r
@@ -126,7 +127,7 @@ leaves_err before after taken time (Err e) fault is h = subst (λ (f : VcdFault)
 
 -- ---- what was taken
 
--- a fault before anything was taken
+-- a call that takes nothing keeps what was taken
 pub keeps_same : {A X : Type 0} (a : A) (r : Result X VcdFault) → KeepsTaken a a r
 keeps_same a (Ok x) = tt
 keeps_same a (Err fault) = by_kind a fault.kind
@@ -138,13 +139,13 @@ keeps_same a (Err fault) = by_kind a fault.kind
 pub keeps_equal : {A X : Type 0} (before taken : A) (r : Result X VcdFault) → taken ≡ before → KeepsTaken before taken r
 keeps_equal {A = A} before taken r e = subst (λ (a : A). KeepsTaken before a r) (sym e) (keeps_same before r)
 
--- want of memory
+-- after want of memory nothing is said of what was taken
 pub keeps_memory : {A X : Type 0} (before taken : A) (r : Result X VcdFault)
     → IsErrAnd r (λ e. e ≡ record { line = 0; kind = Memory }) → KeepsTaken before taken r
 keeps_memory before taken (Ok x) is = tt
 keeps_memory before taken (Err fault) is = subst (λ (f : VcdFault). KeepsAs f.kind before taken) (sym is) tt
 
--- what the end of a body comes to, where only memory may run out
+-- what the end of a body gives, where the only fault is want of memory
 pub gives_or_stops : {A T : Type 0} (taken : T → A) (before : BodyFold A) (end : A) (r : Result T (Stopped T))
     (read : Result A VcdFault) → IfOk r (λ visitor. taken visitor ≡ end)
     → IfErr r (λ stopped. stopped.fault ≡ record { line = 0; kind = Memory }) → read ≡ Ok end
@@ -187,7 +188,7 @@ module _ {A : Type 0} (with_change : A → ℕ → List Bit → A) (with_instant
         ];
       }) e
 
-  -- the state before a fault is what was taken
+  -- if reading stops at `s`, what was taken and the time there are those before the fault
   stops_at : (nets : List Net) (s : State A) (items : List BodyItem) (line : ℕ) (kind : FaultKind) (timed : BodyFold A)
       → until_fault with_change with_instant nets s items
       ≡ record { outcome = Err (record { line = line; kind = kind }); reached = s }
@@ -239,7 +240,7 @@ module _ {A : Type 0} (with_change : A → ℕ → List Bit → A) (with_instant
       (λ more. rw (n, t, a, p, is more)
       (item_leaves nets s s2 item (body_from ready (left_at text at ++ more)) r h kept))
 
-  -- the same by a reader of its own
+  -- one item is read by a reader of its own, which then is at `after`
   pub read_on : {X : Type 0} (nets nets2 : List Net) (timed timed2 : BodyFold A)
       (dump_section dump_section2 : Option Start)
       (text text2 : BodyPiece) (after : ℕ) (item : BodyItem) (before : List Token → List BodyItem)
@@ -260,7 +261,7 @@ module _ {A : Type 0} (with_change : A → ℕ → List Bit → A) (with_instant
       (read_item nets nets2 (state_of text timed dump_section) (state_of text timed2 dump_section2) text text after
       after Ready item before r n refl refl refl is h kept)
 
-  -- an item that is none
+  -- what is no item is a fault, and leaves what was taken and the time
   pub read_wrong : (nets : List Net) (s : State A) (line : ℕ) (kind : FaultKind) (before after : List BodyItem) → before
       ≡ wrong line kind ∷ after
       → (steps with_change with_instant nets s before ≡ Err (record { line = line; kind = kind }))
@@ -270,14 +271,14 @@ module _ {A : Type 0} (with_change : A → ℕ → List Bit → A) (with_instant
       rw e (stops_at nets s (wrong line kind ∷ after) line kind s.progress
       (item_stops nets s (wrong line kind) after (record { line = line; kind = kind }) refl) refl)
 
-  -- a piece in which nothing is left leaves what is ahead
+  -- if nothing is left of a piece before and after a call, reading gives the same, whatever follows
   pub nothing_left : (nets : List Net) (s : State A) (place : BodyPlace) (before after : List Token) → before ≡ []
       → after ≡ []
       → (more : List Token) → until_fault with_change with_instant nets s (body_from place (before ++ more))
       ≡ until_fault with_change with_instant nets s (body_from place (after ++ more))
   nothing_left nets s place before after e e2 more = rw (e, e2) refl
 
-  -- what is ahead where what was read to is the same
+  -- from equal states, reading gives the same, whatever follows
   pub same_left : (nets nets2 : List Net) (text text2 : BodyPiece) (timed visitor2 : BodyFold A)
       (dump_section dump_section2 : Option Start) (place place2 : BodyPlace) (at : ℕ) → nets2 ≡ nets → text2 ≡ text
       → visitor2
@@ -290,14 +291,14 @@ module _ {A : Type 0} (with_change : A → ℕ → List Bit → A) (with_instant
   same_left nets nets2 text text2 timed visitor2 dump_section dump_section2 place place2 at n t w b p more =
       rw (n, t, w, b, p) refl
 
-  -- a piece that is read to its end leaves what is after it
+  -- if nothing is left of a piece, reading gives what the tokens `more` after it give
   pub nothing_behind : (nets nets2 : List Net) (s : State A) (place : BodyPlace) (left : List Token) → nets2 ≡ nets
       → left ≡ []
       → (more : List Token) → until_fault with_change with_instant nets2 s (body_from place (left ++ more))
       ≡ until_fault with_change with_instant nets s (body_from place more)
   nothing_behind nets nets2 s place left n e more = rw (n, e) refl
 
-  -- a token is at hand, and then it is read
+  -- to read from `at` on is to read the token there, and then from `after` on
   pub token_left : (nets : List Net) (text text2 : BodyPiece) (timed : BodyFold A) (dump_section : Option Start)
       (at at2 after : ℕ) (bytes : List ℕ) → text2 ≡ text → at2 ≡ at
       → left_at text at ≡ token_at text at bytes ∷ left_at text after
@@ -309,7 +310,7 @@ module _ {A : Type 0} (with_change : A → ℕ → List Bit → A) (with_instant
       rw (t, a) (ap (λ (ts : List Token). until_fault with_change with_instant nets (state_of text timed dump_section)
       (body_from ready (ts ++ more))) cut)
 
-  -- the digits of a vector are at hand, and then they are read
+  -- to read from the digits of a vector on is to read its code and the rest, from `after` on
   pub vector_left : (nets : List Net) (text text2 : BodyPiece) (timed : BodyFold A) (dump_section : Option Start)
       (at at2 after : ℕ) (bytes digits : List ℕ) → text2 ≡ text → at2 ≡ at
       → shape_of bytes ≡ vector digits → left_at text at ≡ token_at text at bytes ∷ left_at text after
@@ -325,7 +326,7 @@ module _ {A : Type 0} (with_change : A → ℕ → List Bit → A) (with_instant
       (token_at text at bytes)
       (left_at text after ++ more) (vector digits) (sym shape)))
 
-  -- what isn't ended is met at the end
+  -- an item or a dump section that isn't ended is a fault at the end of the body
   pub unfinished_fails : (nets : List Net) (timed : BodyFold A) (dump_section : Option ℕ) (place : OpenItem) (line : ℕ)
       → unfinished place dump_section ≡ Some line
       → finished with_change with_instant nets timed dump_section (place_of place)

@@ -38,7 +38,7 @@ pub record StandsFrom (changed_nets : List ℕ) (place net : ℕ) : Type 0 where
   pub high : at < length changed_nets
   pub is : get_or changed_nets at 0 ≡ net
 
--- what is moved out and what is left, with the nets before this place done
+-- the values of the nets before `place` in the list are moved to `moved`, and the others are left in `current`
 pub record IsMoved (changed_nets : List ℕ) (place : ℕ) (start current : CurrentValues) (moved : List Value) : Type 0
   where
     pub values : moved ++ values_from 0 current ≡ values_from 0 start
@@ -96,7 +96,7 @@ set_none [] net e = refl
 set_none (c ∷ current) zero e = ap (λ (x : Option (List Bit)). x ∷ current) (sym e)
 set_none (c ∷ current) (suc net) e = ap (λ (xs : CurrentValues). c ∷ xs) (set_none current net e)
 
--- what is taken is gone
+-- a net whose value is taken has none
 taken_none : (current : CurrentValues) (net : ℕ) → get_or (slice_set current net None) net None ≡ no_bits
 taken_none [] net = refl
 taken_none (c ∷ current) zero = refl
@@ -129,7 +129,7 @@ listed_next changed_nets place start current moved h net some =
           record { at = s.at; low = omega (arith, s.low, apart); high = s.high; is = s.is }
     ]
 
--- the next net is done
+-- the value of the net at `place` is moved
 pub moved_some : (changed_nets : List ℕ) (place : ℕ) (start current : CurrentValues) (moved : List Value)
     (bits : List Bit)
     → IsNonDecreasing changed_nets → IsMoved changed_nets place start current moved
@@ -150,6 +150,7 @@ moved_some changed_nets place start current moved bits up h e =
       listed = listed_next changed_nets place start current moved h;
     }
 
+-- the net at `place`, which has no value, is passed over
 pub moved_none : (changed_nets : List ℕ) (place : ℕ) (start current : CurrentValues) (moved : List Value)
     → IsMoved changed_nets place start current moved
     → get_or current (get_or changed_nets place 0) None ≡ no_bits
@@ -170,7 +171,7 @@ all_none base (None ∷ current) none =
     let h = all_none (base + 1) current (λ net. none (suc net)) in
     (h.0, ap (λ (xs : CurrentValues). None ∷ xs) h.1)
 
--- at the end nothing is left
+-- at the end of the list all values are moved, and none is left
 pub moved_all : (changed_nets : List ℕ) (place : ℕ) (start current : CurrentValues) (moved : List Value)
     → IsMoved changed_nets place start current moved → length changed_nets ≤ place
     → (moved ≡ values_from 0 start) × (current ≡ replicate (length start) None)

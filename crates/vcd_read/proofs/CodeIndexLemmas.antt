@@ -71,7 +71,7 @@ short_place-same code other a b h k page entry =
 
 -- ---- the pages
 
--- what a page that is there has
+-- the net at an entry of a page that is there, `p`
 pub net_on-at : (pages : List (Vec (Option ℕ))) (page entry : ℕ) (p : Vec (Option ℕ)) → page < length pages
     → p ≡ get_or pages page p → net_on pages page entry ≡ get_or p.items entry None
 unfolding net_on
@@ -90,7 +90,7 @@ net_on-past (x ∷ pages) (suc page) entry le = net_on-past pages page entry (om
 none_on_empty : (items : List (Option ℕ)) (entry : ℕ) → items ≡ [] → get_or items entry None ≡ None
 none_on_empty items entry e = ap (λ (items : List (Option ℕ)). get_or items entry None) e
 
--- one more page, with no net on it
+-- one more page, with no net on it, changes no net
 pub net_on-push : (pages : List (Vec (Option ℕ))) (p : Vec (Option ℕ)) (page entry : ℕ) → p.items ≡ []
     → net_on (pages ++ p ∷ []) page entry ≡ net_on pages page entry
 unfolding net_on
@@ -103,7 +103,7 @@ elsewhere : {X : Type 0} (b c : Bool) (x y : X) → b ≡ false → y ≡ cond (
 elsewhere true c x y e = absurd cc
 elsewhere false c x y e = refl
 
--- one page is changed at one entry
+-- if the page `at` is changed at the entry `place`, this entry has `net`, and all others are as they were
 pub net_on-set : (pages : List (Vec (Option ℕ))) (at : ℕ) (old new : Vec (Option ℕ)) (place : ℕ) (net : Option ℕ)
     → at < length pages → old ≡ get_or pages at old
     → ((k : ℕ) → get_or new.items k None ≡ update nat_eq (λ j. get_or old.items j None) place net k)
@@ -121,7 +121,7 @@ net_on-set (x ∷ pages) (suc at) old new place net lt is changed (suc page) ent
     net_on-set pages at old new place net (omega (arith, lt)) is changed page entry
     ∙ ap (λ (b : Bool). cond (b && eqb place entry) net (net_on pages page entry)) (sym (eqb-suc-suc at page))
 
--- one page is as it was
+-- if a page is set to what it was, all nets are as they were
 pub net_on-same : (pages : List (Vec (Option ℕ))) (at : ℕ) (old new : Vec (Option ℕ)) → at < length pages
     → old ≡ get_or pages at old → new.items ≡ old.items → (page entry : ℕ) → net_on (set pages at new) page entry
     ≡ net_on pages page entry
@@ -134,7 +134,7 @@ net_on-same (x ∷ pages) (suc at) old new lt is same zero entry = refl
 net_on-same (x ∷ pages) (suc at) old new lt is same (suc page) entry =
     net_on-same pages at old new (omega (arith, lt)) is same page entry
 
--- no page, and nothing in the map
+-- with no page, and nothing in the map, no code has a net
 pub none_found : (pages : List (Vec (Option ℕ))) (entries : List (Vec ℕ × ℕ)) → pages ≡ [] → entries ≡ []
     → (code : List ℕ) (place : Option CodePlace) → found pages entries code place ≡ None
 unfolding net_on
@@ -212,7 +212,7 @@ both_are : (a b : Bool) → (a && b) ≡ true → (a ≡ true) × (b ≡ true)
 both_are true b e = (refl, e)
 both_are false b e = absurd cc
 
--- a net on a page
+-- after a net is set on a page, its code has it, and the other codes have the nets that they had
 pub page_change : (old new : List (Vec (Option ℕ))) (entries : List (Vec ℕ × ℕ)) (code : List ℕ) (place : CodePlace)
     (net : ℕ) → Some place ≡ short_place code
     → ((page entry : ℕ) → net_on new page entry
@@ -245,7 +245,7 @@ page_change old new entries code place net is set other =
         (eqb-true place.entry at.entry same.1))))
     go None is_at_place apart = refl
 
--- a net in the map
+-- after a net is entered in the map, its code has it, and the other codes have the nets that they had
 pub map_change : (pages : List (Vec (Option ℕ))) (old new : List (Vec ℕ × ℕ)) (code : List ℕ) (key : Vec ℕ)
     (net : ℕ) → None ≡ short_place code → key.items ≡ code
     → new ≡ insert_entry (λ x y. slice_cmp nat_cmp x.items y.items) old key net

@@ -66,7 +66,7 @@ pub net_within : (nets : List Net) (code : List ℕ) → IsSome (net_of nets cod
 net_within nets code some = within_test (ltb (position_or_len (has_code code) nets) (length nets))
     (position_or_len (has_code code) nets) (length nets) refl some
 
--- one more net
+-- the index has each code's net after one more net is added
 pub indexed_push : (nets : List Net) (old new : CodeIndex) (code : List ℕ) (size net : ℕ) → AreIndexed nets old
     → net_of nets code ≡ None → net ≡ length nets → net + 1 < 2 ^ 32
     → ((other : List ℕ) → net_at new other ≡ update bytes_eq (net_at old) code (Some net) other)
@@ -120,7 +120,7 @@ sized-push nets code size none other =
     go true = ap (λ (bits : ℕ). Some (length nets, bits)) (size_of-last nets n)
     go false = sized-before nets n (net_of nets other) (net_within nets other)
 
--- one more net
+-- the table has the net of each code of one byte after one more net is added
 pub one_byte_push : (nets : List Net) (old new : List (Option (ℕ × ℕ))) (code : List ℕ) (size : ℕ) (net : ℕ × ℕ)
     → HasOneByteCodes nets old → net_of nets code ≡ None → net ≡ (length nets, size) → length new ≡ 256
     → ((byte : ℕ) → byte < 256 → one_byte_net_at new byte

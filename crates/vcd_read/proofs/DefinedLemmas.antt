@@ -1,4 +1,4 @@
--- What comes of the variables of a header, for whatever takes them: a fold over all of them.
+-- What a visitor makes of the variables of a header is a fold over all of them.
 use Rattle.std.proofs.Common.{◌≡◌, ℕ, Bool, true, false, cond, List, [], ◌∷◌, Result, Ok, Err, codes, refl, sym, ap}
 use Rattle.std.proofs.Common.{◌∙◌}
 use Rattle.std.specs.Prelude.{bytes_eq}
@@ -17,11 +17,11 @@ use Rattle.vcd_read.specs.Meaning.{body_of}
 use Rattle.vcd_read.proofs.DumpLemmas.{whole_header}
 
 module _ {V : Type 0} (with_variable : V → Variable → V) where
-  -- what comes of some variables, one after the other
+  -- what a visitor makes of `variables`, one after the other
   abbrev pub taken_all : V → List Variable → V
   taken_all v variables = fold with_variable v variables
 
-  -- the same declarations, with what comes of their variables
+  -- the declarations `d`, with what a visitor makes of their variables
   abbrev pub taken_in : V → Declared (List Variable) → Declared V
   taken_in v d = record { scopes = d.scopes; nets = d.nets; variables = taken_all v d.variables }
 
@@ -102,7 +102,7 @@ module _ {V : Type 0} (with_variable : V → Variable → V) where
   same_all v (unfinished line ∷ items) d = refl
   same_all v (stray line ∷ items) d = refl
 
-  -- the same header
+  -- the header `d`, with what a visitor makes of its variables
   abbrev pub taken_head : V → Defined (List Variable) → Defined V
   taken_head v d = record { head = d.head; variables = taken_all v d.variables }
 
@@ -113,7 +113,7 @@ module _ {V : Type 0} (with_variable : V → Variable → V) where
   same_head v (Ok d) (Err fault) = refl
   same_head v (Err fault) b = refl
 
-  -- reading a header gives what comes of all its variables
+  -- to read a header with a visitor gives what the visitor makes of all its variables
   pub header_taken : (text : List ℕ) (v : V) → header_of with_variable text (nothing_declared v) (tokens text)
       ≡ (whole_header text >>= λ d. Ok (taken_head v d))
   header_taken text v =

@@ -1,4 +1,4 @@
--- What a piece that was read by itself tells, where it is joined.
+-- What a piece that was read by itself gives where it is joined.
 use Rattle.std.proofs.Common.{◌≡◌, ℕ, ◌≤◌, Bool, true, false, cond, ◌&&◌, List, [], ◌∷◌, ◌++◌, Option, Some, None}
 use Rattle.std.proofs.Common.{Result, Ok, Err, refl, sym, ap, ◌∙◌, subst, zero-add, arith}
 use Rattle.std.specs.Prelude.{not, ◌==◌, unwrap_or, nat_lt}
@@ -34,7 +34,7 @@ number_tested text time true true kind large h = cc
 number_tested text time true false kind large h = absurd cc
 number_tested text time false below kind large h = absurd cc
 
--- a time is the number that its digits are
+-- a time is the number that its digits denote
 pub time_number : (digits : List ℕ) (time : ℕ) → time_of digits ≡ Ok time → number digits ≡ time
 time_number digits time h = number_tested digits time _ _ _ _ h
 
@@ -45,7 +45,7 @@ first-read ts others t digits time cut shape is =
     ap (λ (x : List Token). time_first (body_from ready x)) cut ∙ ap time_first (shape_read t others (time_shape digits)
     shape) ∙ ap Some (time_number digits time is)
 
--- all that is left of a piece
+-- from place 0 on, all of a piece is left
 pub left-whole : (line : ℕ) (bytes : List ℕ) → left_from line bytes 0 ≡ tokens_from line bytes
 left-whole line bytes = ap (λ (l : ℕ). tokens_from l bytes) (zero-add line)
 
@@ -64,7 +64,7 @@ module _ {A : Type 0} (with_change : A → ℕ → List Bit → A) (with_instant
   then-steps items more (Ok s) rest = rest s
   then-steps items more (Err fault) rest = refl
 
-  -- items, and others after them
+  -- to read `items ++ more` is to read `items` and then `more`
   pub steps-append : (s : State A) (items more : List BodyItem) → steps with_change with_instant nets s (items ++ more)
       ≡ (steps with_change with_instant nets s items >>= λ end. steps with_change with_instant nets end more)
   unfolding steps
@@ -72,7 +72,7 @@ module _ {A : Type 0} (with_change : A → ℕ → List Bit → A) (with_instant
   steps-append s (item ∷ items) more = then-steps items more (step with_change with_instant nets s item)
       (λ next. steps-append next items more)
 
-  -- what is read to its end between two items is this
+  -- if reading `left` to its end, between two items, leads to `end`, reading the tokens `ts` gives `end`
   pub read-whole : (s end : State A) (place : OpenItem) (left ts : List Token) → left ≡ ts → place ≡ Ready
       → steps with_change with_instant nets s (body_from ready (left ++ [])) ≡ steps with_change with_instant nets end
       (body_from (place_of place) [])
@@ -83,8 +83,7 @@ module _ {A : Type 0} (with_change : A → ℕ → List Bit → A) (with_instant
       (sym e ∙ sym (append-nil left))
       ∙ h ∙ ap (λ (p : OpenItem). steps with_change with_instant nets end (body_from (place_of p) [])) is
 
-  -- what is so of what was taken, and of what each change and each end of an instant makes of it, is so after the
-  -- items
+  -- a property `R` of what was taken, which each change and each end of an instant keeps, is kept by items
   module _ (R : A → Type 0) (on_change : (a : A) (net : ℕ) (bits : List Bit) → R a → R (with_change a net bits))
       (on_instant : (a : A) (time : ℕ) → R a → R (with_instant a time)) where
     advanced-keeps : (p : BodyFold A) (time : ℕ) (test : Bool) → R p.accumulator
@@ -126,7 +125,7 @@ module _ {A : Type 0} (with_change : A → ℕ → List Bit → A) (with_instant
         (context_after nets s.context item) end (λ next kept. steps-keep next items end kept)
         (item-keeps s.progress item r) is
 
-    -- what is so of what was taken before a piece is so after it
+    -- a piece keeps `R`: if it holds of what was taken before the piece, it holds after it
     pub kept-detached : (bytes : List ℕ) (before : A) (detached : ReadDetached A)
         → IsReadDetached with_change with_instant nets
         bytes before detached → R before → R detached.progress.accumulator
@@ -142,7 +141,7 @@ module _ {A : Type 0} (with_change : A → ℕ → List Bit → A) (with_instant
     later-ok items end (Ok next) h = (next, h)
     later-ok items end (Err fault) h = absurd cc
 
-    -- these tokens end between two items, if they are read without a fault
+    -- if the tokens `ts` are read without a fault, they end between two items: `more` is read as if it were alone
     abbrev AreWhole : BodyPlace → List Token → Type 0
     AreWhole place ts = (s end : State A) → steps with_change with_instant nets s (body_from place ts) ≡ Ok end
         → body_from place (ts ++ more) ≡ body_from place ts ++ body_from ready more
@@ -201,7 +200,7 @@ module _ {A : Type 0} (with_change : A → ℕ → List Bit → A) (with_instant
     are-whole (t ∷ ts) (code_of_foreign line) s end h = one-whole (skipped line t.bytes) ts s end (are-whole ts ready) h
     are-whole (t ∷ ts) (in_comment line) s end h = comment-whole (is_end t.bytes) line ts s end (are-whole ts) h
 
-  -- ---- a first time
+  -- ---- a time as the first item
 
   time-met : (s : BodyContext) (line : ℕ) (digits : List ℕ) (p : BodyFold A) (items : List BodyItem) (end : State A)
       (read : Result ℕ FaultKind) → time_of digits ≡ read
@@ -230,7 +229,7 @@ module _ {A : Type 0} (with_change : A → ℕ → List Bit → A) (with_instant
       ∙ ap (λ (test : Bool). at_line line (cond test (Err TimeBackwards) (Ok n) >>= λ now. Ok (record s { now = now })))
       (not_below s.now n low)
 
-  -- after a time that isn't earlier
+  -- a time that isn't earlier is read, and becomes the current one
   pub time-step : (s : State A) (line n : ℕ) (digits : List ℕ) (items : List BodyItem) → time_of digits ≡ Ok n
       → s.context.now ≤ n
       → steps with_change with_instant nets s (time_item line digits ∷ items)
@@ -244,7 +243,7 @@ module _ {A : Type 0} (with_change : A → ℕ → List Bit → A) (with_instant
       (stood >>= λ next. Ok (record { context = next; progress = advanced with_instant s.progress (number digits) }))
       >>= λ next. steps with_change with_instant nets next items) (stand-time s.context line n digits is low)
 
--- ---- what one visitor tells another
+-- ---- what one visitor learns from another
 
 module _ {A B : Type 0} (with_change : A → ℕ → List Bit → A) (with_instant : A → ℕ → A) (other_change : B → ℕ → List Bit
     → B) (other_instant : B → ℕ → B) (learned : A → B)
@@ -325,7 +324,7 @@ module _ {A B : Type 0} (with_change : A → ℕ → List Bit → A) (with_insta
     before-learned items s p (Ok next) rest = rest (record { context = next; progress = p })
     before-learned items s p (Err fault) rest = refl
 
-    -- the same up to the first fault
+    -- up to the first fault, too, what a visitor learns from another is what it would take itself
     pub reached-learned : (s : State A) (items : List BodyItem)
         → reached_before other_change other_instant nets (learned_state s) items
         ≡ learned_state (reached_before with_change with_instant nets s items)
@@ -353,7 +352,7 @@ module _ {A B : Type 0} (with_change : A → ℕ → List Bit → A) (with_insta
     same_time : (a b : ℕ) → Some a ≡ Some b → a ≡ b
     same_time a b e = cc
 
-    -- items that begin with a time tell the same, from an earlier time on
+    -- items that begin with `time` give the other visitor, whose time isn't later, what it learns from the first
     first-learned : (items : List BodyItem) (before : A) (time : ℕ) (end : State A) (p : BodyFold B) → time_first items
         ≡ Some time → steps with_change with_instant nets (before_piece before time) items ≡ Ok end
         → p.time ≤ time → learned before ≡ entered other_instant p.accumulator (ended_at p time)
@@ -386,7 +385,7 @@ module _ {A B : Type 0} (with_change : A → ℕ → List Bit → A) (with_insta
         ∙ ap (λ (r : Result (State A) VcdFault). r >>= λ end. Ok (learned_state end)) own
     first-learned (item ∷ items) before time end p first whole low told = absurd cc
 
-  -- what comes of a body is what a piece that was read by itself tells, and what is after it
+  -- to read on with the bytes of a piece and `more` is to join the piece that was read by itself, and then read `more`
   pub joined-leads : (r : Reached B) (bytes : List ℕ) (before : A) (detached : ReadDetached A)
       → IsReadDetached with_change
       with_instant r.nets bytes before detached → MayFollow r detached

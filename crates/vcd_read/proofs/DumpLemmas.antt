@@ -9,7 +9,7 @@ use Rattle.vcd_read.specs.Header.{◌>>=◌, Declared, declare_all, nothing_decl
 use Rattle.vcd_read.specs.Sections.{Defined, headed, header_of}
 use Rattle.vcd_read.specs.Meaning.{dump_of, body_of, instants_from}
 
--- what is read after a header
+-- the contents of a dump, by its header: its variables, and the instants of its body
 abbrev pub contents_behind : Defined (List Variable) → Result Contents VcdFault
 contents_behind d = instants_from d.head.nets d.head.body >>= λ instants. Ok
     (record { variables = d.variables; instants = instants })

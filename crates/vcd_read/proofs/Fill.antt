@@ -19,7 +19,7 @@ extended_size size digits fits =
     length-append (replicate (size - length bits) (fill_before bits)) bits
     ∙ (omega (arith, len, length-replicate (size - length bits) (fill_before bits), fits))
 
--- a bit on the left of the digits
+-- a bit left of the digits extends the first digit
 pub bit_fill : (size : ℕ) (digits : List ℕ) (place missing : ℕ) → 0 < length digits → length digits ≤ size → missing
     ≡ size - length digits → place < missing
     → get_or (extended size digits) place X ≡ fill_of (bit_of (get_or digits 0 0))
@@ -38,7 +38,7 @@ bit_fill size digits place missing some fits e lt =
     get_or_append_left fill bits X place in_fill ∙ get_or-replicate (size - length bits) place (fill_before bits) X
     (omega (arith, len, e, lt)) ∙ fill_first digits some
 
--- a bit of a digit
+-- a bit that isn't left of the digits is that of its digit
 pub bit_digit : (size : ℕ) (digits : List ℕ) (place missing : ℕ) → length digits ≤ size → missing ≡ size - length digits
     → missing ≤ place → place < size
     → get_or (extended size digits) place X ≡ bit_of (get_or digits (place - missing) 0)
@@ -51,13 +51,13 @@ bit_digit size digits place missing fits e le lt =
     get_or-append_right fill bits missing place X in_fill le ∙ get_or-map bit_of digits (place - missing) 0 X
     (omega (arith, e, le, lt))
 
--- no bit
+-- past the last bit there is x
 pub bit_past : (size : ℕ) (digits : List ℕ) (place : ℕ) → length digits ≤ size → size ≤ place
     → get_or (extended size digits) place X ≡ X
 bit_past size digits place fits le = get_or_past (extended size digits) place X
     (omega (arith, extended_size size digits fits, le))
 
--- one bit more, on the left of the digits
+-- one more bit, left of the digits, extends the first digit
 pub more_fill : (size : ℕ) (digits : List ℕ) (place missing : ℕ) → 0 < length digits → length digits ≤ size → missing
     ≡ size - length digits → place < missing
     → take (place + 1) (extended size digits) ≡ take place (extended size digits)
@@ -66,7 +66,7 @@ more_fill size digits place missing some fits e lt =
     take_more (extended size digits) place X (omega (arith, extended_size size digits fits, e, lt))
     ∙ ap (λ (b : Bit). take place (extended size digits) ++ b ∷ []) (bit_fill size digits place missing some fits e lt)
 
--- one bit more, of a digit
+-- one more bit, not left of the digits, is that of its digit
 pub more_digit : (size : ℕ) (digits : List ℕ) (place missing : ℕ) → length digits ≤ size → missing
     ≡ size - length digits → missing ≤ place → place < size
     → take (place + 1) (extended size digits) ≡ take place (extended size digits)

@@ -18,7 +18,7 @@ StaysAs line NoEndDefinitions longer = Unit {0}
 StaysAs line UnfinishedSection longer = Unit {0}
 StaysAs line kind longer = longer ≡ Err (record { line = line; kind = kind })
 
--- the header of a text, and that of one that goes on
+-- `longer` is the header with the tokens `more` after its body, or the same fault, unless that is met at the end
 IsPrefixOf : {V : Type 0} → List Token → Result (Defined V) VcdFault → Result (Defined V) VcdFault → Type 0
 IsPrefixOf more (Ok d) longer = longer ≡ Ok (defined (going_on d.head more) d.variables)
 IsPrefixOf more (Err fault) longer = StaysAs fault.line fault.kind longer
@@ -111,7 +111,7 @@ module _ {V : Type 0} (with_variable : V → Variable → V) (text longer : List
   front (t ∷ ts) (inside section) d = inside_step section t ts d (is_end t.bytes) (λ next. front ts between next)
       (front ts (inside (with_word section t.bytes)) d)
 
-  -- what was found of definitions is what every text has that goes on so
+  -- definitions that are found in a text are those of every text that begins with it
   pub found-front : (d : Declared V) (ts : List Token) (found : Defined V) → header_of with_variable text d ts
       ≡ Ok found
       → header_of with_variable longer d (ts ++ more) ≡ Ok (defined (going_on found.head more) found.variables)
@@ -119,7 +119,7 @@ module _ {V : Type 0} (with_variable : V → Variable → V) (text longer : List
   found-front d ts found is = subst (λ (r : Result (Defined V) VcdFault). IsPrefixOf more r
       (header_of with_variable longer d (ts ++ more))) is (front ts between d)
 
-  -- a fault that isn't met at the end is that of every text that goes on so
+  -- a fault that isn't met at the end of a text is that of every text that begins with it
   pub failed-front : (d : Declared V) (ts : List Token) (line : ℕ) (kind : FaultKind) → (IsMetAtTheEnd kind → ⊥)
       → ReadFailsAs line kind (header_of with_variable text d ts)
       → ReadFailsAs line kind (header_of with_variable longer d (ts ++ more))
@@ -130,7 +130,7 @@ module _ {V : Type 0} (with_variable : V → Variable → V) (text longer : List
   failed-front d ts line kind other fails = subst (λ (r : Result (Defined V) VcdFault). IsPrefixOf more r
       (header_of with_variable longer d (ts ++ more))) fails (front ts between d)
 
--- a fault that is none of the two
+-- a fault of another kind than these two isn't one of the end of a text
 pub goes_on-else : (kind : FaultKind) → (kind ≡ UnfinishedSection → ⊥) → (kind ≡ NoEndDefinitions → ⊥)
     → IsMetAtTheEnd kind → ⊥
 goes_on-else NoEndDefinitions section definitions met = definitions refl

@@ -123,7 +123,7 @@ header_section : (t : Token) (ts : List Token) → opens_section t.bytes ≡ tru
 unfolding header_from
 header_section t ts opens = rw (header_from, opens) (header_inside ts (opened t))
 
--- ---- what is declared after it
+-- ---- what is declared after a section
 module _ {V : Type 0} (with_variable : V → Variable → V) where
   abbrev Reading : Type 0
   Reading = Result (Defined V) VcdFault
@@ -185,7 +185,7 @@ module _ {V : Type 0} (with_variable : V → Variable → V) where
   abbrev next_at : List ℕ → Declared V → ℕ → Ended → List ℕ → Reading
   next_at text d line ended word = next_of text d (record { line = line; bytes = word }) ended
 
-  -- what the words after the first token don't matter to
+  -- where only the tokens after a section matter, its words can be left out
   rest_read : (read : Result Ended VcdFault) (g : List Token → Reading) → (read >>= λ ended. g ended.rest)
       ≡ ((read >>= λ ended. Ok ended.rest) >>= g)
   rest_read (Ok ended) g = refl
@@ -264,7 +264,7 @@ module _ {V : Type 0} (with_variable : V → Variable → V) where
           ≡ with_item (stray t.line) (header_from between ts)
       stray_read t ts none = rw (header_from, none) refl
 
-  -- ---- what comes of one step
+  -- ---- reading in two steps, the first of which succeeds or fails
 
   goes : {A B : Type 0} (all : Result B VcdFault) (read : Result A VcdFault) (g : A → Result B VcdFault) (x : A) → all
       ≡ (read >>= g) → read ≡ Ok x → all ≡ g x
@@ -279,6 +279,8 @@ module _ {V : Type 0} (with_variable : V → Variable → V) where
       (g : A → Result B VcdFault) → all ≡ (read >>= g) → ReadFails fault read → ReadFails fault all
   stops fault all read g e h = fails_as fault.line fault.kind all read g e h
 
+  -- a section of each kind, opened by `t`: if reading or declaring it fails (`_stops`, `_refused`), the header has that
+  -- fault; otherwise (`_goes`) the header is what the tokens after the section give, or they are its body (`end_goes`)
   module _ (text : List ℕ) (d : Declared V) (t : Token) (ts : List Token) where
     abbrev behind_var : Ended → Reading
     behind_var ended = at_line t.line (declare_var with_variable d ended.words) >>= λ next. header_of with_variable text

@@ -1,4 +1,4 @@
--- What comes of the items one by one is the instants of the grammar.
+-- The fold over the items gives the instants of the grammar.
 use Rattle.std.proofs.Common.{◌≡◌, ℕ, zero, suc, ◌+◌, ◌<◌, ◌≤◌, Bool, true, false, ◌&&◌, cond, eqb, ltb, List, [], ◌∷◌}
 use Rattle.std.proofs.Common.{◌++◌, length, map, get_or, replicate, Option, Some, None, option_map, Result, Ok, Err}
 use Rattle.std.proofs.Common.{refl, sym, ap, ◌∙◌, subst, arith, append_assoc, inl, inr}
@@ -35,7 +35,7 @@ at_line_ok : {A : Type 0} (line : ℕ) (r : Result A FaultKind) (x : A) → at_l
 at_line_ok line (Ok a) x h = cc
 at_line_ok line (Err kind) x h = absurd cc
 
--- what one of two tests lets through
+-- a value that passes two tests is as it was
 passed : {A E : Type 0} (p q : Bool) (x y : A) (e f : E) → cond p (cond q (Ok x) (Err e)) (Err f) ≡ Ok y → x ≡ y
 passed true true x y e f h = cc
 passed true false x y e f h = absurd cc
@@ -129,7 +129,7 @@ length-applied t (c ∷ changes) current = length-applied t changes _ ∙ same_l
     same_length true current net o = length-set current net o
     same_length false current net o = refl
 
--- the later of two
+-- the later of two values, if there is one, or else the earlier
 abbrev over : Option (List Bit) → Option (List Bit) → Option (List Bit)
 over (Some bits) before = Some bits
 over None before = before
@@ -189,7 +189,7 @@ none_of count = replicate count None
 abbrev instant_from : List (Option (List Bit)) → List NetChange → ℕ → Instant
 instant_from current changes t = record { time = t; values = values_from 0 (applied t changes current) }
 
--- the same where no net had a value
+-- the instant at a time, where no net had a value before these changes
 abbrev fresh : ℕ → List NetChange → ℕ → Instant
 fresh count changes t = instant_from (none_of count) changes t
 
@@ -210,7 +210,7 @@ fresh-is count changes t =
 
 -- ---- the times
 
--- the distinct times after this one
+-- the times without those that equal the one before them, where `now` is before the first
 abbrev others : ℕ → List ℕ → List ℕ
 others now [] = []
 others now (t ∷ times) = cond (eqb t now) (others now times) (t ∷ others t times)
@@ -242,7 +242,7 @@ eqb-later t u lt = grind (arith, nat_tests)
 eqb-earlier : (t u : ℕ) → u < t → eqb t u ≡ false
 eqb-earlier t u lt = grind (arith, nat_tests)
 
--- changes of later times leave what is earlier
+-- changes at later times than `t` leave the values at `t`
 untouched : (nets : List Net) (items : List BodyItem) (now t : ℕ) (current : List (Option (List Bit)))
     → Ascends now items → t < now → applied t (changes_from nets now items) current ≡ current
 unfolding changes_from
@@ -257,7 +257,7 @@ untouched nets (dump_section_open line ∷ items) now t current up lt = untouche
 untouched nets (dump_section_end line ∷ items) now t current up lt = untouched nets items now t current up.1 lt
 untouched nets (wrong line kind ∷ items) now t current up lt = untouched nets items now t current up.1 lt
 
--- two functions that are the same at later times
+-- two functions that agree at all times after `first` agree at the times of the items after `now`
 same_at_others : (f g : ℕ → Instant) (items : List BodyItem) (first now : ℕ) → Ascends now items → first ≤ now
     → ((t : ℕ) → first < t → f t ≡ g t) → map f (others now (times_from now items))
     ≡ map g (others now (times_from now items))
@@ -299,7 +299,7 @@ advanced_next : (done : List Instant) (now t : ℕ) (current : List (Option (Lis
     ∷ []) t (none_of (length current))
 advanced_next done now t current e = rw e refl
 
--- an instant that is begun, and those after it
+-- the instant at `now`, where the nets have the values `current` before `changes`, and the instants after it
 abbrev instants_at : ℕ → List (Option (List Bit)) → List NetChange → ℕ → List ℕ → List Instant
 instants_at count current changes now times = instant_from current changes now ∷ map (fresh count changes)
     (others now times)
@@ -325,7 +325,7 @@ at_next count done current changes now t times e len kept =
     ∙ ap (λ (ts : List ℕ). done ++ instant_from current changes now ∷ map (fresh count changes) ts)
     (sym (others_next t now times e))
 
--- a change at the current time
+-- a change at the current time can be made in `current` or be the first of the changes
 at_change : (nets : List Net) (items : List BodyItem) (now : ℕ) (current : List (Option (List Bit))) (c : NetChange)
     → c.time ≡ now → Ascends now items
     → instants_at (length nets) (slice_set current c.net (Some c.bits)) (changes_from nets now items) now
@@ -347,7 +347,7 @@ at_change nets items now current c here up =
     ∙ ap (λ (is : List Instant). instant_from current (c ∷ changes) now ∷ is)
     (rest ∙ ap (map (fresh (length nets) (c ∷ changes))) (sym (others_again now times)))
 
--- what comes of a time that has an instant
+-- the fold from a time on that has an instant gives this instant and those after it
 begun_law : (nets : List Net) (items : List BodyItem) (done : List Instant) (now : ℕ)
     (current : List (Option (List Bit))) → length current ≡ length nets → Ascends now items
     → ended (progress_after_all nets (has_instant_at done now current) items) ≡ done ++ instants_at (length nets)
@@ -382,7 +382,7 @@ begun_law nets (dump_section_open line ∷ items) done now current len up = begu
 begun_law nets (dump_section_end line ∷ items) done now current len up = begun_law nets items done now current len up.1
 begun_law nets (wrong line kind ∷ items) done now current len up = begun_law nets items done now current len up.1
 
--- what comes of the start
+-- the fold from a start without an instant gives the instants of all distinct times
 start_law : (nets : List Net) (items : List BodyItem) (now : ℕ) → Ascends now items
     → ended (progress_after_all nets
     (record { done = []; time = now; has_instant = false; current = none_of (length nets) })

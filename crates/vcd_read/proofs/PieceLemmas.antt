@@ -8,7 +8,7 @@ use Rattle.std.proofs.lemmas.List.Sums.{sum_by-cons, sum_by-take-drop}
 use Rattle.vcd_read.specs.Tokens.{Cut, Token, all_of, cut_from, is_space, next_line, token_of, tokens_from, with_byte}
 use Rattle.vcd_read.specs.Reading.{line_behind}
 
--- a cut with more tokens after
+-- `cut` with the tokens `more` after it
 abbrev behind : Cut → List Token → Cut
 behind cut more = record { run = cut.run; others = cut.others ++ more }
 
@@ -40,7 +40,7 @@ line_behind-one line b = line_behind-cons line b [] ∙ zero-add (next_line line
 rest_more : (front rest all line : ℕ) → front + rest ≡ all → rest + (front + line) ≡ all + line
 rest_more front rest all line e = omega (arith, e)
 
--- the line after a text is that after the rest of it
+-- the line after a text is the line after its rest from `at` on, counted from the line of `at`
 pub line_behind-rest : (line : ℕ) (text : List ℕ) (at : ℕ)
     → line_behind (line_behind line (take at text)) (drop at text)
     ≡ line_behind line text
@@ -49,7 +49,7 @@ line_behind-rest line text at =
     (count_by (λ (x : ℕ). eqb x 10) text) line
     (sum_by-take-drop (λ (x : ℕ). cond (eqb x 10) 1 0) text at)
 
--- what is after a space
+-- the cut of a text that begins with a space: no run, and `tokens`
 abbrev spaced : List Token → Cut
 spaced tokens = record { run = []; others = tokens }
 
@@ -74,13 +74,13 @@ tokens_behind front s rest line e =
     ap (all_of line) (cut_behind front s rest line e) ∙ token_of-behind line cut.run cut.others
     (tokens_from (line_behind line (front ++ s ∷ [])) rest)
 
--- nothing, and what follows
+-- the tokens of an empty prefix, and those of what follows
 pub none_behind : (text rest : List ℕ) (line : ℕ) → tokens_from line (take 0 text ++ rest) ≡ tokens_from line
     (take 0 text) ++ tokens_from (line_behind line (take 0 text)) rest
 unfolding cut_from
 none_behind text rest line = ap (λ (l : ℕ). tokens_from l rest) (sym (zero-add line))
 
--- what ends after a space, and what follows
+-- the tokens of a prefix that ends after a space, and those of what follows
 pub space_behind : (text rest : List ℕ) (end line : ℕ) → end < length text → is_space (get_or text end 0) ≡ true
     → tokens_from line (take (end + 1) text ++ rest) ≡ tokens_from line (take (end + 1) text)
     ++ tokens_from (line_behind line (take (end + 1) text)) rest
@@ -95,7 +95,7 @@ pub left_is : (text : List ℕ) (at : ℕ) → at ≤ length text → drop at te
     ≡ drop (length text - length (drop at text)) text
 left_is text at le = ap (λ (n : ℕ). drop n text) (omega (arith, length-drop at text, le))
 
--- what is left of a text that ends after a space, and what follows
+-- the tokens from `at` on of a text that ends after a space, and those of what follows
 pub left_behind : (text rest : List ℕ) (at line : ℕ)
     → (0 < length text → is_space (get_or text (length text - 1) 0) ≡ true)
     → tokens_from line (drop at text ++ rest) ≡ tokens_from line (drop at text)

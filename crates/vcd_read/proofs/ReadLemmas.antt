@@ -29,7 +29,7 @@ stand_step : (nets : List Net) (items : List BodyItem) (progress : DumpProgress)
 stand_step nets items progress (Ok next) rest = rest (with_context progress next)
 stand_step nets items progress (Err fault) rest = refl
 
--- where the items leave a body that is read, without the values
+-- the context after the items is that of the state after them
 stands : (nets : List Net) (s : DumpState) (items : List BodyItem) → context_after_all nets s.context items
     ≡ (steps nets s items >>= λ end. Ok end.context)
 unfolding context_after_all steps
@@ -54,7 +54,7 @@ read_by nets items (Err fault) e =
     ∙ ap (λ (r : Result DumpState VcdFault). r >>= λ end. Ok end.context) e in
     rw stand refl
 
--- the instants of a body are what its items come to at their end
+-- the instants of a body are what the fold over its items gives at their end
 pub read_whole : (nets : List Net) (tokens : List Token) (s : DumpState) → s ≡ at_start nets → instants_from nets tokens
     ≡ (steps nets s (body_from ready tokens) >>= at_end)
 read_whole nets tokens s e = read_by nets (body_from ready tokens) _ refl
@@ -65,7 +65,7 @@ fails_then : {X Y : Type 0} (line : ℕ) (kind : FaultKind) (r : Result X VcdFau
 fails_then line Memory r next h = h
 fails_then {X = X} {Y = Y} line kind r next h = ap (λ (r : Result X VcdFault). r >>= next) h
 
--- what fails first, fails
+-- if the first part of a reading fails, the whole fails
 pub fails_first : {X Y : Type 0} (fault : VcdFault) (r : Result X VcdFault) (next : X → Result Y VcdFault)
     (whole : Result Y VcdFault) → whole ≡ (r >>= next) → ReadFails fault r → ReadFails fault whole
 fails_first fault r next whole e h = rw e (fails_then fault.line fault.kind r next h)
@@ -74,7 +74,7 @@ pub gives_same : {X Y : Type 0} (view : X → Y) (r : Result X VcdFault) (whole 
     → ReadGives view r read → ReadGives view r whole
 gives_same view r whole read e h = rw e h
 
--- what a `?` returns
+-- if reading fails with `fault`, `ReadGives` holds of the error `fault`, as `?` returns it
 pub gives_err : {X Y : Type 0} (view : X → Y) (r : Result X VcdFault) (fault : VcdFault) (read : Result Y VcdFault)
     → IsErrAnd r (λ e. e ≡ fault) → ReadFails fault read → ReadGives view r read
 gives_err view (Ok x) fault read is h = absurd is

@@ -97,7 +97,7 @@ pub path_of-is : (scopes : List (List ℕ)) (name : List ℕ) → 0 < length nam
 path_of-is scopes [] some = absurd (omega (arith, some))
 path_of-is scopes (c ∷ name) some = joined_after scopes ((c ∷ name) ∷ []) (c ∷ name) some (append-nil (c ∷ name))
 
--- the last start is the first of those that are turned round
+-- the last start is the first in reverse order
 pub reverse-push : (starts : List ℕ) (start : ℕ) → reverse (starts ++ start ∷ []) ≡ start ∷ reverse starts
 reverse-push starts start = reverse-append starts (start ∷ [])
 
@@ -138,7 +138,7 @@ pub names_at-pop : (path starts starts' : List ℕ) (start : ℕ) → starts ≡
 names_at-pop path starts starts' start fewer = ap (λ (ss : List ℕ). names_at path (reverse ss)) fewer
     ∙ ap (names_at path) (reverse-push starts' start) ∙ names_at-close path start (reverse starts')
 
--- where no scope is open
+-- where no scope is open, there are no names
 pub names_at-none : (path starts : List ℕ) → starts ≡ [] → names_at path (reverse starts) ≡ []
 unfolding names_at
 names_at-none path starts e = ap (λ (ss : List ℕ). names_at path (reverse ss)) e

@@ -15,20 +15,20 @@ use Rattle.vcd_read.specs.Header.{◌>>=◌, is_end, is_code, VarWords, var_word
 use Rattle.vcd_read.specs.Numbers.{number_below}
 use Rattle.vcd_read.specs.Sections.{Ended, after_word, ended_in, section_from, behind_section}
 
--- these words, and then the others of a section
+-- `ended` with `words` before its own
 abbrev pub after_words : List (List ℕ) → Ended → Ended
 after_words words ended = record { words = words ++ ended.words; rest = ended.rest }
 
 abbrev pub behind_words : List (List ℕ) → Result Ended VcdFault → Result Ended VcdFault
 behind_words words read = read >>= λ ended. Ok (after_words words ended)
 
--- the end of a section
+-- a section ends at the token `$end`
 section_end : (line : ℕ) (t : Token) (before ts : List Token) → before ≡ t ∷ ts → is_end t.bytes ≡ true
     → section_from line before ≡ Ok (record { words = []; rest = ts })
 unfolding ended_in
 section_end line t before ts cut end = ap (section_from line) cut ∙ rw (section_from, ended_in, end) refl
 
--- a word of a section
+-- one more word before the rest of a section
 word_before : (line : ℕ) (word : List ℕ) (ended : Option Ended) → elim (option_map (after_word word) ended) as
     (λ _. Result Ended VcdFault) [ None ↦ Err (record { line = line; kind = UnfinishedSection }) | Some e ↦ Ok e ]
     ≡ behind_words (word ∷ []) (elim ended as (λ _. Result Ended VcdFault)
@@ -59,7 +59,7 @@ behind_both front back (Err fault) = refl
 behind_both front back (Ok ended) = ap (λ (words : List (List ℕ)). ended_as words ended.rest)
     (sym (append_assoc front back ended.words))
 
--- the same after the words so far
+-- a section is read on, after the words so far
 
 pub words_end : (line : ℕ) (words : List (List ℕ)) (t : Token) (before ts : List Token) → before ≡ t ∷ ts
     → is_end t.bytes ≡ true → behind_words words (section_from line before) ≡ Ok (record { words = words; rest = ts })
@@ -76,7 +76,7 @@ pub words_unfinished : (line : ℕ) (words : List (List ℕ)) (before : List Tok
     (section_from line before) ≡ unfinished_at line
 words_unfinished line words before cut = ap (behind_words words) (section_unfinished line before cut)
 
--- no words yet
+-- with no words so far, nothing is put before the words of a section
 pub words_none : (line : ℕ) (ts : List Token) → section_from line ts ≡ behind_words [] (section_from line ts)
 words_none line ts = no_words (section_from line ts)
   where
@@ -115,7 +115,7 @@ pub All-push_word : (words : List (Bor (List ℕ))) (word : Bor (List ℕ)) → 
     → 0 < length word.now → All (λ w. 0 < length w.now) (words ++ word ∷ [])
 All-push_word words word each some = All-push (λ (w : Bor (List ℕ)). 0 < length w.now) words word each some
 
--- a size that is refused
+-- a `$var` section whose size is refused has the fault of the size
 pub var_words-refused : (words : List (Bor (List ℕ))) (kind : FaultKind) (d : Bor (List ℕ)) → false
     ≡ eqb (length (take (length words - 3) (drop 3 words))) 0 → Err kind ≡ number_below 65537 BadVar
     (get_or words 1 d).now → var_words (texts words) ≡ Err kind

@@ -58,7 +58,7 @@ module _ {A : Type 0} (with_change : A → ℕ → List Bit → A) (with_instant
       rest after ∙ item_time s.progress item (items_before_fault nets next items)
   time_step s item items (Err fault) rest = refl
 
-  -- how far items come, up to the first that is a fault, is where the last time before it is told
+  -- the current time before the first fault is the time of the last time item before it, or else that at `s`
   pub reached_time : (s : State A) (items : List BodyItem)
       → (reached_before with_change with_instant nets s items).progress.time
       ≡ last_time s.progress.time (items_before_fault nets s.context items)

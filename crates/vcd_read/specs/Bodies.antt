@@ -36,23 +36,23 @@ pub record UntilFault (A : Type 0) : Type 0 where
   pub reached : State A
 
 module _ {A : Type 0} (with_change : A → ℕ → List Bit → A) (with_instant : A → ℕ → A) where
-  -- what reading gives from here on: these tokens, and more after them
+  -- what reading `tokens` and then `more` gives from a state and a place in the grammar on
   abbrev pub ahead : List Net → BodyFold A → Option ℕ → BodyPlace → List Token → List Token → Result (State A) VcdFault
   ahead nets timed dump_section place tokens more = steps with_change with_instant nets (state_at timed dump_section)
       (body_from place (tokens ++ more))
 
-  -- the same where nothing is left of the body
+  -- what the end of the body gives at a state and a place in the grammar
   abbrev pub finished : List Net → BodyFold A → Option ℕ → BodyPlace → Result A VcdFault
   finished nets timed dump_section place = ahead nets timed dump_section place [] [] >>= at_end with_instant
 
-  -- what reading these items gives, and how far it comes
+  -- what reading `items` from `s` on gives, and how far it comes
   abbrev pub until_fault : List Net → State A → List BodyItem → UntilFault A
   until_fault nets s items = record {
     outcome = steps with_change with_instant nets s items;
     reached = reached_before with_change with_instant nets s items;
   }
 
-  -- the same from here on: these tokens, and more after them
+  -- what reading `tokens` and then `more` gives from a state and a place in the grammar on, and how far it comes
   abbrev pub ahead_until_fault : List Net → BodyFold A → Option ℕ → BodyPlace → List Token → List Token → UntilFault A
   ahead_until_fault nets timed dump_section place tokens more =
       until_fault nets (state_at timed dump_section) (body_from place (tokens ++ more))
@@ -63,7 +63,7 @@ module _ {A : Type 0} (with_change : A → ℕ → List Bit → A) (with_instant
       until_fault nets (state_of reader.text timed dump_section)
       (body_from place (left_at reader.text reader.at ++ more))
 
-  -- the same with a token before it
+  -- what reading a token and then the rest of a piece gives, between two items
   abbrev pub from_token : ℕ → List ℕ → List Net → Reader → BodyFold A → Option Start → List Token → UntilFault A
   from_token at bytes nets reader timed dump_section more =
       until_fault nets (state_of reader.text timed dump_section)
@@ -71,8 +71,7 @@ module _ {A : Type 0} (with_change : A → ℕ → List Bit → A) (with_instant
 
 -- ---- where reading stops
 
--- the fault is what reading gives, and what was taken, and the time, are those of what is before it, unless memory
--- ran out
+-- `read` is this fault, and `taken` and `time` are those before it; if memory ran out, it says only that the line is 0
 abbrev pub StoppedAs : {A Y : Type 0} → ℕ → FaultKind → A → ℕ → BodyFold A → Result Y VcdFault → Type 0
 StoppedAs line Memory taken time before read = line ≡ 0
 StoppedAs line kind taken time before read =
@@ -90,26 +89,28 @@ abbrev pub KeepsTaken : {A X : Type 0} → A → A → Result X VcdFault → Typ
 KeepsTaken before taken (Ok _) = Unit {0}
 KeepsTaken before taken (Err fault) = KeepsAs fault.kind before taken
 
--- what reading gives stays as it was, whatever follows, or it stops
+-- whatever follows, reading gives the same after a call as before it, or stops with the fault of the call
 abbrev pub BodyContinuesAs : {A X : Type 0} → (List Token → UntilFault A) → (List Token → UntilFault A) → A → ℕ
     → Result X VcdFault → Type 0
 BodyContinuesAs before after taken time (Ok _) = (more : List Token) → before more ≡ after more
 BodyContinuesAs before after taken time (Err fault) = (more : List Token) → Stops fault taken time (before more)
 
--- the same, where what was read to is returned, or what took what is before a fault
+-- whatever follows, reading from the returned `x` on gives what it gave before the call, or it stops with the returned
+-- fault and visitor
 abbrev pub ContinuesOrStops : {A T X : Type 0} → (X → List Token → UntilFault A) → (T → A) → Result X (Stopped T)
     → (List Token → UntilFault A) → Type 0
 ContinuesOrStops view taken (Ok x) before = (more : List Token) → before more ≡ view x more
 ContinuesOrStops view taken (Err stopped) before = (more : List Token) → Stops stopped.fault (taken stopped.visitor)
     stopped.time (before more)
 
--- what a reading that ends comes to, where this was taken before its end
+-- `read`, what the end of a body gives, is what the returned visitor took, or it is the returned fault, and what was
+-- taken and the time are those of `before`, unless memory ran out
 abbrev pub GivesOrStops : {A T : Type 0} → (T → A) → BodyFold A → Result T (Stopped T) → Result A VcdFault → Type 0
 GivesOrStops taken before (Ok visitor) read = read ≡ Ok (taken visitor)
 GivesOrStops taken before (Err stopped) read = StoppedAs stopped.fault.line stopped.fault.kind (taken stopped.visitor)
     stopped.time before read
 
--- what reading gives stays as it was, where what was read to is returned, or is this fault
+-- whatever follows, reading from the returned `x` on gives what it gave before the call, or it fails with the fault
 abbrev pub BodyContinuesTo : {A X : Type 0} → (X → List Token → Result (State A) VcdFault) → Result X VcdFault
     → (List Token → Result (State A) VcdFault) → Type 0
 BodyContinuesTo view (Ok x) before = (more : List Token) → before more ≡ view x more

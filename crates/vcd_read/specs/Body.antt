@@ -12,12 +12,13 @@ use Rattle.vcd_read.specs.Header.{◌>>=◌, at_line, is_end, Net, net_of, size_
 
 -- ---- the cut into items
 
+-- an item of a body; the first number is its line
 pub data BodyItem : Type 0 where
   -- the digits after a #
   time_item : ℕ → List ℕ → BodyItem
   -- digits, and the code whose value they are
   change : ℕ → List ℕ → List ℕ → BodyItem
-  -- a code whose value is none of bits
+  -- the code of a real number or a string
   skipped : ℕ → List ℕ → BodyItem
   dump_section_open : ℕ → BodyItem
   dump_section_end : ℕ → BodyItem
@@ -62,7 +63,7 @@ abbrev pub shape_of : List ℕ → Shape
 shape_of [] = none
 shape_of (b ∷ word) = shape_from b word
 
--- between two items, or after the first token of one: a vector's, one that is skipped, a comment's
+-- between two items, or after the first token of one, with its line: a vector's, one that is skipped, a comment's
 pub data BodyPlace : Type 0 where
   ready : BodyPlace
   code_of_vector : ℕ → List ℕ → BodyPlace

@@ -33,7 +33,7 @@ state_at timed dump_section = record {
   progress = timed;
 }
 
--- the same, where it starts in the piece that is read, or before it
+-- how far a body is read, where the open dump section starts in the piece that is read, or before it
 abbrev pub state_of : {A : Type 0} → BodyPiece → BodyFold A → Option Start → State A
 state_of text timed dump_section = state_at timed (option_map (line_of text) dump_section)
 
@@ -58,7 +58,7 @@ module _ {A : Type 0} (with_instant : A → ℕ → A) where
   abbrev pub ended : BodyFold A → A
   ended p = if p.has_instant then with_instant p.accumulator p.time else p.accumulator
 
-  -- what comes of a body that is read to its end
+  -- what a body gives that is read to its end
   abbrev pub at_end : State A → Result A VcdFault
   at_end s = at_the_end s.context >>= λ stood. Ok (ended s.progress)
 
@@ -81,7 +81,7 @@ module _ {A : Type 0} (with_change : A → ℕ → List Bit → A) (with_instant
   steps s [] = Ok s
   steps s (item ∷ items) = step s item >>= λ next. steps next items
 
-  -- how far these items come: up to the first that is a fault, or all of them
+  -- the state before the first of the items that is a fault, or after all of them
   unfoldable pub reached_before : State A → List BodyItem → State A
   reached_before s [] = s
   reached_before s (item ∷ items) = elim (step s item) [

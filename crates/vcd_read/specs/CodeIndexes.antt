@@ -15,7 +15,7 @@ net_on [] page entry = None
 net_on (p ∷ pages) zero entry = get_or p.items entry None
 net_on (p ∷ pages) (suc page) entry = net_on pages page entry
 
--- a code with a place is on its page, and another in the map
+-- the net of a code: on a page if the code has a place, or else in the map
 abbrev pub found : List (Vec (Option ℕ)) → List (Vec ℕ × ℕ) → List ℕ → Option CodePlace → Option ℕ
 found pages entries code (Some place) = net_on pages place.page place.entry
 found pages entries code None = lookup (is_at (λ key. slice_cmp nat_cmp code key.items)) entries

@@ -1,10 +1,10 @@
--- What comes of changes that are all kept: the instants.
+-- What a visitor that keeps all changes makes of them: the instants.
 use Rattle.std.specs.Prelude.{ℕ, List, [], ◌∷◌, ◌++◌, length, replicate, slice_set, Option, Some, None}
 use Rattle.vcd_read.specs.declared.dump.Bit.{Bit}
 use Rattle.vcd_read.specs.declared.dump.Instant.{Instant}
 use Rattle.vcd_read.specs.DumpProgress.{values_from}
 
--- The instants before the one at hand, and the last value of each net at that.
+-- The instants before the current one, and the last value of each net at the current one, if it has one.
 pub record Collected : Type 0 where
   pub done : List Instant
   pub current : List (Option (List Bit))

@@ -10,8 +10,7 @@ use Rattle.vcd_read.specs.Body.{BodyItem, time_item, ready, body_from}
 use Rattle.vcd_read.specs.BodyFold.{BodyFold, State, body_fold, state_at, steps}
 use Rattle.vcd_read.specs.Reached.{Reached}
 
--- What came of a piece that was read as if between two items, outside of dump sections, at the time that it begins
--- with.
+-- The result of reading a piece as if between two items, outside of dump sections, at the time that it begins with.
 pub record ReadDetached (A : Type 0) : Type 0 where
   -- the time that it begins with
   pub time : ℕ
@@ -23,7 +22,7 @@ pub record ReadDetached (A : Type 0) : Type 0 where
   -- the line that it ends on
   pub line : ℕ
 
--- a piece that is read by itself, by what was taken
+-- a piece that is read by itself, by what its visitor took
 abbrev pub read_detached : {T A : Type 0} → (T → A) → DetachedPiece T → ReadDetached A
 read_detached taken a =
     record {
@@ -48,7 +47,7 @@ before_piece before time = state_at (record { accumulator = before; time = time;
 abbrev pub detached_items : ℕ → List ℕ → List BodyItem
 detached_items line bytes = body_from ready (tokens_from line bytes)
 
--- these bytes were read by themselves, by a visitor that had taken this before
+-- `bytes` were read by themselves, by a visitor that had taken `before`
 pub record IsReadDetached {A : Type 0} (with_change : A → ℕ → List Bit → A) (with_instant : A → ℕ → A)
     (nets : List Net) (bytes : List ℕ) (before : A) (detached : ReadDetached A) : Type 0 where
   pub begins : time_first (detached_items detached.first_line bytes) ≡ Some detached.time
@@ -64,11 +63,11 @@ pub record MayFollow {A B : Type 0} (r : Reached B) (detached : ReadDetached A) 
   pub time : r.progress.time ≤ detached.time
   pub line : r.line ≡ detached.first_line
 
--- the time of the instant that a time ends, where it ends one
+-- the time of the current instant, if `time` ends it
 abbrev pub ended_at : {A : Type 0} → BodyFold A → ℕ → Option ℕ
 ended_at p time = if p.has_instant && not (time == p.time) then Some p.time else None
 
--- what is taken after the end of such an instant
+-- what is taken after the end of an instant at the given time, if there is one
 abbrev pub entered : {A : Type 0} → (A → ℕ → A) → A → Option ℕ → A
 entered with_instant a None = a
 entered with_instant a (Some time) = with_instant a time
@@ -85,7 +84,7 @@ behind_piece nets detached =
           detached.line;
     }
 
--- the same place, with something else taken
+-- `r` with `b` as what was taken
 abbrev pub with_taken : {A B : Type 0} → B → Reached A → Reached B
 with_taken b r =
     record {
@@ -96,7 +95,7 @@ with_taken b r =
       line = r.line;
     }
 
--- the same piece, with something else taken
+-- the piece `a` with `b` as what was taken
 abbrev pub detached_with : {A B : Type 0} → B → ReadDetached A → ReadDetached B
 detached_with b a =
     record {

@@ -1,4 +1,4 @@
--- The instants as they come: a fold over the items of a body.
+-- The instants of a body, as a fold over its items.
 use Rattle.std.specs.Prelude.{ℕ, ◌+◌, Bool, true, false, ◌&&◌, not, ◌==◌, if◌then◌else◌, List, [], ◌∷◌, ◌++◌, length}
 use Rattle.std.specs.Prelude.{replicate, slice_set, Option, Some, None, unwrap_or, Result, Ok}
 use Rattle.vcd_read.specs.declared.dump.Bit.{Bit}
@@ -22,6 +22,7 @@ values_from net [] = []
 values_from net (None ∷ current) = values_from (net + 1) current
 values_from net (Some bits ∷ current) = record { net = net; bits = bits } ∷ values_from (net + 1) current
 
+-- the current instant is done, and no net has a value at the current time
 abbrev pub flushed : DumpProgress → DumpProgress
 flushed p =
     record p {
@@ -48,7 +49,7 @@ progress_after nets p (change line digits code) =
     changed p net (extended (size_of nets net) digits)
 progress_after nets p item = p
 
--- ---- both together
+-- ---- the context and the progress together
 
 pub record DumpState : Type 0 where
   pub context : BodyContext

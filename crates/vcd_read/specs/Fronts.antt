@@ -15,11 +15,11 @@ pub record ReadFront : Type 0 where
   pub left : List ℕ
   pub line : ℕ
 
--- a header whose text goes on
+-- the header of a text that continues with the tokens `more`
 abbrev pub going_on : Headed → List Token → Headed
 going_on head more = record head { body = head.body ++ more }
 
--- the definitions don't end in the text
+-- the fault says that the definitions don't end in the text
 abbrev pub IsMetAtTheEnd : FaultKind → Type 0
 IsMetAtTheEnd NoEndDefinitions = Unit {0}
 IsMetAtTheEnd UnfinishedSection = Unit {0}
@@ -27,7 +27,8 @@ IsMetAtTheEnd kind = ⊥
 
 module _ {V X : Type 0} (with_variable : V → Variable → V) (declared : Declared V) (front : List ℕ) (head : X → Headed)
     (taken : X → V) where
-  -- what is found of the definitions is what each text has that begins so, unless they don't end in that prefix
+  -- the header or the fault that is found is that of each text that begins with `front`; `None` says that the
+  -- definitions don't end in `front`
   abbrev pub HeaderContinuesAs : Result (Option X) VcdFault → Type 0
   HeaderContinuesAs (Ok (Some x)) = (text : List ℕ) (more : List Token)
       → header_of with_variable text declared (tokens front ++ more) ≡ Ok (defined (going_on (head x) more) (taken x))

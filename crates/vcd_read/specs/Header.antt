@@ -31,9 +31,9 @@ pub record Section : Type 0 where
 
 pub data HeaderItem : Type 0 where
   whole : Section → HeaderItem
-  -- a section that the text ends in
+  -- a section that the text ends in, by its line
   unfinished : ℕ → HeaderItem
-  -- a token outside a section that opens none
+  -- a token outside a section that opens none, by its line
   stray : ℕ → HeaderItem
 
 -- The items up to the end of the definitions, and the tokens after it, if there is one.
@@ -89,7 +89,8 @@ pub record Net : Type 0 where
   pub code : List ℕ
   pub size : ℕ
 
--- what came of the variables so far; the nets are in the order of their first declarations
+-- what is declared so far, with what a visitor made of the variables; the nets are in the order of their first
+-- declarations
 pub record Declared (V : Type 0) : Type 0 where
   -- the names of the open scopes, the innermost first
   pub scopes : List (List ℕ)
@@ -181,12 +182,12 @@ variable_in scopes net size reference = record {
   net = net;
 }
 
--- a net, and the nets with it
+-- the number of a net, and all nets, with that one
 pub record JoinedNets : Type 0 where
   pub net : ℕ
   pub nets : List Net
 
--- the net of a code, which may have been declared before, and then with the same size
+-- the net of a code: a new one, or the one that it has already, which must be of the same size
 abbrev pub net_for : List Net → List ℕ → ℕ → Option ℕ → Result JoinedNets FaultKind
 net_for nets code size None = Ok (record { net = length nets; nets = nets ++ record { code = code; size = size } ∷ [] })
 net_for nets code size (Some net) = if size_of nets net == size then Ok
@@ -212,7 +213,7 @@ abbrev pub close_scope : {V : Type 0} → Declared V → List (List ℕ) → Res
 close_scope d [] = Err ScopeUnderflow
 close_scope d (scope ∷ scopes) = Ok (record d { scopes = scopes })
 
--- what comes of one more variable is said by whatever takes them
+-- `with_variable` is what a visitor makes of one more variable
 module _ {V : Type 0} (with_variable : V → Variable → V) where
   abbrev pub declare_var : Declared V → List (List ℕ) → Result (Declared V) FaultKind
   declare_var d words = do
@@ -240,10 +241,10 @@ module _ {V : Type 0} (with_variable : V → Variable → V) where
   declare_all d (unfinished line ∷ items) = Err (record { line = line; kind = UnfinishedSection })
   declare_all d (stray line ∷ items) = Err (record { line = line; kind = BadToken })
 
--- nothing yet, where this comes of no variables
+-- nothing is declared yet, and `none` is what a visitor makes of no variables
 abbrev pub nothing_declared : {V : Type 0} → V → Declared V
 nothing_declared none = record { scopes = []; nets = []; variables = none }
 
--- a variable more, where all are kept
+-- one more variable, for a visitor that keeps all
 abbrev pub appended : List Variable → Variable → List Variable
 appended variables variable = variables ++ variable ∷ []

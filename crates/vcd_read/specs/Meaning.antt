@@ -1,4 +1,4 @@
--- The dump that a text is.
+-- The dump that a text denotes.
 use Rattle.std.specs.Prelude.{◌≡◌, ℕ, ◌&&◌, ◌==◌, if◌then◌else◌, List, [], ◌∷◌, length, map, Option, Some, None}
 use Rattle.std.specs.Prelude.{option_map, unwrap_or, Result, Ok, Err, filter_map, nat_eq}
 use Rattle.std.specs.List.{range_with_len, dedup}
@@ -29,7 +29,7 @@ change_of nets now digits code =
     let net = unwrap_or (net_of nets code) 0 in
     record { time = now; net = net; bits = extended (size_of nets net) digits }
 
--- a change has the time of the last time item before it, or else this one
+-- a change has the time of the last time item before it, or else `now`
 unfoldable pub changes_from : List Net → ℕ → List BodyItem → List NetChange
 changes_from nets now [] = []
 changes_from nets now (time_item line digits ∷ items) = changes_from nets (number digits) items
@@ -43,7 +43,7 @@ times_from now (time_item line digits ∷ items) = number digits ∷ times_from 
 times_from now (change line digits code ∷ items) = now ∷ times_from now items
 times_from now (item ∷ items) = times_from now items
 
--- the bits of the last of these changes that is of this net at this time
+-- the bits of the last of the changes that is of the net `net` at the time `t`
 unfoldable pub last_at : ℕ → ℕ → List NetChange → Option (List Bit)
 last_at t net [] = None
 last_at t net (c ∷ changes) = elim (last_at t net changes) [
@@ -91,17 +91,17 @@ items_before_fault nets s (item ∷ items) = elim (context_after nets s item) [
 abbrev pub instants_before_fault : List Net → List Token → List Instant
 instants_before_fault nets body = instants_of nets (items_before_fault nets first_context (body_from ready body))
 
--- the last time that these items tell, or else this one
+-- the time of the last time item, or else `now`
 unfoldable pub last_time : ℕ → List BodyItem → ℕ
 last_time now [] = now
 last_time now (time_item line digits ∷ items) = last_time (number digits) items
 last_time now (item ∷ items) = last_time now items
 
--- the last time that a body tells before its first fault, or its end; 0 where it tells none
+-- the time of the last time item of a body before its first fault, or its end; 0 if there is none
 abbrev pub last_time_before_fault : List Net → List Token → ℕ
 last_time_before_fault nets body = last_time 0 (items_before_fault nets first_context (body_from ready body))
 
--- the dump that a text is, or else its first fault
+-- the dump that `text` denotes, or else its first fault
 unfoldable pub dump_of : List ℕ → Result Contents VcdFault
 dump_of text =
     let header = header_from between (tokens text) in do

@@ -9,7 +9,7 @@ use Rattle.vcd_read.specs.Body.{BodyPlace}
 use Rattle.vcd_read.specs.BodyFold.{BodyFold, State, body_fold}
 use Rattle.vcd_read.specs.Bodies.{UntilFault, ahead, ahead_until_fault, finished, place_of}
 
--- How far a body is read: what came of it, and where reading goes on.
+-- How far a body is read: what was taken of it, and where reading continues.
 pub record Reached (A : Type 0) : Type 0 where
   pub nets : List Net
   pub progress : BodyFold A
@@ -19,7 +19,7 @@ pub record Reached (A : Type 0) : Type 0 where
   -- the line that the next piece begins on
   pub line : ℕ
 
--- how far some pieces go, by what was taken
+-- how far some pieces go, by what their visitor took
 abbrev pub reached : {T A : Type 0} → (T → A) → Pieces T → Reached A
 reached taken p =
     record {
@@ -31,15 +31,15 @@ reached taken p =
     }
 
 module _ {A : Type 0} (with_change : A → ℕ → List Bit → A) (with_instant : A → ℕ → A) where
-  -- what reading gives from there on: these tokens, and more after them
+  -- what reading `tokens` and then `more` gives from `r` on
   abbrev pub rest_of : Reached A → List Token → List Token → Result (State A) VcdFault
   rest_of r tokens more = ahead with_change with_instant r.nets r.progress r.dump_section r.place tokens more
 
-  -- the same, and how far it comes
+  -- what reading `tokens` and then `more` gives from `r` on, and how far it comes
   abbrev pub rest_until_fault : Reached A → List Token → List Token → UntilFault A
   rest_until_fault r tokens more = ahead_until_fault with_change with_instant r.nets r.progress r.dump_section r.place
       tokens more
 
-  -- what comes of it where nothing is left of the body
+  -- what the end of the body gives at `r`
   abbrev pub outcome_of : Reached A → Result A VcdFault
   outcome_of r = finished with_change with_instant r.nets r.progress r.dump_section r.place

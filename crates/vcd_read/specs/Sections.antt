@@ -59,14 +59,14 @@ opening_of word =
 abbrev pub var_of : VarSection → VarWords
 var_of var = record { size = var.size; code = var.code.now; reference = concat (texts var.reference.now) }
 
--- what a function returned, seen by view, is this
+-- what a function returned, seen by `view`, is `read`
 abbrev pub ReturnsAs : {X Y E : Type 0} → (X → Y) → Result X E → Result Y E → Type 0
 ReturnsAs view (Ok x) read = read ≡ Ok (view x)
 ReturnsAs view (Err e) read = read ≡ Err e
 
 -- ---- the whole header
 
--- the open scopes, the nets, and what came of the variables
+-- the open scopes, the nets, and what a visitor made of the variables
 abbrev pub declared_in : {V : Type 0} → List (List ℕ) → List Net → V → Declared V
 declared_in scopes nets variables = record { scopes = scopes; nets = nets; variables = variables }
 
@@ -75,7 +75,7 @@ pub record Headed : Type 0 where
   pub nets : List Net
   pub body : List Token
 
--- The same with what came of the variables.
+-- A header, and what a visitor made of its variables.
 pub record Defined (V : Type 0) : Type 0 where
   pub head : Headed
   pub variables : V
@@ -87,7 +87,7 @@ abbrev pub headed : {V : Type 0} → Declared V → List Token → Defined V
 headed d body = defined (record { nets = d.nets; body = body }) d.variables
 
 module _ {V : Type 0} (with_variable : V → Variable → V) where
-  -- the header of a text, where this much is declared and these items and tokens are left
+  -- the header of `text`, where `d` is declared and the items and tokens of `header` are left
   abbrev pub rest_of_header : List ℕ → Declared V → Header → Result (Defined V) VcdFault
   rest_of_header text d header = declare_all with_variable d header.items >>= λ declared. body_of text header.body
       >>= λ body. Ok (headed declared body)
@@ -95,8 +95,8 @@ module _ {V : Type 0} (with_variable : V → Variable → V) where
   abbrev pub header_of : List ℕ → Declared V → List Token → Result (Defined V) VcdFault
   header_of text d ts = rest_of_header text d (header_from between ts)
 
--- whether the definitions go on after a section: reading the header gives then what it gave before, and otherwise it
--- gives this
+-- a section is read: if the definitions continue (`true`), reading the header gives the same after it as before it;
+-- otherwise (`false`) it gives `end`; a fault is that of the header
 abbrev pub SectionContinuesAs : {V : Type 0} → Result (Defined V) VcdFault → Result (Defined V) VcdFault → Defined V
     → Result Bool VcdFault → Type 0
 SectionContinuesAs before after end (Ok true) = before ≡ after

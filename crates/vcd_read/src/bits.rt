@@ -8,7 +8,7 @@ use crate::dump::{Bit, Bits};
 use smallvec::SmallVec;
 use std::alloc::{AllocError, Global};
 
-/// The bits of a value of this size, extended on the left (IEEE Std 1364-2005, 18.2.2).
+/// The `size` bits of the value that `digits` denote, extended on the left (IEEE Std 1364-2005, 18.2.2).
 pub(crate) fn extended(alloc: Global, size: u32, digits: &[u8]) -> Result<Bits, AllocError>
     requires some { 0 < length digits.now }
     requires fits { length digits.now ≤ size }
@@ -28,7 +28,7 @@ pub(crate) fn extended(alloc: Global, size: u32, digits: &[u8]) -> Result<Bits, 
     Ok(Bits::from_small_vec(bits))
 }
 
-/// One bit of the value of this size that digits are, by its place from the left: x where the value has no such bit.
+/// The bit at `place`, from the left, of the value of `size` bits that `digits` denote: x if it has no such bit.
 #[tactic(auto, using(crate::proofs::Fill::bit_fill, crate::proofs::Fill::bit_digit, crate::proofs::Fill::bit_past))]
 #[inline(always)]
 pub fn bit_at(size: u32, digits: &[u8], place: usize) -> Bit
@@ -46,7 +46,7 @@ pub fn bit_at(size: u32, digits: &[u8], place: usize) -> Bit
     }
 }
 
-/// Most digits are 0 or 1.
+/// The bit that a digit denotes. Most digits are 0 or 1, so these are tested first.
 fn bit_of(digit: u8) -> Bit
     ensures { result ≡ bit_of digit }
 {

@@ -69,8 +69,8 @@ impl<'a, 'c, T: ChangeVisitor> Body<'a, 'c, T> {
         self.item(alloc, Token { at, bytes })
     }
 
-    /// Reads short items as long as they come: nearly all are. The place is that of a reader of its own, which stays in
-    /// registers.
+    /// Reads short items, up to the first that isn't short: nearly all are. The place is that of a reader of its own,
+    /// which stays in registers.
     #[inline(always)]
     fn short_items(&mut self, alloc: Global) -> Result<(), VcdFault>
         requires { self.old.place ≡ Ready }
@@ -91,7 +91,8 @@ impl<'a, 'c, T: ChangeVisitor> Body<'a, 'c, T> {
         Ok(())
     }
 
-    /// Reads the next item, if there is one and it is short.
+    /// Reads the next item, if there is one and it is short: a time of at most 19 digits, a scalar change of a code of
+    /// one byte that a space follows, or a change of a vector whose code is in the piece.
     #[inline(always)]
     fn short_item(&mut self, alloc: Global, reader: &mut Reader<'a>) -> Result<bool, VcdFault>
         requires { reader.old.text ≡ self.old.reader.text }
@@ -116,7 +117,7 @@ impl<'a, 'c, T: ChangeVisitor> Body<'a, 'c, T> {
         self.short_change(alloc, reader)
     }
 
-    /// Reads the item whose first token is at hand where it is a short time.
+    /// Reads the item that begins at `reader.at`, if it is a time of at most 19 digits.
     #[inline(always)]
     fn short_time(&mut self, alloc: Global, reader: &mut Reader<'a>) -> Result<bool, VcdFault>
         requires text { reader.old.text ≡ self.old.reader.text }
@@ -140,8 +141,8 @@ impl<'a, 'c, T: ChangeVisitor> Body<'a, 'c, T> {
         }
     }
 
-    /// Reads the item whose first token is at hand where it is a short change, or that of a vector whose code is in
-    /// the piece: each of its bytes is looked at once.
+    /// Reads the item that begins at `reader.at`, if it is a scalar change of a code of one byte that a space follows,
+    /// or a change of a vector whose code is in the piece: each of its bytes is looked at once.
     #[inline(always)]
     fn short_change(&mut self, alloc: Global, reader: &mut Reader<'a>) -> Result<bool, VcdFault>
         requires text { reader.old.text ≡ self.old.reader.text }
@@ -219,7 +220,7 @@ impl<'a, 'c, T: ChangeVisitor> Body<'a, 'c, T> {
         }
     }
 
-    /// Goes on to the time of the digits at a place.
+    /// Advances to `time`, which the token at `start` denotes.
     #[inline(always)]
     fn go_to(&mut self, alloc: Global, start: Start, time: u64) -> Result<bool, VcdFault>
         requires { IsStart self.old.reader.text start }
@@ -301,7 +302,7 @@ impl<'a, 'c, T: ChangeVisitor> Body<'a, 'c, T> {
         }
     }
 
-    /// Reads the code of a value that is none of bits, and skips the change. The code may be in the next piece.
+    /// Reads the code of a real number or a string, and skips the change. The code may be in the next piece.
     fn foreign(&mut self, start: Start) -> Result<bool, VcdFault>
         requires between { self.old.place ≡ Ready }
         requires start { IsStart self.old.reader.text start }
@@ -409,7 +410,7 @@ impl<'a, 'c, T: ChangeVisitor> Body<'a, 'c, T> {
         Ok(true)
     }
 
-    /// Ends the item that the piece before this one ends in, as far as it goes on in this one.
+    /// Reads the rest of the item that the previous piece ends in, as far as it is in this piece.
     fn resume(&mut self, alloc: Global) -> Result<bool, VcdFault>
         ensures codes { self.new.codes ≡ self.old.codes }
         ensures text { self.new.reader.text ≡ self.old.reader.text }
@@ -453,7 +454,7 @@ impl<'a, 'c, T: ChangeVisitor> Body<'a, 'c, T> {
         Ok(())
     }
 
-    /// Where reading stops by this fault.
+    /// `fault`, with the visitor and the last time before it.
     fn stopped(self, fault: VcdFault) -> Stopped<T>
         ensures fault { result.fault ≡ fault }
         ensures visitor { T.taken result.visitor ≡ T.taken self.entry.timed.visitor }
@@ -486,7 +487,7 @@ impl<'a, 'c, T: ChangeVisitor> Body<'a, 'c, T> {
     }
 }
 
-/// What starts on a line, in the piece that follows it.
+/// The start of what began before the piece, on `line`. `None` if there is no `line`.
 fn on_line(line: Option<u64>) -> Option<Start>
     ensures line { (text : BodyPiece) → option_map (line_of text) result ≡ line }
     ensures start { (text : BodyPiece) → ForSome result (λ start. IsStart text start) }
@@ -497,8 +498,8 @@ fn on_line(line: Option<u64>) -> Option<Start>
     }
 }
 
-/// Reads what is left of a piece of a body, from where the body was read to. With the first fault comes what took what
-/// is before it.
+/// Reads what is left of a piece of a body, from `state` on. The first fault comes with the visitor that took all
+/// before it.
 pub(crate) fn read_until_fault<T: ChangeVisitor>(
     alloc: Global,
     reader: Reader<'_>,
@@ -530,7 +531,7 @@ pub(crate) fn read_until_fault<T: ChangeVisitor>(
     }
 }
 
-/// Reads what is left of a piece of a body, from where the body was read to.
+/// Reads what is left of a piece of a body, from `state` on.
 pub(crate) fn read_piece<T: ChangeVisitor>(
     alloc: Global,
     reader: Reader<'_>,

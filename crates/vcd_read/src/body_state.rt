@@ -38,8 +38,8 @@ impl<T: ChangeVisitor> BodyState<T> {
         }
     }
 
-    /// What took the body, of which nothing is left. An item that isn't whole and a dump section that is still open are
-    /// met here: the instant at hand isn't ended then, and what took those before it comes with the fault.
+    /// Ends the body and the current instant, and returns the visitor. An item that isn't whole and a dump section that
+    /// is still open are faults here: then the current instant isn't ended, and the visitor comes with the fault.
     pub fn finish_or_stop(self, alloc: Global) -> Result<T, Stopped<T>>
         ensures { (nets : List Net) → GivesOrStops (λ t. T.taken t)
             (body_fold (T.taken self.timed.visitor) self.timed.clock) result
@@ -59,7 +59,7 @@ impl<T: ChangeVisitor> BodyState<T> {
         self.timed.finish(alloc)
     }
 
-    /// The same, where only the fault is told.
+    /// As `finish_or_stop`, but an error has the fault alone.
     pub fn finish(self, alloc: Global) -> Result<T, VcdFault>
         ensures { (nets : List Net) → ReadGives (λ t. T.taken t) result
             (finished T.with_change T.with_instant nets (body_fold (T.taken self.timed.visitor) self.timed.clock)

@@ -1,4 +1,4 @@
-//! What takes the changes of a body as they are read.
+//! A visitor of the changes of a body as they are read.
 
 ghost use Rattle.std.specs.Prelude.{◌≡◌, ℕ, ◌<◌, ◌≤◌, List, length, OnOk};
 ghost use Rattle.vcd_read.specs.declared.dump.Bit.{Bit};
@@ -6,18 +6,18 @@ ghost use Rattle.vcd_read.specs.Numbers.{extended};
 
 use std::alloc::{AllocError, Global};
 
-/// What takes the changes of a body, in the order of the text, and is told where an instant ends.
+/// A visitor that takes the changes of a body and the ends of its instants, in the order of the text.
 pub trait ChangeVisitor: Drop {
-    /// What can come of changes and instants.
+    /// What a visitor can make of changes and instants.
     ghost Taken: { Type 0 };
 
-    /// What came of those so far.
+    /// What it made of those so far.
     ghost taken: { Self → Self.Taken };
 
-    /// What comes of one more change at the instant at hand: a net, and its bits.
+    /// What it makes of one more change at the current instant: a net, and its bits.
     ghost with_change: { Self.Taken → ℕ → List Bit → Self.Taken };
 
-    /// What comes of the end of the instant at hand, by its time.
+    /// What it makes of the end of the current instant, by its time.
     ghost with_instant: { Self.Taken → ℕ → Self.Taken };
 
     /// Takes a change: a net, how many bits it has, and the digits of its value, which may be fewer.
@@ -33,7 +33,7 @@ pub trait ChangeVisitor: Drop {
         ensures { OnOk result (Self.taken self.new
             ≡ Self.with_change (Self.taken self.old) net (extended size digits.now)) };
 
-    /// Ends the instant at hand, which is at this time.
+    /// Ends the current instant, which is at `time`.
     fn end_instant(&mut self, alloc: Global, time: u64) -> Result<(), AllocError>
         ensures { OnOk result (Self.taken self.new ≡ Self.with_instant (Self.taken self.old) time) };
 }

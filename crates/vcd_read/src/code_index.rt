@@ -9,7 +9,8 @@ ghost use Rattle.vcd_read.specs.CodeIndexes.{net_on};
 use std::alloc::{AllocError, Global};
 use std::collections::BTreeMap;
 
-/// Where the net of a code of at most three bytes is: the page is that of the bytes after the first.
+/// Where the net of a code of at most three bytes is: on the page of the bytes after the first, at the entry of the
+/// first byte.
 #[derive(Clone, Copy)]
 pub(crate) struct CodePlace {
     pub page: usize,
@@ -111,7 +112,7 @@ fn set_net(
     Ok(())
 }
 
-/// Makes the pages up to one, with no net on those that weren't there.
+/// Makes the pages up to `page`. There is no net on the new ones.
 fn make_page(
     alloc: Global,
     pages: &mut Vec<Vec<Option<u32>>>,
@@ -127,7 +128,7 @@ fn make_page(
     Ok(())
 }
 
-/// Sets a net on a page, which grows as far as that.
+/// Sets the net at an entry of a page, which grows up to that entry.
 fn set_on_page(nets: &mut Vec<Option<u32>>, entry: usize, net: u32) -> Result<(), AllocError>
     requires { entry < 2 ^ 32 }
     ensures ok { OnOk result ((k : ℕ) → slice_index_or nets.new.items k None

@@ -67,7 +67,7 @@ impl Codes {
         self.index.get(code)
     }
 
-    /// The net of the code that is this byte and its size, where it has one.
+    /// The net of the code of the one byte `byte`, and the size of the net, if the code has one.
     #[inline(always)]
     fn of_one_byte(&self, byte: u8) -> Option<(u32, u32)>
         ensures { result ≡ sized_net_of self.now (byte ∷ []) }
@@ -75,7 +75,7 @@ impl Codes {
         one_byte_net(self.one_byte.as_slice(), byte)
     }
 
-    /// The net of a code and its size, where it has one.
+    /// The net of a code, and the size of the net, if the code has one.
     #[inline(always)]
     pub fn find(&self, code: &[u8]) -> Option<(u32, u32)>
         ensures { result ≡ sized_net_of self.now code.now }

@@ -1,4 +1,4 @@
-//! What takes the scopes and the variables of a header as they are declared.
+//! A visitor of the scopes and the variables of a header as they are declared.
 
 use std::alloc::{AllocError, Global};
 
@@ -15,20 +15,20 @@ pub struct Declaration<'t> {
     pub net: u32,
 }
 
-/// What takes the declarations of a header, in the order of the text. It knows which scopes are open, so that a
-/// variable is told by its own name.
+/// A visitor that takes the declarations of a header, in the order of the text. It knows which scopes are open, so that
+/// a variable is given to it by its own name.
 pub trait DeclarationVisitor: Drop {
     ghost use Rattle.std.specs.Prelude.{◌≡◌, ◌∷◌, ◌<◌, ℕ, [], List, length, MatchBool, OnOk};
     ghost use Rattle.vcd_read.specs.declared.dump.Variable.{Variable};
     ghost use Rattle.vcd_read.specs.Header.{variable_in};
 
-    /// What can come of variables.
+    /// What a visitor can make of variables.
     ghost Taken: { Type 0 };
 
-    /// What came of those so far.
+    /// What it made of those so far.
     ghost taken: { Self → Self.Taken };
 
-    /// What comes of one more variable.
+    /// What it makes of one more variable.
     ghost with_variable: { Self.Taken → Variable → Self.Taken };
 
     /// The names of the open scopes, the innermost first.

@@ -81,9 +81,9 @@ impl<T: ChangeVisitor> DetachedPiece<T> {
 }
 
 impl<T: ChangeVisitor> Pieces<T> {
-    /// Reads a piece that begins on this line and ends after a space, or where the text does, and gives its changes to
-    /// a visitor of its own. None is given of a piece that begins with no time, has a fault or ends within an item, nor
-    /// where memory runs out.
+    /// Reads a piece that begins on `line` and ends after a space, or where the text does, and gives its changes to a
+    /// visitor of its own. `None` if the piece doesn't begin with a time, has a fault or ends within an item, and if
+    /// memory runs out or lines could no longer be counted.
     pub fn detached<N: ChangeVisitor>(
         &self,
         alloc: Global,
@@ -152,7 +152,7 @@ impl<T: ChangeVisitor> Pieces<T> {
             && self.line == detached.first_line
     }
 
-    /// The time of the instant that a piece ends by the time that it begins with, if it ends one.
+    /// The time of the current instant, if `detached` ends it, i.e. begins with another time.
     pub fn ended_by<N: ChangeVisitor>(&self, detached: &DetachedPiece<N>) -> Option<u64>
         ensures { result ≡ ended_at (reached T.taken self.now).progress (read_detached N.taken detached.now).time }
     {
@@ -164,9 +164,8 @@ impl<T: ChangeVisitor> Pieces<T> {
         }
     }
 
-    /// Goes on after a piece that was read by itself, with the visitor of that piece. The visitor of what is
-    /// before the piece is handed back; it was told nothing of the piece, nor of the end of an instant that the piece
-    /// ends.
+    /// Continues after a piece that was read by itself, with the visitor of that piece. The visitor of what is
+    /// before the piece is handed back; it took nothing of the piece, nor the end of an instant that the piece ends.
     pub fn join<N: ChangeVisitor>(self, detached: DetachedPiece<N>) -> (Pieces<N>, T)
         requires { MayFollow (reached T.taken self) (read_detached N.taken detached) }
         ensures behind { reached N.taken result.0
@@ -195,7 +194,7 @@ impl<T: ChangeVisitor> Pieces<T> {
         (joined, visitor)
     }
 
-    /// Goes on with another visitor. The one before is handed back.
+    /// Continues with another visitor. The one before is handed back.
     pub fn with_visitor<N: ChangeVisitor>(self, visitor: N) -> (Pieces<N>, T)
         ensures pieces { reached N.taken result.0 ≡ with_taken (N.taken visitor) (reached T.taken self) }
         ensures visitor { T.taken result.1 ≡ (reached T.taken self).progress.accumulator }
@@ -219,7 +218,7 @@ impl<T: ChangeVisitor> Pieces<T> {
         (pieces, before)
     }
 
-    /// What takes the changes.
+    /// The visitor of the changes.
     pub fn visitor(&self) -> &T
         ensures { T.taken result.now ≡ (reached T.taken self.now).progress.accumulator }
     {

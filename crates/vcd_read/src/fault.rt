@@ -15,7 +15,7 @@ pub enum FaultKind {
     /// A section, a change or a dump section that the text ends in.
     #[error("UnfinishedSection")]
     UnfinishedSection,
-    /// A `$var` section with fewer than four words, or a size or a code that is none.
+    /// A `$var` section with fewer than four words, a size that is no number, or an invalid code.
     #[error("BadVar")]
     BadVar,
     /// An `$upscope` where no scope is open.

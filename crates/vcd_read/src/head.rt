@@ -34,8 +34,8 @@ impl<'a> Model for Head<'a> {
     ghost view = { λ h. record { nets = h.codes; body = left_at h.reader.text h.reader.at } };
 }
 
-/// Reads the definitions of a text, and gives its scopes and variables to what takes them, in the order of the text.
-/// The first fault met is named.
+/// Reads the definitions of a text, and gives its scopes and variables to `declarations`, in the order of the text. An
+/// error is the first fault met.
 pub fn read_definitions<D: DeclarationVisitor>(
     alloc: Global,
     text: &[u8],
@@ -61,7 +61,7 @@ impl<'a> Head<'a> {
         self.codes.len()
     }
 
-    /// Gives the changes of the body to a visitor, and ends the last instant. The first fault met is named.
+    /// Gives the changes of the body to a visitor, and ends the last instant. An error is the first fault met.
     pub fn read_body<T: ChangeVisitor>(&self, alloc: Global, visitor: T) -> Result<T, VcdFault>
         ensures { ReadGives (λ t. T.taken t) result (fold_body T.with_change T.with_instant self.now.nets
             (T.taken visitor) self.now.body) }

@@ -29,7 +29,7 @@ const MAX_SIZE: u64 = 65_536;
 #[derive(Drop)]
 pub(crate) struct Definitions<D: DeclarationVisitor> {
     pub codes: Codes,
-    /// What takes the scopes and the variables.
+    /// The visitor of the scopes and the variables.
     pub declarations: D,
 }
 
@@ -146,7 +146,7 @@ fn skip_section(reader: &mut Reader<'_>, first: usize) -> Result<(), VcdFault>
     Err(reader.fault(Start::Here(first), FaultKind::UnfinishedSection))
 }
 
-/// Words without anything between them.
+/// The words joined, without anything between them.
 fn joined(alloc: Global, words: &[&[u8]]) -> Result<Vec<u8>, AllocError>
     ensures { IfOk result (λ text. text.items ≡ concat (texts words.now)) }
 {
@@ -163,7 +163,7 @@ fn scope_name(alloc: Global, words: &[&[u8]]) -> Result<Vec<u8>, AllocError>
     }
 }
 
-/// The net of a variable's code: a new one, or that of the variables before it, if they have its size.
+/// The net of a variable's code: a new one, or that of the variables before it. `None` if they have another size.
 fn net_for(
     codes: &mut Codes,
     alloc: Global,
@@ -182,7 +182,7 @@ fn net_for(
     }
 }
 
-/// Gives the variable that a section declares on this net to what takes them.
+/// Gives the variable that a section declares to `declarations`, with its net `net`.
 fn declare_on<D: DeclarationVisitor>(
     declarations: &mut D,
     alloc: Global,
@@ -247,7 +247,7 @@ impl<D: DeclarationVisitor> Definitions<D> {
         Ok(())
     }
 
-    /// Reads the section that this token opens. Answers whether the definitions go on after it.
+    /// Reads the section that `first` opens. Answers whether the definitions continue after it.
     fn section<'a>(
         &mut self,
         alloc: Global,
@@ -296,7 +296,7 @@ impl<D: DeclarationVisitor> Definitions<D> {
     }
 }
 
-/// Reads the header of a text, up to the end of its definitions. The first fault met is named.
+/// Reads the header of a text, up to the end of its definitions. An error is the first fault met.
 pub(crate) fn read_header<D: DeclarationVisitor>(
     alloc: Global,
     reader: &mut Reader<'_>,

@@ -1,4 +1,4 @@
-//! The instants as they come.
+//! A visitor that collects the instants of a body.
 
 ghost use Rattle.std.specs.Prelude.{◌≡◌, None, ◌≤◌, length, replicate, [], OnOk, IfOk, vec_capacity};
 ghost use Rattle.std.specs.List.Sorted.{IsNonDecreasing};
@@ -12,13 +12,13 @@ use crate::dump::{Bits, Instant, Value, Values};
 use std::alloc::{AllocError, Global};
 use std::marker::Model;
 
-/// The instants that are ended, and the values at the one at hand.
+/// The instants that are ended, and the values at the current one.
 #[derive(Drop)]
 pub(crate) struct InstantCollector {
     done: Vec<Instant>,
-    /// The last value of each net at the instant at hand.
+    /// The last value of each net at the current instant, if it has one.
     current: Vec<Option<Bits>>,
-    /// The nets that have one.
+    /// The nets that have a value there.
     changed_nets: Vec<u32>,
 }
 
@@ -57,7 +57,7 @@ impl InstantCollector {
         self.done
     }
 
-    /// Keeps the value of a net, in the place of the one before it. A net without a place is passed over.
+    /// Keeps the value of a net, in place of an earlier one. A net past the end of `current` is passed over.
     fn keep(&mut self, net: u32, bits: Bits) -> Result<(), AllocError>
         ensures { OnOk result (self.new ≡ collected_change self.old net bits) }
     {
@@ -95,7 +95,7 @@ impl ChangeVisitor for InstantCollector {
         self.keep(net, bits)
     }
 
-    /// Ends the instant at hand. All memory is taken before the first value moves.
+    /// Ends the current instant. All memory is allocated before the first value moves.
     fn end_instant(&mut self, alloc: Global, time: u64) -> Result<(), AllocError> {
         let mut values = Vec::with_capacity(alloc, self.changed_nets.len())?;
         self.done.reserve(1)?;
@@ -110,7 +110,7 @@ impl ChangeVisitor for InstantCollector {
     }
 }
 
-/// Moves the values of the nets that have one, in the order of the nets.
+/// Moves the values of the nets that have one from `current` to `values`, in the order of the nets.
 fn move_values(changed_nets: &[u32], current: &mut Vec<Option<Bits>>, values: &mut Vec<Value>)
     requires changed_nets { ListsChangedNets changed_nets.now current.old.items }
     requires sorted { IsNonDecreasing changed_nets.now }

@@ -8,28 +8,28 @@
 //! - `token`, `runs`, `shape`, `number`, `bits`: the tokens of a text; where runs of bytes end;
 //!   what a token of the body is; decimal numbers; digits as the bits of a value.
 //! - `header`, `reference`, `scopes`, `variables`, `codes`, `code_index`, `one_byte_codes`,
-//!   `declaration_visitor`: the definitions, and what takes them.
+//!   `declaration_visitor`: the definitions, and the visitors that take them.
 //! - `body`, `body_state`, `body_piece`, `open_item`, `change_visitor`, `timed_visitor`,
-//!   `instant_collector`: the changes, and what takes them.
+//!   `instant_collector`: the changes, and the visitors that take them.
 //! - `stopped`: the first fault of a body, with the visitor that took what precedes it.
 //! - `head`, `pieces`, `detached_piece`: a text whose definitions are read; a body that comes in
 //!   pieces; pieces that are read before the ones that precede them.
-//! - `lines`: how many lines a text ends.
-//! - `byte_consumer`: what takes the bytes of an input as they are read, and what they come to
-//!   ([`ByteConsumer`]); `read_by` of vme_stream gives them to it.
+//! - `lines`: how many line feeds a text has.
+//! - `byte_consumer`: a consumer of the bytes of an input as they are read, and the outcome of the
+//!   input ([`ByteConsumer`]); `read_by` of vme_stream gives the bytes to it.
 //!
 //! # What is proved
 //!
 //! - [`read_vcd`] answers exactly the value that the grammar gives the text, or its first fault
 //!   with the fault's line (`dump_of`), or lack of memory. [`read_definitions`] and
-//!   [`Head::read_body`] give the same value, part by part, to what takes it.
+//!   [`Head::read_body`] give the same value, part by part, to a visitor.
 //! - What [`read_front`] and [`Pieces`] answer of a part of a text, a fault included, is the same
 //!   whatever follows (`HeaderContinuesAs`, `BodyContinuesTo`). A fault of the body comes with the
 //!   visitor that took all that precedes it, and with the last time there ([`Stopped`],
 //!   `ContinuesOrStops`).
 //! - A piece that is read separately is read as in its place, where it fits, and `may_join` says
 //!   yes exactly there (`IsReadDetached`, `MayFollow`).
-//! - [`whole_tokens`] cuts a text between two tokens (`detached`).
+//! - [`whole_tokens`] cuts a text between two tokens (`apart`).
 //!
 //! # What isn't proved
 //!
@@ -39,7 +39,7 @@
 //! # Limits
 //!
 //! A variable has at most 65,536 bits, and a time is below 2^64; beyond that the fault is
-//! `NumberTooLarge`. There are at most 2^32 - 1 codes; beyond that memory is said to run out.
+//! `NumberTooLarge`. There are at most 2^32 - 1 codes; beyond that the fault is `Memory`.
 //! Changes of reals (`r`) and strings (`s`) are read and skipped. Extended dumps (`$dumpports`)
 //! aren't read.
 //!

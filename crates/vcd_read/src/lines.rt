@@ -1,11 +1,12 @@
-//! The lines that a text ends.
+//! The line feeds of a text.
 
 ghost use Rattle.std.specs.Prelude.{◌≡◌, ◌==◌, ◌≤◌, ◌<◌, ◌^◌, length, count_by};
 
-/// How many bytes are counted at once: as many vectors of sixteen as fit into the count of one byte.
+/// How many bytes are counted at once: the most that are whole vectors of sixteen, and whose count fits one byte.
 const AT_ONCE: usize = 240;
 
-/// How many of a few bytes are line feeds. Since one byte holds their count, a machine counts many bytes in one step.
+/// How many of at most 255 bytes are line feeds. Since one byte holds their count, a machine counts many bytes in one
+/// step.
 fn line_feeds_of_few(bytes: &[u8]) -> u8
     requires { length bytes.now ≤ 255 }
     ensures { result ≡ count_by (λ b. b == 10) bytes.now }
@@ -19,7 +20,7 @@ fn line_feeds_of_few(bytes: &[u8]) -> u8
     count
 }
 
-/// How many bytes are line feeds: how many lines the text ends.
+/// How many of the bytes are line feeds.
 pub fn line_feeds(bytes: &[u8]) -> u64
     requires { length bytes.now < 2 ^ 64 }
     ensures { result ≡ count_by (λ b. b == 10) bytes.now }

@@ -1,12 +1,12 @@
-//! The nets of the codes of one byte, found by that byte. A small dump has few other codes, and one look-up tells the
-//! net: a table has for each byte the net of that code and how many bits it has, if it has one.
+//! The nets of the codes of one byte, found by that byte. A table has, for each byte, the net of that code and how many
+//! bits the net has, if the code has one. A small dump has few other codes, so one look-up finds nearly every net.
 
 ghost use Rattle.std.specs.Prelude.{◌≡◌, ◌<◌, ◌∷◌, [], if◌then◌else◌, ℕ, None, Some, IfOk, bytes_eq, length};
 ghost use Rattle.vcd_read.specs.OneByteCodes.{one_byte_net_at};
 
 use std::alloc::{AllocError, Global};
 
-/// How many bytes there are.
+/// How many values a byte has.
 const BYTES: usize = 256;
 
 /// The table where no code has a net.
@@ -19,7 +19,7 @@ pub(crate) fn no_one_byte_codes(alloc: Global) -> Result<Vec<Option<(u32, u32)>>
     Ok(table)
 }
 
-/// The net of the code that is this byte and its size, where it has one.
+/// The net of the code of the one byte `byte`, and the size of the net, if the code has one.
 #[inline(always)]
 pub(crate) fn one_byte_net(table: &[Option<(u32, u32)>], byte: u8) -> Option<(u32, u32)>
     requires { length table.now ≡ 256 }
@@ -28,7 +28,7 @@ pub(crate) fn one_byte_net(table: &[Option<(u32, u32)>], byte: u8) -> Option<(u3
     table[byte as usize]
 }
 
-/// Gives a code a net and its size, where it has one byte.
+/// Gives a code of one byte a net and its size. Other codes are passed over.
 pub(crate) fn enter_one_byte_code(table: &mut Vec<Option<(u32, u32)>>, code: &[u8], net: (u32, u32))
     requires { length table.old.items ≡ 256 }
     ensures whole { length table.new.items ≡ 256 }

@@ -25,13 +25,13 @@ impl Digits {
     }
 }
 
-/// Where a piece of a body ends: between two items, or in one, whose line this is.
+/// Where a piece of a body ends: between two items, or in one. The number is the line of that item.
 #[derive(Drop)]
 pub(crate) enum OpenItem {
     Ready,
     /// After the digits of a vector.
     Vector(Digits),
-    /// After a value that is none of bits.
+    /// After a real number or a string, before its code.
     Foreign(u64),
     Comment(u64),
 }

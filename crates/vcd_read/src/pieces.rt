@@ -23,7 +23,7 @@ use crate::token::Reader;
 use std::alloc::Global;
 use std::marker::Model;
 
-/// A prefix of a text, of which the definitions are read and nothing of the body.
+/// A prefix of a text. Its definitions are read, and nothing of the body.
 #[derive(Drop)]
 pub struct Front<'a> {
     codes: Codes,
@@ -48,7 +48,7 @@ impl<'a> Model for Front<'a> {
     ghost invariant = { λ f. f.at ≤ length f.text.now };
 }
 
-/// A dump whose definitions are read, and its body as far as some pieces go.
+/// A dump whose definitions are read, and of its body the pieces so far.
 #[derive(Drop)]
 pub struct Pieces<T: ChangeVisitor> {
     pub(crate) codes: Codes,
@@ -57,8 +57,9 @@ pub struct Pieces<T: ChangeVisitor> {
     pub(crate) line: u64,
 }
 
-/// Reads the definitions of a text by a prefix of it that ends after a space, and gives its scopes and variables to
-/// what takes them. None are read where they don't end in it; a fault is that of every text that begins so.
+/// Reads the definitions of a text from its prefix `front`, which ends after a space, and gives the scopes and
+/// variables to `declarations`. `None` if the definitions don't end in `front`. A fault is that of every text that
+/// begins so.
 pub fn read_front<D: DeclarationVisitor>(
     alloc: Global,
     front: &[u8],
@@ -95,8 +96,8 @@ pub fn read_front<D: DeclarationVisitor>(
 }
 
 impl<'a> Front<'a> {
-    /// Begins to read the body, of which nothing is read yet, and says what the prefix has of it: the first piece. So a
-    /// fault of the body is met in a piece.
+    /// Begins to read the body, of which nothing is read yet. The bytes are what the prefix has of it, the first piece:
+    /// so a fault of the body is met in a piece.
     pub fn before_body<T: ChangeVisitor>(self, visitor: T) -> (Pieces<T>, &'a [u8])
         ensures nets { (reached T.taken result.0).nets ≡ self.entry.head.nets }
         ensures progress { (reached T.taken result.0).progress
@@ -119,9 +120,9 @@ impl<'a> Front<'a> {
 
 impl<T: ChangeVisitor> Pieces<T> {
     /// Reads the next piece of the body, which ends after a space, or where the text does. The first fault met is that
-    /// of every text that goes on so. With it comes what took all that is before it: the changes of each item, and
-    /// the end of each instant that a later time follows. Where lines could no longer be counted, memory is said to run
-    /// out.
+    /// of every text that continues so. It comes with the visitor that took all that is before it: the changes of each
+    /// item, and the end of each instant that a later time follows. Where lines could no longer be counted, the fault
+    /// is want of memory.
     pub fn read_until_fault(self, alloc: Global, piece: &[u8]) -> Result<Pieces<T>, Stopped<T>>
         ensures nets { IfOk result (λ pieces. (reached T.taken pieces).nets ≡ (reached T.taken self).nets) }
         ensures line { IfOk result (λ pieces. (reached T.taken pieces).line
@@ -145,7 +146,7 @@ impl<T: ChangeVisitor> Pieces<T> {
         }
     }
 
-    /// The same, where only the fault is told.
+    /// As `read_until_fault`, but an error has the fault alone.
     pub fn read(self, alloc: Global, piece: &[u8]) -> Result<Pieces<T>, VcdFault>
         ensures nets { IfOk result (λ pieces. (reached T.taken pieces).nets ≡ (reached T.taken self).nets) }
         ensures line { IfOk result (λ pieces. (reached T.taken pieces).line
@@ -161,8 +162,8 @@ impl<T: ChangeVisitor> Pieces<T> {
         }
     }
 
-    /// What took the body, of which nothing is left. An item that isn't whole and a dump section that is still open are
-    /// met here: the instant at hand isn't ended then, and what took those before it comes with the fault.
+    /// Ends the body and the current instant, and returns the visitor. An item that isn't whole and a dump section that
+    /// is still open are faults here: then the current instant isn't ended, and the visitor comes with the fault.
     pub fn finish_or_stop(self, alloc: Global) -> Result<T, Stopped<T>>
         ensures { GivesOrStops (λ t. T.taken t) (reached T.taken self).progress result
             (outcome_of T.with_change T.with_instant (reached T.taken self)) }
@@ -170,7 +171,7 @@ impl<T: ChangeVisitor> Pieces<T> {
         self.state.finish_or_stop(alloc)
     }
 
-    /// The same, where only the fault is told.
+    /// As `finish_or_stop`, but an error has the fault alone.
     pub fn finish(self, alloc: Global) -> Result<T, VcdFault>
         ensures { ReadGives (λ t. T.taken t) result
             (outcome_of T.with_change T.with_instant (reached T.taken self)) }

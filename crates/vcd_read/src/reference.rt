@@ -44,7 +44,7 @@ fn index_between(text: &[u8]) -> Option<(u32, u32)>
     }
 }
 
-/// The index between two brackets, if it has as many indices as its variable has bits.
+/// The index between two brackets, if it has as many indices as its variable has bits, i.e. `size`.
 fn index_of(text: &[u8], size: u32) -> Option<(u32, u32)>
     ensures { result ≡ index_of size text.now }
 {
@@ -56,7 +56,7 @@ fn index_of(text: &[u8], size: u32) -> Option<(u32, u32)>
     }
 }
 
-/// What is before the last bracket that opens, and what from it up to one that closes at the end.
+/// What is before the last `[` of a text that ends with `]`, and what is between these two.
 fn bracketed(text: &[u8]) -> Option<(&[u8], &[u8])>
     ensures { option_map (λ parts. (parts.0.now, parts.1.now)) result ≡ bracketed text.now }
 {
@@ -67,7 +67,7 @@ fn bracketed(text: &[u8]) -> Option<(&[u8], &[u8])>
     Some((&front[..place], &front[place + 1..]))
 }
 
-/// The name and the index of a variable of this size.
+/// The name and the index that the reference `text` of a variable of `size` bits has.
 pub(crate) fn reference_of(text: &[u8], size: u32) -> Reference<'_>
     ensures { record { name = result.name.now; index = result.index } ≡ reference_of size text.now }
 {

@@ -28,7 +28,7 @@ fn first_set(lanes: u64, count: usize) -> usize
     }
 }
 
-/// How many of the bytes from here on, up to sixteen, come before the first that isn't above the space.
+/// How many of the sixteen bytes from `at` on come before the first that isn't above the space.
 #[inline(always)]
 fn lanes_above_space(text: &[u8], at: usize) -> usize
     requires { at + 16 ≤ length text.now }
@@ -40,7 +40,7 @@ fn lanes_above_space(text: &[u8], at: usize) -> usize
     first_set(bytes.simd_le(u8x16::splat(b' ')).to_bitmask(), LANES)
 }
 
-/// The first byte from here on that isn't above the space, or the end.
+/// The place of the first byte from `at` on that isn't above the space, or the end.
 #[inline(always)]
 pub(crate) fn above_space_end(text: &[u8], at: usize) -> usize
     requires { at ≤ length text.now }
@@ -59,7 +59,7 @@ pub(crate) fn above_space_end(text: &[u8], at: usize) -> usize
     above_space_end_by_lanes(text, i)
 }
 
-/// The same, sixteen bytes at a time.
+/// As `above_space_end`, sixteen bytes at a time.
 #[inline(never)]
 fn above_space_end_by_lanes(text: &[u8], at: usize) -> usize
     requires { at ≤ length text.now }
@@ -79,7 +79,7 @@ fn above_space_end_by_lanes(text: &[u8], at: usize) -> usize
     above_space_end_by_byte(text, i)
 }
 
-/// The same, a byte at a time.
+/// As `above_space_end`, a byte at a time.
 fn above_space_end_by_byte(text: &[u8], at: usize) -> usize
     requires { at ≤ length text.now }
     ensures low { at ≤ result }
@@ -94,7 +94,7 @@ fn above_space_end_by_byte(text: &[u8], at: usize) -> usize
     i
 }
 
-/// How many of the bytes from here on, up to thirty-two, come before the first that is no digit of a vector.
+/// How many of the thirty-two bytes from `at` on come before the first that is no digit of a vector.
 #[inline(always)]
 fn lanes_of_bits(text: &[u8], at: usize) -> usize
     requires { at + 32 ≤ length text.now }
@@ -110,7 +110,7 @@ fn lanes_of_bits(text: &[u8], at: usize) -> usize
     first_set(others.to_bitmask(), DIGIT_LANES)
 }
 
-/// The first byte from here on that is no digit of a vector, or the end.
+/// The place of the first byte from `at` on that is no digit of a vector, or the end.
 #[inline(always)]
 pub(crate) fn bits_end(text: &[u8], at: usize) -> usize
     requires { at ≤ length text.now }
@@ -133,7 +133,7 @@ pub(crate) fn bits_end(text: &[u8], at: usize) -> usize
     bits_end_by_byte(text, i)
 }
 
-/// The same, a byte at a time.
+/// As `bits_end`, a byte at a time.
 fn bits_end_by_byte(text: &[u8], at: usize) -> usize
     requires { at ≤ length text.now }
     ensures low { at ≤ result }

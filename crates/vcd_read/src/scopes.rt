@@ -92,7 +92,7 @@ impl Scopes {
     }
 }
 
-/// What a scope of this name puts after the path.
+/// The part that a scope of this name adds to the path: the name and a dot, or nothing if the name is empty.
 fn with_dot(alloc: Global, name: &[u8]) -> Result<Vec<u8>, AllocError>
     ensures { IfOk result (λ part. part.items ≡ with_dot name.now) }
 {

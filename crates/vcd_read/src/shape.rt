@@ -24,7 +24,7 @@ pub(crate) enum Shape<'a> {
     Opens,
     /// `$end`.
     Ends,
-    /// None of the format's.
+    /// No token of the format.
     Unknown,
 }
 
@@ -85,7 +85,7 @@ fn opens_dump_section(word: &[u8]) -> bool
         || word == b"$dumpoff".as_slice()
 }
 
-/// Whether these are digits of a vector, at least one.
+/// Whether `digits` is one or more digits of a vector.
 fn are_bits(digits: &[u8]) -> bool
     ensures { result ≡ are_bits digits.now }
 {
@@ -98,7 +98,7 @@ fn all_bits(digits: &[u8]) -> bool
     digits.iter().all(|digit| is_bit(*digit))
 }
 
-/// Whether it is a digit of a value: nearly all are 0 or 1, and are asked for first.
+/// Whether `digit` is a digit of a value. Nearly all are 0 or 1, so these are tested first.
 pub(crate) fn is_bit(digit: u8) -> bool
     ensures { result ≡ is_bit digit }
 {

@@ -5,8 +5,8 @@ ghost use Rattle.vcd_read.specs.declared.fault.FaultKind.TheVariants.{Memory};
 
 use crate::fault::{FaultKind, VcdFault};
 
-/// The first fault of a body, the visitor that took what is before it, and the last time before it, or 0. Of the
-/// visitor and the time nothing is said where memory ran out.
+/// The first fault of a body, the visitor that took what is before it, and the last time before it, or 0. If memory ran
+/// out, nothing is said of the visitor and the time.
 #[derive(Drop)]
 pub struct Stopped<T> {
     pub fault: VcdFault,

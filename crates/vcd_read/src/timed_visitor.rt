@@ -1,4 +1,4 @@
-//! The times of a body, and what takes its changes.
+//! The current time of a body, and the visitor of its changes.
 
 ghost use Rattle.std.specs.Prelude.{◌≡◌, ◌<◌, ◌≤◌, length, false, OnOk, IfOk, IfErr};
 ghost use Rattle.vcd_read.specs.Numbers.{extended};
@@ -16,7 +16,7 @@ pub(crate) struct Clock {
     pub has_instant: bool,
 }
 
-/// The current time, and what takes the changes.
+/// The current time, and the visitor of the changes.
 #[derive(Drop)]
 pub(crate) struct TimedVisitor<T: ChangeVisitor> {
     pub visitor: T,
@@ -40,7 +40,7 @@ impl<T: ChangeVisitor> TimedVisitor<T> {
         }
     }
 
-    /// Goes on to a time, or stays at it.
+    /// Advances to `time`. If it isn't the current time, an instant at the current time is ended.
     #[inline(always)]
     pub fn advance(&mut self, alloc: Global, time: u64) -> Result<(), AllocError>
         ensures { OnOk result (body_fold (T.taken self.new.visitor) self.new.clock
@@ -54,7 +54,7 @@ impl<T: ChangeVisitor> TimedVisitor<T> {
         Ok(())
     }
 
-    /// A change at the current time.
+    /// Takes a change at the current time.
     #[inline(always)]
     pub fn change(
         &mut self,
@@ -74,7 +74,7 @@ impl<T: ChangeVisitor> TimedVisitor<T> {
         Ok(())
     }
 
-    /// What took all changes, the instant at the current time being ended.
+    /// Ends the instant at the current time, if there is one, and returns the visitor.
     pub fn finish(mut self, alloc: Global) -> Result<T, Stopped<T>>
         ensures visitor { IfOk result (λ visitor. T.taken visitor
             ≡ ended T.with_instant (body_fold (T.taken self.visitor) self.clock)) }

@@ -29,7 +29,8 @@ pub(crate) struct Reader<'a> {
     ghost within: { at ≤ length text.bytes.now },
 }
 
-/// Nearly all bytes are above the space, so that one test tells most of them, and many others are line feeds.
+/// Whether `b` is white space. Nearly all bytes are above the space (32), so one test decides most of them, and many
+/// others are line feeds.
 #[tactic(auto, using(crate::proofs::TokenLemmas::above_space))]
 fn is_space(b: u8) -> bool
     ensures { result ≡ is_space b }
@@ -50,7 +51,7 @@ fn begins_vector(b: u8) -> bool
     matches!(b, b'b' | b'B')
 }
 
-/// How many of the first bytes of a text end after a space, so that no token goes on after them.
+/// The length of the longest prefix of `text` that is empty or ends after a space, so that no token continues after it.
 pub fn whole_tokens(text: &[u8]) -> usize
     ensures within { result ≤ length text.now }
     ensures space { 0 < result → is_space (get_or text.now (result - 1) 0) ≡ true }
@@ -67,7 +68,7 @@ pub fn whole_tokens(text: &[u8]) -> usize
     0
 }
 
-/// Whether no word goes on at a place.
+/// Whether a word before `at` ends there: the byte at `at` is a space, or `at` is at the end.
 #[inline(always)]
 fn ends_word(text: &[u8], at: usize) -> bool
     ensures ends { result ≡ true → at < length text.now → is_space (slice_index text.now at) ≡ true }
@@ -79,7 +80,7 @@ fn ends_word(text: &[u8], at: usize) -> bool
     }
 }
 
-/// The first space from here on, or the end.
+/// The place of the first space from `at` on, or the end.
 #[inline(always)]
 fn word_end(text: &[u8], at: usize) -> usize
     requires { at ≤ length text.now }
@@ -95,7 +96,7 @@ fn word_end(text: &[u8], at: usize) -> usize
     word_end_past_controls(text, end)
 }
 
-/// The same, where bytes below the space may be within the word.
+/// As `word_end`, where bytes below the space may be within the word.
 #[inline(never)]
 fn word_end_past_controls(text: &[u8], at: usize) -> usize
     requires { at ≤ length text.now }
@@ -111,7 +112,7 @@ fn word_end_past_controls(text: &[u8], at: usize) -> usize
     i
 }
 
-/// The place after the space that ends a word here, or the end.
+/// The place after the space at `end` that ends a word, or the end.
 #[tactic(auto, using(crate::proofs::TokenLemmas::left_step))]
 #[inline(always)]
 fn behind_word(text: &[u8], end: usize) -> usize
@@ -125,7 +126,7 @@ fn behind_word(text: &[u8], end: usize) -> usize
 }
 
 impl<'a> Reader<'a> {
-    /// At the beginning of a text.
+    /// A reader at the beginning of a text.
     pub fn new(text: &'a [u8]) -> Reader<'a>
         ensures text { result.text.bytes.now ≡ text.now }
         ensures line { result.text.line ≡ 1 }
@@ -140,7 +141,7 @@ impl<'a> Reader<'a> {
         }
     }
 
-    /// Another one, at the same place.
+    /// Another reader, at the same place.
     #[inline(always)]
     pub fn again(&self) -> Reader<'a>
         ensures text { result.text ≡ self.now.text }
@@ -152,7 +153,7 @@ impl<'a> Reader<'a> {
         }
     }
 
-    /// Goes on to the next token, and says whether there is one.
+    /// Moves to the next token, and answers whether there is one.
     #[inline(always)]
     pub fn finds_token(&mut self) -> bool
         ensures text { self.new.text ≡ self.old.text }
@@ -171,7 +172,7 @@ impl<'a> Reader<'a> {
         false
     }
 
-    /// Reads the token at hand.
+    /// Reads the token that begins at `at`.
     #[inline(always)]
     pub fn word(&mut self) -> &'a [u8]
         requires within { self.old.at < length self.old.text.bytes.now }
@@ -188,7 +189,7 @@ impl<'a> Reader<'a> {
         &self.text.bytes[start..end]
     }
 
-    /// Reads the token at hand where it is a time of at most 19 digits.
+    /// Reads the token that begins at `at`, if it is a time of at most 19 digits.
     #[inline(always)]
     pub fn short_time(&mut self) -> Option<u64>
         requires { self.old.at < length self.old.text.bytes.now }
@@ -213,8 +214,8 @@ impl<'a> Reader<'a> {
         Some(number)
     }
 
-    /// Reads the token at hand where it is a scalar change of a code of one byte above the space, after which the text
-    /// goes on. The answer is its digit and its code.
+    /// Reads the token that begins at `at`, if it is a scalar change of a code of one byte above the space, and a space
+    /// follows it. The answer is its digit and its code.
     #[inline(always)]
     pub fn short_change(&mut self) -> Option<(&'a [u8], &'a [u8])>
         requires { self.old.at < length self.old.text.bytes.now }
@@ -239,7 +240,7 @@ impl<'a> Reader<'a> {
         Some((digit, code))
     }
 
-    /// Reads the token at hand where it is the digits of a vector.
+    /// Reads the token that begins at `at`, if it is the digits of a vector.
     #[inline(always)]
     pub fn vector_digits(&mut self) -> Option<&'a [u8]>
         requires { self.old.at < length self.old.text.bytes.now }

@@ -7,7 +7,7 @@ use crate::dump::{Path, Variable};
 use crate::scopes::Scopes;
 use std::alloc::{AllocError, Global};
 
-/// What takes all variables of a header, each with its whole path.
+/// A visitor that takes all variables of a header, each with its whole path.
 #[derive(Drop)]
 pub struct Variables {
     scopes: Scopes,
@@ -34,7 +34,7 @@ impl Variables {
         self.variables.as_slice()
     }
 
-    /// The same, given away.
+    /// The variables, in the order of their sections, moved out.
     pub fn into_vec(self) -> Vec<Variable>
         ensures { result.items ≡ ⟦<Variables as DeclarationVisitor>⟧.taken self }
     {

@@ -68,7 +68,7 @@ fn show_bits(text: &mut Vec<u8>, bits: &[Bit]) -> Result<(), AllocError> {
     Ok(())
 }
 
-/// What is told of a body.
+/// What a visitor of a body is given.
 #[derive(Drop)]
 enum Visit {
     /// A net, and the bits that it changes to, as digits.
@@ -77,7 +77,7 @@ enum Visit {
     End(u64),
 }
 
-/// Keeps all that it is told.
+/// A visitor that keeps all that it is given.
 #[derive(Drop)]
 struct Visits {
     visits: Vec<Visit>,
@@ -111,7 +111,7 @@ impl ChangeVisitor for Visits {
     }
 }
 
-/// Nothing is told yet.
+/// A visitor that has been given nothing yet.
 fn none_told(alloc: Global) -> Visits {
     Visits {
         visits: Vec::new(alloc),
@@ -161,7 +161,7 @@ fn show_changes(alloc: Global, text: &mut Vec<u8>, visits: &[Visit]) -> Result<(
     Ok(())
 }
 
-/// What is told of the instants that end. The result is where the visits behind these begin.
+/// The instants that end. The result is where the visits after these begin.
 fn show_visits(alloc: Global, text: &mut Vec<u8>, visits: &[Visit]) -> Result<usize, AllocError> {
     let mut from = 0;
     for (at, visit) in visits.iter().enumerate() {
@@ -175,7 +175,7 @@ fn show_visits(alloc: Global, text: &mut Vec<u8>, visits: &[Visit]) -> Result<us
     Ok(from)
 }
 
-/// Where pieces of a text end that have so many bytes at least, and end behind a space.
+/// Where pieces of a text end that have at least `size` bytes, and end after a space.
 fn ends_of(alloc: Global, text: &[u8], size: usize) -> Result<Vec<usize>, AllocError> {
     let mut ends = Vec::new(alloc);
     let mut from = 0;
@@ -190,7 +190,7 @@ fn ends_of(alloc: Global, text: &[u8], size: usize) -> Result<Vec<usize>, AllocE
     Ok(ends)
 }
 
-/// Begins to read the body behind a front.
+/// Reads what `front` has of the body.
 fn body_begun(
     alloc: Global,
     front: Front<'_>,
@@ -200,7 +200,7 @@ fn body_begun(
     Ok((pieces.read(alloc, rest)?, variables))
 }
 
-/// Begins to read a text by a front of it.
+/// Reads a text up to the end of its prefix `front`. `None` if its definitions don't end in `front`.
 fn begun(alloc: Global, front: &[u8]) -> Result<Option<(Pieces<Visits>, Variables)>, VcdFault> {
     match read_front(alloc, front, Variables::new(alloc))? {
         Some((front, variables)) => Ok(Some(body_begun(alloc, front, variables)?)),
@@ -208,7 +208,7 @@ fn begun(alloc: Global, front: &[u8]) -> Result<Option<(Pieces<Visits>, Variable
     }
 }
 
-/// Goes on behind a place of a text, in pieces that end there.
+/// Reads a text from `begin` on, in pieces that end at `ends`.
 fn read_on(
     alloc: Global,
     pieces: Pieces<Visits>,
@@ -225,7 +225,7 @@ fn read_on(
     pieces.finish(alloc)
 }
 
-/// What a dump says, by its variables and what is told of its body.
+/// What a dump says, by its variables and the visits of its body.
 fn show_told(
     alloc: Global,
     text: &mut Vec<u8>,
@@ -237,7 +237,7 @@ fn show_told(
     Ok(())
 }
 
-/// Whether a body that was begun says this where the rest is read in such pieces, or its fault.
+/// Whether a body that was begun says `wanted` where the rest is read in pieces with the ends `ends`, or its fault.
 fn body_says(
     alloc: Global,
     begun: (Pieces<Visits>, Variables),
@@ -258,8 +258,8 @@ fn body_says(
     Ok(found.as_slice() == wanted.as_bytes())
 }
 
-/// Whether a text says this where it is read in pieces with these ends, or its fault; `None` where its definitions
-/// don't end.
+/// Whether a text says `wanted` where it is read in pieces with the ends `ends`, or its fault; `None` where its
+/// definitions don't end.
 fn says_in_pieces(
     alloc: Global,
     text: &[u8],
@@ -275,7 +275,8 @@ fn says_in_pieces(
     Ok(None)
 }
 
-/// The same, where the pieces have so many bytes at least.
+/// Whether a text says `wanted` where it is read in pieces of at least `size` bytes, or its fault; `None` where its
+/// definitions don't end.
 fn says_by_pieces(
     alloc: Global,
     text: &[u8],
@@ -286,7 +287,7 @@ fn says_by_pieces(
     says_in_pieces(alloc, text, &ends, wanted)
 }
 
-/// Where a text may be cut in front of a time at the beginning of a line.
+/// Where a text may be cut before a time at the beginning of a line.
 fn times_of(alloc: Global, text: &[u8]) -> Result<Vec<usize>, AllocError> {
     let mut ends = Vec::new(alloc);
     for (at, b) in text.iter().enumerate() {
@@ -298,7 +299,7 @@ fn times_of(alloc: Global, text: &[u8]) -> Result<Vec<usize>, AllocError> {
     Ok(ends)
 }
 
-/// What is told before and behind, and the end of an instant between them.
+/// The visits of `earlier` and `later`, and the end of an instant between them.
 fn visits_together(
     earlier: Visits,
     ended: Option<u64>,
@@ -314,7 +315,7 @@ fn visits_together(
     Ok(Visits { visits })
 }
 
-/// Puts what was told earlier before what is told of a piece that was joined.
+/// Puts the earlier visits before those of a piece that was joined.
 fn with_earlier(
     alloc: Global,
     pieces: Pieces<Visits>,
@@ -326,14 +327,14 @@ fn with_earlier(
     Ok(pieces)
 }
 
-/// What a body is that was read, and how many of its pieces were joined.
+/// A body that was read, and how many of its pieces were joined.
 #[derive(Drop)]
 struct Joined {
     pieces: Pieces<Visits>,
     count: usize,
 }
 
-/// Goes on behind a piece that was read apart: it is joined where it fits, and read in order elsewhere.
+/// Reads the next piece, which was read apart: it is joined where it fits, and read in order elsewhere.
 fn join_piece(
     alloc: Global,
     pieces: Pieces<Visits>,
@@ -358,8 +359,8 @@ fn read_in_order(alloc: Global, pieces: Pieces<Visits>, piece: &[u8]) -> Result<
     })
 }
 
-/// What is told of a body whose pieces are read apart by what was begun first, and joined where they fit, and how many
-/// are.
+/// The visits of a body whose pieces are read apart by `origin`, and joined where they fit, and how many pieces are
+/// joined.
 fn read_joining(
     alloc: Global,
     origin: &Pieces<Visits>,
@@ -433,7 +434,7 @@ $var wire 1 ! a $end $var reg 8 \" b $end $var wire 1 !! c $end $var wire 1 ~~~ 
 $var wire 65536 !!!! e $end $var wire 1 clock f $end $var wire 8 \" g $end $enddefinitions $end
 ";
 
-/// The front and the rest of texts, and what they say.
+/// The first part and the rest of texts, and what they say.
 static TOLD: [(&str, &str, &str); 7] = [
     (BUS, BUS_BODY, BUS_SHOWN),
     (
@@ -475,7 +476,7 @@ static TOLD: [(&str, &str, &str); 7] = [
     ),
 ];
 
-/// Three texts, one behind the other.
+/// Three texts, one after the other.
 fn together(alloc: Global, first: &[u8], next: &[u8], last: &[u8]) -> Result<Vec<u8>, AllocError> {
     let mut text = Vec::new(alloc);
     put_together(&mut text, first, next, last)?;
@@ -494,13 +495,13 @@ fn put_together(
     Ok(())
 }
 
-/// Whether a dump says this.
+/// Whether a dump says `wanted`.
 fn dump_says(alloc: Global, dump: &Dump, wanted: &str) -> bool {
     let mut found = Vec::new(alloc);
     show_dump(alloc, &mut found, dump).is_ok() && found.as_slice() == wanted.as_bytes()
 }
 
-/// Whether a text is a dump that says this.
+/// Whether a text is a dump that says `wanted`.
 fn says(alloc: Global, text: &[u8], wanted: &str) -> bool {
     match read_vcd(alloc, text) {
         Ok(dump) => dump_says(alloc, &dump, wanted),
@@ -508,7 +509,7 @@ fn says(alloc: Global, text: &[u8], wanted: &str) -> bool {
     }
 }
 
-/// The same, also in pieces of each size that is tried.
+/// Whether a text is a dump that says `wanted`, also in pieces of each size that is tried.
 fn says_always(alloc: Global, text: &[u8], wanted: &str) -> bool {
     let mut same = says(alloc, text, wanted);
     for size in SIZES.iter() {
@@ -517,7 +518,7 @@ fn says_always(alloc: Global, text: &[u8], wanted: &str) -> bool {
     same
 }
 
-/// The same of a front and the rest of a text.
+/// Whether `front` and `rest` together are a dump that says `wanted`, also in pieces of each size that is tried.
 fn are_told(alloc: Global, front: &str, rest: &str, wanted: &str) -> bool {
     match together(alloc, front.as_bytes(), rest.as_bytes(), b"") {
         Ok(text) => says_always(alloc, &text, wanted),
@@ -535,10 +536,10 @@ fn dumps(rt: HostRuntime) {
 /// One variable of one bit, in two lines.
 const ONE_BIT: &str = "$var wire 1 p AS $end\n$enddefinitions $end\n";
 
-/// A text behind a front, and the line and kind of the first fault of both.
+/// A text that is put after another, and the line and kind of the first fault of both together.
 type Faulty = (&'static str, u64, FaultKind);
 
-/// Faults of a body, behind the definitions of one variable.
+/// Faults of a body, after the definitions of one variable.
 static OF_BODIES: [Faulty; 20] = [
     ("1q", 3, FaultKind::UndeclaredCode),
     ("b10 p", 3, FaultKind::TooWide),
@@ -585,7 +586,7 @@ static OF_HEADERS: [Faulty; 11] = [
     ("$date\n$var wire 1 p A", 1, FaultKind::UnfinishedSection),
 ];
 
-/// Faults of fronts of the recording of the bus.
+/// Faults of texts after `BUS`.
 static OF_FRONTS: [Faulty; 2] = [
     ("$enddef", 10, FaultKind::UnfinishedSection),
     (
@@ -595,7 +596,7 @@ static OF_FRONTS: [Faulty; 2] = [
     ),
 ];
 
-/// Codes that aren't declared, where many are.
+/// Codes that aren't declared, after `CODES`.
 static OF_CODES: [Faulty; 5] = [
     ("#0 1#", 3, FaultKind::UndeclaredCode),
     ("#0 1!\"", 3, FaultKind::UndeclaredCode),
@@ -604,7 +605,7 @@ static OF_CODES: [Faulty; 5] = [
     ("#0 1\x7f", 3, FaultKind::UndeclaredCode),
 ];
 
-/// Whether reading a text gives this fault.
+/// Whether reading a text gives the fault of this line and kind.
 fn has_fault(alloc: Global, text: &[u8], line: u64, kind: FaultKind) -> bool {
     match read_vcd(alloc, text) {
         Ok(_) => false,
@@ -612,7 +613,8 @@ fn has_fault(alloc: Global, text: &[u8], line: u64, kind: FaultKind) -> bool {
     }
 }
 
-/// Whether reading a text in pieces does, which are none of it before its definitions end.
+/// Whether reading a text in pieces gives the fault of this line and kind. If the definitions don't end in the text, no
+/// piece is read, and the kind has to say so.
 fn has_fault_by_pieces(
     alloc: Global,
     text: &[u8],
@@ -630,7 +632,7 @@ fn has_fault_by_pieces(
     }
 }
 
-/// Whether reading a text gives this fault, also in pieces.
+/// Whether reading a text gives the fault of this line and kind, also in pieces of the sizes `sizes`.
 fn fails_with(alloc: Global, text: &[u8], sizes: &[usize], line: u64, kind: FaultKind) -> bool {
     let mut same = has_fault(alloc, text, line, kind);
     for size in sizes {
@@ -639,7 +641,7 @@ fn fails_with(alloc: Global, text: &[u8], sizes: &[usize], line: u64, kind: Faul
     same
 }
 
-/// Whether a text fails so behind a front.
+/// Whether a text after `front` has its fault, also in pieces of the sizes `sizes`.
 fn fails_behind(alloc: Global, front: &str, faulty: &Faulty, sizes: &[usize]) -> bool {
     let (rest, line, kind) = *faulty;
     match together(alloc, front.as_bytes(), rest.as_bytes(), b"") {
@@ -648,7 +650,7 @@ fn fails_behind(alloc: Global, front: &str, faulty: &Faulty, sizes: &[usize]) ->
     }
 }
 
-/// The first of such texts that doesn't fail so.
+/// The first text that doesn't have its fault after `front`.
 fn first_right(
     alloc: Global,
     front: &str,
@@ -669,7 +671,7 @@ fn faults_of_bodies(rt: HostRuntime) {
     assert!(rt; right.is_none(), "{}", right.unwrap_or(""));
 }
 
-/// Where reading a body stops in pieces that end there, if it does.
+/// Where reading a body in pieces with the ends `ends` stops, if it does.
 fn stopped_in_body(
     alloc: Global,
     pieces: Pieces<Visits>,
@@ -689,7 +691,7 @@ fn stopped_in_body(
     pieces.finish_or_stop(alloc).err()
 }
 
-/// Where reading a text does behind a front, whose body is read in such pieces.
+/// Where reading a text after its definitions stops, if it does, in pieces of at least `size` bytes.
 fn stopped_behind(alloc: Global, front: Front<'_>, size: usize) -> Option<Stopped<Visits>> {
     let (pieces, body) = front.before_body(none_told(alloc));
     match ends_of(alloc, body, size) {
@@ -705,11 +707,11 @@ fn stopped_by_pieces(alloc: Global, text: &[u8], size: usize) -> Option<Stopped<
     }
 }
 
-/// A body, the line and kind of its first fault, what is told of the instants that end before it, how many nets change
-/// behind those, and the last time.
+/// A body, the line and kind of its first fault, the instants that end before it, how many nets change after those,
+/// and the last time.
 type Stopping = (&'static str, u64, FaultKind, &'static str, usize, u64);
 
-/// Faults behind the definitions of one variable.
+/// Faults after the definitions of one variable.
 static STOPS: [Stopping; 9] = [
     ("2p", 3, FaultKind::BadToken, "", 0, 0),
     ("1p 1q", 3, FaultKind::UndeclaredCode, "", 1, 0),
@@ -764,7 +766,7 @@ static STOPS: [Stopping; 9] = [
     ("#0 1p #1 $end", 3, FaultKind::BadToken, "#0 0=1\n", 0, 1),
 ];
 
-/// Whether visits tell this, and so many nets change behind it.
+/// Whether the instants that end in the visits are `told`, and `changed` nets change after them.
 fn visits_tell(alloc: Global, visits: &[Visit], told: &str, changed: usize) -> bool {
     let mut found = Vec::new(alloc);
     match show_visits(alloc, &mut found, visits) {
@@ -787,7 +789,7 @@ fn nets_changed(visits: &[Visit]) -> usize {
     count
 }
 
-/// Whether reading the body stops so, in pieces of this size.
+/// Whether reading the body stops as `stopping` says, in pieces of at least `size` bytes.
 fn stops(alloc: Global, text: &[u8], size: usize, stopping: &Stopping) -> bool {
     let (_, line, kind, told, changed, last) = *stopping;
     match stopped_by_pieces(alloc, text, size) {
@@ -800,7 +802,7 @@ fn stops(alloc: Global, text: &[u8], size: usize, stopping: &Stopping) -> bool {
     }
 }
 
-/// Whether reading a text stops so in pieces of each size.
+/// Whether reading a text stops as `stopping` says, in pieces of each size.
 fn stops_always(alloc: Global, text: &[u8], stopping: &Stopping) -> bool {
     let mut same = true;
     for size in SIZES.iter() {
@@ -809,7 +811,7 @@ fn stops_always(alloc: Global, text: &[u8], stopping: &Stopping) -> bool {
     same
 }
 
-/// Whether reading the body behind the definitions of one variable does.
+/// Whether reading the body after the definitions of one variable stops as `stopping` says, in pieces of each size.
 fn body_stops(alloc: Global, stopping: &Stopping) -> bool {
     match together(alloc, ONE_BIT.as_bytes(), stopping.0.as_bytes(), b"") {
         Ok(text) => stops_always(alloc, &text, stopping),
@@ -824,7 +826,7 @@ fn a_fault_comes_with_what_stands_before_it(rt: HostRuntime) {
     }
 }
 
-/// Pieces of a body, and the last time that was read behind each.
+/// Pieces of a body, and the last time that was read after each.
 static TIMES: [(&str, u64); 5] = [
     ("#10 0p\n", 10),
     ("1p\n", 10),
@@ -836,7 +838,7 @@ static TIMES: [(&str, u64); 5] = [
 /// One variable of one bit, and a change.
 const ONE_CHANGE: &str = "$var wire 1 p AS $end\n$enddefinitions $end\n1p\n";
 
-/// The first piece behind which another time is the last, or which isn't read.
+/// The first piece after which another time is the last, or which isn't read.
 fn first_wrong_time(alloc: Global, pieces: Pieces<Visits>) -> Option<&'static str> {
     let mut pieces = pieces;
     for (piece, time) in TIMES.iter() {
@@ -851,7 +853,7 @@ fn first_wrong_time(alloc: Global, pieces: Pieces<Visits>) -> Option<&'static st
     None
 }
 
-/// Whether the last time is 0 behind the first change, and then as it stands beside each piece.
+/// Whether the last time is 0 after the first change, and then the one given beside each piece.
 fn are_times_known(alloc: Global) -> bool {
     match begun(alloc, ONE_CHANGE.as_bytes()) {
         Ok(Some((pieces, _))) => pieces.time() == 0 && first_wrong_time(alloc, pieces).is_none(),
@@ -889,13 +891,13 @@ static THIRTEEN: [usize; 1] = [13];
 /// The digits of the longest vector that is tried.
 const DIGITS: &str = "1x0zXZ1x0zXZ1x0zXZ1x0zXZ1x0zXZ1x0zXZ1x0z";
 
-/// Those of the longest time, of which any 19 are below 2^64.
+/// The digits of the longest time that is tried. Any 19 of them are below 2^64.
 const TIME: &str = "2345678923456789234567892345678923456789";
 
-/// The longest code.
+/// The longest code that is tried.
 const CODE: &str = "~~~~~~~~~~~~~~~~~~~~~~~~~~~~~~~~~~~~~~~~";
 
-/// So many bytes of a text.
+/// The first `length` bytes of a text.
 fn front_of(text: &'static str, length: usize) -> &'static [u8] {
     text.as_bytes().get(..length).unwrap_or(b"")
 }
@@ -903,11 +905,11 @@ fn front_of(text: &'static str, length: usize) -> &'static [u8] {
 /// Some spaces.
 const SPACES: &str = "                ";
 
-/// No place of an item, and a byte.
+/// A place that no item has, and a byte.
 const NO_OTHER: (usize, u8) = (usize::MAX, 0);
 
-/// Writes an item behind definitions and so many spaces, and as many spaces behind it. It has another byte at a place,
-/// if it has that place.
+/// Writes `item` after the definitions `front` and `count` spaces, and `count` spaces after it. It has the byte
+/// `other.1` at the place `other.0`, if it has that place.
 fn write_spaced(
     text: &mut Vec<u8>,
     front: &[u8],
@@ -936,13 +938,13 @@ fn spaced(
     Ok(text)
 }
 
-/// Whether the instants of a dump say this.
+/// Whether the instants of a dump are `wanted`.
 fn instants_say(alloc: Global, dump: &Dump, wanted: &[u8]) -> bool {
     let mut found = Vec::new(alloc);
     show_instants(alloc, &mut found, dump.instants()).is_ok() && found.as_slice() == wanted
 }
 
-/// Whether a text is a dump whose instants say this.
+/// Whether a text is a dump whose instants are `wanted`.
 fn has_instants(alloc: Global, text: &[u8], wanted: &[u8]) -> bool {
     match read_vcd(alloc, text) {
         Ok(dump) => instants_say(alloc, &dump, wanted),
@@ -950,7 +952,7 @@ fn has_instants(alloc: Global, text: &[u8], wanted: &[u8]) -> bool {
     }
 }
 
-/// Whether an item says this behind so many spaces.
+/// Whether `item` after `front` and `count` spaces gives the instants `wanted`.
 fn is_read_behind(alloc: Global, front: &[u8], count: usize, item: &[u8], wanted: &[u8]) -> bool {
     match spaced(alloc, front, count, item, NO_OTHER) {
         Ok(text) => has_instants(alloc, &text, wanted),
@@ -958,7 +960,7 @@ fn is_read_behind(alloc: Global, front: &[u8], count: usize, item: &[u8], wanted
     }
 }
 
-/// Whether it does behind none to fifteen spaces.
+/// Whether `item` gives the instants `wanted` after `front` and each count of spaces from 0 to 15.
 fn is_read(alloc: Global, front: &[u8], item: &[u8], wanted: &[u8]) -> bool {
     let mut same = true;
     for count in 0..16 {
@@ -967,7 +969,7 @@ fn is_read(alloc: Global, front: &[u8], item: &[u8], wanted: &[u8]) -> bool {
     same
 }
 
-/// Whether an item with another byte at a place gives this fault behind so many spaces.
+/// Whether an item with another byte at a place gives a fault of this kind after `count` spaces.
 fn is_refused_at(
     alloc: Global,
     front: &[u8],
@@ -982,7 +984,8 @@ fn is_refused_at(
     }
 }
 
-/// Whether it does at each place from the second to the last of these, behind none to fifteen spaces.
+/// Whether an item with the byte `byte` at each place from 1 to `last` gives a fault of this kind, after each count of
+/// spaces from 0 to 15.
 fn is_refused(
     alloc: Global,
     front: &[u8],
@@ -1003,13 +1006,13 @@ fn is_refused(
 /// The definitions of a vector.
 const VECTOR: &[u8] = b"$var wire 64 p A $end\n$enddefinitions $end\n";
 
-/// What a value of the vector says at time 0.
+/// The instant at time 0 at which the vector gets the value `digits`.
 fn vector_shown(alloc: Global, digits: &[u8]) -> Result<Vec<u8>, AllocError> {
     let bits = bits_of(alloc, 64, digits)?;
     together(alloc, b"#0 0=", &bits, b"\n")
 }
 
-/// Whether a change of the vector says this, and is refused with a 2 at each place of its digits.
+/// Whether a change of the vector gives the instants `wanted`, and is refused with a 2 at each place of its digits.
 fn is_vector(alloc: Global, digits: &[u8], wanted: &[u8]) -> bool {
     match together(alloc, b"b", digits, b" p") {
         Ok(item) => {
@@ -1027,7 +1030,7 @@ fn is_vector(alloc: Global, digits: &[u8], wanted: &[u8]) -> bool {
     }
 }
 
-/// Whether a change of the vector to so many digits is read.
+/// Whether a change of the vector to `length` digits is read.
 fn is_vector_of(alloc: Global, length: usize) -> bool {
     let digits = front_of(DIGITS, length);
     match vector_shown(alloc, digits) {
@@ -1036,7 +1039,7 @@ fn is_vector_of(alloc: Global, length: usize) -> bool {
     }
 }
 
-/// Vectors of each length, with so many spaces before and behind them.
+/// Vectors of each length, with 0 to 15 spaces before and as many after them.
 #[test]
 fn vectors_of_each_length_at_each_place(rt: HostRuntime) {
     for length in 1..41 {
@@ -1047,7 +1050,7 @@ fn vectors_of_each_length_at_each_place(rt: HostRuntime) {
 /// The definitions of one variable.
 const SHORT: &[u8] = b"$var wire 1 p A $end\n$enddefinitions $end\n";
 
-/// Whether a time with these digits says this, also with zeros before them.
+/// Whether the time of `digits` gives the instants `wanted`, also with zeros before its digits.
 fn is_time(alloc: Global, time: &[u8], digits: &[u8], wanted: &[u8]) -> bool {
     match together(alloc, b"#000000000000000000000000", digits, b"") {
         Ok(late) => { is_read(alloc, SHORT, time, wanted) && is_read(alloc, SHORT, &late, wanted) }
@@ -1055,7 +1058,7 @@ fn is_time(alloc: Global, time: &[u8], digits: &[u8], wanted: &[u8]) -> bool {
     }
 }
 
-/// Whether a time is too large behind none to fifteen spaces.
+/// Whether a time is too large after each count of spaces from 0 to 15.
 fn is_too_large(alloc: Global, time: &[u8]) -> bool {
     let mut same = true;
     for count in 0..16 {
@@ -1071,7 +1074,7 @@ fn is_too_large(alloc: Global, time: &[u8]) -> bool {
     same
 }
 
-/// Whether a time with these digits is read up to 19 digits, and too large with more.
+/// Whether a time of at most 19 digits is read, or one of more is too large.
 fn is_time_or_too_large(alloc: Global, time: &[u8], digits: &[u8]) -> bool {
     if digits.len() > 19 {
         return is_too_large(alloc, time);
@@ -1082,7 +1085,8 @@ fn is_time_or_too_large(alloc: Global, time: &[u8], digits: &[u8]) -> bool {
     }
 }
 
-/// Whether a time of so many digits is read, and refused with a colon at each place of its digits.
+/// Whether a time of `length` digits is read, or too large with more than 19, and refused with a colon at each place of
+/// its digits.
 fn is_time_of(alloc: Global, length: usize) -> bool {
     let digits = front_of(TIME, length);
     match together(alloc, b"#", digits, b"") {
@@ -1094,8 +1098,8 @@ fn is_time_of(alloc: Global, length: usize) -> bool {
     }
 }
 
-/// Times of each length, with so many spaces before and behind them. Up to 19 digits they fit; 20 are too large here,
-/// and zeros before them change nothing.
+/// Times of each length, with 0 to 15 spaces before and as many after them. Up to 19 digits they fit; 20 and more are
+/// too large here, and zeros before the digits change nothing.
 #[test]
 fn times_of_each_length_at_each_place(rt: HostRuntime) {
     for length in 1..41 {
@@ -1103,7 +1107,7 @@ fn times_of_each_length_at_each_place(rt: HostRuntime) {
     }
 }
 
-/// Whether a change of a code is read behind these definitions, and refused with another byte at each place of it.
+/// Whether a change of `code` is read after the definitions `front`, and refused with another byte at each place of it.
 fn is_code(alloc: Global, front: &[u8], code: &[u8]) -> bool {
     match together(alloc, b"1", code, b"") {
         Ok(item) => {
@@ -1121,7 +1125,7 @@ fn is_code(alloc: Global, front: &[u8], code: &[u8]) -> bool {
     }
 }
 
-/// Whether a change of a code of so many bytes is.
+/// Whether a change of a code of `length` bytes is read, and refused with another byte at each place of the code.
 fn is_code_of(alloc: Global, length: usize) -> bool {
     let code = front_of(CODE, length);
     match together(
@@ -1135,7 +1139,7 @@ fn is_code_of(alloc: Global, length: usize) -> bool {
     }
 }
 
-/// Changes of codes of each length, with so many spaces before and behind them.
+/// Changes of codes of each length, with 0 to 15 spaces before and as many after them.
 #[test]
 fn codes_of_each_length_at_each_place(rt: HostRuntime) {
     for length in 1..41 {
@@ -1143,7 +1147,7 @@ fn codes_of_each_length_at_each_place(rt: HostRuntime) {
     }
 }
 
-/// What is shown of a fault.
+/// Whether a fault is shown with its line and kind.
 fn is_fault_shown(alloc: Global) -> bool {
     let kind = FaultKind::BadVar;
     let fault = VcdFault { line: 3, kind };
@@ -1158,7 +1162,7 @@ fn a_fault_is_shown_with_its_line(rt: HostRuntime) {
     assert!(rt; is_fault_shown(rt.alloc()));
 }
 
-/// Whether memory is refused, which is ample.
+/// Whether reading `text` has want of memory as its fault, though there is ample memory.
 fn is_short_of_memory(alloc: Global, text: &[u8]) -> bool {
     match read_vcd(alloc, text) {
         Ok(_) => false,
@@ -1166,7 +1170,7 @@ fn is_short_of_memory(alloc: Global, text: &[u8]) -> bool {
     }
 }
 
-/// Whether it is refused for no prefix of a text.
+/// Whether reading has want of memory as its fault for no prefix of `text`.
 fn is_no_prefix_short(alloc: Global, text: &[u8]) -> bool {
     let mut enough = true;
     for end in 0..text.len() {
@@ -1175,12 +1179,12 @@ fn is_no_prefix_short(alloc: Global, text: &[u8]) -> bool {
     enough
 }
 
-/// The recording.
+/// The recording of the bus.
 fn whole_bus(alloc: Global) -> Result<Vec<u8>, AllocError> {
     together(alloc, BUS.as_bytes(), BUS_BODY.as_bytes(), b"")
 }
 
-/// Whether it is refused for no prefix of the recording.
+/// Whether reading has want of memory as its fault for no prefix of the recording.
 fn is_no_prefix_of_bus_short(alloc: Global) -> bool {
     match whole_bus(alloc) {
         Ok(text) => is_no_prefix_short(alloc, &text),
@@ -1193,7 +1197,7 @@ fn every_prefix_of_a_recording_is_a_dump_or_has_a_fault(rt: HostRuntime) {
     assert!(rt; is_no_prefix_of_bus_short(rt.alloc()));
 }
 
-/// A hundred thousand scopes in one another.
+/// Writes a hundred thousand nested scopes.
 fn write_scopes(text: &mut Vec<u8>) -> Result<(), AllocError> {
     for _ in 0..100_000 {
         text.extend_from_slice(b"$scope module a $end\n")?;
@@ -1230,7 +1234,7 @@ $enddefinitions $end
 #0 1p 1clock0 0clock1 bx ~~~ #1 0p #2 b1 ~~~ 1p 0clock0
 ";
 
-/// Whether it is read, or want of memory is the fault.
+/// Whether the recording is read, or want of memory is the fault.
 fn is_read_or_refused(alloc: Global) -> bool {
     match read_vcd(alloc, GROWING.as_bytes()) {
         Ok(dump) => dump.instants().len() == 3 && dump.variables().len() == 4,
@@ -1238,7 +1242,7 @@ fn is_read_or_refused(alloc: Global) -> bool {
     }
 }
 
-/// Run with each allocation refused in turn, this shows that the answer is then want of memory.
+/// Run with each allocation refused in turn, this test shows that the fault is then want of memory.
 #[test]
 fn want_of_memory_is_the_fault(rt: HostRuntime) {
     assert!(rt; is_read_or_refused(rt.alloc()));
@@ -1248,7 +1252,7 @@ fn want_of_memory_is_the_fault(rt: HostRuntime) {
 const FRONT: &str =
     "$var wire 1 p P $end $var wire 2 q Q $end $var wire 2 #9 R $end $enddefinitions $end\n";
 
-/// A body that is cut in front of each `#` that begins a line: of its pieces the ones at 0, 5, 5, 6, 10 and 12 fit.
+/// A body that is cut before each `#` that begins a line: of its pieces, those at the times 0, 5, 5, 6, 10 and 12 fit.
 const BODY: &str = "\
 0p
 #0 1p
@@ -1264,7 +1268,7 @@ const BODY: &str = "\
 #12 0p
 ";
 
-/// What it says.
+/// What the body says.
 const BODY_SHOWN: &str = "\
 #0 0=1
 #5 0=0 1=10
@@ -1275,7 +1279,8 @@ const BODY_SHOWN: &str = "\
 #12 0=0
 ";
 
-/// What is told of a body behind these definitions, read in pieces that are joined where they fit, and how many are.
+/// The visits of a body after `FRONT`, which is read in pieces that are joined where they fit, and how many pieces are
+/// joined. `None` if the definitions of `FRONT` don't end.
 fn joined_from(
     alloc: Global,
     origin: &Pieces<Visits>,
@@ -1288,7 +1293,7 @@ fn joined_from(
     }
 }
 
-/// The same, or no definitions.
+/// As `joined_from`, where `origin` is another reading of `FRONT`.
 fn read_joined(
     alloc: Global,
     body: &[u8],
@@ -1300,7 +1305,7 @@ fn read_joined(
     }
 }
 
-/// How many pieces of the body are joined, where it is read so and says what it is to say.
+/// How many pieces of `BODY` are joined, if it says what it should.
 fn count_joined(alloc: Global, ends: &[usize]) -> Option<usize> {
     match read_joined(alloc, BODY.as_bytes(), ends) {
         Ok(Some((told, count))) => {
@@ -1314,7 +1319,7 @@ fn count_joined(alloc: Global, ends: &[usize]) -> Option<usize> {
     }
 }
 
-/// The same for pieces that begin with times.
+/// How many pieces of `BODY` are joined where it is cut before times, if it says what it should.
 fn count_joined_by_times(alloc: Global) -> Option<usize> {
     match times_of(alloc, BODY.as_bytes()) {
         Ok(ends) => count_joined(alloc, &ends),
@@ -1322,7 +1327,7 @@ fn count_joined_by_times(alloc: Global) -> Option<usize> {
     }
 }
 
-/// Whether the body says what it is to say in pieces of so many bytes at least.
+/// Whether `BODY` says what it should in pieces of at least `size` bytes.
 fn is_joined_by_size(alloc: Global, size: usize) -> bool {
     match ends_of(alloc, BODY.as_bytes(), size) {
         Ok(ends) => count_joined(alloc, &ends).is_some(),

@@ -1,4 +1,4 @@
--- Once a first time is known it stays so.
+-- Once the first time is known, it stays the same.
 use Rattle.std.proofs.Common.{◌≡◌, ℕ, Bool, true, false, ◌&&◌, List, [], ◌∷◌, Option, Some, Result, Ok, Err, refl}
 use Rattle.std.proofs.Common.{sym, ap, subst, ◌∙◌}
 use Rattle.std.specs.Prelude.{◌==◌, if◌then◌else◌, not}
@@ -73,7 +73,7 @@ module _ (nets : List Net) (time : ℕ) where
       let same : ended or_time s.progress ≡ start = cc in sym same ∙ ended_is s.progress h
   end_is s start (Err fault) h is = absurd (cc)
 
--- what is known of a first time where reading has come so far is so
+-- if a first time is known where reading has come to `r`, it is that of the dump
 pub kept-start : (r : Reached (Option ℕ)) (time : ℕ) → r.progress.accumulator ≡ Some time → (more : List Token)
     (dump : Contents) → StartComesTo r more dump → start_of dump ≡ Some time
 kept-start r time has more dump comes =

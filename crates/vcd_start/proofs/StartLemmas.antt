@@ -1,4 +1,4 @@
--- What is taken of a dump's body is its first time.
+-- The fold over a dump's body gives its first time.
 use Rattle.std.proofs.Common.{◌≡◌, ℕ, false, List, [], ◌∷◌, ◌++◌, Option, None, Result, Ok, Err, refl, sym, ap}
 use Rattle.std.proofs.Common.{subst, ◌∙◌, append_assoc, drop, take, take-append-drop}
 use Rattle.vcd_read.specs.declared.dump.Instant.{Instant}
@@ -77,7 +77,7 @@ module _ (text : List ℕ) (ts : List Token) (same : tokens text ≡ ts) where
         ap (λ (d : Contents). Ok d.instants) whole
     by_instants variables dump (Err fault) e = absurd (cc)
 
-    -- the instants of the dump are those of its body
+    -- the fold over the body gives the first time of the dump
     pub taken-start : header_of passed text (nothing_declared tt) ts ≡ Ok (defined h tt) → (dump : Contents)
         → dump_of text ≡ Ok dump → fold_body unchanged or_time h.nets None h.body ≡ Ok (start_of dump)
     taken-start is dump whole =
@@ -91,7 +91,7 @@ module _ (text : List ℕ) (ts : List Token) (same : tokens text ≡ ts) where
     fails_on line Memory r f fails = fails
     fails_on line kind r f fails = ap (λ w. w >>= f) fails
 
-    -- what fails for its first time, fails
+    -- a fault of the fold over the body is a fault of the dump
     pub body-fails : header_of passed text (nothing_declared tt) ts ≡ Ok (defined h tt) → (fault : VcdFault)
         → ReadFails fault (fold_body unchanged or_time h.nets None h.body) → ReadFails fault (dump_of text)
     body-fails is fault fails =
@@ -109,7 +109,7 @@ module _ (text : List ℕ) (ts : List Token) (same : tokens text ≡ ts) where
   fails_back line kind (Err own) fails =
       let same_fault : own ≡ record { line = line; kind = kind } = cc in ap (λ (f : VcdFault). Err f) same_fault
 
-  -- so does what fails in its header
+  -- a fault of the header is a fault of the dump
   pub header-fails : (fault : VcdFault) → ReadFails fault (header_of passed text (nothing_declared tt) ts)
       → ReadFails fault (dump_of text)
   header-fails fault fails =
@@ -123,7 +123,7 @@ module _ (text : List ℕ) (ts : List Token) (same : tokens text ≡ ts) where
   never fault dump (Ok d) fails whole = absurd (cc)
   never fault dump (Err own) fails whole = absurd (cc)
 
-  -- and it is no dump then
+  -- a text whose header has a fault is no dump
   pub no-dump : (fault : VcdFault) → header_of passed text (nothing_declared tt) ts ≡ Err fault → (dump : Contents)
       → dump_of text ≡ Ok dump → ⊥
   no-dump fault fails dump whole =
@@ -131,7 +131,7 @@ module _ (text : List ℕ) (ts : List Token) (same : tokens text ≡ ts) where
 
 -- ---- the body
 
--- nothing of it is read
+-- nothing of the body is read: `r` is at its start
 module _ (r : Reached (Option ℕ)) (head : Headed) (nets : r.nets ≡ head.nets)
     (progress : r.progress ≡ record { accumulator = None; time = 0; has_instant = false })
     (dump_section : r.dump_section
@@ -153,7 +153,7 @@ module _ (r : Reached (Option ℕ)) (head : Headed) (nets : r.nets ≡ head.nets
 
   module _ (text : List ℕ) (ts more : List Token) (same : tokens text ≡ ts ++ more)
       (is : header_of passed text (nothing_declared tt) (ts ++ more) ≡ Ok (defined (going_on head more) tt)) where
-    -- what is read of it leaves the first time as it was
+    -- if reading `head.body` leads from `r` to `next`, reading on from `next` gives the first time of the dump
     pub reads-start : (next : Reached (Option ℕ)) → rest_of unchanged or_time r head.body more
         ≡ rest_of unchanged or_time next [] more
         → (dump : Contents) → dump_of text ≡ Ok dump → StartComesTo next more dump
@@ -166,7 +166,7 @@ module _ (r : Reached (Option ℕ)) (head : Headed) (nets : r.nets ≡ head.nets
     ends_on line Memory w fails = fails
     ends_on line kind w fails = ap (λ (x : Result (State (Option ℕ)) VcdFault). x >>= at_end or_time) fails
 
-    -- and a fault of it is that of the dump
+    -- a fault in reading `head.body` and `more` from `r` on is a fault of the dump
     pub fails-start : (fault : VcdFault) → ReadFails fault (rest_of unchanged or_time r head.body more)
         → ReadFails fault (dump_of text)
     fails-start fault fails =
@@ -176,7 +176,7 @@ module _ (r : Reached (Option ℕ)) (head : Headed) (nets : r.nets ≡ head.nets
 
 -- ---- a fault
 
--- what has a fault gives nothing
+-- a reading that fails otherwise than by want of memory has no result
 pub never-gives : {Y : Type 0} (read : Result Y VcdFault) (line : ℕ) (kind : FaultKind) → (kind ≡ Memory → ⊥)
     → ReadFailsAs line kind read → (y : Y) → read ≡ Ok y → ⊥
 never-gives read line Memory other fails y is = other refl
@@ -184,6 +184,7 @@ never-gives read line kind other fails y is = absurd (cc)
 
 -- ---- the end
 
+-- at the end of the body, the outcome is the first time of the dump
 pub same-start : (r : Reached (Option ℕ)) (time : Option ℕ) (dump : Contents) → outcome_of unchanged or_time r ≡ Ok time
     → StartComesTo r [] dump → start_of dump ≡ time
 same-start r time dump gives comes =

@@ -10,19 +10,19 @@ use Rattle.vcd_read.specs.BodyFold.{at_end}
 use Rattle.vcd_read.specs.Tokens.{Token, tokens}
 use Rattle.vcd_start.specs.Starts.{start_of}
 
--- changes tell no time
+-- a change doesn't alter the first time
 abbrev pub unchanged : Option ℕ → ℕ → List Bit → Option ℕ
 unchanged start net bits = start
 
--- the first instant that ends has the first time
+-- the end of an instant at `time` gives the first time, unless there is one already
 abbrev pub or_time : Option ℕ → ℕ → Option ℕ
 or_time start time = option_or start (Some time)
 
--- of a dump that goes on with these tokens where reading has come to this, that is the first time
+-- to read on from `reached` with the tokens `more`, up to the end, gives the first time of `dump`
 abbrev pub StartComesTo : Reached (Option ℕ) → List Token → Contents → Type 0
 StartComesTo reached more dump = (rest_of unchanged or_time reached [] more >>= at_end or_time) ≡ Ok (start_of dump)
 
--- reading has come so far in each text that begins with this front and goes on behind its tokens
+-- in each dump whose tokens begin with those of `front`, reading has come to `reached` after them
 abbrev pub IsStartRead : List ℕ → Reached (Option ℕ) → Type 0
 IsStartRead front reached = (text : List ℕ) (more : List Token) (dump : Contents) → tokens text ≡ tokens front ++ more
     → dump_of text ≡ Ok dump → StartComesTo reached more dump

@@ -10,8 +10,7 @@ use Rattle.vcd_start.specs.declared.start.Start.TheVariants.{Determined, Undeter
 abbrev pub first_time_of : List Instant → Option ℕ
 first_time_of instants = option_map (λ (i : Instant). i.time) (slice_get instants 0)
 
--- the first time of a dump, if it has one: 0 where a change stands before each time that the dump tells, or else the
--- first that it tells
+-- the first time of a dump, if it has one: 0 if a change precedes every time stamp, or else the first time stamp
 abbrev pub start_of : Contents → Option ℕ
 start_of dump = first_time_of dump.instants
 
@@ -19,7 +18,7 @@ start_of dump = first_time_of dump.instants
 abbrev pub StartsAt : List ℕ → Option ℕ → Type 0
 StartsAt text time = (dump : Contents) → dump_of text ≡ Ok dump → start_of dump ≡ time
 
--- what is told of the first time of a text is so
+-- what a `Start` says of the first time of a text holds
 abbrev pub DeterminesStart : List ℕ → Start → Type 0
 DeterminesStart text Undetermined = Unit {0}
 DeterminesStart text (Determined time) = StartsAt text time

@@ -5,7 +5,7 @@ ghost use Rattle.std.specs.Prelude.{◌≡◌};
 use std::alloc::{AllocError, Global};
 use vcd_read::ChangeVisitor;
 
-/// What takes the time of the first instant that ends.
+/// A visitor that takes the time of the first instant that ends.
 #[derive(Drop)]
 pub(crate) struct FirstInstant {
     pub time: Option<u64>,

@@ -2,20 +2,20 @@
 //!
 //! # Parts
 //!
-//! - `start`: [`start_in`] says the first time of each dump that begins with some bytes, once its
-//!   first instant has ended in them; [`start_of_text`] that of a whole text.
-//! - `first_instant`: what takes the time of the first instant of a body, and nothing else.
-//! - `no_variables`: what takes no variable.
+//! - `start`: [`start_in`] gives the first time of each dump that begins with the bytes `front`,
+//!   once its first instant has ended in them; [`start_of_text`] that of a whole text.
+//! - `first_instant`: a visitor of a body that takes the time of its first instant alone.
+//! - `no_variables`: a visitor of a header that takes no variable.
 //!
 //! # What is proved
 //!
-//! Where a text is a dump, what is answered is the time of its first instant, if it has one
-//! (`StartsAt`): 0 where a change stands before each time that the dump tells, or else the first
-//! that it tells. Of a front that isn't whole this holds whatever follows (`DeterminesStart`).
+//! If a text is a dump, the answer is the time of its first instant, if it has one (`StartsAt`): 0
+//! if a change precedes every time stamp, or else the first time stamp. The answer for a prefix of
+//! a text holds whatever follows (`DeterminesStart`).
 //!
 //! # What isn't proved
 //!
-//! That memory suffices, and that the time is told as soon as it could be.
+//! That memory suffices, and that the time is given as soon as it is determined.
 //!
 //! Start reading at `specs/Starts`.
 #![tactic(auto)]

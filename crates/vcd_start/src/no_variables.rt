@@ -1,11 +1,11 @@
-//! What takes no variable.
+//! A visitor of a header that takes no variable.
 
 ghost use Rattle.std.specs.Prelude.{◌≡◌, []};
 
 use std::alloc::{AllocError, Global};
 use vcd_read::{Declaration, DeclarationVisitor, Scopes};
 
-/// What takes no variable of a header, and knows its open scopes alone.
+/// A visitor of a header that takes no variable, and keeps its open scopes alone.
 #[derive(Drop)]
 pub(crate) struct NoVariables {
     open: Scopes,

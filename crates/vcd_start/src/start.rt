@@ -1,4 +1,4 @@
-//! The first time of a dump, by a front of its text.
+//! The first time of a dump, by a prefix of its text.
 
 ghost use Rattle.std.specs.Prelude.{◌≡◌, ◌≢◌, ◌++◌, ℕ, List, None, IfErr, IfNone, IfOk, IfSome, Ok, OnOk};
 ghost use Rattle.vcd_read.specs.Contents.{Contents};
@@ -14,17 +14,17 @@ use crate::no_variables::NoVariables;
 use std::alloc::{AllocError, Global};
 use vcd_read::{FaultKind, Pieces, VcdFault, read_front, whole_tokens};
 
-/// What the front of a text tells of its first time.
+/// What a prefix of a text determines of its first time.
 #[derive(Clone, Copy, Debug)]
 pub enum Start {
-    /// The first instant doesn't end in it.
+    /// The first instant doesn't end in the prefix.
     Undetermined,
     /// The first time of the text, if it has one.
     Determined(Option<u64>),
 }
 
-/// Reads the body that a front of a text has, if its definitions end in it. A fault is that of every text that goes on
-/// so.
+/// Reads what `front` has of a body. `None` if the definitions don't end in `front`. A fault is that of every text that
+/// begins with the tokens of `front`.
 fn read_in(alloc: Global, front: &[u8]) -> Result<Option<Pieces<FirstInstant>>, VcdFault>
     ensures read { IfOk result
         (λ found. IfSome found (λ pieces. IsStartRead front.now (reached (λ v. v.time) pieces))) }
@@ -45,7 +45,7 @@ fn read_in(alloc: Global, front: &[u8]) -> Result<Option<Pieces<FirstInstant>>, 
     }
 }
 
-/// A text with a fault is no dump, unless memory ran out.
+/// `AllocError` if the fault is want of memory. Any other fault means that the text is no dump.
 fn unless_memory(fault: VcdFault) -> Result<(), AllocError>
     ensures { OnOk result (fault.kind ≢ Memory) }
 {
@@ -55,7 +55,7 @@ fn unless_memory(fault: VcdFault) -> Result<(), AllocError>
     }
 }
 
-/// What is known of the first time where the body is read so far.
+/// What the body that is read so far determines of the first time.
 fn start_by_pieces(pieces: Pieces<FirstInstant>) -> Start
     ensures { (front text : List ℕ) (more : List Token) → IsStartRead front (reached (λ v. v.time) pieces)
         → tokens text ≡ tokens front ++ more → DeterminesStart text result }
@@ -67,7 +67,7 @@ fn start_by_pieces(pieces: Pieces<FirstInstant>) -> Start
     }
 }
 
-/// What the whole tokens of a front tell.
+/// What the tokens of `front` determine of the first time.
 fn start_by_tokens(alloc: Global, front: &[u8]) -> Result<Start, AllocError>
     ensures { IfOk result (λ start. (text : List ℕ) (more : List Token) → tokens text ≡ tokens front.now ++ more
         → DeterminesStart text start) }
@@ -82,7 +82,7 @@ fn start_by_tokens(alloc: Global, front: &[u8]) -> Result<Start, AllocError>
     }
 }
 
-/// The first time of each dump that begins with these bytes, if they tell it. The only error is want of memory.
+/// The first time of each dump that begins with `front`, if `front` determines it. The only error is want of memory.
 pub fn start_in(alloc: Global, front: &[u8]) -> Result<Start, AllocError>
     ensures { IfOk result (λ start. (rest : List ℕ) → DeterminesStart (front.now ++ rest) start) }
 {

@@ -3,7 +3,7 @@ use Rattle.std.proofs.lemmas.List.{nil_from_length}
 use Rattle.std.proofs.lemmas.List.Sums.{count_by-le-length, sum_by-append}
 use Rattle.vcd_read.proofs.lines.line_feeds.Goals as goal
 
--- the line feeds of what is cut in two
+-- the line feeds of `whole` are those of its two parts
 fed : (whole few rest : List ℕ) → whole ≡ few ++ rest → count_by (λ b. b == 10) whole ≡ count_by (λ b. b == 10) few +
     count_by (λ b. b == 10) rest
 fed whole few rest parts = ap (count_by (λ (b : ℕ). b == 10)) parts ∙ sum_by-append (λ (b : ℕ). cond (b == 10) 1 0) few
