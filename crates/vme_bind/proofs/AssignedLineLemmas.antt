@@ -1,4 +1,4 @@
--- Of which lines a piece tells a level, and what it leaves where other levels are before it.
+-- The lines that a piece assigns a level to, and the levels after it for other levels before it.
 use Rattle.std.proofs.Common.{◌≡◌, ℕ, ◌+◌, ◌<◌, ◌≤◌, Bool, true, false, cond, List, [], ◌∷◌, ◌++◌, length, map}
 use Rattle.std.proofs.Common.{slice_set, Some, Result, Ok, Err, refl, sym, ap, subst, ◌∙◌, inl, inr, ◌⊎◌, arith}
 use Rattle.std.specs.Prelude.{◌≢◌}
@@ -31,7 +31,7 @@ use Rattle.vme_bind.specs.declared.net_lines.LineBit.{LineBit}
 use Rattle.vme_bind.specs.declared.net_lines.NetLines.{NetLines}
 use Rattle.vme_bind.proofs.RecorderLemmas.{same_levels, set_all, set_other, set_same}
 
--- ---- the lines that are told
+-- ---- the lines that are assigned a level
 
 pub assigned_too-more : (line_bits : List LineBit) (assigned : List Bool) (line_bit : LineBit)
     → assigned_too (line_bits ++ line_bit ∷ []) assigned ≡ slice_set (assigned_too line_bits assigned) line_bit.line
@@ -59,7 +59,7 @@ assigned-none l = unwrap_or-slice_get none_assigned l false ∙ elim (within l) 
     within : (l : ℕ) → (l < line_count) ⊎ (line_count ≤ l)
     within l = grind arith
 
--- lines of which a level is told are lines of the backplane, if those of all line bits are
+-- lines that are assigned a level are lines of the backplane, if those of all line bits are
 assigned-on : (slots : ℕ) (line_bits : List LineBit) (assigned : List Bool) → AreLines slots line_bits
     → ((l : ℕ) → is_assigned assigned l ≡ true → IsLine slots l)
     → (l : ℕ) → is_assigned (assigned_too line_bits assigned) l ≡ true → IsLine slots l
@@ -82,9 +82,9 @@ if_no : {X : Type 0} (b : Bool) (x y : X) → b ≡ false → y ≡ cond b x y
 if_no true x y e = absurd cc
 if_no false x y e = refl
 
--- ---- the same changes, made to other levels too
+-- ---- the same changes, made to other levels
 
--- on each line that is told these levels are those, and else they are the first
+-- `these` has the level of `those` on each line that is assigned one, and that of `first` on each other line
 record AreMixed (first those these : Levels) (assigned : List Bool) : Type 0 where
   those_all : length those.levels ≡ line_count
   all : length these.levels ≡ line_count
@@ -93,6 +93,7 @@ record AreMixed (first those these : Levels) (assigned : List Bool) : Type 0 whe
   levels : (l : ℕ) → l < line_count → level_at these l ≡ cond (is_assigned assigned l) (level_at those l)
       (level_at first l)
 
+-- setting the line n in `those` and in `these`, and marking it as assigned, keeps `AreMixed`
 mixed-set : (first those these : Levels) (assigned : List Bool) (n : ℕ) (x : Level) → AreMixed first those these
     assigned
     → AreMixed first (set_level those n x) (set_level these n x) (slice_set assigned n true)
@@ -117,6 +118,7 @@ mixed-set first those these assigned n x h = record {
       ];
 }
 
+-- changing the lines of a net in `those` and in `these`, and marking them as assigned, keeps `AreMixed`
 mixed-line_bits : (bits : List Bit) (line_bits : List LineBit) (first those these : Levels) (assigned : List Bool)
     → AreMixed first those these assigned
     → AreMixed first (changed those (map (line_change bits) line_bits))
@@ -129,9 +131,9 @@ mixed-line_bits bits (line_bit ∷ line_bits) first those these assigned h =
     mixed-line_bits bits line_bits first (set_level those line_bit.line x) (set_level these line_bit.line x)
     (slice_set assigned line_bit.line true) (mixed-set first those these assigned line_bit.line x h)
 
--- ---- a piece that is read once more, after other levels
+-- ---- a piece that is read again, from other levels
 
--- what is read ahead, and the levels that the same changes make of others
+-- the state of reading ahead, and other levels with the same changes
 record Both : Type 0 where
   ahead : SpeculativeBuilderState
   levels : Levels
@@ -146,7 +148,7 @@ both_change b net bits = record {
 abbrev both_instant : Both → ℕ → Both
 both_instant b time = record { ahead = speculative_instant b.ahead time; levels = b.levels }
 
--- the lines of the nets, and some levels
+-- the lines of the nets, and the levels
 record Others : Type 0 where
   line_bits : NetLines
   levels : Levels
@@ -184,7 +186,7 @@ module _ (nets : List Net) (bytes : List ℕ) (e : SpeculativeBuilderState) (a :
   abbrev items : List BodyItem
   items = detached_items a.first_line bytes
 
-  -- what is made of it
+  -- the field `made` of what reading ahead gives is what the builder alone makes of the piece
   pub made-read : IsReadDetached builder_change builder_instant nets bytes e.made
       (detached_with a.progress.accumulator.made a)
   made-read = record {
@@ -200,7 +202,7 @@ module _ (nets : List Net) (bytes : List ℕ) (e : SpeculativeBuilderState) (a :
     line = is.line;
   }
 
-  -- the lines of which it tells a level are the backplane's
+  -- the lines that a piece assigns a level to are lines of the backplane
   pub assigned-lines : (slots : ℕ) → ((net : ℕ) → AreLines slots (line_bits_of e.made.line_bits net)) → e.assigned
       ≡ none_assigned → (l : ℕ) → is_assigned a.progress.accumulator.assigned l ≡ true → IsLine slots l
   assigned-lines slots lines none =
@@ -238,6 +240,7 @@ module _ (nets : List Net) (bytes : List ℕ) (e : SpeculativeBuilderState) (a :
     )
     ended (Err fault) h = absurd cc
 
+    -- reading the piece with the other levels too reaches the state of the piece that was read ahead
     both-read : (end : State Both) × (steps both_change both_instant nets start items ≡ Ok end)
         × (ahead_state end ≡ state_at a.progress a.dump_section)
     both-read =
@@ -246,10 +249,11 @@ module _ (nets : List Net) (bytes : List ℕ) (e : SpeculativeBuilderState) (a :
         (λ b net bits. refl)
         (λ b time. refl) nets start items) ∙ is.whole)
 
-    -- the levels after it
+    -- the levels after the piece, from the levels `v`
     abbrev behind : Levels
     behind = both-read.0.progress.accumulator.levels
 
+    -- `behind` has the piece's own level on each line that it assigns one to, and that of `v` on each other line
     mixed-behind : length e.made.progress.now.levels ≡ line_count → length v.levels ≡ line_count → e.assigned
         ≡ none_assigned
         → AreMixed v a.progress.accumulator.made.progress.now behind a.progress.accumulator.assigned
@@ -270,7 +274,7 @@ module _ (nets : List Net) (bytes : List ℕ) (e : SpeculativeBuilderState) (a :
         })
         both-read.1)
 
-    -- are those that reading it after the first leads to
+    -- reading the piece from the levels `v` leaves the levels `behind`
     behind-is : (line_bits : NetLines) (t : Trace) (m : ReadDetached BuilderState) → e.made.line_bits ≡ line_bits
         → m.first_line
         ≡ a.first_line → IsReadDetached builder_change builder_instant nets bytes (builder_behind line_bits v t) m
@@ -312,7 +316,7 @@ module _ (nets : List Net) (bytes : List ℕ) (e : SpeculativeBuilderState) (a :
         (ap (λ (x : NetLines). steps others_change others_instant nets
         (before_piece (record { line_bits = x; levels = v }) a.time) items) (sym lines) ∙ of_both))
 
-  -- where others are before it, it leaves its own levels on the lines of which it tells one, and theirs on the rest
+  -- from other levels, the piece leaves its own level on the lines that it assigns one to, and those levels on the rest
   pub assigned-leads : (x : ReadSpeculatively) (line_bits : NetLines) → length e.made.progress.now.levels ≡ line_count
       → e.assigned ≡ none_assigned → e.made.line_bits ≡ line_bits
       → x.detached.first_line ≡ a.first_line → x.assigned ≡ a.progress.accumulator.assigned
@@ -348,6 +352,7 @@ module _ (a : ReadSpeculatively) (before : Levels) (n : ℕ) (after : Levels) (h
   abbrev own : Levels
   own = a.detached.progress.accumulator.now
 
+  -- the line n gets the piece's own level, where the piece assigns one to it
   pub left-assigned : (x : Level) → n < line_count → is_assigned a.assigned n ≡ true → x ≡ level_at own n
       → AreLeftBelow a before (n + 1) (set_level after n x)
   left-assigned x lt assigned is = record {
@@ -365,6 +370,7 @@ module _ (a : ReadSpeculatively) (before : Levels) (n : ℕ) (after : Levels) (h
     rest = λ l le. set_other after n l x (omega (arith, le)) ∙ h.rest l (omega (arith, le));
   }
 
+  -- the line n keeps its level, where the piece assigns none to it
   pub left-same : is_assigned a.assigned n ≡ false → AreLeftBelow a before (n + 1) after
   left-same off = record {
     slots = h.slots;

@@ -17,22 +17,23 @@ use Rattle.vme_bind.specs.declared.bound_groups.BitRange.{BitRange}
 use Rattle.vme_bind.specs.declared.bound_groups.BoundGroup.{BoundGroup}
 use Rattle.vme_bind.specs.BoundGroups.{candidate, only, same_bits, bound_group_in, bound_groups_in}
 
--- what is left of a list from a place on
+-- the rest of a list from place `i` on is element `i` and the rest after it
 pub from_place : {X : Type 0} (xs : List X) (i : ℕ) (x : X) → i < length xs → x ≡ get_or xs i x → drop i xs ≡ x
     ∷ drop (i + 1) xs
 from_place xs i x lt e = rw add-one (drop-cons xs i x lt) ∙ ap (λ y. y ∷ drop (i + 1) xs) (sym e)
 
--- the only candidate, where this one was found before
+-- the only candidate among those in the list and the one found before, if there is one
 abbrev pub only_from : Option BitRange → List BitRange → Result BitRange BindFaultKind
 only_from None found = only found
 only_from (Some bits) others = cond (list_all (same_bits bits) others) (Ok bits) (Err AmbiguousPath)
 
--- the same with perhaps one more
+-- the only candidate with one more, if `Some`, between that found before and those in the list
 abbrev pub only_with : Option BitRange → Option BitRange → List BitRange → Result BitRange BindFaultKind
 only_with found None others = only_from found others
 only_with None (Some bits) others = only_from (Some bits) others
 only_with (Some bits) (Some next) others = cond (same_bits bits next) (only_from (Some bits) others) (Err AmbiguousPath)
 
+-- one variable more, whose candidate is `next`
 with_next : (found next : Option BitRange) (named : VariableSelector) (v : Variable) (vs : List Variable)
     → candidate named v ≡ next
     → only_from found (filter_map (candidate named) (v ∷ vs)) ≡ only_with found next (filter_map (candidate named) vs)
@@ -47,6 +48,7 @@ with_next (Some bits) (Some next) named v vs e = rw e (by_same (same_bits bits n
     by_same true = refl
     by_same false = refl
 
+-- the candidate of variable `i` is added to what was found before it
 pub only-step : (found next : Option BitRange) (named : VariableSelector) (vs : List Variable) (i : ℕ) (v : Variable)
     → i < length vs → v ≡ get_or vs i v → next ≡ candidate named v
     → only_from found (filter_map (candidate named) (drop i vs)) ≡ only_with found next
@@ -55,12 +57,13 @@ only-step found next named vs i v lt e is =
     ap (λ (rest : List Variable). only_from found (filter_map (candidate named) rest)) (from_place vs i v lt e)
     ∙ with_next found next named v (drop (i + 1) vs) (sym is)
 
+-- after the last variable, the result is that of what was found
 pub only-end : (found : Option BitRange) (named : VariableSelector) (vs : List Variable) (i : ℕ) → length vs ≡ i
     → only_from found (filter_map (candidate named) (drop i vs)) ≡ only_from found []
 only-end found named vs i e = ap (λ (rest : List Variable). only_from found (filter_map (candidate named) rest))
     (drop_of_length-le vs (omega (arith, e)))
 
--- bound groups, before those that are still to be found
+-- the bound groups so far, followed by those that are still to be found
 abbrev pub behind_bound_groups : List BoundGroup → Result (List BoundGroup) BindFault → Result (List BoundGroup)
     BindFault
 behind_bound_groups bound_groups rest = rest >>= λ others. Ok (bound_groups ++ others)
@@ -71,6 +74,7 @@ one_more : (bound_groups : List BoundGroup) (bound_group : BoundGroup) (rest : R
 one_more bound_groups bound_group (Ok others) = ap Ok (sym (append_assoc bound_groups (bound_group ∷ []) others))
 one_more bound_groups bound_group (Err fault) = refl
 
+-- where the next bound group is `r`, it is added to those so far
 pub push_in : (bound_groups : List BoundGroup) (r : Result BoundGroup BindFault)
     (rest : Result (List BoundGroup) BindFault)
     → behind_bound_groups bound_groups (r >>= λ bound_group. rest >>= λ others. Ok (bound_group ∷ others))
@@ -78,6 +82,7 @@ pub push_in : (bound_groups : List BoundGroup) (r : Result BoundGroup BindFault)
 push_in bound_groups (Ok bound_group) rest = one_more bound_groups bound_group rest
 push_in bound_groups (Err fault) rest = refl
 
+-- the bound group of assignment `i` is the next
 pub bound_groups-first : (bound_groups : List BoundGroup) (variables : List Variable) (as' : List Assignment) (i : ℕ)
     (a : Assignment) → i < length as' → a ≡ get_or as' i a
     → behind_bound_groups bound_groups (bound_groups_in variables (drop i as'))
@@ -89,6 +94,7 @@ bound_groups-first bound_groups variables as' i a lt e =
     (from_place as' i a lt e)
     ∙ push_in bound_groups (bound_group_in variables a) (bound_groups_in variables (drop (i + 1) as'))
 
+-- where assignment `i` has a bound group, it is added to those so far
 pub bound_groups-step : (bound_groups : List BoundGroup) (variables : List Variable) (as' : List Assignment) (i : ℕ)
     (a : Assignment) (bound_group : BoundGroup) → i < length as' → a ≡ get_or as' i a → bound_group_in variables a
     ≡ Ok bound_group
@@ -99,6 +105,7 @@ bound_groups-step bound_groups variables as' i a bound_group lt e is =
     ∙ ap (λ (r : Result BoundGroup BindFault). r >>= λ bound_group. behind_bound_groups (bound_groups ++ bound_group
     ∷ []) (bound_groups_in variables (drop (i + 1) as'))) is
 
+-- after the last assignment, the result is the bound groups so far
 pub bound_groups-end : (bound_groups : List BoundGroup) (variables : List Variable) (as' : List Assignment) (i : ℕ)
     → length as' ≤ i → behind_bound_groups bound_groups (bound_groups_in variables (drop i as')) ≡ Ok bound_groups
 unfolding bound_groups_in

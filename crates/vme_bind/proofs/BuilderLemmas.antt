@@ -1,4 +1,4 @@
--- The recording that is made as a dump is read is that of its instants.
+-- The recording that is made while a dump is read is that of its instants.
 use Rattle.std.proofs.Common.{◌≡◌, ◌≢◌, ℕ, zero, suc, ◌+◌, ◌<◌, Bool, true, false, cond, eqb, List, [], ◌∷◌, ◌++◌}
 use Rattle.std.proofs.Common.{length, map, get_or, replicate, slice_set, refl, sym, ap, ◌∙◌, arith, append_assoc, inl}
 use Rattle.std.proofs.Common.{inr, Option, Some, None}
@@ -65,6 +65,7 @@ same_net n net bits values e none =
     ap (λ (o : Option (List Bit)). option_or o (cond (eqb n net) (Some bits) None)) none
     ∙ ap (λ (b : Bool). cond b (Some bits) None) (eq-eqb n net e)
 
+-- the last bits of a net among the current values are those at its place
 pub last-from : (current : CurrentValues) (n k net : ℕ) → n + k ≡ net → last_bits net (values_from n current)
     ≡ get_or current k None
 last-from [] n k net e = refl
@@ -79,6 +80,7 @@ last-from (Some bits ∷ current) n (suc k) net e =
 
 -- ---- one change more
 
+-- setting the current value of `net` changes the last bits of that net alone
 last-set : (current : CurrentValues) (net at : ℕ) (bits : List Bit) → net < length current
     → last_bits at (values_from 0 (slice_set current net (Some bits))) ≡ cond (net == at) (Some bits)
     (last_bits at (values_from 0 current))
@@ -98,6 +100,7 @@ last-set current net at bits lt =
     not_eqb : (a b : ℕ) → a ≢ b → eqb a b ≡ false
     not_eqb a b ne = grind (arith, nat_tests)
 
+-- the level of a line after the current values and then `bits` for `net` is that after the values with `bits` set
 one_more : (l net : ℕ) (source : Option LineSource) (current : CurrentValues) (bits : List Bit) (base : Level)
     → net < length current
     → cond (is_on net source) (line_bit_level l source bits) (by_values l source (values_from 0 current) base)
@@ -116,7 +119,7 @@ one_more l net (Some (AtBit bit)) current bits base lt =
 
 module _ (slots : ℕ) (bound_groups : List BoundGroup) (line_bits : NetLines)
     (all : AreLineBits slots bound_groups line_bits) where
-  -- a change of a net, after others of the instant
+  -- a change of a net, after other changes of the instant, replaces the net's value
   pub valued-set : (current : CurrentValues) (net : ℕ) (bits : List Bit) (v : Levels) → net < length current
       → length v.levels
       ≡ line_count
@@ -151,7 +154,7 @@ next_in : (done rest : List Instant) (x : Instant) → slice_get (done ++ x ∷ 
 next_in [] rest x = refl
 next_in (y ∷ done) rest x = next_in done rest x
 
--- what is made after `n` ended instants, with these values at the current one
+-- the state of the builder after the first `n` instants, with the values `current` so far in the next
 pub record IsMade (slots : ℕ) (bound_groups : List BoundGroup) (count : ℕ) (instants : List Instant) (n : ℕ)
     (current : CurrentValues) (m : BuilderState) : Type 0 where
   pub line_bits : AreLineBits slots bound_groups m.line_bits
@@ -161,11 +164,12 @@ pub record IsMade (slots : ℕ) (bound_groups : List BoundGroup) (count : ℕ) (
   pub recorded : m.recorded ≡ recording slots bound_groups instants n
 
 module _ (slots : ℕ) (bound_groups : List BoundGroup) (count : ℕ) (instants : List Instant) where
-  -- where the instants so far are the first of all
+  -- the state of the builder, whichever instants follow those of `done`
   abbrev pub Makes : List Instant → CurrentValues → BuilderState → Type 0
   Makes done current m = (rest : List Instant) → instants ≡ done ++ rest → IsMade slots bound_groups count instants
       (length done) current m
 
+  -- a change of a net keeps `Makes`
   pub makes-change : (done : List Instant) (current : CurrentValues) (m : BuilderState) (net : ℕ) (bits : List Bit)
       → net < count
       → Makes done current m → Makes done (slice_set current net (Some bits)) (builder_change m net bits)
@@ -187,6 +191,7 @@ module _ (slots : ℕ) (bound_groups : List BoundGroup) (count : ℕ) (instants 
   none_said : (line_bits : NetLines) (n : ℕ) (v : Levels) → v ≡ valued line_bits (values_from 0 (replicate n no_bits)) v
   none_said line_bits n v = sym (ap (λ (values : List Value). valued line_bits values v) (none_from n 0))
 
+  -- the end of an instant keeps `Makes`: the instant is then the last of `done`
   pub makes-instant : (done : List Instant) (current : CurrentValues) (m : BuilderState) (time : ℕ) → Makes done current
       m
       → Makes (done ++ record { time = time; values = values_from 0 current } ∷ []) (replicate (length current) None)
@@ -219,6 +224,7 @@ module _ (slots : ℕ) (bound_groups : List BoundGroup) (count : ℕ) (instants 
             ∙ ap (λ (k : ℕ). recording slots bound_groups instants k) count_more;
       }
 
+  -- before any change no instant is done, and no net has a value
   pub makes-first : (m : BuilderState) → IsBegun slots bound_groups m → Makes [] (replicate count None) m
   makes-first m begun rest e =
       let opens : m.recorded.opening ≡ levels_after slots bound_groups instants 0 = begun.first instants in

@@ -32,7 +32,7 @@ use Rattle.vme_bind.specs.Capture.{levels_after}
 use Rattle.vme_bind.specs.Recording.{line_change, valued}
 use Rattle.vme_bind.proofs.RecorderLemmas.{map-more, same_levels, set_other, set_same, those-no, those-yes, zero_le}
 
--- ---- changes to those of a range
+-- ---- changes of the lines of a range
 
 pub changed-more : (v : Levels) (cs : List Change) (c : Change) → changed v (cs ++ c ∷ []) ≡ set_level (changed v cs)
     c.line c.level
@@ -81,6 +81,7 @@ at_more : (g : ℕ → Level) (v : Levels) (l n : ℕ) (xs : List ℕ) → at_th
 at_more g v l n xs = ap (λ (cs : List Change). level_at (changed v cs) l) (map-more (to_level g) xs n)
     ∙ ap (λ (w : Levels). level_at w l) (changed-more v (map (to_level g) xs) (to_level g n))
 
+-- one number more for `changed-those`
 one_those : (p : ℕ → Bool) (g : ℕ → Level) (v : Levels) (n l : ℕ) (b : Bool) → p n ≡ b → n < length v.levels
     → at_those g v l (those p 0 n) ≡ cond (nat_lt l n && p l) (g l) (level_at v l)
     → at_those g v l (those p 0 (n + 1)) ≡ cond (nat_lt l (n + 1) && p l) (g l) (level_at v l)
@@ -105,7 +106,7 @@ one_those p g v n l false e lt so_far =
 none_below : (l : ℕ) → nat_lt l 0 ≡ false
 none_below l = grind (arith, nat_tests)
 
--- those below n get new levels
+-- of the lines below n, those with `p` get the levels of `g`; the other lines keep theirs
 pub changed-those : (p : ℕ → Bool) (g : ℕ → Level) (v : Levels) (n : ℕ) → n ≤ length v.levels → (l : ℕ)
     → level_at (changed v (map (λ k. record { line = k; level = g k }) (those p 0 n))) l ≡ cond (nat_lt l n && p l)
     (g l) (level_at v l)
@@ -119,7 +120,7 @@ changed-those p g v (suc n) le l =
 
 -- ---- the values of an instant
 
--- what values of an instant say of a line that shows a level
+-- the level of a line with this source after values of an instant, where it was `base` before
 abbrev pub by_values : ℕ → Option LineSource → List Value → Level → Level
 by_values l None values base = base
 by_values l (Some (Always level)) values base = base
@@ -128,6 +129,7 @@ by_values l (Some (AtBit bit)) values base = option_map_or (level_in l bit.place
 abbrev pub line_bit_level : ℕ → Option LineSource → List Bit → Level
 line_bit_level l source bits = level_in l (place_in source) bits
 
+-- the level of a line after the first value and then the others is that after all
 one_value : (l : ℕ) (source : Option LineSource) (v : Value) (values : List Value) (base : Level)
     → by_values l source values (cond (is_on v.net source) (line_bit_level l source v.bits) base) ≡ by_values l source
     (v ∷ values) base
@@ -165,6 +167,7 @@ line_change_twice slots bound_groups bits (x ∷ xs) = ap
 abbrev pub one_valued : NetLines → Value → Levels → Levels
 one_valued line_bits v now = changed now (map (line_change v.bits) (line_bits_of line_bits v.net))
 
+-- the level of a line after one value: that of its bit, where the value is one of its net, or else the one before
 pub one_valued-at : (slots : ℕ) (bound_groups : List BoundGroup) (line_bits : NetLines) → AreLineBits slots bound_groups
     line_bits → (v : Value) (now : Levels) → length now.levels ≡ line_count → (l : ℕ) → l < line_count
     → level_at (one_valued line_bits v now) l ≡ cond (is_on v.net (line_source slots bound_groups l))
@@ -191,6 +194,7 @@ slots-valued line_bits [] now = refl
 slots-valued line_bits (v ∷ values) now = slots-valued line_bits values (one_valued line_bits v now)
     ∙ slots-kept now (map (line_change v.bits) (line_bits_of line_bits v.net))
 
+-- the level of a line after the values of an instant
 pub valued-at : (slots : ℕ) (bound_groups : List BoundGroup) (line_bits : NetLines) → AreLineBits slots bound_groups
     line_bits → (values : List Value) (now : Levels) → length now.levels ≡ line_count → (l : ℕ) → l < line_count
     → level_at (valued line_bits values now) l ≡ by_values l (line_source slots bound_groups l) values (level_at now l)
@@ -234,6 +238,7 @@ module _ (slots : ℕ) (bound_groups : List BoundGroup) (instants : List Instant
   by_source n l (Some (Always level)) = refl
   by_source n l (Some (AtBit bit)) = bit_more n l bit.net bit.place (bits_at slots bound_groups instants bit.net n) refl
 
+  -- the level after n + 1 instants is the level after n, changed by the values of instant n
   pub after-more : (n l : ℕ) → level_after slots bound_groups instants (n + 1) l
       ≡ by_values l (line_source slots bound_groups l) (values_of (slice_get instants n))
       (level_after slots bound_groups instants n l)
@@ -255,7 +260,7 @@ module _ (slots : ℕ) (bound_groups : List BoundGroup) (instants : List Instant
   unfolding levels_after
   levels-slots n = refl
 
-  -- the values of an instant lead from the levels before it to those after it
+  -- the values of instant n lead from the levels before it to those after it
   pub valued-more : (line_bits : NetLines) → AreLineBits slots bound_groups line_bits → (n : ℕ) (values : List Value)
       → values ≡ values_of (slice_get instants n)
       → valued line_bits values (levels_after slots bound_groups instants n) ≡ levels_after slots bound_groups instants

@@ -1,4 +1,4 @@
--- A dump that is read as its text comes: what comes of it, piece by piece.
+-- The result of a dump that is read as its text comes, piece by piece.
 use Rattle.std.proofs.Common.{◌≡◌, ℕ, false, List, [], ◌++◌, Result, Err, sym, ap, ◌∙◌, append-nil}
 use Rattle.vme_trace.specs.Trace.{Trace}
 use Rattle.vcd_read.specs.Header.{◌>>=◌}
@@ -18,13 +18,13 @@ use Rattle.vme_bind.specs.TextCapture.{BindingFails, DumpFails, CaptureFailsBy, 
 use Rattle.vme_bind.specs.TextPieces.{TextReached, outcome, outcome_ahead}
 use Rattle.vme_bind.specs.Wants.{is_want}
 
--- no token of a text goes on behind this front of it
+-- no token of a text lies across the end of its prefix `front`
 abbrev EndsThere : List ℕ → Type 0
 EndsThere front = (line : ℕ) (rest : List ℕ) → tokens_from line (front ++ rest) ≡ tokens_from line front
     ++ tokens_from (line_behind line front) rest
 
 module _ (t : TextReached) where
-  -- what comes of these tokens
+  -- the result for the tokens `ts`
   abbrev comes_of : List Token → Result Trace CaptureFault
   comes_of ts = outcome t.fault (steps builder_change builder_instant t.body.nets
       (state_at t.body.progress t.body.dump_section)
@@ -41,7 +41,7 @@ module _ (t : TextReached) where
   ahead-from line line2 rest e = ahead-later (tokens_from line rest)
       ∙ ap (λ (l : ℕ). outcome_ahead t (tokens_from l rest) []) (sym e)
 
-  -- a body is begun behind a front of the text
+  -- where the prefix `front` begins the body, the result for the text is that for the rest
   pub begun-on : (b : BoundLines) (front : List ℕ) (line : ℕ) → line ≡ line_behind 1 front → EndsThere front
       → ((whole : List ℕ) (more : List Token) → tokens whole ≡ tokens front ++ more → recording_of_text b whole
       ≡ outcome_ahead t [] more)
@@ -50,7 +50,7 @@ module _ (t : TextReached) where
       begins (front ++ rest) (tokens_from (line_behind 1 front) rest) (ends 1 rest) ∙ ahead-from (line_behind 1 front)
       line rest is
 
--- a piece of the body is read
+-- where a piece of the body is read, the result for the piece and the rest is that for the rest
 pub read-on : (t t2 : TextReached) (piece : List ℕ) (line line2 : ℕ)
     → line2 ≡ line_behind line piece → EndsThere piece
     → ((more : List Token) → outcome_ahead t (tokens_from line piece) more ≡ outcome_ahead t2 [] more)
@@ -62,7 +62,7 @@ read-on t t2 piece line line2 is ends leads rest =
     ∙ leads (tokens_from (line_behind line piece) rest)
     ∙ ahead-from t2 (line_behind line piece) line2 rest is
 
--- a fault that is no want of memory is the answer
+-- a fault that isn't want of memory is the result
 pub told-is : (fault : CaptureFault) (answer : Result Trace CaptureFault) → is_want fault ≡ false → CaptureFailsBy fault
     answer → answer ≡ Err fault
 told-is (Dump fault) answer told fails = by_kind fault.line fault.kind told fails
@@ -78,7 +78,7 @@ told-is (Binding fault) answer told fails = by_kind fault.line fault.kind told f
     by_kind line NoMemory told fails = absurd (cc told)
     by_kind line kind told fails = fails
 
--- a fault that is the answer is told as it is
+-- a fault that isn't want of memory may be returned where it is the result
 pub is-told : (fault : CaptureFault) (answer : Result Trace CaptureFault) → is_want fault ≡ false → answer ≡ Err fault
     → CaptureFailsBy fault answer
 is-told (Dump fault) answer told is = by_kind fault.line fault.kind told is
@@ -95,7 +95,7 @@ is-told (Binding fault) answer told is = by_kind fault.line fault.kind told is
     by_kind line NoMemory told is = absurd (cc told)
     by_kind line kind told is = is
 
--- a fault of a piece of the body is that of the text
+-- a fault of a piece of the body is the result for the text
 pub failed-on : (t : TextReached) (piece : List ℕ) (line : ℕ) (fault : CaptureFault)
     → EndsThere piece → is_want fault ≡ false
     → ((more : List Token) → CaptureFailsBy fault (outcome_ahead t (tokens_from line piece) more))
@@ -105,7 +105,7 @@ failed-on t piece line fault ends told fails rest =
     ahead-parts t (tokens_from line (piece ++ rest)) (tokens_from line piece) more (ends line rest)
     ∙ told-is fault (outcome_ahead t (tokens_from line piece) more) told (fails more)
 
--- a fault of a front of the text is that of the text
+-- a fault of the prefix `front` is the result for the text
 pub failed-at-front : (b : BoundLines) (front : List ℕ) (fault : CaptureFault) → EndsThere front → is_want fault ≡ false
     → ((whole : List ℕ) (more : List Token) → tokens whole ≡ tokens front ++ more → CaptureFailsBy fault
     (recording_of_text b whole))

@@ -1,4 +1,4 @@
--- The end of an instant: a step, or none.
+-- The end of an instant: one step, or no step.
 use Rattle.std.proofs.Common.{◌≡◌, ◌≢◌, ℕ, ◌+◌, ◌<◌, Bool, true, false, cond, not, List, [], ◌∷◌, ◌++◌, length, map}
 use Rattle.std.proofs.Common.{refl, sym, ap, ◌∙◌, subst, arith, inl, inr}
 use Rattle.std.specs.Prelude.{◌==◌}
@@ -42,7 +42,7 @@ step-some time a b cs e h = ap (one_step time) e ∙ by_any (any (differs a b) 0
         (false≢true
         (sym h ∙ is_none (length cs) (ap length (e ∙ ap (map (change_to b)) (none_those (differs a b) line_count k)))))
 
--- where no line changes, there is none
+-- where no line changes, there is no step
 pub step-none : (time : ℕ) (a b : Levels) (cs : List Change) → cs ≡ changes_between a b → (length cs == 0) ≡ true
     → step_between time a b ≡ []
 step-none time a b cs e h = by_any (any (differs a b) 0 line_count) refl
@@ -58,7 +58,7 @@ step-none time a b cs e h = by_any (any (differs a b) 0 line_count) refl
         ))) ∙ h))
     by_any false k = refl
 
--- where no line differs, all is shown
+-- where no line differs, `shown` is `now`
 pub all-shown : (shown now : Levels) (first last : ℕ) → DifferWithin shown now first last
     → ((l : ℕ) → differs shown now l ≡ false) → shown ≡ now
 all-shown shown now first last h same = same_levels shown now (sym h.slots) h.shown_all h.now_all
@@ -73,7 +73,7 @@ step-same time shown now same =
     (ap (map (change_to now)) (sym (those-skip (differs shown now) 0 line_count (omega arith) (λ l low lt. same l))))
     refl)
 
--- where no line is listed, none differs
+-- where `last` is below `first`, no line differs
 pub none_differs : (shown now : Levels) (first last : ℕ) → last < first → DifferWithin shown now first last
     → (l : ℕ) → differs shown now l ≡ false
 none_differs shown now first last none h l =
@@ -85,29 +85,30 @@ none_differs shown now first last none h l =
 abbrev pub progress : Levels → Levels → RecorderLevels
 progress shown now = record { shown = shown; now = now }
 
--- the step, by what is shown
+-- the step is that between the levels of `p`
 pub step-at : (time : ℕ) (p : RecorderLevels) (shown now : Levels) → p ≡ progress shown now → step_between time shown
     now ≡ step_between time p.shown p.now
 step-at time p shown now e = ap (λ (q : RecorderLevels). step_between time q.shown q.now) (sym e)
 
--- all is shown at the end
+-- at the end, the levels `now` are shown
 pub ended : (p : RecorderLevels) (shown now after : Levels) → p ≡ progress shown now → after ≡ now → progress after now
     ≡ progress p.now p.now
 ended p shown now after e is = ap (λ (v : Levels). progress v now) is
     ∙ ap (λ (q : RecorderLevels). progress q.now q.now) (sym e)
 
--- where nothing is listed, nothing ends
+-- where `last` is below `first`, the end of an instant changes nothing
 pub none-ended : (p : RecorderLevels) (shown now : Levels) (first last : ℕ) → p ≡ progress shown now
     → DifferWithin shown now first last → last < first → p ≡ progress p.now p.now
 none-ended p shown now first last e h none = e ∙ ended p shown now shown e
     (all-shown shown now first last h (none_differs shown now first last none h))
 
+-- where `last` is below `first`, there is no step
 pub none-step : (time : ℕ) (p : RecorderLevels) (shown now : Levels) (first last : ℕ) → p ≡ progress shown now
     → DifferWithin shown now first last → last < first → [] ≡ step_between time p.shown p.now
 none-step time p shown now first last e h none = step-same time shown now (none_differs shown now first last none h)
     ∙ step-at time p shown now e
 
--- where the first of the lines is the last, no other differs
+-- where `first` is `last`, no other line differs
 pub first-alone : (p : RecorderLevels) (shown now : Levels) (first last : ℕ) → p ≡ progress shown now
     → DifferWithin shown now first last → first ≡ last → (l : ℕ) → l ≢ first → differs p.shown p.now l ≡ false
 first-alone p shown now first last view h e l ne =
@@ -126,7 +127,7 @@ first-exists p shown now first last view h =
 
 module _ (shown now : Levels) (first last line : ℕ) (h : DifferWithin shown now first last)
     (is : IsLine shown.slots line) (alone : (l : ℕ) → l ≢ line → differs shown now l ≡ false) where
-  -- it is shown
+  -- `shown`, with the line set to its level in `now`, is `now`
   pub lone-shown : set_level shown line (level_at now line) ≡ now
   lone-shown =
       same_levels (set_level shown line (level_at now line)) now (sym h.slots) (set_all shown line (level_at now line)
@@ -137,7 +138,7 @@ module _ (shown now : Levels) (first last line : ℕ) (h : DifferWithin shown no
         | inr ne ↦ set_other shown line l (level_at now line) ne ∙ alike shown now l (alone l ne)
       ])
 
-  -- it is the change
+  -- if it differs, the line's change is the only change
   pub lone-change : same_level (level_at shown line) (level_at now line) ≡ false → change_to now line ∷ []
       ≡ changes_between shown now
   unfolding those
@@ -149,14 +150,14 @@ module _ (shown now : Levels) (first last line : ℕ) (h : DifferWithin shown no
       ∙ ap (λ (xs : List ℕ). xs ++ line ∷ []) (those-skip (differs shown now) 0 line (omega arith)
       (λ l low lt. let ne : l ≢ line = omega (arith, lt) in alone l ne))))
 
-  -- where it has the level that is shown, no line differs
+  -- where the line has the level that is shown, no line differs
   pub lone-same : same_level (level_at shown line) (level_at now line) ≡ true → (l : ℕ) → differs shown now l ≡ false
   lone-same same l = elim (cases_eq l line) [
     | inl e ↦ ap (differs shown now) e ∙ ap not same
     | inr ne ↦ alone l ne
   ]
 
--- the end of an instant at which no line but one may differ
+-- the end of an instant at which at most one line differs
 module _ (p : RecorderLevels) (shown now : Levels) (first last line : ℕ) (view : p ≡ progress shown now)
     (h : DifferWithin shown now first last)
     (exists : IsLine p.now.slots line) (alone : (l : ℕ) → l ≢ line → differs p.shown p.now l ≡ false) where
@@ -173,6 +174,7 @@ module _ (p : RecorderLevels) (shown now : Levels) (first last line : ℕ) (view
       ≡ progress p.now p.now
   line-ended after set = ended p shown now after view (line-shown after set)
 
+  -- where the line has another level than is shown, the step has its change alone
   pub line-step : (time : ℕ) (changes : List Change) → changes ≡ change_to now line ∷ []
       → same_level (level_at shown line) (level_at now line) ≡ false
       → one_step time changes ≡ step_between time p.shown p.now
@@ -182,6 +184,7 @@ module _ (p : RecorderLevels) (shown now : Levels) (first last line : ℕ) (view
       other) refl
       ∙ step-at time p shown now view
 
+  -- where the line has the level that is shown, there is no step
   pub line-none : (time : ℕ) → same_level (level_at shown line) (level_at now line) ≡ true → [] ≡ step_between time
       p.shown p.now
   line-none time same =

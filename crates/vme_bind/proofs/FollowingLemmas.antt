@@ -1,4 +1,4 @@
--- What was recorded before is a prefix of what is recorded.
+-- What was recorded before a place is a prefix of the recording.
 use Rattle.std.proofs.Common.{◌≡◌, ℕ, Bool, true, false, cond, List, [], ◌++◌, Result, Ok, Err, refl, sym, ap, ◌∙◌}
 use Rattle.std.proofs.lemmas.List.{append-nil}
 use Rattle.vme_trace.specs.Followed.{with_steps}
@@ -57,6 +57,7 @@ module _ (t : Trace) where
   made-behind complete time (Ok m) = refl
   made-behind complete time (Err fault) = refl
 
+  -- reading items after the recording `t` gives their reading with `t` before its steps
   items-behind : (nets : List Net) (s : State BuilderState) (items : List BodyItem)
       → reading_until_fault (until_fault builder_change builder_instant nets (state_behind s) items)
       ≡ following t (reading_until_fault (until_fault builder_change builder_instant nets s items))
@@ -78,7 +79,7 @@ module _ (t : Trace) where
       (outcome-behind read)
       ∙ made-behind reached.progress.accumulator.recorded reached.progress.time (read >>= at_end builder_instant)
 
-  -- what comes of tokens after a recording
+  -- the reading of tokens after the recording `t` is that after a recording without steps, with `t` before its steps
   pub ahead-behind : (w : SpeculativeReached) (opening : Levels) (tokens more : List Token)
       → reading_ahead (with_recording t w) tokens more
       ≡ following t (reading_ahead (with_recording (record { opening = opening; steps = [] }) w) tokens more)

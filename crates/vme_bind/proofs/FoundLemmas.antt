@@ -1,4 +1,4 @@
--- What is found, once all variables are looked at, and the bound groups of it.
+-- The candidates that are found once all variables are visited, and the bound groups that they give.
 use Rattle.std.proofs.Common.{◌≡◌, ℕ, ◌<◌, eqb, Bool, true, false, cond, ◌&&◌, List, [], ◌∷◌, map, drop, get_or, length}
 use Rattle.std.proofs.Common.{◌+◌, ◌≤◌, ◌++◌, Option, Some, None, Result, Ok, Err, refl, sym, ap, ◌∙◌, arith}
 use Rattle.std.specs.Prelude.{bytes_eq}
@@ -34,7 +34,7 @@ use Rattle.std.proofs.lemmas.List.{append-nil}
 
 -- ---- one assignment
 
--- what is found after these candidates
+-- the result of the candidates `others` after what is found before
 abbrev only_behind : PathMatch → List BitRange → Result BitRange BindFaultKind
 only_behind Nothing others = only others
 only_behind (Only bits) others = cond (list_all (same_bits bits) others) (Ok bits) (Err AmbiguousPath)
@@ -48,6 +48,7 @@ abbrev behind : Option BitRange → List BitRange → List BitRange
 behind None others = others
 behind (Some bits) others = bits ∷ others
 
+-- one candidate more, if there is one, after what is found
 behind_one : (found : PathMatch) (next : Option BitRange) (others : List BitRange) → only_behind (with_bits found next)
     others ≡ only_behind found (behind next others)
 behind_one found None others = refl
@@ -65,6 +66,7 @@ more_candidates : (named : VariableSelector) (v : Variable) (vs : List Variable)
 more_candidates named v vs None e = rw e refl
 more_candidates named v vs (Some bits) e = rw e refl
 
+-- what is found after all variables gives the only candidate among them
 found_only : (named : VariableSelector) (vs : List Variable) (found : PathMatch)
     → only_found (found_all (Named named) found vs) ≡ only_behind found (filter_map (candidate named) vs)
 found_only named [] Nothing = refl
@@ -101,7 +103,7 @@ bound_groups_each vs (a ∷ as') =
     ∙ ap (λ (r : Result (List BoundGroup) BindFault). bound_group_in vs a >>= λ bound_group. r >>= λ bound_groups. Ok
     (bound_group ∷ bound_groups)) (bound_groups_each vs as')
 
--- the bound groups of what is found are those of the variables
+-- the bound groups of what is found are the bound groups by all variables
 pub bound_groups_found : (vs : List Variable) (as' : List Assignment) (seen : List Searched) → seen ≡ fold with_variable
     (map unseen as') vs → bound_groups_of seen ≡ bound_groups_in vs as'
 bound_groups_found vs as' seen e = ap bound_groups_of (e ∙ seen_each vs (map unseen as')) ∙ bound_groups_each vs as'
@@ -117,7 +119,7 @@ module _ (named : VariableSelector) (scopes : List (List ℕ)) (net size : ℕ) 
     candidate_by = ap (λ (b : Bool). cond b (bits_meant named.selection net size r.index) None)
         (path_test named.path r.name scopes some)
 
-    -- it has the path
+    -- the candidate of a variable with the path is the bits that are selected of it, if it has them
     pub candidate-here : (matched_scopes : ℕ) (rest : List ℕ) → matched_scopes ≡ scopes_matched named.path scopes
         → matched_scopes ≡ length scopes
         → rest ≡ drop (length (path_in scopes)) named.path → bytes_eq rest r.name ≡ true
@@ -129,7 +131,7 @@ module _ (named : VariableSelector) (scopes : List (List ℕ)) (net size : ℕ) 
         both : {a b : Bool} → a ≡ true → b ≡ true → (a && b) ≡ true
         both p q = rw (p, q) refl
 
-    -- it has another name
+    -- a variable with another name is no candidate
     pub candidate-named : (rest : List ℕ) → rest ≡ drop (length (path_in scopes)) named.path → bytes_eq rest r.name
         ≡ false → None ≡ candidate named (variable_in scopes net size r)
     candidate-named rest e other =
@@ -140,7 +142,7 @@ module _ (named : VariableSelector) (scopes : List (List ℕ)) (net size : ℕ) 
         second true q = q
         second false q = refl
 
-    -- it is in other scopes
+    -- a variable in other scopes is no candidate
     candidate-other : (matched_scopes : ℕ) → matched_scopes ≡ scopes_matched named.path scopes
         → (matched_scopes ≡ length scopes → ⊥) → None
         ≡ candidate named (variable_in scopes net size r)
@@ -151,7 +153,7 @@ module _ (named : VariableSelector) (scopes : List (List ℕ)) (net size : ℕ) 
         none : eqb (scopes_matched named.path scopes) (length scopes) ≡ false
         none = grind (arith, nat_tests, is, other)
 
--- what is sought in other scopes is found no more of
+-- a variable in other scopes leaves what is found as it is
 pub found-other : (source : LevelSource) (found : PathMatch) (scopes : List (List ℕ)) (net size : ℕ) (r : Reference)
     (matched_scopes : ℕ) → 0 < length r.name → matched_scopes ≡ scopes_matched (path_to_find source) scopes
     → (matched_scopes ≡ length scopes → ⊥)
@@ -162,6 +164,7 @@ found-other (Named named) found scopes net size r matched_scopes some is other =
 
 -- ---- the bound groups one after the other
 
+-- the bound group of search `i` is the next
 pub bound_groups-first : (bound_groups : List BoundGroup) (searches : List PathSearch) (i : ℕ) (s : PathSearch)
     → i < length searches → s ≡ get_or searches i s
     → behind_bound_groups bound_groups (bound_groups_of (map seen_in (drop i searches)))
@@ -173,6 +176,7 @@ bound_groups-first bound_groups searches i s lt e =
     (from_place searches i s lt e)
     ∙ push_in bound_groups (bound_group_of (seen_in s)) (bound_groups_of (map seen_in (drop (i + 1) searches)))
 
+-- where search `i` has a bound group, it is added to those so far
 pub bound_groups-step : (bound_groups : List BoundGroup) (searches : List PathSearch) (i : ℕ) (s : PathSearch)
     (bound_group : BoundGroup) → i < length searches → s ≡ get_or searches i s → bound_group_of (seen_in s)
     ≡ Ok bound_group
@@ -183,6 +187,7 @@ bound_groups-step bound_groups searches i s bound_group lt e is =
     ∙ ap (λ (r : Result BoundGroup BindFault). r >>= λ bound_group. behind_bound_groups (bound_groups ++ bound_group
     ∷ []) (bound_groups_of (map seen_in (drop (i + 1) searches)))) is
 
+-- after the last search, the result is the bound groups so far
 pub bound_groups-end : (bound_groups : List BoundGroup) (searches : List PathSearch) (i : ℕ) → length searches ≤ i
     → behind_bound_groups bound_groups (bound_groups_of (map seen_in (drop i searches))) ≡ Ok bound_groups
 unfolding bound_groups_of

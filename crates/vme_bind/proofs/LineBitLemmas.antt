@@ -32,7 +32,7 @@ use Rattle.vme_bind.proofs.RecorderLemmas.{those-yes, those-no, bool_cases}
 use Rattle.vme_bind.proofs.BoundGroupLemmas.{from_place}
 use Rattle.vme_bind.proofs.CaptureLemmas.{AreLineBits, changed-more}
 
--- the lines of a net that is there
+-- the lines of a net that has an entry
 pub line_bits_on-at : (nets : List (Vec LineBit)) (net : ℕ) (line_bits : Vec LineBit) → net < length nets
     → line_bits ≡ get_or nets net line_bits → line_bits_on nets net ≡ line_bits.items
 unfolding line_bits_on
@@ -40,14 +40,14 @@ line_bits_on-at [] net line_bits lt e = absurd (omega (arith, lt))
 line_bits_on-at (x ∷ nets) zero line_bits lt e = ap (λ (v : Vec LineBit). v.items) (sym e)
 line_bits_on-at (x ∷ nets) (suc net) line_bits lt e = line_bits_on-at nets net line_bits (omega (arith, lt)) e
 
--- no lines are of a net that isn't there
+-- a net without an entry has no lines
 pub line_bits_on-past : (nets : List (Vec LineBit)) (net : ℕ) → length nets ≤ net → line_bits_on nets net ≡ []
 unfolding line_bits_on
 line_bits_on-past [] net le = refl
 line_bits_on-past (x ∷ nets) zero le = absurd (omega (arith, le))
 line_bits_on-past (x ∷ nets) (suc net) le = line_bits_on-past nets net (omega (arith, le))
 
--- one net more, without lines
+-- an entry without lines at the end changes the lines of no net
 pub line_bits_on-push : (nets : List (Vec LineBit)) (none : Vec LineBit) (net : ℕ) → none.items ≡ []
     → line_bits_on (nets ++ none ∷ []) net ≡ line_bits_on nets net
 unfolding line_bits_on
@@ -60,7 +60,7 @@ elsewhere : (b : Bool) (added line_bits : List LineBit) → b ≡ false → line
 elsewhere true added line_bits e = absurd cc
 elsewhere false added line_bits e = refl
 
--- one net has one line bit more
+-- adding `line_bit` to the entry of `net` adds it to the lines of that net alone
 pub line_bits_on-set : (nets : List (Vec LineBit)) (net : ℕ) (old new : Vec LineBit) (line_bit : LineBit)
     → net < length nets → old ≡ get_or nets net old → new.items ≡ old.items ++ line_bit ∷ [] → (k : ℕ)
     → line_bits_on (set nets net new) k
@@ -78,7 +78,7 @@ line_bits_on-set (x ∷ nets) (suc net) old new line_bit lt is more (suc k) =
     ∙ ap (λ (b : Bool). cond b (line_bits_on nets net ++ line_bit ∷ []) (line_bits_on nets k))
     (sym (eqb-suc-suc k net))
 
--- the same, where the nets have the lines that others had
+-- as `line_bits_on-set`, where `nets` has the lines that `before` has
 pub line_bits_on-more : (before nets : List (Vec LineBit)) (net : ℕ) (old new : Vec LineBit) (line_bit : LineBit)
     → ((k : ℕ) → line_bits_on nets k ≡ line_bits_on before k) → net < length nets → old ≡ get_or nets net old
     → new.items ≡ old.items ++ line_bit ∷ [] → (k : ℕ) → line_bits_on (set nets net new) k
@@ -88,6 +88,7 @@ line_bits_on-more before nets net old new line_bit same lt is more k =
     ∙ ap (λ (line_bits : List LineBit). cond (eqb k net) (line_bits ++ line_bit ∷ []) (line_bits_on nets k)) (same net)
     ∙ ap (cond (eqb k net) (line_bits_on before net ++ line_bit ∷ [])) (same k)
 
+-- where no net has an entry, no line is added yet
 pub line_bits-first : (line_bits : NetLines) (slots : ℕ) (bound_groups : List BoundGroup) → line_bits.nets.items ≡ []
     → (net : ℕ) → line_bits_of line_bits net ≡ line_bits_below slots bound_groups net 0
 unfolding those line_bits_on
@@ -97,6 +98,7 @@ map-more : (f : ℕ → LineBit) (xs : List ℕ) (x : ℕ) → map f (xs ++ x �
 map-more f [] x = refl
 map-more f (y ∷ xs) x = ap (λ (ys : List LineBit). f y ∷ ys) (map-more f xs x)
 
+-- a line whose source is a bit of `net` is the last of the net's lines below n + 1
 below-yes : (slots : ℕ) (bound_groups : List BoundGroup) (net n : ℕ) → is_on net (line_source slots bound_groups n)
     ≡ true → line_bits_below slots bound_groups net (n + 1) ≡ line_bits_below slots bound_groups net n
     ++ line_bit_at slots bound_groups n ∷ []
@@ -105,6 +107,7 @@ below-yes slots bound_groups net n h = ap (map (line_bit_at slots bound_groups))
     (those-yes (is_line_bit slots bound_groups net) n h) ∙ map-more (line_bit_at slots bound_groups)
     (those (is_line_bit slots bound_groups net) 0 n) n
 
+-- a line whose source isn't a bit of `net` is none of the net's lines
 below-no : (slots : ℕ) (bound_groups : List BoundGroup) (net n : ℕ) → is_on net (line_source slots bound_groups n)
     ≡ false → line_bits_below slots bound_groups net (n + 1) ≡ line_bits_below slots bound_groups net n
 unfolding is_line_bit
@@ -114,11 +117,12 @@ below-no slots bound_groups net n h = ap (map (line_bit_at slots bound_groups))
 same_number : (a b : ℕ) → (a == b) ≡ true → a ≡ b
 same_number a b h = grind (arith, nat_tests)
 
+-- each net has its lines below `n`
 abbrev pub AreBelow : ℕ → List BoundGroup → NetLines → ℕ → Type 0
 AreBelow slots bound_groups line_bits n = (net : ℕ) → line_bits_of line_bits net ≡ line_bits_below slots bound_groups
     net n
 
--- a line with a bit is added to those of its net
+-- a line whose source is a bit is added to the lines of the bit's net
 pub line_bits-more : (old new : NetLines) (slots : ℕ) (bound_groups : List BoundGroup) (n : ℕ) (bit : BitPlace)
     (line_bit : LineBit) → Some (AtBit bit) ≡ line_source slots bound_groups n → line_bit
     ≡ record { line = n; place = bit.place }
@@ -142,7 +146,7 @@ line_bits-more old new slots bound_groups n bit line_bit e is added h net = adde
         ∙ sym (below-yes slots bound_groups net n (on ∙ k))
     by_net false k = h net ∙ sym (below-no slots bound_groups net n (on ∙ k))
 
--- a line without a bit is added nowhere
+-- a line whose source isn't a bit is added to no net
 pub line_bits-same : (line_bits : NetLines) (slots : ℕ) (bound_groups : List BoundGroup) (n : ℕ)
     → ((net : ℕ) → is_on net (line_source slots bound_groups n) ≡ false) → AreBelow slots bound_groups line_bits n
     → AreBelow slots bound_groups line_bits (n + 1)
@@ -157,7 +161,7 @@ pub on-always : (slots : ℕ) (bound_groups : List BoundGroup) (n : ℕ) (source
     → is_on net (line_source slots bound_groups n) ≡ false
 on-always slots bound_groups n source e h net = ap (is_on net) (sym e) ∙ h net
 
--- the lines of line bits exist
+-- a line with a source exists
 pub source-exists : (slots : ℕ) (bound_groups : List BoundGroup) (l : ℕ) (source : LineSource) → Some source
     ≡ line_source slots bound_groups l → IsTrue (has_line slots l)
 source-exists slots bound_groups l source e = by_has (has_line slots l) refl
@@ -172,6 +176,7 @@ on_some : (slots : ℕ) (bound_groups : List BoundGroup) (net l : ℕ) (source :
 on_some slots bound_groups net l None e h = absurd (false≢true h)
 on_some slots bound_groups net l (Some source) e h = source-exists slots bound_groups l source (sym e)
 
+-- the lines of a net are lines of the backplane
 below-lines : (slots : ℕ) (bound_groups : List BoundGroup) (net n : ℕ) → n ≤ line_count
     → AreLines slots (line_bits_below slots bound_groups net n)
 unfolding those
@@ -201,7 +206,7 @@ pub line_bits-lines : (slots : ℕ) (bound_groups : List BoundGroup) (line_bits 
 line_bits-lines slots bound_groups line_bits all net = subst (AreLines slots) (sym (all net))
     (below-lines slots bound_groups net line_count (omega arith))
 
--- one value more is taken
+-- the levels after the values from `i` on are those after value `i` and then those from `i + 1` on
 pub valued-step : (line_bits : NetLines) (values : List Value) (i : ℕ) (v : Value) (now : Levels) → i < length values
     → v ≡ get_or values i v
     → valued line_bits (drop i values) now ≡ valued line_bits (drop (i + 1) values)
@@ -213,7 +218,7 @@ map-last : (f : LineBit → Change) (xs : List LineBit) (x : LineBit) → map f 
 map-last f [] x = refl
 map-last f (y ∷ xs) x = ap (λ (ys : List Change). f y ∷ ys) (map-last f xs x)
 
--- one line bit more is taken
+-- the changes of the first `i + 1` line bits are those of the first `i` and that of line bit `i`
 pub line_change-more : (line_bits : List LineBit) (bits : List Bit) (i : ℕ) (line_bit : LineBit) (v : Levels)
     (level : Level)
     → i < length line_bits → line_bit ≡ get_or line_bits i line_bit → level ≡ level_in line_bit.line line_bit.place bits

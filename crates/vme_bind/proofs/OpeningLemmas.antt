@@ -1,4 +1,4 @@
--- The levels before any change, and the recording from one instant to the next.
+-- The levels before any change, and the recording with one instant more.
 use Rattle.std.proofs.Common.{◌≡◌, ◌≢◌, ℕ, zero, suc, ◌+◌, ◌<◌, ◌≤◌, Bool, true, false, cond, List, [], ◌∷◌, ◌++◌}
 use Rattle.std.proofs.Common.{length, get_or, refl, sym, ap, ◌∙◌, subst, arith, inl, inr, Option, Some, None, Result}
 use Rattle.std.proofs.Common.{Ok, Err}
@@ -38,7 +38,7 @@ use Rattle.vme_bind.proofs.LineBitLemmas.{line_bits-lines}
 
 -- ---- the opening
 
--- the level of a line before any change
+-- the level of a line with this source before any change
 abbrev pub first_level : Option LineSource → Level
 first_level None = Unknown
 first_level (Some (Always level)) = level
@@ -49,7 +49,7 @@ unknown_at zero k = refl
 unknown_at (suc n) zero = refl
 unknown_at (suc n) (suc k) = unknown_at n k
 
--- the lines below n have their first levels, and the others none yet
+-- the lines below n have their levels before any change, and the others are unknown
 pub record IsOpened (slots : ℕ) (bound_groups : List BoundGroup) (n : ℕ) (v : Levels) : Type 0 where
   pub same_slots : v.slots ≡ slots
   pub all : length v.levels ≡ line_count
@@ -66,6 +66,7 @@ opened-first bound_groups v e = record {
       ∙ unknown_at line_count l;
 }
 
+-- where the line n is unknown before any change, it stays unknown
 pub opened-same : (slots : ℕ) (bound_groups : List BoundGroup) (n : ℕ) (v : Levels) → Unknown
     ≡ first_level (line_source slots bound_groups n) → IsOpened slots bound_groups n v → IsOpened slots bound_groups
     (n + 1) v
@@ -80,6 +81,7 @@ opened-same slots bound_groups n v e h = record {
   above = λ l le. h.above l (omega (arith, le));
 }
 
+-- the line n gets its level before any change
 pub opened-set : (slots : ℕ) (bound_groups : List BoundGroup) (n : ℕ) (v : Levels) (x : Level) → n < line_count → x
     ≡ first_level (line_source slots bound_groups n) → IsOpened slots bound_groups n v → IsOpened slots bound_groups
     (n + 1) (set_level v n x)
@@ -106,6 +108,7 @@ first_after : (slots : ℕ) (bound_groups : List BoundGroup) (instants : List In
 unfolding level_after
 first_after slots bound_groups instants l = first_is slots bound_groups instants l (line_source slots bound_groups l)
 
+-- once all lines are done, the levels are those before any change
 pub opened-all : (slots : ℕ) (bound_groups : List BoundGroup) (n : ℕ) (v : Levels) → n ≡ line_count
     → IsOpened slots bound_groups n v → (instants : List Instant) → v ≡ levels_after slots bound_groups instants 0
 opened-all slots bound_groups n v e h instants =
@@ -123,7 +126,7 @@ get-in (y ∷ instants) zero x lt e = ap Some (sym e)
 get-in (y ∷ instants) (suc i) x lt e = get-in instants i x (omega (arith, lt)) e
 
 module _ (slots : ℕ) (bound_groups : List BoundGroup) (instants : List Instant) where
-  -- what is shown after the first instants
+  -- the recorder's levels after the first n instants: all is shown
   abbrev pub shown_after : ℕ → RecorderLevels
   shown_after n = record {
     shown = levels_after slots bound_groups instants n;
@@ -153,7 +156,7 @@ module _ (slots : ℕ) (bound_groups : List BoundGroup) (instants : List Instant
         }) is
         ∙ ap (λ (v : Levels). record { shown = v; now = v }) values-lead
 
-    -- the steps at one instant more
+    -- the steps of the first i + 1 instants
     pub recorded-more : (p : RecorderLevels) (steps more : List Step) → p ≡ shown_after i → steps
         ≡ (recording slots bound_groups instants i).steps → more ≡ step_between x.time p.shown
         (valued line_bits x.values p.now)
@@ -204,7 +207,7 @@ opening_is : (slots : ℕ) (bound_groups : List BoundGroup) (instants : List Ins
 unfolding recording
 opening_is slots bound_groups instants n = refl
 
--- the recording of one instant more
+-- the recording of the first n + 1 instants is that of the first n with the step at instant n, if there is one
 pub recording-more : (slots : ℕ) (bound_groups : List BoundGroup) (instants : List Instant) (n time : ℕ) → time
     ≡ time_of (slice_get instants n)
     → with_steps (recording slots bound_groups instants n)
@@ -214,7 +217,7 @@ recording-more slots bound_groups instants n time e =
     sym (recording-is slots bound_groups instants (n + 1) (recording slots bound_groups instants n).opening _
     (opening_is slots bound_groups instants n) (sym (steps-more slots bound_groups instants n time e)))
 
--- the recording of no instant
+-- the recording of no instant has no step
 pub none_recorded : (slots : ℕ) (bound_groups : List BoundGroup) (instants : List Instant) → []
     ≡ (recording slots bound_groups instants 0).steps
 unfolding recording those
@@ -225,7 +228,7 @@ pub recording-first : (slots : ℕ) (bound_groups : List BoundGroup) (instants :
 recording-first slots bound_groups instants t e none = sym (recording-is slots bound_groups instants 0 t.opening t.steps
     e (none ∙ none_recorded slots bound_groups instants))
 
--- what bound groups make of the instants of a dump
+-- the capture of a dump is the limited recording of all its instants
 pub whole-is : (b : BoundLines) (dump : Contents) (bound_groups : List BoundGroup) (made : Trace) → bound_groups_in
     dump.variables b.assignments ≡ Ok bound_groups → recording b.slots bound_groups dump.instants (length dump.instants)
     ≡ made
@@ -234,7 +237,7 @@ whole-is b dump bound_groups made e is =
     capture_of-is b dump ∙ ap (λ (r : Result (List BoundGroup) BindFault). r >>= λ bound_groups. limited
     (recording b.slots bound_groups dump.instants (length dump.instants))) e ∙ ap limited is
 
--- they follow one another
+-- the recording of instants whose times ascend is well formed
 pub whole-formed : (slots : ℕ) (bound_groups : List BoundGroup) (instants : List Instant) (made : Trace)
     → TimesAscend instants → recording slots bound_groups instants (length instants) ≡ made → malformed_step made ≡ None
 whole-formed slots bound_groups instants made up is = sym (ap malformed_step is) ∙ well_formed slots bound_groups

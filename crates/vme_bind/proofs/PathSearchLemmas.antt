@@ -1,4 +1,4 @@
--- With how many of the open scopes a path begins, and what that says of the variables in them.
+-- The number of open scopes that a path begins with, and what it determines of the variables in them.
 use Rattle.std.proofs.Common.{◌≡◌, ℕ, ◌+◌, ◌<◌, ◌≤◌, eqb, Bool, true, false, cond, ◌&&◌, List, [], ◌∷◌, ◌++◌, length}
 use Rattle.std.proofs.Common.{get_or, take, drop, map, refl, sym, ap, ◌∙◌, add-zero, arith, append_assoc, length-append}
 use Rattle.std.specs.Prelude.{bytes_eq, min}
@@ -24,7 +24,7 @@ use Rattle.vme_bind.specs.PathSearch.{Searched, seen_in}
 
 -- ---- the prefix of a text
 
--- a text is this and some more
+-- `text` is `front` and a rest
 abbrev Begins : List ℕ → List ℕ → Type 0
 Begins front text = (rest : List ℕ) × (text ≡ front ++ rest)
 
@@ -39,7 +39,7 @@ begins-Decides front text =
       λ h. same.1 (ap (take (length front)) h.1 ∙ take_at front h.0 (length front) refl),
     )
 
--- a longer prefix
+-- `text` begins with `front ++ part` exactly if it begins with `front` and its rest with `part`
 begins_more-Decides : (front part text : List ℕ) → Decides (begins_with front text && begins_with part
     (drop (length front) text)) (Begins (front ++ part) text)
 begins_more-Decides front part text =
@@ -68,7 +68,7 @@ begins_with-append front part text = same_from_decides (begins_with (front ++ pa
     && begins_with part (drop (length front) text)) (begins-Decides (front ++ part) text)
     (begins_more-Decides front part text)
 
--- a text that is shorter doesn't begin so
+-- a text that is shorter than `front` doesn't begin with it
 pub begins_with-short : (front text : List ℕ) → length text < length front → begins_with front text ≡ false
 begins_with-short front text lt = by_test (begins_with front text) (begins-Decides front text)
   where
@@ -77,7 +77,7 @@ begins_with-short front text lt = by_test (begins_with front text) (begins-Decid
     by_test true d = let h = d.0 refl in
         absurd (omega (arith, lt, ap (λ (xs : List ℕ). length xs) h.1, length-append front h.0))
 
--- a text is a prefix and a rest
+-- `text` is `front ++ name` exactly if it begins with `front` and its rest is `name`
 behind-Decides : (front name text : List ℕ) → Decides (begins_with front text && bytes_eq (drop (length front) text)
     name) (front ++ name ≡ text)
 behind-Decides front name text =
@@ -93,7 +93,7 @@ behind-Decides front name text =
 
 -- ---- the open scopes
 
--- it begins with no more of them than there are
+-- a path begins with at most as many of the scopes as there are
 matched_scopes-at_most : (path : List ℕ) (scopes : List (List ℕ)) → scopes_matched path scopes ≤ length scopes
 unfolding scopes_matched
 matched_scopes-at_most path [] = omega arith
@@ -105,7 +105,7 @@ matched_scopes-at_most path (name ∷ scopes) = by_test (begins_with (path_in (n
     by_test true le = omega arith
     by_test false le = omega (arith, le)
 
--- it begins with all of them exactly where it begins with their path
+-- a path begins with all of the scopes exactly where it begins with their path
 pub matched_scopes-all : (path : List ℕ) (scopes : List (List ℕ)) → eqb (scopes_matched path scopes) (length scopes)
     ≡ begins_with (path_in scopes) path
 unfolding scopes_matched path_in
@@ -118,7 +118,7 @@ matched_scopes-all path (name ∷ scopes) = by_test (begins_with (path_in scopes
     by_test true le = grind (arith, nat_tests)
     by_test false le = grind (arith, nat_tests)
 
--- a scope opens
+-- the number of matched scopes after one more is entered
 pub matched_scopes-open : (path name : List ℕ) (scopes : List (List ℕ)) → matched_behind (length scopes)
     (length (path_in scopes)) (with_dot name) path (scopes_matched path scopes) ≡ scopes_matched path (name ∷ scopes)
 unfolding scopes_matched path_in
@@ -128,7 +128,7 @@ matched_scopes-open path name scopes =
     ∙ ap (λ (b : Bool). cond b (length scopes + 1) (scopes_matched path scopes))
     (sym (begins_with-append (path_in scopes) (with_dot name) path))
 
--- a scope closes
+-- the number of matched scopes after the innermost one is closed
 pub matched_scopes-close : (path name : List ℕ) (scopes : List (List ℕ)) → min (scopes_matched path (name ∷ scopes))
     (length scopes) ≡ scopes_matched path scopes
 unfolding scopes_matched path_in
@@ -145,7 +145,7 @@ matched_scopes-close path name scopes =
     by_tests true false own both all le = absurd (cc both)
     by_tests false outer own both all le = omega (arith, le)
 
--- a variable in the open scopes has the path
+-- a variable in the open scopes has `path` exactly if all scopes match and `name` is the rest of the path
 pub path_test : (path name : List ℕ) (scopes : List (List ℕ)) → 0 < length name
     → bytes_eq (path_of scopes name) path ≡ (eqb (scopes_matched path scopes) (length scopes)
     && bytes_eq (drop (length (path_in scopes)) path) name)
@@ -156,12 +156,13 @@ path_test path name scopes some =
     (behind-Decides (path_in scopes) name path)
     ∙ ap (λ (b : Bool). b && bytes_eq (drop (length (path_in scopes)) path) name) (sym (matched_scopes-all path scopes))
 
--- ---- all that is sought
+-- ---- all searches
 
 pub matched_none : (s : PathSearch) → s.matched_scopes ≡ 0 → HasOpened [] s
 unfolding scopes_matched
 matched_none s e = e
 
+-- a search with the right `matched_scopes` has it after one more scope is entered
 opened-one : (name : List ℕ) (scopes : List (List ℕ)) (s : PathSearch) → HasOpened scopes s → HasOpened (name ∷ scopes)
     (opened (length scopes) (length (path_in scopes)) (with_dot name) s)
 opened-one name scopes s matched_scopes =
@@ -181,6 +182,7 @@ opened-all name scopes searches all =
     All-map (HasOpened (name ∷ scopes)) (opened (length scopes) (length (path_in scopes)) (with_dot name)) searches
     (λ k s at. opened-one name scopes (get_or searches k s) (all k s at))
 
+-- a search with the right `matched_scopes` has it after the innermost scope is closed
 closed-one : (name : List ℕ) (scopes : List (List ℕ)) (s : PathSearch) → HasOpened (name ∷ scopes) s → HasOpened scopes
     (closed (length scopes) s)
 closed-one name scopes s matched_scopes = ap (λ (n : ℕ). min n (length scopes)) matched_scopes
@@ -200,12 +202,12 @@ part_behind name scopes = drop_at (path_in scopes) (with_dot name) (length (path
 
 -- ---- one element after the other
 
--- what is left starts with the same element
+-- where the rests of two lists from `i` on are the same, their elements at `i` are
 same_at : {A : Type 0} (xs ys : List A) (i : ℕ) (d : A) → drop i xs ≡ drop i ys → get_or ys i d ≡ get_or xs i d
 same_at {A} xs ys i d e = rw add-zero at (sym (get_or-drop i ys 0 d) ∙ (sym (ap (λ (l : List A). get_or l 0 d) e)
     ∙ get_or-drop i xs 0 d))
 
--- one element more is changed, of which f is seen
+-- seen by `f`, the first `i + 1` elements are changed by `g`, where the first `i` are and element `i` is
 pub stepped_by : {A B : Type 0} (f : A → B) (g : B → B) (xs ys : List A) (i : ℕ) (x y : A) → i < length xs → length xs
     ≡ length ys → x ≡ get_or xs i x → f y ≡ g (f x)
     → map f (take i xs) ≡ map g (map f (take i ys)) → drop i xs ≡ drop i ys → map f (take (i + 1) (set xs i y))
@@ -225,7 +227,7 @@ stepped_by f g xs ys i x y h n r e done rest =
       e,
     ) refl
 
--- one element more is changed
+-- the first `i + 1` elements are changed by `g`, where the first `i` are and element `i` is
 pub stepped : {A : Type 0} (g : A → A) (xs ys : List A) (i : ℕ) (x y : A) → i < length xs → length xs ≡ length ys → x
     ≡ get_or xs i x → y ≡ g x
     → take i xs ≡ map g (take i ys) → drop i xs ≡ drop i ys → take (i + 1) (set xs i y) ≡ map g (take (i + 1) ys)
@@ -249,6 +251,7 @@ same_count : (f : PathSearch → PathSearch) (searches lent new : List PathSearc
 same_count f searches lent new e is = ap (λ (xs : List PathSearch). length xs) is ∙ length-map lent f
     ∙ ap (λ (xs : List PathSearch). length xs) e
 
+-- all searches have the right `matched_scopes` after one more scope is entered, also through a slice
 pub opened-back : (name : List ℕ) (scopes now : List (List ℕ)) (searches lent new : List PathSearch)
     (len depth start : ℕ)
     (part : List ℕ) → All (HasOpened scopes) searches → now ≡ name ∷ scopes → len ≡ length searches → lent ≡ searches
@@ -265,6 +268,7 @@ opened-back name scopes now searches lent new len depth start part all names e s
     rw (given_back searches new len e (same_count (opened depth start part) searches lent new same is), mapped, names)
     (opened-all name scopes searches all)
 
+-- all searches have the right `matched_scopes` after the innermost scope is closed, also through a slice
 pub closed-back : (name : List ℕ) (scopes now : List (List ℕ)) (searches lent new : List PathSearch) (len depth : ℕ)
     → All (HasOpened scopes) searches → scopes ≡ name ∷ now → len ≡ length searches → lent ≡ searches
     → new ≡ map (closed depth) lent → depth ≡ length now → All (HasOpened now)
@@ -277,7 +281,7 @@ closed-back name scopes now searches lent new len depth all names e same is d =
     rw (given_back searches new len e (same_count (closed depth) searches lent new same is), mapped)
     (closed-all name now searches before)
 
--- what is seen stays as it was
+-- a change of the searches that leaves `seen_in` of each as it is, leaves it so for all, also through a slice
 pub seen-back : (f : PathSearch → PathSearch) (searches lent new : List PathSearch) (len : ℕ)
     → ((s : PathSearch) → seen_in (f s) ≡ seen_in s) → len ≡ length searches → lent ≡ searches → new ≡ map f lent
     → map seen_in (take len (new ++ drop (length new) searches)) ≡ map seen_in searches

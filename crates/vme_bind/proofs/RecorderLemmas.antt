@@ -45,7 +45,7 @@ pub bool_cases : (b : Bool) → (b ≡ true) ⊎ (b ≡ false)
 bool_cases true = inl refl
 bool_cases false = inr refl
 
--- a line on which they don't differ has one level
+-- a line on which `a` and `b` don't differ has one level
 pub alike : (a b : Levels) (l : ℕ) → differs a b l ≡ false → level_at a l ≡ level_at b l
 alike a b l h = same-is (level_at a l) (level_at b l) (not_false (same_level (level_at a l) (level_at b l)) h)
 
@@ -88,7 +88,7 @@ differs_before a b c m l same other h =
       | inr ne ↦ ap (λ (x : Level). not (same_level (level_at a l) x)) (sym (other ne)) ∙ h
     ]
 
--- a line gets the level that is shown
+-- setting a line to the level that is shown keeps the bounds of the lines that may differ
 pub within-same : (shown now : Levels) (first last m : ℕ) (x : Level) → DifferWithin shown now first last
     → IsLine shown.slots m → same_level (level_at shown m) x ≡ true → DifferWithin shown (set_level now m x) first last
 within-same shown now first last m x h line same =
@@ -108,7 +108,7 @@ within-same shown now first last m x h line same =
       high = λ l d. h.high l (before l d);
     }
 
--- a line gets any level, and lies among the lines
+-- setting the line `m` to any level keeps bounds that are extended to hold `m`
 pub within-more : (shown now : Levels) (first last m f n : ℕ) (x : Level) → DifferWithin shown now first last
     → IsLine shown.slots m → IsLine shown.slots f → f ≤ first → f ≤ m → last ≤ n → m ≤ n
     → DifferWithin shown (set_level now m x) f n
@@ -134,7 +134,7 @@ within-more shown now first last m f n x h line begins low here high there =
       ];
     }
 
--- where all is shown, any lines will do
+-- levels that are the same differ within any bounds
 pub within-none : (shown now : Levels) (first last : ℕ) → shown ≡ now → length now.levels ≡ line_count
     → IsLine shown.slots first → DifferWithin shown now first last
 within-none shown now first last e all begins =
@@ -150,11 +150,11 @@ within-none shown now first last e all begins =
       high = λ l d. absurd (none l d);
     }
 
--- the first of no lines: the system reset, which each backplane has
+-- the system reset is a line of each backplane
 pub reset_exists : (slots : ℕ) → IsLine slots SYSRESET
 reset_exists slots = record { below = omega arith; exists = cc }
 
--- ---- those of a range
+-- ---- the numbers of a range that hold
 
 pub zero_le : (n : ℕ) → nat_le 0 n ≡ true
 zero_le n = grind (arith, nat_tests)
@@ -179,9 +179,10 @@ those-skip p m n le none =
     let e : m + (n - m) ≡ n = omega arith in
     ap (those p 0) (sym e) ∙ those-past p m (n - m) (λ l low high. none l low (omega arith))
 
--- ---- showing the lines in their order
+-- ---- showing the lines by ascending number
 
--- the lines below n are shown, and these are their changes
+-- the lines below `n` are shown with their levels in `now`, the others with those in `before`; `changes` lists the
+-- changes
 pub record AreShown (n : ℕ) (before now shown : Levels) (changes : List Change) : Type 0 where
   pub slots : now.slots ≡ shown.slots
   pub shown_all : length shown.levels ≡ line_count
@@ -189,7 +190,7 @@ pub record AreShown (n : ℕ) (before now shown : Levels) (changes : List Change
   pub below : (l : ℕ) → l < n → level_at shown l ≡ level_at now l
   pub above : (l : ℕ) → n ≤ l → level_at shown l ≡ level_at before l
 
--- before the first of the lines and after the last none differs
+-- no line below `first` or above `last` differs
 quiet_before : (before now : Levels) (first last l : ℕ) → DifferWithin before now first last → l < first
     → differs before now l ≡ false
 quiet_before before now first last l h lt = elim (bool_cases (differs before now l)) [
@@ -219,7 +220,7 @@ shown-first before now first last n changes h is none =
       above = λ l le. refl;
     }
 
--- a line is shown as it is: it needs no change
+-- where the line `n` is shown with its level in `now`, it needs no change
 pub shown-same : (n : ℕ) (before now shown : Levels) (changes : List Change)
     → same_level (level_at now n) (level_at shown n) ≡ true → AreShown n before now shown changes
     → AreShown (n + 1) before now shown changes
@@ -243,7 +244,7 @@ pub map-more : {X : Type 0} (f : ℕ → X) (xs : List ℕ) (x : ℕ) → map f 
 map-more f [] x = refl
 map-more {X = X} f (y ∷ xs) x = ap (λ (ys : List X). f y ∷ ys) (map-more f xs x)
 
--- a line that isn't shown as it is differs
+-- a line that isn't shown with its level in `now` differs
 pub differs-here : (n : ℕ) (before now shown : Levels) (changes : List Change)
     → same_level (level_at now n) (level_at shown n) ≡ false → AreShown n before now shown changes
     → differs before now n ≡ true
@@ -255,7 +256,7 @@ differs-here n before now shown changes other h = elim (bool_cases (differs befo
       (sym other ∙ ap (same_level (level_at now n)) e ∙ same_self (level_at now n)))
 ]
 
--- it changes
+-- where the line `n` isn't shown with its level in `now`, it is changed
 pub shown-more : (n : ℕ) (before now shown : Levels) (changes : List Change) → n < line_count
     → same_level (level_at now n) (level_at shown n) ≡ false → AreShown n before now shown changes
     → AreShown (n + 1) before now (set_level shown n (level_at now n)) (changes ++ change_to now n ∷ [])
@@ -277,7 +278,7 @@ shown-more n before now shown changes lt other h =
           set_other shown n l _ ne ∙ h.above l (omega (arith, le));
     }
 
--- and the backplane has it
+-- a line that isn't shown with its level in `now` exists on the backplane
 pub line-exists : (n : ℕ) (before now shown : Levels) (first last : ℕ) (changes : List Change) → DifferWithin before now
     first last → same_level (level_at now n) (level_at shown n) ≡ false → AreShown n before now shown changes
     → IsLine now.slots n × IsLine shown.slots n
@@ -286,7 +287,7 @@ line-exists n before now shown first last changes t other h =
     let there : IsLine now.slots n = subst (λ (s : ℕ). IsLine s n) (sym t.slots) here in
     (there, subst (λ (s : ℕ). IsLine s n) h.slots there)
 
--- as far as lines are shown, those that differ still lie among the lines
+-- while the lines are shown, those that still differ are within the same bounds
 pub shown-within : (n : ℕ) (before now shown : Levels) (first last : ℕ) (changes : List Change) → DifferWithin before
     now first last → AreShown n before now shown changes → DifferWithin shown now first last
 shown-within n before now shown first last changes t h =
@@ -306,6 +307,7 @@ shown-within n before now shown first last changes t h =
       high = λ l d. t.high l (old l d);
     }
 
+-- once the lines up to `last` are shown, `changes` are all changes
 pub shown-changes : (n : ℕ) (before now shown : Levels) (first last : ℕ) (changes : List Change) → DifferWithin before
     now first last → n ≡ last + 1 → n ≤ line_count → AreShown n before now shown changes
     → changes ≡ changes_between before now
@@ -313,6 +315,7 @@ shown-changes n before now shown first last changes t end most h =
     h.changes_are ∙ ap (map (change_to now)) (sym (those-skip (differs before now) n line_count most
     (λ l low high. quiet_after before now first last l t (omega (arith, end, low)))))
 
+-- once the lines up to `last` are shown, all levels are those in `now`
 pub shown-all : (n : ℕ) (before now shown : Levels) (first last : ℕ) (changes : List Change) → DifferWithin before now
     first last → n ≡ last + 1 → AreShown n before now shown changes → shown ≡ now
 shown-all n before now shown first last changes t end h =

@@ -1,4 +1,4 @@
--- What comes of a dump whose pieces are read ahead of what is before them, and joined in order.
+-- The result of a dump whose pieces are read before the text that precedes them, and joined in order.
 use Rattle.std.proofs.Common.{◌≡◌, ℕ, Bool, true, false, cond, ◌&&◌, List, [], ◌∷◌, ◌++◌, Option, Some, None, Result}
 use Rattle.std.proofs.Common.{refl, sym, ap, ◌∙◌, subst, append_assoc, arith}
 use Rattle.std.proofs.lemmas.List.{append-nil}
@@ -59,7 +59,7 @@ step-leads time shown now first last h = by_any (any (differs shown now) 0 line_
     by_any false e = same_levels shown now (sym h.slots) h.shown_all h.now_all
         (λ l lt. alike shown now l (any-fails (differs shown now) 0 line_count l e (omega arith) lt))
 
--- the step that ends the instant at hand, if one ends, leads to the levels that are shown then
+-- the step at the end of the current instant, if that ends, leads to the levels that are then shown
 pub end-leads : (p : RecorderLevels) (shown now : Levels) (first last : ℕ) (e : Option ℕ) → p
     ≡ record { shown = shown; now = now } → DifferWithin shown now first last
     → levels_after p.shown (ended_steps p e) ≡ (entered end_of p e).shown
@@ -68,7 +68,7 @@ end-leads p shown now first last (Some time) is h =
     subst (λ (q : RecorderLevels). levels_after q.shown (step_between time q.shown q.now) ≡ q.now) (sym is)
     (step-leads time shown now first last h)
 
--- ---- what is made after another recording
+-- ---- the builder after another recording
 
 abbrev pub behind : Trace → BuilderState → BuilderState
 behind t m = record m { recorded = with_steps t m.recorded.steps }
@@ -84,7 +84,7 @@ behind-instant t m time =
     ap (λ (ss : List Step). record (builder_instant m time) { recorded = record t { steps = ss } })
     (sym (append_assoc t.steps m.recorded.steps step))
 
--- after the end of an instant
+-- the builder after the end of an instant
 entered-made : (m : BuilderState) (e : Option ℕ)
     → entered builder_instant m e ≡ record m {
       progress = entered end_of m.progress e;
@@ -206,7 +206,7 @@ module _ (nets : List Net) (bytes : List ℕ) (m : BuilderState) (a : ReadDetach
       ≡ m.progress.now.slots)
       (λ n net bits h. slots-kept n.progress.now _ ∙ h) (λ n time h. h) bytes m a is refl
 
--- what was read ahead, by its fields
+-- what reading ahead gives, by its fields
 pub ahead-read : (nets : List Net) (line_bits : NetLines) (bytes : List ℕ) (from : Levels) (first : Trace)
     (m : BuilderState)
     (a : ReadDetached BuilderState)
@@ -245,7 +245,7 @@ ahead-read nets line_bits bytes from first m a begun none is u q t ue qe te assi
       assigned = tells;
     }
 
--- a piece that is joined, by the fields of the state and of the piece
+-- joining a piece gives `IsJoined`, by the fields of the state and of the piece
 pub speculative-joined : (bytes : List ℕ) (recorded : Trace) (w : SpeculativeReached) (a : ReadSpeculatively)
     (fault : Option BindFault) (line_bits : NetLines) (p q : RecorderLevels) (r behind : Reached (Unit {0}))
     (from : Levels) (u : ReadDetached (Unit {0})) (assigned : List Bool)

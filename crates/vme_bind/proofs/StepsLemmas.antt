@@ -1,4 +1,4 @@
--- The steps of a recording follow its opening.
+-- The steps of a recording are well formed after its opening.
 use Rattle.std.proofs.Common.{◌≡◌, ℕ, zero, suc, ◌+◌, ◌<◌, ◌≤◌, Bool, true, false, cond, not, ◌&&◌, ◌||◌, List, [], ◌∷◌}
 use Rattle.std.proofs.Common.{◌++◌, length, map, get_or, refl, sym, ap, ◌∙◌, subst, arith, inl, inr, ◌⊎◌, Some, None}
 use Rattle.std.specs.Prelude.{nat_le, nat_lt, ◌==◌, slice_get}
@@ -28,7 +28,7 @@ use Rattle.vme_bind.specs.Recording.{differs, change_to, changes_between, step_b
 use Rattle.vme_bind.proofs.RecorderLemmas.{those-yes, those-no, same-is, same_levels, bool_cases}
 use Rattle.vme_bind.proofs.CaptureLemmas.{changed-those, length-changed, levels-at, levels-all, levels-slots}
 
--- ---- lists of a range
+-- ---- the numbers of a range that hold
 
 those-alike : (p q : ℕ → Bool) (n : ℕ) → ((l : ℕ) → l < n → p l ≡ q l) → those p 0 n ≡ those q 0 n
 unfolding those
@@ -68,7 +68,7 @@ get-last : {X : Type 0} (xs : List X) (x : X) → slice_get (xs ++ x ∷ []) (le
 get-last [] x = refl
 get-last (y ∷ xs) x = get-last xs x
 
--- where a number of the range is among those that hold
+-- a number `i` with `p` is in `those p 0 n`, after the numbers with `p` below it
 those-place : (p : ℕ → Bool) (n i : ℕ) → i < n → p i ≡ true → slice_get (those p 0 n) (length (those p 0 i)) ≡ Some i
 those-place p zero i lt h = absurd (omega (arith, lt))
 those-place p (suc n) i lt h =
@@ -134,7 +134,7 @@ unfolding LinesBelow
 below_more n [] c h lt = (lt, tt)
 below_more n (d ∷ cs) c h lt = (h.0, below_more n cs c h.1 lt)
 
--- a line that exists, and gets another level
+-- a change of a line that exists, to another level
 pub record IsChange (v : Levels) (c : Change) : Type 0 where
   pub exists : has_line v.slots c.line ≡ true
   pub other : same_level (level_at v c.line) c.level ≡ false
@@ -155,6 +155,7 @@ four_again a b c d e f g h = rw (e, f, g, h) refl
 at_least : (a b : ℕ) → a ≤ b → nat_le a b ≡ true
 at_least a b h = grind (arith, nat_tests)
 
+-- a change of a line above all others may come after their changes
 changes-more : (v : Levels) (lowest : ℕ) (cs : List Change) (c : Change) → are_changes v lowest cs ≡ true
     → lowest ≤ c.line → LinesBelow c.line cs → IsChange v c → are_changes v lowest (cs ++ c ∷ []) ≡ true
 unfolding are_changes LinesBelow
@@ -178,6 +179,7 @@ record AreChanges (v : Levels) (n : ℕ) (cs : List Change) : Type 0 where
   sound : are_changes v 0 cs ≡ true
   below : LinesBelow n cs
 
+-- the changes of the lines below n with p, by ascending line number, are changes from the levels `v`
 changes-those : (v : Levels) (p : ℕ → Bool) (g : ℕ → Level) (n : ℕ)
     → ((l : ℕ) → l < n → p l ≡ true → IsChange v (to_level g l)) → AreChanges v n (map (to_level g) (those p 0 n))
 unfolding are_changes LinesBelow those
@@ -271,6 +273,7 @@ module _ (slots : ℕ) (bound_groups : List BoundGroup) (instants : List Instant
         absurd (false≢true still)
   ]
 
+  -- a line differs between the levels before and after instant n exactly where it changes at instant n
   differs-is : (n l : ℕ) → l < line_count → differs (levels_after slots bound_groups instants n)
       (levels_after slots bound_groups instants (n + 1)) l ≡ changes_at slots bound_groups instants n l
   unfolding changes_at
@@ -280,6 +283,7 @@ module _ (slots : ℕ) (bound_groups : List BoundGroup) (instants : List Instant
         lt,
   ) refl
 
+  -- some line differs between the levels before and after instant n exactly where there is a step at instant n
   pub step-is : (n : ℕ) → any (differs (levels_after slots bound_groups instants n)
       (levels_after slots bound_groups instants (n + 1))) 0 line_count ≡ is_step slots bound_groups instants n
   unfolding is_step
@@ -299,7 +303,7 @@ module _ (slots : ℕ) (bound_groups : List BoundGroup) (instants : List Instant
       to_level_on : ℕ → Level → Change
       to_level_on l x = record { line = l; level = x }
 
-  -- the steps at one instant more
+  -- the steps of the first n + 1 instants are those of the first n and the step at instant n, if there is one
   pub steps-more : (n time : ℕ) → time ≡ time_of (slice_get instants n)
       → (recording slots bound_groups instants (n + 1)).steps ≡ (recording slots bound_groups instants n).steps
       ++ step_between time (levels_after slots bound_groups instants n) (levels_after slots bound_groups instants
@@ -348,7 +352,7 @@ module _ (slots : ℕ) (bound_groups : List BoundGroup) (instants : List Instant
   unfolding changes_at
   level-kept n l h = same-is _ _ (not_false _ h)
 
-  -- where no line changes, the levels stay
+  -- where there is no step at instant n, the levels before and after it are the same
   levels-kept : (n : ℕ) → is_step slots bound_groups instants n ≡ false → levels_after slots bound_groups instants n
       ≡ levels_after slots bound_groups instants (n + 1)
   unfolding is_step
@@ -405,15 +409,16 @@ module _ (slots : ℕ) (bound_groups : List BoundGroup) (instants : List Instant
         (levels-at slots bound_groups instants n l lt) ∙ not_true _ h;
   }
 
+  -- the number of steps at the first i instants
   abbrev count : ℕ → ℕ
   count i = length (those (is_step slots bound_groups instants) 0 i)
 
-  -- the recording of the first instants, up to one or all of them
+  -- the recording of the first `end` instants
   module _ (end : ℕ) (within : end ≤ length instants) where
     abbrev whole : Trace
     whole = recording slots bound_groups instants end
 
-    -- the steps at the first i instants may be where they are
+    -- the steps at the first i instants are well formed; `clock` is the time of the last of them, if there is one
     record IsSound (i : ℕ) : Type 0 where
       clock : ℕ
       checked : HasChecked whole (count i) (levels_after slots bound_groups instants i) clock
@@ -427,12 +432,14 @@ module _ (slots : ℕ) (bound_groups : List BoundGroup) (instants : List Instant
       earlier = inl refl;
     }
 
+    -- the step at instant i comes after the steps at the instants before it
     step-found : (i : ℕ) → i < end → is_step slots bound_groups instants i ≡ true → slice_get whole.steps
         (count i) ≡ Some (step_at slots bound_groups instants i)
     unfolding recording
     step-found i lt h = get-map (step_at slots bound_groups instants) (those (is_step slots bound_groups instants) 0
         (end)) (count i) i (those-place (is_step slots bound_groups instants) (end) i lt h)
 
+    -- the step at instant i may follow the steps at the instants before it
     step-may : TimesAscend instants → (i : ℕ) → i < end → is_step slots bound_groups instants i ≡ true
         → (s : IsSound i) → may_follow (levels_after slots bound_groups instants i) (count i) s.clock
         (step_at slots bound_groups instants i) ≡ true

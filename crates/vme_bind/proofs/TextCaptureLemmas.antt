@@ -1,4 +1,4 @@
--- The recording that a binding makes of the text of a dump, from what is read of it.
+-- The recording that a binding makes of the text of a dump, from the results of reading it.
 use Rattle.std.proofs.Common.{◌≡◌, ℕ, Bool, true, false, cond, List, [], length, refl, sym, ap, ◌∙◌, subst, Option}
 use Rattle.std.proofs.Common.{Some, None, Result, Ok, Err}
 use Rattle.std.specs.Prelude.{nat_lt, IfOk}
@@ -50,12 +50,12 @@ ok_of x = Ok x
 abbrev ok_trace : Trace → Result Trace CaptureFault
 ok_trace t = Ok t
 
--- the instants of a body, if it has no fault
+-- the instants of a body; none if it has a fault
 abbrev pub instants_in : Result (List Instant) VcdFault → List Instant
 instants_in (Ok instants) = instants
 instants_in (Err fault) = []
 
--- what a body comes to where the binding has a fault
+-- the result for a body where the binding has the fault `own`
 abbrev refused : BindFault → Result (List Instant) VcdFault → Result Trace CaptureFault
 refused own r = or_dump r >>= λ instants. Err (Binding own)
 
@@ -63,6 +63,7 @@ module _ (slots : ℕ) (bound_groups : List BoundGroup) (h : Headed) where
   abbrev pub IsMadeOf : List Instant → CurrentValues → BuilderState → Type 0
   IsMadeOf = Makes slots bound_groups (length h.nets) (instants_in (instants_from h.nets h.body))
 
+  -- what the builder makes of a body follows the body's instants
   pub builder-follows : (m : BuilderState) → IsBegun slots bound_groups m
       → Follows (Ends IsMadeOf) (instants_from h.nets h.body)
       (fold_body builder_change builder_instant h.nets m h.body)
@@ -74,7 +75,7 @@ module _ (slots : ℕ) (bound_groups : List BoundGroup) (h : Headed) where
       (λ done current a time made. makes-instant slots bound_groups (length h.nets) all done current a time made)
       h.body m (makes-first slots bound_groups (length h.nets) all m begun)
 
-  -- a fault of the body, met by what makes the recording
+  -- a fault that the builder's reading of the body meets is the fault of the body's recording
   pub body-fails : (m : BuilderState) (fault : VcdFault) → IsBegun slots bound_groups m
       → ReadFails fault (fold_body builder_change builder_instant h.nets m h.body) → CaptureFailsBy (Dump fault)
       (body_recording slots bound_groups h)
@@ -88,7 +89,7 @@ module _ (slots : ℕ) (bound_groups : List BoundGroup) (h : Headed) where
       dump_fails line kind e = ap (λ (r : Result (List Instant) VcdFault). or_dump r >>= λ instants. Ok
           (recording slots bound_groups instants (length instants))) e
 
-  -- what is made of the whole body
+  -- the recording of the whole body is what the builder recorded at its end
   pub body-recorded : (m end : BuilderState) → IsBegun slots bound_groups m
       → fold_body builder_change builder_instant h.nets m
       h.body ≡ Ok end → body_recording slots bound_groups h ≡ Ok end.recorded
@@ -102,15 +103,16 @@ module _ (slots : ℕ) (bound_groups : List BoundGroup) (h : Headed) where
       ∙ ap (λ (xs : List Instant). ok_trace (recording slots bound_groups xs (length instants))) (sym all)
       ∙ ap ok_trace (sym made.recorded)
 
-  -- ---- what a body comes to
+  -- ---- the result for a body
 
+  -- a fault of the builder is the fault of the instants
   pub follow_err : (instants : Result (List Instant) VcdFault) (taken : Result BuilderState VcdFault) (fault : VcdFault)
       → Follows (Ends IsMadeOf) instants taken → taken ≡ Err fault → instants ≡ Err fault
   follow_err (Ok xs) taken fault follows e = absurd (cc (follows.1, e))
   follow_err (Err first) taken fault follows e = let same : first ≡ fault = cc (follows, e) in
       ap (λ (f : VcdFault). Err f) same
 
-  -- a body comes to what is made of it, or to its fault, or to that of the binding
+  -- the result for a body by definition is that by the builder: its own fault, or that of the binding, or the recording
   pub body-outcome : (fault : Option BindFault) (m : BuilderState) → IsBegun slots bound_groups m
       → body_outcome fault slots
       bound_groups h ≡ outcome fault (fold_body builder_change builder_instant h.nets m h.body)
@@ -133,6 +135,7 @@ module _ (slots : ℕ) (bound_groups : List BoundGroup) (h : Headed) where
 
 -- ---- a text
 
+-- a fault of reading the text is the fault of its recording
 pub text-dump : (b : BoundLines) (text : List ℕ) (fault : VcdFault) → ReadFails fault (dump_of text)
     → CaptureFailsBy (Dump fault) (recording_of_text b text)
 unfolding recording_of_text
@@ -143,7 +146,7 @@ text-dump b text fault h = by_kind fault.line fault.kind h
     by_kind line Memory e = e
     by_kind line kind e = ap (recording_read b) e
 
--- a fault that stays, whatever comes of what is read
+-- if `r` followed by a total function `f` fails, `r` fails with the same fault
 pub fails_back : {X Y : Type 0} (line : ℕ) (kind : FaultKind) (r : Result X VcdFault) (f : X → Y)
     → ReadFailsAs line kind
     (r >>= λ x. Ok (f x)) → ReadFailsAs line kind r
@@ -151,7 +154,7 @@ fails_back line Memory r f h = h
 fails_back line kind (Ok x) f h = absurd (cc h)
 fails_back line kind (Err fault) f h = let same : fault ≡ record { line = line; kind = kind } = cc h in ap Err same
 
--- the fault of the definitions
+-- a fault of the definitions is the fault of the text's recording
 pub text-head : (b : BoundLines) (text : List ℕ) (seen : List Searched) (fault : VcdFault) → ReadFails fault
     (header_of with_variable text (nothing_declared seen) (tokens text)) → CaptureFailsBy (Dump fault)
     (recording_of_text b text)
@@ -160,7 +163,7 @@ text-head b text seen fault h =
     (rw (header_taken with_variable text seen) at h) in
     text-dump b text fault (fails_first fault (whole_header text) contents_behind _ (dump_of-header text) whole)
 
--- a header whose variables were looked at
+-- the header of `text` is `h`, and `seen` is `first` after its variables
 abbrev IsWhole : List ℕ → Headed → List Searched → List Searched → Type 0
 IsWhole text h first seen = (variables : List Variable) × (whole_header text ≡ Ok (defined h variables))
     × (seen ≡ fold with_variable first variables)
@@ -182,12 +185,13 @@ whole_from text h first seen (Ok d) e is =
     )
 whole_from text h first seen (Err fault) e is = absurd (cc is)
 
+-- where a search reads the header of `text` without a fault, `IsWhole` holds
 pub whole-of : (text : List ℕ) (h : Headed) (first seen : List Searched) → header_of with_variable text
     (nothing_declared first) (tokens text) ≡ Ok (defined h seen) → IsWhole text h first seen
 whole-of text h first seen e = whole_from text h first seen (whole_header text) refl
     (sym (header_taken with_variable text first) ∙ e)
 
--- the body after the definitions
+-- what a function gives for the body after the definitions, it gives for the whole text
 pub text-behind : {X : Type 0} (view : X → Trace) (b : BoundLines) (text : List ℕ) (h : Headed)
     (first seen : List Searched) (r : Result X CaptureFault) → header_of with_variable text (nothing_declared first)
     (tokens text) ≡ Ok (defined h seen)
@@ -209,7 +213,7 @@ text-is b text h first seen head =
     let whole = whole-of text h first seen head in
     (whole.0, whole.2, ap (recording_read b) (dump_behind text (defined h whole.0) whole.1))
 
--- what bound groups make of the instants
+-- where the binding fits, the recording of the instants is that of the bound groups, or the fault of the dump
 pub by_instants : (b : BoundLines) (variables : List Variable) (bound_groups : List BoundGroup)
     (r : Result (List Instant) VcdFault) → bound_groups_in variables b.assignments ≡ Ok bound_groups
     → recording_read b (r >>= with_variables variables)
@@ -220,7 +224,7 @@ by_instants b variables bound_groups (Ok instants) e =
     (recording b.slots bound_groups instants (length instants))) e)
 by_instants b variables bound_groups (Err fault) e = refl
 
--- what comes of the instants where the binding doesn't fit
+-- where the binding has the fault `own`, the result is the fault of the dump, or else `own`
 pub by_refusal : (b : BoundLines) (variables : List Variable) (own : BindFault) (r : Result (List Instant) VcdFault)
     → bound_groups_in variables b.assignments ≡ Err own
     → recording_read b (r >>= with_variables variables) ≡ (or_dump r >>= λ instants. Err (Binding own))
@@ -230,6 +234,7 @@ by_refusal b variables own (Ok instants) e =
     (recording b.slots bound_groups instants (length instants))) e)
 by_refusal b variables own (Err fault) e = refl
 
+-- where the binding fits, what a function gives for the body it gives for what is after the definitions
 pub behind-body : {X : Type 0} (view : X → Trace) (b : BoundLines) (h : Headed) (variables : List Variable)
     (bound_groups : List BoundGroup) (r : Result X CaptureFault) → bound_groups_in variables b.assignments
     ≡ Ok bound_groups
@@ -248,18 +253,20 @@ passed_instant u time = u
 abbrev Passes : List Instant → CurrentValues → Unit {0} → Type 0
 Passes done current u = Unit {0}
 
+-- reading a body without keeping anything follows the body's instants
 passing-follows : (h : Headed) (u : Unit {0}) → Follows (Ends Passes) (instants_from h.nets h.body)
     (fold_body passed_change passed_instant h.nets u h.body)
 passing-follows h u = taken-follows passed_change passed_instant h.nets Passes (λ done current a net bits lt made. tt)
     (λ done current a time made. tt) h.body u tt
 
+-- a fault of the body is the fault of what is after the definitions
 behind_dump : (b : BoundLines) (h : Headed) (variables : List Variable) (line : ℕ) (kind : FaultKind) → ReadFailsAs line
     kind (instants_from h.nets h.body) → DumpFails line kind (recording_behind b (defined h variables))
 behind_dump b h variables line Memory e = e
 behind_dump b h variables line kind e = ap (λ (r : Result (List Instant) VcdFault). recording_read b
     (r >>= with_variables variables)) e
 
--- a fault of the body comes first
+-- a fault of the body comes before a fault of the binding
 pub behind-first : (b : BoundLines) (h : Headed) (variables : List Variable) (u : Unit {0}) (fault : VcdFault)
     → ReadFails fault (fold_body passed_change passed_instant h.nets u h.body)
     → CaptureFailsBy (Dump fault) (recording_behind b (defined h variables))
@@ -274,7 +281,7 @@ by_binding line kind b dump answer is e =
     is ∙ ap or_binding (recording_of-is b dump ∙ ap (λ (r : Result (List BoundGroup) BindFault). r >>= λ bound_groups.
     Ok (recording b.slots bound_groups dump.instants (length dump.instants))) e)
 
--- the binding's own fault, where the body has none
+-- a fault of the binding is the result where the body has no fault
 pub behind-binding : (b : BoundLines) (h : Headed) (variables : List Variable) (u end : Unit {0}) (fault : BindFault)
     → fold_body passed_change passed_instant h.nets u h.body ≡ Ok end
     → BindFails fault (bound_groups_in variables b.assignments) → CaptureFailsBy (Binding fault)
@@ -288,7 +295,7 @@ behind-binding b h variables u end fault ok fails =
 
 -- ---- the recording, and whether it is too long
 
--- the recording, where it isn't too long
+-- the recording, or `TooManySteps` where it is too long
 abbrev in_limit : Result Trace CaptureFault → Result Trace CaptureFault
 in_limit r = r >>= λ t. or_binding (limited t)
 
@@ -310,7 +317,7 @@ capture-recorded b text = by_dump (dump_of text)
         ∙ sym (ap (λ (r : Result Trace BindFault). in_limit (or_binding r)) (recording_of-is b dump))
     by_dump (Err fault) = refl
 
--- why there is no recording
+-- a fault of the recording without a limit is the fault of the capture
 pub fails-captured : (b : BoundLines) (text : List ℕ) (fault : CaptureFault) → CaptureFailsBy fault
     (recording_of_text b text) → CaptureFailsBy fault (capture_of_text b text)
 fails-captured b text (Dump fault) h = by_kind fault.line fault.kind h
@@ -326,7 +333,7 @@ fails-captured b text (Binding fault) h = by_kind fault.line fault.kind h
     by_kind line NoMemory e = e
     by_kind line kind e = capture-recorded b text ∙ ap in_limit e
 
--- the capture of a recording
+-- the capture of a text with the recording `t` is `limited t`
 pub captured-by : (b : BoundLines) (text : List ℕ) (t : Trace) (r : Result Trace BindFault) → recording_of_text b text
     ≡ Ok t → r ≡ limited t → GivesBy (λ (t : Trace). t) (or_binding r) (capture_of_text b text)
 captured-by b text t r e is =
@@ -341,7 +348,7 @@ captured-by b text t r e is =
     by_test true h = h
     by_test false h = h
 
--- ---- the steps of a recording follow one another
+-- ---- the steps of a recording are well formed
 
 same_ok : {A E : Type 0} (x y : A) → ok_of {A = A} {E = E} x ≡ ok_of y → x ≡ y
 same_ok x y e = cc
@@ -374,6 +381,7 @@ recorded-formed b text t e = by_dump (dump_of text) refl e
         by_bound_groups dump (rises_in dump (whole_header text) (sym (dump_of-header text) ∙ is))
         (bound_groups_in dump.variables b.assignments) (sym (ap or_binding (recording_of-is b dump)) ∙ e)
 
+-- the recording that a function gives for a text is well formed
 pub text-formed : {X : Type 0} (view : X → Trace) (b : BoundLines) (text : List ℕ) (r : Result X CaptureFault)
     → GivesBy view r (recording_of_text b text) → IfOk r (λ x. malformed_step (view x) ≡ None)
 text-formed view b text (Ok x) given = recorded-formed b text (view x) given

@@ -15,14 +15,14 @@ not_true : (b : Bool) → (b ≡ true → ⊥) → b ≡ false
 not_true true h = absurd (h refl)
 not_true false h = refl
 
--- what is after place i
+-- the bytes after place i
 abbrev pub behind : List ℕ → ℕ → List ℕ
 behind xs i = take (length xs - (i + 1)) (drop (i + 1) xs)
 
 behind-is : (xs : List ℕ) (i : ℕ) → drop (i + 1) xs ≡ behind xs i
 behind-is xs i = sym (take_rest xs (i + 1))
 
--- the parts where the first byte that passes is at place i
+-- the parts of `xs`, where the first byte with `p` is at place i
 pub split_at : (p : ℕ → Bool) (xs : List ℕ) (i : ℕ) → NoneBefore (Passes p xs) 0 (length xs) i → Passes p xs i
     → slice_split p xs ≡ take i xs ∷ slice_split p (behind xs i)
 split_at p xs i first here =
@@ -32,12 +32,13 @@ split_at p xs i first here =
     ∙ ap (λ (n : ℕ). take n xs ∷ slice_split p (drop (n + 1) xs)) place
     ∙ ap (λ (rest : List ℕ). take i xs ∷ slice_split p rest) (behind-is xs i)
 
+-- a list in which no byte has p is one part
 pub split_nowhere : (p : ℕ → Bool) (xs : List ℕ) → Nowhere (Passes p xs) 0 (length xs) → slice_split p xs ≡ xs ∷ []
 split_nowhere p xs none =
     slice_split_none p xs (λ k d lt. not_true _ (λ here. none k (omega arith) lt (ap p (get_or_default xs k 0 d lt)
     ∙ here)))
 
--- nothing is after the end
+-- the bytes after the end, of which there are none
 abbrev pub at_end : List ℕ → List ℕ
 at_end xs = take (length xs - length xs) (drop (length xs) xs)
 
@@ -51,12 +52,14 @@ word_before : (word : List ℕ) (parts : List (List ℕ)) → filter (λ w. not 
 word_before [] parts = refl
 word_before (b ∷ word) parts = refl
 
+-- the words of a line whose first blank is at place i
 pub words-at : (line : List ℕ) (i : ℕ) → NoneBefore (Passes is_blank line) 0 (length line) i → Passes is_blank line i
     → words line ≡ with_word (take i line) (words (behind line i))
 words-at line i first here =
     ap (λ (parts : List (List ℕ)). filter (λ w. not (is_empty w)) parts) (split_at is_blank line i first here)
     ∙ word_before (take i line) (slice_split is_blank (behind line i))
 
+-- the words of a line without a blank
 pub words-nowhere : (line : List ℕ) → Nowhere (Passes is_blank line) 0 (length line) → words line
     ≡ with_word line (words (at_end line))
 words-nowhere line none =
@@ -71,6 +74,7 @@ unfolding statements_from
 said_more line part [] some = absurd (omega (arith, some))
 said_more line part (next ∷ parts) some = refl
 
+-- the statements of a text whose first line feed is at place i
 pub said_at : (line : ℕ) (rest : List ℕ) (i : ℕ) (part : List ℕ) → part ≡ without_return (take i rest)
     → NoneBefore (Passes is_feed rest) 0 (length rest) i → Passes is_feed rest i
     → statements_from line (slice_split is_feed rest) ≡ statement_on line (words part) ++ statements_from (line + 1)
@@ -82,6 +86,7 @@ said_at line rest i part e first here =
     ∙ ap (λ (w : List ℕ). statement_on line (words w)
     ++ statements_from (line + 1) (slice_split is_feed (behind rest i))) (sym e)
 
+-- the statements of a text without a line feed
 pub said_last : (line : ℕ) (rest : List ℕ) → Nowhere (Passes is_feed rest) 0 (length rest)
     → statements_from line (slice_split is_feed rest) ≡ statement_on line (words rest) ++ statements_from line
     (slice_split is_feed (at_end rest))
@@ -96,6 +101,7 @@ unfolding statements_from
 said_nothing line [] e = refl
 said_nothing line (b ∷ rest) e = absurd (omega (arith, e))
 
+-- the number of line feeds in a text whose first one is at place i
 pub feeds_at : (rest : List ℕ) (i : ℕ) → NoneBefore (Passes is_feed rest) 0 (length rest) i → Passes is_feed rest i
     → count_by is_feed rest ≡ 1 + count_by is_feed (behind rest i)
 feeds_at rest i first here =

@@ -1,4 +1,4 @@
--- The recording of a dump that is read piece by piece, from what is read of it.
+-- The recording of a dump that is read piece by piece, from the results of the pieces.
 use Rattle.std.proofs.Common.{◌≡◌, ℕ, false, List, Option, Some, None, Result, Ok, Err, refl, sym, ap, subst, ◌∙◌}
 use Rattle.vme_trace.specs.Trace.{Trace}
 use Rattle.vcd_read.specs.Body.{ready}
@@ -43,7 +43,7 @@ same_fails : (line : ℕ) (kind : FaultKind) (a b : Result Trace CaptureFault) �
 same_fails line Memory a b e h = h
 same_fails line kind a b e h = e ∙ h
 
--- what fails in a dump, fails for what comes of it
+-- a fault of reading is the fault of the result
 pub fails-outcome : (own : Option BindFault) (fault : VcdFault) (before : List Token → Result Trace CaptureFault)
     (read : List Token → Result (State BuilderState) VcdFault)
     → ((more : List Token) → before more ≡ outcome own (read more >>= at_end builder_instant))
@@ -52,7 +52,7 @@ pub fails-outcome : (own : Option BindFault) (fault : VcdFault) (before : List T
 fails-outcome own fault before read is fails more = same_fails fault.line fault.kind (before more) _ (is more)
     (dump_fails own fault.line fault.kind (read more) (fails more))
 
--- a body of which nothing is read yet
+-- the result for a body by definition is that from a place at which nothing is read yet
 pub begun-outcome : (own : Option BindFault) (slots : ℕ) (bound_groups : List BoundGroup) (head : Headed)
     (made : BuilderState)
     (r : Reached BuilderState) (first more : List Token) → IsBegun slots bound_groups made → r.nets ≡ head.nets
@@ -64,7 +64,7 @@ pub begun-outcome : (own : Option BindFault) (slots : ℕ) (bound_groups : List 
 begun-outcome own slots bound_groups head made r first more begun nets progress dump_section place body =
     rw (nets, progress, dump_section, place, body) (body-outcome slots bound_groups (going_on head more) own made begun)
 
--- what it leads to where what comes of the text is the same
+-- a result that continues `before2` continues `before`, where the two are the same
 pub leads-same : {X Y : Type 0} (view : X → List Token → Result Y CaptureFault) (r : Result X CaptureFault)
     (before before2 : List Token → Result Y CaptureFault)
     → ((more : List Token) → before more ≡ before2 more) → TextContinuesAs view r before2 → TextContinuesAs view r
@@ -94,7 +94,7 @@ refused-is own answer other fails = by_kind own.line own.kind other fails
     by_kind line NoMemory other fails = absurd (other refl)
     by_kind line kind other fails = fails
 
--- want of memory is told of any answer
+-- want of memory may be the answer whatever the result is
 pub wanting : {Y Z : Type 0} (own : BindFault) (answer : Result Y BindFault) (assigned : Result Z CaptureFault)
     → own.kind ≡ NoMemory → BindFails own answer → CaptureFailsBy (Binding own) assigned
 wanting own answer assigned is fails = by_kind own.line own.kind is fails
@@ -104,7 +104,7 @@ wanting own answer assigned is fails = by_kind own.line own.kind is fails
     by_kind line NoMemory is fails = fails
     by_kind line kind is fails = absurd (cc is)
 
--- the binding's fault is told at the end
+-- the fault of the binding may be the answer where it is the result
 pub assigned-own : {Y : Type 0} (own : BindFault) (answer : Result Y CaptureFault) → IsOfBinding own → answer
     ≡ Err (Binding own)
     → CaptureFailsBy (Binding own) answer
@@ -115,7 +115,7 @@ assigned-own own answer other is = by_kind own.line own.kind other is
     by_kind line NoMemory other is = absurd (other refl)
     by_kind line kind other is = is
 
--- a fault that is met at the end of the dump comes first
+-- a fault at the end of the dump comes before that of the binding
 pub fails-whole : (own : Option BindFault) (fault : VcdFault) (read : Result BuilderState VcdFault)
     → ReadFails fault read
     → CaptureFailsBy (Dump fault) (outcome own read)

@@ -1,4 +1,4 @@
--- What reading the text of a dump by a binding comes to, from what is read of it.
+-- The result of reading the text of a dump by a binding, from the results of its pieces.
 use Rattle.std.proofs.Common.{◌≡◌, ℕ, ◌-◌, List, [], length, false, Option, None, Result, Ok, Err, refl}
 use Rattle.std.proofs.Common.{sym}
 use Rattle.std.proofs.Common.{ap, ◌∙◌, ◌++◌, arith, subst}
@@ -47,12 +47,12 @@ use Rattle.vme_bind.proofs.TextCaptureLemmas.{whole-of}
 
 -- ---- where a body stops
 
--- a reading with this fault
+-- readings with the same fault, recording and time are the same
 stopped_as : (fault : VcdFault) (t t2 : Trace) (time time2 : ℕ) → t ≡ t2 → time ≡ time2
     → reading_made t time (Err fault) ≡ reading_made t2 time2 (Err fault)
 stopped_as fault t t2 time time2 e e2 = rw (e, e2) refl
 
--- a fault of a piece, and what took the recording before it
+-- where reading a piece stops with a fault, the reading has that fault, and the recording and the time before it
 pub piece_stops : (line : ℕ) (kind : FaultKind) (made : BuilderState) (recorded : Trace) (time : ℕ)
     (read : UntilFault BuilderState)
     → recorded ≡ made.recorded
@@ -65,7 +65,7 @@ piece_stops line kind made recorded time read e h =
     ∙ stopped_as (record { line = line; kind = kind }) _ _ _ _ (sym (e ∙ ap (λ (m : BuilderState). m.recorded) h.1))
     (sym h.2)
 
--- nothing more is taken where nothing is left
+-- where no tokens are left, the progress stays
 pub none_ahead : (nets : List Net) (timed : BodyFold BuilderState) (dump_section : Option ℕ) (place : BodyPlace)
     → (reached_before builder_change builder_instant nets (state_at timed dump_section) (body_from place [])).progress
     ≡ timed
@@ -75,7 +75,7 @@ none_ahead nets timed dump_section (code_of_vector line digits) = refl
 none_ahead nets timed dump_section (code_of_foreign line) = refl
 none_ahead nets timed dump_section (in_comment line) = refl
 
--- a fault at the end
+-- a fault at the end of the text is the fault of the reading
 pub end_stops : (line : ℕ) (kind : FaultKind) (made : BuilderState) (recorded : Trace) (time : ℕ)
     (r : Reached BuilderState) → recorded
     ≡ made.recorded
@@ -91,7 +91,7 @@ end_stops line kind made recorded time r e h =
     (ap (λ (p : BodyFold BuilderState). p.accumulator.recorded) none ∙ ap (λ (m : BuilderState). m.recorded) (sym h.1)
     ∙ sym e) (ap (λ (p : BodyFold BuilderState). p.time) none ∙ sym h.2)
 
--- no fault at the end
+-- without a fault at the end, the reading is what was recorded
 pub ended_reading : (recorded : Trace) (made : BuilderState) (r : Reached BuilderState) → recorded ≡ made.recorded
     → ((rest_until_fault builder_change builder_instant r [] []).outcome >>= at_end builder_instant) ≡ Ok made
     → reading_until_fault (rest_until_fault builder_change builder_instant r [] [])
@@ -114,7 +114,7 @@ module _ (slots : ℕ) (bound_groups : List BoundGroup) (h : Headed) (m : Builde
     abbrev read : UntilFault BuilderState
     read = until_fault builder_change builder_instant h.nets (at_first m) items
 
-    -- what is recorded before the first fault
+    -- the recording before the first fault
     recorded_before : (reached_before builder_change builder_instant h.nets (at_first m)
         items).progress.accumulator.recorded
         ≡ recording slots bound_groups (instants_before_fault h.nets h.body)
@@ -132,7 +132,7 @@ module _ (slots : ℕ) (bound_groups : List BoundGroup) (h : Headed) (m : Builde
         ∙ made.recorded
         ∙ ap (λ (n : ℕ). recording slots bound_groups all n) before.2
 
-    -- the last time before it
+    -- the last time before the first fault
     time_before : read.reached.progress.time ≡ last_time_before_fault h.nets h.body
     time_before = reached_time builder_change builder_instant h.nets (at_first m) items
 
@@ -160,11 +160,11 @@ module _ (slots : ℕ) (bound_groups : List BoundGroup) (h : Headed) (m : Builde
         begun) e)
         ∙ stopped_as fault _ _ _ _ (sym recorded_before) (sym time_before)
 
-    -- a body comes to what is made of it
+    -- the reading of a body by definition is that by the builder
     pub body_read : body_reading slots bound_groups h ≡ reading_until_fault read
     body_read = by_taken (fold_body builder_change builder_instant h.nets m h.body) refl
 
--- what it comes to are steps that follow one another
+-- the recorded steps of a body are well formed
 body_formed : (slots : ℕ) (bound_groups : List BoundGroup) (h : Headed) → malformed_step
     (body_reading slots bound_groups h).recorded ≡ None
 body_formed slots bound_groups h = by_instants (instants_from h.nets h.body) refl
@@ -178,7 +178,7 @@ body_formed slots bound_groups h = by_instants (instants_from h.nets h.body) ref
         well_formed slots bound_groups all (length all - 1) (omega arith) (before_fault_rises h.nets
         (body_from ready h.body))
 
--- so are they whatever follows a place of which nothing is read yet
+-- the recorded steps are well formed for any tokens after a place at which nothing is read yet
 pub begun_formed : (slots : ℕ) (bound_groups : List BoundGroup) (made : BuilderState) (r : Reached BuilderState)
     (tokens more : List Token) → IsBegun slots bound_groups made
     → r.progress ≡ record { accumulator = made; time = 0; has_instant = false } → r.dump_section ≡ None → r.place
@@ -190,7 +190,7 @@ begun_formed slots bound_groups made r tokens more begun progress dump_section p
     rw (progress, dump_section, place) (subst (λ (reading : TextReading). malformed_step reading.recorded ≡ None)
     (body_read slots bound_groups h made begun) (body_formed slots bound_groups h))
 
--- the same, where nothing of it is read yet
+-- the reading of a body by definition, or the fault of the binding, is that from a place at which nothing is read yet
 pub begun_reading : (own : Option BindFault) (slots : ℕ) (bound_groups : List BoundGroup) (head : Headed)
     (made : BuilderState)
     (r : Reached BuilderState) (first more : List Token) → IsBegun slots bound_groups made → r.nets ≡ head.nets
@@ -205,7 +205,7 @@ begun_reading own slots bound_groups head made r first more begun nets progress 
 
 -- ---- a text
 
--- a body whose binding fits, and one whose doesn't
+-- the reading after the definitions where the binding fits, and where it has a fault
 pub reading_fits : (b : BoundLines) (h : Headed) (variables : List Variable) (bound_groups : List BoundGroup)
     → bound_groups_in variables b.assignments ≡ Ok bound_groups
     → reading_behind b (defined h variables) ≡ or_fault None (body_reading b.slots bound_groups h)
@@ -221,7 +221,7 @@ reading_refused b h variables own e = ap (λ (r : Result (List BoundGroup) BindF
 abbrev read_of : BoundLines → Result (Defined (List Variable)) VcdFault → Result TextReading CaptureFault
 read_of b r = or_dump r >>= reading_behind b
 
--- a fault of the definitions
+-- a fault of the definitions is the fault of the reading
 pub head_fails : (b : BoundLines) (text : List ℕ) (seen : List Searched) (fault : VcdFault) → ReadFails fault
     (header_of with_variable text (nothing_declared seen) (tokens text)) → CaptureFailsBy (Dump fault)
     (reading_of_text b text)
@@ -236,7 +236,7 @@ head_fails b text seen fault h =
     by_kind line Memory e = e
     by_kind line kind e = ap (read_of b) e
 
--- definitions that don't end
+-- definitions that don't end in `front` are a fault of the dump `front`
 pub unfinished_reading : (b : BoundLines) (front : List ℕ) (seen : List Searched) (fault : VcdFault)
     → header_of with_variable front (nothing_declared seen) (tokens front) ≡ Err fault
     → IsMetAtTheEnd fault.kind → reading_of_text b front ≡ Err (Dump fault)
@@ -250,7 +250,7 @@ unfinished_reading b front seen fault is met = by_kind fault.line fault.kind is 
         is
     by_kind line kind is met = absurd met
 
--- the body after the definitions
+-- the reading of a text is that of the body after its definitions
 pub reading_is : (b : BoundLines) (text : List ℕ) (h : Headed) (first seen : List Searched) → header_of with_variable
     text (nothing_declared first) (tokens text) ≡ Ok (defined h seen)
     → (variables : List Variable) × (seen ≡ fold with_variable first variables)

@@ -13,11 +13,11 @@ abbrev pub BindFailsAs : {Y : Type 0} → ℕ → BindFaultKind → Result Y Bin
 BindFailsAs line Memory answer = line ≡ 0
 BindFailsAs line kind answer = answer ≡ Err (record { line = line; kind = kind })
 
--- the fault is the answer, unless memory ran out
+-- `answer` is this fault, unless it is want of memory, which is at line 0
 abbrev pub BindFails : {Y : Type 0} → BindFault → Result Y BindFault → Type 0
 BindFails fault answer = BindFailsAs fault.line fault.kind answer
 
--- what a function returned, seen by view, is the answer, unless memory ran out
+-- what a function returned agrees with `answer`: its value, seen by `view`, or its fault, unless memory ran out
 abbrev pub BindGives : {X Y : Type 0} → (X → Y) → Result X BindFault → Result Y BindFault → Type 0
 BindGives view (Ok x) answer = answer ≡ Ok (view x)
 BindGives view (Err fault) answer = BindFails fault answer

@@ -70,7 +70,7 @@ bound b s = do
   new ← once b.assignments group
   Ok (with_assignment b s.line new words.1)
 
--- the first fault of some lines, or all that they bind
+-- the binding with the assignments of all statements, or the first fault
 unfoldable pub bound_all : BoundLines → List StatementText → Result BoundLines BindFault
 bound_all b [] = Ok b
 bound_all b (s ∷ ss) = do
@@ -82,7 +82,7 @@ bound_all b (s ∷ ss) = do
 abbrev pub is_bound : List Assignment → ℕ → Bool
 is_bound assignments l = list_any (λ (a : Assignment). holds a.group l) assignments
 
--- the least line of the backplane that nothing is bound to
+-- the line of the backplane with the least number that isn't bound
 abbrev pub least_unbound : BoundLines → Option ℕ
 least_unbound b = least (λ l. has_line b.slots l && not (is_bound b.assignments l)) 0 line_count
 
@@ -90,26 +90,26 @@ abbrev pub unless_unbound : ℕ → BoundLines → Option ℕ → Result BoundLi
 unless_unbound line b None = Ok b
 unless_unbound line b (Some l) = Err (record { line = line; kind = Unbound l })
 
--- each line has to be bound at the end of the text, which is at this line
+-- the binding `b`, if it binds each line of the backplane; else the fault is at `line`, the last line of the text
 abbrev pub all_bound : ℕ → BoundLines → Result BoundLines BindFault
 all_bound line b = unless_unbound line b (least_unbound b)
 
--- the lines of a group, bound to high for good where the text, which ends at this line, names none of them
+-- binds `group` to a constant high, unless a line of it is bound; `line` is the last line of the text
 abbrev pub with_high : ℕ → Group → BoundLines → BoundLines
 with_high line group b = if is_taken b.assignments group then b else with_assignment b line group (codes "1")
 
--- what a text may leave out: the data lines, and the system reset
+-- binds the data lines and the system reset, where the text leaves them out
 abbrev pub with_left_out : ℕ → BoundLines → BoundLines
 with_left_out line b = with_high line reset_group (with_high line data_group b)
 
--- and each other line has to be bound
+-- binds the lines that may be left out; each other line has to be bound
 abbrev pub finished : ℕ → BoundLines → Result BoundLines BindFault
 finished line b = all_bound line (with_left_out line b)
 
 abbrev pub no_assignments : ℕ → BoundLines
 no_assignments slots = record { slots = slots; assignments = [] }
 
--- what the first line that says something and the others bind
+-- the binding that these statements say, or the first fault; `line` is the last line of the text
 abbrev pub binding_from : ℕ → List StatementText → Result BoundLines BindFault
 binding_from line [] = Err (record { line = line; kind = SlotsFirst })
 binding_from line (s ∷ ss) = do

@@ -42,19 +42,19 @@ selected net selection index =
     if selects index selection then Some (bit_range net (distance index.0 selection.0)
     (distance selection.0 selection.1 + 1)) else None
 
--- the bits of a net that a selection means, for a variable of this size and index: all, where there is none
+-- the bits of `net` that a selection selects of a variable with `size` and `index`: all, where there is no selection
 abbrev pub bits_meant : Option (ℕ × ℕ) → ℕ → ℕ → Option (ℕ × ℕ) → Option BitRange
 bits_meant None net size index = Some (bit_range net 0 size)
 bits_meant (Some selection) net size index = option_and_then (selected net selection) index
 
--- a candidate of a source: a variable of its path, whole or in part
+-- the bits of the variable `v` that `named` selects, if `v` has its path
 abbrev pub candidate : VariableSelector → Variable → Option BitRange
 candidate named v = if bytes_eq v.path named.path then bits_meant named.selection v.net v.size v.index else None
 
 abbrev pub same_bits : BitRange → BitRange → Bool
 same_bits a b = a.net == b.net && a.first == b.first && a.count == b.count
 
--- candidates that are the same bits are one
+-- the bits of all candidates, if they are the same bits
 abbrev pub only : List BitRange → Result BitRange BindFaultKind
 only [] = Err NoSuchPath
 only (bits ∷ others) = if list_all (same_bits bits) others then Ok bits else Err AmbiguousPath
@@ -64,7 +64,7 @@ as_wide_as count bits = if bits.count == count then Ok bits else Err WrongWidth
 
 -- ---- the bound groups of a binding
 
--- bits that were found, for `count` lines
+-- the bits `found` as the source of `count` lines, if they are as many
 abbrev pub source_by : ℕ → Result BitRange BindFaultKind → Result GroupSource BindFaultKind
 source_by count found = do
   bits ← found
@@ -91,7 +91,7 @@ bound_groups_in variables (a ∷ as') = do
 
 -- ---- where the level of one line comes from
 
--- the first line of a group has its leftmost bit
+-- the source of the line at `place` in a group; the first line has the leftmost bit
 abbrev pub source_on : ℕ → GroupSource → LineSource
 source_on place (Fixed level) = Always level
 source_on place (Bits bits) = Bit (record { net = bits.net; place = bits.first + place })
@@ -101,6 +101,6 @@ bound_group_source [] l = None
 bound_group_source (w ∷ bound_groups) l = if holds w.group l then Some
     (source_on (w.group.first - l) w.source) else bound_group_source bound_groups l
 
--- nothing, where the backplane lacks the line
+-- the source of the line `l`, if a backplane of `slots` slots has the line
 abbrev pub line_source : ℕ → List BoundGroup → ℕ → Option LineSource
 line_source slots bound_groups l = if has_line slots l then bound_group_source bound_groups l else None

@@ -17,7 +17,7 @@ pub record BuilderState : Type 0 where
   pub progress : RecorderLevels
   pub recorded : Trace
 
--- a net gets these bits
+-- `net` gets the value `bits`
 abbrev pub builder_change : BuilderState → ℕ → List Bit → BuilderState
 builder_change m net bits = record m {
   progress = record m.progress {
@@ -26,7 +26,7 @@ builder_change m net bits = record m {
   };
 }
 
--- an instant ends
+-- an instant ends at `time`
 abbrev pub builder_instant : BuilderState → ℕ → BuilderState
 builder_instant m time =
     record m {
@@ -34,7 +34,7 @@ builder_instant m time =
       recorded = with_steps m.recorded (step_between time m.progress.shown m.progress.now);
     }
 
--- nothing is taken yet, for lines of `slots` slots with these bound groups
+-- no change is taken yet: the recording of `m` has no step, and its opening is that of `bound_groups` on `slots` slots
 pub record IsBegun (slots : ℕ) (bound_groups : List BoundGroup) (m : BuilderState) : Type 0 where
   pub first : (instants : List Instant) → m.recorded.opening ≡ levels_after slots bound_groups instants 0
   pub none : m.recorded.steps ≡ []

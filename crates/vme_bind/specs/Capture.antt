@@ -26,18 +26,18 @@ use Rattle.vme_bind.specs.declared.bound_groups.LineSource.TheVariants.{Always, 
 use Rattle.vme_bind.specs.Binding.{BoundLines}
 use Rattle.vme_bind.specs.BoundGroups.{bound_groups_in, line_source}
 
--- what a bit says of a line: a bused line floats high, and a net to nowhere
+-- the level of the line `l` for a bit: z is high on a bused line, and unknown on a net of a daisy chain
 abbrev pub level_of : ℕ → Bit → Level
 level_of l Zero = Low
 level_of l One = High
 level_of l X = Unknown
 level_of l Z = if is_net l then Unknown else High
 
--- what the bit at a place says of a line, where the leftmost bit is at place 0
+-- the level of the line `l` for the bit at `place`, where the leftmost bit is at place 0; a bit that isn't there is x
 abbrev pub level_in : ℕ → ℕ → List Bit → Level
 level_in l place bits = level_of l (get_or bits place X)
 
--- the bits of the last of these values that is of this net
+-- the bits of the last of these values that is one of `net`
 abbrev pub last_bits : ℕ → List Value → Option (List Bit)
 last_bits net [] = None
 last_bits net (v ∷ values) = option_or (last_bits net values) (if v.net == net then Some v.bits else None)
@@ -51,15 +51,15 @@ time_of None = 0
 time_of (Some instant) = instant.time
 
 module _ (slots : ℕ) (bound_groups : List BoundGroup) (instants : List Instant) where
-  -- the bits that a net has at an instant, if it changes there; the first instant is 0
+  -- the bits that `net` gets at instant i, if it changes there; the first instant is 0
   abbrev pub bits_at : ℕ → ℕ → Option (List Bit)
   bits_at net i = last_bits net (values_of (slice_get instants i))
 
-  -- the last of the first n instants at which a net changes
+  -- the last of the first n instants at which `net` changes
   abbrev pub last_change : ℕ → ℕ → Option ℕ
   last_change net n = greatest (λ i. is_some (bits_at net i)) 0 n
 
-  -- what its source says of a line after the first n instants
+  -- the level of the line `l` after the first n instants, by the line's source
   abbrev pub level_by : ℕ → ℕ → Option LineSource → Level
   level_by n l None = Unknown
   level_by n l (Some (Always level)) = level
@@ -74,7 +74,7 @@ module _ (slots : ℕ) (bound_groups : List BoundGroup) (instants : List Instant
   unfoldable pub changes_at : ℕ → ℕ → Bool
   changes_at n l = not (same_level (level_after n l) (level_after (n + 1) l))
 
-  -- some line does
+  -- some line changes at instant n
   unfoldable pub is_step : ℕ → Bool
   is_step n = any (changes_at n) 0 line_count
 
@@ -102,7 +102,7 @@ unfoldable pub recording_of : BoundLines → Contents → Result Trace BindFault
 recording_of b dump = bound_groups_in dump.variables b.assignments
     >>= λ bound_groups. Ok (recording b.slots bound_groups dump.instants (length dump.instants))
 
--- a recording has at most `capture_limit` steps
+-- the recording `t`, if it has at most `capture_limit` steps, or else `TooManySteps`
 abbrev pub limited : Trace → Result Trace BindFault
 limited t = if nat_lt capture_limit (length t.steps) then Err (record { line = 0; kind = TooManySteps }) else Ok t
 

@@ -1,4 +1,4 @@
--- The lines that a name stands for.
+-- The lines that a name denotes.
 use Rattle.std.specs.Prelude.{ℕ, ◌+◌, Bool, ◌&&◌, nat_le, nat_lt, if◌then◌else◌, List, codes, bytes_eq, Option, Some}
 use Rattle.std.specs.Prelude.{None, option_and_then}
 use Rattle.vme_trace.specs.LineNumbers.{AM, A, BR, D, grant, iack, SYSRESET, has_line}
@@ -25,11 +25,11 @@ holds g l = nat_le l g.first && nat_lt g.first (l + g.count)
 abbrev pub share : Group → Group → Bool
 share g h = nat_lt g.first (h.first + g.count) && nat_lt h.first (g.first + h.count)
 
--- a line by its own name, if the backplane has it
+-- the group of the line `l` alone, if a backplane of `slots` slots has it
 abbrev pub single : ℕ → ℕ → Option Group
 single slots l = if has_line slots l then Some (down_from l 1) else None
 
--- the lines that `name` stands for on a backplane of `slots` slots, the leftmost first
+-- the lines that `name` denotes on a backplane of `slots` slots, the leftmost first
 abbrev pub group_named : ℕ → List ℕ → Option Group
 group_named slots name =
     if bytes_eq name (codes "AM") then Some (down_from (AM 5) 6)

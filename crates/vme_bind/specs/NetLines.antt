@@ -1,4 +1,4 @@
--- Which lines the bits of a net are the levels of.
+-- The lines that take their levels from the bits of a net.
 use Rattle.std.specs.Prelude.{ℕ, zero, suc, Bool, false, ◌==◌, List, [], ◌∷◌, map, Option, Some, None}
 use Rattle.std.specs.Global.{Vec}
 use Rattle.vme_trace.specs.Instants.{those}
@@ -18,7 +18,7 @@ line_bits_on (line_bits ∷ nets) (suc net) = line_bits_on nets net
 abbrev pub line_bits_of : NetLines → ℕ → List LineBit
 line_bits_of line_bits net = line_bits_on line_bits.nets.items net
 
--- a bit of the net is the source
+-- the source is a bit of `net`
 abbrev pub is_on : ℕ → Option LineSource → Bool
 is_on net None = false
 is_on net (Some (Always level)) = false
@@ -37,6 +37,6 @@ module _ (slots : ℕ) (bound_groups : List BoundGroup) where
   abbrev pub line_bit_at : ℕ → LineBit
   line_bit_at l = record { line = l; place = place_in (line_source slots bound_groups l) }
 
-  -- the lines below this one whose bits are of the net, in their order
+  -- the line bits of `net` on the lines below `end`, by ascending line number
   abbrev pub line_bits_below : ℕ → ℕ → List LineBit
   line_bits_below net end = map line_bit_at (those (is_line_bit net) 0 end)

@@ -21,7 +21,7 @@ use Rattle.vme_bind.specs.BoundGroups.{candidate, same_bits, source_by, bound_gr
 
 -- ---- the only candidate
 
--- what is found, and then perhaps one candidate more
+-- `found` with one candidate more, if there is one
 abbrev pub with_bits : PathMatch → Option BitRange → PathMatch
 with_bits found None = found
 with_bits Nothing (Some next) = Only next
@@ -46,7 +46,7 @@ candidate_of (Named named) v = candidate named v
 abbrev pub with_candidate : Variable → Searched → Searched
 with_candidate v s = record s { found = with_bits s.found (candidate_of s.assignment.source v) }
 
--- one variable more
+-- what is found after one variable more
 abbrev pub with_variable : List Searched → Variable → List Searched
 with_variable seen v = map (with_candidate v) seen
 
@@ -65,7 +65,7 @@ source_of count found (Named named) = source_by count (only_found found)
 abbrev pub bound_group_of : Searched → Result BoundGroup BindFault
 bound_group_of s = bound_group_by s.assignment (source_of s.assignment.group.count s.found s.assignment.source)
 
--- the bound groups of all, or the first fault
+-- the bound groups of all assignments, or the first fault
 unfoldable pub bound_groups_of : List Searched → Result (List BoundGroup) BindFault
 bound_groups_of [] = Ok []
 bound_groups_of (s ∷ seen) = do
@@ -75,21 +75,22 @@ bound_groups_of (s ∷ seen) = do
 
 -- ---- the open scopes that a path begins with
 
--- a text begins with these bytes
+-- `text` begins with `front`
 abbrev pub begins_with : List ℕ → List ℕ → Bool
 begins_with front text = bytes_eq (take (length front) text) front
 
--- the path that is sought, if one is
+-- the path to find; empty for a constant
 abbrev pub path_to_find : LevelSource → List ℕ
 path_to_find (Constant level) = []
 path_to_find (Named named) = named.path
 
--- with how many of the open scopes, from the outermost, a path begins
+-- the number of open scopes, from the outermost, that `path` begins with
 unfoldable pub scopes_matched : List ℕ → List (List ℕ) → ℕ
 scopes_matched path [] = 0
 scopes_matched path (name ∷ scopes) = if begins_with (path_in (name ∷ scopes)) path then length scopes
     + 1 else scopes_matched path scopes
 
+-- the search's `matched_scopes` is the number of the open `scopes` that its path begins with
 abbrev pub HasOpened : List (List ℕ) → PathSearch → Type 0
 HasOpened scopes s = s.matched_scopes ≡ scopes_matched (path_to_find s.assignment.now.source) scopes
 

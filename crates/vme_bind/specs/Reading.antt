@@ -1,14 +1,15 @@
--- How far a text is read.
+-- The rest of a text that is read in part.
 use Rattle.std.specs.Prelude.{ℕ, ◌+◌, List, [], ◌∷◌, count_by}
 use Rattle.std.specs.List.{slice_split}
 use Rattle.vme_bind.specs.declared.statements.Statement.{Statement}
 use Rattle.vme_bind.specs.declared.statements.Statements.{Statements}
 use Rattle.vme_bind.specs.Text.{is_feed, words, StatementText, statements_from}
 
--- what the rest of a text says, and the line that it ends in
+-- the statements of the rest of a text
 abbrev pub left : Statements → List StatementText
 left s = statements_from s.line (slice_split is_feed s.rest.now)
 
+-- the number of the last line of the text
 abbrev pub last_line : Statements → ℕ
 last_line s = s.line + count_by is_feed s.rest.now
 

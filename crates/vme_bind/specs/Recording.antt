@@ -15,34 +15,34 @@ use Rattle.vme_bind.specs.declared.net_lines.NetLines.{NetLines}
 use Rattle.vme_bind.specs.Capture.{level_in}
 use Rattle.vme_bind.specs.NetLines.{line_bits_of}
 
--- the levels that the steps so far leave, and those after some values of the instant at hand
+-- `shown`: the levels after the steps so far; `now`: those after the values so far, also of the current instant
 pub record RecorderLevels : Type 0 where
   pub shown : Levels
   pub now : Levels
 
--- the steps so far leave these levels, and no value came after them
+-- `shown` and `now` are both `v`: no line has another level since the last step
 abbrev pub all_of : Levels → RecorderLevels
 all_of v = record { shown = v; now = v }
 
--- the end of an instant, whatever its time: its values are after the last step
+-- the end of an instant, whatever its time: `now` is then shown
 abbrev pub end_of : RecorderLevels → ℕ → RecorderLevels
 end_of p time = all_of p.now
 
--- a step, or none
+-- an optional step as a list
 abbrev pub step_in : Option Step → List Step
 step_in None = []
 step_in (Some step) = step ∷ []
 
--- a line of the backplane
+-- `l` is a line of a backplane of `slots` slots
 pub record IsLine (slots l : ℕ) : Type 0 where
   pub below : l < line_count
   pub exists : IsTrue (has_line slots l)
 
--- a line has another level
+-- the line `l` has different levels in `a` and `b`
 abbrev pub differs : Levels → Levels → ℕ → Bool
 differs a b l = not (same_level (level_at a l) (level_at b l))
 
--- both are levels of one backplane, and each line on which they differ lies from the first of some lines to the last
+-- `shown` and `now` are levels of one backplane, and differ at most on its lines from `first` to `last`
 pub record DifferWithin (shown now : Levels) (first last : ℕ) : Type 0 where
   pub slots : now.slots ≡ shown.slots
   pub shown_all : length shown.levels ≡ line_count
@@ -52,34 +52,34 @@ pub record DifferWithin (shown now : Levels) (first last : ℕ) : Type 0 where
   pub low : (l : ℕ) → differs shown now l ≡ true → first ≤ l
   pub high : (l : ℕ) → differs shown now l ≡ true → l ≤ last
 
--- what the bits of a net do to the line of a line bit
+-- the change of the line of `line_bit`, where its net has the value `bits`
 abbrev pub line_change : List Bit → LineBit → Change
 line_change bits line_bit = record { line = line_bit.line; level = level_in line_bit.line line_bit.place bits }
 
--- what some values do to the levels
+-- the levels after the values of an instant, in their order
 abbrev pub valued : NetLines → List Value → Levels → Levels
 valued line_bits [] now = now
 valued line_bits (v ∷ values) now = valued line_bits values
     (changed now (map (line_change v.bits) (line_bits_of line_bits v.net)))
 
--- the lines of all line bits are the backplane's
+-- the lines of all line bits are on a backplane of `slots` slots
 abbrev pub AreLines : ℕ → List LineBit → Type 0
 AreLines slots line_bits = All (λ (line_bit : LineBit). IsLine slots line_bit.line) line_bits
 
 abbrev pub change_to : Levels → ℕ → Change
 change_to now l = record { line = l; level = level_at now l }
 
--- the changes from some levels to others, in the order of their lines
+-- the changes from the levels `shown` to the levels `now`, by ascending line number
 abbrev pub changes_between : Levels → Levels → List Change
 changes_between shown now = map (change_to now) (those (differs shown now) 0 line_count)
 
--- the step from some levels to others, if they differ
+-- the step at `time` from the levels `shown` to the levels `now`, if they differ
 abbrev pub step_between : ℕ → Levels → Levels → List Step
 step_between time shown now =
     if any (differs shown now) 0 line_count then record { time = time; changes = changes_between shown now }
     ∷ [] else []
 
--- the step that ends the instant at hand, if one ends
+-- the step at the end of the current instant, if that ends and some line has another level
 abbrev pub ended_steps : RecorderLevels → Option ℕ → List Step
 ended_steps p None = []
 ended_steps p (Some time) = step_between time p.shown p.now

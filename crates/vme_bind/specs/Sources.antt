@@ -17,7 +17,7 @@ path_and_selection word (Some parts) = elim (index_between parts.1) [
 abbrev pub variables_in : List ℕ × Option (ℕ × ℕ) → LevelSource
 variables_in parts = Variable (record { path = parts.0; selection = parts.1 })
 
--- what is after the equals sign: a level for good, or else variables
+-- the source that the word after the equals sign says: a constant level, or else the bits of a variable
 abbrev pub source_of : List ℕ → LevelSource
 source_of word =
     if bytes_eq word (codes "0") then Constant Low

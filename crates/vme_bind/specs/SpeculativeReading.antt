@@ -1,4 +1,4 @@
--- The recording of a dump whose pieces are read ahead of what is before them, and joined in order.
+-- The recording of a dump whose pieces are read before the text that precedes them, and joined in order.
 use Rattle.std.specs.Prelude.{◌≡◌, ℕ, ◌<◌, Bool, if◌then◌else◌, List, [], ◌++◌, length, Option}
 use Rattle.vme_trace.specs.Followed.{with_steps}
 use Rattle.vme_trace.specs.Levels.{Levels, level_at}
@@ -18,13 +18,13 @@ use Rattle.vme_bind.specs.Recording.{RecorderLevels, all_of, end_of}
 use Rattle.vme_bind.specs.TextPieces.{TextReached, outcome_ahead}
 use Rattle.vme_bind.specs.AssignedLines.{is_assigned}
 
--- how far the recording of a dump is made, but for what took it: the levels alone
+-- how far the recording of a dump is made, with the levels alone instead of the recording
 pub record SpeculativeReached : Type 0 where
   pub fault : Option BindFault
   pub line_bits : NetLines
   pub body : Reached RecorderLevels
 
--- the same after this recording
+-- `w` with the recording `t`
 abbrev pub with_recording : Trace → SpeculativeReached → TextReached
 with_recording t w =
     record {
@@ -33,13 +33,13 @@ with_recording t w =
           w.body;
     }
 
--- a piece that was read ahead, as if these levels were before it; and of which lines it tells a level
+-- a piece that was read ahead, from the assumed levels `from`, and the lines that it assigns a level to
 pub record ReadSpeculatively : Type 0 where
   pub from : Levels
   pub detached : ReadDetached RecorderLevels
   pub assigned : List Bool
 
--- where the first levels are before a piece, the second have its own on each line of which it tells a level
+-- `after` has the piece's own level on each line that the piece assigns one to, and that of `before` on each other line
 pub record AreLevelsBehind (a : ReadSpeculatively) (before after : Levels) : Type 0 where
   pub slots : after.slots ≡ before.slots
   pub all : length after.levels ≡ line_count
@@ -48,29 +48,29 @@ pub record AreLevelsBehind (a : ReadSpeculatively) (before after : Levels) : Typ
       else level_at before
       l)
 
--- what is made after these levels, and this recording
+-- the builder at the levels `v`, after the recording `t`
 abbrev pub builder_behind : NetLines → Levels → Trace → BuilderState
 builder_behind line_bits v t = record { line_bits = line_bits; progress = all_of v; recorded = t }
 
--- what was made of a piece, whose steps this recording has
+-- the piece `a` with a builder in place of its levels, whose recording is `t`
 abbrev pub builder_ahead : NetLines → Trace → ReadDetached RecorderLevels → ReadDetached BuilderState
 builder_ahead line_bits t a =
     detached_with (record { line_bits = line_bits; progress = a.progress.accumulator; recorded = t }) a
 
--- these bytes, which begin on this line, lead from the first levels to the second, whatever is recorded
+-- reading `bytes`, which begin on `line`, from the levels `before` leaves the levels `after`, whatever was recorded
 abbrev pub LeadTo : List Net → NetLines → List ℕ → ℕ → Levels → Levels → Type 0
 LeadTo nets line_bits bytes line before after =
     (t : Trace) (m : ReadDetached BuilderState) → m.first_line ≡ line
     → IsReadDetached builder_change builder_instant nets bytes (builder_behind line_bits before t) m
     → m.progress.accumulator.progress.now ≡ after
 
--- where other levels are before a piece, it leaves its own on the lines of which it tells one, and those on the rest
+-- from any levels `before`, reading `bytes` leaves the levels that `AreLevelsBehind` says of the piece `a`
 abbrev pub DeterminesLines : List Net → NetLines → List ℕ → ReadSpeculatively → Type 0
 DeterminesLines nets line_bits bytes a =
     (before after : Levels) → length before.levels ≡ line_count → AreLevelsBehind a before after
     → LeadTo nets line_bits bytes a.detached.first_line before after
 
--- these bytes were read ahead, for these nets and their lines, and these are the steps of what was recorded
+-- reading `bytes` ahead, for `nets` and their lines, gave the piece `a` and the steps of `recorded`
 pub record IsReadSpeculatively
     (nets : List Net) (line_bits : NetLines) (bytes : List ℕ) (recorded : Trace) (a : ReadSpeculatively) : Type 0 where
   pub read : IsReadDetached builder_change builder_instant nets bytes
@@ -78,12 +78,13 @@ pub record IsReadSpeculatively
       (builder_ahead line_bits recorded a.detached)
   pub assigned : DeterminesLines nets line_bits bytes a
 
--- a piece that was read ahead fits after what is read so far, which leaves the levels that it was read from
+-- the piece `a` fits after what is read so far, which leaves the levels that `a` was read from
 pub record MayFollowLevels (w : SpeculativeReached) (a : ReadSpeculatively) : Type 0 where
   pub place : MayFollow w.body a.detached
   pub levels : entered end_of w.body.progress.accumulator (ended_at w.body.progress a.detached.time) ≡ all_of a.from
 
--- a piece is joined: how far the recording is made after it. The step, if any, ends the instant before it.
+-- A piece with `bytes`, read from `levels` with the steps of `recorded`, is joined to `before`, which gives `after`.
+-- The step in `ended`, if any, ends the instant before the piece.
 pub record IsJoined
     (bytes : List ℕ) (recorded : Trace) (levels : Levels) (before after : SpeculativeReached) (ended : List Step)
     : Type 0 where
@@ -93,7 +94,8 @@ pub record IsJoined
   pub line : after.body.line ≡ line_behind before.body.line bytes
   -- the step leads to the levels that the piece was read from
   pub leads : levels_after before.body.progress.accumulator.shown ended ≡ levels
-  -- after any recording, what comes of the piece and more is what comes of the steps and more
+  -- after any recording `t`, reading the piece and then `more` gives what reading `more` gives after the steps of
+  -- `ended` and of `recorded`
   pub rest : (t : Trace) (more : List Token)
       → outcome_ahead (with_recording t before) (tokens_from before.body.line bytes) more
       ≡ outcome_ahead (with_recording (with_steps t (ended ++ recorded.steps)) after) [] more

@@ -26,31 +26,31 @@ abbrev pub or_dump : {A : Type 0} → Result A VcdFault → Result A CaptureFaul
 or_dump (Ok x) = Ok x
 or_dump (Err fault) = Err (Dump fault)
 
--- the recording that bound groups make of the body after some definitions
+-- the recording that `bound_groups` make of the body after the definitions `h`
 abbrev pub body_recording : ℕ → List BoundGroup → Headed → Result Trace CaptureFault
 body_recording slots bound_groups h = or_dump (instants_from h.nets h.body)
     >>= λ instants. Ok (recording slots bound_groups instants (length instants))
 
--- what a binding makes of what reading a dump gave: a fault of the dump comes first
+-- the recording that a binding makes of the result of reading a dump, within the limit: a fault of the dump comes first
 abbrev pub capture_read : BoundLines → Result Contents VcdFault → Result Trace CaptureFault
 capture_read b (Ok dump) = or_binding (capture_of b dump)
 capture_read b (Err fault) = Err (Dump fault)
 
--- the recording that it makes of it, however long it is
+-- the recording that a binding makes of the result of reading a dump, however long it is
 abbrev pub recording_read : BoundLines → Result Contents VcdFault → Result Trace CaptureFault
 recording_read b (Ok dump) = or_binding (recording_of b dump)
 recording_read b (Err fault) = Err (Dump fault)
 
--- the recording that it makes of the body after some definitions
+-- the recording that a binding makes of the body after the definitions `d`, however long it is
 abbrev pub recording_behind : BoundLines → Defined (List Variable) → Result Trace CaptureFault
 recording_behind b d = recording_read b (instants_from d.head.nets d.head.body
     >>= λ instants. Ok (record { variables = d.variables; instants = instants }))
 
--- the recording that a binding makes of the dump that a text is, however long it is, or else the first fault
+-- the recording that a binding makes of the dump `text`, however long it is, or else the first fault
 unfoldable pub recording_of_text : BoundLines → List ℕ → Result Trace CaptureFault
 recording_of_text b text = recording_read b (dump_of text)
 
--- the same, where it isn't too long
+-- the recording that a binding makes of the dump `text`, if it isn't too long, or else the first fault
 unfoldable pub capture_of_text : BoundLines → List ℕ → Result Trace CaptureFault
 capture_of_text b text = capture_read b (dump_of text)
 
@@ -62,16 +62,16 @@ abbrev pub BindingFails : {Y : Type 0} → ℕ → BindFaultKind → Result Y Ca
 BindingFails line NoMemory answer = line ≡ 0
 BindingFails line kind answer = answer ≡ Err (Binding (record { line = line; kind = kind }))
 
--- the fault is the answer, unless memory ran out
+-- `answer` is this fault, unless it is want of memory, which is at line 0
 abbrev pub CaptureFailsBy : {Y : Type 0} → CaptureFault → Result Y CaptureFault → Type 0
 CaptureFailsBy (Dump fault) answer = DumpFails fault.line fault.kind answer
 CaptureFailsBy (Binding fault) answer = BindingFails fault.line fault.kind answer
 
--- what a function returned, seen by view, is the answer, unless memory ran out
+-- what a function returned agrees with `answer`: its value, seen by `view`, or its fault, unless memory ran out
 abbrev pub GivesBy : {X Y : Type 0} → (X → Y) → Result X CaptureFault → Result Y CaptureFault → Type 0
 GivesBy view (Ok x) answer = answer ≡ Ok (view x)
 GivesBy view (Err fault) answer = CaptureFailsBy fault answer
 
--- a fault that a binding has, and not want of memory
+-- a fault of a binding, i.e. any but want of memory
 abbrev pub IsOfBinding : BindFault → Type 0
 IsOfBinding fault = fault.kind ≡ NoMemory → ⊥

@@ -19,18 +19,18 @@ use Rattle.vme_bind.specs.TextCapture.{CaptureFailsBy, body_recording, or_dump, 
 use Rattle.vme_bind.specs.Binding.{BoundLines}
 use Rattle.vme_bind.specs.declared.bound_groups.BoundGroup.{BoundGroup}
 
--- what a body comes to by its definition: its own fault, or else that of the binding, or else the recording
+-- the result for a body by definition: its own fault, or else that of the binding, or else the recording
 abbrev pub body_outcome : Option BindFault → ℕ → List BoundGroup → Headed → Result Trace CaptureFault
 body_outcome None slots bound_groups h = body_recording slots bound_groups h
 body_outcome (Some fault) slots bound_groups h = or_dump (instants_from h.nets h.body) >>= λ instants. Err
     (Binding fault)
 
--- the same by what was made of it
+-- the result for a body by what was made of it: its own fault, or else that of the binding, or else the recording
 abbrev pub outcome : Option BindFault → Result BuilderState VcdFault → Result Trace CaptureFault
 outcome None body = or_dump body >>= λ made. Ok made.recorded
 outcome (Some fault) body = or_dump body >>= λ made. Err (Binding fault)
 
--- how far the recording of a dump is made: the fault that its binding has, and what is made of its body
+-- how far the recording of a dump is made: the fault of its binding, if it has one, and what is made of its body
 pub record TextReached : Type 0 where
   pub fault : Option BindFault
   pub body : Reached BuilderState
@@ -38,26 +38,28 @@ pub record TextReached : Type 0 where
 abbrev pub text_reached : {F : Type 0} {follows : Ghosts F} → TextPieces F follows → TextReached
 text_reached text = record { fault = text.fault; body = reached (λ made. made) text.pieces }
 
--- what comes of these tokens, and more after them, where the recording is made so far
+-- the result for `tokens` and then `more`, from the state `t`
 abbrev pub outcome_ahead : TextReached → List Token → List Token → Result Trace CaptureFault
 outcome_ahead t tokens more = outcome t.fault (rest_of builder_change builder_instant t.body tokens more
     >>= at_end builder_instant)
 
--- the same where the prefix of the text has this of the body
+-- the result for the bytes `piece` and then the tokens `more`, from the state of `text`
 abbrev pub outcome_from : {F : Type 0} {follows : Ghosts F} → TextPieces F follows → List ℕ → List Token
     → Result Trace CaptureFault
 outcome_from text piece more =
     let reached = text_reached text in
     outcome_ahead reached (tokens_from reached.body.line piece) more
 
--- what was read to leaves what comes of the text, whatever follows, or this fault does
+-- the result is a reader, whose `view` gives the result `before` for any `more`, or `before` gives this fault, unless
+-- memory ran out
 abbrev pub TextContinuesAs : {X Y : Type 0} → (X → List Token → Result Y CaptureFault) → Result X CaptureFault
     → (List Token → Result Y CaptureFault) → Type 0
 TextContinuesAs view (Ok x) before = (more : List Token) → before more ≡ view x more
 TextContinuesAs view (Err fault) before = (more : List Token) → CaptureFailsBy fault (before more)
 
--- what is begun of a text by its front is what comes of each text that goes on so, unless its definitions don't end in
--- it
+-- What beginning a text with the prefix `front` answers. The reader that is begun gives the result of each text that
+-- begins with `front`. If the visitor is handed back, the definitions don't end in `front`. A fault is the result of
+-- each text that begins with `front`, unless memory ran out.
 abbrev pub BeginsAs : {X Y Z : Type 0} → (List ℕ → Result Z CaptureFault) → (X → List Token → Result Z CaptureFault)
     → List ℕ → Result (Result X Y) CaptureFault → Type 0
 BeginsAs comes_of view front (Ok (Ok begun)) = (whole : List ℕ) (more : List Token) → tokens whole

@@ -1,4 +1,4 @@
--- What reading the text of a dump by a binding comes to, also where it has a fault.
+-- The result of reading the text of a dump by a binding, also where the text has a fault.
 use Rattle.std.specs.Prelude.{◌≡◌, ℕ, ◌-◌, List, [], length, Option, None, Some, Result, Ok, Err}
 use Rattle.vme_trace.specs.Followed.{with_steps}
 use Rattle.vme_trace.specs.Trace.{Trace}
@@ -29,14 +29,14 @@ use Rattle.vme_bind.specs.TextPieces.{TextReached, text_reached}
 use Rattle.vme_bind.specs.declared.text_state.TextPieces.{TextPieces}
 
 -- The recording of the instants of a body that are complete, the first fault of the body, if it has one, and the last
--- time that the body tells before that or its end: 0 where it tells none.
+-- time in the body before that fault or its end: 0 where there is none.
 pub record TextReading : Type 0 where
   pub recorded : Trace
   pub fault : Option VcdFault
   pub time : ℕ
 
--- all instants are complete where there is no fault; with one, those before it are, but for the last: no later time
--- follows that
+-- without a fault all instants are complete; with one, those before it are, except the last, which no later time
+-- follows
 abbrev pub reading_by : ℕ → List BoundGroup → Headed → Result (List Instant) VcdFault → TextReading
 reading_by slots bound_groups h (Ok instants) =
     record {
@@ -52,52 +52,55 @@ reading_by slots bound_groups h (Err fault) =
       time = last_time_before_fault h.nets h.body;
     }
 
+-- the reading of the body after the definitions `h`
 abbrev pub body_reading : ℕ → List BoundGroup → Headed → TextReading
 body_reading slots bound_groups h = reading_by slots bound_groups h (instants_from h.nets h.body)
 
--- what comes of the body after some definitions: a fault of the binding is met before it
+-- the result for the body after the definitions `d`: a fault of the binding comes before the reading
 abbrev pub reading_behind : BoundLines → Defined (List Variable) → Result TextReading CaptureFault
 reading_behind b d = or_binding (bound_groups_in d.variables b.assignments) >>= λ bound_groups. Ok
     (body_reading b.slots bound_groups d.head)
 
--- what comes of a whole text: a fault of its definitions is met first
+-- the result for a whole text: a fault of its definitions comes first
 unfoldable pub reading_of_text : BoundLines → List ℕ → Result TextReading CaptureFault
 reading_of_text b text = or_dump (header_of appended text (nothing_declared []) (tokens text)) >>= reading_behind b
 
--- ---- the same, as it is made
+-- ---- the reading, as it is made
 
--- where this is recorded of the instants that a later time follows, and this is the last time
+-- the reading of a body, where `complete` is recorded of the instants that a later time follows, and `time` is the last
+-- time
 abbrev pub reading_made : Trace → ℕ → Result BuilderState VcdFault → TextReading
 reading_made complete time (Ok made) = record { recorded = made.recorded; fault = None; time = time }
 reading_made complete time (Err fault) = record { recorded = complete; fault = Some fault; time = time }
 
--- what comes of a body that is read so
+-- the reading of a body, from the result of its items up to the first fault
 abbrev pub reading_until_fault : UntilFault BuilderState → TextReading
 reading_until_fault read = reading_made read.reached.progress.accumulator.recorded read.reached.progress.time
     (read.outcome >>= at_end builder_instant)
 
--- what comes of these tokens, and more after them, where the recording is made so far
+-- the reading of `tokens` and then `more`, from the state `t`
 abbrev pub reading_ahead : TextReached → List Token → List Token → TextReading
 reading_ahead t tokens more = reading_until_fault (rest_until_fault builder_change builder_instant t.body tokens more)
 
--- the same where the prefix of the text has this of the body: a fault of the binding is met before it
+-- the fault of the binding, if it has one, or else `reading`
 abbrev pub or_fault : Option BindFault → TextReading → Result TextReading CaptureFault
 or_fault None reading = Ok reading
 or_fault (Some fault) reading = Err (Binding fault)
 
+-- the reading of the bytes `piece` and then the tokens `more`, from the state of `text`, or the fault of the binding
 abbrev pub reading_from : {F : Type 0} {follows : Ghosts F} → TextPieces F follows → List ℕ → List Token
     → Result TextReading CaptureFault
 reading_from text piece more =
     let reached = text_reached text in
     or_fault reached.fault (reading_ahead reached (tokens_from reached.body.line piece) more)
 
--- the same reading, where this was recorded before it
+-- `reading` with the recording `t` before its steps
 abbrev pub following : Trace → TextReading → TextReading
 following t reading = record reading { recorded = with_steps t reading.recorded.steps }
 
 -- ---- what a reader answers
 
--- this is the first fault, and this is recorded before it, up to this time, unless memory ran out
+-- `reading` has this first fault, `recorded` before it and `time` as the last time, unless memory ran out
 abbrev pub StopsAs : ℕ → FaultKind → Trace → ℕ → TextReading → Type 0
 StopsAs line Memory recorded time reading = line ≡ 0
 StopsAs line kind recorded time reading =
@@ -107,13 +110,15 @@ abbrev pub IsStopped : {F : Type 0} → (F → Trace) → Stopped F → TextRead
 IsStopped recorded stopped reading = StopsAs stopped.fault.line stopped.fault.kind (recorded stopped.visitor)
     stopped.time reading
 
--- what was read to leaves what comes of the text, whatever follows, or it is read up to its first fault
+-- the result is a reader, whose `view` gives the reading `before` for any `more`, or that reading stops as `stopped`
+-- says
 abbrev pub ReadingContinuesAs : {F X : Type 0} → (X → List Token → TextReading) → (F → Trace) → Result X (Stopped F)
     → (List Token → TextReading) → Type 0
 ReadingContinuesAs view recorded (Ok x) before = (more : List Token) → before more ≡ view x more
 ReadingContinuesAs view recorded (Err stopped) before = (more : List Token) → IsStopped recorded stopped (before more)
 
--- what a text comes to whose end is met, up to this time
+-- the result at the end of a text: `reading` has no fault, what the visitor recorded, and `time` as the last time, or
+-- it stops as `stopped` says
 abbrev pub ReadingEndsAs : {F : Type 0} → (F → Trace) → ℕ → Result F (Stopped F) → TextReading → Type 0
 ReadingEndsAs recorded time (Ok visitor) reading =
     reading ≡ record { recorded = recorded visitor; fault = None; time = time }

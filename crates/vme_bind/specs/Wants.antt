@@ -15,7 +15,7 @@ abbrev is_want_of_binding : BindFaultKind → Bool
 is_want_of_binding NoMemory = true
 is_want_of_binding kind = false
 
--- whether a fault is none but want of memory
+-- whether a fault is want of memory
 abbrev pub is_want : CaptureFault → Bool
 is_want (Dump fault) = is_want_of_dump fault.kind
 is_want (Binding fault) = is_want_of_binding fault.kind

@@ -1,4 +1,4 @@
-//! Of which lines a piece of a dump tells a level.
+//! The lines that a piece of a dump assigns a level to.
 
 ghost use Rattle.std.specs.Prelude.{◌≡◌};
 ghost use Rattle.vme_bind.specs.AssignedLines.{is_assigned, none_assigned, assigned_too};
@@ -7,7 +7,7 @@ use crate::net_lines::LineBit;
 use std::marker::Model;
 use vme_trace::{LINE_COUNT, Line};
 
-/// Of which lines a level is told.
+/// The lines that a level was assigned to: a flag for each line number.
 #[derive(Drop)]
 pub(crate) struct AssignedLines {
     lines: [bool; LINE_COUNT as usize],
@@ -22,7 +22,7 @@ impl Model for AssignedLines {
 }
 
 impl AssignedLines {
-    /// Of none.
+    /// No line was assigned a level.
     pub fn none() -> AssignedLines
         ensures { result ≡ none_assigned }
     {
@@ -31,14 +31,14 @@ impl AssignedLines {
         }
     }
 
-    /// Whether a level of the line is told.
+    /// Whether `line` was assigned a level.
     pub fn has(&self, line: Line) -> bool
         ensures { result ≡ is_assigned self.now line }
     {
         self.lines[line.number() as usize]
     }
 
-    /// Levels of these lines are told. Most nets have one line or none.
+    /// Sets the flags of the lines of `line_bits`. Most nets have one line or none.
     #[inline(always)]
     pub fn assign(&mut self, line_bits: &[LineBit])
         ensures { self.new ≡ assigned_too line_bits.now self.old }

@@ -1,4 +1,4 @@
-//! What one line of a text binds.
+//! What one statement of a binding's text binds.
 
 use crate::group::Group;
 use crate::source::LevelSource;
@@ -6,7 +6,7 @@ use crate::source::LevelSource;
 /// Lines of the backplane, and where their levels come from.
 #[derive(Drop)]
 pub(crate) struct Assignment {
-    /// The line of the text.
+    /// The number of the statement's line in the text, from 1; of the last line, for a group that the text leaves out.
     pub line: u64,
     pub group: Group,
     pub source: LevelSource,

@@ -44,7 +44,7 @@ impl Binding {
     ghost use Rattle.vme_bind.specs.Binding.{slot_count, slots_behind, name_and_source, is_taken, is_bound, bound};
     ghost use Rattle.vme_bind.specs.Binding.{bound_all, least_unbound, no_assignments, with_high, with_left_out};
 
-    /// The number of slots that a word is: 1 to 21, without a leading zero.
+    /// The number of slots that `word` says: 1 to 21, without a leading zero.
     fn slot_count(word: &[u8]) -> Option<u8>
         ensures { result ≡ slot_count word.now }
     {
@@ -62,7 +62,7 @@ impl Binding {
         }
     }
 
-    /// The backplane that the first statement is of.
+    /// The backplane of the statement `slots N`, with all lines unknown; `None` for any other statement.
     fn lines_of(statement: Statement<'_>) -> Option<Lines>
         ensures slots { MatchOption result
             (slots_behind (as_text statement.entry).first (as_text statement.entry).others ≡ Err SlotsFirst)
@@ -101,7 +101,7 @@ impl Binding {
         Some((first, source))
     }
 
-    /// Nothing is bound yet.
+    /// The binding of the backplane `lines` that has no assignment.
     fn new(alloc: Global, lines: Lines) -> Binding
         requires { lines.levels ≡ replicate line_count Unknown }
         ensures { result ≡ no_assignments lines.slots }
@@ -120,7 +120,7 @@ impl Binding {
         &self.lines
     }
 
-    /// What is bound, in the order of the text.
+    /// The assignments, in the order of the text.
     pub(crate) fn assignments(&self) -> &[Assignment]
         ensures { result.now ≡ self.now.assignments }
     {
@@ -140,7 +140,7 @@ impl Binding {
         self.assignments.iter().any(|a| a.group.holds(line))
     }
 
-    /// What a statement binds, where nothing is wrong with it.
+    /// The assignment that `statement` says, or its fault.
     fn assignment(&self, alloc: Global, statement: Statement<'_>) -> Result<Assignment, BindFault>
         ensures { BindGives (λ a. record self.entry.now { assignments = self.entry.now.assignments ++ a ∷ [] }) result
             (at_line statement.entry.line (bound self.entry.now (as_text statement.entry))) }
@@ -195,7 +195,7 @@ impl Binding {
         Ok(())
     }
 
-    /// The lines of a group, bound to high for good by this line of the text.
+    /// The assignment of `group` to a constant High, at the line `line` of the text.
     fn high(line: u64, group: Group) -> Assignment
         ensures { result ≡ record { line = line; group = group; source = source_of (codes "1") } }
     {
@@ -207,7 +207,7 @@ impl Binding {
         }
     }
 
-    /// Binds the lines of a group to high for good, where the text, which ends at this line, names none of them.
+    /// Binds `group` to a constant High, unless a line of it is bound. `line` is the last line of the text.
     fn bind_high(&mut self, line: u64, group: &Group) -> Result<(), AllocError>
         ensures { OnOk result (self.new ≡ with_high line group.now self.old) }
     {
@@ -217,7 +217,7 @@ impl Binding {
         Ok(())
     }
 
-    /// Binds what a text, which ends at this line, may leave out: the data lines and the system reset.
+    /// Binds the data lines and the system reset, where the text leaves them out. `line` is the last line of the text.
     fn bind_left_out(&mut self, line: u64) -> Result<(), AllocError>
         ensures { OnOk result (self.new ≡ with_left_out line self.old) }
     {
@@ -225,7 +225,7 @@ impl Binding {
         self.bind_high(line, &Group::reset())
     }
 
-    /// The least line that isn't bound.
+    /// The line of the backplane with the least number that isn't bound.
     #[tactic(auto, using(vme_trace::proofs::Ranges::searches))]
     fn least_unbound(&self) -> Option<Line>
         ensures { result ≡ least_unbound self.now }

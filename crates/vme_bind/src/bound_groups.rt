@@ -15,13 +15,13 @@ use std::alloc::Global;
 use vcd_read::Variable;
 use vme_trace::{Level, Line, Lines};
 
-/// Some bits of a net that follow one another.
+/// A range of consecutive bits of a net.
 #[derive(Clone, Copy)]
 pub(crate) struct BitRange {
     pub net: u32,
-    /// The place of the first of them; the leftmost bit of the net is at place 0.
+    /// The place of the first bit; the leftmost bit of the net is at place 0.
     pub first: u32,
-    /// How many there are.
+    /// The number of bits.
     pub count: usize,
 }
 
@@ -32,16 +32,16 @@ pub(crate) struct BitPlace {
     pub place: usize,
 }
 
-/// Where the levels of some lines come from.
+/// Where the levels of a group come from.
 #[derive(Clone, Copy)]
 pub(crate) enum GroupSource {
-    /// A level for good.
+    /// A constant level.
     Fixed(Level),
-    /// As many bits as there are lines.
+    /// Bits of a net, one for each line of the group.
     Bits(BitRange),
 }
 
-/// Some lines, and where their levels come from.
+/// A group, and where its levels come from.
 #[derive(Clone, Copy)]
 pub(crate) struct BoundGroup {
     pub group: Group,
@@ -51,7 +51,7 @@ pub(crate) struct BoundGroup {
 /// Where the level of a line comes from.
 #[derive(Clone, Copy)]
 pub(crate) enum LineSource {
-    /// A level for good.
+    /// A constant level.
     Always(Level),
     /// A bit of a net.
     Bit(BitPlace),
@@ -75,7 +75,8 @@ impl BitRange {
             || (left <= first && first <= last && last <= right)
     }
 
-    /// The bits of a net that a selection means, where its leftmost and rightmost bit have these indices.
+    /// The bits of `net` that `selection` selects, where `index` has the indices of the leftmost and the rightmost bit.
+    /// `None` if `index` doesn't hold `selection` in the same direction.
     fn selected(net: u32, selection: (u32, u32), index: (u32, u32)) -> Option<BitRange>
         ensures { result ≡ selected net selection index }
     {
@@ -89,7 +90,8 @@ impl BitRange {
         })
     }
 
-    /// The bits of a net that a selection means, for a variable of this size and index: all, where there is none.
+    /// The bits of `net` that `selection` selects of a variable with `size` and `index`: all, where there is no
+    /// selection. `None` if the variable has no index that holds `selection` in the same direction.
     pub fn meant(
         selection: Option<(u32, u32)>,
         net: u32,
@@ -108,7 +110,7 @@ impl BitRange {
         }
     }
 
-    /// The bits of a variable, if it is one that is named.
+    /// The bits of `variable` that `named` selects, if `variable` has the path of `named`.
     fn candidate(named: &VariableSelector, variable: &Variable) -> Option<BitRange>
         ensures { result ≡ candidate named.now variable.now }
     {
@@ -118,7 +120,8 @@ impl BitRange {
         BitRange::meant(named.selection, variable.net, variable.size, variable.index)
     }
 
-    /// The bits that are named, which must be the same wherever they are found. A fault is at a line of the text.
+    /// The bits that `named` selects of `variables`. They must be the same bits in each variable that has them. A fault
+    /// is at the line `line` of the text.
     fn of(
         line: u64,
         named: &VariableSelector,
@@ -153,7 +156,8 @@ impl BitRange {
 }
 
 impl BoundGroup {
-    /// The bound group of an assignment to these bits, which are to be as many as its lines.
+    /// The bound group of `assignment` with `bits`. The fault is `WrongWidth` where the group has another number of
+    /// lines.
     pub fn of_bits(assignment: &Assignment, bits: BitRange) -> Result<BoundGroup, BindFault>
         ensures { BindGives (λ bound_group. bound_group) result (bound_group_by assignment.now
             (source_by assignment.now.group.count (Ok bits))) }
@@ -171,7 +175,7 @@ impl BoundGroup {
         })
     }
 
-    /// The bound group of an assignment, for a dump with these variables.
+    /// The bound group of `assignment`, for a dump with `variables`.
     fn of(assignment: &Assignment, variables: &[Variable]) -> Result<BoundGroup, BindFault>
         ensures { BindGives (λ bound_group. bound_group) result (bound_group_in variables.now assignment.now) }
     {
@@ -189,7 +193,7 @@ impl BoundGroup {
         }
     }
 
-    /// The bound groups of all assignments.
+    /// The bound groups of all assignments, or the first fault.
     pub fn all(
         alloc: Global,
         assignments: &[Assignment],
@@ -209,7 +213,7 @@ impl BoundGroup {
         Ok(bound_groups)
     }
 
-    /// Where the level of one of the group's lines comes from, by its place in the group.
+    /// The source of the level of the line at `place` in the group, counted from the group's first line.
     fn source_on(self, place: u8) -> LineSource
         ensures { result ≡ source_on place self.source }
     {

@@ -17,7 +17,7 @@ use std::alloc::{AllocError, Global};
 use vcd_read::{Dump, Instant as DumpInstant};
 use vme_trace::{Capture, LINE_COUNT, Line, Lines, Step};
 
-/// The levels before any change: a line has a level where it is bound to one for good.
+/// The levels before any change: a line that is bound to a constant level has it, each other line is unknown.
 pub(crate) fn opening_of(lines: &Lines, bound_groups: &[BoundGroup]) -> Lines
     requires { lines.now.levels ≡ replicate line_count Unknown }
     ensures { (instants : List Instant) → result ≡ levels_after lines.now.slots bound_groups.now instants 0 }
@@ -63,7 +63,7 @@ fn record_all(
     Ok((opening, steps))
 }
 
-/// The recording of well-formed steps, if they aren't too many.
+/// The recording with `opening` and `steps`, or `TooManySteps`.
 pub(crate) fn captured(opening: Lines, steps: Vec<Step>) -> Result<Capture, BindFault>
     requires { malformed_step (record { opening = opening; steps = steps.items }) ≡ None }
     ensures { result ≡ limited (record { opening = opening; steps = steps.items }) }

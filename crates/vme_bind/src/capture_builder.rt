@@ -14,8 +14,8 @@ use std::marker::Model;
 use vcd_read::ChangeVisitor;
 use vme_trace::StepVisitor;
 
-/// The lines of the nets and their levels, and what takes the recording so far. Changes of other nets leave them as
-/// they are.
+/// Makes the recording of a dump from its changes: the lines of each net, the levels of the lines, and the visitor that
+/// takes the steps. A change of a net without lines changes nothing.
 #[derive(Drop)]
 pub(crate) struct CaptureBuilder<F: StepVisitor> {
     line_bits: NetLines,
@@ -37,7 +37,7 @@ impl<F: StepVisitor> Model for CaptureBuilder<F> {
 }
 
 impl<F: StepVisitor> CaptureBuilder<F> {
-    /// What takes this recording from here on.
+    /// The builder that continues the recording of `visitor` from the levels of `recorder`.
     pub fn new(line_bits: NetLines, recorder: Recorder, visitor: F) -> CaptureBuilder<F>
         requires { (net : ℕ) → AreLines recorder.now.slots (line_bits_of line_bits net) }
         ensures { result ≡ record { line_bits = line_bits; progress = recorder; recorded = F.recorded visitor } }
@@ -49,7 +49,7 @@ impl<F: StepVisitor> CaptureBuilder<F> {
         }
     }
 
-    /// The lines of the nets, their levels, and what took the recording.
+    /// The lines of the nets, the levels of the lines, and the visitor that took the recording.
     pub fn into_parts(self) -> (NetLines, Recorder, F)
         ensures parts { self ≡ record { line_bits = result.0; progress = result.1; recorded = F.recorded result.2 } }
         ensures lines { (net : ℕ) → AreLines result.1.now.slots (line_bits_of result.0 net) }
@@ -62,7 +62,7 @@ impl<F: StepVisitor> CaptureBuilder<F> {
         (line_bits, recorder, visitor)
     }
 
-    /// What took the recording.
+    /// The visitor that took the recording.
     pub fn into_visitor(self) -> F
         ensures { F.recorded result ≡ self.recorded }
     {
@@ -120,7 +120,8 @@ impl<F: StepVisitor> ChangeVisitor for CaptureBuilder<F> {
     }
 }
 
-/// The same of a piece that is read ahead, with the lines of the nets of the dump that it is of.
+/// A `CaptureBuilder` for a piece that is read ahead. It borrows the lines of the nets, and keeps which lines the piece
+/// assigned a level to.
 #[derive(Drop)]
 pub(crate) struct SpeculativeBuilder<'t, F: StepVisitor> {
     line_bits: &'t NetLines,
@@ -146,7 +147,8 @@ impl<'t, F: StepVisitor> Model for SpeculativeBuilder<'t, F> {
 }
 
 impl<'t, F: StepVisitor> SpeculativeBuilder<'t, F> {
-    /// What takes the recording that begins with these levels.
+    /// The builder that continues the recording of `visitor` from the levels of `recorder`. No line is assigned a level
+    /// yet.
     pub fn new(line_bits: &'t NetLines, recorder: Recorder, visitor: F) -> SpeculativeBuilder<'t, F>
         requires { (net : ℕ) → AreLines recorder.now.slots (line_bits_of line_bits.now net) }
         ensures made { result.made
@@ -161,7 +163,7 @@ impl<'t, F: StepVisitor> SpeculativeBuilder<'t, F> {
         }
     }
 
-    /// The levels of the lines, what took the recording, and of which lines a level was told.
+    /// The levels of the lines, the visitor that took the recording, and the lines that were assigned a level.
     pub fn into_parts(self) -> (Recorder, F, AssignedLines)
         ensures progress { self.entry.made.progress ≡ result.0 }
         ensures recorded { self.entry.made.recorded ≡ F.recorded result.1 }
@@ -228,7 +230,7 @@ impl<F: StepVisitor> ChangeVisitor for SpeculativeBuilder<'_, F> {
     }
 }
 
-/// Takes changes of which nothing is kept.
+/// A visitor that discards the changes.
 #[derive(Clone, Copy)]
 pub(crate) struct ChangeDiscarder;
 

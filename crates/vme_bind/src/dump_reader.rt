@@ -15,29 +15,29 @@ use std::alloc::{AllocError, Global};
 use vcd_read::{ByteConsumer, VcdFault, whole_tokens};
 use vme_trace::StepVisitor;
 
-/// A dump whose recording by a binding is given to what takes it as its text comes. Of the text nothing is kept:
-/// whoever reads it holds what isn't taken. Whoever reads a body in another way, as several workers do, has it as
-/// `TextPieces`, and goes on with what these come to.
+/// Reads a dump as its text comes, and gives its recording by a binding to a visitor. No text is kept: the caller holds
+/// the bytes that aren't taken. A caller that reads a body in another way, as several workers do, uses the `TextPieces`
+/// of `Body`, and continues with a `Body` of the `TextPieces` that reading gives.
 #[derive(Drop)]
 pub enum DumpReader<'b, F: StepVisitor> {
-    /// Its definitions don't end in what was seen, of which nothing was taken.
+    /// The definitions don't end in the bytes that were seen, and no byte was taken.
     Definitions(&'b Binding, F),
-    /// Its body is read so far.
+    /// The definitions are read, and what was taken of the body.
     Body(TextPieces<F>),
-    /// It has a fault.
+    /// The dump, or the binding for it, has a fault.
     Failed(InputFault),
 }
 
 impl<'b, F: StepVisitor> DumpReader<'b, F> {
-    /// Before the first byte.
+    /// The reader before the first byte.
     pub fn new(binding: &'b Binding, visitor: F) -> DumpReader<'b, F>
         ensures { (rest : List ℕ) → dump_ahead result rest ≡ recording_of_text binding.now rest }
     {
         DumpReader::Definitions(binding, visitor)
     }
 
-    /// A dump that has this fault: all of it is still to be read, though no more is looked at. Want of memory is no
-    /// fault of a dump, and the only error.
+    /// The reader of a dump that has `fault`. It takes all bytes that follow, and looks at none. Want of memory is no
+    /// fault of a dump: it is the only error.
     pub fn failed(fault: CaptureFault) -> Result<DumpReader<'b, F>, AllocError>
         ensures told { IfOk result (λ reader. is_want fault ≡ false) }
         ensures ahead { IfOk result (λ reader. (rest : List ℕ) → dump_ahead reader rest ≡ Err fault) }
@@ -61,7 +61,7 @@ impl<'b, F: StepVisitor> DumpReader<'b, F> {
         }
     }
 
-    /// Takes some of the first of these bytes, and says how many. The only error is want of memory.
+    /// Takes a prefix of `bytes`, and returns its length. The only error is want of memory.
     pub fn take(self, alloc: Global, bytes: &[u8]) -> Result<(DumpReader<'b, F>, usize), AllocError>
         ensures within { IfOk result (λ made. made.1 ≤ length bytes.now) }
         ensures taken { IfOk result (λ made. ContinuesAs (dump_ahead self.entry) (dump_ahead made.0)
@@ -86,7 +86,7 @@ impl<'b, F: StepVisitor> DumpReader<'b, F> {
         }
     }
 
-    /// What took the recording of the dump, whose last bytes these are.
+    /// The visitor that took the recording of the dump, or the first fault. `rest` is the rest of the text.
     pub fn finish(self, alloc: Global, rest: &[u8]) -> Result<F, CaptureFault>
         ensures { GivesBy (λ f. F.recorded f) result (dump_ahead self.entry rest.now) }
     {

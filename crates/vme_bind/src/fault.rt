@@ -1,4 +1,4 @@
-//! Why a text binds nothing, or a binding no dump.
+//! Why a text is no binding, or a binding makes no recording of a dump.
 
 ghost use Rattle.std.specs.Prelude.{◌≡◌, Some, encode_utf8};
 ghost use Rattle.std.specs.List.{flat_map};
@@ -32,16 +32,16 @@ pub enum BindFaultKind {
     /// A line of the text isn't `NAME = SOURCE`.
     #[error("BadLine")]
     BadLine,
-    /// The first line that says something isn't `slots N`, N from 1 to 21, or there is none.
+    /// The first line that is neither blank nor a comment isn't `slots N`, N from 1 to 21, or there is no such line.
     #[error("SlotsFirst")]
     SlotsFirst,
-    /// A name of no line of the backplane, and of no group.
+    /// The name is neither one of a line of the backplane nor one of a group.
     #[error("UnknownName")]
     UnknownName,
-    /// A line of the backplane that is bound before.
+    /// A line of the backplane is bound a second time.
     #[error("NamedTwice")]
     NamedTwice,
-    /// The least line of the backplane that isn't bound.
+    /// The line of the backplane with the least number that isn't bound.
     #[error("Unbound {}", LineName(*.0))]
     Unbound(Line),
     /// Memory ran out; the line is then 0.

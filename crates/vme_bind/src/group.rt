@@ -5,12 +5,12 @@ ghost use Rattle.vme_trace.specs.Names.{line_named};
 
 use vme_trace::{Line, Lines};
 
-/// Lines that one name stands for.
+/// The lines that one name denotes. Their numbers are consecutive.
 #[derive(Clone, Copy)]
 pub(crate) struct Group {
-    /// The first of them, which has the greatest number.
+    /// The first line, which has the greatest number.
     pub first: Line,
-    /// How many there are, from the first one down.
+    /// The number of lines, from the first one down.
     pub count: u8,
 }
 
@@ -37,7 +37,7 @@ impl Group {
         }
     }
 
-    /// Whether the line is one of them.
+    /// Whether `line` is in the group.
     pub fn holds(self, line: Line) -> bool
         ensures { result ≡ holds self line }
     {
@@ -46,7 +46,7 @@ impl Group {
         line <= first && first < line + u16::from(self.count)
     }
 
-    /// Whether there is a line of both.
+    /// Whether the two groups have a line in common.
     pub fn shares(self, other: Group) -> bool
         ensures { result ≡ share self other }
     {
@@ -55,7 +55,7 @@ impl Group {
         first < other_first + u16::from(self.count) && other_first < first + u16::from(other.count)
     }
 
-    /// The lines that a name stands for on a backplane.
+    /// The lines that `name` denotes on the backplane `lines`.
     pub fn named(lines: &Lines, name: &[u8]) -> Option<Group>
         ensures { result ≡ group_named lines.now.slots name.now }
     {

@@ -1,4 +1,4 @@
-//! A fault that is told, and isn't want of memory.
+//! A fault of a dump, or of the binding for it, that isn't want of memory.
 
 ghost use Rattle.std.specs.Prelude.{◌≡◌, false};
 ghost use Rattle.vme_bind.specs.Wants.{is_want};
@@ -6,7 +6,7 @@ ghost use Rattle.vme_bind.specs.Wants.{is_want};
 use crate::fault::{BindFaultKind, CaptureFault};
 use vcd_read::FaultKind;
 
-/// Why a dump has no recording: no want of memory.
+/// Why a dump has no recording. It isn't want of memory.
 #[derive(Drop)]
 pub struct InputFault {
     /// The fault.
@@ -14,7 +14,7 @@ pub struct InputFault {
     ghost told: { is_want fault ≡ false },
 }
 
-/// Whether a fault is none but want of memory.
+/// Whether `fault` is want of memory.
 pub(crate) fn is_want(fault: &CaptureFault) -> bool
     ensures { result ≡ is_want fault.now }
 {

@@ -7,8 +7,9 @@ ghost use Rattle.vcd_read.specs.Tokens.{Token};
 ghost use Rattle.vme_bind.specs.SpeculativeReading.{SpeculativeReached, with_recording};
 ghost use Rattle.vme_bind.specs.TextReading.{following, reading_ahead};
 
-/// What was recorded before a place of a text is a prefix of what is recorded: the steps that follow, the fault
-/// and the last time are those that they are after a recording without a step, whatever its opening.
+/// The recording before a place of a text is a prefix of the recording of the text. The steps that follow, the fault
+/// and the last time are the same after any recording: they are those after a recording without steps, whatever its
+/// opening.
 pub fn recorded_before_is_a_prefix()
     ensures { (w : SpeculativeReached) (t : Trace) (opening : Levels) (tokens more : List Token)
         → reading_ahead (with_recording t w) tokens more

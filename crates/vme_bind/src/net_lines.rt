@@ -1,4 +1,4 @@
-//! Which lines the bits of a net are the levels of.
+//! The lines that take their levels from the bits of a net.
 
 ghost use Rattle.std.specs.Prelude.{◌≡◌, ◌≤◌, ◌<◌, ◌^◌, ◌++◌, ◌∷◌, [], ℕ, IfOk, OnOk, ◌==◌, if◌then◌else◌, length};
 ghost use Rattle.vme_trace.specs.LineNumbers.{line_count};
@@ -19,7 +19,7 @@ pub(crate) struct LineBit {
 /// The lines of each net.
 #[derive(Drop)]
 pub(crate) struct NetLines {
-    /// By the numbers of the nets, as far as they have any.
+    /// By the number of the net, up to the last net that has lines.
     nets: Vec<Vec<LineBit>>,
 }
 
@@ -60,7 +60,7 @@ impl NetLines {
         line_bits_on(&self.nets, net as usize)
     }
 
-    /// Makes room for a net.
+    /// Makes room for the entry of `net`.
     fn grow(&mut self, alloc: Global, net: usize) -> Result<(), AllocError>
         ensures same { (k : ℕ) → line_bits_of self.new k ≡ line_bits_of self.old k }
         ensures room { OnOk result (net < length self.new.nets.items) }
@@ -81,7 +81,7 @@ impl NetLines {
         Ok(())
     }
 
-    /// The lines of each net, in their order.
+    /// The lines of each net, by ascending line number.
     pub fn of_bound_groups(
         alloc: Global,
         lines: &Lines,

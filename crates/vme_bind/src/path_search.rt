@@ -1,4 +1,4 @@
-//! What is found of the variable that a line of a binding names.
+//! The search for the variable that an assignment names.
 
 ghost use Rattle.std.specs.Prelude.{◌≡◌, ◌<◌, ◌+◌, ◌^◌, drop, length};
 ghost use Rattle.vcd_read.specs.Header.{variable_in};
@@ -20,7 +20,7 @@ pub(crate) enum PathMatch {
     Several,
 }
 
-/// A line of the binding's text, and what is found of its variable so far.
+/// An assignment, and what is found of its variable so far.
 #[derive(Drop)]
 pub(crate) struct PathSearch<'b> {
     pub assignment: &'b Assignment,
@@ -32,7 +32,7 @@ pub(crate) struct PathSearch<'b> {
 impl PathMatch {
     ghost use Rattle.vme_bind.specs.PathSearch.{with_bits};
 
-    /// With one candidate more, if this is one.
+    /// Adds the candidate `bits`, if there is one.
     fn with(self, bits: Option<BitRange>) -> PathMatch
         ensures { result ≡ with_bits self bits }
     {
@@ -48,7 +48,7 @@ impl PathMatch {
     }
 }
 
-/// Whether a text begins with these bytes.
+/// Whether `text` begins with `front`.
 fn begins_with(text: &[u8], front: &[u8]) -> bool
     ensures { result ≡ begins_with front.now text.now }
 {

@@ -1,4 +1,4 @@
-//! The levels of the lines as a dump goes on, and the step at which they change.
+//! The levels of the lines while a dump is read, and the steps at which they change.
 
 ghost use Rattle.std.specs.Prelude.{◌≡◌, ◌≢◌, ◌≤◌, ◌<◌, ℕ, false, IfOk, OnOk, map, length};
 ghost use Rattle.std.specs.Prelude.{◌↔◌, ◌⊎◌, IfSome, IsTrue, [], true};
@@ -20,22 +20,22 @@ use std::marker::Model;
 use vcd_read::{Bit, Value, bit_at};
 use vme_trace::{Change, Changes, Level, Line, Lines, Step};
 
-/// Where no line got another level, the lines that did lie from this one..
+/// `Recorder::first`, where no line got another level: the line of the greatest number.
 const NONE_FIRST: Line = Line::SYSRESET;
 
-/// .. to this one.
+/// `Recorder::last`, where no line got another level: the line of the least number.
 const NONE_LAST: Line = Line::AS;
 
-/// The levels of the lines.
+/// The levels of the lines while a dump is read.
 #[derive(Drop)]
 pub(crate) struct Recorder {
     /// The levels after the steps so far.
     shown: Lines,
     /// The levels after the values so far.
     now: Lines,
-    /// The first of some lines: no line before it got another level since the last step.
+    /// No line of a lesser number got another level since the last step.
     first: Line,
-    /// The last of them. It is before the first where no line got another level.
+    /// No line of a greater number got another level since the last step. It is before `first` where no line did.
     last: Line,
 }
 
@@ -49,7 +49,7 @@ impl Model for Recorder {
     ghost invariant = { λ r. DifferWithin r.shown r.now r.first r.last };
 }
 
-/// What a bit says of a line: a bused line floats high, and a net to nowhere.
+/// The level of `line` for `bit`: z is high on a bused line, and unknown on a net of a daisy chain.
 fn level_of(line: Line, bit: Bit) -> Level
     ensures { result ≡ level_of line bit }
 {
@@ -67,7 +67,7 @@ fn level_of(line: Line, bit: Bit) -> Level
     }
 }
 
-/// What the bit of a line bit says of its line.
+/// The level of the line of `line_bit`, where its net has the value `bits`.
 fn level_in(line_bit: LineBit, bits: &[Bit]) -> Level
     ensures { result ≡ level_in line_bit.line line_bit.place bits.now }
 {
@@ -77,7 +77,7 @@ fn level_in(line_bit: LineBit, bits: &[Bit]) -> Level
     )
 }
 
-/// What the digits of a value say of the line of a line bit.
+/// The level of the line of `line_bit`, where its net has `size` bits and its value the digits `digits`.
 #[inline(always)]
 pub(crate) fn level_by_digits(line_bit: LineBit, size: u32, digits: &[u8]) -> Level
     requires some { 0 < length digits.now }
@@ -87,7 +87,7 @@ pub(crate) fn level_by_digits(line_bit: LineBit, size: u32, digits: &[u8]) -> Le
     level_of(line_bit.line, bit_at(size, digits, line_bit.place))
 }
 
-/// Whether the two are one level: they are compared by their variants, at once.
+/// Whether the two levels are equal. One comparison of their variants decides it.
 #[tactic(auto, using(crate::proofs::SameLevel::same))]
 #[inline(always)]
 fn is_same(first: Level, second: Level) -> bool
@@ -121,8 +121,8 @@ fn later(first: Line, second: Line) -> Line
     }
 }
 
-/// The changes from the levels that were shown to those of now, in the order of their lines. All of them are then
-/// shown.
+/// The changes from the levels `shown` to the levels `now`, by ascending line number. The two differ at most on the
+/// lines from `first` to `last`. Afterwards `shown` is `now`.
 fn show(
     alloc: Global,
     first: Line,
@@ -151,7 +151,7 @@ fn show(
 }
 
 impl Recorder {
-    /// No step yet.
+    /// The recorder with the levels `opening`, before any step.
     pub fn new(opening: Lines) -> Recorder
         requires { length opening.levels ≡ line_count }
         ensures { result ≡ all_of opening }
@@ -179,7 +179,7 @@ impl Recorder {
         Ok(())
     }
 
-    /// Gives the lines of a net the levels that these bits are.
+    /// Sets the lines of a net to their levels in the value `bits`.
     fn set_lines(&mut self, line_bits: &[LineBit], bits: &[Bit]) -> Result<(), AllocError>
         requires { AreLines self.old.now.slots line_bits.now }
         ensures { OnOk result (self.new ≡ record self.old {
@@ -193,8 +193,8 @@ impl Recorder {
         Ok(())
     }
 
-    /// Gives the lines of a net of `size` bits the levels that the digits of its value are. Most nets have one line or
-    /// none.
+    /// Sets the lines of a net of `size` bits to their levels in its value, which has the digits `digits`. Most nets
+    /// have one line or none.
     #[inline(always)]
     pub fn set_by_digits(
         &mut self,
@@ -240,7 +240,7 @@ impl Recorder {
         Ok(())
     }
 
-    /// Takes the values of an instant.
+    /// Sets the lines to their levels in the values of an instant.
     fn set_values(&mut self, line_bits: &NetLines, values: &[Value]) -> Result<(), AllocError>
         requires { (net : ℕ) → AreLines self.old.now.slots (line_bits_of line_bits.now net) }
         ensures { OnOk result (self.new ≡ record self.old { now = valued line_bits.now values.now self.old.now }) }
@@ -251,7 +251,7 @@ impl Recorder {
         Ok(())
     }
 
-    /// Whether no line got another level since the last step: then no instant that ends is one.
+    /// Whether no line got another level since the last step. An instant that ends then makes no step.
     #[inline(always)]
     pub fn is_untouched(&self) -> bool
         ensures shown { result ≡ true → self.entry.now ≡ all_of self.entry.now.now }
@@ -316,7 +316,7 @@ impl Recorder {
         })
     }
 
-    /// Ends an instant at which any lines may have.
+    /// Ends an instant at which any lines may have another level than before.
     #[inline(never)]
     pub fn end_with_lines(&mut self, alloc: Global, time: u64) -> Result<Option<Step>, AllocError>
         ensures now { self.new.now ≡ self.old.now }
@@ -335,7 +335,7 @@ impl Recorder {
         }))
     }
 
-    /// Takes an instant of a dump.
+    /// Takes the values of an instant, and ends it. The result is its step, if it makes one.
     pub fn record(
         &mut self,
         alloc: Global,
@@ -370,7 +370,8 @@ impl Recorder {
         &self.now
     }
 
-    /// Ends the instant at hand, if one ends, which is a step if some line has another level than before.
+    /// Ends the current instant at the time `ended`, if that is some. It makes a step if some line has another level
+    /// than before.
     pub fn end(&mut self, alloc: Global, ended: Option<u64>) -> Result<Option<Step>, AllocError>
         ensures ended { OnOk result (self.new ≡ entered end_of self.old ended) }
         ensures step { IfOk result (λ step. step_in step ≡ ended_steps self.old ended) }
@@ -383,7 +384,7 @@ impl Recorder {
         }
     }
 
-    /// Whether these levels are all that there is, once the instant at hand has ended, if one ends.
+    /// Whether `shown` and `now` are both `levels`, once the current instant has ended, if `ended` is some time.
     pub fn begins_with(&self, ended: Option<u64>, levels: &Lines) -> bool
         ensures { IsTrue result ↔ (entered end_of self.entry.now ended ≡ all_of levels.now) }
     {

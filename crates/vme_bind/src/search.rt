@@ -14,7 +14,7 @@ use crate::path_search::{PathSearch, rest_of};
 use std::alloc::{AllocError, Global};
 use vcd_read::{Declaration, DeclarationVisitor, Scopes};
 
-/// What is found of the variables of a binding so far. Of the variables of the dump nothing else is kept.
+/// What is found so far of the variables that a binding names. Nothing else of the dump's variables is kept.
 #[derive(Drop)]
 pub(crate) struct Search<'b> {
     /// In the order of the binding's text.

@@ -6,7 +6,7 @@ ghost use Rattle.vcd_read.specs.Header.{index_number, index_between, bracketed};
 
 use memchr::{memchr, memrchr};
 
-/// Whether these are decimal digits, at least one.
+/// Whether `text` is one or more decimal digits.
 fn is_number(text: &[u8]) -> bool
     ensures { result ≡ is_number text.now }
 {
@@ -21,7 +21,7 @@ fn is_number(text: &[u8]) -> bool
     true
 }
 
-/// The number that digits are.
+/// The number that `digits` denotes.
 fn value(digits: &[u8]) -> u32
     requires number { IsTrue (is_number digits.now) }
     requires short { length digits.now ≤ 9 }
@@ -63,7 +63,7 @@ pub(crate) fn index_between(text: &[u8]) -> Option<(u32, u32)>
     }
 }
 
-/// What is before the last bracket that opens, and what from it up to one that closes at the end.
+/// The text before the last `[`, and the text between that and a `]` at the end.
 pub(crate) fn bracketed(text: &[u8]) -> Option<(&[u8], &[u8])>
     ensures { option_map (λ parts. (parts.0.now, parts.1.now)) result ≡ bracketed text.now }
 {

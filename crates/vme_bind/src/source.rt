@@ -20,7 +20,7 @@ pub(crate) struct VariableSelector {
 /// Where the levels of some lines come from.
 #[derive(Drop)]
 pub(crate) enum LevelSource {
-    /// A level for good.
+    /// A constant level.
     Constant(Level),
     /// The bits of a variable.
     Variable(VariableSelector),
@@ -29,7 +29,7 @@ pub(crate) enum LevelSource {
 impl LevelSource {
     ghost use Rattle.vme_bind.specs.Sources.{source_of, path_and_selection};
 
-    /// The source that a word is.
+    /// The source that `word` says.
     pub fn of(alloc: Global, word: &[u8]) -> Result<LevelSource, AllocError>
         ensures { IfOk result (λ source. source ≡ source_of word.now) }
     {
@@ -49,7 +49,7 @@ impl LevelSource {
         }))
     }
 
-    /// The path that a word is, and the selection at its end, if there is one.
+    /// The path that `word` says, and the selection at its end, if there is one.
     fn path_and_selection(word: &[u8]) -> (&[u8], Option<(u32, u32)>)
         ensures { (result.0.now, result.1) ≡ path_and_selection word.now (bracketed word.now) }
     {

@@ -1,4 +1,5 @@
-//! The recording of a dump whose pieces are read ahead of what is before them, and joined in order.
+//! The recording of a dump whose pieces are read before the text that precedes them, and joined in
+//! order.
 
 ghost use Rattle.std.specs.Prelude.{◌≡◌, ◌↔◌, ℕ, List, [], IfOk};
 ghost use Rattle.std.specs.Prelude.{IfSome, IsTrue, length};
@@ -20,7 +21,8 @@ use std::marker::Model;
 use vcd_read::{DetachedPiece, Pieces};
 use vme_trace::{LINE_COUNT, Line, Lines, Step, StepVisitor};
 
-/// The recording of a dump, as far as some pieces of its text go, without what takes it: only its levels are known.
+/// The recording of a dump after some pieces of its text, without the visitor: it has the levels of the lines, and no
+/// steps.
 #[derive(Drop)]
 pub struct SpeculativeReader {
     pieces: Pieces<ChangeDiscarder>,
@@ -48,7 +50,7 @@ impl Model for SpeculativeReader {
         × ((net : ℕ) → AreLines w.recorder.now.slots (line_bits_of w.line_bits net)) };
 }
 
-/// A piece of a dump that was read ahead of what is before it, as if that left these levels.
+/// A piece of a dump that was read ahead of the text before it, from assumed levels.
 #[derive(Drop)]
 pub struct SpeculativeChunk {
     from: Lines,
@@ -78,7 +80,7 @@ impl Model for SpeculativeChunk {
 }
 
 impl<F: StepVisitor> TextPieces<F> {
-    /// Lets go of what takes the recording, so that pieces can be read by themselves.
+    /// Separates the visitor from the rest, so that pieces can be read ahead.
     pub fn into_speculative(self) -> (SpeculativeReader, F)
         ensures { with_recording (F.recorded result.1) result.0 ≡ text_reached self }
     {
@@ -96,7 +98,7 @@ impl<F: StepVisitor> TextPieces<F> {
 }
 
 impl SpeculativeReader {
-    /// Goes on with what takes the recording.
+    /// Continues the recording with `visitor`.
     pub fn with_step_visitor<F: StepVisitor>(self, visitor: F) -> TextPieces<F>
         ensures { text_reached result ≡ with_recording (F.recorded visitor) self }
     {
@@ -139,10 +141,10 @@ impl SpeculativeReader {
         self.recorder.now()
     }
 
-    /// Reads a piece that begins on this line and ends after a space, or where the text does, ahead of what is
-    /// before it: as if that left these levels, of the same backplane. Its steps are given to the visitor, to which
-    /// none was given before. None is given of a piece that begins with no time, has a fault or ends within an item,
-    /// for levels of another backplane, nor where memory runs out.
+    /// Reads `piece`, which begins on `line` and ends after a space, or where the text does, ahead of the text before
+    /// it: from the assumed levels `from`, of the same backplane. `visitor`, which has no step, takes the steps of the
+    /// piece. The result is `None` for a piece that begins with no time, has a fault or ends within an item, for levels
+    /// of another backplane, and where memory runs out.
     pub fn read_ahead<F: StepVisitor>(
         &self,
         alloc: Global,
@@ -175,8 +177,8 @@ impl SpeculativeReader {
         Some((ahead, visitor))
     }
 
-    /// Whether a piece that was read ahead may be joined: what is read so far ends on the line that it begins on,
-    /// between two items, outside of dump sections and at no later time, and leaves the levels that it was read from.
+    /// Whether `ahead` may be joined: the text so far ends on the line that `ahead` begins on, between two items,
+    /// outside of dump sections and at no later time, and leaves the levels that `ahead` was read from.
     pub fn may_join(&self, ahead: &SpeculativeChunk) -> bool
         ensures { IsTrue result ↔ MayFollowLevels self.now ahead.now }
     {
@@ -187,8 +189,8 @@ impl SpeculativeReader {
         self.recorder.begins_with(ended, &ahead.from)
     }
 
-    /// Goes on after a piece that was read ahead. The step that ends the instant before it is given, if there is one:
-    /// those of the piece follow it. The only error is want of memory.
+    /// Continues after the piece `ahead`. The step in the result, if there is one, ends the instant before the piece:
+    /// the steps of the piece follow it. The only error is want of memory.
     pub fn join(
         self,
         alloc: Global,
@@ -224,14 +226,15 @@ impl SpeculativeReader {
 }
 
 impl SpeculativeChunk {
-    /// The levels that it was read from.
+    /// The levels that the piece was read from.
     pub fn from(&self) -> &Lines
         ensures { result.now ≡ self.now.from }
     {
         &self.from
     }
 
-    /// The levels that it leaves where these are before it: its own on each line of which it tells a level.
+    /// The levels after the piece, where `levels` is before it: the piece's own level on each line that it assigns one
+    /// to, and that of `levels` on each other line.
     pub fn levels_behind(&self, levels: &Lines) -> Lines
         requires slots { levels.now.slots ≡ self.now.from.slots }
         requires all { length levels.now.levels ≡ line_count }
@@ -248,7 +251,7 @@ impl SpeculativeChunk {
         behind
     }
 
-    /// The levels after it.
+    /// The levels after the piece, where it follows the levels that it was read from.
     pub fn levels(&self) -> &Lines
         ensures now { result.now ≡ self.now.detached.progress.accumulator.now }
         ensures all { length result.now.levels ≡ line_count }

@@ -1,4 +1,4 @@
-//! The lines of a text that say something.
+//! The statements of a text: its lines that are neither blank nor comments.
 
 ghost use Rattle.std.specs.Prelude.{◌≡◌, ◌<◌, ◌≤◌, ◌+◌, ◌^◌, ◌∷◌, ◌++◌, [], length, MatchOption, IfNone};
 ghost use Rattle.vme_bind.specs.Text.{words, statement_on, without_return, statements_of, end_line};
@@ -6,7 +6,7 @@ ghost use Rattle.vme_bind.specs.Text.{words, statement_on, without_return, state
 use crate::words::LineWords;
 use memchr::memchr;
 
-/// A line that says something: its first word, and those after it.
+/// A statement: a line that is neither blank nor a comment, as its first word and those after it.
 #[derive(Drop)]
 pub(crate) struct Statement<'a> {
     /// The line's number, from 1.
@@ -15,7 +15,7 @@ pub(crate) struct Statement<'a> {
     pub others: LineWords<'a>,
 }
 
-/// What is left of a text, and the number of its first line.
+/// The rest of a text, and the number of its first line.
 #[derive(Drop)]
 pub(crate) struct Statements<'a> {
     rest: &'a [u8],
@@ -53,7 +53,7 @@ impl<'a> Statements<'a> {
         self.line
     }
 
-    /// Goes on after a line.
+    /// Takes the next line off the rest of the text.
     fn next_line(&mut self) -> &'a [u8]
         requires { 0 < length self.old.rest.now }
         ensures left { left self.old ≡ statement_on self.old.line (words result.now) ++ left self.new }
@@ -74,7 +74,7 @@ impl<'a> Statements<'a> {
         }
     }
 
-    /// The next line that says something, if there is one.
+    /// The next statement, if there is one.
     pub fn next(&mut self) -> Option<Statement<'a>>
         ensures left { MatchOption result (left self.old ≡ []) (λ s. left self.old ≡ as_text s ∷ left self.new) }
         ensures last { last_line self.new ≡ last_line self.old }

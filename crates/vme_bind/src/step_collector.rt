@@ -3,7 +3,7 @@
 use std::alloc::{AllocError, Global};
 use vme_trace::{Lines, Step, StepVisitor};
 
-/// The opening and the steps of a recording, which are kept.
+/// A visitor that keeps the opening and the steps of a recording.
 #[derive(Drop)]
 pub struct StepCollector {
     pub opening: Lines,

@@ -31,7 +31,7 @@ use std::alloc::{AllocError, Global};
 use vcd_read::{Head, read_definitions};
 use vme_trace::{Capture, Lines, StepVisitor};
 
-/// What takes the changes of a dump for a visitor, and has taken none.
+/// The builder for `visitor`, before any change. `visitor` has the opening.
 pub(crate) fn builder_of<F: StepVisitor>(
     alloc: Global,
     lines: &Lines,
@@ -49,7 +49,7 @@ pub(crate) fn builder_of<F: StepVisitor>(
     Ok(CaptureBuilder::new(line_bits, recorder, visitor))
 }
 
-/// Reads the body after some definitions.
+/// Reads the body after the definitions `head`.
 fn record_body<F: StepVisitor>(
     alloc: Global,
     made: CaptureBuilder<F>,
@@ -64,7 +64,7 @@ fn record_body<F: StepVisitor>(
     }
 }
 
-/// The recording that bound groups make of the body after some definitions.
+/// Gives `visitor` the recording that `bound_groups` make of the body after the definitions `head`.
 fn record_bound_groups<F: StepVisitor>(
     alloc: Global,
     lines: &Lines,
@@ -90,7 +90,7 @@ pub(crate) fn want_of_memory() -> BindFault
     }
 }
 
-/// A fault of the body after some definitions, which comes first, or else this fault of a binding.
+/// The first fault of the body after the definitions `head`, or, where the body has none, `fault`.
 fn first_fault(alloc: Global, head: &Head<'_>, fault: BindFault) -> CaptureFault
     ensures { (b : BoundLines) (variables : List Variable) → BindFails fault (bound_groups_in variables b.assignments)
         → CaptureFailsBy result (recording_behind b (defined head.now variables)) }
@@ -102,10 +102,10 @@ fn first_fault(alloc: Global, head: &Head<'_>, fault: BindFault) -> CaptureFault
 }
 
 impl Binding {
-    /// The recording that the binding makes of the dump that a text is, which is read once and isn't kept.
+    /// The recording that the binding makes of the dump `text`, which is read once and isn't kept.
     ///
-    /// It is what `capture` gives for the dump that `read_vcd` reads. A fault of the dump comes before one of the
-    /// binding.
+    /// The result is that of `capture` for the dump that `read_vcd` reads. A fault of the dump takes precedence over
+    /// one of the binding.
     pub fn capture_text(&self, alloc: Global, text: &[u8]) -> Result<Capture, CaptureFault>
         ensures { GivesBy (λ capture. capture) result (capture_of_text self.now text.now) }
     {
@@ -122,8 +122,8 @@ impl Binding {
         }
     }
 
-    /// Gives the recording that the binding makes of the dump that a text is to what takes it, step by step: nothing
-    /// else is kept of it, and it may be as long as it is. A fault of the dump comes before one of the binding.
+    /// Gives the recording that the binding makes of the dump `text` to `visitor`, step by step. The steps aren't kept
+    /// here, and there may be any number of them. A fault of the dump takes precedence over one of the binding.
     pub fn record_text<F: StepVisitor>(
         &self,
         alloc: Global,
@@ -143,7 +143,8 @@ impl Binding {
         }
     }
 
-    /// The recording of the body after some definitions, of whose variables this was found.
+    /// Gives `visitor` the recording of the body after the definitions `head`. `search` has what was found of their
+    /// variables.
     fn record_head<F: StepVisitor>(
         &self,
         alloc: Global,

@@ -31,8 +31,8 @@ use std::alloc::Global;
 use vcd_read::{Front, Stopped, read_front};
 use vme_trace::{Lines, StepVisitor};
 
-/// Begins to make the recording of a body, with these bound groups or a fault of the binding, and says what the prefix
-/// that was read has of it.
+/// Begins the recording of the body after the definitions of `front`, by `bound_groups` or with a fault of the binding.
+/// The bytes in the result are what the prefix that was read has of the body.
 fn begin_bound_groups<'a, F: StepVisitor>(
     alloc: Global,
     lines: &Lines,
@@ -62,7 +62,7 @@ fn begin_bound_groups<'a, F: StepVisitor>(
     }
 }
 
-/// The same fault, with what took the recording.
+/// `stopped`, with the builder's visitor in place of the builder: the fault and the time are the same.
 fn visitor_of<F: StepVisitor>(stopped: Stopped<CaptureBuilder<F>>) -> Stopped<F>
     ensures fault { result.fault ≡ stopped.fault }
     ensures visitor { F.recorded result.visitor ≡ stopped.visitor.recorded }
@@ -81,8 +81,8 @@ fn visitor_of<F: StepVisitor>(stopped: Stopped<CaptureBuilder<F>>) -> Stopped<F>
 }
 
 impl Binding {
-    /// Begins to make the recording of a dump, by a prefix of its text that ends after a space. Where the definitions
-    /// don't end in it, the visitor is handed back.
+    /// Begins the recording of a dump with `front`, a prefix of its text that ends after a space. Where the definitions
+    /// don't end in `front`, `visitor` is handed back.
     pub fn begin_text<F: StepVisitor>(
         &self,
         alloc: Global,
@@ -103,8 +103,8 @@ impl Binding {
         }
     }
 
-    /// The same, where nothing of the body is read: what the prefix has of it is the first piece. So a
-    /// fault of the definitions is met here, and one of the body is met in a piece.
+    /// As `begin_text`, but reads nothing of the body. The bytes in the result are what `front` has of the body, and
+    /// are the first piece. So a fault of the definitions is met here, and one of the body is met in a piece.
     pub fn begin_before_body<'a, F: StepVisitor>(
         &self,
         alloc: Global,
@@ -139,7 +139,8 @@ impl Binding {
         }
     }
 
-    /// Begins to make the recording of the body after some definitions, of whose variables this was found.
+    /// Begins the recording of the body after the definitions of `front`. `search` has what was found of their
+    /// variables.
     fn begin_body<'a, F: StepVisitor>(
         &self,
         alloc: Global,
@@ -188,7 +189,7 @@ impl<F: StepVisitor> TextPieces<F> {
     }
 
     /// Takes the next piece of the text, which ends after a space, or where the text does. With the first fault comes
-    /// what took the steps of the instants that a later time before it follows.
+    /// the visitor, which has the steps of the instants that a later time follows before the fault.
     pub fn read_until_fault(self, alloc: Global, piece: &[u8]) -> Result<TextPieces<F>, Stopped<F>>
         ensures fault { IfOk result (λ text. (text_reached text).fault ≡ (text_reached self).fault) }
         ensures line { IfOk result (λ text. (text_reached text).body.line
@@ -226,8 +227,9 @@ impl<F: StepVisitor> TextPieces<F> {
         self.pieces.is_between_items()
     }
 
-    /// What took the recording of the dump, of which nothing is left, whatever its binding has. With a fault, an item
-    /// or a dump section that isn't ended, comes what took the steps of the instants that a later time follows.
+    /// Ends the text. The result is the visitor that took the recording, whether or not the binding has a fault. With a
+    /// fault of the dump, i.e. an item or a dump section that isn't ended, comes the visitor, which has the steps of
+    /// the instants that a later time follows.
     pub fn finish_or_stop(self, alloc: Global) -> Result<F, Stopped<F>>
         ensures { ReadingEndsAs (λ f. F.recorded f) (text_reached self).body.progress.time result
             (reading_ahead (text_reached self) [] []) }
@@ -238,8 +240,8 @@ impl<F: StepVisitor> TextPieces<F> {
         }
     }
 
-    /// What took the recording of the text, of which nothing is left. A fault of the dump comes before one of the
-    /// binding.
+    /// Ends the text. The result is the visitor that took the recording. A fault of the dump takes precedence over one
+    /// of the binding.
     pub fn finish(self, alloc: Global) -> Result<F, CaptureFault>
         ensures { GivesBy (λ f. F.recorded f) result (outcome_ahead (text_reached self) [] []) }
     {

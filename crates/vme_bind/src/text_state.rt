@@ -8,11 +8,11 @@ use crate::fault::BindFault;
 use vcd_read::Pieces;
 use vme_trace::StepVisitor;
 
-/// The recording that a binding makes of a dump, as far as some pieces of its text go.
+/// The recording that a binding makes of a dump, after some pieces of the dump's text.
 #[derive(Drop)]
 pub struct TextPieces<F: StepVisitor> {
     pub(crate) pieces: Pieces<CaptureBuilder<F>>,
-    /// Why the binding makes no recording of it, which is told at the end, if the dump has no fault.
+    /// Why the binding makes no recording of the dump. It is reported at the end, if the dump has no fault.
     pub(crate) fault: Option<BindFault>,
     ghost own: { ForSome fault IsOfBinding },
 }

@@ -10,7 +10,7 @@ use vme_bind::{
 };
 use vme_trace::{Capture, Level, Line, Lines, Step, StepVisitor};
 
-/// A binding of six lines to variables, and of the others to levels.
+/// A binding of six lines to variables, and of the others to constant levels.
 const BUS_LINES: &str = "\
 slots 1
 AS = bus.AS
@@ -37,7 +37,7 @@ BG3 = 1
 IA = 1
 ";
 
-/// What those variables are declared as, but for AS.
+/// The declarations of those variables, except AS.
 const DECLARED: &str = "\
 $var wire 1 q DS0 $end
 $var wire 1 r DS1 $end
@@ -53,7 +53,7 @@ const BUS: &str = "$scope module bus $end\n$var wire 1 p AS $end\n";
 
 const AS: &str = "$var wire 1 p AS $end";
 
-/// A dump in which AS is declared so, with these changes.
+/// A dump in which AS is declared by `declared`, with these changes.
 fn bus_dump(alloc: Global, declared: &str, changes: &str) -> Result<String, AllocError> {
     format!(in alloc; "$scope module bus $end\n{declared}\n{DECLARED}{changes}")
 }
@@ -78,7 +78,7 @@ const READ_STEPS: &str = "\
 #50 DTACK=1
 ";
 
-/// The lines that the vectors below leave.
+/// The binding of the lines that the vectors below don't have.
 const OTHERS: &str = "\
 DS0 = 1
 DS1 = 1
@@ -106,8 +106,8 @@ $enddefinitions $end
 #6 bzzz0zzzz d b01xz u bz g
 ";
 
-/// What the binding of the bus has behind its lines, what the dump declares behind AS, its changes, and the steps of
-/// the recording.
+/// What the binding of the bus has after its lines, what the dump declares after AS, its changes, and the steps of the
+/// recording.
 static OF_BUS: [(&str, &str, &str, &str); 5] = [
     ("", "", READ, READ_STEPS),
     (
@@ -159,7 +159,7 @@ static OF_VECTORS: [(&str, &str, &str); 3] = [
     ),
 ];
 
-/// The path of AS, and the declarations of a dump in which it is p: a path may part into scopes anywhere.
+/// The path of AS, and the declarations of a dump in which it is p: a path may be split into scopes anywhere.
 static OF_PATHS: [(&str, &str); 12] = [
     (
         "a.b.c",
@@ -205,7 +205,7 @@ const ONES: &str = "\nBR = 1\nBG0 = 1\n";
 /// The variable with the code p falls.
 const FALLS: &str = " $enddefinitions $end #1 1p #2 0p";
 
-/// The texts of a list, one behind the other.
+/// The texts of a list, one after the other.
 fn together(alloc: Global, parts: &[&str]) -> Result<Vec<u8>, AllocError> {
     let mut text = Vec::new(alloc);
     for part in parts {
@@ -225,7 +225,7 @@ fn captured(alloc: Global, binding: &[&str], dump: &[&str]) -> Option<Capture> {
     binding.capture_text(alloc, text.as_slice()).ok()
 }
 
-/// The same by a dump that was read before.
+/// The recording that a binding makes of a dump that was read before.
 fn captured_by_dump(alloc: Global, binding: &[&str], dump: &[&str]) -> Option<Capture> {
     let binding = bound(alloc, binding)?;
     let text = together(alloc, dump).ok()?;
@@ -268,7 +268,7 @@ fn push(text: &mut Vec<u8>, part: String) -> Result<(), AllocError> {
     Ok(())
 }
 
-/// Whether steps are written so.
+/// Whether the steps are written as `wanted`.
 fn are_written(alloc: Global, steps: &[Step], wanted: &str) -> bool {
     match written(alloc, steps) {
         Ok(text) => text.as_slice() == wanted.as_bytes(),
@@ -276,7 +276,7 @@ fn are_written(alloc: Global, steps: &[Step], wanted: &str) -> bool {
     }
 }
 
-/// Whether there is a recording, whose steps are written so.
+/// Whether there is a recording, whose steps are written as `wanted`.
 fn is_written(alloc: Global, capture: Option<Capture>, wanted: &str) -> bool {
     match capture {
         Some(capture) => are_written(alloc, capture.steps(), wanted),
@@ -333,7 +333,7 @@ fn recordings_by_paths(rt: HostRuntime) {
     }
 }
 
-/// What the binding has behind its lines, a line, and the level that it opens with.
+/// What the binding has after its lines, a line, and the level that it opens with.
 static OPENINGS: [(&str, &str, Level); 9] = [
     ("", "AS", Level::Unknown),
     ("", "BBSY", Level::Low),
@@ -404,7 +404,7 @@ static FAULTS: [(&str, &str); 13] = [
     ("slots 1\r", "binding line 1: SlotsFirst"),
 ];
 
-/// What is behind the lines of the bus, and the first fault.
+/// What the binding has after the lines of the bus, and the first fault.
 static MORE_FAULTS: [(&str, &str); 4] = [
     ("D00 = 1\n", "binding line 25: Unbound D01"),
     ("D = 1\nD31 = 1\n", "binding line 25: NamedTwice"),
@@ -422,7 +422,7 @@ fn fault_of(alloc: Global, parts: &[&str]) -> Option<String> {
     format!(in alloc; "{fault}").ok()
 }
 
-/// Whether this is the first fault of a text.
+/// Whether the first fault of a text is `wanted`.
 fn has_fault(alloc: Global, parts: &[&str], wanted: &str) -> bool {
     match fault_of(alloc, parts) {
         Some(found) => found.as_str() == wanted,
@@ -515,14 +515,14 @@ fn lacked(alloc: Global, binding: &Binding, text: &[u8]) -> Option<String> {
     shown_fault(alloc, fault).ok()
 }
 
-/// Why a dump makes none.
+/// Why a dump that was read before makes no recording.
 fn lacked_by_dump(alloc: Global, binding: &Binding, text: &[u8]) -> Option<String> {
     let dump = read_vcd(alloc, text).ok()?;
     let fault = binding.capture(alloc, &dump).err()?;
     format!(in alloc; "{fault}").ok()
 }
 
-/// Whether a binding has this fault with the text of a dump.
+/// Whether a binding has the fault `wanted` with the text of a dump.
 fn text_lacks(alloc: Global, binding: &Binding, text: &[u8], wanted: &str) -> bool {
     match lacked(alloc, binding, text) {
         Some(found) => found.as_str() == wanted,
@@ -530,7 +530,7 @@ fn text_lacks(alloc: Global, binding: &Binding, text: &[u8], wanted: &str) -> bo
     }
 }
 
-/// Whether it has this fault with the dump.
+/// Whether a binding has the fault `wanted` with a dump that was read before.
 fn dump_lacks(alloc: Global, binding: &Binding, text: &[u8], wanted: &str) -> bool {
     match lacked_by_dump(alloc, binding, text) {
         Some(found) => found.as_str() == wanted,
@@ -538,7 +538,7 @@ fn dump_lacks(alloc: Global, binding: &Binding, text: &[u8], wanted: &str) -> bo
     }
 }
 
-/// Whether a binding has this fault with a dump, and with its text.
+/// Whether a binding has the fault `wanted` with a dump that was read before, and with its text.
 fn lacks(alloc: Global, binding: &[&str], dump: &[&str], wanted: &str) -> bool {
     match (bound(alloc, binding), together(alloc, dump)) {
         (Some(binding), Ok(text)) => {
@@ -660,7 +660,7 @@ fn want_of_memory_is_the_fault(rt: HostRuntime) {
     }
 }
 
-/// The same, where the text of the dump is read.
+/// Run with each allocation refused in turn, this shows that want of memory is the fault where the text is read.
 #[test]
 fn want_of_memory_at_a_text_is_the_fault(rt: HostRuntime) {
     let Ok(text) = bus_dump(rt.alloc(), AS, READ) else {
@@ -710,7 +710,7 @@ fn sent<T: Send>(value: T) -> T
     value
 }
 
-/// Nothing is kept yet.
+/// A recording without steps.
 fn none_kept(alloc: Global, opening: Lines) -> KeptSteps
     ensures opening { result.opening ≡ opening }
     ensures steps { result.steps.items ≡ [] }
@@ -737,7 +737,7 @@ fn keep_all(
     Ok(())
 }
 
-/// Reads a piece ahead, from the levels that the wave is at, and joins it at once.
+/// Reads a piece ahead, from the levels that the reader is at, and joins it at once.
 fn joined(
     alloc: Global,
     speculative: SpeculativeReader,
@@ -757,7 +757,7 @@ fn joined(
     Some(speculative)
 }
 
-/// A text whose definitions end in a front of a dump of the bus.
+/// A dump of the bus that is read up to the end of `front`, in which its definitions end.
 fn begun(alloc: Global, front: &[&str]) -> Option<TextPieces<KeptSteps>> {
     let binding = bound(alloc, &[BUS_LINES])?;
     let front = together(alloc, front).ok()?;
@@ -766,10 +766,10 @@ fn begun(alloc: Global, front: &[&str]) -> Option<TextPieces<KeptSteps>> {
     text.ok()
 }
 
-/// The pieces of a wave.
+/// Pieces that are read ahead and joined, one after the other.
 static PIECES: [&str; 4] = ["#10 0p\n", "#20 0q\n", "#30 0s\n#40 1p 1q\n", "#50 1s\n"];
 
-/// What a wave of those pieces keeps.
+/// The recording of the dump whose body has those pieces.
 fn kept_of_wave(alloc: Global) -> Option<KeptSteps> {
     let text = begun(alloc, &[BUS, DECLARED, "#0 1p 1q 1r 1s 1t 1u\n"])?;
     let (mut speculative, mut kept) = text.into_speculative();
@@ -779,7 +779,7 @@ fn kept_of_wave(alloc: Global) -> Option<KeptSteps> {
     speculative.with_step_visitor(kept).finish(alloc).ok()
 }
 
-/// A wave of pieces, each of which is a line.
+/// Each piece is joined before the next one is read ahead.
 #[test]
 fn a_wave_of_pieces_records_what_their_text_does(rt: HostRuntime) {
     let is_so = match kept_of_wave(rt.alloc()) {
@@ -789,7 +789,7 @@ fn a_wave_of_pieces_records_what_their_text_does(rt: HostRuntime) {
     assert!(rt; is_so);
 }
 
-/// Pieces of a body, and whether what is read ends between two items behind each.
+/// Pieces of a body, and whether what is read ends between two items after each.
 static BETWEEN: [(&str, bool); 7] = [
     ("#0 1p 1q\n", true),
     ("$dumpon\n", false),
@@ -800,7 +800,7 @@ static BETWEEN: [(&str, bool); 7] = [
     ("$comment\n", false),
 ];
 
-/// The first piece behind which it doesn't end as it should, or an empty one. None is a text that isn't read.
+/// The first piece after which `is_between_items` answers wrong, or an empty text. `None` is a dump that isn't read.
 fn first_wrong_end(alloc: Global) -> Option<&'static str> {
     let mut text = begun(alloc, &[BUS, DECLARED])?;
     if !text.is_between_items() {
@@ -822,7 +822,7 @@ fn a_text_is_between_items_outside_of_dump_sections(rt: HostRuntime) {
     assert!(rt; wrong.is_empty(), "{wrong}");
 }
 
-/// Begins to read the body of a dump whose definitions end in a front, and reads what the front has of it.
+/// Begins to read the body of a dump whose definitions end in `front`, and reads what `front` has of the body.
 fn stopped_in_front(
     alloc: Global,
     binding: &Binding,
@@ -852,7 +852,7 @@ fn stopped_behind(
     text.finish_or_stop(alloc).err()
 }
 
-/// Where reading a body in pieces stops, of which the first is in the front.
+/// Where reading a body in three pieces stops, of which `first` follows the definitions at once.
 fn stopped_by(alloc: Global, first: &str, second: &str, third: &str) -> Option<Stopped<KeptSteps>> {
     let binding = bound(alloc, &[BUS_LINES])?;
     let front = together(alloc, &[BUS, DECLARED, first]).ok()?;
@@ -903,7 +903,7 @@ static STOPS: [(&str, &str, &str, u64, FaultKind, &str, u64); 4] = [
     ),
 ];
 
-/// Whether reading stops with this fault behind these steps, the last at this time.
+/// Whether reading stops with the fault `wanted`, the steps `steps` and the last time `last`.
 fn is_stop(
     alloc: Global,
     stopped: Option<Stopped<KeptSteps>>,
@@ -972,7 +972,7 @@ fn the_fault_of_a_binding_is_known_before_the_body(rt: HostRuntime) {
     assert!(rt; is_so);
 }
 
-/// Some bytes are given to a reader of a dump: what it leaves of them.
+/// The reader after it took what it takes of `bytes`, and the bytes that it leaves.
 fn left_of<'b, 't>(
     alloc: Global,
     reader: DumpReader<'b, KeptSteps>,
@@ -984,12 +984,12 @@ fn left_of<'b, 't>(
     Some((reader, &bytes[count..]))
 }
 
-/// Whether its body is read, which isn't at fault so far.
+/// Whether the reader is in the body, and has met no fault so far.
 fn is_at_body(reader: &DumpReader<'_, KeptSteps>) -> bool {
     matches!(reader, DumpReader::Body(_))
 }
 
-/// What comes of a dump of the bus, of whose body this comes first and this last, and the fault that is known between.
+/// The fault that is known after `first`, and the result of a dump of the bus whose body is `first` and then `last`.
 fn read_in_two(
     alloc: Global,
     first: &str,
@@ -997,7 +997,7 @@ fn read_in_two(
 ) -> Option<(Option<VcdFault>, Result<KeptSteps, CaptureFault>)> {
     let binding = bound(alloc, &[BUS_LINES])?;
     let reader = DumpReader::new(&binding, none_kept(alloc, Lines::new(1)?));
-    // no definitions end here
+    // the definitions don't end here
     let Some((reader, left)) = left_of(alloc, reader, BUS.as_bytes()) else {
         return None;
     };
@@ -1046,13 +1046,13 @@ fn a_fault_is_known_as_the_text_comes(rt: HostRuntime) {
     assert!(rt; is_so);
 }
 
-/// The fault of a dump that has this one.
+/// The fault of a reader that has failed with `met`.
 fn fault_after(met: VcdFault) -> Option<VcdFault> {
     let reader: DumpReader<'_, KeptSteps> = DumpReader::failed(CaptureFault::Dump(met)).ok()?;
     reader.fault()
 }
 
-/// Whoever reads a body in another way tells its fault. Want of memory is none.
+/// A caller that reads a body in another way reports its fault. Want of memory is no fault of a dump.
 #[test]
 fn a_fault_may_be_met_elsewhere(rt: HostRuntime) {
     let met = VcdFault {

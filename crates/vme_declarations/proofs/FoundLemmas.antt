@@ -4,13 +4,13 @@ use Rattle.std.specs.Prelude.{if◌then◌else◌, replicate}
 use Rattle.vme_declarations.specs.Found.{groups_below, has_net, slots_to, with_group}
 use Rattle.vme_declarations.specs.declared.found_lines.FoundLines.{FoundLines}
 
--- one line more
+-- the groups of the lines below `line + 1`
 pub groups_more : (found : FoundLines) (line : ℕ) → groups_below found (line + 1)
     ≡ with_group found line (groups_below found line)
 unfolding groups_below
 groups_more found line = ap (groups_below found) (add-one line)
 
--- one place more
+-- the slots up to the place `before + 1`
 slots_more : (found : FoundLines) (before : ℕ) → slots_to found (before + 1)
     ≡ (if has_net found (before + 1) then before + 1 else slots_to found before)
 unfolding slots_to
@@ -24,7 +24,7 @@ slots-step found before slots more has so_far is_net is_more =
     ∙ ap (λ (n : ℕ). if has_net found (before + 1) then before + 1 else n) so_far
     ∙ sym (slots_more found before)
 
--- where each is the same, so is what stands for one that isn't there
+-- each element of `n` times `x` is `x`, and so is the default past the end
 pub same-at : {X : Type 0} (n : ℕ) (x : X) (i : ℕ) → get_or (replicate n x) i x ≡ x
 same-at zero x i = refl
 same-at (suc n) x zero = refl

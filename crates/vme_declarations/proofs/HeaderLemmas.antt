@@ -1,4 +1,4 @@
--- What comes of the variables of a header.
+-- What is taken of the variables of a header.
 use Rattle.std.proofs.Common.{◌≡◌, ℕ, List, Result, Ok, Err, refl, sym, ap, ◌∙◌}
 use Rattle.std.specs.Prelude.{fold}
 use Rattle.vcd_read.specs.declared.dump.Variable.{Variable}
@@ -10,7 +10,7 @@ use Rattle.vcd_read.proofs.DefinedLemmas.{header_taken, taken_head}
 use Rattle.vcd_read.proofs.DumpLemmas.{whole_header}
 
 module _ {V : Type 0} (with_variable : V → Variable → V) where
-  -- a header whose variables were taken
+  -- the header of `text` is `h`, and `last` is `first` after its variables
   abbrev pub IsTaken : List ℕ → Headed → V → V → Type 0
   IsTaken text h first last = (variables : List Variable) × (whole_header text ≡ Ok (defined h variables))
       × (last ≡ fold with_variable first variables)
@@ -32,6 +32,7 @@ module _ {V : Type 0} (with_variable : V → Variable → V) where
       )
   taken_from text h first last (Err fault) e is = absurd (cc is)
 
+  -- where a visitor reads the header of `text` without a fault, `IsTaken` holds
   pub is-taken : (text : List ℕ) (h : Headed) (first last : V) → header_of with_variable text (nothing_declared first)
       (tokens text) ≡ Ok (defined h last) → IsTaken text h first last
   is-taken text h first last e = taken_from text h first last (whole_header text) refl

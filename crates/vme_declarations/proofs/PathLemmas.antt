@@ -9,7 +9,7 @@ use Rattle.vcd_read.specs.Scopes.{with_dot}
 use Rattle.vme_declarations.specs.Names.{name_at, nowhere, parent_of, path_within, places_around}
 use Rattle.vme_declarations.specs.declared.declared.DeclaredNames.{DeclaredNames}
 
--- a path, and behind it the name of the scope at a place
+-- `path`, a dot, and the name of the scope at `place`
 abbrev pub inside : DeclaredNames → List ℕ → ℕ → List ℕ
 inside d path place = with_dot path ++ name_at d place
 
@@ -24,7 +24,7 @@ inside-more d n place false is =
     ∙ fold-append (inside d) [] (reverse rest) (place ∷ [])
     ∙ ap (λ (path : List ℕ). inside d path place) is
 
--- the places from the outermost inward make the path
+-- the names at the places around a scope, from the outermost inward, make its path
 pub path_of_places : (d : DeclaredNames) (n place : ℕ) → fold (inside d) [] (reverse (places_around d n place))
     ≡ path_within d n place
 unfolding places_around path_within
@@ -45,6 +45,7 @@ places_left : (d : DeclaredNames) (place left : ℕ) (n passed : ℕ) → passed
 places_left d place left n passed lt e =
     let same : n - passed ≡ suc left = omega (arith, lt, e) in ap (λ (k : ℕ). places_around d k place) same
 
+-- at the outermost scope, all places are found
 pub places-end : (d : DeclaredNames) (around whole : List ℕ) (n passed place outward : ℕ) → passed < n → outward
     ≡ parent_of d place → outward ≡ nowhere → around ++ places_around d (n - passed) place ≡ whole → around ≡ whole
 places-end d around whole n passed place outward lt parent last is =
@@ -62,6 +63,7 @@ places-further d around whole n passed place lt more is =
     ∙ places-outward d (n - (passed + 1)) place false (ne_eqb (parent_of d place) nowhere more)))
     ∙ is
 
+-- a place that isn't the outermost scope's is added, and the scope around it is the next
 pub places-more : (d : DeclaredNames) (around after whole : List ℕ) (n passed place outward : ℕ) → passed < n → after
     ≡ around ++ place ∷ [] → outward ≡ parent_of d place → (outward ≡ nowhere → ⊥)
     → around ++ places_around d (n - passed) place ≡ whole
@@ -69,6 +71,7 @@ pub places-more : (d : DeclaredNames) (around after whole : List ℕ) (n passed 
 places-more d around after whole n passed place outward lt pushed parent more is =
     rw (pushed, parent) (places-further d around whole n passed place lt (λ last. more (parent ∙ last)) is)
 
+-- after `n` scopes all places are found
 pub places-all : (d : DeclaredNames) (around whole : List ℕ) (n passed place : ℕ) → n - passed ≡ 0
     → around ++ places_around d (n - passed) place ≡ whole → around ≡ whole
 unfolding places_around

@@ -27,6 +27,7 @@ or_none false = refl
 abbrev sought : List ℕ → Bool → ScopeSought
 sought front found = record { front = front; is_found = found }
 
+-- a search over variables finds whether the path of one of them begins with `front`
 sought_all : (front : List ℕ) (found : Bool) (vs : List Variable) → fold sought_in (sought front found) vs
     ≡ sought front (found || list_any (path_begins front) vs)
 sought_all front found [] = ap (sought front) (sym (or_none found))
@@ -34,14 +35,14 @@ sought_all front found (v ∷ vs) =
     sought_all front (found || path_begins front v) vs
     ∙ ap (sought front) (or_assoc found (path_begins front v) (list_any (path_begins front) vs))
 
--- what a search from the beginning has found
+-- a search over all variables finds whether they have the scope `path`
 pub search-found : (path first front : List ℕ) (found there : Bool) (vs : List Variable) → first ≡ with_dot path
     → sought front found ≡ fold sought_in (sought first false) vs → found ≡ there → has_scope path vs ≡ there
 search-found path first front found there vs is e here =
     ap (λ (f : List ℕ). list_any (path_begins f) vs) (sym is)
     ∙ sym (ap (λ (s : ScopeSought). s.is_found) (e ∙ sought_all first false vs)) ∙ here
 
--- one variable more
+-- the search after one variable more, by the variable's name and scopes
 pub found-more : (front name : List ℕ) (scopes : List (List ℕ)) (net size : ℕ) (index : Option (ℕ × ℕ))
     (found now : Bool) → 0 < length name → now ≡ (found || starts_with nat_eq (path_in scopes ++ name) front)
     → sought front now
@@ -52,7 +53,7 @@ found-more front name scopes net size index found now some is =
 
 -- ---- two texts that begin with a third
 
--- a text is this and some more
+-- `text` is `front` and a rest
 abbrev Begins : List ℕ → List ℕ → Type 0
 Begins front text = (rest : List ℕ) × (text ≡ front ++ rest)
 
@@ -63,7 +64,7 @@ starts-Decides front text =
       λ h. is.1 h.0 h.1,
     )
 
--- the third's first part is as long as the first text
+-- where `first` is as long as `outer`, `outer ++ inner` begins with `first ++ second` exactly if its parts do so
 parts-Decides : (outer inner first second : List ℕ) → length first ≡ length outer
     → Decides (bytes_eq outer first && starts_with nat_eq inner second) (Begins (first ++ second) (outer ++ inner))
 parts-Decides outer inner first second same =
@@ -87,7 +88,7 @@ parts-Decides outer inner first second same =
           ),
     )
 
--- where the third is cut behind the length of the first
+-- `outer ++ inner` begins with `front` exactly if its parts begin with those of `front`, cut at the length of `outer`
 pub starts-cut : (front outer inner first second : List ℕ) → length outer ≤ length front
     → first ≡ take (length outer) front → second ≡ drop (length outer) front
     → starts_with nat_eq (outer ++ inner) front ≡ (bytes_eq outer first && starts_with nat_eq inner second)

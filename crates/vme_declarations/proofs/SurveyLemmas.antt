@@ -29,7 +29,7 @@ use Rattle.vme_declarations.proofs.HeaderLemmas.{is-taken}
 
 -- ---- faults
 
--- a fault that is no want of memory is what reading gives
+-- a fault that isn't want of memory is the result of reading
 pub told-is : {X : Type 0} (fault : VcdFault) (r : Result X VcdFault) → is_want_of_memory fault.kind ≡ false
     → ReadFails fault r → r ≡ Err fault
 told-is {X = X} fault r told fails = by_kind fault.line fault.kind told fails
@@ -39,7 +39,7 @@ told-is {X = X} fault r told fails = by_kind fault.line fault.kind told fails
     by_kind line Memory told fails = absurd (cc told)
     by_kind line kind told fails = fails
 
--- a fault stays, whatever comes of what is read
+-- if `r` followed by a total function `f` fails, `r` fails with the same fault
 fails_back : {X Y : Type 0} (line : ℕ) (kind : FaultKind) (r : Result X VcdFault) (f : X → Y) → ReadFailsAs line kind
     (r >>= λ x. Ok (f x)) → ReadFailsAs line kind r
 fails_back line Memory r f h = h
@@ -53,7 +53,7 @@ fails_alike X Y line kind fault h = let same : fault ≡ record { line = line; k
 
 -- ---- the whole text
 
--- what comes of a variable that is passed over
+-- a variable is passed over
 abbrev pub passed : Unit {0} → Variable → Unit {0}
 passed none variable = none
 
@@ -72,6 +72,7 @@ definitions-fail text fault fails =
     (subst (ReadFails fault) (header_taken passed text tt) fails) in
     fails_first fault (definitions_of text) surveyed (survey_of text) refl own
 
+-- the survey of a text has its variables and the number of instants after its definitions
 pub behind-counts : (text : List ℕ) (h : Headed) (n : ℕ) → header text (tokens text) ≡ Ok (defined h tt)
     → fold_body uncounted counted h.nets 0 h.body ≡ Ok n
     → survey_of text ≡ Ok (record { variables = variables_in text; instants = n })
@@ -82,6 +83,7 @@ behind-counts text h n is counts =
     ∙ ap (with_count taken.0) counts
     ∙ ap (λ (vs : List Variable). Ok (record { variables = vs; instants = n })) (sym (ap variables_by taken.1))
 
+-- a fault of the body is the fault of the survey
 pub behind-fails : (text : List ℕ) (h : Headed) (fault : VcdFault) → header text (tokens text) ≡ Ok (defined h tt)
     → ReadFails fault (fold_body uncounted counted h.nets 0 h.body) → ReadFails fault (survey_of text)
 unfolding survey_of
@@ -93,7 +95,7 @@ behind-fails text h fault is fails =
 
 -- ---- the dump
 
--- so many instants are behind
+-- `n` is the number of instants in `done`
 abbrev Counts : List Instant → CurrentValues → ℕ → Type 0
 Counts done current n = length done ≡ n
 
@@ -155,11 +157,11 @@ abbrev ends_as : Result (State ℕ) VcdFault → Result ℕ VcdFault
 ends_as r = r >>= at_end counted
 
 module _ (r : Reached ℕ) where
-  -- what comes of these tokens
+  -- the result for the tokens `ts`
   abbrev comes_of : List Token → Result ℕ VcdFault
   comes_of ts = ends_as (steps uncounted counted r.nets (state_at r.progress r.dump_section) (body_from r.place ts))
 
-  -- these tokens and more, of a piece and what follows it
+  -- the count for a piece and the rest, in two parts
   parts : (piece rest : List ℕ) → EndsBetweenTokens piece → count_ahead r (piece ++ rest)
       ≡ ends_as (rest_of uncounted counted r (tokens_from r.line piece) (tokens_from (line_behind r.line piece) rest))
   parts piece rest ends = ap comes_of (append-nil (tokens_from r.line (piece ++ rest)) ∙ ends r.line rest)
@@ -169,13 +171,14 @@ module _ (r : Reached ℕ) where
   later line rest is =
       ap (λ (l : ℕ). comes_of (tokens_from l rest)) (sym is) ∙ ap comes_of (sym (append-nil (tokens_from r.line rest)))
 
--- what was read to leaves what comes of the body
+-- reading `ts` from `r` leads to `r2`: both give the same result for any `more`
 abbrev pub Leads : Reached ℕ → List Token → Reached ℕ → Type 0
 Leads r ts r2 = (more : List Token) → rest_of uncounted counted r ts more ≡ rest_of uncounted counted r2 [] more
 
 abbrev pub FailsAhead : VcdFault → Reached ℕ → List Token → Type 0
 FailsAhead fault r ts = (more : List Token) → ReadFails fault (rest_of uncounted counted r ts more)
 
+-- where a piece of the body is read, the survey for the piece and the rest is that for the rest
 pub read-on : (front front2 : List ℕ) (r r2 : Reached ℕ) (piece : List ℕ) → front2 ≡ front
     → r2.line ≡ line_behind r.line piece → EndsBetweenTokens piece
     → Leads r (tokens_from r.line piece) r2
@@ -185,7 +188,7 @@ read-on front front2 r r2 piece same is ends leads rest =
     ∙ ap ends_as (leads (tokens_from (line_behind r.line piece) rest)) ∙ later r2 (line_behind r.line piece) rest is)
     ∙ ap (λ (f : List ℕ). body_ahead f r2 rest) (sym same)
 
--- a fault of what comes of a body is one of its count
+-- a fault of the body is a fault of the survey
 count-of-fault : (fault : VcdFault) (variables : List Variable) (r : Result (State ℕ) VcdFault)
     (whole : Result Survey VcdFault) → whole ≡ with_count variables (ends_as r) → ReadFails fault r
     → ReadFails fault whole
@@ -193,6 +196,7 @@ count-of-fault fault variables r whole is fails =
     fails_first fault (ends_as r) (λ n. Ok (record { variables = variables; instants = n })) whole is
     (fails_first fault r (at_end counted) (ends_as r) refl fails)
 
+-- a fault of a piece of the body is the fault of the survey
 pub read-fails : (front : List ℕ) (r : Reached ℕ) (piece : List ℕ) (fault : VcdFault) → EndsBetweenTokens piece
     → FailsAhead fault r (tokens_from r.line piece)
     → (rest : List ℕ) → ReadFails fault (body_ahead front r (piece ++ rest))
@@ -201,6 +205,7 @@ read-fails front r piece fault ends fails rest =
     count-of-fault fault (variables_in front) (rest_of uncounted counted r (tokens_from r.line piece) more)
     (body_ahead front r (piece ++ rest)) (ap (with_count (variables_in front)) (parts r piece rest ends)) (fails more)
 
+-- a fault of the last bytes of the body is the fault of the survey
 pub last-fails : (front : List ℕ) (r : Reached ℕ) (rest : List ℕ) (fault : VcdFault)
     → FailsAhead fault r (tokens_from r.line rest) → ReadFails fault (body_ahead front r rest)
 last-fails front r rest fault fails =
@@ -217,7 +222,7 @@ unfolding survey_of
 of_front front rest ends =
     ap (λ (ts : List Token). header_of appended (front ++ rest) (nothing_declared []) ts >>= surveyed) (ends 1 rest)
 
--- each text that begins so fails so
+-- a fault of the definitions in `front` is a fault of each text that begins with `front`
 pub front-fails : (front : List ℕ) (fault : VcdFault) → EndsBetweenTokens front
     → ((text : List ℕ) (more : List Token) → ReadFails fault (header text (tokens front ++ more)))
     → (rest : List ℕ) → ReadFails fault (survey_of (front ++ rest))
@@ -226,7 +231,8 @@ front-fails front fault ends fails rest =
     (subst (λ (ts : List Token). ReadFails fault (header (front ++ rest) ts)) (sym (ends 1 rest))
     (fails (front ++ rest) (tokens_from (line_behind 1 front) rest)))
 
--- The body behind the definitions of a front, of which nothing is read yet.
+-- The state `r` after the definitions in `front`, before anything of the body is read; `left` is what `front` has of
+-- the body.
 pub record IsBegun (front left : List ℕ) (h : Headed) (r : Reached ℕ) : Type 0 where
   pub header : (text : List ℕ) (more : List Token) → header_of passed text (nothing_declared tt) (tokens front ++ more)
       ≡ Ok (defined (going_on h more) tt)
@@ -243,7 +249,7 @@ module _ (front left : List ℕ) (h : Headed) (r : Reached ℕ) (begun : IsBegun
       ≡ ends_as (rest_of uncounted counted r (tokens_from r.line left) more)
   whole_count more = rw (begun.nets, begun.progress, begun.dump_section, begun.place, begun.body) refl
 
-  -- what the definitions of the front say of each text that begins so
+  -- the survey of a text that begins with `front`, by the body from `r` on
   begun_ahead : (rest : List ℕ) → survey_of (front ++ rest)
       ≡ with_count (variables_in front)
       (ends_as (rest_of uncounted counted r (tokens_from r.line left) (tokens_from (line_behind 1 front) rest)))
@@ -261,7 +267,7 @@ module _ (front left : List ℕ) (h : Headed) (r : Reached ℕ) (begun : IsBegun
       ∙ ap (λ (vs : List Variable). with_count vs
       (ends_as (rest_of uncounted counted r (tokens_from r.line left) more))) (sym (ap variables_by taken.1))
 
-  -- what the front has of the body is read
+  -- where what `front` has of the body is read, the survey of a text that begins with `front` is that for the rest
   pub begun-read : (r2 : Reached ℕ) → r2.line ≡ line_behind r.line left → Leads r (tokens_from r.line left) r2
       → (rest : List ℕ) → survey_of (front ++ rest) ≡ body_ahead front r2 rest
   begun-read r2 is leads rest =
@@ -269,6 +275,7 @@ module _ (front left : List ℕ) (h : Headed) (r : Reached ℕ) (begun : IsBegun
       ∙ ap (with_count (variables_in front)) (ap ends_as (leads (tokens_from (line_behind 1 front) rest))
       ∙ later r2 (line_behind 1 front) rest (is ∙ begun.line))
 
+  -- a fault of what `front` has of the body is the fault of each text that begins with `front`
   pub begun-fails : (fault : VcdFault) → FailsAhead fault r (tokens_from r.line left) → (rest : List ℕ)
       → ReadFails fault (survey_of (front ++ rest))
   begun-fails fault fails rest =

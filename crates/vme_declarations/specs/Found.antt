@@ -14,19 +14,19 @@ bit_of_line found line = slice_index_or found.bits_of_lines line None
 abbrev pub moves : FoundLines → ℕ → Bool
 moves found line = slice_index_or found.moving line false
 
--- the same with another bit for a line
+-- `found` with the bit of `line` set to `bit`
 abbrev pub with_bit : FoundLines → ℕ → Option VariableBit → FoundLines
 with_bit found line bit = record found { bits_of_lines = slice_set found.bits_of_lines line bit }
 
--- the same where it is noted of a line whether its bit moves
+-- `found` with whether the bit of `line` moves set to `moving`
 abbrev pub with_moving : FoundLines → ℕ → Bool → FoundLines
 with_moving found line moving = record found { moving = slice_set found.moving line moving }
 
--- a set, and the group of a line that has a bit
+-- `groups` with the group of `line`, if the line has a bit
 abbrev pub with_group : FoundLines → ℕ → ℕ → ℕ
 with_group found line groups = if is_some (bit_of_line found line) then bit_or groups (group_of line) else groups
 
--- the groups of the lines below a number that have a bit
+-- the groups of those lines below a number that have a bit
 unfoldable pub groups_below : FoundLines → ℕ → ℕ
 groups_below found zero = 0
 groups_below found (suc line) = with_group found line (groups_below found line)
@@ -35,7 +35,7 @@ groups_below found (suc line) = with_group found line (groups_below found line)
 abbrev pub groups : FoundLines → ℕ
 groups found = groups_below found line_count
 
--- a net at a place of a daisy chain has a bit
+-- some net at `place` of a daisy chain has a bit
 abbrev pub has_net : FoundLines → ℕ → Bool
 has_net found place =
     is_some (bit_of_line found (grant 0 place)) || is_some (bit_of_line found (grant 1 place))

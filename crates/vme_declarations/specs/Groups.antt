@@ -3,7 +3,7 @@ use Rattle.std.specs.Prelude.{ℕ, Bool, ◌/◌, ◌^◌, ◌==◌, ◌&&◌, �
 use Rattle.vme_trace.specs.LineNumbers.{A, AM, AS, BBSY, BERR, BR, D, DS0, DS1, DTACK, LWORD, SYSRESET, WRITE}
 use Rattle.vme_trace.specs.LineNumbers.{grant, iack}
 
--- the place of the group of a line: those of one name are a group, and so are the grants of a level
+-- the place of the bit of the line's group: the lines of one name are a group, and so are the grants of one level
 abbrev pub group_place : ℕ → ℕ
 group_place line =
     if nat_lt line (AM 0) then line
@@ -25,7 +25,7 @@ group_place line =
 abbrev pub group_of : ℕ → ℕ
 group_of line = 2 ^ group_place line
 
--- a number has a bit at a place, from the right
+-- `number` has a bit at `place`, from the right
 abbrev pub has_bit : ℕ → ℕ → Bool
 has_bit number place = bit_and (number / 2 ^ place) 1 == 1
 
@@ -33,10 +33,10 @@ has_bit number place = bit_and (number / 2 ^ place) 1 == 1
 abbrev pub has_group : ℕ → ℕ → Bool
 has_group groups line = has_bit groups (group_place line)
 
--- AS and a strobe are there
+-- `groups` has AS and a data strobe
 abbrev pub has_cycle : ℕ → Bool
 has_cycle groups = has_group groups AS && (has_group groups DS0 || has_group groups DS1)
 
--- an answer is there too
+-- `groups` has AS, a data strobe, and DTACK or BERR
 abbrev pub has_handshake : ℕ → Bool
 has_handshake groups = has_cycle groups && (has_group groups DTACK || has_group groups BERR)

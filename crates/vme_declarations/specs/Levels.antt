@@ -4,11 +4,11 @@ use Rattle.vme_declarations.specs.Groups.{has_bit}
 use Rattle.vme_declarations.specs.declared.levels_seen.LevelsSeen.{LevelsSeen}
 use Rattle.vme_declarations.specs.declared.levels_seen.NetLevels.{NetLevels}
 
--- of a net, if there is one: a bit that is kept, by its place from the right, was seen Low, and seen High
+-- the bit of a net at `place` from the right, below 64, was seen both Low and High
 abbrev pub moves_in : Option NetLevels → ℕ → Bool
 moves_in None place = false
 moves_in (Some net) place = nat_lt place 64 && has_bit net.low place && has_bit net.high place
 
--- a bit of a net moves
+-- the bit of `net` at `place` from the right moves
 abbrev pub moves : LevelsSeen → ℕ → ℕ → Bool
 moves levels net place = moves_in (slice_get levels.nets.items net) place

@@ -6,7 +6,7 @@ use Rattle.vme_declarations.specs.declared.declared.DeclaredNames.{DeclaredNames
 use Rattle.vme_declarations.specs.declared.declared.DeclaredVariable.{DeclaredVariable}
 use Rattle.vme_declarations.specs.declared.declared.Scope.{Scope}
 
--- stands for no place
+-- no place
 abbrev pub nowhere : ℕ
 nowhere = 2 ^ 64 - 1
 
@@ -18,7 +18,7 @@ variables declared = declared.variables.items
 abbrev pub scopes : DeclaredNames → List Scope
 scopes declared = declared.scopes.items
 
--- a part of a text, or nothing where it has none there
+-- the part of `text` from `start` to `end`, or nothing where there is no such part
 abbrev pub part_of : List ℕ → ℕ → ℕ → List ℕ
 part_of text start end = if nat_le start end && nat_le end (length text) then slice_range text start end else []
 
@@ -43,7 +43,7 @@ number_of_bit variable place = number_by variable.index variable.size place
 
 -- ---- paths
 
--- the scope that a scope stands in, if there are both
+-- the place of the scope around a scope, or `nowhere`
 abbrev pub parent_in : Option Scope → ℕ
 parent_in None = nowhere
 parent_in (Some scope) = scope.parent
@@ -59,14 +59,14 @@ name_in declared (Some scope) = scope_name declared scope
 abbrev pub name_at : DeclaredNames → ℕ → List ℕ
 name_at declared place = name_in declared (slice_get (scopes declared) place)
 
--- the places of a scope and of those around it but the outermost, from this one outward; so many at most
+-- the places of a scope and of the scopes around it, except the outermost, from this one outward; at most `n` places
 unfoldable pub places_around : DeclaredNames → ℕ → ℕ → List ℕ
 places_around declared zero place = []
 places_around declared (suc n) place =
     if parent_of declared place == nowhere then []
     else place ∷ places_around declared n (parent_of declared place)
 
--- the path of a scope: that of the one that it stands in, a dot, and its name; over so many scopes at most
+-- the path of a scope: the path of the scope around it, a dot, and its name; over at most `n` scopes
 unfoldable pub path_within : DeclaredNames → ℕ → ℕ → List ℕ
 path_within declared zero place = []
 path_within declared (suc n) place =

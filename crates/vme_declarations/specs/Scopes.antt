@@ -6,11 +6,11 @@ use Rattle.vcd_read.specs.Meaning.{dump_of}
 use Rattle.vcd_read.specs.Scopes.{with_dot}
 use Rattle.vcd_read.specs.declared.dump.Variable.{Variable}
 
--- the path of a variable begins so
+-- the path of `v` begins with `front`
 abbrev pub path_begins : List ℕ → Variable → Bool
 path_begins front v = starts_with nat_eq v.path front
 
--- some of the variables stands in the scope of this path, or in one within it
+-- some variable is in the scope `path`, or in a scope within it
 abbrev pub has_scope : List ℕ → List Variable → Bool
 has_scope path variables = list_any (path_begins (with_dot path)) variables
 
@@ -25,6 +25,6 @@ pub record ScopeSought : Type 0 where
   pub front : List ℕ
   pub is_found : Bool
 
--- one variable more
+-- the search after the variable `v`
 abbrev pub sought_in : ScopeSought → Variable → ScopeSought
 sought_in s v = record s { is_found = s.is_found || path_begins s.front v }

@@ -9,11 +9,11 @@ use Rattle.vme_declarations.specs.declared.survey.SurveyedBody.{SurveyedBody}
 use Rattle.vme_declarations.specs.declared.survey.DumpSurvey.{DumpSurvey}
 use Rattle.vme_declarations.specs.Surveys.{Survey, body_ahead, survey_of}
 
--- how far the body is read, by how many instants are behind
+-- how far the body is read, with the number of instants so far
 abbrev pub body_reached : SurveyedBody → Reached ℕ
 body_reached body = reached (λ (l : LevelsSeen). l.instants) body.pieces
 
--- what is surveyed of the dump where these bytes follow those that were taken, or else its first fault
+-- the survey of a dump in this stage whose text continues with `rest`, or its first fault
 abbrev pub stage_ahead : SurveyStage → List ℕ → Result Survey VcdFault
 stage_ahead Definitions rest = survey_of rest
 stage_ahead (Body body) rest = body_ahead body.front.items (body_reached body) rest

@@ -1,4 +1,4 @@
--- What a survey of a dump comes to: its variables, and how many instants it has.
+-- The survey of a dump: its variables, and the number of its instants.
 use Rattle.std.specs.Prelude.{◌≡◌, ◌+◌, ◌++◌, ℕ, Bool, true, false, List, [], length, Result, Ok, Err}
 use Rattle.vcd_read.specs.Contents.{Contents}
 use Rattle.vcd_read.specs.Header.{◌>>=◌, appended, nothing_declared}
@@ -22,7 +22,7 @@ uncounted count net bits = count
 abbrev pub counted : ℕ → ℕ → ℕ
 counted count time = count + 1
 
--- how many instants there are behind some definitions, or else the first fault of the body
+-- the number of instants in the body after the definitions `d`, or the first fault of the body
 abbrev pub count_behind : {V : Type 0} → Defined V → Result ℕ VcdFault
 count_behind d = fold_body uncounted counted d.head.nets 0 d.head.body
 
@@ -49,35 +49,36 @@ pub record Survey : Type 0 where
 abbrev pub with_count : List Variable → Result ℕ VcdFault → Result Survey VcdFault
 with_count variables count = count >>= λ n. Ok (record { variables = variables; instants = n })
 
--- what is surveyed of the dump that a text is, or else its first fault
+-- the survey of the dump `text`, or its first fault
 unfoldable pub survey_of : List ℕ → Result Survey VcdFault
 survey_of text = definitions_of text >>= λ d. with_count d.variables (count_behind d)
 
--- how many instants a survey has at most
+-- the greatest number of instants of a survey
 abbrev pub most_instants : ℕ
 most_instants = 268435456
 
--- the text is a dump without a fault, of which this is surveyed
+-- `text` is a dump without a fault, with the variables and the number of instants of `survey`
 abbrev pub IsSurveyOf : Survey → List ℕ → Type 0
 IsSurveyOf survey text = (contents : Contents) × (dump_of text ≡ Ok contents)
     × (contents.variables ≡ survey.variables) × (length contents.instants ≡ survey.instants)
 
 -- ---- as the text comes
 
--- no token of a text goes on behind this front of it
+-- no token of a text lies across the end of its prefix `front`
 abbrev pub EndsBetweenTokens : List ℕ → Type 0
 EndsBetweenTokens front = (line : ℕ) (rest : List ℕ) → tokens_from line (front ++ rest)
     ≡ tokens_from line front ++ tokens_from (line_behind line front) rest
 
--- how many instants there are where these bytes follow
+-- the number of instants of a body that is read to `r` and continues with `rest`, or its first fault
 abbrev pub count_ahead : Reached ℕ → List ℕ → Result ℕ VcdFault
 count_ahead r rest = rest_of uncounted counted r (tokens_from r.line rest) [] >>= at_end counted
 
--- what is surveyed where the definitions end in this front, the body is read so far, and these bytes follow
+-- the survey of a dump whose definitions end in `front`, whose body is read to `r`, and whose text continues with
+-- `rest`
 abbrev pub body_ahead : List ℕ → Reached ℕ → List ℕ → Result Survey VcdFault
 body_ahead front r rest = with_count (variables_in front) (count_ahead r rest)
 
--- the same where nothing is left of the body
+-- the survey of a dump whose definitions end in `front`, and whose text ends at `r`
 abbrev pub body_survey : List ℕ → Reached ℕ → Result Survey VcdFault
 body_survey front r = with_count (variables_in front) (outcome_of uncounted counted r)
 

@@ -9,20 +9,20 @@ use crate::hash::{EMPTY_HASH, hash_of, hash_of_number};
 use std::alloc::{AllocError, Global};
 use vcd_read::{Declaration, DeclarationVisitor, Scopes};
 
-/// A variable whose name is longer has no name of a line.
+/// A variable whose name has more bytes is left out.
 const LONGEST_NAME: usize = 64;
 
-/// Stands for no place.
+/// No place.
 pub const NOWHERE: usize = usize::MAX;
 
-/// A scope. The first of all is the one around the others, which has no name.
+/// A scope. The first scope is around all others, and has no name.
 #[derive(Clone, Copy)]
 pub struct Scope {
-    /// The place of the scope that it stands in, or `NOWHERE`.
+    /// The place of the scope around this one, or `NOWHERE`.
     pub parent: usize,
-    /// How many scopes with a name it stands in.
+    /// The number of scopes with a name from the outermost to this one, which counts too; 0 for the first scope.
     pub depth: usize,
-    /// Where its name begins among the names.
+    /// Where its name begins in `DeclaredNames::names`.
     start: usize,
     /// Where its name ends.
     end: usize,
@@ -30,16 +30,18 @@ pub struct Scope {
     pub first: usize,
     /// The place of its last variable, or `NOWHERE`.
     last: usize,
-    /// The next scope with the same remainder of its hash, or `NOWHERE`.
+    /// The next scope in the same bucket, or `NOWHERE`.
     next: usize,
 }
 
 /// A variable as it is declared.
 #[derive(Clone, Copy)]
 pub struct DeclaredVariable {
-    /// The place of the scope that it stands in.
+    /// The place of the scope that it is declared in.
     pub scope: usize,
+    /// Where its name begins in `DeclaredNames::names`.
     start: usize,
+    /// Where its name ends.
     end: usize,
     /// The indices of its leftmost and its rightmost bit.
     pub index: Option<(u32, u32)>,
@@ -51,14 +53,14 @@ pub struct DeclaredVariable {
     pub next: usize,
 }
 
-/// What takes the scopes and the variables of a header.
+/// A visitor that takes the scopes and the variables of a header.
 #[derive(Drop)]
 pub(crate) struct NamesReader {
     open: Scopes,
     names: DeclaredNames,
 }
 
-/// The scopes and the variables so far. Scopes of one name in one scope are one.
+/// The scopes and the variables so far. Scopes with the same name in the same scope are one scope.
 #[derive(Drop)]
 pub struct DeclaredNames {
     /// The places of the open scopes, from the outermost.
@@ -66,7 +68,8 @@ pub struct DeclaredNames {
     names: Vec<u8>,
     scopes: Vec<Scope>,
     variables: Vec<DeclaredVariable>,
-    /// By the remainder of its hash, the scope that was met last.
+    /// A hash table of the scopes, by the scope around them and their name: the place of the scope that was added last
+    /// to each bucket, or `NOWHERE`.
     buckets: Vec<usize>,
 }
 
@@ -122,7 +125,7 @@ impl DeclaredNames {
         &self.variables
     }
 
-    /// The scopes; one stands behind the one that it stands in.
+    /// The scopes. Each scope is after the scope around it.
     pub fn scopes(&self) -> &[Scope]
         ensures { result.now ≡ scopes self.now }
     {
@@ -143,7 +146,7 @@ impl DeclaredNames {
         part_of(&self.names, scope.start, scope.end)
     }
 
-    /// The scope that the scope at a place stands in, or `NOWHERE`.
+    /// The place of the scope around the scope at `place`, or `NOWHERE`.
     fn parent_of(&self, place: usize) -> usize
         ensures { result ≡ parent_of self.now place }
     {
@@ -163,7 +166,8 @@ impl DeclaredNames {
         }
     }
 
-    /// The places of a scope and of those around it but the outermost, from this one outward.
+    /// The places of the scope at `place` and of the scopes around it, except the outermost, from the innermost
+    /// outward.
     fn places_around(&self, alloc: Global, place: usize) -> Result<Vec<usize>, AllocError>
         ensures { IfOk result (λ around. around.items ≡ places_around self.now (length (scopes self.now)) place) }
     {
@@ -202,7 +206,7 @@ impl DeclaredNames {
         }
     }
 
-    /// The scope of this name in a scope, if it was met before.
+    /// The place of the scope `name` in the scope at `parent`, if it was met before.
     fn known(&self, parent: usize, name: &[u8]) -> Option<usize> {
         let bucket = self.bucket(hash_in(parent, name));
         let mut at = self.buckets.get(bucket).copied().unwrap_or(NOWHERE);
@@ -247,7 +251,8 @@ impl DeclaredNames {
         self.places.last().copied().unwrap_or(0)
     }
 
-    /// The place of the scope of this name in the innermost open one: that of one without a name is its own.
+    /// The place of the scope `name` in the innermost open scope, which is added if it isn't there. For an empty name
+    /// it is the place of the innermost open scope itself.
     fn place_in(&mut self, name: &[u8]) -> Result<usize, AllocError> {
         let parent = self.innermost();
         if name.is_empty() {
@@ -289,7 +294,7 @@ impl DeclaredNames {
         let _ = self.places.pop();
     }
 
-    /// Puts a variable behind the others of its scope.
+    /// Adds a variable after the others of its scope.
     fn keep(&mut self, variable: Declaration<'_>) -> Result<(), AllocError> {
         let scope = self.innermost();
         let start = self.names.len();
@@ -319,7 +324,7 @@ impl DeclaredNames {
     }
 }
 
-/// A part of a text, or nothing where it has none there.
+/// The part of `text` from `start` to `end`, or nothing where there is no such part.
 fn part_of(text: &[u8], start: usize, end: usize) -> &[u8]
     ensures { result.now ≡ part_of text.now start end }
 {
@@ -330,7 +335,7 @@ fn part_of(text: &[u8], start: usize, end: usize) -> &[u8]
     }
 }
 
-/// Puts a name behind a path: a dot too, where the path has a name.
+/// Adds `name` to `path`, after a dot if `path` isn't empty.
 fn push_name(path: &mut Vec<u8>, name: &[u8]) -> Result<(), AllocError>
     ensures { OnOk result (path.new.items ≡ with_dot path.old.items ++ name.now) }
 {

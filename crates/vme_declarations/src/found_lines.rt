@@ -24,13 +24,13 @@ pub struct FoundLines {
     bits_of_lines: [Option<VariableBit>; LINE_COUNT as usize],
     /// The lines whose bit moves.
     moving: [bool; LINE_COUNT as usize],
-    /// The path of the scope in which they stand.
+    /// The path of the scope in which lines were found, or that was asked for.
     pub scope: Vec<u8>,
-    /// Whether that scope was asked by its path.
+    /// Whether that scope was asked for by its path.
     pub is_asked: bool,
-    /// Other scopes that hold at least half as many of the names.
+    /// The paths of other scopes that hold at least half as many of the names.
     pub others: Vec<Vec<u8>>,
-    /// The groups of which a board's output was found beside the one that is taken.
+    /// The groups of which a board's output was found too, beside the variable that is taken.
     pub doubled: Groups,
 }
 
@@ -74,7 +74,7 @@ impl FoundLines {
             .unwrap_or(false)
     }
 
-    /// A set, and the group of a line if that was found.
+    /// `groups` with the group of `line`, if a bit of the line was found.
     fn with_group(&self, line: Line, groups: Groups) -> Groups
         ensures { result ≡ with_group self.now line groups }
     {
@@ -100,28 +100,28 @@ impl FoundLines {
         groups
     }
 
-    /// Lets go of what was found for a line.
+    /// Removes the bit of `line`.
     pub fn forget(&mut self, line: Line)
         ensures { self.new ≡ with_bit self.old line None }
     {
         self.set(line, None);
     }
 
-    /// Binds a line to a bit.
+    /// Sets the bit of `line`.
     pub fn set(&mut self, line: Line, bit: Option<VariableBit>)
         ensures { self.new ≡ with_bit self.old line bit }
     {
         self.bits_of_lines[usize::from(line.number())] = bit;
     }
 
-    /// Notes whether the bit of a line moves.
+    /// Notes whether the bit of `line` moves.
     pub fn note_moving(&mut self, line: Line, moves: bool)
         ensures { self.new ≡ with_moving self.old line moves }
     {
         self.moving[usize::from(line.number())] = moves;
     }
 
-    /// Whether the net at a place of a daisy chain was found.
+    /// Whether a net at `place` of some daisy chain was found.
     fn has_net(&self, place: u8) -> bool
         requires first { 1 ≤ place }
         requires last { place ≤ 21 }
@@ -134,7 +134,8 @@ impl FoundLines {
             || self.bit_of_line(Line::iack(place)).is_some()
     }
 
-    /// How many slots the daisy chains show: the greatest place of a net of one, 1 to 21.
+    /// The number of slots that the daisy chains show: the greatest place at which a net was found, from 1 to 21; else
+    /// 1.
     pub fn slots(&self) -> u8
         ensures { result ≡ slots self.now }
     {

@@ -5,13 +5,13 @@ ghost use Rattle.vme_declarations.specs.Groups.{group_of, group_place, has_cycle
 
 use vme_trace::Line;
 
-/// A set of groups.
+/// A set of groups: a bit for each group.
 pub type Groups = u32;
 
-/// The groups that tell a bus from a memory: all but the data lines.
+/// The groups that distinguish a bus from a memory: all but the data lines.
 pub const TELLING: Groups = 0x7_FFFF ^ (1 << 17);
 
-/// The place of the group of a line.
+/// The place of the bit of the line's group in a set, from the right.
 fn group_place(line: Line) -> u32
     ensures place { result ≡ group_place line }
     ensures within { result < 32 }
@@ -35,7 +35,7 @@ fn group_place(line: Line) -> u32
     }
 }
 
-/// The group of a line.
+/// The set of the group of `line` alone.
 pub fn group_of(line: Line) -> Groups
     ensures { result ≡ group_of line }
 {
@@ -56,14 +56,14 @@ fn has_group(groups: Groups, line: Line) -> bool
     groups >> group_place(line) & 1 == 1
 }
 
-/// Whether AS and a strobe are there.
+/// Whether `groups` has AS and a data strobe.
 pub fn has_cycle(groups: Groups) -> bool
     ensures { result ≡ has_cycle groups }
 {
     has_group(groups, Line::AS) && (has_group(groups, Line::DS0) || has_group(groups, Line::DS1))
 }
 
-/// Whether AS, a strobe and an answer are there.
+/// Whether `groups` has AS, a data strobe, and DTACK or BERR.
 pub fn has_handshake(groups: Groups) -> bool
     ensures { result ≡ has_handshake groups }
 {

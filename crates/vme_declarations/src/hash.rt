@@ -8,14 +8,14 @@ pub const EMPTY_HASH: u64 = 0xcbf2_9ce4_8422_2325;
 
 const PRIME: u64 = 0x0100_0000_01b3;
 
-/// The hash of a number behind what has a hash.
+/// The hash of `number` after what has the hash `before`.
 pub(crate) fn hash_of_number(before: u64, number: u64) -> u64
     ensures { result ≡ hash_of_number before number }
 {
     (before ^ number).wrapping_mul(PRIME)
 }
 
-/// The hash of some bytes behind others.
+/// The hash of `bytes` after what has the hash `before`.
 pub fn hash_of(before: u64, bytes: &[u8]) -> u64
     ensures { result ≡ hash_of before bytes.now }
 {

@@ -8,20 +8,20 @@ ghost use Rattle.vme_declarations.specs.Surveys.{counted, uncounted};
 use std::alloc::{AllocError, Global};
 use vcd_read::{ChangeVisitor, Head, VcdFault};
 
-/// Of how many bits of a net, from the right, it is kept whether they move.
+/// The number of bits of a net, from the right, of which it is kept whether they move.
 pub const MOST_BITS: u32 = 64;
 
-/// How many instants a dump has at most of which the levels are seen: of more memory is said to run out.
+/// The greatest number of instants of a dump. With more, the error is want of memory.
 const MOST_INSTANTS: u32 = 268_435_456;
 
-/// Which bits of a net were seen Low, and which High.
+/// Which bits of a net were seen Low, and which High: the bits of the two numbers, from the right.
 #[derive(Clone, Copy)]
 pub(crate) struct NetLevels {
     pub low: u64,
     pub high: u64,
 }
 
-/// The levels that the nets had so far, up to the last net that has any, and how many instants there were.
+/// The levels of the nets so far, by the net's number up to the last net with a value, and the number of instants.
 #[derive(Drop)]
 pub struct LevelsSeen {
     pub(crate) nets: Vec<NetLevels>,
@@ -30,7 +30,7 @@ pub struct LevelsSeen {
 }
 
 impl LevelsSeen {
-    /// No level of any net.
+    /// No level of a net was seen yet.
     pub(crate) fn none(alloc: Global) -> LevelsSeen
         ensures { result.instants ≡ 0 }
     {
@@ -84,7 +84,7 @@ impl ChangeVisitor for LevelsSeen {
     }
 }
 
-/// The levels that the nets have in the body behind some definitions.
+/// The levels of the nets in the body after the definitions `head`.
 pub(crate) fn levels_in(alloc: Global, head: &Head<'_>) -> Result<LevelsSeen, VcdFault>
     ensures { ReadGives (λ levels. levels.instants) result
         (fold_body uncounted counted head.now.nets 0 head.now.body) }
@@ -92,7 +92,7 @@ pub(crate) fn levels_in(alloc: Global, head: &Head<'_>) -> Result<LevelsSeen, Vc
     head.read_body(alloc, LevelsSeen::none(alloc))
 }
 
-/// Which bits of a value are Low, and which High or without a driver, from the right.
+/// Which bits of a value are Low, and which are High or z, from the right.
 fn levels_of(size: u32, digits: &[u8]) -> (u64, u64) {
     let mut low: u64 = 0;
     let mut high: u64 = 0;

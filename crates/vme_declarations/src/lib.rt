@@ -4,9 +4,10 @@
 //!
 //! - `declared`, `hash`: the scopes and the variables without whole paths ([`DeclaredNames`]); a
 //!   hash of names.
-//! - `levels_seen`, `moving`, `reading`: which bits move ([`LevelsSeen`]); both of a whole text.
-//! - `survey`, `told_fault`: a dump that comes piece by piece ([`DumpSurvey`]), of whose text a front
-//!   with its definitions is kept; what is known of it at its end ([`SurveyedDump`]).
+//! - `levels_seen`, `moving`, `reading`: which bits move, i.e. were seen both low and high
+//!   ([`LevelsSeen`]); the names and the levels of a whole text.
+//! - `survey`, `told_fault`: a dump that comes piece by piece ([`DumpSurvey`]), of whose text only
+//!   a prefix with the definitions is kept; the survey at its end ([`SurveyedDump`]).
 //! - `scope_paths`, `scope_search`: the scopes that a path leads through; [`has_scope`], whether a
 //!   dump has the scope of a path.
 //! - `groups`, `found_lines`: the groups of lines; which bits were found for the lines
@@ -14,16 +15,16 @@
 //!
 //! # What is proved
 //!
-//! - A [`DumpSurvey`] that takes a dump in whatever pieces ends with a [`SurveyedDump`] exactly where
-//!   the dump has no fault, and else with the first, unless memory runs out (`survey_ahead`,
-//!   [`surveys_are_of_dumps`]). The front that is kept declares the variables of the dump, and there
-//!   are as many instants as were counted (`IsSurveyOf`).
+//! - A [`DumpSurvey`] that takes a dump in any pieces gives a [`SurveyedDump`] exactly where the
+//!   dump has no fault, and else the first fault, unless memory runs out (`survey_ahead`,
+//!   [`surveys_are_of_dumps`]). The prefix that is kept declares the variables of the dump, and the
+//!   number of instants is that of the dump (`IsSurveyOf`).
 //! - [`has_scope`] says whether the variables of the dump have a scope.
-//! - [`front_of`] is the path and a dot.
-//! - What is asked of [`DeclaredNames`], [`DeclaredVariable`], [`LevelsSeen`] and [`FoundLines`] is
-//!   said by definitions over what these keep, in `specs/Names`, `specs/Levels` and `specs/Found`: a
-//!   name, a path, the number of a bit, whether one moves, the bit of a line, the groups and the
-//!   slots that were found. [`scopes_begun`] and [`scopes_of`] are those of `specs/Paths`.
+//! - [`front_of`] is the path and a dot, or nothing for the empty path.
+//! - The answers of [`DeclaredNames`], [`DeclaredVariable`], [`LevelsSeen`] and [`FoundLines`] are
+//!   defined over what these keep, in `specs/Names`, `specs/Levels` and `specs/Found`: a name, a
+//!   path, the number of a bit, whether one moves, the bit of a line, the groups and the slots that
+//!   were found. [`scopes_begun`] and [`scopes_of`] are those of `specs/Paths`.
 //! - [`group_of`], [`count`], [`has_cycle`] and [`has_handshake`] by `specs/Groups`; [`hash_of`] by
 //!   `specs/Hashes`.
 //!
@@ -33,8 +34,9 @@
 //!
 //! # Limits
 //!
-//! A variable whose name has over 64 bytes is left out. Of a net the rightmost 64 bits are looked at
-//! for whether they move. A dump with over 268,435,456 instants is said to want memory.
+//! A variable whose name has over 64 bytes is left out. Only the rightmost 64 bits of a net are
+//! checked for whether they move. A dump with over 268,435,456 instants is refused as want of
+//! memory.
 //!
 //! # In which order to read
 //!

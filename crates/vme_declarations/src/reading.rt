@@ -1,4 +1,4 @@
-//! What a dump declares, and which of its bits move, as they are read of its whole text.
+//! What a dump declares, and which of its bits move, from its whole text.
 
 ghost use Rattle.vcd_read.specs.Meaning.{ReadGives};
 ghost use Rattle.vme_declarations.specs.Surveys.{survey_of, variables_in};

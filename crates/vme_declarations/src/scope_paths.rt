@@ -7,7 +7,7 @@ ghost use Rattle.vme_declarations.specs.Paths.{begun_by, begun_of, scopes_begun,
 use crate::declared::{DeclaredNames, NOWHERE, Scope};
 use std::alloc::{AllocError, Global};
 
-/// What stands before the names of the variables of a scope in their paths: its path, and a dot behind it.
+/// What the paths of the variables in the scope `path` begin with: `path` and a dot, or nothing where `path` is empty.
 pub fn front_of(alloc: Global, path: &[u8]) -> Result<Vec<u8>, AllocError>
     ensures { IfOk result (λ front. front.items ≡ with_dot path.now) }
 {
@@ -19,7 +19,7 @@ pub fn front_of(alloc: Global, path: &[u8]) -> Result<Vec<u8>, AllocError>
     Ok(front)
 }
 
-/// How many bytes of a path lead through a name that stands behind so many of them, with a dot behind it, or `NOWHERE`.
+/// The offset in `path` after `name` and a dot, if these are at the offset `before`; else `NOWHERE`.
 fn begun_by(path: &[u8], before: usize, name: &[u8]) -> usize
     ensures { result ≡ begun_by path.now before name.now }
 {
@@ -32,7 +32,8 @@ fn begun_by(path: &[u8], before: usize, name: &[u8]) -> usize
     }
 }
 
-/// The same for a scope, by what the scopes before it lead through.
+/// The offset in `path` after the path of `scope` and a dot, or `NOWHERE`; 0 for the first scope. `begun` has the
+/// offsets of the scopes before it.
 fn begun_of(declared: &DeclaredNames, path: &[u8], begun: &[usize], scope: &Scope) -> usize
     ensures { result ≡ begun_of declared.now path.now begun.now scope.now }
 {
@@ -45,7 +46,8 @@ fn begun_of(declared: &DeclaredNames, path: &[u8], begun: &[usize], scope: &Scop
     }
 }
 
-/// For each scope, how many bytes of a path with a dot at its end its own is, or `NOWHERE`.
+/// For each scope, the offset in `path` after the scope's own path and a dot, if `path` begins with these; else
+/// `NOWHERE`.
 pub fn scopes_begun(
     alloc: Global,
     declared: &DeclaredNames,
@@ -61,7 +63,7 @@ pub fn scopes_begun(
     Ok(begun)
 }
 
-/// For each scope, whether its path is this one.
+/// For each scope, whether its path is `path`.
 pub fn scopes_of(
     alloc: Global,
     declared: &DeclaredNames,

@@ -9,7 +9,7 @@ use crate::survey::SurveyedDump;
 use std::alloc::{AllocError, Global};
 use vcd_read::{Declaration, DeclarationVisitor, Scopes, read_definitions};
 
-/// What looks for a variable that stands in a scope, or in one within it.
+/// A visitor that looks for a variable in a scope, or in a scope within it.
 #[derive(Drop)]
 struct ScopeSearch {
     open: Scopes,
@@ -18,7 +18,7 @@ struct ScopeSearch {
     is_found: bool,
 }
 
-/// Whether two texts, one behind the other, begin with these bytes.
+/// Whether `outer` followed by `inner` begins with `front`.
 fn begin_with(outer: &[u8], inner: &[u8], front: &[u8]) -> bool
     ensures { result ≡ starts_with nat_eq (outer.now ++ inner.now) front.now }
 {
@@ -56,8 +56,7 @@ impl DeclarationVisitor for ScopeSearch {
     }
 }
 
-/// Whether a dump has the scope of a path: a variable that stands in it, or in one within it. The only error is want of
-/// memory.
+/// Whether `dump` has a variable in the scope `path`, or in a scope within it. The only error is want of memory.
 pub fn has_scope(alloc: Global, dump: &SurveyedDump, path: &[u8]) -> Result<bool, AllocError>
     ensures { IfOk result (λ has. has ≡ has_scope path.now dump.now.variables) }
 {

@@ -20,10 +20,10 @@ use std::alloc::{AllocError, Global};
 use std::marker::Model;
 use vcd_read::{FaultKind, Pieces, VcdFault, read_front, whole_tokens};
 
-/// A dump whose definitions are read, and its body as far as some pieces go.
+/// A dump whose definitions are read, and some pieces of its body.
 #[derive(Drop)]
 pub(crate) struct SurveyedBody {
-    /// The front of the text in which the definitions end.
+    /// The prefix of the text in which the definitions end.
     front: Vec<u8>,
     names: DeclaredNames,
     pieces: Pieces<LevelsSeen>,
@@ -32,14 +32,14 @@ pub(crate) struct SurveyedBody {
 /// How far a dump is surveyed.
 #[derive(Drop)]
 pub(crate) enum SurveyStage {
-    /// Its definitions don't end in what was seen, of which nothing was taken.
+    /// The definitions don't end in the bytes that were seen, and no byte was taken.
     Definitions,
     Body(SurveyedBody),
-    /// It has a fault.
+    /// The dump has a fault.
     Failed(ToldFault),
 }
 
-/// A dump that is surveyed piece by piece: of its text no more is kept than a front with its definitions.
+/// A dump that is surveyed piece by piece: of its text only a prefix with the definitions is kept.
 #[derive(Drop)]
 pub struct DumpSurvey {
     stage: SurveyStage,
@@ -62,7 +62,8 @@ impl Model for SurveyedDump {
 }
 
 impl SurveyedBody {
-    /// Begins with the body behind the definitions, where these end in a front of a text.
+    /// Reads the definitions in `front`, a prefix of a text, and what `front` has of the body. The result is `None`
+    /// where the definitions don't end in `front`.
     fn begin(alloc: Global, front: &[u8]) -> Result<Option<SurveyedBody>, VcdFault>
         requires { EndsBetweenTokens front.now }
         ensures begun { IfOk result (λ found. IfSome found (λ body. (rest : List ℕ)
@@ -87,7 +88,7 @@ impl SurveyedBody {
         }
     }
 
-    /// Takes the next piece of the body, which ends behind a space, or where the text does.
+    /// Takes the next piece of the body, which ends after a space, or where the text does.
     fn read(self, alloc: Global, piece: &[u8]) -> Result<SurveyedBody, VcdFault>
         ensures front { IfOk result (λ body. body.front.items ≡ self.front.items) }
         ensures line { IfOk result (λ body. (body_reached body).line
@@ -108,7 +109,7 @@ impl SurveyedBody {
         })
     }
 
-    /// What was surveyed, where nothing of the text is left.
+    /// The survey at the end of the text.
     fn finish(self, alloc: Global) -> Result<SurveyedDump, VcdFault>
         ensures { ReadGives (λ dump. dump) result (body_survey self.front.items (body_reached self)) }
     {
@@ -129,14 +130,14 @@ impl SurveyedBody {
 }
 
 impl DumpSurvey {
-    /// Before the first byte.
+    /// The survey before the first byte.
     pub fn new() -> DumpSurvey
         ensures { (rest : List ℕ) → survey_ahead result rest ≡ survey_of rest }
     {
         DumpSurvey::at(SurveyStage::Definitions)
     }
 
-    /// At a stage.
+    /// The survey at `stage`.
     fn at(stage: SurveyStage) -> DumpSurvey
         ensures { (rest : List ℕ) → survey_ahead result rest ≡ stage_ahead stage rest }
     {
@@ -151,7 +152,7 @@ impl DumpSurvey {
         }
     }
 
-    /// Takes some of the first of these bytes, and says how many. The only error is want of memory.
+    /// Takes a prefix of `bytes`, and returns its length. The only error is want of memory.
     pub fn take(self, alloc: Global, bytes: &[u8]) -> Result<(DumpSurvey, usize), AllocError>
         ensures within { IfOk result (λ made. made.1 ≤ length bytes.now) }
         ensures taken { IfOk result (λ made. (rest : List ℕ)
@@ -175,7 +176,8 @@ impl DumpSurvey {
         }
     }
 
-    /// What is surveyed of the dump, whose last bytes these are. A fault is its first; at line 0 it is want of memory.
+    /// The survey of the dump, where `rest` is the rest of its text. A fault is the first of the dump; at line 0 it is
+    /// want of memory.
     pub fn finish(self, alloc: Global, rest: &[u8]) -> Result<SurveyedDump, VcdFault>
         ensures { ReadGives (λ dump. dump) result (survey_ahead self rest.now) }
     {
@@ -190,7 +192,8 @@ impl DumpSurvey {
     }
 }
 
-/// What is to be taken of a dump that has this fault: all of it, though no more is looked at.
+/// The survey of a dump that has `fault`: it takes all bytes that follow, and looks at none. Where `fault` is want of
+/// memory, that is the error.
 fn failed(fault: VcdFault) -> Result<DumpSurvey, AllocError>
     ensures told { IfOk result (λ survey. is_want_of_memory fault.kind ≡ false) }
     ensures ahead { IfOk result (λ survey. (rest : List ℕ) → survey_ahead survey rest ≡ Err fault) }
@@ -204,7 +207,7 @@ fn failed(fault: VcdFault) -> Result<DumpSurvey, AllocError>
     }
 }
 
-/// What is surveyed of a whole text.
+/// The survey of the whole text.
 fn survey_whole(alloc: Global, text: &[u8]) -> Result<SurveyedDump, VcdFault>
     ensures { ReadGives (λ dump. dump) result (survey_of text.now) }
 {
@@ -217,7 +220,7 @@ fn survey_whole(alloc: Global, text: &[u8]) -> Result<SurveyedDump, VcdFault>
 }
 
 impl SurveyedDump {
-    /// A front of the text of the dump, in which its definitions end.
+    /// A prefix of the text of the dump, in which its definitions end.
     pub fn front(&self) -> &[u8]
         ensures variables { variables_in result.now ≡ self.entry.now.variables }
         ensures few { self.entry.now.instants ≤ most_instants }
@@ -237,7 +240,8 @@ impl SurveyedDump {
     }
 }
 
-/// What is surveyed of a text that is a dump: a law, and a call does nothing.
+/// A survey has the variables and the number of instants of its dump, and the fault of a survey is one of the dump.
+/// This is a law: a call does nothing.
 pub fn surveys_are_of_dumps()
     ensures are { (text : List ℕ) (survey : Survey) → survey_of text ≡ Ok survey → IsSurveyOf survey text }
     ensures fails { (text : List ℕ) (fault : VcdFault) → ReadFails fault (survey_of text)

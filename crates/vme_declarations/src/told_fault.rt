@@ -1,11 +1,11 @@
-//! A fault that is told, and isn't want of memory.
+//! A fault of a dump that isn't want of memory.
 
 ghost use Rattle.std.specs.Prelude.{◌≡◌, false};
 ghost use Rattle.vme_declarations.specs.Surveys.{is_want_of_memory};
 
 use vcd_read::VcdFault;
 
-/// The first fault of a dump: no want of memory.
+/// The first fault of a dump. It isn't want of memory.
 #[derive(Drop)]
 pub(crate) struct ToldFault {
     pub fault: VcdFault,

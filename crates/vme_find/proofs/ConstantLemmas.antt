@@ -1,4 +1,4 @@
--- A binding of all lines to levels for good makes a recording of every dump without a fault.
+-- A binding of all lines to constant levels makes a recording of every dump without a fault.
 use Rattle.std.proofs.Common.{◌≡◌, ℕ, ◌+◌, ◌-◌, Bool, true, false, not, ◌&&◌, List, [], ◌∷◌, length, map, Some, None}
 use Rattle.std.proofs.Common.{Result, Ok, refl, ap, ◌∙◌}
 use Rattle.std.specs.Prelude.{if◌then◌else◌}
@@ -29,15 +29,15 @@ use Rattle.vme_find.specs.Recordings.{MakesRecording}
 
 -- ---- the sources of the lines
 
--- what a function gives
+-- the type of the values that a function gives
 abbrev OkOf : {X A E : Type 0} → (X → Result A E) → Type 0
 OkOf {X} {A} {E} f = A
 
--- lines, and where their levels come from
+-- the type of bound groups
 abbrev Wired : Type 0
 Wired = OkOf (bound_group_in [])
 
--- a line of this group has one level for good
+-- each line of the group `w` has the same level after n and after m instants
 abbrev Stays : Wired → Type 0
 Stays w = (slots : ℕ) (ws : List Wired) (instants : List Instant) (n m l place : ℕ)
     → level_by slots ws instants n l (Some (source_on place w.source))

@@ -26,10 +26,11 @@ use Rattle.vme_find.specs.Constants.{BindsConstants, is_constant}
 
 -- ---- the text
 
--- its first line, and what stands behind it
+-- the first line of the text
 abbrev pub first_line : ℕ → List ℕ
 first_line slots = codes "slots " ++ decimal slots
 
+-- the lines after the first
 abbrev pub other_lines : List ℕ
 other_lines =
     codes "AS = 1\nDS0 = 1\nDS1 = 1\nDTACK = 1\nBERR = 1\nIACK = 1\nLWORD = 1\nWRITE = 1\nBBSY = 0\n"
@@ -38,7 +39,7 @@ other_lines =
 abbrev pub text_of : ℕ → List ℕ
 text_of slots = first_line slots ++ 10 ∷ other_lines
 
--- as it is pushed
+-- the parts as they are pushed make the text
 pub pushed-is : (slots : ℕ)
     → (first_line slots
     ++ codes "\nAS = 1\nDS0 = 1\nDS1 = 1\nDTACK = 1\nBERR = 1\nIACK = 1\nLWORD = 1\nWRITE = 1\n")
@@ -55,6 +56,7 @@ no_feed : (b : Bool) → not b ≡ true → b ≡ false
 no_feed true e = cc
 no_feed false e = refl
 
+-- a text whose first line is `xs` is split into `xs` and the lines after it
 split_first : (xs ys : List ℕ) → list_all (λ b. not (is_feed b)) xs ≡ true → slice_split is_feed (xs ++ 10 ∷ ys)
     ≡ xs ∷ slice_split is_feed ys
 split_first [] ys e = refl
@@ -66,7 +68,7 @@ split_first (x ∷ xs) ys e =
 
 -- ---- its first line
 
--- one saying that says the count of slots
+-- there is one statement, and it says `slots` as the number of slots
 says_slots : ℕ → List StatementText → Bool
 says_slots slots [] = false
 says_slots slots (s ∷ []) = elim (slots_behind s.first s.others) [
@@ -93,7 +95,7 @@ false_of_not : (b : Bool) → not b ≡ true → b ≡ false
 false_of_not true h = cc
 false_of_not false h = refl
 
--- what holds for every number holds for one
+-- what holds for each number from 1 to 21 holds for n
 holds_for : (p : ℕ → Bool) → every p 1 22 ≡ true → (n : ℕ) → 1 ≤ n → n ≤ 21 → p n ≡ true
 holds_for p all n low high = true_of_not (p n) (any-fails (λ k. not (p k)) 1 22 n (false_of_not _ all) low
     (omega (arith, high)))
@@ -120,7 +122,7 @@ slots_said slots (s ∷ t ∷ ss) e = cc
 abbrev others_said : List StatementText
 others_said = statements_from 2 (slice_split is_feed other_lines)
 
--- the lines of the names that the text has
+-- the group of a name, among the names that the text has
 abbrev group_quickly : ℕ → List ℕ → Option Group
 group_quickly slots name =
     if bytes_eq name (codes "AS") then Some (down_from AS 1)
@@ -142,6 +144,7 @@ group_quickly slots name =
     else if bytes_eq name (codes "IA") then Some (down_from (iack slots) slots)
     else None
 
+-- `bound`, by `group_quickly`
 abbrev bound_quickly : BoundLines → StatementText → Result BoundLines BindFaultKind
 bound_quickly b s = do
   words ← name_and_source s.first s.others
@@ -149,12 +152,14 @@ bound_quickly b s = do
   new ← once b.assignments group
   Ok (with_assignment b s.line new words.1)
 
+-- `bound_all`, by `group_quickly`
 unfoldable all_quickly : BoundLines → List StatementText → Result BoundLines BindFault
 all_quickly b [] = Ok b
 all_quickly b (s ∷ ss) = do
   next ← at_line s.line (bound_quickly b s)
   all_quickly next ss
 
+-- `group_quickly` gives the group of `name`
 abbrev IsQuick : List ℕ → Type 0
 IsQuick name = (slots : ℕ) → group_named slots name ≡ group_quickly slots name
 
@@ -199,7 +204,7 @@ same_all (s ∷ ss) b quick =
     ∙ bind_same (at_line s.line (bound_quickly b s)) (λ next. bound_all next ss) (λ next. all_quickly next ss)
     (λ next. same_all ss next quick.1)
 
--- a line by its own name
+-- the group of the name of the line `l` is that line alone
 own : (l : ℕ) (name : List ℕ) (slots : ℕ) → l < line_count → line_name l ≡ name
     → option_and_then (single slots) (line_named name) ≡ single slots l
 own l name slots below is = ap (option_and_then (single slots)) (line_named-is l name below is)
@@ -261,6 +266,7 @@ others_quick = (
 
 -- ---- the whole
 
+-- the result is a binding of `slots` slots to constants alone
 binds : ℕ → Result BoundLines BindFault → Bool
 binds slots (Ok b) = (b.slots == slots) && list_all is_constant b.assignments
 binds slots (Err fault) = false
@@ -278,6 +284,7 @@ what_binds slots (Err fault) e = cc
 abbrev bound_by : ℕ → ℕ → Result BoundLines BindFault
 bound_by line slots = all_quickly (no_assignments slots) others_said >>= finished line
 
+-- the lines after the first bind all lines of the backplane to constants, for each number of slots from 1 to 21
 all_bind : (line : ℕ) → every (λ slots. binds slots (bound_by line slots)) 1 22 ≡ true
 unfolding any least all_quickly statements_from binds
 all_bind line = refl

@@ -24,11 +24,11 @@ use Rattle.vme_trace.specs.Trace.{Trace}
 use Rattle.vme_trace.specs.WellFormed.{capture_limit}
 use Rattle.vme_trace.specs.declared.step.Step.{Step}
 
--- what a function gives
+-- the type of the values that a function gives
 abbrev OkOf : {X A E : Type 0} → (X → Result A E) → Type 0
 OkOf {X} {A} {E} f = A
 
--- lines, and where their levels come from
+-- the type of bound groups
 abbrev Wired : Type 0
 Wired = OkOf (bound_group_in [])
 
@@ -39,7 +39,7 @@ was_ok : {A X : Type 0} (r : Result A BindFault) (next : A → Result X CaptureF
 was_ok (Ok a) next x made = refl
 was_ok (Err fault) next x made = absurd (cc made)
 
--- a front that is read without a fault of the binding
+-- where `front` is read without a fault of the binding, it declares all that the binding names
 pub finds-all : (b : BoundLines) (front : List ℕ) (fault : Option BindFault) (read : TextReading)
     → reading_of_text b front ≡ or_fault fault read → fault ≡ None → finds_all b (variables_in front) ≡ true
 unfolding reading_of_text
@@ -70,6 +70,7 @@ length-those p (suc n) =
       length-append (those p 0 n) (if nat_le 0 n && p n then n ∷ [] else []),
     )
 
+-- a recording has at most one step for each instant
 few_steps : (slots : ℕ) (bound_groups : List Wired) (instants : List Instant)
     → length (recording slots bound_groups instants (length instants)).steps ≤ length instants
 unfolding recording
@@ -93,6 +94,7 @@ short_enough t few = by_test (nat_lt capture_limit (length t.steps)) (not_over (
 
 -- ---- the recording
 
+-- a result that is ok has a value
 there : {A E : Type 0} (r : Result A E) → is_ok r ≡ true → (a : A) × (r ≡ Ok a)
 there (Ok a) e = (a, refl)
 there (Err fault) e = absurd (cc e)

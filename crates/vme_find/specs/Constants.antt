@@ -1,4 +1,4 @@
--- Bindings of all lines to levels for good.
+-- Bindings of all lines to constant levels.
 use Rattle.std.specs.Prelude.{◌≡◌, ℕ, Bool, true, false, List, Ok}
 use Rattle.std.specs.List.{list_all}
 use Rattle.vme_bind.specs.Binding.{BoundLines, binding_of}
@@ -13,7 +13,7 @@ is_constant_source (Named named) = false
 abbrev pub is_constant : Assignment → Bool
 is_constant a = is_constant_source a.source
 
--- the text is a binding of so many slots, and binds each line to a level for good
+-- `text` is a binding of `slots` slots, and binds each line to a constant level
 abbrev pub BindsConstants : ℕ → List ℕ → Type 0
 BindsConstants slots text = (bound : BoundLines) × (binding_of text ≡ Ok bound) × (bound.slots ≡ slots)
     × (list_all is_constant bound.assignments ≡ true)

@@ -19,23 +19,23 @@ pub record MakesRecording (text dump : List ℕ) : Type 0 where
   pub is_binding : binding_of text ≡ Ok bound
   pub records : capture_of_text bound dump ≡ Ok recording
 
--- it makes one of the dump of which this was surveyed, whichever that is
+-- `text` makes a recording of each dump with this survey
 abbrev pub MakesRecordings : List ℕ → Survey → Type 0
 MakesRecordings text survey = (dump : List ℕ) → IsSurveyOf survey dump → MakesRecording text dump
 
--- all that the binding names is among these variables
+-- all that the binding names is among `variables`
 abbrev pub finds_all : BoundLines → List Variable → Bool
 finds_all bound variables = is_ok (bound_groups_in variables bound.assignments)
 
--- the text is a binding of so many slots
+-- `text` is a binding of `slots` slots
 abbrev pub HasSlots : ℕ → List ℕ → Type 0
 HasSlots slots text = (bound : BoundLines) × (binding_of text ≡ Ok bound) × (bound.slots ≡ slots)
 
--- a backplane has so many slots, if they are told
+-- the number of slots, if it is given, is 1 to 21
 abbrev pub AreSlots : Option ℕ → Type 0
 AreSlots slots = IfSome slots (λ n. (1 ≤ n) × (n ≤ 21))
 
--- why there is no binding for a dump: it lacks the scope that is asked, or there was no memory
+-- why there is no binding for a dump: it lacks the scope that is asked for, or memory ran out
 abbrev pub IsFindFault : Survey → Option (Bor (List ℕ)) → FindFault → Type 0
 IsFindFault survey scope Memory = Unit {0}
 IsFindFault survey None NoSuchScope = ⊥

@@ -6,7 +6,8 @@ ghost use Rattle.vme_find.specs.Constants.{BindsConstants};
 use std::alloc::{AllocError, Global};
 use vme_text::Text;
 
-/// The text that binds all lines of a backplane of so many slots to constants, as a bus at rest that is busy for good.
+/// The text that binds all lines of a backplane of `slots` slots to constants: a bus at rest, but with BBSY constantly
+/// Low.
 pub(crate) fn constant_text(alloc: Global, slots: u8) -> Result<Text, AllocError>
     requires { (1 ≤ slots) × (slots ≤ 21) }
     ensures { IfOk result (λ text. BindsConstants slots text) }

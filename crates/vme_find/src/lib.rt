@@ -13,7 +13,7 @@
 //!   recording of the dump without a fault (`MakesRecording`), of the slots that were given
 //!   (`HasSlots`). A scope is reported missing exactly where the dump lacks it (`scope`, `err`). So
 //!   any other dump without a fault has a binding.
-//! - What is told of a binding has visible characters, spaces and line feeds alone (`visible`).
+//! - The report of a binding has visible characters, spaces and line feeds alone (`visible`).
 //!
 //! # What isn't proved
 //!

@@ -17,7 +17,7 @@ use vme_line_names::find_lines;
 use vme_proposal::{propose_binding, told_constants};
 use vme_text::Text;
 
-/// A binding for a dump, and what is to be said of it.
+/// A binding for a dump, and the report of it.
 #[derive(Drop)]
 pub struct FoundBinding {
     /// The text of the binding.
@@ -27,7 +27,7 @@ pub struct FoundBinding {
     /// alone.
     pub told: Text,
     /// Whether AS, a strobe and DTACK are bound to variables, and AS moves in the dump: else a check by the binding
-    /// judges no cycle.
+    /// judges no cycle, no transfer or no answer.
     pub is_bus: bool,
     ghost visible: { IsVisible told },
 }
@@ -35,9 +35,9 @@ pub struct FoundBinding {
 /// Why there is no binding for a dump.
 #[derive(Clone, Copy, Debug, PartialEq, Eq)]
 pub enum FindFault {
-    /// No variable of the dump stands in the scope that is asked, nor in one within it.
+    /// No variable of the dump is in the scope that is asked for, or in a scope within it.
     NoSuchScope,
-    /// There is no memory.
+    /// Memory ran out.
     Memory,
 }
 
@@ -50,12 +50,12 @@ impl From<AllocError> for FindFault {
 }
 
 /// Finds a binding for a dump that was surveyed: the lines that are found by the names of its variables, and the others
-/// as constants that fit these, with a comment. The slots are those that are told, or else those of the daisy chains.
-/// The scope is that of a path, where one is told, or else the best by what is found there; lines that it lacks are
-/// taken from the scopes around it.
+/// as constants that fit these, with a comment. The backplane has `slots` slots, where that is given, or else those of
+/// the daisy chains. The scope is `scope`, where that is given, or else the best by what is found in it; lines that it
+/// lacks are taken from the scopes around it.
 ///
-/// What it writes is a binding by the format, of so many slots, and it makes a recording of the dump. So a dump that
-/// has the scope has a binding, unless memory runs out.
+/// What it writes is a binding by the format, with `slots` slots where that is given, and it makes a recording of the
+/// dump. So a dump that has the scope has a binding, unless memory runs out.
 pub fn write_binding(
     alloc: Global,
     dump: &SurveyedDump,
@@ -74,7 +74,7 @@ pub fn write_binding(
     }
 }
 
-/// The same in the scope of a path.
+/// Finds a binding for a dump in the scope `path`.
 fn binding_in(
     alloc: Global,
     dump: &SurveyedDump,
@@ -93,7 +93,8 @@ fn binding_in(
     Ok(found_binding(alloc, dump, slots, Some(path))?)
 }
 
-/// A binding for a dump, of the lines in the scope of a path, where one is told.
+/// A binding for a dump, by the lines in the scope `scope`, where that is given. Where what is proposed doesn't fit,
+/// all lines are bound to constants.
 fn found_binding(
     alloc: Global,
     dump: &SurveyedDump,
@@ -111,7 +112,7 @@ fn found_binding(
     constant_binding(alloc, slots)
 }
 
-/// The binding of all lines to constants, and what is said of it.
+/// The binding of all lines to constants, and the report of it.
 fn constant_binding(alloc: Global, slots: Option<u8>) -> Result<FoundBinding, AllocError>
     requires { AreSlots slots }
     ensures ok { IfOk result (λ found. (dump : List ℕ) → IsDump dump → MakesRecording found.text dump) }
@@ -124,7 +125,7 @@ fn constant_binding(alloc: Global, slots: Option<u8>) -> Result<FoundBinding, Al
     })
 }
 
-/// Whether a text is a binding of so many slots, where they are told, that makes a recording of the dump.
+/// Whether `text` is a binding that makes a recording of the dump, and has `slots` slots, where that is given.
 fn fits(
     alloc: Global,
     text: &Text,
@@ -143,7 +144,7 @@ fn fits(
     }
 }
 
-/// Whether all that a binding names is among the variables that are declared in a front of a dump.
+/// Whether all that `binding` names is among the variables that `front`, a prefix of a dump, declares.
 fn finds_all(alloc: Global, binding: &Binding, front: &[u8]) -> Result<bool, AllocError>
     ensures { IfOk result (λ finds. finds ≡ true → finds_all binding.now (variables_in front.now) ≡ true) }
 {
@@ -169,7 +170,7 @@ fn has_none(fault: Option<BindFault>) -> bool
     }
 }
 
-/// Whether a binding is of so many slots, where they are told.
+/// Whether `binding` has `slots` slots, where that is given.
 fn has_slots(binding: &Binding, slots: Option<u8>) -> bool
     ensures { result ≡ true → IfSome slots (λ n. binding.now.slots ≡ n) }
 {
@@ -179,7 +180,7 @@ fn has_slots(binding: &Binding, slots: Option<u8>) -> bool
     }
 }
 
-/// That a binding doesn't fit, unless there was no memory to see it.
+/// Where `kind` is want of memory, that is the error. With any other fault the binding doesn't fit.
 fn or_memory(kind: BindFaultKind) -> Result<bool, AllocError>
     ensures { IfOk result (λ fits. fits ≡ false) }
 {
@@ -189,7 +190,7 @@ fn or_memory(kind: BindFaultKind) -> Result<bool, AllocError>
     }
 }
 
-/// What is proposed by the names of the variables and by which of them move.
+/// The binding that is proposed by the names of the variables and by which of their bits move.
 fn proposal_by(
     alloc: Global,
     declared: &DeclaredNames,

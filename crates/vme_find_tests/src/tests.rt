@@ -13,16 +13,16 @@ use vme_proposal::{ProposedBinding, propose_binding, told_constants};
 use vme_trace::Line;
 use vme_variables::{time_scale, time_unit, variables_text};
 
-/// A dump of one variable under a standard name, and of one that is none.
+/// A dump of one variable with a standard name, and of one with another name.
 const DUMP: &str = "$timescale 1 ns $end\n$scope module bus $end\n$var wire 1 p as_n $end\n\
 $var wire 4 q other [3:0] $end\n$upscope $end\n$enddefinitions $end\n#0 1p b1 q\n#10 0p\n";
 
-/// What is surveyed of a dump.
+/// The survey of a dump.
 fn surveyed(alloc: Global, dump: &str) -> Result<SurveyedDump, VcdFault> {
     DumpSurvey::new().finish(alloc, dump.as_bytes())
 }
 
-/// The binding that is found in a scope of what is surveyed.
+/// The binding that is found for a survey, by `slots` and `scope`.
 fn found_in(
     alloc: Global,
     survey: &SurveyedDump,
@@ -49,7 +49,7 @@ fn binding_of(
     }
 }
 
-/// Whether a text has a part.
+/// Whether `text` contains `part`.
 fn has(text: &[u8], part: &str) -> bool {
     memmem::find(text, part.as_bytes()).is_some()
 }
@@ -57,7 +57,7 @@ fn has(text: &[u8], part: &str) -> bool {
 const VARIABLES: &str =
     "time scale 1ns\nlast time 10\nchanges bits variable\n      2     1 bus.as_n\n      1     4 bus.other[3:0]\n";
 
-/// Whether these are the variables of a dump.
+/// Whether the text of the variables of a dump is `wanted`.
 fn lists(alloc: Global, dump: &str, wanted: &str) -> bool {
     match variables_text(alloc, dump.as_bytes()) {
         Ok(text) => text.as_bytes() == wanted.as_bytes(),
@@ -65,7 +65,7 @@ fn lists(alloc: Global, dump: &str, wanted: &str) -> bool {
     }
 }
 
-/// The same, or memory is refused.
+/// Whether the text of the variables of a dump is `wanted`, or memory is refused.
 fn lists_or_is_refused(alloc: Global, dump: &str, wanted: &str) -> bool {
     match variables_text(alloc, dump.as_bytes()) {
         Ok(text) => text.as_bytes() == wanted.as_bytes(),
@@ -78,7 +78,7 @@ fn variables_are_listed(rt: HostRuntime) {
     assert!(rt; lists_or_is_refused(rt.alloc(), DUMP, VARIABLES));
 }
 
-/// Whether a variable has this path.
+/// Whether the scope at `place` has the path `path`.
 fn has_path(alloc: Global, declared: &DeclaredNames, place: usize, path: &[u8]) -> bool {
     match declared.path_of(alloc, place) {
         Ok(found) => found.as_slice() == path,
@@ -86,7 +86,7 @@ fn has_path(alloc: Global, declared: &DeclaredNames, place: usize, path: &[u8]) 
     }
 }
 
-/// Whether these are the scopes in a scope, and it itself.
+/// Whether `wanted` says of each scope whether its path is `path`.
 fn has_scopes(alloc: Global, declared: &DeclaredNames, path: &[u8], wanted: &[bool]) -> bool {
     match scopes_of(alloc, declared, path) {
         Ok(found) => found.as_slice() == wanted,
@@ -128,7 +128,7 @@ fn declarations_are_read(rt: HostRuntime) {
     assert!(rt; is_surveyed(rt.alloc()));
 }
 
-/// Whether a scope has this front of its paths.
+/// Whether the paths of the variables in the scope `path` begin with `wanted`.
 fn has_front(alloc: Global, path: &[u8], wanted: &[u8]) -> bool {
     match front_of(alloc, path) {
         Ok(front) => front.as_slice() == wanted,
@@ -181,7 +181,7 @@ fn are_lines_found(alloc: Global, survey: &SurveyedDump) -> Result<bool, AllocEr
     Ok(is_found && is_proposed(&proposed))
 }
 
-/// Whether they are of the dump, or memory is refused.
+/// Whether the lines of `DUMP` are found and proposed, or memory is refused.
 fn are_lines_found_or_refused(alloc: Global) -> bool {
     match surveyed(alloc, DUMP) {
         Ok(survey) => matches!(are_lines_found(alloc, &survey), Ok(true)),
@@ -189,7 +189,7 @@ fn are_lines_found_or_refused(alloc: Global) -> bool {
     }
 }
 
-/// Whether it is told that nothing is bound.
+/// Whether the report says that nothing is bound.
 fn are_constants_told(alloc: Global) -> bool {
     match told_constants(alloc) {
         Ok(told) => told
@@ -211,7 +211,7 @@ fn a_letter_has_its_published_hash(rt: HostRuntime) {
     assert!(rt; hash_of(EMPTY_HASH, b"a") == 0xaf63_dc4c_8601_ec8c);
 }
 
-/// Whether the binding of the dump begins so, and is no bus's.
+/// Whether the binding of the dump begins with `head`, and isn't that of a bus.
 fn is_found_by_its_name(alloc: Global) -> bool {
     let head =
         b"# Found by the names in the scope bus: look each line over.\nslots 2\nAS = bus.as_n\n";
@@ -226,7 +226,7 @@ fn a_variable_is_found_by_its_name(rt: HostRuntime) {
     assert!(rt; is_found_by_its_name(rt.alloc()));
 }
 
-/// Whether the binding of what is surveyed begins so, or memory is refused.
+/// Whether the binding of a survey begins with a comment that names the scope bus, or memory is refused.
 fn is_written_or_refused(alloc: Global, survey: &SurveyedDump) -> bool {
     match write_binding(alloc, survey, Some(2), Some(b"bus")) {
         Ok(found) => found
@@ -237,7 +237,7 @@ fn is_written_or_refused(alloc: Global, survey: &SurveyedDump) -> bool {
     }
 }
 
-/// Whether the binding of the dump does.
+/// Whether the binding of `DUMP` begins with a comment that names the scope bus, or memory is refused.
 fn is_found_or_refused(alloc: Global) -> bool {
     match surveyed(alloc, DUMP) {
         Ok(survey) => is_written_or_refused(alloc, &survey),
@@ -252,7 +252,7 @@ fn each_growth_fails_once(rt: HostRuntime) {
     assert!(rt; is_found_or_refused(rt.alloc()));
 }
 
-/// Whether the binding that is found for a dump has a text.
+/// Whether the binding that is found for a dump contains `part`.
 fn binding_has(alloc: Global, dump: &str, part: &str) -> bool {
     match binding_of(alloc, dump, None, None) {
         Some(found) => has(found.text.as_bytes(), part),
@@ -260,7 +260,7 @@ fn binding_has(alloc: Global, dump: &str, part: &str) -> bool {
     }
 }
 
-/// Whether the binding that is found in a scope of a dump has a text.
+/// Whether the binding that is found in the scope `path` of a dump contains `part`.
 fn binding_in_has(alloc: Global, dump: &str, path: &str, part: &str) -> bool {
     match binding_of(alloc, dump, Some(1), Some(path.as_bytes())) {
         Some(found) => has(found.text.as_bytes(), part),
@@ -268,7 +268,7 @@ fn binding_in_has(alloc: Global, dump: &str, path: &str, part: &str) -> bool {
     }
 }
 
-/// Whether just this is said of the binding that is found for a dump, and whether it is said to be a bus's.
+/// Whether the report of the binding that is found for a dump is `told`, and its `is_bus` is as given.
 fn binding_is_told(alloc: Global, dump: &str, told: &str, is_bus: bool) -> bool {
     match binding_of(alloc, dump, None, None) {
         Some(found) => found.told.as_bytes() == told.as_bytes() && found.is_bus == is_bus,
@@ -311,12 +311,12 @@ fn an_escaped_name_is_found(rt: HostRuntime) {
     assert!(rt; binding_has(rt.alloc(), dump, "\nAS = tb.\\AS*\n"));
 }
 
-/// A dump of two bits under one path, and of two variables that their path doesn't tell apart.
+/// A dump of two bits under one path, and of two variables with the same path.
 const TWICE: &str =
     "$scope module bench $end\n$var wire 1 a AM [5] $end\n$var wire 1 b AM [4] $end\n\
 $var wire 1 c AS $end\n$var wire 1 d AS $end\n$upscope $end\n$enddefinitions $end\n#0 1a 1b 1c 0d\n";
 
-/// Texts that its binding has.
+/// Texts that the binding of `TWICE` contains.
 static TWICE_BOUND: [&str; 3] = [
     "# Found by the names in the scope bench: look each line over.\nslots 1\n\
 # AS was found, but the dump has different variables of the path bench.AS, which no binding tells apart: ",
@@ -339,7 +339,7 @@ $upscope $end\n$scope module latch $end\n$var wire 1 r D $end\n$upscope $end\n$e
 /// What is said of data lines that aren't found.
 const DATA_LEFT_OUT: &str = "# D wasn't found and is left out: ";
 
-/// Dumps, and a text that the binding of each has.
+/// Dumps, and a text that the binding of each contains.
 static DATA_BOUND: [(&str, &str); 6] = [
     (DATA, "\nD16 = 1\nD15 = bus.data[15]\n"),
     (DATA, "\nD00 = bus.data[0]\n"),
@@ -365,7 +365,7 @@ fn data_lines_are_found(rt: HostRuntime) {
     }
 }
 
-/// Whether the text of the variables of a dump begins so.
+/// Whether the text of the variables of a dump begins with `front`.
 fn lists_first(alloc: Global, dump: &str, front: &[u8]) -> bool {
     match variables_text(alloc, dump.as_bytes()) {
         Ok(text) => text.as_bytes().starts_with(front),
@@ -388,7 +388,7 @@ fn has_scale(alloc: Global, dump: &str, scale: &str) -> bool {
     }
 }
 
-/// Whether its times stand for so many units.
+/// Whether the time scale of a dump has `units` units.
 fn has_unit(alloc: Global, dump: &str, units: u64) -> bool {
     match time_unit(alloc, dump.as_bytes()) {
         Ok(found) => found == units,
@@ -396,7 +396,7 @@ fn has_unit(alloc: Global, dump: &str, units: u64) -> bool {
     }
 }
 
-/// Dumps, the time scale of each, and for how many units a time stands.
+/// Dumps, and the time scale of each and the number of units in it.
 static SCALES: [(&str, &str, u64); 3] = [
     ("$timescale 10 ns $end\n$enddefinitions $end\n", "10ns", 10),
     (
@@ -418,7 +418,7 @@ fn a_time_stands_for_units(rt: HostRuntime) {
     }
 }
 
-/// Dumps with and without SYSRESET, and a text that the binding of each has.
+/// Dumps with and without SYSRESET, and a text that the binding of each contains.
 static RESET_BOUND: [(&str, &str); 3] = [
     (
         "$var wire 1 p AS $end\n$var wire 1 r SYSRESET_n $end\n$enddefinitions $end\n#0 1p 1r\n",
@@ -442,14 +442,14 @@ fn the_system_reset_is_found_or_left_out(rt: HostRuntime) {
 const CYCLE: &str =
     "$enddefinitions $end\n#0 1p 1q 1r\n#10 0p\n#20 0q\n#30 0r\n#40 1p 1q\n#50 1r\n";
 
-/// These definitions in front of a cycle.
+/// `definitions` and a cycle after them.
 fn with_cycle(alloc: Global, definitions: &str) -> Result<String, AllocError> {
     let mut dump = String::from_str(alloc, definitions)?;
     dump.push_str(CYCLE)?;
     Ok(dump)
 }
 
-/// Whether the binding that is found for these definitions, in front of a cycle, has a text.
+/// Whether the binding that is found for `definitions` with a cycle after them contains `part`.
 fn cycle_has(alloc: Global, definitions: &str, part: &str) -> bool {
     match with_cycle(alloc, definitions) {
         Ok(dump) => binding_has(alloc, dump.as_str(), part),
@@ -457,7 +457,7 @@ fn cycle_has(alloc: Global, definitions: &str, part: &str) -> bool {
     }
 }
 
-/// The first text of these that no binding has.
+/// The first text of `cycles` that the binding for its definitions doesn't contain.
 fn first_unbound(alloc: Global, cycles: &[(&'static str, &'static str)]) -> Option<&'static str> {
     for (definitions, part) in cycles {
         if !cycle_has(alloc, definitions, part) {
@@ -467,7 +467,7 @@ fn first_unbound(alloc: Global, cycles: &[(&'static str, &'static str)]) -> Opti
     None
 }
 
-/// Definitions, and a text that the binding of each has in front of a cycle.
+/// Definitions, and a text that the binding of each with a cycle contains.
 static NAMED: [(&str, &str); 4] = [
     (
         "$var wire 1 p VME_AS_n $end $var wire 1 q VME_DS0_n $end $var wire 1 r VME_DTACK_n $end\n",
@@ -499,7 +499,7 @@ const PROCESSOR: &str =
     "$scope module bus $end\n$var wire 1 p AS $end\n$var wire 1 q DS0 $end\n$var wire 1 r DTACK $end\n\
 $scope module cpu $end\n$var wire 32 a addr [31:0] $end\n$var wire 1 b as $end\n$upscope $end\n$upscope $end\n";
 
-/// What its binding has by the names.
+/// Texts that the binding of `PROCESSOR` contains.
 static COUNTED: [(&str, &str); 2] = [
     (PROCESSOR, "in the scope bus: "),
     (PROCESSOR, "\nDS0 = bus.DS0\n"),
@@ -515,7 +515,7 @@ fn names_are_counted_and_not_bits(rt: HostRuntime) {
 const GRANTED: &str =
     "$var wire 1 p AS $end $var wire 1 q BBSY $end $var wire 2 r BG3 [1:0] $end $var wire 23 a A [23:1] $end\n";
 
-/// What bindings have of lines that aren't found.
+/// Definitions in which lines aren't found, and a text that the binding of each with a cycle contains.
 static FITTING: [(&str, &str); 4] = [
     (PROCESSOR, "\nBBSY = 0\n"),
     (
@@ -539,7 +539,7 @@ $var wire 1 b DS0 $end\n$var wire 1 c DTACK $end\n$upscope $end\n$scope module t
 $upscope $end\n$scope module clock $end\n$var wire 1 f tick $end\n$upscope $end\n$upscope $end\n$enddefinitions $end\n\
 #0 1a 1b 1c 1d 1e 1f\n#5 0a 0d\n#6 0b\n";
 
-/// Scopes, and a text that the binding in each has.
+/// Scopes, and a text that the binding in each contains.
 static SCOPED: [(&str, &str); 5] = [
     ("top.two", "# Found by the names in the scope top.two: "),
     ("top.two", "\nAS = top.two.AS\n# DS0 wasn't found: "),
@@ -562,10 +562,10 @@ fn the_scope_that_is_named_is_bound(rt: HostRuntime) {
     }
 }
 
-/// Paths that are no scope's.
+/// Paths of no scope.
 static NO_SCOPES: [&str; 5] = ["tw", "top.tw", "two", "top.two.AS", "top."];
 
-/// Whether each of these is told not to be there.
+/// Whether each path of `NO_SCOPES` is refused as one of no scope.
 fn are_no_scopes(alloc: Global, survey: &SurveyedDump) -> bool {
     let mut are_told = true;
     for path in NO_SCOPES.iter() {
@@ -577,7 +577,7 @@ fn are_no_scopes(alloc: Global, survey: &SurveyedDump) -> bool {
     are_told
 }
 
-/// Whether they are of the two boards.
+/// Whether each path of `NO_SCOPES` is refused as one of no scope of the two boards.
 fn is_no_scope_told(alloc: Global) -> bool {
     match surveyed(alloc, BOARDS) {
         Ok(survey) => are_no_scopes(alloc, &survey),
@@ -598,7 +598,7 @@ const UNDECLARED: VcdFault = VcdFault {
     kind: FaultKind::UndeclaredCode,
 };
 
-/// Whether AS moves in what is surveyed.
+/// Whether the first variable of a survey moves.
 fn moves_first(survey: &SurveyedDump) -> bool {
     match survey.names().variables() {
         [strobe, ..] => survey.levels().moves(strobe.net, 0),
@@ -658,23 +658,23 @@ fn pieces_are_surveyed_as_the_whole(rt: HostRuntime) {
     );
 }
 
-/// Names that turn the direction of a line and steer a terminal.
+/// Names with characters that turn the direction of a line and control a terminal.
 const STEERING: &str =
     "$scope module \u{202e}bus $end\n$var wire 1 p AS $end\n$var wire 1 q a\x1b[31m $end\n$upscope $end\n\
 $enddefinitions $end\n#0 1p 1q\n#5 0p\n";
 
-/// What its variables are shown as.
+/// The text of the variables of `STEERING`.
 const STEERING_SHOWN: &str =
     "time scale none\nlast time 5\nchanges bits variable\n      2     1 \\xE2\\x80\\xAEbus.AS\n\
 \x20     1     1 \\xE2\\x80\\xAEbus.a\\x1B[31m\n";
 
-/// Texts that its binding has. A path is bound by its bytes.
+/// Texts that the binding of `STEERING` contains. A path is bound by its bytes.
 static STEERING_BOUND: [&str; 2] = [
     "# Found by the names in the scope \\xE2\\x80\\xAEbus: look",
     "\nAS = \u{202e}bus.AS\n",
 ];
 
-/// Whether what is said of its binding has a text.
+/// Whether the report of the binding of `STEERING` contains `part`.
 fn steering_is_told(alloc: Global, part: &str) -> bool {
     match binding_of(alloc, STEERING, None, None) {
         Some(found) => has(found.told.as_bytes(), part),

@@ -1,30 +1,30 @@
-//! What stands before and behind the name of a line in the name of a variable.
+//! The parts of a variable's name before and after the name of a line.
 
 use vme_declarations::{EMPTY_HASH, hash_of};
 
-/// How a signal of a board goes, the bus's own level first.
+/// The direction of a board's signal. A variant shows the level of the bus better than those after it.
 #[derive(Clone, Copy, Debug, PartialEq, Eq)]
 pub(crate) enum Direction {
-    /// Nothing is said.
+    /// The name says none.
     Unsaid,
     Input,
     Both,
     Output,
-    /// What is kept of it in the board.
+    /// A register of the board that keeps the signal.
     Register,
-    /// Whether it is driven.
+    /// The enable of the board's driver.
     Enable,
 }
 
-/// What stands before and behind. Two affixes are of one style where their three hashes are the same: marks of polarity
-/// and of direction, and words that say nothing, have no part in these.
+/// The words before and after the name of a line. Two affixes are of one style where their three hashes are the same.
+/// Marks of polarity and of direction, and words that say nothing, aren't in the hashes.
 #[derive(Clone, Copy)]
 pub(crate) struct Affix {
     /// The hash of the words before.
     pub before: u64,
-    /// The hash of the words behind.
+    /// The hash of the words after.
     pub after: u64,
-    /// The hash of the words for a bus, before and behind.
+    /// The hash of the words for a bus, before and after.
     pub bus: u64,
     pub direction: Direction,
     /// Whether there is a mark of a signal that is asserted when it is Low.
@@ -112,8 +112,9 @@ fn mark_of(word: &[u8]) -> Mark {
     Mark::Word
 }
 
-/// What a word is to which the name of a line is joined without a separator: of one letter it is no direction, since
-/// it may belong to another name, as the `i` of `ia` does.
+/// What a word is that is joined to the name of a line without a separator. As a polarity it is `n` or has at least
+/// three letters. As a direction it has at least two letters: one letter may belong to another name, as the `i` of `ia`
+/// does.
 fn mark_close(word: &[u8]) -> Mark {
     let mark = mark_of(word);
     let is_known = match &mark {
@@ -133,7 +134,7 @@ fn split_last(text: &[u8]) -> (&[u8], &[u8]) {
     }
 }
 
-/// The first word of a text, and what stands behind it.
+/// The first word of a text, and the text after it.
 fn split_first(text: &[u8]) -> (&[u8], &[u8]) {
     match text.iter().position(|byte| !byte.is_ascii_alphanumeric()) {
         Some(at) => (&text[..at], &text[at..]),
@@ -141,7 +142,7 @@ fn split_first(text: &[u8]) -> (&[u8], &[u8]) {
     }
 }
 
-/// A hash of a word behind others, in whichever case it is written.
+/// The hash of `word` after words with the hash `before`, in whichever case it is written.
 fn with_word(before: u64, word: &[u8]) -> u64 {
     let mut hash = before;
     for byte in word {
@@ -155,7 +156,7 @@ fn is_sign(byte: u8) -> bool {
     matches!(byte, b'*' | b'#' | b'/' | b'~' | b'!')
 }
 
-/// What stands before and behind the name of a line.
+/// The affix of a name with the texts `before` and `behind` around the name of a line.
 pub(crate) fn affix_of(before: &[u8], behind: &[u8]) -> Affix {
     let mut made = Affix::of_style(EMPTY_HASH, EMPTY_HASH, EMPTY_HASH);
     let (words, close) = split_last(before);
@@ -175,7 +176,7 @@ pub(crate) fn affix_of(before: &[u8], behind: &[u8]) -> Affix {
 }
 
 impl Affix {
-    /// Takes a word before or behind the name.
+    /// Adds a word before or after the name of a line.
     fn take(&mut self, word: &[u8], mark: Mark, is_before: bool) {
         if word.is_empty() {
             return;
@@ -190,7 +191,7 @@ impl Affix {
         }
     }
 
-    /// The affix of a style alone.
+    /// The affix of a style, without a direction and a mark of polarity.
     pub(crate) fn of_style(before: u64, after: u64, bus: u64) -> Affix {
         Affix {
             before,
@@ -206,7 +207,7 @@ impl Affix {
         self.before == other.before && self.after == other.after && self.bus == other.bus
     }
 
-    /// How well this affix fits a style, the better the less; nothing where it doesn't fit.
+    /// How well this affix fits `style`: less is better. It is `None` where the affix doesn't fit.
     pub(crate) fn rank_in(&self, style: &Affix) -> Option<u32> {
         let before = rank_of(self.before, style.before)?;
         let after = rank_of(self.after, style.after)?;
@@ -215,7 +216,7 @@ impl Affix {
     }
 }
 
-/// 0 for the same words, and 4 for none.
+/// 0 for the same words, 4 for no words, and else `None`.
 fn rank_of(words: u64, style: u64) -> Option<u32> {
     if words == style {
         Some(0)

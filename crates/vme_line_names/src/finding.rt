@@ -15,7 +15,7 @@ use vme_trace::{LINE_COUNT, Line};
 /// How many other scopes are named at most.
 const MOST_OTHERS: usize = 10;
 
-/// A variable whose name means something, and how well it fits: the better the less.
+/// A variable whose name denotes lines, and how well it fits: a lesser key is better.
 #[derive(Clone, Copy)]
 struct Candidate {
     key: u64,
@@ -24,7 +24,7 @@ struct Candidate {
     direction: Direction,
 }
 
-/// Whether a variable is bound to a line of another group, but for IACK and its chain.
+/// Whether `variable` is bound to a line whose group isn't in `group`.
 fn is_used(found: &FoundLines, variable: usize, group: Groups) -> bool {
     (0..LINE_COUNT).any(|number| match Line::from_number(number) {
         Some(line) => {
@@ -38,8 +38,9 @@ fn is_used(found: &FoundLines, variable: usize, group: Groups) -> bool {
     })
 }
 
-/// Takes the bits of a candidate for its lines, if none of these has one yet; of IACK and its chain those that are
-/// left.
+/// Binds the lines of a candidate to its bits, if none of these lines but IACK has a bit yet, and the variable isn't
+/// used for other groups. An IACK that has a bit keeps it. If one of the other lines has a bit, and the candidate is a
+/// board's output, its groups are noted in `doubled`.
 fn take(
     found: &mut FoundLines,
     declared: &DeclaredVariable,
@@ -79,8 +80,8 @@ fn take(
     }
 }
 
-/// The votes of the scopes, and the place of the best among those that are asked: those of a path, where one is told,
-/// or else all.
+/// The votes of the scopes, and the place of the best of those that are asked for: the scopes of the path, where it is
+/// some, or else all.
 fn all_votes(
     alloc: Global,
     declared: &DeclaredNames,
@@ -113,7 +114,8 @@ fn all_votes(
     Ok((votes, best))
 }
 
-/// Puts what the variables of a scope are named as by a style behind other candidates, so many scopes outside.
+/// Appends the candidates of a vote's scope, whose names fit its style. `outside` is how many scopes it is outside of
+/// the best one.
 fn push_candidates(
     candidates: &mut Vec<Candidate>,
     readings: &mut Vec<NameReading>,
@@ -147,7 +149,7 @@ fn push_candidates(
     Ok(())
 }
 
-/// How well a reading fits the style of a scope, the better the less.
+/// How well a reading fits the style of a scope: less is better. It is `None` where the reading doesn't fit.
 fn rank_of(reading: &NameReading, vote: &ScopeVote, outside: u64) -> Option<u64> {
     let style = u64::from(reading.affix.rank_in(&vote.style)?);
     let direction = match reading.affix.direction {
@@ -173,7 +175,7 @@ fn rank_of(reading: &NameReading, vote: &ScopeVote, outside: u64) -> Option<u64>
     )
 }
 
-/// The candidates of a scope, and behind them those of the scopes around it whose style fits.
+/// The candidates of the best scope, and of the scopes around it whose style fits, by ascending key.
 fn all_candidates(
     alloc: Global,
     declared: &DeclaredNames,
@@ -206,8 +208,8 @@ fn all_candidates(
     Ok(candidates)
 }
 
-/// Finds the lines of a backplane among the variables: in the scope of the best vote, among those of a path, where one
-/// is told, or else among all.
+/// Finds the lines of a backplane among the variables of the scope with the best vote, and of those around it. The
+/// scope has the path `path`, where that is some.
 pub fn find_lines(
     alloc: Global,
     declared: &DeclaredNames,

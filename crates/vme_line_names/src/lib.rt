@@ -2,15 +2,15 @@
 //!
 //! # Parts
 //!
-//! - `names`, `affix`: what the name of a variable means, and what stands before and after the name
-//!   of a line in it.
+//! - `names`, `affix`: what the name of a variable means, and what is before and after the name of
+//!   a line in it.
 //! - `vote`: by which style of names most lines are found in a scope.
 //! - `finding`: [`find_lines`], which bits of variables the lines are.
 //!
 //! # What is proved
 //!
-//! That each call returns, on any names and levels, unless memory runs out. What is found says whether
-//! a scope was asked (`is_asked`), and names at most 10 other scopes (`others`).
+//! That each call returns, on any names and levels, unless memory runs out. The result says whether
+//! a scope was asked for (`is_asked`), and names at most 10 other scopes (`others`).
 //!
 //! # What isn't proved
 //!
@@ -19,7 +19,8 @@
 //!
 //! # Limits
 //!
-//! Of a variable the leftmost 64 bits are looked at. At most 10 other scopes are named.
+//! Of a variable the leftmost 64 bits are looked at, and in a vote none of a variable that has
+//! more. At most 10 other scopes are named.
 //!
 //! # In which order to read
 //!

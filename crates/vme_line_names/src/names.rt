@@ -1,12 +1,12 @@
-//! What the name of a variable says of a backplane: each place in it at which the name of a line or of a group stands,
-//! and what stands before and behind.
+//! The readings of a variable's name: each place in it that has the name of a line or of a group,
+//! and the texts before and after that.
 
 use crate::affix::{Affix, Direction, affix_of};
 use std::alloc::AllocError;
 use vme_declarations::DeclaredVariable;
 use vme_trace::{CHAIN_NETS, Line, MOST_SLOTS};
 
-/// What a name stands for.
+/// The lines that a name denotes.
 #[derive(Clone, Copy, Debug, PartialEq, Eq)]
 pub(crate) enum Named {
     /// One line.
@@ -23,19 +23,19 @@ pub(crate) enum Named {
     Requests,
     /// The nets of a level's grant chain.
     Grants(u8),
-    /// A net of a level's grant chain, or, of several bits, its nets.
+    /// A level and a net: with one bit this net of the level's grant chain, with several bits the nets of the chain.
     Grant(u8, u8),
     /// The net at this place of each level's grant chain.
     GrantsAt(u8),
     /// The nets of the acknowledge chain, which are numbered from 1.
     Acknowledges,
-    /// IACK, and behind it the nets of the acknowledge chain.
+    /// IACK, and after it the nets of the acknowledge chain.
     AcknowledgeChain,
     /// IACK, or, of several bits, IACK and the acknowledge chain.
     Acknowledge,
 }
 
-/// What a word stands for, by what stands behind it.
+/// What a word denotes. The text after the word may select a line of it.
 #[derive(Clone, Copy)]
 enum Meaning {
     One(Line),
@@ -51,8 +51,8 @@ enum Meaning {
     Acknowledge,
 }
 
-/// The words that stand for lines and groups, in lower case, where `_` stands for any separators or none; those that
-/// aren't in the standard have `false`.
+/// The words for lines and groups, in lower case, where `_` matches any separators or none; those that aren't in the
+/// standard have `false`.
 const WORDS: [(&[u8], Meaning, bool); 58] = [
     (b"as", Meaning::One(Line::AS), true),
     (b"addr_strobe", Meaning::One(Line::AS), false),
@@ -131,7 +131,7 @@ pub(crate) fn is_separator(byte: u8) -> bool {
     )
 }
 
-/// What stands from the first byte on that separates nothing.
+/// The text from its first byte on that is no separator.
 fn behind_separators(text: &[u8]) -> &[u8] {
     match text.iter().position(|byte| !is_separator(*byte)) {
         Some(at) => text.get(at..).unwrap_or(b""),
@@ -139,7 +139,7 @@ fn behind_separators(text: &[u8]) -> &[u8] {
     }
 }
 
-/// What stands behind a word, in whichever case it is written.
+/// The text after `word`, if `text` begins with that, in whichever case it is written.
 fn behind_word<'a>(text: &'a [u8], word: &[u8]) -> Option<&'a [u8]> {
     let mut rest = text;
     for wanted in word {
@@ -155,7 +155,7 @@ fn behind_word<'a>(text: &'a [u8], word: &[u8]) -> Option<&'a [u8]> {
     Some(rest)
 }
 
-/// A number of one or two digits, and what stands behind it.
+/// A number of one or two digits that `text` begins with after any separators, and the text after it.
 fn number(text: &[u8]) -> Option<(u8, &[u8])> {
     match behind_separators(text) {
         [b'0'..=b'9', b'0'..=b'9', b'0'..=b'9', ..] => None,
@@ -167,7 +167,7 @@ fn number(text: &[u8]) -> Option<(u8, &[u8])> {
     }
 }
 
-/// The group that a word stands for by itself.
+/// What a word denotes without a number.
 fn group(meaning: &Meaning) -> Option<Named> {
     match meaning {
         Meaning::One(line) => Some(Named::Line(*line)),
@@ -184,7 +184,7 @@ fn group(meaning: &Meaning) -> Option<Named> {
     }
 }
 
-/// The line of a group with this number.
+/// What a word denotes with the number `bit`.
 fn numbered(meaning: &Meaning, bit: u8) -> Option<Named> {
     let line = match meaning {
         Meaning::Strobes if bit == 0 => Line::DS0,
@@ -204,7 +204,7 @@ fn numbered(meaning: &Meaning, bit: u8) -> Option<Named> {
     Some(Named::Line(line))
 }
 
-/// A number of one or two digits at the end of a text, and what stands before it.
+/// A number of one or two digits at the end of a text, and the text before it.
 fn ending_number(text: &[u8]) -> Option<(u8, &[u8])> {
     let last = text.iter().rposition(|byte| !is_separator(*byte))?;
     let text = &text[..last + 1];
@@ -213,7 +213,8 @@ fn ending_number(text: &[u8]) -> Option<(u8, &[u8])> {
     Some((found, &text[..before + 1]))
 }
 
-/// What stands behind `in` or `out`, and which of them it is.
+/// The direction `in` or `out` that `text` begins with after any separators, and the text after it; `None` where a
+/// letter follows.
 fn behind_way(text: &[u8]) -> Option<(Direction, &[u8])> {
     let (direction, rest) = match behind_word(text, b"_in") {
         Some(rest) => (Direction::Input, rest),
@@ -225,7 +226,7 @@ fn behind_way(text: &[u8]) -> Option<(Direction, &[u8])> {
     }
 }
 
-/// The direction that a word says itself.
+/// The direction that `word` itself says.
 fn direction_of(word: &[u8]) -> Direction {
     if word.ends_with(b"_in") {
         Direction::Input
@@ -236,7 +237,7 @@ fn direction_of(word: &[u8]) -> Direction {
     }
 }
 
-/// Puts all readings of a name behind others.
+/// Appends all readings of a name to `readings`.
 pub(crate) fn push_readings(
     readings: &mut Vec<NameReading>,
     written: &[u8],
@@ -254,7 +255,7 @@ pub(crate) fn push_readings(
     Ok(())
 }
 
-/// A word that a name has: what stands before it, and what it says itself.
+/// A word in a name: the text before it, and what the word itself says.
 #[derive(Clone, Copy)]
 struct MatchedWord<'n> {
     before: &'n [u8],
@@ -262,7 +263,7 @@ struct MatchedWord<'n> {
     is_standard: bool,
 }
 
-/// Puts a reading behind others: what a word stands for, and what stands behind it.
+/// Appends a reading, if the word denotes something: what it denotes, and the affix with the text `after` it.
 fn push_reading(
     readings: &mut Vec<NameReading>,
     matched: &MatchedWord<'_>,
@@ -284,7 +285,8 @@ fn push_reading(
     Ok(())
 }
 
-/// Puts the readings of a word for a line or a group behind others, its number close behind it or at the end.
+/// Appends the readings of a word for a line or a group: without a number, with one right after it, and with one at the
+/// end.
 fn push_word(
     readings: &mut Vec<NameReading>,
     matched: &MatchedWord<'_>,
@@ -301,7 +303,7 @@ fn push_word(
     Ok(())
 }
 
-/// A level of arbitration, and what stands behind it.
+/// A level of arbitration that `behind` begins with after any separators, and the text after it.
 fn level_behind(behind: &[u8]) -> Option<(u8, &[u8])> {
     match behind_separators(behind) {
         [digit @ b'0'..=b'3', rest @ ..] => Some((*digit - b'0', rest)),
@@ -309,7 +311,7 @@ fn level_behind(behind: &[u8]) -> Option<(u8, &[u8])> {
     }
 }
 
-/// Puts the readings of a grant behind others.
+/// Appends the readings of a grant.
 fn push_grants(
     readings: &mut Vec<NameReading>,
     matched: &MatchedWord<'_>,
@@ -326,8 +328,8 @@ fn push_grants(
     Ok(())
 }
 
-/// Puts the readings of a grant of a level behind others: its whole chain, `in` for what the arbiter drives, `out` for
-/// what the first slot does, or the place of a net.
+/// Appends the readings of a grant of a level: its whole chain, `in` for the net that the arbiter drives, `out` for the
+/// net that the first slot drives, or the place of a net.
 fn push_level(
     readings: &mut Vec<NameReading>,
     matched: &MatchedWord<'_>,
@@ -348,7 +350,7 @@ fn push_level(
     push_nets(readings, &way, level, after)
 }
 
-/// Puts the readings of a net of a level's chain behind others, its place close behind or at the end.
+/// Appends the readings of a net of a level's chain, with its place right after the level or at the end.
 fn push_nets(
     readings: &mut Vec<NameReading>,
     matched: &MatchedWord<'_>,
@@ -364,7 +366,7 @@ fn push_nets(
     Ok(())
 }
 
-/// A net of a level's grant chain.
+/// The net `net` of the level's grant chain, if there is one.
 fn net_of(level: u8, net: u8) -> Option<Named> {
     if level < 4 && net < CHAIN_NETS {
         Some(Named::Line(Line::grant(level, net)))
@@ -373,7 +375,7 @@ fn net_of(level: u8, net: u8) -> Option<Named> {
     }
 }
 
-/// Puts those readings of a name behind others whose word begins at the second part.
+/// Appends the readings of a name whose word begins where `text` begins, after the text `before`.
 fn push_readings_at(
     readings: &mut Vec<NameReading>,
     before: &[u8],
@@ -397,8 +399,8 @@ fn push_readings_at(
     Ok(())
 }
 
-/// What is added to the number of a bit of the address: 1 where the bits are numbered from 0, though there are as many
-/// as from 1.
+/// What is added to the number of a bit of the address: 1 where the bits are numbered from 0, but are as many as the
+/// lines from A01 to A31, A23 or A15.
 fn address_shift(variable: &DeclaredVariable) -> u32 {
     let lowest = match variable.index {
         Some((left, right)) => left.min(right),
@@ -409,8 +411,8 @@ fn address_shift(variable: &DeclaredVariable) -> u32 {
 }
 
 impl Named {
-    /// The line that a bit of a variable of this name is, by its place from the left. One bit without an index is no
-    /// group of lines, as a `d` is what goes into a flip-flop.
+    /// The line of the bit at `place`, from the left, of a variable with this name. A variable of one bit without an
+    /// index is no group of lines: a `d` is the input of a flip-flop.
     pub(crate) fn line_at(&self, variable: &DeclaredVariable, place: u32) -> Option<Line> {
         let is_lone = variable.size == 1 && variable.index.is_none();
         let shift = match self {
@@ -434,7 +436,7 @@ impl Named {
         self.line_of_number(bit)
     }
 
-    /// The line of a group by its number.
+    /// The line with the number `bit` in the group.
     fn line_of_number(&self, bit: u8) -> Option<Line> {
         match self {
             Named::Strobes if bit == 0 => Some(Line::DS0),

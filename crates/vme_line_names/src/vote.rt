@@ -1,4 +1,4 @@
-//! The vote of a scope: by which style of names most lines are found among its variables.
+//! The vote of a scope: the style of names by which most lines are found among its variables.
 
 use crate::affix::Affix;
 use crate::names::{NameReading, Named, push_readings};
@@ -8,7 +8,7 @@ use vme_declarations::{
     group_of, has_cycle, has_handshake,
 };
 
-/// The groups that a variable is named as, by one style.
+/// A reading of a variable's name: the hashes of its style, the groups of its lines, and those of them that move.
 #[derive(Clone, Copy, Debug, PartialEq, Eq, PartialOrd, Ord)]
 struct Ballot {
     before: u64,
@@ -20,19 +20,20 @@ struct Ballot {
     moving: Groups,
 }
 
-/// The style of a scope, and what is found by it.
+/// The style of a scope, and the groups that are found by it.
 #[derive(Clone, Copy)]
 pub(crate) struct ScopeVote {
     pub scope: usize,
-    /// How many scopes it stands in.
+    /// The number of scopes around it, the outermost included.
     pub depth: usize,
     pub style: Affix,
     pub found: Groups,
     pub moving: Groups,
+    /// The place of its first variable in the order of declaration.
     variable: usize,
 }
 
-/// What is kept from one scope to the next, so that no memory is taken anew.
+/// The buffers that are used for one scope after another, so that no memory is taken anew.
 #[derive(Drop)]
 pub(crate) struct VoteCounter {
     readings: Vec<NameReading>,
@@ -41,8 +42,9 @@ pub(crate) struct VoteCounter {
 }
 
 impl ScopeVote {
-    /// How good the choice is, the best the greatest: where AS, a strobe and an answer are there; where AS and a strobe
-    /// move; where most groups are found; where most of them move; and then where the scope stands in the fewest.
+    /// How good the choice is: greater is better. First counts whether AS, a data strobe and an answer are found, then
+    /// whether AS and a data strobe move, then how many groups are found, then how many of them move, both without the
+    /// data lines, and then how few scopes are around this one.
     pub(crate) fn score(&self) -> (bool, bool, u32, u32, usize) {
         (
             has_handshake(self.found),
@@ -54,7 +56,7 @@ impl ScopeVote {
     }
 }
 
-/// The groups of which a variable of this name has lines, and those of which one moves.
+/// The groups of the lines that `variable` has if it is `named`, and those groups of which a line moves.
 pub(crate) fn groups_named(
     variable: &DeclaredVariable,
     named: &Named,
@@ -76,7 +78,7 @@ pub(crate) fn groups_named(
 }
 
 impl VoteCounter {
-    /// Nothing is kept yet.
+    /// The buffers are empty.
     pub(crate) fn new(alloc: Global) -> VoteCounter {
         VoteCounter {
             readings: Vec::new(alloc),
@@ -192,7 +194,7 @@ impl VoteCounter {
     }
 }
 
-/// Whether a style is better than another one of the same scope: of equals the one that is declared first.
+/// Whether `style` is better than `other`, of the same scope. Of equals the better is the one that is declared first.
 fn is_better(style: &ScopeVote, other: &ScopeVote) -> bool {
     let (new, old) = (style.score(), other.score());
     new > old || (new == old && style.variable < other.variable)

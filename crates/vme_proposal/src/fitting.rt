@@ -1,14 +1,14 @@
-//! What the lines that weren't found are bound to, so that it fits what was found.
+//! The constants for the lines that weren't found, which fit those that were.
 
 use vme_declarations::{FoundLines, Groups, VariableBit};
 use vme_trace::{LINE_COUNT, Line, MOST_SLOTS};
 
-/// Why lines that were found, or a whole part of the bus, are bound to what they show at rest.
+/// Whether arbitration is judged, or why its lines are bound to constants.
 #[derive(Clone, Copy, PartialEq, Eq)]
 pub(crate) enum AtRest {
-    /// They are judged.
+    /// Arbitration is judged.
     Judged,
-    /// There is no grant whose arbiter's net was found, or one of a level that is used is missing.
+    /// The arbiter's net was found of no level, or wasn't found of a level that is used.
     NoGrants,
     /// BBSY wasn't found.
     NoBusy,
@@ -23,7 +23,7 @@ pub(crate) struct Fitted {
     /// The lines that are bound to 0 unless they are found.
     low: [bool; LINE_COUNT as usize],
     pub arbitration: AtRest,
-    /// Whether the chain of acknowledges is judged.
+    /// Whether the acknowledge chain is judged.
     pub has_chain: bool,
     /// The code that the address modifier lines show where they weren't found.
     pub code: u8,
@@ -63,8 +63,8 @@ impl Fitted {
         }
     }
 
-    /// Where arbitration isn't judged, the bus is busy for good and nobody asks for it or is granted it. Where it is,
-    /// a level that is granted and whose request wasn't found is asked for at any time.
+    /// Where arbitration isn't judged, BBSY is constantly Low, and the requests and grants are at rest. Where it is
+    /// judged, the request of a level whose arbiter's net was found is constantly Low if it wasn't found itself.
     fn fit_arbitration(&mut self) {
         if self.arbitration != AtRest::Judged {
             self.set_low(Line::BBSY);
@@ -104,7 +104,8 @@ impl Fitted {
         }
     }
 
-    /// The same for the acknowledge chain; without its first net, or without IACK, none of it is judged.
+    /// Binds the nets of the acknowledge chain that are missing between two others to the net before them. Without the
+    /// first net or IACK the chain isn't judged, and none of its nets is bound to a variable.
     fn fit_acknowledges(&mut self) {
         let mut last = 0;
         for place in 1..MOST_SLOTS + 1 {
@@ -125,7 +126,7 @@ impl Fitted {
         }
     }
 
-    /// The bits of the code.
+    /// Binds the address modifier lines that weren't found to the bits of `code`.
     fn fit_modifiers(&mut self) {
         for bit in 0..6 {
             if self.code >> bit & 1 == 0 {
@@ -135,9 +136,9 @@ impl Fitted {
     }
 }
 
-/// The code that fits the address lines: of the extended space where a line above A23 was found, of the standard one
-/// where one above A15 was, of the short one where one below was; and where none was, a code of the user's own, which
-/// asks for no address and says nothing of how many transfers a cycle has.
+/// The address modifier code that fits the address lines that were found: an extended code where a line above A23 was
+/// found, a standard one where one above A15 was, a short one where one below was. Where none was, it is a user-defined
+/// code, which needs no address and says nothing of how many transfers a cycle has.
 fn code_for(found: &FoundLines) -> u8 {
     if has_address(found, 24, 31) {
         0x0D
@@ -150,7 +151,7 @@ fn code_for(found: &FoundLines) -> u8 {
     }
 }
 
-/// Whether an address line from a first to a last one was found.
+/// Whether an address line from `first` to `last` was found.
 fn has_address(found: &FoundLines, first: u8, last: u8) -> bool {
     for bit in 1..32 {
         if first <= bit && bit <= last && found.bit_of_line(Line::address(bit)).is_some() {
@@ -160,12 +161,12 @@ fn has_address(found: &FoundLines, first: u8, last: u8) -> bool {
     false
 }
 
-/// Whether the grants of a level were found, and the arbiter's among them.
+/// Whether the net of the level's grant chain that the arbiter drives was found.
 fn is_granted(found: &FoundLines, level: u8) -> bool {
     level < 4 && found.bit_of_line(Line::grant(level, 0)).is_some()
 }
 
-/// Whether a level is used, and its grants can't be judged.
+/// Whether the level is used, i.e. its request or a net of its chain moves, and its grants can't be judged.
 fn lacks_grants(found: &FoundLines, level: u8) -> bool {
     if level >= 4 || is_granted(found, level) {
         return false;

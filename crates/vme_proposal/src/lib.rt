@@ -1,22 +1,22 @@
-//! A binding for the lines that were found among the variables of a dump, and what is told of it.
+//! A binding for the lines that were found among the variables of a dump, and a report of it.
 //!
 //! # Parts
 //!
-//! - `fitting`: what the lines that weren't found are bound to, so that it fits what was.
+//! - `fitting`: the constants for the lines that weren't found, which fit those that were.
 //! - `paths`: how a binding can name bits of the variables of a scope.
 //! - `proposal`: the text of the binding.
-//! - `told`: what was found, as one line for people; [`told_constants`], what is said where it makes
-//!   no recording.
-//! - `proposing`: [`propose_binding`], the text with what is told of it.
+//! - `told`: the report of what was found, as one line for people; [`told_constants`], the report
+//!   where that makes no recording.
+//! - `proposing`: [`propose_binding`], the text with its report.
 //!
 //! # What is proved
 //!
-//! What is told has visible characters, spaces and line feeds alone (`visible`), whatever the names
+//! A report has visible characters, spaces and line feeds alone (`visible`), whatever the names
 //! are. Each call returns, unless memory runs out.
 //!
 //! # What isn't proved
 //!
-//! What is said of the lines; that the text is a binding, which vme_find sees by reading it.
+//! What a report says of the lines. That the text is a binding: vme_find reads it to see that.
 //!
 //! # In which order to read
 //!

@@ -17,20 +17,20 @@ pub(crate) enum Naming {
     Ambiguous,
 }
 
-/// The variables whose path begins as that of a scope, with as many names as they have.
+/// The variables in the scopes whose path is a prefix of `path`: the scope itself and those around it.
 #[derive(Drop)]
 pub(crate) struct Paths<'a> {
     declared: &'a DeclaredNames,
     /// The path of the scope, with a dot at its end.
     path: Vec<u8>,
-    /// For each scope of the dump, how many bytes of the path its own is, or `NOWHERE`.
+    /// For each scope of the dump, the offset in `path` after the scope's own path and a dot, or `NOWHERE`.
     begun: Vec<usize>,
-    /// The variables of the scopes whose path is a part of this.
+    /// The places of those variables.
     near: Vec<usize>,
 }
 
 impl<'a> Paths<'a> {
-    /// The variables in the scope of this path and in those around it.
+    /// The variables in the scope `path` and in those around it.
     pub(crate) fn new(
         alloc: Global,
         declared: &'a DeclaredNames,
@@ -75,7 +75,7 @@ impl<'a> Paths<'a> {
         text.push(self.declared.name_of(variable))
     }
 
-    /// Whether two variables have one path.
+    /// Whether two variables have the same path.
     fn is_same_path(&self, one: &DeclaredVariable, other: &DeclaredVariable) -> bool {
         if self.around(one).len() < self.around(other).len() {
             self.is_same_inside(other, one)
@@ -84,7 +84,7 @@ impl<'a> Paths<'a> {
         }
     }
 
-    /// The same, where the first one's scope has the longer path.
+    /// Whether two variables have the same path, where the path of the scope of `longer` isn't the shorter one.
     fn is_same_inside(&self, longer: &DeclaredVariable, shorter: &DeclaredVariable) -> bool {
         let between = self
             .around(longer)
@@ -97,7 +97,7 @@ impl<'a> Paths<'a> {
         }
     }
 
-    /// Whether no other bits have this name.
+    /// Whether the path of `variable` and `selection` name no other bits.
     fn is_unique(&self, variable: &DeclaredVariable, selection: Option<(u32, u32)>) -> bool {
         let bits = bits_meant(variable, selection);
         self.near.iter().all(|place| match self.variable(*place) {
@@ -109,8 +109,8 @@ impl<'a> Paths<'a> {
         })
     }
 
-    /// How the format can name so many bits of a variable from this place on. A name that ends in a bracket can't stand
-    /// alone, since the bracket would be taken for the numbers of its bits.
+    /// How the format can name `count` bits of the variable at `place`, from its bit at `from` on. A name that ends in
+    /// a bracket isn't used alone, since the bracket would be taken for a selection.
     pub(crate) fn naming(&self, place: usize, from: u32, count: u32) -> Naming {
         let Some(variable) = self.variable(place) else {
             return Naming::Unnumbered;
@@ -133,13 +133,13 @@ impl<'a> Paths<'a> {
     }
 }
 
-/// The numbers of the first and the last of so many bits of a variable from this place on.
+/// The numbers of the first and the last of `count` bits of `variable`, from the bit at the place `from` on.
 pub(crate) fn selection_of(variable: &DeclaredVariable, from: u32, count: u32) -> (u32, u32) {
     let last = from.saturating_add(count).saturating_sub(1);
     (variable.number_of_bit(from), variable.number_of_bit(last))
 }
 
-/// The bits that a name means if it is one of this variable: their net, the place of the first one, and their count.
+/// The bits of `variable` that `selection` selects: their net, the place of the first bit, and their count.
 fn bits_meant(
     variable: &DeclaredVariable,
     selection: Option<(u32, u32)>,

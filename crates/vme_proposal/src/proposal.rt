@@ -72,11 +72,11 @@ const NO_CODE: &str = " wasn't found";
 const NOT_WHOLE: &str =
     " wasn't found whole, or its bits have no index: the lines that are missing are bound to constants";
 
-/// What is said behind a path of which the dump has different variables.
+/// What is said after a path that different variables of the dump have.
 const AMBIGUOUS: &str =
     ", which no binding tells apart: the lines that are missing are bound to constants";
 
-/// What is said where no line is bound, behind where it was looked for.
+/// What is said where no line is bound, after where the lines were looked for.
 const NOTHING_BOUND: &str = " was found for any line of the bus.\n\
 # Each line below is a constant: a check by this binding judges nothing of the dump.\n";
 
@@ -91,15 +91,15 @@ const NO_GRANTS: &str =
 const NEVER_GRANTED: &str =
     "# Neither BBSY nor a grant moves: BBSY is 0, and BR and the grants are at rest, as if one master kept the bus\n";
 
-/// What is said of the chain of acknowledges where it isn't judged, though IACK moves.
+/// What is said of the acknowledge chain where it isn't judged, though IACK moves.
 const NO_CHAIN: &str =
     "# IA wasn't found whole: its nets are 1, and I1 to I3 say nothing, though IACK moves\n";
 
-/// What is said of a group of which a board's output was found beside what is bound.
+/// What is said of a group of which a board's output was found too, beside what is bound.
 const DOUBLED: &str =
     " was found as an output of a board too: what is bound shows the level of the bus, look it over\n";
 
-/// The text so far, and what it is of.
+/// The text so far, and what it is made from.
 #[derive(Drop)]
 pub(crate) struct Proposal<'a> {
     alloc: Global,
@@ -119,7 +119,7 @@ impl<'a> Proposal<'a> {
         }
     }
 
-    /// Writes a binding of all lines of a backplane of so many slots.
+    /// Writes a binding of all lines of a backplane of `slots` slots.
     pub(crate) fn write(&mut self, slots: u8) -> Result<(), AllocError> {
         self.write_head(slots)?;
         for line in [
@@ -159,7 +159,7 @@ impl<'a> Proposal<'a> {
         }
     }
 
-    /// Whether nothing is to be said of a name that isn't bound, since it was said with others.
+    /// Whether nothing is said of `name`, which isn't bound, since a comment on several names says it.
     fn is_said(&self, name: &[u8]) -> bool {
         let rests = self.fitted.arbitration != AtRest::Judged;
         (rests
@@ -167,7 +167,7 @@ impl<'a> Proposal<'a> {
             || (name == b"IA".as_slice() && self.is_chain_told())
     }
 
-    /// Whether it is to be told that the acknowledge chain isn't judged.
+    /// Whether a comment says that the acknowledge chain isn't judged.
     fn is_chain_told(&self) -> bool {
         !self.fitted.has_chain && self.fitted.found.moves(Line::IACK)
     }
@@ -226,8 +226,8 @@ impl<'a> Proposal<'a> {
         self.text.push(b"\n")
     }
 
-    /// Writes the lines of a name, so many from the one of this number down: whole, where they are bits of one variable
-    /// in this order, or else one by one.
+    /// Writes the group `name`, which has `count` lines from the number `first` down: whole, where they are consecutive
+    /// bits of one variable in this order, which the format can name, or else line by line.
     fn write_group(&mut self, name: &[u8], first: u8, count: u8) -> Result<(), AllocError> {
         if (0..count).all(|place| self.bit_of_line(first, place).is_none()) {
             return self.write_unfound(name, first, count);
@@ -249,7 +249,8 @@ impl<'a> Proposal<'a> {
         Ok(())
     }
 
-    /// Writes a name of which no line was found: whole, where its lines are bound to one constant.
+    /// Writes the group `name`, of which no line was found: whole, where its lines are bound to one constant, or else
+    /// line by line.
     fn write_unfound(&mut self, name: &[u8], first: u8, count: u8) -> Result<(), AllocError> {
         let lows = self.count_low(first, count);
         let is_mixed = 0 < lows && lows < count;
@@ -272,7 +273,7 @@ impl<'a> Proposal<'a> {
         Ok(())
     }
 
-    /// How many of some lines are bound to 0.
+    /// The number of lines that are bound to 0, of the `count` lines from the number `first` down.
     fn count_low(&self, first: u8, count: u8) -> u8 {
         let mut lows: u8 = 0;
         for place in 0..count {
@@ -303,7 +304,7 @@ impl<'a> Proposal<'a> {
         }
     }
 
-    /// How the format can name the bit that was found for a line, by how far its number is below a first one.
+    /// How the format can name the bit that was found for the line whose number is `first` minus `place`.
     fn line_naming(&self, first: u8, place: u8) -> Option<Naming> {
         let bit_of_line = self.bit_of_line(first, place)?;
         Some(
@@ -312,7 +313,7 @@ impl<'a> Proposal<'a> {
         )
     }
 
-    /// Whether the format can name the bit that was found for a line, by how far its number is below a first one.
+    /// Whether the format can name the bit that was found for the line whose number is `first` minus `place`.
     fn is_named(&self, first: u8, place: u8) -> bool {
         matches!(
             self.line_naming(first, place),
@@ -320,8 +321,8 @@ impl<'a> Proposal<'a> {
         )
     }
 
-    /// How many of some lines are bound to variables: all, where they are bits of one variable that can be named at
-    /// once, or else those whose bit can be named.
+    /// The number of lines that are bound to variables, of the `count` lines from the number `first` down: all, where
+    /// they are bits of one variable that can be named together, or else those whose bit can be named.
     pub(crate) fn count_bound(&self, first: u8, count: u8) -> u8 {
         if let Some(bit_of_line) = self.run(first, count) {
             let naming = self
@@ -345,7 +346,8 @@ impl<'a> Proposal<'a> {
         (0..LINE_COUNT).any(|number| self.is_named(number, 0))
     }
 
-    /// The first variable that was found for one of some lines and can't be told from another one.
+    /// The first variable with an ambiguous path, of those that were found for the `count` lines from the number
+    /// `first` down.
     fn ambiguous(&self, first: u8, count: u8) -> Option<usize> {
         for place in 0..count {
             if self.line_naming(first, place) == Some(Naming::Ambiguous) {
@@ -355,7 +357,7 @@ impl<'a> Proposal<'a> {
         None
     }
 
-    /// Writes one line.
+    /// Writes the line with this number alone.
     fn write_line(&mut self, number: u8) -> Result<(), AllocError> {
         let Some(line) = Line::from_number(number) else {
             return Ok(());
@@ -369,13 +371,14 @@ impl<'a> Proposal<'a> {
         self.write_constant(name.as_bytes(), self.fitted.is_low(line))
     }
 
-    /// The bit that was found for a line, by how far its number is below a first one.
+    /// The bit that was found for the line whose number is `first` minus `place`.
     fn bit_of_line(&self, first: u8, place: u8) -> Option<VariableBit> {
         let line = Line::from_number(first.checked_sub(place)?)?;
         self.fitted.found.bit_of_line(line)
     }
 
-    /// The first bit of some lines, if they are bits of one variable from there on to the right.
+    /// The bit of the first line, if the `count` lines from the number `first` down are bits of one variable, from this
+    /// bit on to the right.
     fn run(&self, first: u8, count: u8) -> Option<VariableBit> {
         let start = self.bit_of_line(first, 0)?;
         let follows = (0..count).all(|place| {
@@ -388,7 +391,8 @@ impl<'a> Proposal<'a> {
         if follows { Some(start) } else { None }
     }
 
-    /// Writes that a name is so many bits of a variable from this one on, if the format can say it.
+    /// Writes that `name` is bound to `count` bits of a variable, from `bit_of_line` on, if the format can name them.
+    /// The result is whether it can.
     fn push_source(
         &mut self,
         name: &[u8],
@@ -441,7 +445,7 @@ impl<'a> Proposal<'a> {
         self.push_hint(name)
     }
 
-    /// Writes that a name isn't bound, or not whole, since this variable can't be told from another one.
+    /// Writes that `name` isn't bound, or not whole, since another variable has the path of this one.
     fn write_ambiguous(&mut self, name: &[u8], variable: usize) -> Result<(), AllocError> {
         self.text.push(b"# ")?;
         self.text.push(name)?;
@@ -488,7 +492,7 @@ fn push_scope(text: &mut Text, alloc: Global, scope: &[u8]) -> Result<(), AllocE
     }
 }
 
-/// Appends where lines were looked for: in the whole dump, or in the scope that was asked.
+/// Appends where lines were looked for: in the whole dump, or in the scope that was asked for.
 pub(crate) fn push_searched(
     text: &mut Text,
     alloc: Global,

@@ -1,4 +1,4 @@
-//! A binding for the lines that were found, and what is said of it.
+//! A binding for the lines that were found, and the report of it.
 
 ghost use Rattle.std.specs.Prelude.{IfOk};
 ghost use Rattle.vme_text.specs.Escaping.{IsVisible};
@@ -11,19 +11,20 @@ use std::alloc::{AllocError, Global};
 use vme_declarations::{DeclaredNames, FoundLines};
 use vme_text::Text;
 
-/// The text of a binding, and what is to be said of it.
+/// The text of a binding, and the report of it.
 #[derive(Drop)]
 pub struct ProposedBinding {
     /// The text of the binding.
     pub text: Text,
     /// A line for people: how many groups of lines are bound to variables, in which scope, and which aren't.
     pub told: Text,
-    /// Whether a check by the binding judges cycles.
+    /// Whether a check by the binding judges cycles, transfers and answers.
     pub is_bus: bool,
 }
 
-/// A binding for the lines that were found among the variables of a dump, of so many slots, or of those that the daisy
-/// chains show. Where a line wasn't found it is bound to a constant that fits the others, with a comment.
+/// A binding for the lines that were found among the variables of a dump. The backplane has `slots` slots, or else
+/// those that the daisy chains show. A line that wasn't found is bound to a constant that fits the others, with a
+/// comment.
 pub fn propose_binding(
     alloc: Global,
     declared: &DeclaredNames,

@@ -10,7 +10,7 @@ use vme_declarations::group_of;
 use vme_text::{Text, escaped_text};
 use vme_trace::{Line, MOST_SLOTS};
 
-/// How many groups of lines a binding names.
+/// The number of groups of lines that a binding names.
 const GROUPS: u8 = 19;
 
 /// What to do where a line that is needed wasn't found.
@@ -32,7 +32,7 @@ enum GroupState {
     NotFound,
 }
 
-/// Lines of one name: the one with the greatest number, and how many there are from it down.
+/// The lines of one name: the line with the greatest number, and the number of lines from there down.
 #[derive(Clone, Copy)]
 struct LineGroup {
     name: &'static str,
@@ -44,7 +44,7 @@ fn new_group(name: &'static str, first: Line, count: u8) -> LineGroup {
     LineGroup { name, first, count }
 }
 
-/// The group at a place, 0 to 18, in the order of a binding, of a backplane of so many slots.
+/// The group at `place`, from 0 to 18, in the order of a binding, on a backplane of `slots` slots.
 fn group_at(place: u8, slots: u8) -> LineGroup {
     let slots = slots.clamp(1, MOST_SLOTS);
     match place {
@@ -84,7 +84,8 @@ fn state_of(proposal: &Proposal<'_>, group: &LineGroup) -> GroupState {
     }
 }
 
-/// Why a check by what was found would judge nothing, if so: a cycle needs AS, a transfer a strobe and an answer.
+/// Why a check by the binding would judge no cycle, no transfer or no answer, if so: a cycle needs AS, a transfer a
+/// strobe and an answer.
 fn judges_nothing(proposal: &Proposal<'_>) -> Option<&'static str> {
     let is_bound = |line: Line| proposal.count_bound(line.number(), 1) == 1;
     if !is_bound(Line::AS) {
@@ -100,7 +101,7 @@ fn judges_nothing(proposal: &Proposal<'_>) -> Option<&'static str> {
     }
 }
 
-/// Whether a check by what was found judges cycles.
+/// Whether a check by the binding judges cycles, transfers and answers.
 pub(crate) fn is_bus(proposal: &Proposal<'_>) -> bool {
     judges_nothing(proposal).is_none()
 }
@@ -114,7 +115,7 @@ pub(crate) fn told(alloc: Global, proposal: &Proposal<'_>, slots: u8) -> Result<
     escaped_text(alloc, line.as_bytes())
 }
 
-/// The same, with the path of a scope as it is.
+/// The line of `told`, with the path of the scope as it is, i.e. not escaped.
 fn line_told(alloc: Global, proposal: &Proposal<'_>, slots: u8) -> Result<Text, AllocError> {
     let mut text = Text::new(alloc);
     text.push(b"vmecheck: bound ")?;
@@ -157,7 +158,7 @@ pub fn told_constants(alloc: Global) -> Result<Text, AllocError>
     escaped_text(alloc, line.as_bytes())
 }
 
-/// How many groups are bound so.
+/// The number of groups that are in `state`.
 fn count(proposal: &Proposal<'_>, slots: u8, state: GroupState) -> u8 {
     let mut count: u8 = 0;
     for place in 0..GROUPS {
@@ -188,7 +189,7 @@ fn push_place(
     text.push(noun.as_bytes())
 }
 
-/// Appends the names of the groups that are bound so, if there are any.
+/// Appends the names of the groups that are in `state`, if there are any.
 fn push_groups(
     text: &mut Text,
     proposal: &Proposal<'_>,

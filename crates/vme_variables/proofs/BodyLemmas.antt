@@ -1,4 +1,4 @@
--- What comes of a body follows its instants.
+-- The result for a body, by its instants.
 use Rattle.std.proofs.Common.{◌≡◌, ℕ, List, Result, Ok, Err, IfErr, OnOk, ap, ◌∙◌}
 use Rattle.vcd_read.specs.declared.dump.Bit.{Bit}
 use Rattle.vcd_read.specs.declared.dump.Instant.{Instant}
@@ -33,13 +33,14 @@ module _ {T : Type 0} (with_change : T → ℕ → List Bit → T) (with_instant
       let gives = gives-followed (Ends Any) (instants_from h.nets h.body) _ end (follows h t) ok in
       (gives.0, gives.1)
 
-  -- what reading the body answers
+  -- where reading a body succeeds, the body has instants, i.e. no fault
   pub taken-ok : {X : Type 0} (view : X → T) (h : Headed) (t : T) (r : Result X VcdFault) → ReadGives view r
       (fold_body with_change with_instant h.nets t h.body)
       → OnOk r ((instants : List Instant) × (instants_from h.nets h.body ≡ Ok instants))
   taken-ok view h t (Ok x) gives = fold_ends h t (view x) gives
   taken-ok view h t (Err fault) gives = tt
 
+  -- where reading a body fails, the fault is that of its instants
   pub taken-err : {X : Type 0} (view : X → T) (h : Headed) (t : T) (r : Result X VcdFault) → ReadGives view r
       (fold_body with_change with_instant h.nets t h.body)
       → IfErr r (λ fault. ReadFails fault (instants_from h.nets h.body))
@@ -65,7 +66,7 @@ body-ends text d e (instants, is) = (
       ∙ ap (λ (r : Result (List Instant) VcdFault). r >>= with_variables d.variables) is,
 )
 
--- ---- what was behind the definitions, of the whole text
+-- ---- from the body after the definitions to the whole text
 
 pub whole-ok : {A : Type 0} (text : List ℕ) (d : Defined (List Variable)) (r : Result A VcdFault) → whole_header text
     ≡ Ok d

@@ -41,7 +41,7 @@ range_more xs start at le lt =
 range_none : (xs : List ℕ) (k : ℕ) → slice_range xs k k ≡ []
 range_none xs k = let none : k - k ≡ 0 = omega arith in ap (λ (n : ℕ). take n (drop k xs)) none
 
--- a byte of a token
+-- one byte more of a token leaves the whole time scale as it is
 pub scale-goes-on : (s : TimescaleSection) (text whole dump : List ℕ) (start at : ℕ) → start ≤ at → at < length dump
     → is_space (get_or dump at 0) ≡ false
     → text ++ scale_from s (slice_range dump start at) (drop at dump) ≡ whole
@@ -51,7 +51,7 @@ scale-goes-on s text whole dump start at le lt e is =
     ∙ ap (λ (scale : List ℕ). text ++ scale) (sym (step_at s (slice_range dump start at) dump at false lt e))
     ∙ is
 
--- a space
+-- a space after a token leaves the whole time scale as it is
 pub scale-steps : (s behind : TimescaleSection) (text after whole dump : List ℕ) (start at : ℕ) → at < length dump
     → is_space (get_or dump at 0) ≡ true → after ≡ text ++ shown_token s (slice_range dump start at) → behind
     ≡ section_behind s (slice_range dump start at)
@@ -67,7 +67,7 @@ scale-steps s behind text after whole dump start at lt e pushed is_behind is =
     ∙ ap (λ (scale : List ℕ). text ++ scale) (sym (step_at s t dump at true lt e))
     ∙ is
 
--- behind the time scale
+-- after the time scale nothing is added to it
 behind-on : (bytes : List ℕ) (n : Bool) → scale_from Behind [] bytes ≡ []
     → scale_from (if n then Behind else Behind) [] bytes ≡ []
 behind-on bytes true none = none
@@ -80,12 +80,14 @@ behind-step : (token bytes : List ℕ) (b : ℕ) (space : Bool) → scale_from B
 behind-step token bytes b true none more = behind-on bytes (nat_eq (length token) 0) none
 behind-step token bytes b false none more = more
 
+-- whatever follows the time scale adds nothing to it
 behind_all : (token bytes : List ℕ) → scale_from Behind token bytes ≡ []
 unfolding scale_from
 behind_all token [] = refl
 behind_all token (b ∷ bytes) =
     behind-step token bytes b (is_space b) (behind_all [] bytes) (behind_all (token ++ b ∷ []) bytes)
 
+-- after the time scale, `text` is the whole
 pub scale-behind : (s : TimescaleSection) (text whole token bytes : List ℕ) → s ≡ Behind
     → text ++ scale_from s token bytes ≡ whole → text ≡ whole
 scale-behind s text whole token bytes behind is =
@@ -94,7 +96,7 @@ scale-behind s text whole token bytes behind is =
     ∙ behind_all token bytes))
     ∙ is
 
--- the last token
+-- the last token completes the time scale
 pub scale-ends : (s : TimescaleSection) (text after whole dump : List ℕ) (start at : ℕ) → at ≡ length dump → after
     ≡ text ++ shown_token s (slice_range dump start (length dump))
     → text ++ scale_from s (slice_range dump start at) (drop at dump) ≡ whole → after ≡ whole

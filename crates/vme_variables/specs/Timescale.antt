@@ -4,7 +4,7 @@ use Rattle.vcd_read.specs.Tokens.{is_space}
 use Rattle.vme_variables.specs.declared.timescale.TimescaleSection.{TimescaleSection}
 use Rattle.vme_variables.specs.declared.timescale.TimescaleSection.TheVariants.{Behind, Other, Outside, Timescale}
 
--- the section behind a token that has a byte, which stands in this one
+-- the section after a token that isn't empty, and that is in this section
 abbrev pub section_of_token : TimescaleSection → List ℕ → TimescaleSection
 section_of_token Outside token =
     if bytes_eq token (codes "$enddefinitions") then Behind
@@ -14,7 +14,7 @@ section_of_token Timescale token = if bytes_eq token (codes "$end") then Behind 
 section_of_token Other token = if bytes_eq token (codes "$end") then Outside else Other
 section_of_token Behind token = Behind
 
--- the section behind a token, or behind nothing
+-- the section after a token, which may be empty
 abbrev pub section_behind : TimescaleSection → List ℕ → TimescaleSection
 section_behind section token = if length token == 0 then section else section_of_token section token
 
@@ -25,7 +25,7 @@ shown_token Timescale token = if bytes_eq token (codes "$end") then [] else toke
 shown_token Other token = []
 shown_token Behind token = []
 
--- the time scale from a section on, where a token has begun so
+-- the time scale in the rest of the bytes, from a section on, where `token` is what the current token has so far
 unfoldable pub scale_from : TimescaleSection → List ℕ → List ℕ → List ℕ
 scale_from section token [] = shown_token section token
 scale_from section token (b ∷ bytes) =

@@ -23,7 +23,7 @@ impl Model for ChangeCounts {
 }
 
 impl ChangeCounts {
-    /// No change of so many nets.
+    /// No change yet of any of `nets` nets.
     pub(crate) fn none(alloc: Global, nets: usize) -> Result<ChangeCounts, AllocError> {
         let mut counts = Vec::new(alloc);
         counts.resize(nets, 0)?;

@@ -3,20 +3,20 @@
 //! # Parts
 //!
 //! - `changes`: how often each net changes, and the last time.
-//! - `timescale`: the text of the time scale; [`time_unit`], how many units a time stands for.
+//! - `timescale`: the text of the time scale; [`time_unit`], the number of units in it.
 //! - `variables`: [`variables_text`], the variables as text.
 //!
 //! # What is proved
 //!
-//! - [`variables_text`] comes only of a dump without a fault (`ok`), and else names the first
-//!   (`err`). It has visible characters, spaces and line feeds alone (`visible`), whatever the names
-//!   are.
+//! - [`variables_text`] gives a text only for a dump without a fault (`ok`), and else the first
+//!   fault (`err`). The text has visible characters, spaces and line feeds alone (`visible`),
+//!   whatever the names are.
 //! - [`time_scale`] is the tokens of the first `$timescale` section, joined; [`time_unit`] is at least
 //!   1.
 //!
 //! # What isn't proved
 //!
-//! The counts of changes, and what else is said of the variables.
+//! The counts of changes, and what else the text says of the variables.
 //!
 //! # In which order to read
 //!

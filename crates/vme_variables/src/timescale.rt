@@ -7,10 +7,10 @@ ghost use Rattle.vme_variables.specs.Timescale.{section_behind, shown_token, tim
 use std::alloc::{AllocError, Global};
 use vme_text::Text;
 
-/// In which section of the definitions a token stands.
+/// The section of the definitions that a token is in.
 #[derive(Clone, Copy)]
 enum TimescaleSection {
-    /// In none.
+    /// No section.
     Outside,
     Timescale,
     Other,
@@ -25,7 +25,7 @@ fn is_blank(byte: u8) -> bool
     byte == b' ' || byte == b'\t' || byte == b'\n' || byte == b'\r'
 }
 
-/// Appends a token if it is one of the time scale, and answers the section behind it.
+/// Appends a token if it is one of the time scale, and returns the section after it.
 fn push_token(
     text: &mut Text,
     section: TimescaleSection,
@@ -84,7 +84,8 @@ pub(crate) fn push_timescale(text: &mut Text, dump: &[u8]) -> Result<(), AllocEr
     Ok(())
 }
 
-/// The number that the digits at the beginning of a text are, or the greatest one where it is greater.
+/// The number that the digits at the beginning of `text` denote, or `u64::MAX` where that is less; 0 where there are
+/// none.
 fn leading_number(text: &[u8]) -> u64 {
     let mut number: u64 = 0;
     for byte in text {
@@ -109,7 +110,8 @@ pub fn time_scale(alloc: Global, dump: &[u8]) -> Result<Text, AllocError>
     Ok(scale)
 }
 
-/// How many units of its time scale a time of a dump stands for, as 10 for 10 ns; 1 where it has no time scale.
+/// The number of units in the time scale of a dump, as 10 for 10 ns: how many of them one tick of time is. It is at
+/// least 1, and 1 where the dump has no time scale.
 pub fn time_unit(alloc: Global, dump: &[u8]) -> Result<u64, AllocError>
     ensures { IfOk result (λ units. 1 ≤ units) }
 {

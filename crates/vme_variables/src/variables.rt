@@ -14,10 +14,10 @@ use vcd_read::{FaultKind, Head, Variable, Variables, VcdFault, read_definitions}
 use vme_text::{Text, escaped_text};
 
 /// The variables of the text of a dump, one a line in the order of their declaration: how many changes the dump has of
-/// each, how many bits it has, and its path with its index, as a binding names it. Before them stand the time scale and
+/// each, how many bits it has, and its path with its index, as a binding names it. Before them are the time scale and
 /// the last time. A byte of a name that isn't a visible character is written as `\xHH`.
 ///
-/// A text comes only of a dump without a fault. A fault is the dump's first one; at line 0 it is want of memory.
+/// There is a text only for a dump without a fault. A fault is the dump's first one; at line 0 it is want of memory.
 pub fn variables_text(alloc: Global, dump: &[u8]) -> Result<Text, VcdFault>
     ensures ok { OnOk result (IsDump dump.now) }
     ensures visible { IfOk result (λ text. IsVisible text) }
@@ -29,7 +29,7 @@ pub fn variables_text(alloc: Global, dump: &[u8]) -> Result<Text, VcdFault>
     }
 }
 
-/// The same, where the definitions are read.
+/// The text of the variables of a dump, after its definitions `head` are read.
 fn variables_behind(
     alloc: Global,
     dump: &[u8],
@@ -49,7 +49,7 @@ fn variables_behind(
     }
 }
 
-/// How often each net changes in the body behind some definitions.
+/// How often each net changes in the body after the definitions `head`.
 fn changes_in(alloc: Global, head: &Head<'_>) -> Result<ChangeCounts, VcdFault>
     ensures ok { OnOk result ((instants : List Instant) × instants_from head.now.nets head.now.body ≡ Ok instants) }
     ensures err { IfErr result (λ fault. ReadFails fault (instants_from head.now.nets head.now.body)) }

@@ -7,7 +7,7 @@ use Rattle.vme_bind.proofs.LineBitLemmas.{line_change-more}
 use Rattle.vcd_read.specs.Numbers.{extended}
 use Rattle.vme_bind.proofs.recorder.Recorder.set_each_by_digits.Goals as goal
 
--- the line of the line bit at hand is the backplane's
+-- the line of the current line bit is a line of the backplane
 pub set_line-requires : goal.set_line-requires
 set_line-requires c =
     let line_bit = c.line_bit-item.result in
