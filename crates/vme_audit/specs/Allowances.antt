@@ -10,7 +10,7 @@ use Rattle.vme_trace.specs.declared.verdict.Break.{Break}
 use Rattle.vme_audit.specs.Parts.{breaks, cut_behind}
 use Rattle.vme_audit.specs.declared.allowance.Allowance.{Allowance}
 
--- the allowance is of the rule that is broken, and of the line that is named, or of no line
+-- the allowance is of the rule of the break, and of its line or of every line
 abbrev pub allows : Break → Allowance → Bool
 allows b a = (rule_number a.rule == rule_number b.rule) && option_map_or (λ l. l == b.line) a.line true
 
@@ -26,7 +26,7 @@ module _ (allowances : List Allowance) where
   abbrev pub faults : List Break → List Break
   faults bs = filter is_fault bs
 
-  -- those of them that say that the recording is wrong, and those that say that it can't be read
+  -- the breaks that are not allowed and say that the recording is wrong; below, those that say that it can't be read on
   abbrev pub wrongs : List Break → List Break
   wrongs bs = filter (λ b. not (is_unreadable b.rule)) (faults bs)
 
@@ -37,8 +37,7 @@ module _ (allowances : List Allowance) where
   cut_at t None = t
   cut_at t (Some b) = cut_behind t b.instant
 
-  -- the recording as far as it is read where reading stops at some count of breaks that are not allowed, from 1 on: it
-  -- is
-  -- cut off behind the last of these, if there are so many
+  -- the recording as far as it is read where reading stops at the n-th break that is not allowed, counted from 1: it is
+  -- cut off after the instant of that break, if there is one
   unfoldable pub stopped_at : ℕ → Trace → Trace
   stopped_at n t = cut_at t (slice_get (faults (breaks t)) (n - 1))

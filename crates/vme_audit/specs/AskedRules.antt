@@ -20,7 +20,7 @@ use Rattle.vme_audit.specs.Event as event
 use Rattle.vme_audit.specs.Parts.{Part, parts, own_break}
 
 module _ (t : Trace) where
-  -- an edge on one of some lines
+  -- a fall at instant j on one of the chosen lines; below, a rise
   abbrev pub falls_on : (ℕ → Bool) → ℕ → Bool
   falls_on chosen j = any (λ l. chosen l && falls t l j) 0 line_count
 
@@ -46,21 +46,21 @@ module _ (t : Trace) (span : Stretch) where
   abbrev pub write_starts : ℕ → Bool
   write_starts j = transfer_starts t span j && is_write t span j
 
-  -- in a transfer that started before
+  -- j is in a transfer that started before j
   abbrev pub within_transfer : ℕ → Bool
   within_transfer j = in_transfer t span (λ i. nat_lt i j) j
 
-  -- a transfer is answered in a cycle of a class
+  -- a transfer is answered at j, in a cycle of a chosen class
   abbrev pub answered_in_class : (Class → Bool) → ℕ → Bool
   answered_in_class chosen j = is_answer t span j && in_cycle t span (λ i. chosen (class_at t span i)) j
 
-  -- and another transfer of that cycle was answered before
+  -- a transfer is answered at j, in a cycle of a chosen class, and another transfer of that cycle was answered before
   abbrev pub answered_again_in_class : (Class → Bool) → ℕ → Bool
   answered_again_in_class chosen j =
       is_answer t span j
       && in_cycle t span (λ i. chosen (class_at t span i) && has_earlier_answer (answers_of t span i j)) j
 
-  -- an event happens at an instant of the stretch, which doesn't start there
+  -- the event happens at instant j of the stretch, after its start
   abbrev pub event_happens : Event → ℕ → Bool
   event_happens event.stretch j = false
   event_happens event.cycle j = cycle_starts t span j
@@ -88,20 +88,20 @@ module _ (t : Trace) (span : Stretch) where
   unfoldable pub happens : Rule → ℕ → Bool
   happens r j = event_happens (event_of r) j
 
--- the first instant that isn't looked at any more: behind the break, or behind the last
+-- the first instant that isn't looked at: the one after the break, or without a break the one after the last
 abbrev pub asking_end : Trace → Option Break → ℕ
 asking_end t None = last_instant t + 1
 asking_end t (Some b) = b.instant + 1
 
--- a recording with this break asks a rule in a stretch
+-- a recording whose break is `found` asks rule r in the stretch
 unfoldable pub asks_in : Trace → Option Break → Rule → Stretch → Bool
 asks_in t found r span = ends_span r || any (happens t span r) (span.start + 1) (min span.end (asking_end t found))
 
--- a part asks a rule
+-- part p asks rule r
 unfoldable pub asks : Rule → Part → Bool
 asks r p = list_any (asks_in p.trace (own_break p) r) (judged_spans p.trace)
 
--- a recording asks a rule
+-- recording t asks rule r
 unfoldable pub is_asked : Trace → Rule → Bool
 is_asked t r = list_any (asks r) (parts t)
 

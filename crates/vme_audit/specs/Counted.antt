@@ -1,4 +1,4 @@
--- What a recording has: the rows of the listings of its parts, counted.
+-- How many tenures, cycles, transfers and resets a recording has, by the rows of the listings of its parts.
 use Rattle.std.specs.Prelude.{ℕ, Bool, true, false, not, List, filter, flat_map, length}
 use Rattle.vme_trace.specs.Rules.{is_single, is_block_class}
 use Rattle.vme_trace.specs.Trace.{Trace}
@@ -63,7 +63,7 @@ abbrev pub is_pending : Row → Bool
 is_pending (PendingTransfer start direction) = true
 is_pending row = false
 
--- how many of some rows are of a kind
+-- how many of the rows are of a kind
 abbrev pub count_of : (Row → Bool) → List Row → ℕ
 count_of is rows = length (filter is rows)
 
@@ -83,6 +83,6 @@ counts_of_rows rows =
       pending = count_of is_pending rows;
     }
 
--- the counts of a recording: what a break cuts off has its row in the part in which it began, and none behind it
+-- the counts of a recording. What a break cuts off has its row in the part in which it began, and none in a later part
 abbrev pub counts : Trace → Counts
 counts t = counts_of_rows (flat_map rows_of (parts t))

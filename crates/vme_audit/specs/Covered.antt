@@ -19,7 +19,7 @@ use Rattle.vme_audit.specs.declared.outcome.CoverageGap.TheVariants.{NeverIdle, 
 use Rattle.vme_audit.specs.declared.outcome.Outcome.{Outcome}
 use Rattle.vme_audit.specs.declared.outcome.Outcome.TheVariants.{Conforming, NotCovered, Broken, Unreadable}
 
--- where a transfer starts that no row says to be answered
+-- the start of the transfer of a row, if it is a transfer without an answer
 abbrev pub pending_start : Row → Option ℕ
 pending_start (PendingTransfer start direction) = Some start
 pending_start row = None
@@ -30,11 +30,12 @@ hanging [] = None
 hanging (row ∷ rows) =
     option_or (if list_any is_reset rows then None else pending_start row) (hanging rows)
 
--- a recording ends in a hang: a transfer of its last part is still without an answer
+-- the start, in the last part, of the first transfer that is still without an answer at the end of the recording, if
+-- there is one
 unfoldable pub hang : Trace → Option ℕ
 hang t = hanging (rows_of (last_part t))
 
--- a stretch is judged in a part
+-- there is a stretch
 abbrev pub has_stretch : List Stretch → Bool
 has_stretch [] = false
 has_stretch (span ∷ spans) = true
@@ -46,7 +47,7 @@ is_judged_part p = has_stretch (judged_spans p.trace)
 abbrev pub answered : Counts → ℕ
 answered c = c.by_dtack + c.by_berr
 
--- nothing is judged in the last part, which opens at the break before it, if there is one
+-- the gap where nothing is judged in the last part, which opens at the last break, if there is one
 abbrev pub never_idle : List Break → CoverageGap
 never_idle [] = NeverIdle
 never_idle (b ∷ bs) = behind b bs
@@ -58,8 +59,8 @@ never_idle (b ∷ bs) = behind b bs
 abbrev pub hang_from : Part → ℕ → CoverageGap
 hang_from p start = Hang (p.start + start) (time_at p.trace start)
 
--- why a recording isn't covered, if so: nothing was judged since its last break, fewer transfers were answered than are
--- wanted, or it ends in a hang
+-- why a recording isn't covered, if it isn't: nothing was judged since its last break, fewer than `wanted` transfers
+-- were answered, or it ends in a hang
 unfoldable pub gap : ℕ → Trace → Option CoverageGap
 gap wanted t =
     if not (is_judged_part (last_part t)) then Some (never_idle (breaks t))
@@ -74,7 +75,7 @@ any_of (b ∷ bs) = true
 abbrev pub allowed_count : List Allowance → Trace → ℕ
 allowed_count allowances t = length (filter (is_allowed allowances) (breaks t))
 
--- the outcome of an audit, for some allowances and so many answered transfers as are wanted
+-- the outcome of an audit with these allowances that requires `wanted` answered transfers
 unfoldable pub outcome : List Allowance → ℕ → Trace → Outcome
 outcome allowances wanted t =
     if any_of (wrongs allowances (breaks t)) then Broken

@@ -1,4 +1,4 @@
--- What happens of which rules speak, and of which of it each does.
+-- The events without which rules can't be broken, and the event of each rule.
 use Rattle.vme_trace.specs.declared.rule.Rule.{Rule}
 use Rattle.vme_trace.specs.declared.rule.Rule.TheVariants as rule
 

@@ -8,44 +8,44 @@ use Rattle.vme_trace.specs.declared.verdict.Break.{Break}
 use Rattle.vme_trace.specs.declared.verdict.Verdict.{Verdict}
 use Rattle.vme_trace.specs.declared.verdict.Verdict.TheVariants.{Conforming, Broken, Unreadable, NeverIdle}
 
--- the rest of a recording behind an instant: it opens with the levels of that instant, and has the steps after it, so
+-- the rest of a recording after instant j: it opens with the levels of that instant, and has the steps after it, so
 -- that its instant i is instant j + i of the recording
 abbrev pub rest_behind : Trace → ℕ → Trace
 rest_behind t j = record { opening = levels_at t j; steps = drop j t.steps }
 
--- the recording up to an instant, and that instant included
+-- the recording up to instant j, included
 abbrev pub cut_behind : Trace → ℕ → Trace
 cut_behind t j = record { opening = t.opening; steps = take j t.steps }
 
--- the break that a verdict names
+-- the break of a verdict, if it has one
 abbrev pub named_break : Verdict → Option Break
 named_break Conforming = None
 named_break (Broken b) = Some b
 named_break (Unreadable b) = Some b
 named_break NeverIdle = None
 
--- a recording in a longer one, which opens at this instant of that
+-- a part of a longer recording: `trace`, which opens at instant `start` of the longer one
 pub record Part : Type 0 where
   pub start : ℕ
   pub trace : Trace
 
--- the break by which a part ends, at an instant of the part
+-- the break by which a part ends, with its instant in the part
 unfoldable pub own_break : Part → Option Break
 own_break p = named_break (verdict p.trace)
 
--- a break of a part that opens at an instant, at its instant of the whole recording
+-- a break of a part that opens at `start`, with its instant in the whole recording
 abbrev pub moved_by : ℕ → Break → Break
 moved_by start b = record { instant = start + b.instant; time = b.time; rule = b.rule; line = b.line }
 
--- the break by which a part ends
+-- the break by which a part ends, with its instant in the whole recording
 abbrev pub break_of : Part → Option Break
 break_of p = option_map (moved_by p.start) (own_break p)
 
--- what is left of a part behind its break, if it has one: it opens with the levels at the break, and has fewer steps
+-- what is left of a part after its break b: it opens with the levels at the break, and has fewer steps
 abbrev pub part_behind : Part → Break → Part
 part_behind p b = record { start = p.start + b.instant; trace = rest_behind p.trace b.instant }
 
--- a part, and the parts behind its break, at most so many
+-- a part, and the parts after its break, at most as many as the first argument says
 unfoldable pub parts_from : ℕ → Part → List Part
 parts_from zero p = p ∷ []
 parts_from (suc n) p = p ∷ option_map_or (λ b. parts_from n (part_behind p b)) (own_break p) []
@@ -53,8 +53,8 @@ parts_from (suc n) p = p ∷ option_map_or (λ b. parts_from n (part_behind p b)
 abbrev pub whole : Trace → Part
 whole t = record { start = 0; trace = t }
 
--- the parts of a recording: itself, and the rest behind each of its breaks. A break is behind the opening, so there are
--- no more of them than steps
+-- the parts of a recording: itself, and the rest after each of its breaks. A break is after the opening, so there are
+-- at most as many breaks as steps
 unfoldable pub parts : Trace → List Part
 parts t = parts_from (length t.steps) (whole t)
 

@@ -5,6 +5,6 @@ use vme_trace::{Line, Rule};
 pub struct Allowance {
     /// The rule that may be broken.
     pub rule: Rule,
-    /// The line on which alone it may be, or none for every line.
+    /// The only line on which the rule may be broken, or `None` for every line.
     pub line: Option<Line>,
 }

@@ -1,5 +1,5 @@
-/// What a recording has: resets that end what is judged, tenures, cycles by their class, and transfers by their
-/// direction and by their answer.
+/// How many of each a recording has: resets that end what is judged, tenures, cycles by their class, and transfers by
+/// their direction and by their answer.
 #[derive(Clone, Copy, Debug, PartialEq, Eq)]
 pub struct Counts {
     /// Resets that end what is judged.

@@ -7,8 +7,9 @@
 //!   all breaks of it.
 //! - `specs/AskedRules`: what has to happen for a rule to be asked at all. A rule that is never
 //!   asked can't be broken.
-//! - `specs/Counted`, and `counts`: what a recording has, in rows of the listings of its parts.
-//! - `specs/Covered`, and `outcome`: when a recording is covered, and what its audit comes to.
+//! - `specs/Counted`, and `counts`: how many tenures, cycles, transfers and resets a recording has,
+//!   by the rows of the listings of its parts.
+//! - `specs/Covered`, and `outcome`: when a recording is covered, and the outcome of its audit.
 //! - `specs/Allowances`, and `allowance`: breaks that are allowed.
 //!
 //! # What is proved

@@ -1,4 +1,4 @@
--- The blocks from number 0 on.
+-- Prefixes of the places of a book: lists of what is at the numbers from 0 on, with nothing missing.
 use Rattle.std.proofs.Common.{◌≡◌, ℕ, zero, suc, ◌+◌, ◌*◌, ◌<◌, ◌≤◌, List, [], ◌∷◌, ◌++◌, length, length-append, map}
 use Rattle.std.proofs.Common.{take, get_or, set, replicate, true, false, Option, Some, None, Result, Ok, Err}
 use Rattle.std.proofs.Common.{append-nil, append_assoc, refl, sym, ◌∙◌, ap, subst, arith, inl, inr, ◌⊎◌, ◌≢◌}
@@ -31,7 +31,7 @@ pub some_of : {A : Type 0} (o : Option A) → is_some o ≡ true → (a : A) × 
 some_of None e = absurd (cc)
 some_of (Some a) e = (a, refl)
 
--- what was read at a number within the list stands there
+-- what was read at a number within the list is what is there
 pub found_at : {A : Type 0} (places : List (Option A)) (n : ℕ) (x : Option A) (a : A) → n < length places → x
     ≡ get_or places n x → x ≡ Some a → get_or places n None ≡ Some a
 found_at places n x a below is e = get_or_default places n None x below ∙ sym is ∙ e
@@ -50,7 +50,7 @@ within_places places n a e = elim (less_or_more (length places) n) [
   | inr below ↦ below
 ]
 
--- of two lists from number 0 on the longer begins with the shorter
+-- of two prefixes of the places, the longer begins with the shorter
 pub front_of : {A : Type 0} (places : List (Option A)) (xs ys : List A) → take (length xs) places ≡ map Some xs
     → take (length ys) places ≡ map Some ys → length xs ≤ length ys
     → (rest : List A) × (ys ≡ xs ++ rest)
@@ -66,7 +66,7 @@ front_of (p ∷ places) (x ∷ xs) (y ∷ ys) e f le =
     let r = front_of places xs ys e' f' (omega arith) in
     (r.0, ap (λ h. h ∷ ys) same ∙ ap (λ l. x ∷ l) r.1)
 
--- each of them stands at its number
+-- something is at each number of a prefix
 pub next_of : {A : Type 0} (places : List (Option A)) (xs : List A) (n : ℕ) → take (length xs) places ≡ map Some xs
     → n < length xs → (x : A) × (get_or places n None ≡ Some x)
 next_of places [] n e below = absurd (omega arith)
@@ -79,7 +79,7 @@ next_of (p ∷ places) (x ∷ xs) (suc n) e below =
     let rest : take (length xs) places ≡ map Some xs = cc in
     next_of places xs n rest (omega arith)
 
--- and one more
+-- a prefix xs with x appended, which is at the next number, is a prefix
 pub one_more : {A : Type 0} (places : List (Option A)) (xs : List A) (x : A) → take (length xs) places ≡ map Some xs
     → get_or places (length xs) None ≡ Some x
     → take (length (xs ++ x ∷ [])) places ≡ map Some (xs ++ x ∷ [])
@@ -93,7 +93,7 @@ one_more (p ∷ places) (y ∷ xs) x e f =
     let more : take (length (xs ++ x ∷ [])) places ≡ map Some (xs ++ x ∷ []) = one_more places xs x rest f in
     ap (λ h. h ∷ take (length (xs ++ x ∷ [])) places) first ∙ ap (λ l. Some y ∷ l) more
 
--- the first of blocks that join join
+-- the first of some blocks that join join, too
 pub join_front : (xs ys : List Block) → BlocksJoin (xs ++ ys) → BlocksJoin xs
 join_front xs ys j = record {
   follow = λ before after a b e. j.follow before (after ++ ys) a b (ap (λ l. l ++ ys) e
@@ -106,7 +106,7 @@ shorter_joins inserted xs ys e p le =
     let f = front_of inserted xs ys e p.there le in
     join_front xs f.0 (subst BlocksJoin f.1 p.join)
 
--- blocks that no further block joins are the most that join
+-- the first blocks, which join, are the longest list where the next block doesn't join them
 pub longest_of : (inserted : List (Option Block)) (bs : List Block) → IsJoinedPrefix inserted bs
     → IsEnd inserted (length bs) bs → IsLongestPrefix inserted bs
 longest_of inserted bs p end =
@@ -122,7 +122,7 @@ longest_of inserted bs p end =
       ];
     }
 
--- where something stands at each number, it is all of these
+-- where something is at each number, there is the list of all of it
 pub all_of : {A : Type 0} (places : List (Option A)) → ((n : ℕ) → n < length places → (x : A)
     × (get_or places n None ≡ Some x)) → (xs : List A) × (places ≡ map Some xs)
 all_of [] each = ([], refl)
@@ -139,7 +139,7 @@ map_length (x ∷ xs) = let r = map_length xs in omega arith
 pub as_many : {A : Type 0} (places : List (Option A)) (xs : List A) → places ≡ map Some xs → length places ≡ length xs
 as_many places xs e = ap length e ∙ map_length xs
 
--- all of them, from number 0 on
+-- where something is at each number, the list of all of it is a prefix
 pub all_there : {A : Type 0} (places : List (Option A)) (xs : List A) → places ≡ map Some xs → take (length xs) places
     ≡ map Some xs
 all_there places xs e = let n = as_many places xs e in take_all (length xs) places (omega arith) ∙ e
@@ -148,7 +148,7 @@ pub there_all : {A : Type 0} (places : List (Option A)) (xs : List A) → take (
     → length xs ≡ length places → places ≡ map Some xs
 there_all places xs e n = sym (take_all (length xs) places (omega arith)) ∙ e
 
--- where not all join, the first that doesn't
+-- where the first n blocks join and block n doesn't join them, block n is the first that doesn't join
 pub least_torn : (inserted : List (Option Block)) (bs all : List Block) (n : ℕ) → inserted ≡ map Some all
     → IsJoinedPrefix inserted bs → IsEnd inserted n bs → length bs ≡ n → n < length inserted → IsLeastTorn inserted n
     all
@@ -172,7 +172,7 @@ least_torn inserted bs all n whole p end count below =
       torn = λ j. end.torn next.0 next.1 (subst BlocksJoin second j);
     }
 
--- they have few steps
+-- blocks of at most 65,536 steps each have together at most 65,536 times as many steps as there are blocks
 many_steps : (inserted : List (Option Block)) (bs : List Block) → take (length bs) inserted ≡ map Some bs
     → ((n : ℕ) (b : Block) → stored inserted n ≡ Some b → length b.steps ≤ 65536) → length (joined_steps bs) ≤ 65536 *
     length bs
@@ -202,7 +202,7 @@ steps_fit inserted bs b m n placed e f p q =
     let whole = ap length (steps-append bs (b ∷ [])) ∙ length-append (joined_steps bs) (joined_steps (b ∷ [])) in
     omega (arith, k, whole, p, q)
 
--- a span that is taken out, and one that is put back
+-- the blocks from n + 1 on still have their spans where the span at n is replaced
 pub spans_after : (inserted : List (Option Block)) (spans : List (Option Span)) (n from : ℕ) (y : Option Span)
     → HaveSpans inserted spans n → from ≡ n + 1 → HaveSpans inserted (set spans n y) from
 spans_after inserted spans n from y h e =
@@ -234,7 +234,7 @@ joined_after inserted old new xs b a there more stands =
       stands = stands;
     }
 
--- judging goes on past one block more
+-- where p is the state of judging after one more block, block b, it is that after the first n + 1 blocks
 pub past_one_more : (inserted : List (Option Block)) (progress : Option RunningVerdict) (p : RunningVerdict) (n : ℕ)
     (bs : List Block) (b : Block) {before : Option RunningVerdict} → IsPast inserted before n bs → stored inserted
     (length bs) ≡ Some b
@@ -276,7 +276,7 @@ nothing_there zero n = refl
 nothing_there (suc total) zero = refl
 nothing_there (suc total) (suc n) = nothing_there total n
 
--- a book with nothing inserted
+-- what a book with nothing inserted keeps
 pub keeps_nothing : (places : BookSlots) (start : JoinedPrefix) (total : ℕ) → 0 < total → total ≤ 4096
     → places.blocks.items ≡ replicate total None → places.spans.items ≡ replicate total None → start.count ≡ 0
     → start.span ≡ None
@@ -311,10 +311,10 @@ keeps_nothing places start total some few blocks spans count span =
       within = omega arith;
     }
 
--- what is kept where a block is inserted
 same_or_other : (m n : ℕ) → (m ≡ n) ⊎ (m ≢ n)
 same_or_other m n = grind arith
 
+-- what stays true where block b is inserted at number n
 module _ (inserted : List (Option Block)) (n : ℕ) (b : Block) (below : n < length inserted) where
   pub placed_set : ArePlaced inserted → b.number ≡ n → length b.steps ≤ 65536 → ArePlaced (set inserted n (Some b))
   placed_set p number short =
@@ -382,7 +382,7 @@ pub longest_at : (inserted : List (Option Block)) (progress : Option RunningVerd
 longest_at inserted progress n bs past end = longest_of inserted bs past.prefix (subst (λ (k : ℕ). IsEnd inserted k bs)
     (sym past.count) end)
 
--- a book with one block more, before judging goes on
+-- a book after one more block was inserted, before judging continues
 pub record IsReady (inserted : List (Option Block)) (spans : List (Option Span)) (progress : Option RunningVerdict)
     (reached : ℕ) (start : JoinedPrefix) (bs xs : List Block) : Type 0 where
   pub some : 0 < length inserted
@@ -440,7 +440,7 @@ keeps_after places progress further reached end start bs cs xs ready le past end
       within = omega arith;
     }
 
--- two lists from number 0 on that are as long
+-- two prefixes of the places of the same length are equal
 pub same_front : {A : Type 0} (places : List (Option A)) (xs ys : List A) → take (length xs) places ≡ map Some xs
     → take (length ys) places ≡ map Some ys → length xs ≡ length ys → xs ≡ ys
 same_front places xs ys e f n =
@@ -461,7 +461,7 @@ starts_at_zero inserted s (b ∷ bs) placed e some stands =
     let here : stored inserted 0 ≡ Some b = ap (λ (l : List (Option Block)). get_or l 0 None) e in
     span_first s b bs stands ∙ (placed.each 0 b here).number
 
--- the recording of all blocks
+-- the opening of the first block and the steps of all blocks are the recording of all blocks
 pub trace_is : (items : List (Option Block)) (bs : List Block) (first : Block) (steps : List Step) → items ≡ map Some bs
     → stored items 0 ≡ Some first → steps ≡ joined_steps bs
     → joined_trace bs ≡ Some (record { opening = first.opening; steps = steps })

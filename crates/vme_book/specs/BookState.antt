@@ -11,90 +11,92 @@ use Rattle.vme_book.specs.Inserted.{AllJoin, IsJoinedPrefix, stored}
 use Rattle.vme_book.specs.declared.joined.JoinedPrefix.{JoinedPrefix}
 use Rattle.vme_book.specs.declared.places.BookSlots.{BookSlots}
 
--- a block of this number, which isn't too long
+-- block b has the number n, and at most 65,536 steps
 pub record IsBlockNumbered (n : ℕ) (b : Block) : Type 0 where
   pub number : b.number ≡ n
   pub short : length b.steps ≤ 65536
 
--- each block stands at its number
+-- there are at most 4,096 numbers, and each inserted block is at its number
 pub record ArePlaced (inserted : List (Option Block)) : Type 0 where
   pub few : length inserted ≤ 4096
   pub each : (n : ℕ) (b : Block) → stored inserted n ≡ Some b → IsBlockNumbered n b
 
--- from a number on each block that is inserted has a span of its own
+-- each block that is inserted at number `from` or later has its span, which stands for this block alone
 pub record HaveSpans (inserted : List (Option Block)) (spans : List (Option Span)) (from : ℕ) : Type 0 where
   pub as_many : length spans ≡ length inserted
   pub each : (n : ℕ) (b : Block) → from ≤ n → stored inserted n ≡ Some b
       → (s : Span) × (stored spans n ≡ Some s) × SpanStandsFor s (b ∷ [])
 
--- judging has come past these blocks, if there are some
+-- the state of judging is that after the blocks bs; None if bs is empty
 abbrev pub ComeTo : Option RunningVerdict → List Block → Type 0
 ComeTo None bs = bs ≡ []
 ComeTo (Some p) bs = HasCome p bs
 
--- judging has come past the first n blocks, which join
+-- bs is the first n blocks, which are inserted and join, and p is the state of judging after them
 pub record IsPast (inserted : List (Option Block)) (p : Option RunningVerdict) (n : ℕ) (bs : List Block) : Type 0 where
   pub prefix : IsJoinedPrefix inserted bs
   pub count : length bs ≡ n
   pub come : ComeTo p bs
 
--- no further block joins them
+-- the block at number n, if one is inserted, doesn't join the blocks bs
 pub record IsEnd (inserted : List (Option Block)) (n : ℕ) (bs : List Block) : Type 0 where
   pub torn : (b : Block) → stored inserted n ≡ Some b → ¬ BlocksJoin (bs ++ b ∷ [])
 
--- judging has come past the first n blocks
+-- `progress` is the state of judging after the first n blocks, which are inserted and join
 abbrev pub IsPastSome : List (Option Block) → Option RunningVerdict → ℕ → Type 0
 IsPastSome inserted progress n = (bs : List Block) × IsPast inserted progress n bs
 
--- and no further
+-- `progress` is the state of judging after the first n blocks, which are inserted and join; block n isn't inserted, or
+-- doesn't join them
 abbrev pub IsPastMost : List (Option Block) → Option RunningVerdict → ℕ → Type 0
 IsPastMost inserted progress n = (bs : List Block) × IsPast inserted progress n bs × IsEnd inserted n bs
 
--- the first n blocks join
+-- the first n blocks are inserted and join
 abbrev pub FirstJoin : List (Option Block) → ℕ → Type 0
 FirstJoin inserted n = (bs : List Block) × IsJoinedPrefix inserted bs × (length bs ≡ n)
 
--- a span stands for these blocks, if there are some
+-- the span stands for the blocks bs; None if bs is empty
 abbrev pub StandsForSome : Option Span → List Block → Type 0
 StandsForSome None bs = bs ≡ []
 StandsForSome (Some s) bs = SpanStandsFor s bs
 
--- the next span has so few steps that it can be joined
+-- where there is a span `start`, its steps and those of `next` are at most 268,435,456 together
 abbrev pub FitsAfter : Option Span → Span → Type 0
 FitsAfter start next = (s : Span) → start ≡ Some s → step_count s + step_count next ≤ 268435456
 
--- it stands for a block that joins those before
+-- the span `next` stands for a block that joins the blocks of the span `start`
 abbrev pub JoinsAfter : Option Span → Span → Type 0
 JoinsAfter start next =
     (xs : List Block) × (b : Block)
     × StandsForSome start xs × SpanStandsFor next (b ∷ []) × BlocksJoin (xs ++ b ∷ [])
 
--- it is joined to those before
+-- the span `joined` stands for the blocks of `start` and then the block of `next`
 abbrev pub IsJoinedTo : Option Span → Span → Option Span → Type 0
 IsJoinedTo start next joined =
     (xs : List Block) (b : Block)
     → StandsForSome start xs → SpanStandsFor next (b ∷ []) → StandsForSome joined (xs ++ b ∷ [])
 
--- a span stands for what another stood for
+-- the span `kept` stands for the blocks for which `start` stands
 abbrev pub StandsAsBefore : Option Span → Option Span → Type 0
 StandsAsBefore start kept = (xs : List Block) → StandsForSome start xs → StandsForSome kept xs
 
--- a span of the first blocks
+-- bs is the first blocks, as many as `joined` counts, and the span of `joined` stands for them
 pub record AreJoinedTo (inserted : List (Option Block)) (joined : JoinedPrefix) (bs : List Block) : Type 0 where
   pub there : take (length bs) inserted ≡ map Some bs
   pub count : length bs ≡ joined.count
   pub stands : StandsForSome joined.span bs
 
--- of some first blocks
+-- `joined` is of some first blocks
 abbrev pub AreSomeJoined : List (Option Block) → JoinedPrefix → Type 0
 AreSomeJoined inserted joined = (xs : List Block) × AreJoinedTo inserted joined xs
 
--- all blocks are there, join and are well formed, and have at most so many steps
+-- all blocks are inserted, join and are well formed, and have at most `room` steps
 abbrev pub CanRecord : List (Option Block) → ℕ → Type 0
 CanRecord inserted room =
     (bs : List Block) × AllJoin inserted bs × AreSound bs × (length (joined_steps bs) ≤ room)
 
--- all that a book keeps: it has judged past the blocks bs, n in all, and has joined the blocks xs
+-- all that a book keeps: `come` is the state of judging after the first n blocks, bs, and `start` has joined the first
+-- blocks xs
 pub record Keeps (p : BookSlots) (come : Option RunningVerdict) (n : ℕ) (start : JoinedPrefix) (bs xs : List Block)
     : Type 0 where
   pub some : 0 < length p.blocks.items

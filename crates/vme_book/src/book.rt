@@ -1,4 +1,5 @@
-//! Judged blocks joined as they arrive.
+//! A book, i.e. a reorder buffer: judged blocks that arrive in any order are collected by number and
+//! joined.
 
 ghost use Rattle.std.specs.Prelude.{◌≡◌, ◌<◌, ◌↔◌, ◌⊎◌, length, replicate, slice_set, IfOk, IfErr, OnOk, OnErr, Err};
 ghost use Rattle.std.specs.Prelude.{None, Some};
@@ -12,10 +13,10 @@ use std::marker::Model;
 use vme_summary::{Judged, RunningVerdict, Span};
 use vme_trace::{Block, Capture, Verdict};
 
-/// How many blocks a book is of at most.
+/// How many blocks a book has at most.
 const MOST_BLOCKS: u32 = 4096;
 
-/// Why there is no book.
+/// Why no book is made.
 #[derive(Clone, Copy, Debug, PartialEq, Eq)]
 pub enum BookFault {
     /// The total is 0 or over 4,096.
@@ -46,12 +47,12 @@ pub enum CloseFault {
     Memory,
 }
 
-/// All blocks of a book that join.
+/// The result of closing a book all of whose blocks are inserted and join.
 #[derive(Drop)]
 pub struct Whole {
-    /// What they say together.
+    /// The span of all blocks.
     pub span: Span,
-    /// The recording that they make.
+    /// The recording of all blocks.
     pub capture: Capture,
 }
 
@@ -60,11 +61,11 @@ pub struct Whole {
 #[derive(Drop)]
 pub struct Book {
     places: BookSlots,
-    /// What judging has come to past the blocks from number 0 on that are inserted and join, if there are some.
+    /// The state of judging after the blocks from number 0 on that are inserted and join; `None` if there are none.
     progress: Option<RunningVerdict>,
-    /// How many blocks they are.
+    /// How many blocks these are.
     reached: usize,
-    /// The first of them, joined to one span.
+    /// The first ones of these blocks, joined to one span.
     joined: JoinedPrefix,
 }
 
@@ -101,8 +102,8 @@ impl Book {
         })
     }
 
-    /// Inserts a judged block at its number. Where it isn't inserted it is handed back, and the book is as it was.
-    /// Stranger goes before Doubled, and Doubled before Memory. Spans are taken over, not copied: each once in all.
+    /// Inserts a judged block at its number. If it isn't inserted, it is handed back, and the book is left as it was.
+    /// Stranger is named before Doubled, and Doubled before Memory. Spans are moved, not copied: each once in all.
     pub fn insert(&mut self, alloc: Global, judged: Judged) -> Result<(), (Judged, InsertFault)>
         ensures free { OnOk result (stored self.old judged.number ≡ None) }
         ensures known { OnOk result (judged.number < length self.old) }
@@ -135,7 +136,7 @@ impl Book {
     }
 
     /// The verdict, by the rules in force, of the longest list of blocks from number 0 on that are inserted and join;
-    /// none until block 0 is inserted. Takes no memory, and no longer for more blocks.
+    /// `None` until block 0 is inserted. It takes no memory, and no more time for more blocks.
     pub fn so_far(&self) -> Option<Verdict>
         ensures { IsVerdictSoFar self.now result }
     {
@@ -145,8 +146,8 @@ impl Book {
         }
     }
 
-    /// The span and the recording of all blocks, whose steps are moved. Where there is none the book is handed back as
-    /// it was. Missing goes before Torn, and Torn before Memory.
+    /// The span and the recording of all blocks, whose steps are moved. On an error the book is handed back as it was.
+    /// Missing is named before Torn, and Torn before Memory.
     pub fn close(self, alloc: Global) -> Result<Whole, (Book, CloseFault)>
         ensures whole { IfOk result (MakesWhole self) }
         ensures why { IfErr result (λ refused. RefusesClose self refused.1) }

@@ -11,7 +11,7 @@ use vme_summary::{JoinFault, Span, append};
 /// The first blocks, joined to one span.
 #[derive(Drop)]
 pub(crate) struct JoinedPrefix {
-    /// The span, if there are some.
+    /// The span of the blocks; `None` if there are none.
     pub(crate) span: Option<Span>,
     /// How many blocks they are.
     pub(crate) count: usize,
@@ -29,7 +29,7 @@ impl JoinedPrefix {
         }
     }
 
-    /// Takes over the span of the next block, which joins those before. Without memory it is handed back.
+    /// Takes over the span of the next block, which joins those before it. Without memory the span is handed back.
     fn push(&mut self, alloc: Global, next: Span) -> Result<(), Span>
         requires room { self.old.count < 4096 }
         requires few { FitsAfter self.old.span next }
@@ -61,7 +61,7 @@ impl JoinedPrefix {
         }
     }
 
-    /// Takes over the spans of further blocks, up to a number. Without memory it has taken over fewer.
+    /// Takes over the spans of the next blocks, those with numbers below `end`. Without memory it takes over fewer.
     pub(crate) fn go_on(
         &mut self,
         alloc: Global,

@@ -1,4 +1,5 @@
-//! A book of judged blocks, which arrive in any order.
+//! A book, i.e. a reorder buffer: it collects judged blocks of a recording, which arrive in any
+//! order, by number, and joins them.
 //!
 //! # Parts
 //!
@@ -7,7 +8,7 @@
 //!   the span and the recording of all of them.
 //! - `places`: the blocks and their spans, at their numbers.
 //! - `joined`: the first blocks, joined to one span.
-//! - `recording`: the recording that the blocks make.
+//! - `recording`: the recording of the joined blocks.
 //!
 //! Contracts see a book as a list: at each number the block that was inserted there, if there is
 //! one. What a book keeps is `Keeps` in `specs/BookState`: the blocks and spans at their numbers,
@@ -15,8 +16,9 @@
 //!
 //! # What is proved
 //!
-//! - [`Book::insert`] puts a block at its number (`inserted`), or says why not (`why`), hands it
-//!   back and leaves the book as it was (`handed_back`, `unchanged`), also where memory is short.
+//! - [`Book::insert`] puts a block at its number (`inserted`). Otherwise it names the fault
+//!   (`why`), hands the block back and leaves the book as it was (`handed_back`, `unchanged`), also
+//!   where memory is short.
 //! - [`Book::so_far`] is the verdict of the longest list of blocks from number 0 on that are
 //!   inserted and join. It takes no memory.
 //! - [`Book::close`] gives the span and the recording of all blocks (`whole`), or the least number

@@ -8,14 +8,14 @@ use std::alloc::{AllocError, Global};
 use vme_summary::{RunningVerdict, Span};
 use vme_trace::Block;
 
-/// At each number the block that was inserted there, and its span until that is joined to those before it.
+/// At each number the block that was inserted there, and its span until the span is joined to those before it.
 #[derive(Drop)]
 pub(crate) struct BookSlots {
     pub(crate) blocks: Vec<Option<Block>>,
     pub(crate) spans: Vec<Option<Span>>,
 }
 
-/// So many places, with nothing there.
+/// A vector of `count` places, with nothing at any.
 fn vacant<T>(alloc: Global, count: usize) -> Result<Vec<Option<T>>, AllocError>
     ensures { IfOk result (λ places. places.items ≡ replicate count None) }
 {
@@ -27,7 +27,7 @@ fn vacant<T>(alloc: Global, count: usize) -> Result<Vec<Option<T>>, AllocError>
 }
 
 impl BookSlots {
-    /// So many numbers, with nothing inserted.
+    /// `total` numbers, with nothing inserted at any.
     pub(crate) fn new(alloc: Global, total: usize) -> Result<BookSlots, AllocError>
         ensures blocks { IfOk result (λ places. places.blocks.items ≡ replicate total None) }
         ensures spans { IfOk result (λ places. places.spans.items ≡ replicate total None) }
@@ -51,8 +51,8 @@ impl BookSlots {
         None
     }
 
-    /// Judges on past the blocks from a number on, as long as they are inserted and join those before. The answer is
-    /// what that comes to, and the first number that it isn't past.
+    /// Continues judging with the blocks from number `from` on, as long as they are inserted and join those before. The
+    /// result is the state of judging after them, and the first number that isn't judged.
     pub(crate) fn judged_on(
         &self,
         progress: Option<RunningVerdict>,

@@ -1,4 +1,4 @@
-//! The recording that blocks make.
+//! The recording of joined blocks.
 
 ghost use Rattle.std.specs.Prelude.{◌≡◌, ◌<◌, List, [], length, map, Some, vec_capacity};
 ghost use Rattle.vme_trace.specs.declared.block.Block.{Block as Stored};
@@ -7,7 +7,8 @@ ghost use Rattle.vme_book.specs.BookState.{ArePlaced, CanRecord};
 
 use vme_trace::{Block, Capture, Step};
 
-/// The recording of blocks that join. Their steps are moved into room that was made.
+/// The recording of blocks that join: the opening of the first, and the steps of all. The steps move into `room`, which
+/// has the capacity for them.
 pub(crate) fn recording(blocks: Vec<Option<Block>>, room: Vec<Step>) -> Capture
     requires some { 0 < length blocks.items }
     requires placed { ArePlaced blocks.items }

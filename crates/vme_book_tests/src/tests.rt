@@ -30,7 +30,7 @@ static READ: [&str; 14] = [
     "BBSY=1",
 ];
 
-/// Its listing.
+/// The listing of the read.
 const READ_ROWS: &str = "vmecheck listing 3
 start 1
 tenure 5 level 3 slot 2 end 14
@@ -39,7 +39,7 @@ transfer 10 of 9 read DTACK 11 close 12
 verdict conforming
 ";
 
-/// The change that a word says, as BR3=0.
+/// The change that a word gives, such as BR3=0.
 fn change_of(word: &str) -> Option<Change> {
     let (name, level) = word.split_once('=')?;
     let level = match level.as_bytes() {
@@ -65,7 +65,7 @@ fn quiet(alloc: Global, lines: &Lines) -> Option<Vec<Change>> {
     Some(changes)
 }
 
-/// The changes that a text says.
+/// The changes that a text gives.
 fn changes_of(alloc: Global, lines: &Lines, text: &str) -> Option<Vec<Change>> {
     if text == "quiet" {
         return quiet(alloc, lines);
@@ -77,7 +77,7 @@ fn changes_of(alloc: Global, lines: &Lines, text: &str) -> Option<Vec<Change>> {
     Some(changes)
 }
 
-/// A step at a time, of the changes that a text says.
+/// A step at `time`, of the changes that a text gives.
 fn step_of(alloc: Global, lines: &Lines, time: u64, text: &str) -> Option<Step> {
     let changes = changes_of(alloc, lines, text)?;
     let list = SmallVec::from_slice(alloc, changes.as_slice()).ok()?;
@@ -108,7 +108,7 @@ fn read_steps(alloc: Global, opening: &Lines) -> Option<Vec<Step>> {
     Some(steps)
 }
 
-/// The blocks of steps on three slots, so many in each, all lines unknown before.
+/// The blocks of the steps after `opening`, of `size` steps each.
 fn cut(alloc: Global, opening: Lines, steps: Option<Vec<Step>>, size: u32) -> Option<Vec<Block>> {
     let capture = Capture::new(opening, steps?).ok()?;
     capture.cut(alloc, size).ok()
@@ -145,7 +145,7 @@ fn judged(alloc: Global, block: Block) -> Option<Judged> {
     }
 }
 
-/// A book. Where memory is short once, it is asked for again.
+/// A book of `total` numbers. Where memory is short once, it is made again.
 fn book_of(alloc: Global, total: u32) -> Option<Book> {
     match Book::new(alloc, total) {
         Ok(book) => Some(book),
@@ -154,7 +154,7 @@ fn book_of(alloc: Global, total: u32) -> Option<Book> {
     }
 }
 
-/// What inserting a block comes to.
+/// The result of inserting a block.
 #[derive(Clone, Copy, PartialEq, Eq)]
 enum Inserted {
     Taken,
@@ -163,7 +163,7 @@ enum Inserted {
     Wrong,
 }
 
-/// What inserting a judged block comes to, which is tried again where memory is short.
+/// The result of inserting a judged block. Where memory is short once, the block that comes back is inserted again.
 fn insert_judged(alloc: Global, book: &mut Book, judged: Judged) -> Inserted {
     let number = judged.block().number;
     let before = book.so_far();
@@ -183,8 +183,8 @@ fn insert_judged(alloc: Global, book: &mut Book, judged: Judged) -> Inserted {
     }
 }
 
-/// What inserting a block comes to. Where memory is short once the book tells what it told before, and the block that
-/// comes back is inserted.
+/// The result of judging and inserting a block. Where memory is short once, the verdict so far is as before, and the
+/// block that comes back is inserted.
 fn insert(alloc: Global, book: &mut Book, block: Block) -> Inserted {
     match judged(alloc, block) {
         Some(judged) => insert_judged(alloc, book, judged),
@@ -208,7 +208,8 @@ fn refuses(alloc: Global, book: &mut Book, block: Option<Block>, why: InsertFaul
     }
 }
 
-/// What closing a book gives. Where memory is short once, the book tells what it told before, and is closed again.
+/// The result of closing a book. Where memory is short once, the verdict so far is as before, and the book is closed
+/// again.
 fn closed(alloc: Global, book: Book) -> Result<Whole, CloseFault>
     ensures { IfOk result (λ whole. first_number whole.span ≡ 0) }
 {
@@ -228,7 +229,7 @@ fn closed(alloc: Global, book: Book) -> Result<Whole, CloseFault>
     }
 }
 
-/// Whether a book, which tells that what it has so far conforms, isn't closed for this reason.
+/// Whether a book whose verdict so far is conforming isn't closed, with the fault `why`.
 fn stays_open(alloc: Global, book: Book, why: CloseFault) -> bool {
     let conforms = book.so_far() == Some(Verdict::Conforming);
     match closed(alloc, book) {
@@ -289,7 +290,7 @@ fn listing_of(alloc: Global, span: &Span) -> Option<Listing>
     }
 }
 
-/// What the read's listing reads as. Where memory is short once, it is read again.
+/// The listing of the read, from its text. Where memory is short once, it is read again.
 fn listing_of_read(alloc: Global) -> Option<Listing> {
     match read_listing(alloc, READ_ROWS.as_bytes()) {
         Ok(listing) => Some(listing),
@@ -297,7 +298,7 @@ fn listing_of_read(alloc: Global) -> Option<Listing> {
     }
 }
 
-/// Whether the listing of a span is the read's.
+/// Whether the listing of a span is that of the read.
 fn lists_read(alloc: Global, span: &Span) -> bool
     requires { first_number span.now ≡ 0 }
 {
@@ -307,8 +308,8 @@ fn lists_read(alloc: Global, span: &Span) -> bool
     }
 }
 
-/// Whether the book, which tells that what it has so far conforms, closes to the worked read: its span ends at a
-/// number, and its listing is the one below.
+/// Whether the book, whose verdict so far is conforming, closes to the worked read: its span ends at the number `last`,
+/// and its listing is that of the read.
 fn closes_to_read(alloc: Global, book: Book, last: u32) -> bool {
     let conforms = book.so_far() == Some(Verdict::Conforming);
     match closed(alloc, book) {
@@ -322,7 +323,7 @@ fn closes_to_read(alloc: Global, book: Book, last: u32) -> bool {
     }
 }
 
-/// Whether the book takes each block, and tells nothing before block 0, which comes last.
+/// Whether the book takes each block, and has no verdict before block 0, which comes last.
 fn takes_backwards(alloc: Global, book: &mut Book, blocks: Option<Vec<Block>>) -> bool {
     let Some(blocks) = blocks else {
         return false;
@@ -374,7 +375,7 @@ fn six_orders(rt: HostRuntime) {
     }
 }
 
-/// Without block 1, block 0 alone is told of, and block 1 is missing.
+/// Without block 1, the verdict so far is of block 0 alone, and block 1 is missing.
 #[test]
 fn missing(rt: HostRuntime) {
     let alloc = rt.alloc();
@@ -386,7 +387,7 @@ fn missing(rt: HostRuntime) {
     assert!(rt; stays_open(alloc, book, CloseFault::Missing(1)));
 }
 
-/// Whether the book takes blocks 2 and 1, of which block 1 ends otherwise, and nothing is told before block 0. Block 1
+/// Whether the book takes blocks 2 and 1, of which block 1 ends otherwise, and has no verdict before block 0. Block 1
 /// as it was is refused.
 fn takes_other_lines(alloc: Global, book: &mut Book) -> bool {
     let Some(middle) = block_of_read(alloc, 1) else {
@@ -437,7 +438,7 @@ fn torn_across_an_empty_block(rt: HostRuntime) {
     assert!(rt; stays_open(alloc, book, CloseFault::Torn(2)));
 }
 
-/// Whether no book of so many blocks is made, as they are too few or too many.
+/// Whether no book of `total` numbers is made, as these are too few or too many.
 fn is_bad_total(alloc: Global, total: u32) -> bool {
     match Book::new(alloc, total) {
         Ok(_) => false,
@@ -474,7 +475,7 @@ fn blocks_by_fives(alloc: Global) -> Option<Vec<Block>> {
     }
 }
 
-/// Whether the book takes each block, and tells after each that what it has conforms.
+/// Whether the book takes each block, and its verdict after each is conforming.
 fn takes_forwards(alloc: Global, book: &mut Book) -> bool {
     let Some(blocks) = blocks_by_fives(alloc) else {
         return false;
@@ -539,7 +540,7 @@ fn many_steps(alloc: Global, opening: &Lines) -> Option<Vec<Step>> {
     Some(steps)
 }
 
-/// The blocks of those, each of which can be taken once.
+/// The blocks of the many steps, each of which can be taken once.
 fn many_blocks(alloc: Global) -> Option<Vec<Option<Block>>> {
     let opening = Lines::new(3)?;
     let mut blocks = Vec::new(alloc);
@@ -566,7 +567,7 @@ fn takes_all(alloc: Global, book: &mut Book, order: Order) -> bool {
     blocks.len() == MANY
 }
 
-/// Whether the book closes to the recording of those blocks, with its break.
+/// Whether the book closes to the recording of the many steps, with its break.
 fn closes_to_many(alloc: Global, book: Book) -> bool {
     let broken = Verdict::Broken(Break {
         instant: 4096,

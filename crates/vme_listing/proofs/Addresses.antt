@@ -1,4 +1,4 @@
--- The digits of a modifier code and of an address hold them.
+-- The digits of a modifier code and of an address suffice for their values.
 use Rattle.std.proofs.Common.{◌≡◌, ◌==◌, ℕ, ◌+◌, ◌/◌, ◌^◌, ◌<◌, Bool, true, false, not, ◌&&◌, ◌⊎◌, inl, inr, refl, sym}
 use Rattle.std.proofs.Common.{subst, arith}
 use Rattle.std.specs.Prelude.{nat_lt, if◌then◌else◌}
@@ -17,7 +17,7 @@ standard_small modifier h = grind (arith, nat_tests)
 short_small : (modifier : ℕ) → is_short modifier ≡ true → modifier < 64
 short_small modifier h = grind (arith, nat_tests)
 
--- an address past no digits
+-- the modifier code is below 64, and the highest address line is that of a space: 31, 23 or 15
 abbrev Space : ℕ → ℕ → Type 0
 Space modifier highest = (modifier < 64) × ((highest ≡ 31) ⊎ ((highest ≡ 23) ⊎ (highest ≡ 15)))
 
@@ -34,7 +34,7 @@ space : (modifier : ℕ) → not (highest_address modifier == 0) ≡ true → Sp
 unfolding highest_address
 space modifier h = space_by modifier (is_extended modifier) (is_standard modifier) (is_short modifier) refl refl refl h
 
--- the digits of the space hold an address
+-- the address fits in the digits of its space, and in 32 bits
 abbrev Held : ℕ → ℕ → Type 0
 Held address highest = (address < 16 ^ ((highest + 1) / 4)) × (address < 2 ^ 32)
 

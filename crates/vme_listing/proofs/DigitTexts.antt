@@ -1,4 +1,4 @@
--- The text of a digit of a write's data says the digit.
+-- A digit of a write's data is determined by its text.
 use Rattle.std.proofs.Common.{◌≡◌, ◌==◌, ℕ, zero, suc, ◌<◌, ◌≤◌, Bool, true, false, not, refl, sym, arith}
 use Rattle.std.specs.Prelude.{if◌then◌else◌}
 use Rattle.std.specs.Fmt.{digit_glyph}
@@ -18,7 +18,7 @@ shown_past : (digit : ℕ) (is_unknown : Bool) → 45 ≤ (if is_unknown then 88
 shown_past digit true = omega arith
 shown_past digit false = omega (arith, glyph_past digit)
 
--- it is a hyphen or stands after it in ASCII
+-- the text of a digit is a hyphen or a byte after it in ASCII
 pub text_past : (moved : Bool) (digit flag : ℕ) → 45 ≤ digit_text moved digit flag
 text_past false digit flag = omega arith
 text_past true digit flag = shown_past digit (flag == 1)

@@ -1,4 +1,4 @@
--- How the digits of a number follow from those of its front.
+-- How the digits of a number follow from those of the number without its last digit.
 use Rattle.std.proofs.Common.{◌≡◌, ℕ, zero, suc, ◌+◌, ◌-◌, ◌/◌, ◌%◌, ◌^◌, ◌<◌, ◌≤◌, [], ◌∷◌, ◌++◌, length, refl, ap}
 use Rattle.std.proofs.Common.{arith, true, length-append}
 use Rattle.std.specs.Prelude.{decimal}

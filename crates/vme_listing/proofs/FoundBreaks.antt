@@ -1,4 +1,4 @@
--- The least break of some rules: what it names, and that no rule is broken at an instant before it.
+-- The least break of some rules: its instant and line, and that no rule is broken at an instant before it.
 use Rattle.std.proofs.Common.{◌≡◌, ℕ, zero, suc, ◌+◌, ◌<◌, ◌≤◌, Bool, true, false, List, [], ◌∷◌, ◌++◌, refl, sym, ap}
 use Rattle.std.proofs.Common.{subst, arith, ◌⊎◌, inl, inr}
 use Rattle.std.specs.Prelude.{Option, None, Some, option_map, ◌==◌, ◌&&◌, ◌||◌, nat_le}
@@ -17,12 +17,12 @@ use Rattle.vme_trace.specs.declared.rule.Rule.TheVariants.{U1}
 use Rattle.vme_trace.specs.declared.verdict.Break.{Break}
 use Rattle.vme_trace.proofs.Ranges.{any-fails, least-found, least-none-any}
 
--- a rule that speaks of the end of a span is U1
+-- the only rule that is broken at the end of a span is U1
 only_u1 : (r : Rule) → ends_span r ≡ true → r ≡ U1
 only_u1 U1 h = refl
 only_u1 r h = absurd (cc)
 
--- what is broken is broken within the span, or at its end
+-- j is after the start of the span, and at its end or before
 abbrev pub IsWithin : Stretch → ℕ → Type 0
 IsWithin span j = (span.start < j) × (j ≤ span.end)
 
@@ -52,7 +52,7 @@ breaks-within t span r j l whole h =
     one_of true b e = inl refl
     one_of false b e = inr e
 
--- a break at this instant, on one of the lines
+-- the break b is at instant j, on one of the lines
 record IsAt (span : Stretch) (b : Break) (j : ℕ) : Type 0 where
   instant : b.instant ≡ j
   line : b.line < line_count
@@ -93,7 +93,7 @@ module _ (t : Trace) (span : Stretch) where
         | inr later ↦ break_at-at rs j b later.1
       ]
 
-  -- of a list of rules none of which is broken at an instant, no rule is
+  -- where no rule of the list is broken at instant j, the rule r of the list isn't
   break_at-none : (front back : List Rule) (r : Rule) (j : ℕ) → break_at t span (front ++ r ∷ back) j ≡ None
       → rule_break t span j r ≡ None
   unfolding break_at
@@ -115,7 +115,7 @@ module _ (t : Trace) (span : Stretch) where
       last_or_before : (n i : ℕ) → i < suc n → (i ≡ n) ⊎ (i < n)
       last_or_before n i h = grind arith
 
-  -- what the first break before an instant is
+  -- b is the first break of the rules before instant n
   record IsFirst (rules : List Rule) (n : ℕ) (b : Break) : Type 0 where
     below : b.instant < n
     line : b.line < line_count
@@ -147,7 +147,7 @@ module _ (t : Trace) (span : Stretch) where
   unfolding least_break
   least_break-within rules b e = let first = before-found rules (last_instant t + 1) b e in (first.below, first.line)
 
-  -- it is at an instant after the start of the span, and not after its end
+  -- the least break is at an instant after the start of the span, and not after its end
   pub least_break-judged : (rules : List Rule) (b : Break) → span.start < span.end → least_break t span rules ≡ Some b
       → IsWithin span b.instant
   unfolding least_break
@@ -172,7 +172,7 @@ module _ (t : Trace) (span : Stretch) where
   unbroken_before front back r b j l e before there =
       unbroken_at front back r j l ((before-found (front ++ r ∷ back) (last_instant t + 1) b e).none j before) there
 
-  -- without a break none is at any instant
+  -- where there is no least break, no rule of the list is broken at any instant
   pub unbroken_always : (front back : List Rule) (r : Rule) (j l : ℕ) → least_break t span (front ++ r ∷ back) ≡ None
       → j < last_instant t + 1 → l < line_count → breaks t span r j l ≡ false
   unfolding least_break

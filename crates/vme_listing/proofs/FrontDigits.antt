@@ -1,4 +1,4 @@
--- The digits at the front of a text, and the number whose decimal text they are.
+-- The digits at the start of a text, and the number whose decimal text they are.
 use Rattle.std.proofs.Common.{◌≡◌, ◌==◌, ℕ, zero, suc, ◌+◌, ◌-◌, ◌*◌, ◌^◌, ◌<◌, ◌≤◌, Bool, true, false, ◌&&◌, ◌⊎◌, inl}
 use Rattle.std.proofs.Common.{inr}
 use Rattle.std.proofs.Common.{List, [], ◌∷◌, drop, get_or, length, take, refl, sym, ap, ◌∙◌, arith}
@@ -16,11 +16,11 @@ use Rattle.std.proofs.lemmas.Str.Parse.{IsNumeralModel, digits_value_short, nume
 use Rattle.vme_listing.specs.Lines.{behind, digits_at, number_in}
 use Rattle.vme_listing.proofs.Pieces.{behind-is}
 
--- the first bytes of a text are digits
+-- the first `count` bytes of the text are digits
 abbrev pub AreDigits : List ℕ → ℕ → Type 0
 AreDigits text count = (k : ℕ) → k < count → is_ascii_digit (get_or text k 0) ≡ true
 
--- no digit follows them, if there is room for one more
+-- where `count` is below `most`, no digit follows the first `count` bytes
 abbrev pub Ends : List ℕ → ℕ → ℕ → Type 0
 Ends text most count = count < most → count < length text → is_ascii_digit (get_or text count 0) ≡ false
 
@@ -36,7 +36,7 @@ digit-more text count digits digit k below = by_order (cases_order k count)
 pub digit-most : (byte : ℕ) → is_ascii_digit byte ≡ true → byte ≤ 57
 digit-most byte h = grind (arith, nat_tests)
 
--- one more digit
+-- the value of `count + 1` digits, from that of `count` digits and the next one
 pub number-more : (text : List ℕ) (count : ℕ) → count < length text → is_ascii_digit (get_or text count 0) ≡ true
     → digits_value 10 (take (count + 1) text)
     ≡ digits_value 10 (take count text) * 10 + (get_or text count 0 - 48)
@@ -83,7 +83,7 @@ pub behind-take : (count : ℕ) (text : List ℕ) → behind (take count text) t
 behind-take count text =
     ap (behind (take count text)) (sym (take-append-drop count text)) ∙ behind-is (take count text) (drop count text)
 
--- no digits are no decimal, nor are two with a zero in front
+-- no decimal text is empty; below, none has a zero before another digit
 empty-unlike : (n : ℕ) (ds : List ℕ) → n < 2 ^ 64 → length ds ≡ 0 → decimal n ≡ ds → ⊥
 empty-unlike n ds below none e = omega (arith, decimal_nonempty n below, ap length e, none)
 

@@ -1,4 +1,4 @@
--- The number whose digits in base 16 a word is, and data whose text it is.
+-- The number whose digits in base 16 a word is, and the data whose text a word is.
 use Rattle.std.proofs.Common.{◌≡◌, ℕ, zero, suc, ◌+◌, ◌*◌, ◌/◌, ◌%◌, ◌^◌, ◌<◌, ◌≤◌, Bool, true, false, ◌&&◌}
 use Rattle.std.proofs.Common.{List, [], ◌∷◌, ◌++◌, drop, get_or, length, take, refl, sym, ap, ◌∙◌, arith, length-append}
 use Rattle.std.specs.Prelude.{None, Some, bytes_eq, if◌then◌else◌}
@@ -37,7 +37,7 @@ false_behind : (b c : Bool) → c ≡ false → (b && c) ≡ false
 false_behind true c e = e
 false_behind false c e = refl
 
--- another byte is in no such word
+-- a word with a byte that isn't a digit in base 16 isn't all such digits
 pub not-hexadecimal : (word : List ℕ) (i : ℕ) → i < length word → is_hexadecimal (get_or word i 0) ≡ false
     → are_hexadecimal word ≡ false
 not-hexadecimal [] i within e = absurd (omega arith)
@@ -64,7 +64,7 @@ hexadecimal-push i m number digit front last =
     ap (λ k. hexadecimal k m) next ∙ ap (λ n. hexadecimal i n ++ digit_glyph true (m % 16) ∷ []) front
     ∙ ap (λ d. hexadecimal i number ++ digit_glyph true d ∷ []) last
 
--- one more digit
+-- where the first i bytes of the word are the digits of `number`, the first i + 1 are those of `number * 16 + digit`
 pub hexadecimal-more : (word : List ℕ) (i number digit : ℕ) → i < length word → hexadecimal i number ≡ take i word
     → digit < 16 → digit_glyph true digit ≡ get_or word i 0
     → hexadecimal (i + 1) (number * 16 + digit) ≡ take (i + 1) word
@@ -125,7 +125,7 @@ module _ (k : ℕ) (text : List ℕ) (number : ℕ) (few : k ≤ 8) (within : k 
   pub behind-hexadecimal : behind (hexadecimal k number) text ≡ Some (drop k text)
   behind-hexadecimal = ap (λ w. behind w text) word-is ∙ behind-take k text
 
--- the data of eight bytes
+-- the text of data has eight bytes
 pub lanes-length : (a : Lanes) → length (lanes_text a) ≡ 8
 unfolding lanes_text
 lanes-length a = refl

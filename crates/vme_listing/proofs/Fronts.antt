@@ -1,4 +1,4 @@
--- A text that goes out piece by piece.
+-- A text that is written piece by piece.
 use Rattle.std.proofs.Common.{◌≡◌, ℕ, suc, ◌+◌, ◌-◌, ◌<◌, ◌≤◌, List, [], ◌∷◌, ◌++◌, take, drop, get_or, length, sym, ap}
 use Rattle.std.proofs.Common.{◌∙◌, subst, take-append-drop, drop_of_length-le, arith}
 use Rattle.std.specs.Prelude.{Option, Result, Ok, Err, OnOk, OnErr, flat_map}
@@ -26,7 +26,7 @@ moves_front all done rest n e =
     e ∙ ap (λ l. done ++ l) (sym (take-append-drop n rest)) ∙ sym (append_assoc done (take n rest) (drop n rest))
     ∙ ap (λ l. (done ++ take n rest) ++ l) (sym (take_rest rest n))
 
--- what is left of a text after a front and a front of the rest
+-- a written prefix `done` grows by `front`; then `left` and `rest` are what is left of the text
 regroup : (done front left rest : List ℕ) → done ++ ((front ++ left) ++ rest) ≡ (done ++ front) ++ (left ++ rest)
 regroup done front left rest = simp append_assoc
 
@@ -43,6 +43,7 @@ front_of old mid new text done held rest e a h =
 line_regroup : (done left line rest : List ℕ) → done ++ (left ++ (line ++ rest)) ≡ done ++ ((left ++ line) ++ rest)
 line_regroup done left line rest = simp append_assoc
 
+-- after `done` was written, and of `held` all but `left`, the text is what was written, then `left`, `line` and `rest`
 pub line_more : (old mid new : Option (List ℕ)) (text done held left line rest : List ℕ) → text ≡ done
     ++ (held ++ (line ++ rest)) → Appends old mid done → Moves mid new held left
     → (x : List ℕ) × (text ≡ x ++ ((left ++ line) ++ rest)) × Appends old new x

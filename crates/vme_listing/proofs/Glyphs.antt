@@ -9,7 +9,7 @@ use Rattle.std.proofs.lemmas.Bool.Decides.{nat_tests}
 use Rattle.std.proofs.lemmas.Fmt.{decimal_by_steps}
 use Rattle.vme_listing.specs.RowText.{hexadecimal}
 
--- each byte is 0, or stands after it in ASCII, as digits and letters do
+-- each byte is the digit 0 or comes after it in ASCII, as digits and letters do
 abbrev pub are_glyphs : List ℕ → Bool
 are_glyphs [] = true
 are_glyphs (byte ∷ word) = leb 48 byte && are_glyphs word

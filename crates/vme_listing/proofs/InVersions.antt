@@ -1,6 +1,5 @@
--- The rows of a well placed listing of the newest version, as another version has them, are those of one of that
--- version,
--- where that can tell them.
+-- The rows of a well placed listing of the newest version, in another version that can have them, are those of a well
+-- placed listing of that version.
 use Rattle.std.proofs.Common.{◌≡◌, ℕ, ◌^◌, ◌<◌, ◌≤◌, Bool, true, false, ◌&&◌, ◌||◌, not, List, [], ◌∷◌, map, length}
 use Rattle.std.proofs.Common.{refl, ◌∙◌, subst, ◌⊎◌, inl, inr}
 use Rattle.std.specs.Prelude.{Option, None, Some, option_map}
@@ -22,7 +21,7 @@ use Rattle.vme_listing.specs.declared.row.Version.TheVariants.{One, Two, Three}
 use Rattle.vme_listing.proofs.Readings.{follows_parts, follows_from}
 use Rattle.vme_listing.proofs.WellPlaced.{listing_placed}
 
--- the version tells resets, or the row isn't one
+-- the version has resets, or the row isn't a reset
 abbrev IsTold : Version → Row → Type 0
 IsTold v row = (tells_resets v || not (is_reset row)) ≡ true
 
@@ -53,7 +52,7 @@ row_told Two (PendingTransfer start direction) told h = h
 row_told Two (Verdict outcome) told h = h
 row_told Three row told h = h
 
--- by its form and its place the row is what it was, but that a start may have no place
+-- `other` is a start, a reset, a verdict or never idle just if `row` is, and has the place of `row` or none
 record IsAlike (v : Version) (other row : Row) : Type 0 where
   start : is_start other ≡ is_start row
   reset : is_reset other ≡ is_reset row
@@ -180,7 +179,7 @@ module _ (v : Version) where
     (alike v row).idle,
   ) refl
 
-  -- where a place is told no more, nothing is compared with it
+  -- places that ascend still do where one or both of them become None
   later_told : (before row told_before told_row : Option (ℕ × ℕ)) → (told_before ≡ before) ⊎ (told_before ≡ None)
       → (told_row ≡ row) ⊎ (told_row ≡ None) → is_later_place before row ≡ true → is_later_place told_before told_row
       ≡ true

@@ -1,4 +1,4 @@
--- What the next bytes of a text show of its front, whatever follows them.
+-- The header or row at the start of a text is determined by its next bytes, whatever follows them.
 use Rattle.std.proofs.Common.{◌≡◌, ℕ, ◌+◌, ◌-◌, ◌<◌, ◌≤◌, Bool, true, false, List, [], ◌∷◌, ◌++◌, drop, take, length}
 use Rattle.std.proofs.Common.{refl}
 use Rattle.std.proofs.Common.{sym, ap, ◌∙◌, subst, arith, append_assoc, append-nil, length-append}
@@ -11,7 +11,7 @@ use Rattle.vme_listing.specs.declared.row.Version.{Version}
 use Rattle.vme_listing.specs.declared.row.Version.TheVariants.{One, Two, Three}
 use Rattle.vme_listing.proofs.RowLengths.{line-short-enough}
 
--- the bytes are the rest of a text, or more than a line has
+-- the bytes are the rest of a text, or more than 96 bytes; a line has at most 96
 abbrev pub IsEnough : Bool → List ℕ → Type 0
 IsEnough is_rest bytes = is_rest ≡ false → 96 < length bytes
 
@@ -19,7 +19,7 @@ none_before : (xs ys : List ℕ) → xs ++ ys ≡ [] → xs ≡ []
 none_before [] ys e = refl
 none_before (x ∷ xs) ys e = absurd (cc)
 
--- a word at the front is a word at the front of what is known, if that is long enough
+-- a word at the start of the text is at the start of its known bytes, if these are at least as long
 front_known : (word bytes future more : List ℕ) → length word ≤ length bytes → bytes ++ future ≡ word ++ more
     → (bytes ≡ word ++ drop (length word) bytes) × (drop (length word) bytes ++ future ≡ more)
 front_known word bytes future more short e =
@@ -31,7 +31,7 @@ front_known word bytes future more short e =
           ∙ drop_at word more (length word) refl,
     )
 
--- the same of bytes that are enough
+-- a word of at most 96 bytes at the start of the text is at the start of its known bytes, if these are enough
 word_known : (is_rest : Bool) (word bytes future more : List ℕ) → IsFollowedBy is_rest future → IsEnough is_rest bytes
     → length word ≤ 96 → bytes ++ future ≡ word ++ more
     → (known : List ℕ) × (bytes ≡ word ++ known) × (known ++ future ≡ more)
@@ -52,7 +52,7 @@ none_follows false bytes future line ends enough short e = absurd (omega (arith,
 
 module _ (version : Version) (is_rest : Bool) (bytes future : List ℕ) (ends : IsFollowedBy is_rest future)
     (enough : IsEnough is_rest bytes) (row : Row) (is : is_row version row ≡ true) where
-  -- a line at the front of them is at the front of the text
+  -- the line of a row at the start of the known bytes is at the start of the text
   pub front-on : (more : List ℕ) → IsFront bytes row more → IsFront (bytes ++ future) row (more ++ future)
   front-on more front = (
     ap (λ l. l ++ future) front.0 ∙ append_assoc (line_of row) more future,
@@ -63,7 +63,7 @@ module _ (version : Version) (is_rest : Bool) (bytes future : List ℕ) (ends : 
         (line-short-enough version row is) whole,
   )
 
-  -- and the other way round
+  -- the line of a row at the start of the text is at the start of the known bytes
   pub front-known : (more : List ℕ) → IsFront (bytes ++ future) row more
       → (known : List ℕ) × IsFront bytes row known × (known ++ future ≡ more)
   front-known more front =
@@ -76,7 +76,7 @@ header_length One = refl
 header_length Two = refl
 header_length Three = refl
 
--- a header at the front of the text is at the front of them
+-- a header at the start of the text is at the start of the known bytes
 pub header-known : (version : Version) (is_rest : Bool) (bytes future rest : List ℕ) → IsFollowedBy is_rest future
     → IsEnough is_rest bytes → bytes ++ future ≡ header version ++ rest
     → (known : List ℕ) × (bytes ≡ header version ++ known)
@@ -85,13 +85,13 @@ header-known version is_rest bytes future rest ends enough e =
     (omega (arith, header_length version)) e in
     (known, split)
 
--- what is left behind a word is known by how long it is
+-- `more`, which follows a word in the bytes, is found by the length of `more`
 pub rest-is : (bytes word more : List ℕ) → bytes ≡ word ++ more → drop (length bytes - length more) bytes ≡ more
 rest-is bytes word more e =
     ap (drop (length bytes - length more)) e
     ∙ drop_at word more (length bytes - length more) (omega (arith, ap length e, length-append word more))
 
--- a text of which all is known
+-- where all that is left of a text is known, what was read of it was read with an empty future
 pub known_whole : (text : List ℕ) (rows : List Row) (so_far : RowsSoFar) (rest : List ℕ)
     → HasRead text rows (behind_rows so_far rest) → HasRead text rows (behind_rows so_far (rest ++ []))
 known_whole text rows so_far rest h = subst (λ l. HasRead text rows (behind_rows so_far l)) (sym (append-nil rest)) h

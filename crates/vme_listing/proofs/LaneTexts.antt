@@ -17,7 +17,7 @@ use Rattle.vme_listing.specs.Lines.{lanes_of}
 use Rattle.vme_listing.proofs.DigitTexts.{text_past, digit_of-text, flag_of-text, shown-text}
 use Rattle.vme_listing.proofs.Numerals.{last}
 
--- the parts of the form of the data
+-- the data is one that its form allows, by parts: the numbers' bounds, and each digit with its bit
 record AreDigits (a : Lanes) : Type 0 where
   value : a.value < 2 ^ 32
   unknown : a.unknown < 256
@@ -56,7 +56,7 @@ digits a h =
       d7 = p7.1;
     }
 
--- one more digit
+-- the step of `number_after` from the digits before the last digit of n to n
 number_step : (n front byte : ℕ) (word : List ℕ) → n < 2 ^ 32 → front ≡ n / 16 → digit_of byte ≡ n % 16
     → number_after 16 front (byte ∷ word) ≡ number_after 16 n word
 number_step n front byte word below e d =
@@ -94,7 +94,7 @@ number_read a h =
     ∙ number_step v (v / 16) (digit_text_in a 0) [] (omega arith) (omega arith)
     (digit_of-text (is_moved_in a 0) (digit_in a 0) (flag_in a 0) (omega arith) (omega arith) are.d0 ∙ omega arith)
 
--- one more bit
+-- the step of `flags_after` from the bits before the last bit of n to n
 flags_step : (n front byte : ℕ) (word : List ℕ) → n < 256 → front ≡ n / 2 → flag_of byte ≡ n % 2 → flags_after front
     (byte ∷ word) ≡ flags_after n word
 flags_step n front byte word below e f =
@@ -151,7 +151,7 @@ moved_read a =
     by_bytes Word = refl
     by_bytes LongWord = refl
 
--- the data that the eight bytes of its text are
+-- the data that is read from its own text is the data
 pub lanes-are : (a : Lanes) → is_lanes a ≡ true → lanes_of (lanes_text a) ≡ a
 lanes-are a h = rw (moved_read a, number_read a h, flags_read a h) refl
 
@@ -159,7 +159,7 @@ digit_stays : (moved : Bool) (digit flag : ℕ) → not (digit_text moved digit 
 digit_stays moved digit flag = ap not (ne_eqb (digit_text moved digit flag) 10
     (λ e. omega (arith, text_past moved digit flag)))
 
--- no byte of it is a line feed
+-- no byte of the text of data is a line feed
 pub lanes-inside : (a : Lanes) → list_all (λ b. not (b == 10)) (lanes_text a) ≡ true
 unfolding lanes_text
 lanes-inside a =

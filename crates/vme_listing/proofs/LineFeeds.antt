@@ -207,7 +207,7 @@ first_line line more end inside f = by_order (cases_order end (length line))
     by_order (inr (inl h)) = absurd (within h)
     by_order (inr (inr h)) = absurd (behind h)
 
--- where the line of a row is at the front of a text, the first line feed ends it
+-- where the line of a row is at the start of a text, the first line feed of the text ends it
 pub front_line : (version : Version) (text : List ℕ) (end : ℕ) (row : Row) (more : List ℕ) → IsFirstByte (is_byte 10)
     text (Some end) → is_row version row ≡ true → text ≡ line_of row ++ more → (row_text row ≡ take end text)
     × (drop (end + 1) text ≡ more)

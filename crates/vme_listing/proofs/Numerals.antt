@@ -15,7 +15,7 @@ number_push base n (first ∷ word) byte = number_push base ((n * base % 2 ^ 32 
 pub digit_of-glyph : (digit : ℕ) → digit < 16 → digit_of (digit_glyph true digit) ≡ digit
 digit_of-glyph digit small = grind (arith, nat_tests)
 
--- a last digit, by 32 bits
+-- a last digit appended to `front` gives n, modulo 2^32 too
 pub last : (base front digit n : ℕ) → front * base + digit ≡ n → n < 2 ^ 32 → (front * base % 2 ^ 32 + digit) % 2 ^ 32
     ≡ n
 last base front digit n e below =

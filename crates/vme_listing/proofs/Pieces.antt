@@ -1,4 +1,4 @@
--- What was read at the front of a line is its text, and what stands there is read.
+-- A piece that was read at the start of a line has its text there, and a piece whose text is there is read.
 use Rattle.std.proofs.Common.{◌≡◌, ◌==◌, ℕ, zero, suc, ◌+◌, ◌%◌, ◌^◌, ◌<◌, ◌≤◌, Bool, true, false, not, ◌&&◌, List}
 use Rattle.std.proofs.Common.{[], ◌∷◌, ◌++◌, drop, length, take, refl, sym, ap, ◌∙◌, arith}
 use Rattle.std.specs.Prelude.{Option, None, Some, bytes_eq, decimal, nat_lt, if◌then◌else◌}
@@ -51,7 +51,7 @@ abbrev pub are_digits : List ℕ → Bool
 are_digits [] = true
 are_digits (byte ∷ word) = is_ascii_digit byte && are_digits word
 
--- no digit is at the front
+-- the text doesn't begin with a digit
 abbrev pub is_end : List ℕ → Bool
 is_end [] = true
 is_end (byte ∷ more) = not (is_ascii_digit byte)
@@ -96,7 +96,7 @@ number_in-is n more below end =
       (bytes_eq-Decides (decimal n) (decimal n)).1 refl,
     ) refl
 
--- by the front of a line, as long as the word
+-- where the line begins with the word, what is left is the line without as many bytes as the word has
 pub behind-by : (word line : List ℕ) → bytes_eq (take (length word) line) word ≡ true
     → behind word line ≡ Some (drop (length word) line)
 behind-by [] line h = refl

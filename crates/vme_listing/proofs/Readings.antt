@@ -70,6 +70,7 @@ lines_more rows row more =
     ∙ ap (λ line. (flat_map line_of rows ++ line) ++ more) (sym (append-nil (line_of row)))
     ∙ ap (λ lines. lines ++ more) (sym (flat_map-append line_of rows (row ∷ [])))
 
+-- where `rows` were read, and the rest begins with the line of a row that may follow, that row was read, too
 pub read_more : (text : List ℕ) (version : Version) (rows : List Row) (rest : List ℕ) (row : Row) (more : List ℕ)
     → IsRead text version rows rest → follows version (last_of None rows) row ≡ true → IsFront rest row more
     → IsRead text version (rows ++ row ∷ []) more
@@ -80,7 +81,7 @@ read_more text version rows rest row more read f e =
           (lines_more rows row more);
     }
 
--- headers differ by their version
+-- texts that begin with headers are equal only where the versions are equal, and what follows the headers
 pub one_header : (v w : Version) (a b : List ℕ) → header v ++ a ≡ header w ++ b → (v ≡ w) × (a ≡ b)
 one_header One One a b e = (refl, ap (drop 19) e)
 one_header Two Two a b e = (refl, ap (drop 19) e)
@@ -105,7 +106,7 @@ begin_none text version rest e all w t =
       lines = one.1;
     }
 
--- behind a verdict there are no rows
+-- no rows follow a verdict
 behind_verdict : (version : Version) (row : Row) (later : List Row) → is_rest version (Some row) later ≡ true
     → is_verdict row ≡ true → flat_map line_of later ≡ []
 unfolding is_rest
@@ -115,7 +116,7 @@ behind_verdict version row (next ∷ later) placed verdict =
     let may = (follows_parts version (Some row) next parts.0).1 in
     absurd (false≢true (ap not (sym verdict) ∙ (three (not (is_verdict row)) (not (is_never_idle next)) _ may).0))
 
--- of what follows in such a listing, the first row follows and its line is at the front of the rest
+-- where the rows so far don't end with a verdict, another row follows, and its line is at the start of the rest
 next_other : (version : Version) (rows : List Row) (rest : List ℕ) → IsUnfinished rows → (others : List Row)
     → is_rest version (last_of None rows) others ≡ true → flat_map line_of others ≡ rest
     → (row : Row) × (later : List Row) × (others ≡ row ∷ later) × (follows version (last_of None rows) row ≡ true)
@@ -129,6 +130,8 @@ next_other version rows rest unfinished (row ∷ later) placed lines =
 regroup : (rows : List Row) (row : Row) (later : List Row) → rows ++ row ∷ later ≡ (rows ++ row ∷ []) ++ later
 regroup rows row later = sym (append_assoc rows (row ∷ []) later)
 
+-- where each well placed listing of the text begins with `rows`, which don't end with a verdict, and only `row` can
+-- follow at the start of the rest, each begins with `rows` and then `row`
 pub begin_more : (text : List ℕ) (version : Version) (rows : List Row) (rest : List ℕ) (row : Row) (more : List ℕ)
     → AllBegin text version rows rest → IsUnfinished rows
     → ((other : Row) (behind : List ℕ) → follows version (last_of None rows) other ≡ true → IsFront rest other behind
@@ -190,7 +193,7 @@ no_listing text none (BadRow n) = none
 no_listing text none (Unsorted n) = none
 no_listing text none Memory = tt
 
--- a text with no header is that of no listing
+-- a text without a header is the text of no well placed listing
 pub no_header : (text : List ℕ) → ((version : Version) (rest : List ℕ) → text ≢ header version ++ rest)
     → HasNoListing text
 no_header text none l w t = none l.version (flat_map line_of l.rows) (sym t)
@@ -216,7 +219,7 @@ module _ (text : List ℕ) (rows : List Row) (old : Unread) (has : HasRead text 
   pub unfinished-is : ends_listing old.last ≡ false → IsUnfinished rows
   unfinished-is h = ap ends_listing (sym has.last) ∙ h
 
-  -- the verdict was read
+  -- where the verdict was read, the text is that of the listing of the rows
   pub whole-is : ends_listing old.last ≡ true → IsTextOfListing text (listed old.version rows)
   whole-is h =
       let end : ends_listing (last_of None rows) ≡ true = ap ends_listing (sym has.last) ∙ h in
@@ -224,7 +227,7 @@ module _ (text : List ℕ) (rows : List Row) (old : Unread) (has : HasRead text 
       (whole.0, whole.1, only_listing text old.version rows old.rest has.begin (has.closed end))
 
   module _ (unfinished : ends_listing old.last ≡ false) where
-    -- one more row was
+    -- one more row was read, where no other row that may follow is at the start of the rest
     pub has_read_more : (row : Row) (more : List ℕ) → follows old.version old.last row ≡ true
         → IsFront old.rest row more
         → ((other : Row) (behind : List ℕ) → follows old.version old.last other ≡ true → IsFront old.rest other behind
@@ -250,7 +253,7 @@ module _ (text : List ℕ) (rows : List Row) (old : Unread) (has : HasRead text 
         back : (r : Row) → follows old.version (last_of None rows) r ≡ true → follows old.version old.last r ≡ true
         back r h = subst (λ o. follows old.version o r ≡ true) (sym has.last) h
 
-    -- none is there
+    -- the fault of the next row is the first of the text, where no row that may follow is at the start of the rest
     pub fault-is : (fault : ListFault) → IsRowFault old.version rows old.rest fault
         → ((other : Row) (behind : List ℕ) → follows old.version old.last other ≡ true → IsFront old.rest other behind
         → ⊥) → IsFirstFault text fault × IsNoListing text fault

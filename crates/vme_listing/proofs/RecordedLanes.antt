@@ -1,4 +1,4 @@
--- The data that a transfer moves, as a recording has it, is data that a write may have.
+-- The data of a transfer of a recording is data that the row of a write may have.
 use Rattle.std.proofs.Common.{◌≡◌, ℕ, ◌+◌, ◌*◌, ◌/◌, ◌%◌, ◌^◌, ◌<◌, ◌≤◌, Bool, true, false, not, ◌&&◌, ◌||◌, cond, refl}
 use Rattle.std.proofs.Common.{ap, ◌∙◌, arith}
 use Rattle.std.proofs.Math.Nat.{add-mul-div_left, div-eq_of_lt}
@@ -51,7 +51,7 @@ has_selected v k below =
     agree_below_at (λ k. has_digit (moved_by word address odd even) k) (λ k. selected_by word address odd even
     (D (4 * k))) 8 k (agrees word address odd even) below
 
--- a digit and its bit
+-- a digit and its bit of the unknown digits are ones that the form of data allows
 record IsForm (moved : Bool) (digit flag : ℕ) : Type 0 where
   below : digit < 16
   bit : flag < 2
@@ -81,7 +81,7 @@ digit_form v k =
       weight-most (is_high (level_at v (D (4 * k + 3)))) 8,
     ))
 
--- of a number by digits, the digit of a weight
+-- a number of a lower part, a digit at a weight and a higher part has that digit at that weight
 digit_there : (base weight n low digit high : ℕ) → n ≡ low + weight * (digit + base * high) → low < weight
     → (digit + base * high) % base ≡ digit → 0 < weight → n / weight % base ≡ digit
 digit_there base weight n low digit high e below rest positive =
@@ -93,6 +93,7 @@ digit_there base weight n low digit high e below rest positive =
     gone : (n rest : ℕ) → n ≡ 0 → n + rest ≡ rest
     gone n rest none = omega arith
 
+-- d0 to d7 are the eight lower digits of n in base 16, d0 the lowest
 record AreDigits (n d0 d1 d2 d3 d4 d5 d6 d7 : ℕ) : Type 0 where
   at0 : n / 16 ^ 0 % 16 ≡ d0
   at1 : n / 16 ^ 1 % 16 ≡ d1
@@ -126,6 +127,7 @@ digits_are n d0 d1 d2 d3 d4 d5 d6 d7 e b0 b1 b2 b3 b4 b5 b6 b7 =
           d7 (0) (omega arith) (omega arith) (omega arith) (omega arith);
     }
 
+-- d0 to d7 are the eight lower bits of n, d0 the lowest
 record AreBits (n d0 d1 d2 d3 d4 d5 d6 d7 : ℕ) : Type 0 where
   at0 : n / 2 ^ 0 % 2 ≡ d0
   at1 : n / 2 ^ 1 % 2 ≡ d1

@@ -28,7 +28,7 @@ use Rattle.vme_listing.specs.declared.row.Row.TheVariants.{OpenTenure, PendingTr
 use Rattle.vme_listing.proofs.RecordedLanes.{lanes_form}
 use Rattle.vme_listing.proofs.RowForms.{IsMiddle, both, cycle_form, edge, number, tenure_form}
 
--- at most one row, of this instant and kind
+-- the list has at most one row, and that is of instant i and of this kind
 abbrev pub AtMostOne : ℕ → ℕ → List Row → Type 0
 AtMostOne i kind [] = Unit {0}
 AtMostOne i kind (row ∷ []) = IsMiddle i kind row
@@ -44,7 +44,7 @@ greatest-below p first (suc n) i e = chosen (nat_le first n && p n) (λ h. great
     chosen true before h = let same : n ≡ i = cc in omega arith
     chosen false before h = omega (arith, before h)
 
--- the slot of a tenure is one of the backplane or the one past the last
+-- the slot of a tenure is one of the backplane, or one more than the last
 slot_within : (t : Trace) (i slot : ℕ) → tenure_slot t i ≡ Some slot → (1 ≤ slot) × (slot ≤ t.opening.slots + 1)
 unfolding tenure_slot
 slot_within t i slot e = by_level (tenure_level t i) e
@@ -121,7 +121,7 @@ data_by : (write : Bool) (lanes : Lanes) → is_lanes lanes ≡ true → has_dat
 data_by true lanes h = h
 data_by false lanes h = refl
 
--- the data of a transfer is what the row of its direction has
+-- the data of a transfer is data that the row of its direction may have
 data_form : (t : Trace) (span : Stretch) (end i r : ℕ) → has_data Three (direction_of t span end i)
     (data_of t span end i r) ≡ true
 unfolding data_at
@@ -129,6 +129,7 @@ data_form t span end i r = data_by (is_write t span i) (data_at t span r)
     (lanes_form (levels_at t (if transfer_starts t span r then r else r - 1)))
 
 module _ (t : Trace) (span : Stretch) (end : ℕ) (few : end ≤ 2 ^ 32) (i : ℕ) (listed : i < end) where
+  -- at instant i at most one tenure has a row, if B4 isn't broken there
   pub tenure_one : t.opening.slots ≤ 21 → breaks t span B4 i BBSY ≡ false → AtMostOne i 2 (tenure_rows t span end i)
   unfolding tenure_rows is_row
   tenure_one slots unbroken = by_tests ((i == span.start) && low t BBSY i) (tenure_starts t span i) refl
@@ -156,6 +157,7 @@ module _ (t : Trace) (span : Stretch) (end : ℕ) (few : end ≤ 2 ^ 32) (i : �
       by_tests false true e = taken (tenure_level t i) (tenure_slot t i) refl refl (slot_exists t span i e unbroken)
       by_tests false false e = tt
 
+  -- at instant i at most one cycle has a row, if U2 isn't broken there
   pub cycle_one : ((l : ℕ) → l < line_count → breaks t span U2 i l ≡ false) → AtMostOne i 3 (cycle_rows t span end i)
   unfolding cycle_rows
   cycle_one unbroken = by_test (cycle_starts t span i) refl

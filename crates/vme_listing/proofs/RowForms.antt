@@ -18,7 +18,7 @@ use Rattle.vme_listing.specs.declared.row.Version.TheVariants.{Three}
 use Rattle.vme_listing.specs.declared.row.Row.{Row}
 use Rattle.vme_listing.specs.declared.row.Row.TheVariants.{Tenure}
 
--- a row of a tenure, a cycle or a transfer, of this instant and kind
+-- the row is of a tenure, a cycle or a transfer, at the place (i, kind), and is one that its form allows
 pub record IsMiddle (i kind : ℕ) (row : Row) : Type 0 where
   pub allowed : is_row Three row ≡ true
   pub place : place_of Three row ≡ Some (i, kind)
@@ -38,7 +38,7 @@ is_at_most m n h = grind (arith, nat_tests)
 pub number : (n end : ℕ) → n < end → end ≤ 2 ^ 32 → is_number n ≡ true
 number n end below few = is_less n (2 ^ 32) (omega arith)
 
--- an end that was searched for before a number
+-- an instant that was searched for before `end`, which is at most 2^32, is below 2^32
 pub edge : (p : ℕ → Bool) (first end : ℕ) → end ≤ 2 ^ 32 → is_edge (least p first end) ≡ true
 edge p first end few = found (least p first end) (λ n e. (least-found p first end n e).below)
   where
@@ -56,7 +56,7 @@ even v (suc n) = grown (is_high (level_at v (A (suc n)))) (even v n)
     grown true h = (h.0 + 2 ^ n, omega (arith, h.1, pow-succ' 2 n))
     grown false h = (h.0, omega (arith, h.1))
 
--- and below the power of 2 of the first line that it doesn't have
+-- an address on lines 1 to n is below 2 to the power n + 1
 bounded : (v : Levels) (n : ℕ) → address_to v n < 2 ^ suc n
 bounded v zero = omega (arith, pow-succ' 2 0)
 bounded v (suc n) = grown (is_high (level_at v (A (suc n)))) (bounded v n)
@@ -77,7 +77,7 @@ address_form v modifier h =
     remainder : (a k : ℕ) → a ≡ 2 * k → a % 2 ≡ 0
     remainder a k e = omega arith
 
--- the codes of block transfers make address lines meaningful
+-- with the codes of block transfers, address lines are meaningful
 block_space : (modifier : ℕ) → is_block modifier ≡ true → (highest_address modifier == 0) ≡ false
 unfolding highest_address
 block_space modifier h = grind (arith, nat_tests)
@@ -101,8 +101,8 @@ modifier_within v = omega (
   bit_within v 5,
 )
 
--- what the class of a cycle says of its code: whether its bits are known, it is of block transfers, and it has no
--- address
+-- what the class of a cycle implies for its code: `known`, whether its bits are known; `block`, whether it is of block
+-- transfers; `free`, whether it has no address
 abbrev Says : Class → Bool → Bool → Bool → Type 0
 Says class.S known block free = (block ≡ false) × (free ≡ false)
 Says class.K known block free = block ≡ true
@@ -124,7 +124,7 @@ unfolding class_of
 class_says v = by_tests (is_low (level_at v IACK)) (has_known_modifier v) (is_block (modifier_of v))
     (highest_address (modifier_of v) == 0)
 
--- the row of a cycle, whose code is known if its class is free
+-- the row of a cycle is one that its form allows, if the code is known where the class is F
 pub cycle_form : (i : ℕ) (v : Levels) (e : Option ℕ) → is_number i ≡ true → is_edge e ≡ true
     → (class_of v ≡ class.F → has_known_modifier v ≡ false → ⊥) → IsMiddle i 3 (cycle_row i v e (class_of v))
 unfolding is_row

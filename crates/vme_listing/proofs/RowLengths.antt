@@ -153,7 +153,7 @@ row-short version (PendingTransfer start direction) h =
     simp length-append (omega (arith, number-short start h, direction-short direction))
 row-short version (Verdict outcome) h = outcome-short outcome h
 
--- a line with its line feed
+-- the line of a row, with its line feed, has at most 96 bytes
 pub line-short-enough : (version : Version) (row : Row) → is_row version row ≡ true → length (line_of row) ≤ 96
 line-short-enough version row h =
     simp length-append (omega (arith, row-short version row h))

@@ -65,7 +65,7 @@ lanes_in-is a more h = rw (take_at (lanes_text a) more 8 (lanes-length a), lanes
 
 -- ---- the pieces
 
--- what is read at the front of a line, and what is left behind it
+-- reading the line with `at` gives x, and `past` leaves `more`
 abbrev Piece : {A : Type 0} → (Left → A) → (Left → Left) → List ℕ → A → List ℕ → Type 0
 Piece at past line x more = (at (Some line) ≡ x) × (past (Some line) ≡ Some more)
 
@@ -104,7 +104,7 @@ edge more stop (Some n) h =
       ap (λ (o : Left). if is_some o then o else past_number left) none ∙ read.1,
     )
 
--- at the end of a line
+-- an end at the end of a line is read from its text, and nothing is left
 last-edge : (end : Option ℕ) → is_edge end ≡ true → Piece edge_at past_edge (edge_text end) end []
 last-edge end h =
     let e = sym (append-nil (edge_text end)) in
@@ -173,7 +173,7 @@ reset-read : (n : ℕ) → is_number n ≡ true → IsRead (Reset n)
 unfolding row_in row_text
 reset-read n h = let p = last-number n h in rw (p.0, p.1) refl
 
--- a row by its pieces, each line behind the piece before
+-- a row by its pieces: each piece is read from what is left after the piece before
 pending-by : {start : ℕ} (l : List ℕ) (d : Direction) → Piece number_at past_number l start (codes " " ++
     (direction_text d
     ++ codes " pending"))
@@ -295,7 +295,7 @@ pending-read start d h =
     let l = decimal start ++ t in
     ap row_in (simp append_assoc) ∙ pending-by l d (number start t refl (below_32 start h))
 
--- no digit is at the front of data
+-- the text of data doesn't begin with a digit
 data-end : (lanes : Option Lanes) → is_end (data_text lanes) ≡ true
 data-end None = refl
 data-end (Some a) = refl

@@ -100,7 +100,7 @@ module _ (left : Left) (more : List ℕ) where
           (piece-said lanes_in lanes_text no_lanes (past (codes " data ") left) more e)
       by_test false e = e
 
--- what stands in a line behind its first word
+-- what follows the first word of a line is unique
 line-is : (left : Left) (line said : List ℕ) → left ≡ Some line → left ≡ Some said → line ≡ said
 line-is left line said h e = same_Some line said (sym h ∙ e)
 
@@ -189,7 +189,7 @@ module _ (left : Left) (line : List ℕ) (h : left ≡ Some line) where
           let e1 = direction-said (past_number left) _ (past-said (codes " pending") _ [] e) in
           rw (line-is left line _ h (number-said left _ e1)) (simp (append_assoc, append-nil))
 
--- a break behind its kind
+-- a break after the word of its kind
 module _ (kind : Rule → ℕ → ℕ → ListedVerdict) (word : List ℕ)
     (text : (r : Rule) (n l : ℕ) → verdict_text (kind r n l)
     ≡ codes "verdict " ++ (word ++ (rule_name r ++ (codes " " ++ (decimal n ++ (codes " " ++ line_name l)))))) where
@@ -274,7 +274,7 @@ whole-is row None result e = absurd (none-some result e)
 whole-is row (Some []) result e = (refl, same_Some row result e)
 whole-is row (Some (byte ∷ line)) result e = absurd (none-some result e)
 
--- behind a first word there is one row
+-- a row that is read after a first word has the whole line as its text
 first-said : (word line : List ℕ) (at : Left → Row) (past : Left → Left) (row : Row)
     → ((left : Left) (l : List ℕ) → left ≡ Some l → past left ≡ Some [] → word ++ l ≡ row_text (at left))
     → begins word (Some line) ≡ true → whole (at (behind word line)) (past (behind word line)) ≡ Some row

@@ -33,7 +33,7 @@ use Rattle.vme_listing.proofs.FoundBreaks.{unbroken_before}
 use Rattle.vme_listing.proofs.RecordedRows.{AtMostOne, cycle_one, tenure_one, transfer_one}
 use Rattle.vme_listing.proofs.RowForms.{IsMiddle, both, is_less, number}
 
--- the row is of a start, a tenure, a cycle or a transfer, and a row of this instant and kind may come after it
+-- the row is of a start, a tenure, a cycle or a transfer, and a row at the place (i, kind) may follow it
 record Precedes (row : Row) (i kind : ℕ) : Type 0 where
   unfinished : is_verdict row ≡ false
   goes_on : is_reset row ≡ false
@@ -49,7 +49,7 @@ later_than (Some p) i j m n h e = on p.0 p.1 i j m n h e
     on a b i j m n (inl h) e = grind (arith, nat_tests)
     on a b i j m n (inr h) e = let same = h.0 in let most = h.1 in grind (arith, nat_tests)
 
--- one of a later instant may too, or of this one and a later kind
+-- where a row at the place (i, m) may follow, so may one at (j, n): at a later instant, or at i of no earlier kind
 later : (row : Row) (i j m n : ℕ) → (i < j) ⊎ ((i ≡ j) × (m ≤ n)) → Precedes row i m → Precedes row j n
 later row i j m n h p = record {
   unfinished = p.unfinished;
@@ -64,7 +64,7 @@ after_start start = record { unfinished = refl; goes_on = refl; earlier = higher
     higher : (i : ℕ) → (nat_lt i i || ((i == i) && nat_lt 1 2)) ≡ true
     higher i = grind (arith, nat_tests)
 
--- what has a place is no verdict
+-- the row isn't a verdict, as no row with a place is
 record IsInside (row : Row) : Type 0 where
   no_verdict : is_verdict row ≡ false
   no_idle : is_never_idle row ≡ false
@@ -81,12 +81,12 @@ inside (Transfer direction line start cycle answer close lanes) p e = record { n
 inside (PendingTransfer start direction) p e = record { no_verdict = refl; no_idle = refl }
 inside (Verdict outcome) p e = absurd (cc)
 
--- what may stand behind a row that is no verdict, by whether that is a reset
+-- what may follow a row that isn't a verdict, by whether that row is a reset
 placed_behind : (ended reset idle starts ends : Bool) → ended ≡ false → idle ≡ false → cond reset (starts || ends)
     (not starts) ≡ true → (not ended && not idle && cond reset (starts || ends) (not starts)) ≡ true
 placed_behind ended reset idle starts ends e f g = rw (e, f, g) refl
 
--- a row of this instant and kind, other than a start, may stand behind one that precedes it
+-- a row at the place (i, kind) that isn't a start may follow a row that precedes that place
 follows_on : (before row : Row) (i kind : ℕ) → Precedes before i kind → is_row Three row ≡ true → place_of Three row
     ≡ Some (i, kind) → is_start row ≡ false → follows Three (Some before) row ≡ true
 unfolding follows
@@ -109,7 +109,8 @@ next_kind row i kind m =
     higher : (i kind : ℕ) → (nat_lt i i || ((i == i) && nat_lt kind (kind + 1))) ≡ true
     higher i kind = grind (arith, nat_tests)
 
--- at most one row of this instant and kind, and rows that may stand behind it
+-- `rows`, at most one row at the place (i, kind), and then `more` may follow `before`, if `more` may follow each row
+-- that precedes the next kind
 group : (before : Row) (i kind : ℕ) (rows more : List Row) → AtMostOne i kind rows → Precedes before i kind
     → ((row : Row) → Precedes row i (kind + 1) → is_rest Three (Some row) more ≡ true) → is_rest Three (Some before)
     (rows ++ more) ≡ true
@@ -119,7 +120,7 @@ group before i kind (row ∷ []) more one p rest = both _ _ (follows_on before r
     one.no_start) (rest row (next_kind row i kind one))
 group before i kind (row ∷ next ∷ rows) more one p rest = absurd one
 
--- the verdict may stand behind a row that isn't one
+-- the verdict may follow a row that isn't a verdict
 last_is : (row : Row) (found : Option Break) → is_outcome (outcome_of found) ≡ true → is_verdict row ≡ false
     → is_rest Three (Some row) (Verdict (outcome_of found) ∷ []) ≡ true
 unfolding is_rest follows is_row
@@ -143,7 +144,7 @@ last_is row found is e =
     named None = refl
     named (Some b) = by_rule b (is_unreadable b.rule) refl
 
--- the rules before and behind one
+-- the rules before a rule, and those after it
 abbrev till : Rule → List Rule
 till r = take (rule_number r) all_rules
 
@@ -155,7 +156,7 @@ last_or_before i s h = grind arith
 
 module _ (t : Trace) (slots : t.opening.slots ≤ 21) (few : length t.steps < 2 ^ 32) where
   module _ (span : Stretch) (end : ℕ) (within : end ≤ 2 ^ 32) where
-    -- nothing begins before the start, and no cycle and no transfer at it
+    -- no instant at the start of the span or before is judged
     early : (i : ℕ) → i ≤ span.start → is_judged span i ≡ false
     early i h = grind (arith, nat_tests)
 
@@ -190,7 +191,8 @@ module _ (t : Trace) (slots : t.opening.slots ≤ 21) (few : length t.steps < 2 
       abbrev rows_at : ℕ → List Row → List Row
       rows_at i more = tenure_rows t span end i ++ (cycle_rows t span end i ++ (transfer_rows t span end i ++ more))
 
-      -- the rows that begin at an instant, and rows that may stand behind them
+      -- the rows that begin at instant i, and `more`, may follow `before`, if `more` may follow each row that precedes
+      -- instant i + 1
       placed_at : (i : ℕ) → i < end → (before : Row) → Precedes before i 2 → (more : List Row)
           → ((row : Row) → Precedes row (suc i) 0 → is_rest Three (Some row) more ≡ true) → is_rest Three (Some before)
           (rows_at i more) ≡ true
@@ -204,7 +206,8 @@ module _ (t : Trace) (slots : t.opening.slots ≤ 21) (few : length t.steps < 2 
           (λ c pc. group c i 4 transfers more (transfer_one t span end within i below) pc
           (λ d pd. rest d (later d i (suc i) 5 0 (inl (omega arith)) pd))))
 
-      -- the rows that begin before an instant, behind the start of the span, and rows that may stand behind them
+      -- the rows that begin before instant n, and `more`, may follow the start of the span, if `more` may follow each
+      -- row that precedes instant n
       placed_before : (n : ℕ) → span.start < n → n ≤ end → (more : List Row)
           → ((row : Row) → Precedes row n 0 → is_rest Three (Some row) more ≡ true)
           → is_rest Three (Some (Start span.start)) (rows_before t span end n ++ more) ≡ true
@@ -228,7 +231,7 @@ module _ (t : Trace) (slots : t.opening.slots ≤ 21) (few : length t.steps < 2 
                 (λ a pa. placed_at i (omega arith) a (later a i i 0 2 (inr (refl, omega arith)) pa) more rest)
           ])
 
-  -- what the least break names, of spans that follow one another
+  -- the instant and line of the least break of spans that follow one another, the first of which starts at `first`
   record IsNamed (first : ℕ) (b : Break) : Type 0 where
     after : first < b.instant
     below : b.instant < last_instant t + 1
@@ -274,7 +277,7 @@ module _ (t : Trace) (slots : t.opening.slots ≤ 21) (few : length t.steps < 2 
       by_rule true h n l = rw (h, h, n, l) refl
       by_rule false h n l = rw (h, h, n, l) refl
 
-  -- listed is the start of the first span, and no more than there is
+  -- the limit is after the start of the first span, and at most one more than the last instant
   record IsLimit (span : Stretch) (limit : ℕ) : Type 0 where
     after : span.start < limit
     most : limit ≤ last_instant t + 1
@@ -289,7 +292,8 @@ module _ (t : Trace) (slots : t.opening.slots ≤ 21) (few : length t.steps < 2 
   limit_form span spans order (Some b) e = let is = named span spans b order e in
       record { after = is.after; most = omega (arith, is.below) }
 
-  -- at each listed instant a cycle has what it needs, and a tenure is one of a slot
+  -- at each listed instant of the span U2 and B4 aren't broken: the lines that a cycle needs are known, and a tenure is
+  -- of a slot that exists
   abbrev IsUnbroken : ℕ → Stretch → Type 0
   IsUnbroken limit span = (i l : ℕ) → span.start < limit → i < limit → l < line_count → (breaks t span U2 i l ≡ false)
       × (breaks t span B4 i l ≡ false)
@@ -340,7 +344,7 @@ module _ (t : Trace) (slots : t.opening.slots ≤ 21) (few : length t.steps < 2 
       ]
 
   module _ (limit : ℕ) (most : limit ≤ last_instant t + 1) where
-    -- no row is of a span that starts at the limit or later
+    -- a span that starts at the limit or later has no rows
     none_of : (span : Stretch) → limit ≤ span.start → rows_of_span t limit span ≡ []
     unfolding rows_of_span
     none_of span h = rw (not_less span.start limit h) refl
@@ -354,7 +358,7 @@ module _ (t : Trace) (slots : t.opening.slots ≤ 21) (few : length t.steps < 2 
     unlisted span (next ∷ spans) order h = rw (none_of span h)
         (unlisted next spans order.3 (omega (arith, starts_before_end t span order.0, order.2)))
 
-    -- the rows of a span whose start is listed, behind that start
+    -- the rows of a span after its start, where the start is listed
     abbrev rows_behind : Stretch → List Row
     rows_behind span = rows_before t span (min span.end limit) (min span.end limit) ++ reset_rows t limit span
 
@@ -362,7 +366,7 @@ module _ (t : Trace) (slots : t.opening.slots ≤ 21) (few : length t.steps < 2 
     unfolding rows_of_span
     all_of span h = rw (is_less span.start limit h) refl
 
-    -- a reset may stand behind what precedes it, and the start of a later span behind the reset
+    -- a reset may follow a row that precedes its place, and the start of a later span may follow the reset
     reset_follows : (row : Row) (i : ℕ) → i < limit → Precedes row i 0 → follows Three (Some row) (Reset i) ≡ true
     unfolding is_row
     reset_follows row i below p = follows_on row (Reset i) i 0 p (number i limit below (omega arith)) refl refl
@@ -390,7 +394,7 @@ module _ (t : Trace) (slots : t.opening.slots ≤ 21) (few : length t.steps < 2 
           ∙ ap (λ rows. Start span.start ∷ rows)
           (append_assoc (rows_behind span) (flat_map (rows_of_span t limit) spans) verdict)
 
-      -- where the reset of a span isn't listed, no later span is
+      -- where the reset of a span isn't listed, the later spans have no rows, and the verdict follows
       only_verdict : (span : Stretch) (spans : List Stretch) → AreInOrder t (span ∷ spans)
           → (is_reset_at t span.end && nat_lt span.end limit) ≡ false → rows_of spans ≡ verdict
       only_verdict span [] order e = refl
@@ -401,7 +405,7 @@ module _ (t : Trace) (slots : t.opening.slots ≤ 21) (few : length t.steps < 2 
           past : (b : Bool) (n : ℕ) → b ≡ true → (b && nat_lt n limit) ≡ false → limit ≤ n
           past b n h e = grind (arith, nat_tests)
 
-      -- behind the start of a span stand its rows, and what may stand behind its reset, where that is listed
+      -- the rows of a span may follow its start, and after them what may follow its reset, where that is listed
       span_placed : (span : Stretch) (spans : List Stretch) → AreInOrder t (span ∷ spans) → IsUnbroken limit span
           → span.start < span.end → span.start < limit
           → ((is_reset_at t span.end && nat_lt span.end limit) ≡ true → is_rest Three (Some (Reset span.end))
@@ -434,7 +438,7 @@ module _ (t : Trace) (slots : t.opening.slots ≤ 21) (few : length t.steps < 2 
           by_reset row p false e = subst (λ rows. is_rest Three (Some row) rows ≡ true)
               (sym (only_verdict span spans order e)) (last_is row found is p.unfinished)
 
-      -- behind the start of a span stand its rows, those of the spans after it, and the verdict
+      -- the rows of a span, those of the spans after it and the verdict may follow the start of the span
       behind_start : (span : Stretch) (spans : List Stretch) → AreInOrder t (span ∷ spans) → AreUnbroken limit
           (span ∷ spans) → span.start < limit → is_rest Three (Some (Start span.start)) (rows_behind span
           ++ rows_of spans) ≡ true
@@ -470,7 +474,7 @@ module _ (t : Trace) (slots : t.opening.slots ≤ 21) (few : length t.steps < 2 
       (both _ _ (both _ _ (both _ _ (number span.start limit form.after (omega (arith, form.most))) refl) refl)
       (behind_start limit form.most found is span spans order (unbroken span spans order found e) form.after))
 
--- the listing of a recording whose slots and instants can be written is well placed
+-- the listing of a recording of at most 21 slots and fewer than 2^32 steps is well placed
 pub listing_placed : (t : Trace) → t.opening.slots ≤ 21 → length t.steps < 2 ^ 32
     → is_well_placed (record { version = Three; rows = recorded_rows t }) ≡ true
 unfolding listing_by is_rest follows is_row

@@ -12,6 +12,6 @@ module _ (a : Lanes) (place : ℕ) where
   abbrev pub digit_in : ℕ
   digit_in = a.value / 16 ^ place % 16
 
-  -- the bit of the digit in those of the unknown digits
+  -- the bit that says whether the digit is unknown
   abbrev pub flag_in : ℕ
   flag_in = a.unknown / 2 ^ place % 2

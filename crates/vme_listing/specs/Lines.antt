@@ -1,4 +1,4 @@
--- A row read from its line, from left to right: each piece is one whose text is at the front of what is left.
+-- A row read from its line, from left to right. The text of each piece is at the start of what is left of the line.
 use Rattle.std.specs.Prelude.{ℕ, zero, suc, Bool, true, ◌^◌, ◌==◌, ◌&&◌, ◌||◌, List, [], ◌∷◌, drop, length}
 use Rattle.std.specs.Prelude.{take}
 use Rattle.std.specs.Prelude.{Option, None, Some, bytes_eq, codes, decimal, nat_lt, nat_le, if◌then◌else◌}
@@ -25,11 +25,11 @@ use Rattle.vme_listing.specs.declared.row.Row.TheVariants.{Start, Reset, OpenTen
 use Rattle.vme_listing.specs.declared.row.Row.TheVariants.{FreeCycle, InterruptCycle, Transfer, PendingTransfer}
 use Rattle.vme_listing.specs.declared.row.Row.TheVariants.{Verdict}
 
--- what is left of a line behind the pieces that were read, or none where one of them wasn't there
+-- the bytes of a line after the pieces that were read, or None if one of the pieces wasn't there
 abbrev pub Left : Type 0
 Left = Option (List ℕ)
 
--- what is left behind a word
+-- the bytes of the line after the word, or None if the line doesn't begin with the word
 abbrev pub behind : List ℕ → List ℕ → Left
 behind [] line = Some line
 behind (byte ∷ word) [] = None
@@ -42,7 +42,7 @@ past word (Some line) = behind word line
 abbrev pub begins : List ℕ → Left → Bool
 begins word left = is_some (past word left)
 
--- the piece that is read from the front of a line, in a way of reading, with its text
+-- what is left of a line after a piece: `read` gives the piece at the start of a line, and `text` its text
 module _ {A : Type 0} (read : List ℕ → Option A) (text : A → List ℕ) where
   abbrev pub past_read : Option A → List ℕ → Left
   past_read None line = None
@@ -52,7 +52,7 @@ module _ {A : Type 0} (read : List ℕ → Option A) (text : A → List ℕ) whe
   past_piece None = None
   past_piece (Some line) = past_read (read line) line
 
--- that piece, or another where none is there
+-- the piece that `read` gives, or `other` where there is none
 module _ {A : Type 0} (read : List ℕ → Option A) (other : A) where
   abbrev pub or_other : Option A → A
   or_other None = other
@@ -62,13 +62,13 @@ module _ {A : Type 0} (read : List ℕ → Option A) (other : A) where
   piece None = other
   piece (Some line) = or_other (read line)
 
--- the digits at the front of a line, at most so many
+-- the decimal digits at the start of a line, at most as many as the first argument says
 abbrev pub digits_at : ℕ → List ℕ → List ℕ
 digits_at zero line = []
 digits_at (suc most) [] = []
 digits_at (suc most) (byte ∷ line) = if is_ascii_digit byte then byte ∷ digits_at most line else []
 
--- the number whose decimal text these digits are
+-- the number below 2^32 whose decimal text the digits at the start of a line are; at most ten digits are looked at
 unfoldable pub number_in : List ℕ → Option ℕ
 number_in line =
     if nat_lt (digits_value 10 (digits_at 10 line)) (2 ^ 32)
@@ -83,7 +83,7 @@ abbrev pub are_hexadecimal : List ℕ → Bool
 are_hexadecimal [] = true
 are_hexadecimal (byte ∷ word) = is_hexadecimal byte && are_hexadecimal word
 
--- the number whose text in base 16, in so many digits, is at the front of a line
+-- the number whose text of `digits` digits in base 16 is at the start of a line
 unfoldable pub hexadecimal_in : ℕ → List ℕ → Option ℕ
 hexadecimal_in digits line =
     if bytes_eq (hexadecimal digits (number_of 16 (take digits line))) (take digits line)
@@ -95,12 +95,12 @@ no_lanes = record { moved = Nothing; value = 0; unknown = 0 }
 abbrev pub lanes_of : List ℕ → Lanes
 lanes_of word = record { moved = moved_of word; value = number_of 16 word; unknown = flags_of word }
 
--- the data whose text is at the front of a line
+-- the data whose text is at the start of a line
 unfoldable pub lanes_in : List ℕ → Option Lanes
 lanes_in line =
     if bytes_eq (lanes_text (lanes_of (take 8 line))) (take 8 line) then Some (lanes_of (take 8 line)) else None
 
--- what is left behind a word that may be there
+-- what is left after a word that may be there or not
 abbrev pub skipped : List ℕ → Left → Left
 skipped word left = if begins word left then past word left else left
 
@@ -111,7 +111,7 @@ module _ (left : Left) where
   abbrev pub past_number : Left
   past_number = past_piece number_in decimal left
 
-  -- the same below 256
+  -- the number that is read, where it is below 256, else 0
   abbrev pub small_at : ℕ
   small_at = if nat_lt number_at 256 then number_at else 0
 
@@ -161,14 +161,15 @@ module _ (left : Left) where
   past_lanes = past_piece lanes_in lanes_text left
 
 module _ (left : Left) where
-  -- data, of which there are none where another word follows
+  -- the data of a transfer: None where the word " data " isn't there
   abbrev pub data_at : Option Lanes
   data_at = if begins (codes " data ") left then Some (lanes_at (past (codes " data ") left)) else None
 
   abbrev pub past_data : Left
   past_data = if begins (codes " data ") left then past_lanes (past (codes " data ") left) else left
 
--- a row behind its first word, and what is left behind it
+-- the row after its first word, and what is left after the row. `*_left` and `*_end` are what is left before a piece,
+-- but `digits_left` is how many digits the address has
 module _ (left : Left) where
   abbrev pub level_left : Left
   level_left = past (codes " level ") (past_number left)
@@ -264,7 +265,7 @@ break_by kind (Some rule) left =
     named_break kind rule (number_at (past (codes " ") left)) (line_in (past (codes " ") (past_number (past
     (codes " ") left))))
 
--- the break that a text says behind its kind
+-- the break that is read after the word of its kind
 abbrev pub break_in : (Rule → ℕ → ℕ → ListedVerdict) → Left → Option ListedVerdict
 break_in kind None = None
 break_in kind (Some line) =
@@ -277,7 +278,7 @@ outcome_in line =
     else if begins (codes "broken ") (Some line) then break_in Broken (behind (codes "broken ") line)
     else break_in Unreadable (behind (codes "unreadable ") line)
 
--- the row, if nothing is left behind it
+-- the row, if the whole line was read
 abbrev pub whole : Row → Left → Option Row
 whole row None = None
 whole row (Some []) = Some row

@@ -1,4 +1,4 @@
--- Which listings are well placed: each row is one that its table allows and stands where it may, and the rows
+-- Which listings are well placed: each row is one that its form allows and may follow the row before it, and the rows
 -- before the last ascend by their first instant and then by their kind.
 use Rattle.std.specs.Prelude.{ℕ, Bool, true, false, not, ◌+◌, ◌^◌, ◌%◌, ◌==◌, ◌&&◌, ◌||◌, List, [], ◌∷◌}
 use Rattle.std.specs.Prelude.{Option, None, Some, nat_lt, nat_le, if◌then◌else◌}
@@ -29,14 +29,14 @@ abbrev pub is_edge : Option ℕ → Bool
 is_edge None = true
 is_edge (Some n) = is_number n
 
--- the class of the cycles that have a modifier code and an address: S, or K where the code is of block transfers
+-- a cycle with an address and this modifier code has the class: K where the code is of block transfers, else S
 abbrev pub has_class : ℕ → Class → Bool
 has_class modifier class.S = not (is_block modifier)
 has_class modifier class.K = is_block modifier
 has_class modifier class.I = false
 has_class modifier class.F = false
 
--- the code makes address lines meaningful, and the address is one of these: bit 0 is 0
+-- address lines are meaningful with the modifier code, and the address has only bits of these: bit 0 is 0
 abbrev pub is_address : ℕ → ℕ → Bool
 is_address modifier address = not (highest_address modifier == 0)
     && nat_lt address (2 ^ (highest_address modifier + 1)) && (address % 2 == 0)
@@ -54,12 +54,12 @@ is_digit moved digit flag = (moved || (flag == 0)) && ((moved && (flag == 0)) ||
 abbrev pub is_digit_in : Lanes → ℕ → Bool
 is_digit_in a place = is_digit (is_moved_in a place) (digit_in a place) (flag_in a place)
 
--- so are the four digits from a place on
+-- the four digits from `place` on are ones that the form of data allows
 abbrev pub are_digits_from : Lanes → ℕ → Bool
 are_digits_from a place =
     is_digit_in a place && is_digit_in a (place + 1) && is_digit_in a (place + 2) && is_digit_in a (place + 3)
 
--- so are all eight
+-- the value is below 2^32, `unknown` is below 256, and all eight digits are ones that the form of data allows
 unfoldable pub is_lanes : Lanes → Bool
 is_lanes a = nat_lt a.value (2 ^ 32) && nat_lt a.unknown 256 && are_digits_from a 0 && are_digits_from a 4
 
@@ -67,7 +67,7 @@ abbrev pub is_write : Direction → Bool
 is_write Read = false
 is_write Write = true
 
--- the row of an answered write has data where the version tells them, and no other row has
+-- the row of an answered write has data where the version has them; no other row has data
 abbrev pub has_data : Version → Direction → Option Lanes → Bool
 has_data version direction None = not (tells_data version && is_write direction)
 has_data version direction (Some a) = tells_data version && is_write direction && is_lanes a
@@ -143,8 +143,8 @@ is_never_idle (Transfer direction line start cycle answer close lanes) = false
 is_never_idle (PendingTransfer start direction) = false
 is_never_idle (Verdict outcome) = never_idles outcome
 
--- the first instant of a row, and the order of its kind: the verdict has none, and a start has them only where the
--- version tells resets
+-- the place of a row: its first instant, and the number of its kind in the order of the kinds. The verdict has no
+-- place, and a start has one only where the version has resets
 abbrev pub place_of : Version → Row → Option (ℕ × ℕ)
 place_of version (Start instant) = if tells_resets version then Some (instant, 1) else None
 place_of version (Reset instant) = Some (instant, 0)
@@ -157,8 +157,8 @@ place_of version (Transfer direction line start cycle answer close lanes) = Some
 place_of version (PendingTransfer start direction) = Some (start, 4)
 place_of version (Verdict outcome) = None
 
--- by its form a row may stand behind the one before it, or as the first. A listing is the one row that the bus is never
--- idle; or it is a start, then tenures, cycles and transfers, and then another verdict. A reset may stand before that
+-- by its form the row may follow the row before it, or be the first. A listing is the one row that the bus is never
+-- idle; or it is a start, then tenures, cycles and transfers, and then another verdict. A reset may come before that
 -- verdict, or before another start and what may follow a start
 abbrev pub may_follow : Option Row → Row → Bool
 may_follow None row = is_start row || is_never_idle row
@@ -172,12 +172,12 @@ is_later_place (Some before) None = true
 is_later_place (Some before) (Some after) = nat_lt before.0 after.0
     || ((before.0 == after.0) && nat_lt before.1 after.1)
 
--- of two rows that have a place the second has the later instant, or at one instant the later kind
+-- where both rows have a place, the second has a later instant, or the same instant and a later kind
 abbrev pub ascends : Version → Option Row → Row → Bool
 ascends version None row = true
 ascends version (Some before) row = is_later_place (place_of version before) (place_of version row)
 
--- the row may stand behind the one before it
+-- the row may follow the row before it, by its form and by its place
 unfoldable pub follows : Version → Option Row → Row → Bool
 follows version before row = is_row version row && may_follow before row && ascends version before row
 
@@ -185,12 +185,12 @@ abbrev pub ends_listing : Option Row → Bool
 ends_listing None = false
 ends_listing (Some row) = is_verdict row
 
--- the rows may stand behind one another and behind the one before them, and the last is the verdict
+-- each row may follow the one before it, the first one the row `before`, and the last is the verdict
 unfoldable pub is_rest : Version → Option Row → List Row → Bool
 is_rest version before [] = ends_listing before
 is_rest version before (row ∷ rows) = follows version before row && is_rest version (Some row) rows
 
--- a listing of the version can have these rows: it tells resets, or none of them is one
+-- a listing of the version can have these rows: the version has resets, or none of the rows is a reset
 abbrev pub can_tell : Version → List Row → Bool
 can_tell version rows = tells_resets version || list_all (λ row. not (is_reset row)) rows
 

@@ -1,5 +1,5 @@
--- The listing of a recording: the starts and resets of what is judged, its tenures, cycles and transfers, before the
--- least break, and the verdict.
+-- The listing of a recording: the starts and resets of the judged spans, the tenures, cycles and transfers, before the
+-- least break; and the verdict.
 use Rattle.std.specs.Prelude.{ℕ, zero, suc, ◌+◌, ◌/◌, ◌^◌, ◌==◌, ◌&&◌, List, [], ◌∷◌, ◌++◌, map, flat_map}
 use Rattle.std.specs.Prelude.{min, nat_lt, Option, None, Some, if◌then◌else◌}
 use Rattle.vme_trace.specs.Instants.{least}
@@ -37,11 +37,11 @@ abbrev pub address_to : Levels → ℕ → ℕ
 address_to v zero = 0
 address_to v (suc n) = address_to v n + (if is_high (level_at v (A (suc n))) then 2 ^ (suc n) else 0)
 
--- a cycle with an address: its class, the modifier code, and the address on the lines that the code makes meaningful
+-- a cycle with an address: its class, the modifier code, and the address on the lines that are meaningful with the code
 abbrev pub addressed : ℕ → Class → Levels → Option ℕ → Row
 addressed i class v end = AddressedCycle i class (modifier_of v) (address_to v (highest_address (modifier_of v))) end
 
--- what the row of a cycle says of the levels as the address strobe falls. The level of an interrupt acknowledge is on
+-- the row of a cycle, from the levels v as the address strobe falls. The level of an interrupt acknowledge is on
 -- address lines 3, 2 and 1
 abbrev pub cycle_row : ℕ → Levels → Option ℕ → Class → Row
 cycle_row i v end class.S = addressed i class.S v end
@@ -76,7 +76,7 @@ module _ (t : Trace) (span : Stretch) (end : ℕ) where
   abbrev pub answer_line : ℕ → AnswerLine
   answer_line r = if falls t DTACK r then Dtack else Berr
 
-  -- of a write the data, as of its answer
+  -- the data of a write, by its answer at r; None for a read
   abbrev pub data_of : ℕ → ℕ → Option Lanes
   data_of i r = if is_write t span i then Some (data_at t span r) else None
 
@@ -93,7 +93,7 @@ module _ (t : Trace) (span : Stretch) (end : ℕ) where
   unfoldable pub transfer_rows : ℕ → List Row
   transfer_rows i = if transfer_starts t span i then transfer_row i (least (answers t span i) i end) ∷ [] else []
 
-  -- the rows that begin before an instant
+  -- the rows of the tenures, cycles and transfers that begin before an instant
   unfoldable pub rows_before : ℕ → List Row
   rows_before zero = []
   rows_before (suc i) = rows_before i ++ tenure_rows i ++ cycle_rows i ++ transfer_rows i
@@ -108,12 +108,12 @@ module _ (t : Trace) (limit : ℕ) (span : Stretch) where
   abbrev pub reset_rows : List Row
   reset_rows = if is_reset_at t span.end && nat_lt span.end limit then Reset span.end ∷ [] else []
 
-  -- of a span whose start is listed, that start, what begins in the span, and its reset
+  -- the rows of a span: its start, what begins in the span, and its reset; none where the start isn't listed
   unfoldable pub rows_of_span : List Row
   rows_of_span =
       if nat_lt span.start limit then Start span.start ∷ rows_before t span limit_in limit_in ++ reset_rows else []
 
--- listed are the instants before the break, or all
+-- the first instant that isn't listed: that of the break, or without a break one more than the last
 abbrev pub listed_end : Trace → Option Break → ℕ
 listed_end t None = last_instant t + 1
 listed_end t (Some b) = b.instant
@@ -123,7 +123,7 @@ outcome_of None = Conforming
 outcome_of (Some b) = if is_unreadable b.rule then Unreadable b.rule b.instant b.line
     else Broken b.rule b.instant b.line
 
--- the rows of spans that follow one another, where this is their least break
+-- the rows of the spans and the verdict, where `found` is the least break of the spans
 abbrev pub listing_before : Trace → List Stretch → Option Break → List Row
 listing_before t spans found =
     flat_map (rows_of_span t (listed_end t found)) spans ++ Verdict (outcome_of found) ∷ []
@@ -158,10 +158,10 @@ without_data (Transfer direction line start cycle answer close lanes) =
 without_data (PendingTransfer start direction) = PendingTransfer start direction
 without_data (Verdict outcome) = Verdict outcome
 
--- the row of a listing of the newest version as one of this version
+-- a row of a listing of the newest version, in a listing of this version
 abbrev pub row_in : Version → Row → Row
 row_in version row = if tells_data version then row else without_data row
 
--- the rows
+-- the rows of a listing of the newest version, in a listing of this version
 unfoldable pub rows_in : Version → List Row → List Row
 rows_in version rows = if tells_data version then rows else map without_data rows

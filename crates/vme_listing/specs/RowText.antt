@@ -30,7 +30,7 @@ abbrev pub edge_text : Option ℕ → List ℕ
 edge_text None = codes "-"
 edge_text (Some n) = decimal n
 
--- so many digits in base 16, the letters in upper case
+-- the last digits of n in base 16, as many as the first argument says, the letters in upper case
 unfoldable pub hexadecimal : ℕ → ℕ → List ℕ
 hexadecimal zero n = []
 hexadecimal (suc k) n = hexadecimal k (n / 16) ++ digit_glyph true (n % 16) ∷ []

@@ -1,4 +1,4 @@
--- What the eight bytes of a write's data say, if they are the text of some: any bytes count as some data.
+-- The data of a write from the eight bytes of its text. Bytes that aren't such a text give some data, too.
 use Rattle.std.specs.Prelude.{ℕ, Bool, not, ◌+◌, ◌-◌, ◌*◌, ◌%◌, ◌^◌, ◌==◌, ◌&&◌, List, [], ◌∷◌, nat_le, slice_index_or}
 use Rattle.std.specs.Prelude.{if◌then◌else◌}
 use Rattle.vme_trace.specs.declared.data.MovedBytes.{MovedBytes}
@@ -9,12 +9,12 @@ abbrev pub digit_of : ℕ → ℕ
 digit_of byte = if nat_le 48 byte && nat_le byte 57 then byte - 48 else if nat_le 65 byte
     && nat_le byte 70 then byte - 55 else 0
 
--- digits after a number, in a base, by 32 bits
+-- the number n with the digits of the word appended in base `base`, modulo 2^32
 abbrev pub number_after : ℕ → ℕ → List ℕ → ℕ
 number_after base n [] = n
 number_after base n (byte ∷ word) = number_after base ((n * base % 2 ^ 32 + digit_of byte) % 2 ^ 32) word
 
--- the number that a word is in a base
+-- the number that the word is in base `base`, modulo 2^32
 unfoldable pub number_of : ℕ → List ℕ → ℕ
 number_of base word = number_after base 0 word
 
@@ -22,20 +22,20 @@ number_of base word = number_after base 0 word
 abbrev pub flag_of : ℕ → ℕ
 flag_of byte = if byte == 88 then 1 else 0
 
--- such bits after others, by 8 bits
+-- the bits n with those of the word's bytes appended, modulo 2^8
 abbrev pub flags_after : ℕ → List ℕ → ℕ
 flags_after n [] = n
 flags_after n (byte ∷ word) = flags_after (n * 2 % 256 + flag_of byte) word
 
--- the bits of a word
+-- a bit for each byte of the word, 1 for X, modulo 2^8; bit 0 is that of the last byte
 unfoldable pub flags_of : List ℕ → ℕ
 flags_of word = flags_after 0 word
 
--- a word has a byte at a place, and no hyphen there
+-- the word has a byte at `place`, and it isn't a hyphen
 abbrev pub is_shown : List ℕ → ℕ → Bool
 is_shown word place = not (slice_index_or word place 45 == 45)
 
--- the bytes of the data bus that the digits of a word show
+-- which bytes of the data bus are moved, by where the word has hyphens
 unfoldable pub moved_of : List ℕ → MovedBytes
 moved_of word =
     if is_shown word 0 then LongWord

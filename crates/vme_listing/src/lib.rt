@@ -4,7 +4,7 @@
 //! # Parts
 //!
 //! - `row`, `listing`: the rows and versions; a listing.
-//! - `place`: which rows there are, and where they may stand.
+//! - `place`: which rows there are, and which may follow which.
 //! - `text`, `write`: the text of rows; a listing written in pieces ([`write_listing`]).
 //! - `words`, `read`, `fault`: the row that a line may be; a listing from its text
 //!   ([`read_listing`]); the first fault of a text.
@@ -13,15 +13,15 @@
 //!
 //! # What is proved
 //!
-//! - [`write_listing`] writes exactly the text of the listing (`whole`), and after a failure a
-//!   front of it (`front`).
-//! - [`read_listing`] answers a well placed listing exactly where the bytes are its text
+//! - [`write_listing`] writes exactly the text of the listing (`whole`), and up to a failure a
+//!   prefix of it (`front`).
+//! - [`read_listing`] gives a well placed listing exactly where the bytes are its text
 //!   (`listing`, `only`), and else names the first fault (`first`, `none`).
 //! - [`listings_are_well_placed`]: the listing of every recording is, so what is written of it is
 //!   read back as it was.
 //! - [`RowReader::next`] gives the rows of a text one by one, and by the same reading the first
-//!   fault. [`ListingPieces::next`] does so of a text of which the next bytes are known: no line has
-//!   more than [`LONGEST_LINE`] bytes, so what stands at their front holds whatever follows.
+//!   fault. [`ListingPieces::next`] does so from the next bytes of a text: no line has more than
+//!   [`LONGEST_LINE`] bytes, so the row at their start doesn't depend on the bytes after them.
 //!
 //! # What isn't proved
 //!

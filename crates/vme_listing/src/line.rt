@@ -1,4 +1,4 @@
-//! The row whose text a line is, read from left to right.
+//! Finds the row whose text a line is, reading the line from left to right.
 #![tactic(auto)]
 
 ghost use Rattle.std.specs.Prelude.{◌≡◌, ◌≤◌, ◌<◌, ◌^◌, ◌==◌, ◌&&◌, ℕ, Some, None, IfSome, bytes_eq, decimal, length};
@@ -34,7 +34,7 @@ const NO_LANES: Lanes = Lanes {
     unknown: 0,
 };
 
-/// What is left of a line behind the pieces that were read, or none where one of them wasn't there.
+/// The bytes of a line after the pieces that were read, or `None` if one of the pieces wasn't there.
 #[derive(Drop)]
 struct RowLine<'a> {
     rest: Option<&'a [u8]>,
@@ -49,7 +49,7 @@ impl<'a> Model for RowLine<'a> {
     ghost view = { λ a. option_map (λ rest. rest.now) a.rest };
 }
 
-/// The digits at the front of a text: how many they are, at most ten, and the number that they are.
+/// The decimal digits at the start of a text: how many there are, at most ten, and their value.
 #[derive(Clone, Copy)]
 struct FrontDigits {
     count: usize,
@@ -74,7 +74,7 @@ fn front_digits(text: &[u8]) -> FrontDigits
     FrontDigits { count, number }
 }
 
-/// Whether so many digits at the front have a zero before them.
+/// Whether the number of `count` digits at the start of `text` has a leading zero.
 fn has_leading_zero(count: usize, text: &[u8]) -> bool
     requires { 0 < length text.now }
     ensures { result ≡ (nat_lt 1 count && (slice_index text.now 0 == 48)) }
@@ -82,7 +82,7 @@ fn has_leading_zero(count: usize, text: &[u8]) -> bool
     (count > 1) & (text[0] == b'0')
 }
 
-/// The number whose decimal text is at the front, and what is behind it.
+/// The number whose decimal text is at the start of `text`, and the bytes after it.
 fn front_number(text: &[u8]) -> Option<(u32, &[u8])>
     ensures number { IfSome result (λ front. number_in text.now ≡ Some front.0) }
     ensures behind { IfSome result (λ front. behind (decimal front.0) text.now ≡ Some front.1.now) }
@@ -116,7 +116,7 @@ fn hexadecimal_digit(byte: u8) -> Option<u8>
     }
 }
 
-/// The number of which a word is the digits in base 16.
+/// The number whose digits in base 16 `word` is; `None` if a byte is no such digit.
 fn hexadecimal_word(word: &[u8]) -> Option<u32>
     requires { length word.now ≤ 8 }
     ensures number { IfSome result (λ number. hexadecimal (length word.now) number ≡ word.now) }
@@ -133,7 +133,7 @@ fn hexadecimal_word(word: &[u8]) -> Option<u32>
     Some(number)
 }
 
-/// The number of which so many digits in base 16 are at the front, and what is behind them.
+/// The number of the `digits` digits in base 16 at the start of `text`, and the bytes after them.
 fn front_hexadecimal(digits: usize, text: &[u8]) -> Option<(u32, &[u8])>
     requires { digits ≤ 8 }
     ensures number { IfSome result (λ front. hexadecimal_in digits text.now ≡ Some front.0) }
@@ -149,14 +149,14 @@ fn front_hexadecimal(digits: usize, text: &[u8]) -> Option<(u32, &[u8])>
     }
 }
 
-/// Whether a word is the text of data.
+/// Whether `word` is the text of `lanes`.
 fn is_lanes_text(lanes: Lanes, word: &[u8]) -> bool
     ensures { result ≡ bytes_eq (lanes_text lanes) word.now }
 {
     data_digits(lanes).as_slice() == word
 }
 
-/// The data whose text is at the front, and what is behind it.
+/// The data whose text is at the start of `text`, and the bytes after it.
 fn front_lanes(text: &[u8]) -> Option<(Lanes, &[u8])>
     ensures lanes { IfSome result (λ front. lanes_in text.now ≡ Some front.0) }
     ensures behind { IfSome result (λ front. behind (lanes_text front.0) text.now ≡ Some front.1.now) }
@@ -175,7 +175,7 @@ fn front_lanes(text: &[u8]) -> Option<(Lanes, &[u8])>
 }
 
 impl<'a> RowLine<'a> {
-    /// A word, which has to be there.
+    /// Reads `word`, which has to be there.
     #[inline(always)]
     #[tactic(auto, using(crate::proofs::Pieces::words))]
     fn word(&mut self, word: &[u8])
@@ -187,7 +187,7 @@ impl<'a> RowLine<'a> {
         };
     }
 
-    /// Whether a word is there: it is read, then.
+    /// Whether `word` is there. If so, it is read.
     #[inline(always)]
     #[tactic(auto, using(crate::proofs::Pieces::words))]
     fn has(&mut self, word: &[u8]) -> bool
@@ -438,7 +438,7 @@ impl<'a> RowLine<'a> {
         }
     }
 
-    /// A break that is all that is left.
+    /// The rule, instant and line of a break, if its text is the whole rest of the line.
     fn break_left(&mut self) -> Option<(Rule, u32, Line)>
         ensures broken { option_map (λ named. Broken named.0 named.1 named.2) result ≡ break_in Broken self.old }
         ensures unreadable { option_map (λ named. Unreadable named.0 named.1 named.2) result
@@ -457,7 +457,7 @@ impl<'a> RowLine<'a> {
         Some((rule, instant, named))
     }
 
-    /// The row, if nothing is left behind it.
+    /// The row, if the whole line was read.
     fn whole(&self, row: Row) -> Option<Row>
         ensures { result ≡ whole row self.now }
     {

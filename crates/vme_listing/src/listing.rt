@@ -47,7 +47,7 @@ impl Listing {
     }
 }
 
-/// The listing of every recording, in each version that can tell it, is well placed, so that
+/// The listing of every recording, in each version that can have its rows, is well placed, so that
 /// [`read_listing`](crate::read_listing) accepts its text: of every recording of at most 21 slots and fewer than 2^32
 /// steps, well formed or not.
 pub fn listings_are_well_placed()

@@ -14,11 +14,11 @@ use crate::row::{Row, Version};
 use crate::text::LONGEST_LINE;
 use std::marker::Model;
 
-/// How far the text of a listing is read that comes in pieces. Nothing of the text is kept but the last row that was
-/// read.
+/// How far the text of a listing has been read, where the text comes in pieces. Of the text only the last row that was
+/// read is kept.
 ///
-/// Each call is passed the next bytes of the text, and whether they are its rest. Where they aren't, they are more than
-/// a line has at most: then what stands at their front holds whatever follows them.
+/// Each call is passed the next bytes of the text, and whether they are its rest. If they aren't, they are more than
+/// [`LONGEST_LINE`](crate::LONGEST_LINE) bytes: then the row at their start doesn't depend on the bytes after them.
 #[derive(Drop)]
 pub struct ListingPieces {
     version: Version,
@@ -27,7 +27,7 @@ pub struct ListingPieces {
     count: usize,
 }
 
-/// Whether a row, if there is one, is the last of a listing.
+/// Whether there is a row and it is the last of a listing, i.e. a verdict.
 fn is_last(row: Option<Row>) -> bool
     ensures { result ≡ ends_listing row }
 {
@@ -46,8 +46,8 @@ impl Model for ListingPieces {
 }
 
 impl ListingPieces {
-    /// Begins behind the header of a text, if it has one, by the first of its bytes, and says how many of them the
-    /// header has.
+    /// Begins after the header of a text, if the text has one. `bytes` are the first bytes of the text. Also returns
+    /// how many of them the header has.
     pub fn begin(bytes: &[u8], is_rest: bool) -> Option<(ListingPieces, usize)>
         requires { is_rest ≡ false → LONGEST_LINE < length bytes.now }
         ensures read { (future : List ℕ) → IfSome result (λ begun. HasRead (bytes.now ++ future) []
@@ -68,15 +68,15 @@ impl ListingPieces {
         Some((pieces, bytes.len() - rest.len()))
     }
 
-    /// The version that the header says.
+    /// The version of the header.
     pub fn version(&self) -> Version
         ensures { result ≡ self.now.version }
     {
         self.version
     }
 
-    /// The row at the front of the next bytes, and how many of them its line has, or none where the listing is whole;
-    /// or the first fault of the text, and what was read stays so.
+    /// The row at the start of `bytes`, and how many of them its line has, or `None` where the listing is whole; or the
+    /// first fault of the text, and `self` is left as it was.
     pub fn next(&mut self, bytes: &[u8], is_rest: bool) -> Result<Option<(Row, usize)>, ListFault>
         requires enough { is_rest ≡ false → LONGEST_LINE < length bytes.now }
         requires countable { self.old.count < 2 ^ 63 }

@@ -1,4 +1,4 @@
-//! Which rows there are, and where they may stand.
+//! Which rows there are, and which may follow which.
 #![tactic(auto)]
 
 ghost use Rattle.std.specs.Prelude.{◌≡◌, ◌==◌};
@@ -9,7 +9,7 @@ ghost use Rattle.vme_listing.specs.Places.{may_follow, ascends};
 use crate::row::{Direction, ListedVerdict, Row, Version};
 use vme_trace::{Class, Lanes, MOST_SLOTS, Space, is_block};
 
-/// Whether cycles of the class have an address, and this code of the address modifier.
+/// Whether cycles of the class have an address, and may have this address modifier code.
 fn has_class(modifier: u8, class: Class) -> bool
     ensures { result ≡ has_class modifier class }
 {
@@ -34,7 +34,7 @@ fn is_address(modifier: u8, address: u32) -> bool
 }
 
 impl ListedVerdict {
-    /// Whether it is one that its form allows.
+    /// Whether the verdict is one that its form allows.
     fn is_outcome(self) -> bool
         ensures { result ≡ is_outcome self }
     {
@@ -91,7 +91,7 @@ fn is_lanes(lanes: Lanes) -> bool
     are_low_digits(lanes) && are_high_digits(lanes)
 }
 
-/// Whether the row of an answered transfer of this direction has this data, or none.
+/// Whether the row of an answered transfer of this direction may have this data, or none.
 fn has_data(version: Version, direction: Direction, lanes: Option<Lanes>) -> bool
     ensures { result ≡ has_data version direction lanes }
 {
@@ -161,8 +161,8 @@ impl Row {
         matches!(self, Row::Verdict(ListedVerdict::NeverIdle))
     }
 
-    /// The first instant and the order of the kind of a row before the verdict; of a start only where the version tells
-    /// resets.
+    /// The place of a row: its first instant, and the number of its kind in the order of the kinds. A verdict has none.
+    /// A start has one only where the version has resets.
     fn place(&self, version: Version) -> Option<(u32, u8)>
         ensures { result ≡ place_of version self.now }
     {
@@ -178,7 +178,7 @@ impl Row {
         }
     }
 
-    /// Whether by its form the row may stand behind the one before, or as the first.
+    /// Whether by its form the row may follow the row `before`, or be the first.
     pub(crate) fn may_follow(&self, before: Option<Row>) -> bool
         ensures { result ≡ may_follow before self.now }
     {
@@ -190,7 +190,8 @@ impl Row {
         }
     }
 
-    /// Whether the row doesn't stand before the one before by its instant and its kind.
+    /// Whether the place of the row is later than that of the row `before`; true where one of them has no place, and
+    /// for the first row.
     pub(crate) fn ascends(&self, version: Version, before: Option<Row>) -> bool
         ensures { result ≡ ascends version before self.now }
     {

@@ -16,7 +16,7 @@ use crate::row_reader::RowReader;
 use memchr::memchr;
 use std::alloc::Global;
 
-/// The version of which the header is at the front of the text, and what follows the header.
+/// The version whose header is at the start of the text, and the bytes after the header.
 pub(crate) fn front_header(text: &[u8]) -> Option<(Version, &[u8])>
     ensures named { IfSome result (λ front. text.now ≡ header front.0 ++ front.1.now) }
     ensures none { result ≡ None → (version : Version) (rest : List ℕ) → text.now ≢ header version ++ rest }
@@ -31,7 +31,7 @@ pub(crate) fn front_header(text: &[u8]) -> Option<(Version, &[u8])>
     Some((Version::Three, rest))
 }
 
-/// The row of the version whose line is at the front of the text, and what follows the line. Nothing may follow a
+/// The row of the version whose line is at the start of the text, and the bytes after the line. Nothing may follow a
 /// verdict.
 pub(crate) fn front_row(version: Version, text: &[u8]) -> Option<(Row, &[u8])>
     ensures named { IfSome result (λ front. (is_row version front.0 ≡ true) × IsFront text.now front.0 front.1.now) }
@@ -47,8 +47,8 @@ pub(crate) fn front_row(version: Version, text: &[u8]) -> Option<(Row, &[u8])>
     Some((row, more))
 }
 
-/// Reads the text of a listing, of the version that its header says. The text is read from the top, and the first
-/// fault is named: the header, a row that isn't written so, may not stand there or is missing, a row out of order, or
+/// Reads the text of a listing, of the version in its header. The text is read from the top, and the first fault is
+/// named: the header; a line that isn't a row, a row that may not be there, or a missing row; a row out of order; or
 /// want of memory.
 pub fn read_listing(alloc: Global, text: &[u8]) -> Result<Listing, ListFault>
     ensures listing { IfOk result (λ l. (is_well_placed l ≡ true) × (text_of l ≡ text.now)) }

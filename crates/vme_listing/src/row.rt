@@ -55,7 +55,7 @@ pub enum AnswerLine {
     Berr,
 }
 
-/// What a listing says of the rules, in its last row.
+/// The verdict of a listing, in its last row.
 #[derive(Clone, Copy, Debug, PartialEq, Eq)]
 pub enum ListedVerdict {
     /// No rule is broken.
@@ -64,12 +64,12 @@ pub enum ListedVerdict {
     NeverIdle,
     /// The rule is the first that is broken, at this instant and on this line.
     Broken(Rule, u32, Line),
-    /// The recording can't be read on: the rule says so, of this instant and this line.
+    /// The recording can't be read on: the rule is broken at this instant and on this line.
     Unreadable(Rule, u32, Line),
 }
 
-/// A row of a listing. Instants are those of the recording: 0 is its opening, and instant i is the step before
-/// which i - 1 others stand. An end or a close is None where it is at no listed instant.
+/// A row of a listing. Instants are those of the recording: 0 is its opening, and instant i is its i-th step. An
+/// end or a close is None where it is at no listed instant.
 #[derive(Clone, Copy, Debug, PartialEq, Eq)]
 pub enum Row {
     /// An idle instant from which on the recording is judged.
@@ -145,7 +145,7 @@ pub enum Row {
         answer: u32,
         /// Where both strobes are high again.
         close: Option<u32>,
-        /// The data of a write, where the version tells them.
+        /// The data of a write, where the version has them.
         lanes: Option<Lanes>,
     },
     /// A transfer that isn't answered at a listed instant.
@@ -155,14 +155,14 @@ pub enum Row {
         /// Its direction.
         direction: Direction,
     },
-    /// What the rules say.
+    /// The verdict.
     Verdict(ListedVerdict),
 }
 
 impl Row {
     ghost use Rattle.vme_listing.specs.Recorded.{row_in, without_data};
 
-    /// The row in a listing of a version: without its data, where the version doesn't tell them.
+    /// The row in a listing of the version: without its data, where the version doesn't have them.
     pub fn in_version(self, version: Version) -> Row
         ensures { result ≡ row_in version self }
     {

@@ -12,7 +12,7 @@ use crate::listing_pieces::ListingPieces;
 use crate::row::{Row, Version};
 use std::marker::Model;
 
-/// The text of a listing behind its header and the rows that were read from its front.
+/// The text of a listing after its header and the rows that have been read.
 #[derive(Drop)]
 pub struct RowReader<'a> {
     pieces: ListingPieces,
@@ -32,7 +32,7 @@ impl<'a> Model for RowReader<'a> {
 }
 
 impl<'a> RowReader<'a> {
-    /// Behind the header of a text, if it has one.
+    /// A reader at the first row after the header of the text, if the text has a header.
     pub fn of(text: &'a [u8]) -> Option<RowReader<'a>>
         ensures read { IfSome result (λ reader. HasRead text.now [] reader) }
         ensures fault { result ≡ None → IsFirstFault text.now BadHeader }
@@ -45,14 +45,14 @@ impl<'a> RowReader<'a> {
         })
     }
 
-    /// The version that the header says.
+    /// The version of the header.
     pub fn version(&self) -> Version
         ensures { result ≡ self.now.version }
     {
         self.pieces.version()
     }
 
-    /// The next row, or none where the listing is whole; or the first fault of the text, and the reader is left as it
+    /// The next row, or `None` where the listing is whole; or the first fault of the text, and the reader is left as it
     /// was.
     pub fn next(&mut self) -> Result<Option<Row>, ListFault>
         ensures row { (text : List ℕ) (rows : List Row) → HasRead text rows self.old

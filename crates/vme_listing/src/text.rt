@@ -16,7 +16,7 @@ use vme_trace::{Class, Lanes, Line, Rule, Space};
 /// How many bytes a line of a listing has at most, its line feed too.
 pub const LONGEST_LINE: usize = 96;
 
-/// How many bytes are held together at most.
+/// How many bytes the buffer holds at most.
 pub(crate) const MOST: usize = 4096;
 
 impl Version {
@@ -72,7 +72,7 @@ impl RowBuffer {
         self.len = 0;
     }
 
-    /// Whether there is room for one more line.
+    /// Whether the buffer has room for one more line.
     pub(crate) fn has_room(&self) -> bool
         ensures { IsTrue result ↔ (length self.now + LONGEST_LINE < MOST) }
     {
@@ -439,7 +439,7 @@ fn lane_digit(is_moved: bool, digit: u32, flag: u8) -> u8
     }
 }
 
-/// The data of a write as a listing tells them, a character for four lines each, D31 to D28 first: `-` where they
+/// The data of a write as a listing has them, a character for four lines each, D31 to D28 first: `-` where they
 /// aren't moved, `X` where one of them is unknown, else a hexadecimal digit.
 #[tactic(auto, unfolding(crate::specs::RowText::lanes_text))]
 pub fn data_digits(lanes: Lanes) -> [u8; 8]

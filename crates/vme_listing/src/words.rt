@@ -1,4 +1,5 @@
-//! The data of a write that the eight bytes of its text are, if they are its text.
+//! The data of a write from the eight bytes of its text. Whether they are such a text isn't checked
+//! here.
 #![tactic(auto)]
 
 ghost use Rattle.std.specs.Prelude.{◌≡◌, ◌+◌, ◌*◌, ◌%◌, ◌^◌, ◌<◌};
@@ -18,7 +19,7 @@ fn digit(byte: u8) -> u8
     }
 }
 
-/// The number that a word is in a base, by 32 bits. A word that is none counts as some number.
+/// The number that `word` is in base `base`, modulo 2^32. Every word gives some number.
 fn number(base: u32, word: &[u8]) -> u32
     ensures { result ≡ number_of base word.now }
 {
@@ -39,7 +40,7 @@ fn flag(byte: u8) -> u8
     u8::from(byte == b'X')
 }
 
-/// A bit for each byte of a word, 1 for an X, the last that of 1: by 8 bits.
+/// A bit for each byte of `word`, 1 for an X; bit 0 is that of the last byte. Only the last eight bytes count.
 fn flags(word: &[u8]) -> u8
     ensures { result ≡ flags_of word.now }
 {
@@ -50,7 +51,7 @@ fn flags(word: &[u8]) -> u8
     flags
 }
 
-/// Whether the word has a byte at a place, and no hyphen there.
+/// Whether `word` has a byte at `place`, and it isn't a hyphen.
 fn is_shown(word: &[u8], place: usize) -> bool
     ensures { result ≡ is_shown word.now place }
 {
@@ -60,7 +61,7 @@ fn is_shown(word: &[u8], place: usize) -> bool
     }
 }
 
-/// The bytes of the data bus that the digits of a word show.
+/// Which bytes of the data bus are moved, by where `word` has hyphens.
 #[tactic(auto, unfolding(crate::specs::Words::moved_of))]
 fn moved(word: &[u8]) -> MovedBytes
     ensures { result ≡ moved_of word.now }
@@ -80,7 +81,7 @@ fn moved(word: &[u8]) -> MovedBytes
     }
 }
 
-/// The data whose text a word is, if it is the text of some: a word that is none counts as some data.
+/// The data whose text `word` is. A word that isn't the text of data gives some data, too.
 pub(crate) fn lanes_word(word: &[u8]) -> Lanes
     ensures { result ≡ lanes_of word.now }
 {

@@ -14,7 +14,7 @@ use vme_trace::Sink;
 #[derive(Clone, Copy, Debug, PartialEq, Eq)]
 pub struct Write;
 
-/// Writes all of the bytes, or a front of them up to a write that fails.
+/// Writes all of `bytes`, or a prefix of them up to a write that fails.
 fn put<W: Sink>(sink: &mut W, bytes: &[u8]) -> Result<(), Write>
     ensures whole { OnOk result (Appends (W.writing sink.old).taken (W.writing sink.new).taken bytes.now) }
     ensures front { OnErr result (AppendsFront (W.writing sink.old).taken (W.writing sink.new).taken bytes.now) }
@@ -30,7 +30,7 @@ fn put<W: Sink>(sink: &mut W, bytes: &[u8]) -> Result<(), Write>
     Ok(())
 }
 
-/// Makes room for one more line: the lines that are held are written, where there is none.
+/// Makes room for one more line in `held`: if there is none, what `held` has is written.
 fn make_room<W: Sink>(sink: &mut W, held: &mut RowBuffer) -> Result<(), Write>
     ensures room { OnOk result (length held.new + LONGEST_LINE < MOST) }
     ensures moves { OnOk result (Moves (W.writing sink.old).taken (W.writing sink.new).taken held.old held.new) }
@@ -45,7 +45,7 @@ fn make_room<W: Sink>(sink: &mut W, held: &mut RowBuffer) -> Result<(), Write>
 }
 
 /// Writes the text of a listing: a header, by its version, and a line for each row. It is written in pieces of up to
-/// 4,096 bytes, and takes no memory. After an error a front of the text is written.
+/// 4,096 bytes, and takes no memory. After an error a prefix of the text is written.
 pub fn write_listing<W: Sink>(listing: &Listing, sink: &mut W) -> Result<(), Write>
     ensures whole { OnOk result (Appends (W.writing sink.old).taken (W.writing sink.new).taken (text_of listing.now)) }
     ensures front { OnErr result

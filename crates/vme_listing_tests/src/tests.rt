@@ -5,7 +5,7 @@ use vme_listing::{
 };
 use vme_trace::{Class, Failed, Lanes, Line, MovedBytes, Rule, Sink};
 
-/// A sink that takes at most 50 bytes a write, and none once it has so many.
+/// A sink that takes at most 50 bytes a write, and none once it has `most` bytes or more.
 #[derive(Drop)]
 struct Page {
     bytes: Vec<u8>,
@@ -31,7 +31,7 @@ impl Sink for Page {
     }
 }
 
-/// A sink of that size.
+/// A sink that takes no more bytes once it has `most`.
 fn empty_page(alloc: Global, most: usize) -> Page {
     Page {
         bytes: Vec::new(alloc),
@@ -40,7 +40,7 @@ fn empty_page(alloc: Global, most: usize) -> Page {
     }
 }
 
-/// Whether a listing is written as a header and a text.
+/// Whether the listing is written as `header` and then `text`.
 fn is_written_as(alloc: Global, listing: &Listing, header: &[u8], text: &[u8]) -> bool {
     let mut page = empty_page(alloc, 10000);
     write_listing(listing, &mut page).is_ok()
@@ -53,7 +53,7 @@ fn listing_of(alloc: Global, version: Version, rows: &[Row]) -> Result<Listing, 
     Ok(Listing::new(version, Vec::from_slice(alloc, rows)?))
 }
 
-/// Whether the rows of a version are written as this header and this text.
+/// Whether the rows in the version are written as `header` and then `text`.
 fn is_text_of(alloc: Global, version: Version, rows: &[Row], header: &[u8], text: &[u8]) -> bool {
     match listing_of(alloc, version, rows) {
         Ok(listing) => is_written_as(alloc, &listing, header, text),
@@ -61,7 +61,7 @@ fn is_text_of(alloc: Global, version: Version, rows: &[Row], header: &[u8], text
     }
 }
 
-/// The same of version 1.
+/// Whether the rows in version 1 are written as its header and then `text`.
 fn is_text(alloc: Global, rows: &[Row], text: &[u8]) -> bool {
     is_text_of(alloc, Version::One, rows, b"vmecheck listing 1\n", text)
 }
@@ -101,7 +101,7 @@ fn transfer(start: u32, cycle: u32, direction: Direction, answer: u32, close: u3
     }
 }
 
-/// A write with its data.
+/// The row of a write with its data.
 fn write_of(start: u32, lanes: Lanes) -> Row {
     Row::Transfer {
         start,
@@ -114,7 +114,7 @@ fn write_of(start: u32, lanes: Lanes) -> Row {
     }
 }
 
-/// The lines that a write moves.
+/// The data of a write.
 fn lanes(moved: MovedBytes, value: u32, unknown: u8) -> Lanes {
     Lanes {
         moved,
@@ -297,7 +297,7 @@ fn resets(rt: HostRuntime) {
     assert!(rt; is_reset_written(rt.alloc()));
 }
 
-/// The rows of a listing of version 3 in each version: without data in version 1 alone.
+/// Whether the row of a listing of version 3 is the same in versions 1, 2 and 3.
 fn is_told_with_data(row: &Row) -> (bool, bool, bool) {
     (
         row.in_version(Version::One) == *row,
@@ -306,7 +306,7 @@ fn is_told_with_data(row: &Row) -> (bool, bool, bool) {
     )
 }
 
-/// Whether a version tells data, and resets.
+/// Whether a version has data, and resets.
 fn is_told_by(version: Version) -> (bool, bool) {
     (version.tells_data(), version.tells_resets())
 }
@@ -362,14 +362,14 @@ fn is_whole(page: &Page) -> bool {
         )
 }
 
-/// Whether a page has a front of another, behind which a write failed.
+/// Whether `part` has a prefix of the bytes of `whole`, after which a write failed.
 fn is_front_of(part: &Page, whole: &Page) -> bool {
     part.failures == 1
         && part.bytes.len() < 4300
         && whole.bytes.as_slice().starts_with(part.bytes.as_slice())
 }
 
-/// Whether a listing of a hundred rows goes out whole, and a front of it where a write fails.
+/// Whether a listing of a hundred rows is written whole, and a prefix of it where a write fails.
 fn goes_out(alloc: Global, listing: &Listing) -> bool {
     let mut whole = empty_page(alloc, 10000);
     let mut part = empty_page(alloc, 4200);
@@ -379,7 +379,7 @@ fn goes_out(alloc: Global, listing: &Listing) -> bool {
         && is_front_of(&part, &whole)
 }
 
-/// Whether one of these rows does.
+/// Whether a listing of these rows is written whole, and a prefix of it where a write fails.
 fn go_out(alloc: Global, rows: &[Row]) -> bool {
     match listing_of(alloc, Version::One, rows) {
         Ok(listing) => goes_out(alloc, &listing),
@@ -387,7 +387,7 @@ fn go_out(alloc: Global, rows: &[Row]) -> bool {
     }
 }
 
-/// A write that fails ends it, and a front of the text is out. A listing of over 4,096 bytes goes out whole.
+/// A listing of over 4,096 bytes is written whole. A write that fails ends the writing, with a prefix of the text out.
 #[test]
 fn pieces(rt: HostRuntime) {
     let rows = [transfer(
@@ -419,7 +419,7 @@ const WORKED_RESET: &[u8] =
     b"vmecheck listing 3\nstart 1\ntenure 5 level 3 slot 2 end -\ncycle 9 S 39 FFFFDE end -\n\
         transfer 10 read pending\nreset 11\nstart 13\nverdict conforming\n";
 
-/// What a text reads as. Where memory is short once, it is read again.
+/// The result of reading a text. Where memory is short once, it is read again.
 fn read(alloc: Global, text: &[u8]) -> Result<Listing, ListFault> {
     match read_listing(alloc, text) {
         Err(ListFault::Memory) => read_listing(alloc, text),
@@ -458,7 +458,7 @@ fn read_back(rt: HostRuntime) {
     }
 }
 
-/// Whether a text is a listing with this row at a place.
+/// Whether a text is a listing with the row `row` at `place`, from 0.
 fn has_row(alloc: Global, text: &[u8], place: usize, row: &Row) -> bool {
     match read(alloc, text) {
         Ok(listing) => listing.rows().get(place) == Some(row),
@@ -481,7 +481,7 @@ fn read_data(rt: HostRuntime) {
     assert!(rt; has_row(rt.alloc(), WORKED_WRITES, 5, &row));
 }
 
-/// Rows behind the header of version 3 that may stand there.
+/// Rows that may follow the header of version 3.
 static GOOD_RESETS: [&[u8]; 9] = [
     b"start 1\nverdict conforming\n",
     b"start 1\nreset 2\nverdict conforming\n",
@@ -495,9 +495,9 @@ static GOOD_RESETS: [&[u8]; 9] = [
     b"start 0\nverdict unreadable U1 11 SYSRESET\n",
 ];
 
-/// Rows behind the header of version 3 of which one may not stand there, and the fault.
+/// Rows after the header of version 3, one of which may not be there, and the fault.
 static BAD_RESETS: [(&[u8], ListFault); 21] = [
-    // A reset that nothing goes before, or with neither a start nor a verdict behind it.
+    // A reset with nothing before it, or with neither a start nor a verdict after it.
     (b"reset 1\n", ListFault::BadRow { row: 1 }),
     (
         b"start 1\nreset 2\nreset 3\nverdict conforming\n",
@@ -516,7 +516,7 @@ static BAD_RESETS: [(&[u8], ListFault); 21] = [
         ListFault::BadRow { row: 3 },
     ),
     (b"start 1\nreset 2\n", ListFault::BadRow { row: 3 }),
-    // A later start that stands behind no reset.
+    // A later start that doesn't follow a reset.
     (
         b"start 1\nstart 2\nverdict conforming\n",
         ListFault::BadRow { row: 2 },
@@ -555,7 +555,7 @@ static BAD_RESETS: [(&[u8], ListFault); 21] = [
         b"start 1\nreset 11\nstart 13\ncycle 12 F 1F end -\nverdict conforming\n",
         ListFault::Unsorted { row: 4 },
     ),
-    // At one row both.
+    // A row that may not be there, and that is out of order, too.
     (
         b"start 5\nstart 3\nverdict conforming\n",
         ListFault::BadRow { row: 2 },
@@ -581,7 +581,7 @@ fn text_of(alloc: Global, header: &[u8], rows: &[u8]) -> Result<Vec<u8>, AllocEr
     Ok(text)
 }
 
-/// Whether rows behind a header have this fault, or none.
+/// Whether rows after a header have the fault `fault`, or no fault where it is `None`.
 fn has_fault(alloc: Global, header: &[u8], rows: &[u8], fault: Option<ListFault>) -> bool {
     match text_of(alloc, header, rows) {
         Ok(text) => fault_of(alloc, &text) == fault,
@@ -589,7 +589,7 @@ fn has_fault(alloc: Global, header: &[u8], rows: &[u8], fault: Option<ListFault>
     }
 }
 
-/// Whether rows behind a header are a listing of a version, and written back as the same bytes.
+/// Whether rows after a header are a listing of the version, and written back as the same bytes.
 fn are_read_back(alloc: Global, header: &[u8], rows: &[u8], version: Version) -> bool {
     match text_of(alloc, header, rows) {
         Ok(text) => is_read_back(alloc, &text, version),
@@ -600,7 +600,7 @@ fn are_read_back(alloc: Global, header: &[u8], rows: &[u8], version: Version) ->
 /// The header of version 3.
 const THIRD: &[u8] = b"vmecheck listing 3\n";
 
-/// Rows of version 3, and where they stand.
+/// Rows of version 3 in right and in wrong places.
 #[test]
 fn placed_resets(rt: HostRuntime) {
     for rows in GOOD_RESETS.iter() {
@@ -611,7 +611,7 @@ fn placed_resets(rt: HostRuntime) {
     }
 }
 
-/// The headers of the versions before.
+/// The headers of versions 1 and 2.
 static OLDER: [&[u8]; 2] = [b"vmecheck listing 1\n", b"vmecheck listing 2\n"];
 
 /// Versions 1 and 2 have no resets and compare nothing with a start, and any version may name SYSRESET*.
@@ -692,7 +692,7 @@ fn faults(rt: HostRuntime) {
     assert!(rt; fault_of(rt.alloc(), open) == Some(ListFault::BadRow { row: 5 }));
 }
 
-/// Lines that are no row behind `start 1`.
+/// Lines that are no row after `start 1`.
 static BAD_LINES: [&[u8]; 26] = [
     b"",
     b"start 2",
@@ -722,14 +722,14 @@ static BAD_LINES: [&[u8]; 26] = [
     b"transfer 10 read",
 ];
 
-/// A line behind a front, and a verdict.
+/// `front`, the line, and a verdict.
 fn with_line(alloc: Global, front: &[u8], line: &[u8]) -> Result<Vec<u8>, AllocError> {
     let mut text = text_of(alloc, front, line)?;
     text.extend_from_slice(b"\nverdict conforming\n")?;
     Ok(text)
 }
 
-/// Whether a line behind a front of one row is none.
+/// Whether a line after `front`, which has one row, is no row.
 fn is_bad_line(alloc: Global, front: &[u8], line: &[u8]) -> bool {
     match with_line(alloc, front, line) {
         Ok(text) => fault_of(alloc, &text) == Some(ListFault::BadRow { row: 2 }),
@@ -751,7 +751,7 @@ static STARTED: [&[u8]; 3] = [
     b"vmecheck listing 3\nstart 1\n",
 ];
 
-/// Verdicts that may stand last.
+/// Verdicts that may be the last row.
 static GOOD_VERDICTS: [&[u8]; 6] = [
     b"verdict conforming\n",
     b"verdict broken H4 10 D31\n",
@@ -761,7 +761,7 @@ static GOOD_VERDICTS: [&[u8]; 6] = [
     b"verdict unreadable U4 10 D00\n",
 ];
 
-/// Lines that are no verdict, and stand last.
+/// Lines that are no verdict, as the last row.
 static BAD_VERDICTS: [&[u8]; 15] = [
     b"verdict never-idle\n",
     b"verdict broken U1 10 AS\n",
@@ -804,7 +804,7 @@ static ONE_PLACE: [&[u8]; 6] = [
     b"transfer 5 of 5 read DTACK 6 close 7\ntransfer 5 read pending\n",
 ];
 
-/// Rows that may stand behind `start 1` in each version: of each kind, at one instant and at later ones.
+/// Rows that may follow `start 1` in each version: of each kind, at one instant and at later ones.
 static GOOD_ROWS: [&[u8]; 9] = [
     b"tenure 1 open end 4294967295\ncycle 5 K 3B FFFFDE end 12\nverdict conforming\n",
     b"tenure 5 level 0 slot 1 end -\ntenure 6 level 3 slot 21 end 7\nverdict conforming\n",
@@ -848,7 +848,8 @@ static WRITES: [(&[u8], bool); 2] = [
     ),
 ];
 
-/// Whether rows behind the header of a version and a start are a listing, or else the second row is at fault.
+/// Whether rows after the header of a version and a start are a listing, if `is_row`; if not, whether the second row is
+/// at fault.
 fn is_row_in(alloc: Global, version: usize, rows: &[u8], is_row: bool) -> bool {
     let fault = if is_row {
         None
@@ -858,7 +859,7 @@ fn is_row_in(alloc: Global, version: usize, rows: &[u8], is_row: bool) -> bool {
     has_fault(alloc, STARTED[version % 3], rows, fault)
 }
 
-/// The row of an answered write in each version, and the fault that it is there.
+/// The row of an answered write with and without data: a row in some versions, and a fault in the others.
 #[test]
 fn writes_of_versions(rt: HostRuntime) {
     for (rows, is_first) in WRITES.iter() {
@@ -868,7 +869,7 @@ fn writes_of_versions(rt: HostRuntime) {
     }
 }
 
-/// Lines that are no row behind `start 1` in a version that tells data.
+/// Lines that are no row after `start 1` in a version that has data.
 static BAD_WRITES: [&[u8]; 19] = [
     b"transfer 10 of 9 write DTACK 11 close 12",
     b"transfer 10 of 9 write DTACK 11 close 12 data",
@@ -902,7 +903,7 @@ fn bad_writes(rt: HostRuntime) {
 /// The worked listings.
 static ALL_WORKED: [&[u8]; 3] = [WORKED, WORKED_WRITES, WORKED_RESET];
 
-/// Whether each front of a listing has a fault in its text, or is the listing.
+/// Whether each prefix of a listing's text has a fault, unless it is the whole text.
 fn have_fronts_faults(alloc: Global, text: &[u8]) -> bool {
     let mut same = true;
     for end in 0..=text.len() {
@@ -912,7 +913,7 @@ fn have_fronts_faults(alloc: Global, text: &[u8]) -> bool {
     same
 }
 
-/// Each front of a listing has a fault in its text, or is the listing.
+/// Each prefix of a listing's text has a fault, unless it is the whole text.
 #[test]
 fn fronts(rt: HostRuntime) {
     for text in ALL_WORKED.iter() {
@@ -920,7 +921,7 @@ fn fronts(rt: HostRuntime) {
     }
 }
 
-/// Whether the rows of a text are read one by one, each as long as it may stand there; then nothing is read any more.
+/// Whether the rows of a text are read one by one, and nothing after the verdict.
 fn are_rows_read(mut reader: RowReader<'_>) -> bool {
     reader.version() == Version::Two
         && reader.next() == Ok(Some(START))
@@ -930,7 +931,7 @@ fn are_rows_read(mut reader: RowReader<'_>) -> bool {
         && reader.next() == Ok(None)
 }
 
-/// Whether only version 3 tells resets, and a fault stays.
+/// Whether the row after a start is a fault, which the next call gives again.
 fn is_fault_read(mut reader: RowReader<'_>) -> bool {
     reader.next() == Ok(Some(START))
         && reader.next() == Err(ListFault::BadRow { row: 2 })

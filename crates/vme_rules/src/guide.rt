@@ -9,7 +9,7 @@ use vme_trace::Rule;
 pub struct Guide {
     /// The rule.
     pub rule: Rule,
-    /// Where it is broken.
+    /// In which case it is broken.
     pub sentence: &'static str,
     /// The line that a break names.
     pub line: &'static str,

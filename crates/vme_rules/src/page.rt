@@ -5,7 +5,7 @@ use std::alloc::{AllocError, Global};
 use vme_text::Text;
 use vme_trace::Rule;
 
-/// Appends what a rule asks, five lines. Without memory the text ends somewhere in them.
+/// Appends the guide of a rule, four lines. Without memory the text ends somewhere in them.
 pub fn push_rule(text: &mut Text, rule: Rule) -> Result<(), AllocError> {
     let told = Guide::of(rule);
     push_row(text, rule.name().as_bytes(), told.sentence.as_bytes())?;
@@ -14,7 +14,7 @@ pub fn push_rule(text: &mut Text, rule: Rule) -> Result<(), AllocError> {
     push_row(text, b"  usually", told.causes.as_bytes())
 }
 
-/// A name, and behind a colon what it is.
+/// Appends one line: the name, a colon and the value.
 fn push_row(text: &mut Text, name: &[u8], value: &[u8]) -> Result<(), AllocError> {
     text.push(name)?;
     text.push(b": ")?;
@@ -22,7 +22,7 @@ fn push_row(text: &mut Text, name: &[u8], value: &[u8]) -> Result<(), AllocError
     text.push(b"\n")
 }
 
-/// What one rule asks, or what each does, in their order.
+/// The guide of the rule `only`, or without it the guides of all rules, in their order.
 pub fn rules_text(alloc: Global, only: Option<Rule>) -> Result<Text, AllocError> {
     let mut text = Text::new(alloc);
     match only {

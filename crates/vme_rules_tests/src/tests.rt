@@ -3,7 +3,7 @@ use vme_rules::{Guide, rules_text};
 use vme_text::Text;
 use vme_trace::{RULE_COUNT, Rule};
 
-/// What is told of a rule, as the page of the protocol has it.
+/// The guide of rule B3 as text, as docs/PROTOCOL.md has it.
 const OF_B3: &str = "B3: AS falls and BBSY isn't Low near
   line: AS
   section: chapter 2, Data Transfer Bus
@@ -11,7 +11,7 @@ const OF_B3: &str = "B3: AS falls and BBSY isn't Low near
 bound to 1
 ";
 
-/// Whether this text was made.
+/// Whether `text` was made.
 pub(crate) fn is_text(made: Result<Text, AllocError>, text: &[u8]) -> bool {
     match made {
         Ok(made) => made.as_bytes() == text,
@@ -35,7 +35,7 @@ fn count_lines(text: &[u8]) -> usize {
     count
 }
 
-/// How many lines the text of all rules has, which begins with the first one.
+/// How many lines the text of all rules has, if it begins with the first rule.
 fn count_all_lines(alloc: Global) -> Option<usize> {
     match rules_text(alloc, None) {
         Ok(text) => {

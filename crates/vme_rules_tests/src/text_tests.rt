@@ -9,7 +9,7 @@ fn push_all(alloc: Global, text: &mut Text) -> Result<(), AllocError> {
     text.push_decimal(alloc, 120)
 }
 
-/// Whether they make a text.
+/// Whether bytes, spaces and a number make a text.
 fn is_grown(alloc: Global) -> bool {
     let mut text = Text::new(alloc);
     push_all(alloc, &mut text).is_ok() && text.as_bytes() == b"at  120".as_slice()
@@ -24,7 +24,7 @@ fn a_text_grows(rt: HostRuntime) {
 /// turns the direction of a line.
 const BYTES: &[u8] = b"\x1F ~\x7F\x80\xFF\x00\x1B[31m\n\t\\\xE2\x80\xAE";
 
-/// Whether they are shown so behind a text.
+/// Whether `BYTES`, appended to a text, are shown as `shown`.
 fn are_shown(alloc: Global, shown: &[u8]) -> bool {
     let mut text = Text::new(alloc);
     text.push(b"as ").is_ok()
@@ -62,7 +62,7 @@ fn are_lines_shown_or_refused(alloc: Global) -> bool {
     }
 }
 
-/// The text with what is shown, or as it was, for want of memory.
+/// A text has what is shown appended, or is as it was where memory is refused.
 #[test]
 fn each_growth_fails_once(rt: HostRuntime) {
     assert!(rt; is_shown_or_as_before(rt.alloc()));

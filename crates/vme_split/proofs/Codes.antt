@@ -1,4 +1,4 @@
--- What the rows of cycles tell of the modifier and address lines.
+-- The modifier codes and addresses in the rows of cycles, and the levels of their lines.
 use Rattle.std.proofs.Common.{◌≡◌, ◌≢◌, ◌⊎◌, ℕ, zero, suc, ◌+◌, ◌*◌, ◌/◌, ◌%◌, ◌^◌, ◌<◌, ◌≤◌, Bool, true, false, ◌&&◌}
 use Rattle.std.proofs.Common.{not, if◌then◌else◌, refl, sym, ◌∙◌, ap, arith, subst, inl, inr, All}
 use Rattle.std.specs.Prelude.{Option, None, Some, ◌==◌}
@@ -31,6 +31,7 @@ use Rattle.vme_split.proofs.EachRow.{all_before, all_tenure, all_cycle_of, all_t
 
 -- ---- a number by its bits
 
+-- the number of n bits whose bit k is 1 where p holds of k
 abbrev value : (ℕ → Bool) → ℕ → ℕ
 value p zero = 0
 value p (suc n) = (if p 0 then 1 else 0) + 2 * value (λ i. p (suc i)) n
@@ -71,7 +72,7 @@ one_more : (b : Bool) → (if b then 1 else 0) + 2 * 0 ≡ 0 + (if b then 2 ^ 0 
 one_more true = refl
 one_more false = refl
 
--- one bit more, at the top
+-- the value of n + 1 bits is that of the lower n bits, and the weight of bit n where it is set
 extended : (p : ℕ → Bool) (n : ℕ) → value p (suc n) ≡ value p n + (if p n then 2 ^ n else 0)
 extended p zero = one_more (p 0)
 extended p (suc n) =
@@ -115,7 +116,7 @@ shown_bit High k bit e = inl (e, refl)
 shown_bit Low k bit e = inr (e, refl)
 shown_bit Unknown k bit e = absurd (cc)
 
--- lines that are known show their number
+-- known lines show the number of their levels
 shown : (t : Trace) (i : ℕ) (line : ℕ → ℕ) (count : ℕ) → ((n : ℕ) → n < count → known t (line n) i ≡ true)
     → ShowNumber t line count i (value (λ n. is_high_on (levels_at t i) (line n)) count)
 unfolding low high known
@@ -297,7 +298,7 @@ module _ (t : Trace) (span : Stretch) (end : ℕ) (most : end ≤ span.end) (unb
     code_of_cycle class.F of = code_of_free (levels_at t i) (whole_code of) of
     code_of_cycle class.I of = tt
 
-  -- what holds of the rows of cycles, and asks nothing of others
+  -- P holds of all rows, where it holds of the rows of cycles, and of each row of another kind
   of_cycles : (P : Row → Type 0) → ((i : ℕ) → i < end → cycle_starts t span i ≡ true
       → P (cycle_row i (levels_at t i) (least (rises t AS) (i + 1) end) (class_of (levels_at t i))))
       → ((i : ℕ) (e : Option ℕ) → P (OpenTenure i e)) → ((i level slot : ℕ) (e : Option ℕ) → P (Tenure i level slot e))

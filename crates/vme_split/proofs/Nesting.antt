@@ -1,4 +1,4 @@
--- What is listed is as the rules ask for it.
+-- What is listed keeps the rules.
 use Rattle.std.proofs.Common.{lit<, ◌≡◌, ◌≢◌, ℕ, zero, suc, ◌+◌, ◌-◌, ◌<◌, ◌≤◌, Bool, true, false, ◌&&◌, ◌||◌, not}
 use Rattle.std.proofs.Common.{cond, if◌then◌else◌, refl, sym, ◌∙◌, ap, arith, subst, List, [], ◌∷◌, ◌++◌, map, flat_map}
 use Rattle.std.proofs.Common.{inl, inr, ◌⊎◌, All, Contains}
@@ -51,7 +51,7 @@ greatest-below p first (suc n) i e = chosen (nat_le first n && p n) (λ h. great
     chosen true before h = let same : n ≡ i = cc in omega arith
     chosen false before h = omega (arith, before h)
 
--- the slot of a tenure is one of the backplane or the one past the last
+-- the slot of a tenure is one of the backplane, or one more than the last
 slot_within : (t : Trace) (i slot : ℕ) → tenure_slot t i ≡ Some slot → (1 ≤ slot) × (slot ≤ t.opening.slots + 1)
 unfolding tenure_slot
 slot_within t i slot e = by_level (tenure_level t i) e
@@ -75,7 +75,7 @@ level_within t i level e = (least-found (λ n. low t (grant n 0) (taken_grant t 
 unequal : (m n : ℕ) → (m == n) ≡ false → m ≢ n
 unequal m n h = grind (arith, nat_tests)
 
--- near an instant, where a line is low
+-- where line l is low near r, it is low at an instant k: r or the one before
 line_near : (t : Trace) (l s r : ℕ) → s < r → near (low t l) r ≡ true → (k : ℕ) × (s ≤ k) × (k ≤ r) × (r ≤ k + 1)
     × (low t l k ≡ true)
 line_near t l s r after h = by (bool_cases (low t l r))
@@ -136,7 +136,7 @@ module _ (t : Trace) (span : Stretch) (is : IsSpanOf t span) (end : ℕ) (within
       in_transfer_row i None = tt
       in_transfer_row i (Some r) = in_answered i r (cycle_of t span r)
 
-  -- the nets of its level are low as far as its slot
+  -- the nets of a tenure's level are low up to its slot, at the instant whose grant it takes
   grant_there : (i : ℕ) → i < end → tenure_starts t span i ≡ true → (level slot : ℕ) (e : Option ℕ) → tenure_level t i
       ≡ Some level → tenure_slot t i ≡ Some slot → TellsGrant t (row.Tenure i level slot e)
   unfolding tenure_slot has_reached taken_grant
@@ -352,7 +352,7 @@ module _ (t : Trace) (span : Stretch) (is : IsSpanOf t span) (end : ℕ) (within
         first_part true b h = refl
         first_part false b h = absurd (cc)
 
-    -- none of the instants in between has both strobes high
+    -- at no instant between the transfer's start and its answer are both strobes high
     still : (m : ℕ) → i < m → m < r → strobes_high t m ≡ false
     unfolding lasts
     still m a b = any-fails (strobes_high t) (i + 1) r m (last_part (nat_le i r) (is_judged span r)
@@ -386,7 +386,7 @@ module _ (t : Trace) (span : Stretch) (is : IsSpanOf t span) (end : ℕ) (within
     cover : CycleCovers t span is end within most there.0
     cover = cycle_there t span is end within most there.0 there.1 (omega (arith, there.2, found.below)) there.4
 
-    -- no cycle starts later
+    -- no cycle starts after the covering one, up to r
     none_later : (k : ℕ) → cover.first < k → k < r + 1 → cycle_starts t span k ≡ false
     none_later k a b =
         let back : k ≡ (k - 1) + 1 = omega (arith, a) in
@@ -421,7 +421,7 @@ module _ (t : Trace) (span : Stretch) (is : IsSpanOf t span) (end : ℕ) (within
           ),
         )
 
-  -- the address strobe doesn't rise in a transfer that isn't answered yet
+  -- the address strobe doesn't rise in a transfer that isn't answered yet at j
   awaited : (i j : ℕ) → transfer_starts t span i ≡ true → i < j → j < end → lasts t span i j ≡ true
       → any (reply_at t span i) i (j + 1) ≡ false → rises t AS j ≡ false
   unfolding is_broken

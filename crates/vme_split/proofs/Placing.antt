@@ -1,4 +1,4 @@
--- Of intervals in turn one covers an instant at most, so an answer tells its transfer and its cycle.
+-- Of intervals in turn at most one covers an instant, so an answer determines its transfer and its cycle.
 use Rattle.std.proofs.Common.{◌≡◌, ℕ, zero, suc, ◌+◌, ◌<◌, ◌≤◌, refl, sym, ◌∙◌, ap, ap₂, subst, arith, List, [], ◌∷◌}
 use Rattle.std.proofs.Common.{◌++◌, map, flat_map, Contains, inl, inr, ◌⊎◌}
 use Rattle.std.specs.Prelude.{Option, None, Some, MatchOption, IfSome}
@@ -38,9 +38,11 @@ in_flat g (z ∷ xs) x y c d = elim (first_or_later z xs x c) [
 
 -- ---- intervals in turn
 
+-- the intervals xs may follow in turn an interval that starts at s and ends at o
 abbrev Follow : ℕ → Option ℕ → List Interval → Type 0
 Follow s o xs = MatchOption o (xs ≡ []) (λ e. (s < e) × AreInTurn (e + 1) xs)
 
+-- each of the intervals xs starts at s or later, where they follow an interval that starts at s
 after : (s : ℕ) (o : Option ℕ) (xs : List Interval) (a : Interval) → Follow s o xs → Contains xs a
     → ((m : ℕ) → AreInTurn m xs → m ≤ a.start) → s ≤ a.start
 after s None xs a none c rest = absurd (none_in a (subst (λ l. Contains l a) none c))
@@ -54,7 +56,7 @@ from_first n (x ∷ xs) a turn c = elim (first_or_later x xs a c) [
       omega (arith, behind, turn.0)
 ]
 
--- the intervals behind one that covers an instant start later
+-- where an interval covers instant i, the intervals after it start later than i
 not_behind : (s i : ℕ) (o : Option ℕ) (xs : List Interval) (a : Interval) → Follow s o xs → IfSome o (λ e. i ≤ e)
     → Contains xs a → a.start ≤ i → ⊥
 not_behind s i None xs a none covers c begun = none_in a (subst (λ l. Contains l a) none c)
@@ -85,7 +87,7 @@ one_covers n i (x ∷ xs) a b turn c d covers also = elim (first_or_later x xs a
 
 -- ---- answered transfers
 
--- one of the transfers starts where it says, one of the cycles is the one that it names, and both cover the answer
+-- one of the transfers starts at `x.start`, one of the cycles starts at `x.cycle`, and both cover `x.answer`
 abbrev pub IsPlaced : List Interval → List Interval → AnsweredTransfer → Type 0
 IsPlaced transfers cycles x =
     ((close : Option ℕ) × Contains transfers (interval x.start close) × Covers (interval x.start close) x.answer)
@@ -201,7 +203,7 @@ module _ (all : List Row) (cycles : List Interval) (kept : (r : Row) → Contain
         → IsPlaced (flat_map transfer_in all) cycles x
     placed_berr x c = placed_by answered_by_berr by_berr all (λ r d. d) x c
 
--- the answers of the transfers that are told as answered by a line, are those of the line
+-- where `told` gives the answered transfers of a row and `f` their answers, so they do of a list of rows
 answers_of : (told : Row → List AnsweredTransfer) (f : Row → List ℕ)
     → ((r : Row) → map (λ (x : AnsweredTransfer). x.answer) (told r) ≡ f r) → (rows : List Row)
     → map (λ (x : AnsweredTransfer). x.answer) (flat_map told rows) ≡ flat_map f rows

@@ -1,4 +1,4 @@
--- Rows of one cycle, and of one transfer, tell the same.
+-- Rows of the same cycle agree, and so do rows of the same transfer.
 use Rattle.std.proofs.Common.{◌≡◌, ℕ, zero, suc, ◌*◌, ◌/◌, ◌%◌, ◌^◌, ◌<◌, true, refl, sym, ◌∙◌, ap}
 use Rattle.std.proofs.Common.{ap₂, subst, arith, pow-suc, inl, inr}
 use Rattle.std.specs.Prelude.{Option, None, Some}
@@ -38,13 +38,13 @@ same_bit t line i a b (inl x) (inr y) = absurd (not_both t line i x.1 y.1)
 same_bit t line i a b (inr x) (inl y) = absurd (not_both t line i y.1 x.1)
 same_bit t line i a b (inr x) (inr y) = x.0 ∙ sym y.0
 
--- the next bit of a number is that of its half
+-- bit n + 1 of a number is bit n of its half
 shifted : (x n : ℕ) → bit_of x (suc n) ≡ bit_of (x / 2) n
 shifted x n =
     let p = pow-suc 2 n in let twice : 2 ^ suc n ≡ 2 * 2 ^ n = omega (arith, p) in
     ap (λ (y : ℕ). x / y % 2) twice ∙ ap (λ (y : ℕ). y % 2) (sym (div-div-eq-div-mul x 2 (2 ^ n)))
 
--- a number is told by its bits
+-- numbers below 2 to the power `count` with the same bits are equal
 told_by_bits : (count x y : ℕ) → x < 2 ^ count → y < 2 ^ count → ((n : ℕ) → n < count → bit_of x n ≡ bit_of y n) → x ≡ y
 told_by_bits zero x y a b bits = let a' : x < 1 = a in let b' : y < 1 = b in omega (arith, a', b')
 told_by_bits (suc count) x y a b bits =

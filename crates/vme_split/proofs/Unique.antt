@@ -1,4 +1,4 @@
--- Intervals that come in turn are told by their starts and their ends.
+-- Intervals that come in turn are determined by their starts and their ends.
 use Rattle.std.proofs.Common.{◌≡◌, ℕ, ◌+◌, ◌<◌, refl, sym, ◌∙◌, ap, ap₂, subst, List, [], ◌∷◌, ◌++◌, flat_map, Contains}
 use Rattle.std.specs.Prelude.{Option, None, Some, MatchOption, option_to_list}
 use Rattle.std.proofs.lemmas.List.Elements.{All-contains}
@@ -53,7 +53,7 @@ module _ (t : Trace) (first end : ℕ) (rows others : List Row) (a : SplitsStret
   same_transfers = told_by_edges (first + 1) _ _ a.transfers.in_turn b.transfers.in_turn (a.transfers.start
       ∙ sym b.transfers.start) (a.transfers.close ∙ sym b.transfers.close)
 
-  -- the rows of either, among the cycles and transfers of the first
+  -- each answered transfer of `rows`, and below of `others`, is answered in a cycle of `rows`
   kept : (r : Row) → Contains rows r → IsAnsweredInCycle (flat_map cycle_in rows) r
   kept r c = All-contains (IsAnsweredInCycle (flat_map cycle_in rows)) rows r a.keeps.answers_in_cycles c
 

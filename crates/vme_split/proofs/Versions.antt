@@ -34,7 +34,7 @@ use Rattle.vme_split.proofs.Listings.{listing_splits}
 abbrev bare : List Row → List Row
 bare rows = map without_data rows
 
--- what is so of a row, whatever the data
+-- where P of a transfer doesn't depend on its data, P of a row implies P of the row without data
 keep : (P : Row → Type 0) → ((d : Direction) (l : AnswerLine) (s c a : ℕ) (k : Option ℕ) (x : Option Lanes)
     → P (Transfer d l s c a k x) → P (Transfer d l s c a k None)) → (r : Row) → P r → P (without_data r)
 keep P f (Start i) h = h
@@ -48,7 +48,7 @@ keep P f (Transfer d l s c a k x) h = f d l s c a k x h
 keep P f (PendingTransfer i d) h = h
 keep P f (row.Verdict o) h = h
 
--- what is read of a row, whatever the data
+-- where f of a transfer doesn't depend on its data, f of a row is f of the row without data
 same_of : {A : Type 0} (f : Row → List A) → ((d : Direction) (l : AnswerLine) (s c a : ℕ) (k : Option ℕ)
     (x : Option Lanes) → f (Transfer d l s c a k None) ≡ f (Transfer d l s c a k x)) → (r : Row) → f (without_data r)
     ≡ f r
@@ -206,7 +206,7 @@ splits_kept t (said.Broken b) rows h = recording_kept t _ _ _ rows h
 splits_kept t (said.Unreadable b) rows h = recording_kept t _ _ _ rows h
 splits_kept t said.NeverIdle rows h = (h.0, ap (λ (xs : List Row). bare xs) h.1)
 
--- the rows of a listing of whatever version
+-- the rows of the listing in each version split the judged edges
 pub version_splits : (version : Version) (t : Trace) → Splits t (verdict t) (rows_in version (recorded_rows t))
 unfolding rows_in
 version_splits version t = by (tells_data version)

@@ -1,4 +1,4 @@
--- The data that the rows of writes tell.
+-- The data in the rows of writes.
 use Rattle.std.proofs.Common.{◌≡◌, ℕ, ◌+◌, ◌-◌, ◌<◌, ◌≤◌, Bool, true, false, ◌&&◌, not, if◌then◌else◌, refl, sym, ◌∙◌}
 use Rattle.std.proofs.Common.{ap}
 use Rattle.std.proofs.Common.{arith, All, inl, inr, ◌⊎◌}
@@ -70,7 +70,7 @@ module _ (t : Trace) (span : Stretch) (is : IsSpanOf t span) (end : ℕ) (within
       unfolding transfer_starts
       high_before h = second_of _ (strobes_high t (r - 1)) _ h
 
-      -- no other transfer starts in it
+      -- no other transfer starts at r, in the transfer that starts at i
       none_later : i + 1 ≤ r → transfer_starts t span r ≡ true → ⊥
       none_later later h = by (same_or_after i (r - 1) (omega (arith, later)))
         where

@@ -25,7 +25,7 @@ use Rattle.vme_listing.specs.declared.row.Row.TheVariants.{Start, Reset, OpenTen
 use Rattle.vme_listing.specs.declared.row.Row.TheVariants.{FreeCycle, InterruptCycle, Transfer, PendingTransfer}
 use Rattle.vme_listing.specs.declared.row.Row.TheVariants as row
 
--- something that lasts from one instant to another, where it ends
+-- what lasts from the instant `start` to the instant `end`, or has no end
 pub record Interval : Type 0 where
   pub start : ℕ
   pub end : Option ℕ
@@ -33,26 +33,26 @@ pub record Interval : Type 0 where
 abbrev pub interval : ℕ → Option ℕ → Interval
 interval start end = record { start = start; end = end }
 
--- the tenure that a row tells
+-- the tenure of a row, if it is of one
 abbrev pub tenure_in : Row → List Interval
 tenure_in (OpenTenure start end) = interval start end ∷ []
 tenure_in (Tenure start level slot end) = interval start end ∷ []
 tenure_in other = []
 
--- the cycle
+-- the cycle of a row, if it is of one
 abbrev pub cycle_in : Row → List Interval
 cycle_in (AddressedCycle start class modifier address end) = interval start end ∷ []
 cycle_in (FreeCycle start modifier end) = interval start end ∷ []
 cycle_in (InterruptCycle start level end) = interval start end ∷ []
 cycle_in other = []
 
--- the transfer
+-- the transfer of a row, if it is of one
 abbrev pub transfer_in : Row → List Interval
 transfer_in (Transfer direction line start cycle answer close lanes) = interval start close ∷ []
 transfer_in (PendingTransfer start direction) = interval start None ∷ []
 transfer_in other = []
 
--- the answer by either line
+-- the answer of a row by DTACK, if it has one; below, by BERR
 abbrev pub dtack_in : Row → List ℕ
 dtack_in (Transfer direction Dtack start cycle answer close lanes) = answer ∷ []
 dtack_in other = []
@@ -61,21 +61,21 @@ abbrev pub berr_in : Row → List ℕ
 berr_in (Transfer direction Berr start cycle answer close lanes) = answer ∷ []
 berr_in other = []
 
--- the instants at which some intervals start, and those at which they end
+-- the instants at which the intervals start; below, those at which they end
 abbrev pub starts_of : List Interval → List ℕ
 starts_of intervals = map (λ a. a.start) intervals
 
 abbrev pub ends_of : List Interval → List ℕ
 ends_of intervals = flat_map (λ a. option_to_list a.end) intervals
 
--- each interval starts at an instant or later, and ends later than it starts; the next one starts later than that,
--- and after one without an end comes none
+-- the first interval starts at n or later; each interval ends later than it starts; the next one starts later than that
+-- end, and after an interval without an end comes none
 abbrev pub AreInTurn : ℕ → List Interval → Type 0
 AreInTurn n [] = Unit {0}
 AreInTurn n (a ∷ more) =
     (n ≤ a.start) × MatchOption a.end (more ≡ []) (λ e. (a.start < e) × AreInTurn (e + 1) more)
 
--- each number is more than the one before
+-- the first number is n or more, and each later one is more than the one before
 abbrev pub Ascends : ℕ → List ℕ → Type 0
 Ascends n [] = Unit {0}
 Ascends n (i ∷ more) = (n ≤ i) × Ascends (i + 1) more
@@ -84,16 +84,16 @@ Ascends n (i ∷ more) = (n ≤ i) × Ascends (i + 1) more
 abbrev pub Covers : Interval → ℕ → Type 0
 Covers a i = (a.start ≤ i) × IfSome a.end (λ e. i ≤ e)
 
--- one of the intervals that start here covers the instant
+-- one of the intervals starts at `start` and covers instant i
 abbrev pub StartsOneThatCovers : List Interval → ℕ → ℕ → Type 0
 StartsOneThatCovers intervals start i =
     (end : Option ℕ) × Contains intervals (interval start end) × Covers (interval start end) i
 
--- one of them has started by then and not ended before: a cycle starts in a tenure
+-- one of the tenures covers the start of the cycle
 abbrev pub StartsInOne : List Interval → Interval → Type 0
 StartsInOne tenures cycle = (a : Interval) × Contains tenures a × Covers a cycle.start
 
--- a tenure is of one of the levels, and of one of the slots
+-- a tenure is of a level from 0 to 3, and of a slot from 1 to `slots`
 abbrev pub IsOfASlot : ℕ → Row → Type 0
 IsOfASlot slots (Tenure start level slot end) = (level < 4) × (1 ≤ slot) × (slot ≤ slots)
 IsOfASlot slots other = Unit {0}
@@ -104,11 +104,11 @@ IsAnsweredInCycle cycles (Transfer direction line start cycle answer close lanes
     Covers (interval start close) answer × StartsOneThatCovers cycles cycle answer
 IsAnsweredInCycle cycles other = Unit {0}
 
--- the address strobe doesn't rise between two instants
+-- the address strobe doesn't rise after `start` and before `end`
 abbrev pub StaysDown : Trace → ℕ → ℕ → Type 0
 StaysDown t start end = (j : ℕ) → start < j → j < end → rises t AS j ≡ false
 
--- nor between the start of a transfer and its answer
+-- the address strobe doesn't rise after the start of a transfer and before its answer, or before `end` without one
 abbrev pub AwaitsAnswer : Trace → ℕ → Row → Type 0
 AwaitsAnswer t end (Transfer direction line start cycle answer close lanes) = StaysDown t start answer
 AwaitsAnswer t end (PendingTransfer start direction) = StaysDown t start end
@@ -127,7 +127,7 @@ TellsDirection t other = Unit {0}
 abbrev pub data_instant : ℕ → ℕ → ℕ
 data_instant start answer = if start == answer then answer else answer - 1
 
--- the data of a write, where the row has them, are what the data lines say that the transfer moves; a read has none
+-- the data of a write, where the row has them, are the levels of the lines that the transfer moves; a read has none
 abbrev pub TellsData : Trace → Row → Type 0
 TellsData t (Transfer Read line start cycle answer close lanes) = lanes ≡ None
 TellsData t (Transfer Write line start cycle answer close None) = Unit {0}
@@ -146,11 +146,11 @@ TellsAcknowledge t other = Unit {0}
 abbrev pub bit_of : ℕ → ℕ → ℕ
 bit_of x n = x / 2 ^ n % 2
 
--- a line shows a bit: it is high for 1, and low for 0
+-- line l shows the bit at instant i: it is high for 1, and low for 0
 abbrev pub ShowsBit : Trace → ℕ → ℕ → ℕ → Type 0
 ShowsBit t l i bit = ((bit ≡ 1) × (high t l i ≡ true)) ⊎ ((bit ≡ 0) × (low t l i ≡ true))
 
--- so many lines show a number: each shows the bit of its place, and there are no further bits
+-- `count` lines show the number x at instant i: line n shows bit n, and x has no further bits
 abbrev pub ShowNumber : Trace → (ℕ → ℕ) → ℕ → ℕ → ℕ → Type 0
 ShowNumber t line count i x = (x < 2 ^ count) × ((n : ℕ) → n < count → ShowsBit t (line n) i (bit_of x n))
 
@@ -164,8 +164,8 @@ TellsModifier t (AddressedCycle start class modifier address end) = ShowNumber t
 TellsModifier t (FreeCycle start modifier end) = ShowNumber t (λ n. AM n) 6 start modifier
 TellsModifier t other = Unit {0}
 
--- the address is what the lines show that the modifier code makes meaningful, and its bit 0, which has no line, is 0;
--- the level of an acknowledge is what A01 to A03 show
+-- the address is what the lines show that are meaningful with the modifier code, and its bit 0, which has no line, is
+-- 0; the level of an acknowledge is what A01 to A03 show
 abbrev pub TellsAddress : Trace → Row → Type 0
 TellsAddress t (AddressedCycle start class modifier address end) =
     (address % 2 ≡ 0) × ShowNumber t (λ n. address_line n) (highest_address modifier) start (address / 2)
@@ -182,31 +182,31 @@ IsOfItsCode (AddressedCycle start class.F modifier address end) = ⊥
 IsOfItsCode (FreeCycle start modifier end) = (is_block modifier ≡ false) × (highest_address modifier ≡ 0)
 IsOfItsCode other = Unit {0}
 
--- the nets of a level are low as far as a slot, and no farther
+-- at instant q the nets of the level are low up to the input of the slot, and the slot's output isn't
 abbrev pub IsGrantedTo : Trace → ℕ → ℕ → ℕ → Type 0
 IsGrantedTo t level slot q =
     ((k : ℕ) → k < slot → low t (grant level k) q ≡ true) × (low t (grant level slot) q ≡ false)
 
--- a tenure takes a grant: as it starts, or at the instant before
+-- a tenure takes a grant: its level is granted to its slot as it starts, or at the instant before
 abbrev pub TellsGrant : Trace → Row → Type 0
 TellsGrant t (Tenure start level slot end) =
     (q : ℕ) × (q ≤ start) × (start ≤ q + 1) × IsGrantedTo t level slot q
 TellsGrant t other = Unit {0}
 
--- open is a tenure at the start of the stretch, and no other
+-- the row of a tenure says `open` where it starts with the stretch, and in no other case
 abbrev pub IsOpenAtStart : ℕ → Row → Type 0
 IsOpenAtStart first (OpenTenure start end) = start ≡ first
 IsOpenAtStart first (Tenure start level slot end) = first < start
 IsOpenAtStart first other = Unit {0}
 
--- the row tells a tenure, a cycle or a transfer
+-- the row is of a tenure, a cycle or a transfer
 abbrev pub is_traffic : Row → Bool
 is_traffic (Start instant) = false
 is_traffic (Reset instant) = false
 is_traffic (row.Verdict end) = false
 is_traffic other = true
 
--- the direction of a transfer, where it names the cycle
+-- the direction of the answered transfer of a row, if it names the cycle
 abbrev pub direction_in : ℕ → Row → List Direction
 direction_in cycle (Transfer direction line start named answer close lanes) =
     if named == cycle then direction ∷ [] else []
@@ -219,7 +219,7 @@ IsSingle (d ∷ []) = Unit {0}
 IsSingle (d ∷ e ∷ []) = (d ≡ Read) × (e ≡ Write)
 IsSingle (d ∷ e ∷ f ∷ more) = ⊥
 
--- transfers of one direction
+-- all transfers have the same direction
 abbrev pub IsOneWay : List Direction → Type 0
 IsOneWay [] = Unit {0}
 IsOneWay (d ∷ more) = All (λ e. e ≡ d) more
@@ -241,13 +241,13 @@ IsOfItsClass rows other = Unit {0}
 abbrev pub strobes_leave : Trace → ℕ → Bool
 strobes_leave t i = strobes_high t (i - 1) && not (strobes_high t i)
 
--- both are high again
+-- both strobes are high again
 abbrev pub strobes_return : Trace → ℕ → Bool
 strobes_return t i = not (strobes_high t (i - 1)) && strobes_high t i
 
--- first: the start of the stretch; end: where it ends, or where what is listed ends
+-- first: the start of the stretch; end: where it ends, or the first instant that isn't listed, where that is earlier
 module _ (t : Trace) (first end : ℕ) where
-  -- the instants in between at which something is so, in order
+  -- the instants after `first` and before `end` at which p holds, in order
   abbrev pub instants : (ℕ → Bool) → List ℕ
   instants p = those p (first + 1) end
 
@@ -261,15 +261,15 @@ module _ (t : Trace) (first end : ℕ) where
   abbrev pub open_tenures : List ℕ
   open_tenures = if low t BBSY first then first ∷ [] else []
 
-  -- the tenures are those of the busy line: each of its falls starts one, and each of its rises ends one; the open one
-  -- is more than that
+  -- the tenures are those of the busy line: each of its falls starts one, and each of its rises ends one; the open
+  -- tenure comes first
   pub record TenuresSplit (rows : List Row) : Type 0 where
     pub start : starts_of (flat_map tenure_in rows) ≡ open_tenures ++ instants (falls t BBSY)
     pub stop : ends_of (flat_map tenure_in rows) ≡ instants (rises t BBSY)
     pub in_turn : AreInTurn first (flat_map tenure_in rows)
 
-  -- the transfers are those of the strobes: one starts where both were high and one isn't, and closes where both are
-  -- again
+  -- the transfers are those of the strobes: one starts where both strobes were high and one isn't, and closes where
+  -- both are high again
   pub record TransfersSplit (rows : List Row) : Type 0 where
     pub start : starts_of (flat_map transfer_in rows) ≡ instants (strobes_leave t)
     pub close : ends_of (flat_map transfer_in rows) ≡ instants (strobes_return t)
@@ -280,7 +280,7 @@ module _ (t : Trace) (first end : ℕ) where
     pub dtack : flat_map dtack_in rows ≡ instants (falls t DTACK)
     pub berr : flat_map berr_in rows ≡ instants (falls t BERR)
 
-  -- what is listed is as the rules ask for it
+  -- the rows keep the rules, agree with the levels of the lines, and are of tenures, cycles and transfers alone
   pub record KeepsRules (rows : List Row) : Type 0 where
     pub tenures_of_slots : All (IsOfASlot t.opening.slots) rows
     pub open_at_start : All (IsOpenAtStart first) rows
@@ -297,7 +297,7 @@ module _ (t : Trace) (first end : ℕ) where
     pub strobe_awaits : All (AwaitsAnswer t end) rows
     pub nothing_else : All (λ told. is_traffic told ≡ true) rows
 
-  -- what is listed of a stretch splits the edges of its lines, and is as the rules ask for it
+  -- the rows of a stretch split the edges of its lines, and keep the rules
   pub record SplitsStretch (rows : List Row) : Type 0 where
     pub cycles : CyclesSplit rows
     pub tenures : TenuresSplit rows
@@ -311,7 +311,7 @@ module _ (t : Trace) (limit : ℕ) where
   abbrev pub reset_row : Stretch → List Row
   reset_row span = if is_reset_at t span.end && nat_lt span.end limit then Reset span.end ∷ [] else []
 
-  -- a listing tells of each stretch in turn its start, what splits its edges, and its reset; the verdict comes last
+  -- a listing has for each stretch in turn its start, the rows that split its edges, and its reset; then the verdict
   abbrev pub SplitsRecording : ListedVerdict → List Stretch → List Row → Type 0
   SplitsRecording end [] rows = rows ≡ row.Verdict end ∷ []
   SplitsRecording end (span ∷ spans) rows =
@@ -322,8 +322,8 @@ module _ (t : Trace) (limit : ℕ) where
   abbrev pub listed_spans : List Stretch
   listed_spans = filter (λ span. nat_lt span.start limit) (judged_spans t)
 
--- the rows of a listing split what is judged of a recording with this verdict: all of it, or what is before the break.
--- The bus is never idle where no instant is, and then nothing is judged
+-- the rows of a listing split the judged edges of a recording with this verdict: all of them, or those before the
+-- break. Where the bus is never idle, no instant is idle, so nothing is judged, and the listing has the verdict alone
 abbrev pub Splits : Trace → Verdict → List Row → Type 0
 Splits t said.Conforming rows = SplitsRecording t (last_instant t + 1) outcome.Conforming (judged_spans t) rows
 Splits t (said.Broken b) rows =
@@ -342,7 +342,7 @@ pub record AnsweredTransfer : Type 0 where
 abbrev pub answered_transfer : ℕ → ℕ → ℕ → AnsweredTransfer
 answered_transfer start cycle answer = record { start = start; cycle = cycle; answer = answer }
 
--- the transfer that a row tells as answered by either line
+-- the transfer of a row that DTACK answers, if it is of one; below, one that BERR answers
 abbrev pub answered_by_dtack : Row → List AnsweredTransfer
 answered_by_dtack (Transfer direction Dtack start cycle answer close lanes) = answered_transfer start cycle answer ∷ []
 answered_by_dtack other = []
@@ -351,7 +351,7 @@ abbrev pub answered_by_berr : Row → List AnsweredTransfer
 answered_by_berr (Transfer direction Berr start cycle answer close lanes) = answered_transfer start cycle answer ∷ []
 answered_by_berr other = []
 
--- rows that tell the cycle of one start are of one kind, with the same class, modifier and address, or level
+-- rows of cycles with the same start are of the same kind, with the same class, modifier and address, or level
 abbrev pub TellCycleAlike : Row → Row → Type 0
 TellCycleAlike (AddressedCycle start class modifier address end) (AddressedCycle began kind code place stop) =
     start ≡ began → (class ≡ kind) × (modifier ≡ code) × (address ≡ place)
@@ -362,13 +362,14 @@ TellCycleAlike (FreeCycle start modifier end) (InterruptCycle began line stop) =
 TellCycleAlike (InterruptCycle start level end) (InterruptCycle began line stop) = start ≡ began → level ≡ line
 TellCycleAlike told other = Unit {0}
 
--- where both have data, these are the same
+-- where both rows have data, these are the same
 abbrev pub HaveSameData : Option Lanes → Option Lanes → Type 0
 HaveSameData None other = Unit {0}
 HaveSameData (Some lanes) None = Unit {0}
 HaveSameData (Some lanes) (Some other) = lanes ≡ other
 
--- rows that tell one transfer tell the same direction, and of one answer the same data, where both tell some
+-- rows of transfers with the same start, both answered or both pending, have the same direction; with the same answer,
+-- too, they have the same data, where both have data
 abbrev pub TellTransferAlike : Row → Row → Type 0
 TellTransferAlike (Transfer direction line start cycle answer close lanes)
     (Transfer way from began named reply stop others) =
@@ -376,8 +377,8 @@ TellTransferAlike (Transfer direction line start cycle answer close lanes)
 TellTransferAlike (PendingTransfer start direction) (PendingTransfer began way) = start ≡ began → direction ≡ way
 TellTransferAlike told other = Unit {0}
 
--- rows tell the same tenures, cycles and transfers, and the same answers, each of the same transfer in the same cycle;
--- and of each cycle and transfer they tell the same
+-- `rows` and `others` have the same tenures, cycles and transfers, and the same answers, each of the same transfer in
+-- the same cycle; rows of the same cycle or transfer agree
 pub record TellAlike (rows others : List Row) : Type 0 where
   pub tenures : flat_map tenure_in rows ≡ flat_map tenure_in others
   pub cycles : flat_map cycle_in rows ≡ flat_map cycle_in others

@@ -1,4 +1,4 @@
--- What is shown to people has visible characters and line feeds alone.
+-- An escaped text has only spaces, visible characters and line feeds.
 use Rattle.std.proofs.Common.{◌≡◌, ℕ, ◌+◌, ◌/◌, ◌%◌, ◌<◌, ◌≤◌, ◌++◌, ◌∷◌, ◌&&◌, ◌==◌, Bool, List, [], true, false}
 use Rattle.std.proofs.Common.{◌∙◌, arith, flat_map, if◌then◌else◌, le-leb, nat_le, nat_lt, refl}
 use Rattle.std.proofs.lemmas.Bool.{and_from, or_left, or_right}

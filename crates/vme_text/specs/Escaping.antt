@@ -7,12 +7,12 @@ use Rattle.std.specs.List.{list_all}
 abbrev pub digit_of : ℕ → ℕ
 digit_of n = if nat_lt n 10 then 48 + n else 55 + n
 
--- a space or a visible character as it is, any other byte as a backslash, an x and its last two digits
+-- a space or a visible character as it is; any other byte as a backslash, an x and its last two digits in base 16
 abbrev pub hex_escaped_byte : ℕ → List ℕ
 hex_escaped_byte b =
     if nat_le 32 b && nat_le b 126 then b ∷ [] else 92 ∷ 120 ∷ digit_of (b / 16 % 16) ∷ digit_of (b % 16) ∷ []
 
--- in a text of several lines their ends stay
+-- a byte in a text of several lines: a line feed as it is, any other byte escaped
 abbrev pub hex_escaped_in_text : ℕ → List ℕ
 hex_escaped_in_text b = if b == 10 then b ∷ [] else hex_escaped_byte b
 
@@ -20,6 +20,6 @@ hex_escaped_in_text b = if b == 10 then b ∷ [] else hex_escaped_byte b
 abbrev pub is_visible : ℕ → Bool
 is_visible b = (nat_le 32 b && nat_le b 126) || b == 10
 
--- nothing else stands in the text
+-- each byte of the text is a space, a visible character or a line feed
 abbrev pub IsVisible : List ℕ → Type 0
 IsVisible text = list_all is_visible text ≡ true

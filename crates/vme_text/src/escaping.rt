@@ -38,7 +38,7 @@ fn escaped(alloc: Global, bytes: &[u8]) -> Result<Vec<u8>, AllocError>
     Ok(all)
 }
 
-/// The same of several lines.
+/// The bytes of several lines, escaped: line feeds stay.
 fn escaped_lines(alloc: Global, bytes: &[u8]) -> Result<Vec<u8>, AllocError>
     ensures { IfOk result (λ all. all.items ≡ flat_map hex_escaped_in_text bytes.now) }
 {

@@ -58,7 +58,7 @@ impl Text {
         self.bytes.extend_from_slice(digits.as_bytes())
     }
 
-    /// Appends so many spaces. Without memory the text is as before.
+    /// Appends `count` spaces. Without memory the text is as before.
     pub fn push_spaces(&mut self, count: usize) -> Result<(), AllocError>
         ensures ok { OnOk result (self.new ≡ self.old ++ replicate count 32) }
         ensures err { OnErr result (self.new ≡ self.old) }

@@ -1,4 +1,4 @@
--- Where the data of an answer are taken.
+-- The instant whose levels give the data of an answer.
 use Rattle.std.proofs.Common.{◌≡◌, ℕ, ◌+◌, ◌-◌, ◌<◌, ◌≤◌, Bool, true, false, ◌&&◌, ◌||◌, not, refl, ◌∙◌, ap, arith, inl}
 use Rattle.std.proofs.Common.{inr, ◌⊎◌}
 use Rattle.vme_trace.specs.LineNumbers.{DS0, DS1}
@@ -57,7 +57,7 @@ module _ (t : Trace) (span : Stretch) where
       any-fails (strobes_high t) (i + 1) r k
       (not_true _ (second_of_two _ _ (first_of_two _ _ (first_of_two _ _ found)))) (omega arith) before
 
-  -- no other transfer starts before the answer of one
+  -- where the transfer that starts at i is answered at a later r, no transfer starts at r
   pub starts_apart : (i r : ℕ) → transfer_starts t span i ≡ true → answers t span i r ≡ true → i < r → transfer_starts t
       span r ≡ false
   unfolding transfer_starts
@@ -70,7 +70,7 @@ module _ (t : Trace) (span : Stretch) where
             | inr later ↦ open_since i r (r - 1) found later (omega arith)
           ]
 
-  -- the data of an answer are those that the lines say before it, and there where the transfer starts there
+  -- the data of an answer after its transfer's start are those of the instant before the answer
   pub data-later : (i r : ℕ) → transfer_starts t span i ≡ true → answers t span i r ≡ true → i < r → data_at t span r
       ≡ lanes_at (levels_at t (r - 1))
   unfolding data_at

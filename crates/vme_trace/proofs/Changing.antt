@@ -1,4 +1,4 @@
--- Where control is lost, and what changes leave as it was.
+-- Where a control line is lost, i.e. unknown on a bus that isn't reset, and what changes of lines leave as it is.
 use Rattle.std.proofs.Common.{◌≡◌, ℕ, ◌+◌, ◌<◌, ◌≤◌, Bool, true, false, ◌||◌, ◌&&◌, not, List, [], ◌∷◌, refl, sym, ◌∙◌}
 use Rattle.std.proofs.Common.{ap, arith, ◌≢◌, cond}
 use Rattle.std.specs.Prelude.{None, Some, ◌==◌, nat_le, slice_set}
@@ -56,7 +56,7 @@ idle_known true strict reset High h = refl
 idle_known true true reset Unknown h = absurd (cc)
 idle_known true false reset Unknown h = absurd (cc)
 
--- an idle bus has lost nothing
+-- an idle bus has no lost line
 pub idle-holds : (v : Levels) → is_idle v ≡ true → loses_control v ≡ false
 unfolding loses_control
 idle-holds v idle = fails-any (is_lost v) 0 line_count (λ l a b. idle_known (is_control v.slots l) (rests_high l)
@@ -67,7 +67,7 @@ high_not_low Low h = absurd (cc)
 high_not_low High h = refl
 high_not_low Unknown h = refl
 
--- and it isn't reset
+-- an idle bus isn't reset
 pub idle-runs : (v : Levels) → is_idle v ≡ true → is_reset v ≡ false
 idle-runs v idle = high_not_low (level_at v SYSRESET) (each_idle v SYSRESET idle (omega arith))
 
@@ -75,7 +75,7 @@ kept_unless : (a b : Bool) → b ≡ true → (a && not b) ≡ false
 kept_unless true b h = rw h refl
 kept_unless false b h = refl
 
--- nor has a bus that is reset
+-- a bus that is reset has no lost line
 pub reset-holds : (v : Levels) → is_reset v ≡ true → loses_control v ≡ false
 unfolding loses_control
 reset-holds v reset = fails-any (is_lost v) 0 line_count (λ l a b. kept_unless _ (is_reset v) reset)
@@ -119,14 +119,14 @@ idle_on-kept v cs l h = rw (slots-kept v cs) (by_control (is_control v.slots l) 
     by_control false e = refl
     by_control true e = rw (level-kept v cs l (untouched v.slots cs l h e)) refl
 
--- where no control line changes, a bus stays idle or not
+-- where no control line changes, the bus is idle after the changes just if it was before
 pub idle-kept : (v : Levels) (cs : List Change) → touches_control v.slots cs ≡ false → is_idle (changed v cs)
     ≡ is_idle v
 unfolding is_idle
 idle-kept v cs h = ap not (any-alike (λ l. not (is_idle_on (changed v cs) l)) (λ l. not (is_idle_on v l)) 0 line_count
     (λ l a b. ap not (idle_on-kept v cs l h)))
 
--- and reset or not
+-- where no control line changes, the bus is reset after the changes just if it was before
 pub reset-kept : (v : Levels) (cs : List Change) → touches_control v.slots cs ≡ false → is_reset (changed v cs)
     ≡ is_reset v
 reset-kept v cs h = ap is_low (level-kept v cs SYSRESET (untouched v.slots cs SYSRESET h refl))
@@ -141,7 +141,7 @@ lost-kept : (v : Levels) (cs : List Change) (l : ℕ) → is_reset v ≡ false �
 lost-kept v cs l r h k = rw (slots-kept v cs, level-kept v cs l k)
     (still_false (is_control v.slots l && not (is_known (level_at v l))) (is_reset v) (is_reset (changed v cs)) h r)
 
--- no change is before the least that may
+-- a line below `lowest` isn't among the changed ones
 below_changes : (v : Levels) (lowest l : ℕ) (cs : List Change) → are_changes v lowest cs ≡ true → l < lowest
     → is_changed cs l ≡ false
 unfolding are_changes
@@ -216,13 +216,13 @@ none_lost v l few h = by_test (is_lost v l) refl
         (exists_below v.slots l few (control_exists (has_line v.slots l) _ (control_exists (is_control v.slots l) _
         (control_exists _ _ e))))))
 
--- so the first changed line that is lost is the least lost line, where the bus wasn't reset before
+-- where the bus wasn't reset before and no line was lost, the first changed line that is lost is the least lost line
 pub lost-least : (v : Levels) (cs : List Change) → v.slots ≤ 21 → are_changes v 0 cs ≡ true → loses_control v ≡ false
     → is_reset v ≡ false → lost_among (changed v cs) cs ≡ least (is_lost (changed v cs)) 0 line_count
 lost-least v cs few h held unreset = first_lost v (changed v cs) few 0 cs h
     (λ l k. lost-kept v cs l unreset (none_lost v l few held) k)
 
--- and where no control line is among the changes, none is lost
+-- where no control line is among the changed ones, none of them is lost
 pub lost-untouched : (now : Levels) (cs : List Change) → touches_control now.slots cs ≡ false → lost_among now cs ≡ None
 lost-untouched now [] h = refl
 lost-untouched now (c ∷ cs) h =

@@ -1,11 +1,12 @@
--- Where as many of a range hold as were looked at, all of them do.
+-- A count of the numbers of a range of which p holds: where it is the length of the range, p holds of all of them.
 use Rattle.std.proofs.Common.{◌≡◌, ℕ, ◌+◌, ◌-◌, ◌<◌, ◌≤◌, Bool, true, false, ◌&&◌, ◌||◌, not, refl, sym, ◌∙◌, ap, arith}
 use Rattle.std.specs.Prelude.{◌==◌, None, nat_le}
 use Rattle.std.proofs.lemmas.Bool.Decides.{nat_tests}
 use Rattle.vme_trace.specs.Instants.{any, every, least}
 use Rattle.vme_trace.proofs.Ranges.{any-fails, any-step, clash, every-empty, fails-any, least-none}
 
--- `count` is counted of a range from `first` up to `number`
+-- `count` is at most the length of the range from `first` on and before `number`, and equals it just if p holds of all
+-- of the range
 abbrev pub AreCounted : (ℕ → Bool) → ℕ → ℕ → ℕ → Type 0
 AreCounted p first number count = (count + first ≤ number) × ((count + first == number) ≡ every p first number)
 
@@ -65,7 +66,7 @@ module _ (p : ℕ → Bool) (first number count : ℕ) where
       off true = refl
       off false = refl
 
-  -- at the end of the range
+  -- at the end of the range, after `last`: the count is its length just if p holds of all of it
   pub all-counted : (last : ℕ) → first ≤ last → number ≡ last + 1 → AreCounted p first number count
       → (count == last - first + 1) ≡ every p first (last + 1)
   all-counted last order e is = same count first last order ∙ (ap (λ n. count + first == n) (sym e) ∙ is.1
@@ -89,7 +90,7 @@ at p f n i h a b = unfailed (p i) (any-fails (λ k. not (p k)) f n i (unmet (any
     unfailed true h = refl
     unfailed false h = absurd (cc)
 
--- where all of a range hold, nothing is found that is there alone, and only where they don't
+-- where p holds of all of a range, and q only of numbers of that range of which p doesn't hold, q has no least number
 pub least-outside : (p q : ℕ → Bool) (first end n : ℕ) → every p first end ≡ true
     → ((i : ℕ) → i < n → q i ≡ true → (first ≤ i) × (i < end) × (p i ≡ false)) → least q 0 n ≡ None
 least-outside p q first end n all there = least-none q 0 n (fails-any q 0 n (λ i a b. by_test i b (q i) refl))

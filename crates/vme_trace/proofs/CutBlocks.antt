@@ -17,13 +17,13 @@ use Rattle.vme_trace.specs.Trace.{Trace, levels_at, levels_after, changed}
 use Rattle.vme_trace.specs.declared.block.Block.{Block}
 use Rattle.vme_trace.specs.declared.step.Step.{Step}
 
--- the levels after some steps and more
+-- the levels after xs and then ys are those after ys, from the levels after xs
 pub levels_after-append : (v : Levels) (xs ys : List Step) → levels_after v (xs ++ ys)
     ≡ levels_after (levels_after v xs) ys
 levels_after-append v [] ys = refl
 levels_after-append v (x ∷ xs) ys = levels_after-append (changed v x.changes) xs ys
 
--- one step more
+-- the first n + 1 steps are the first n and then step n
 pub taken_more : (xs : List Step) (n : ℕ) (step : Step) → slice_get xs n ≡ Some step → take (n + 1) xs ≡ take n xs
     ++ step ∷ []
 taken_more xs n step found = take_more xs n step (slice_get_within xs n step found) ∙ ap (λ s. take n xs ++ s ∷ [])
@@ -64,7 +64,7 @@ levels_at-first t size = ap (levels_at t) (zero_times size)
     zero_times : (n : ℕ) → 0 * n ≡ 0
     zero_times n = omega arith
 
--- so a block's steps lead from its opening to the next one's
+-- the levels at instant k + n are those that the n steps from step k on leave, from the levels at k
 pub levels_at-more : (t : Trace) (k n : ℕ) → levels_at t (k + n) ≡ levels_after (levels_at t k)
     (take n (drop k t.steps))
 levels_at-more t k n =
@@ -94,6 +94,7 @@ joined-taken size t (suc k) =
     times_more : (k n : ℕ) → k * n + n ≡ suc k * n
     times_more k n = omega arith
 
+-- as many blocks of `size` steps as n steps fill have room for n steps
 filled : (size n : ℕ) → 0 < size → n ≤ max 1 (div_ceil n size) * size
 filled size n positive = by_rest (n % size) refl
   where
@@ -108,7 +109,7 @@ filled size n positive = by_rest (n % size) refl
         (omega arith) in
         omega (arith, whole, up, mod-lt n positive)
 
--- joined, the blocks have all steps
+-- the joined steps of all blocks are the steps of the recording
 pub joined-blocks : (size : ℕ) (t : Trace) → 0 < size → joined_steps (blocks_of size t) ≡ t.steps
 joined-blocks size t positive = joined-taken size t (block_count size t) ∙ take_all (block_count size t * size) t.steps
     (filled size (length t.steps) positive)
@@ -120,7 +121,7 @@ starts_within size n k below =
     let fewer : k ≤ n / size = omega arith in
     omega (arith, whole, mul-le-mul_right size fewer)
 
--- what is left of the steps may be less than a block
+-- of the steps from k on, the first `size` are those before k + size, or before the end of xs where that is less
 pub last_part : (size k : ℕ) (xs : List Step) → take (min (length xs) (k + size) - k) (drop k xs)
     ≡ take size (drop k xs)
 last_part size k xs =
@@ -139,7 +140,7 @@ last_part size k xs =
 abbrev piece : ℕ → Levels → List Step → Block
 piece number opening steps = record { number = number; opening = opening; steps = steps }
 
--- what was copied is block k
+-- the block of the steps from k * size on, up to size of them, with the levels before them, is block k
 pub block_at-is : (size : ℕ) (t : Trace) (k number : ℕ) (opening : Levels) (xs : List Step) (end : ℕ) → number ≡ k
     → opening ≡ levels_at t (k * size) → xs ≡ t.steps → end ≡ min (length xs) (k * size + size)
     → piece number opening (take (end - k * size) (drop (k * size) xs)) ≡ block_at size t k
@@ -152,7 +153,7 @@ block_at-is size t k number opening xs end same before all last = rw (
   last_part size (k * size) t.steps,
 ) refl
 
--- and the levels after it are those before the next
+-- the levels after block k are those before block k + 1
 pub levels_at-next : (size : ℕ) (t : Trace) (k : ℕ) (opening : Levels) (xs : List Step) (end : ℕ) → opening
     ≡ levels_at t (k * size) → xs ≡ t.steps → end ≡ min (length xs) (k * size + size) → levels_after opening
     (take (end - k * size) (drop (k * size) xs)) ≡ levels_at t ((k + 1) * size)

@@ -11,7 +11,7 @@ pub listed : (r : Rule) → slice_get all_rules (rule_number r) ≡ Some r
 listed U1 = refl
 listed r = refl
 
--- rules of one number are one
+-- rules with the same number are the same
 pub same-rule : (q r : Rule) → rule_number q ≡ rule_number r → q ≡ r
 same-rule q r e = let same : Some q ≡ Some r = sym (listed q) ∙ ap (slice_get all_rules) e ∙ listed r in cc
 

@@ -7,6 +7,8 @@ use Rattle.vme_trace.specs.LineNumbers.{is_control}
 use Rattle.vme_trace.specs.Levels.{Levels, rests_high, is_idle, is_idle_on, is_high_on, is_known_on, idle_by_ranges}
 use Rattle.vme_trace.proofs.Ranges.{every-split, every-alike, every-holds}
 
+-- `is_idle_on` of one line, by `control`, whether it is a control line; `strict`, whether it rests high; h and k,
+-- whether it is high and whether it is known
 shown_high : (control strict h k : Bool) → control ≡ true → strict ≡ true → cond (not control) true (cond strict h k)
     ≡ h
 shown_high control strict h k a b = rw (a, b) refl
@@ -104,7 +106,8 @@ module _ (v : Levels) (least : 1 ≤ v.slots) (few : v.slots ≤ 21) where
   last_part = every-split (is_idle_on v) (137 + v.slots + 1) 191 192 (omega arith) (omega arith)
       ∙ rw (acknowledge_past, reset_part) refl
 
-  -- two ranges, of which the second asks nothing of what comes past the lines that there are
+  -- `is_idle_on` holds of all lines from a level's first grant net on just if the nets that exist are high, and it
+  -- holds of all lines after the level's nets
   chain_split : (n first end next : ℕ) → n < 4 → first ≡ 50 + 22 * n → end ≡ first + v.slots + 1 → next ≡ first + 22
       → every (is_idle_on v) first 192 ≡ (every (is_high_on v) first end && every (is_idle_on v) next 192)
   chain_split n first end next level e h k =

@@ -59,19 +59,20 @@ three : (n w : ℕ) → (n < w) ⊎ ((w ≡ n) ⊎ (w < n))
 three n w = grind arith
 
 module _ (t : Trace) where
-  -- an instant is in the stretch that starts at s, its start included
+  -- instant n is in the stretch that starts at s, its start included
   pub record IsIn (s n : ℕ) : Type 0 where
     pub starts : span_starts t s ≡ true
     pub from : s ≤ n
     pub before : n < span_end t s
 
-  -- after an instant a stretch is awaited, or goes on, or there is none any more
+  -- after instant n the next idle instant starts a stretch (`awaiting`), or n is in the stretch that starts at s
+  -- (`judging`), or a stretch was cut off, and none comes any more (`over`)
   pub data Standing (n : ℕ) : Type 0 where
     awaiting : Awaits t (suc n) → Standing n
     judging : (s : ℕ) → IsIn s n → Standing n
     over : any (is_cut_off t) 0 (suc n) ≡ true → Standing n
 
-  -- what an instant shows by itself
+  -- what the levels at one instant imply
   pub idle-holds_at : (n : ℕ) → is_idle_at t n ≡ true → loses_control_at t n ≡ false
   unfolding is_idle_at loses_control_at
   idle-holds_at n h = idle-holds (levels_at t n) h
@@ -91,7 +92,7 @@ module _ (t : Trace) where
         | inr busy ↦ busy
       ]
 
-  -- where a stretch stops, none starts
+  -- where a stretch stops, the bus isn't idle
   pub stops-busy_at : (n : ℕ) → stops_at t n ≡ true → is_idle_at t n ≡ false
   stops-busy_at n h =
       elim (bool_cases (is_idle_at t n)) [
@@ -126,7 +127,7 @@ module _ (t : Trace) where
       ∙ ap (λ b. any (is_idle_at t) (last_reset t n) n || (b && is_idle_at t n))
       (le_holds (last_reset t n) n (greatest_within (is_reset_at t) n))
 
-  -- whether a stretch was cut off
+  -- whether a stretch was cut off, from instant to instant
   pub cut-first : any (is_cut_off t) 0 0 ≡ false
   unfolding any
   cut-first = refl
@@ -136,11 +137,11 @@ module _ (t : Trace) where
   unfolding any is_cut_off
   cut-next n = rw (zero_le n) refl
 
-  -- at the opening a stretch is awaited
+  -- at the opening the next idle instant starts a stretch
   pub awaits-first : Awaits t 0
   awaits-first = record { unjudged = was_idle-first; uncut = cut-first }
 
-  -- where one is awaited, an idle instant starts it
+  -- where a stretch is awaited at n, it starts at n just if n is idle
   pub awaits-starts : (n : ℕ) → Awaits t n → span_starts t n ≡ is_idle_at t n
   unfolding span_starts
   awaits-starts n w = rw (w.unjudged, w.uncut) (ends_in_true (is_idle_at t n))
@@ -149,7 +150,7 @@ module _ (t : Trace) where
       ends_in_true true = refl
       ends_in_true false = refl
 
-  -- and after another instant it is still awaited
+  -- where a stretch is awaited at n and n isn't idle, it is still awaited at n + 1
   pub awaits-next : (n : ℕ) → Awaits t n → is_idle_at t n ≡ false → Awaits t (suc n)
   awaits-next n w busy = record {
     unjudged =
@@ -175,7 +176,7 @@ module _ (t : Trace) where
             (omega arith)))) (any-fails (is_idle_at t) f (suc n) n busy before (omega arith))
       ]
 
-  -- the instant at which a stretch starts
+  -- a stretch starts at an idle instant
   pub starts-idle : (s : ℕ) → span_starts t s ≡ true → is_idle_at t s ≡ true
   unfolding span_starts
   starts-idle s h = (and_true _ _ (and_true _ _ h).0).0
@@ -188,7 +189,7 @@ module _ (t : Trace) where
         (and_true _ _ h).1;
   }
 
-  -- none starts after one was cut off, nor where the bus was idle since the last reset
+  -- no stretch starts after one was cut off, nor where the bus was idle since the last reset
   pub cut-no_start : (n : ℕ) → any (is_cut_off t) 0 n ≡ true → span_starts t n ≡ false
   cut-no_start n h =
       elim (bool_cases (span_starts t n)) [
@@ -210,7 +211,7 @@ module _ (t : Trace) where
         | inr none ↦ none
       ]
 
-  -- after one was cut off, that stays so
+  -- a stretch that was cut off before m was cut off before each later n
   pub cut-stays : (m n : ℕ) → any (is_cut_off t) 0 m ≡ true → m ≤ n → any (is_cut_off t) 0 n ≡ true
   cut-stays m zero h from = let e : m ≡ 0 = omega arith in ap (any (is_cut_off t) 0) (sym e) ∙ h
   cut-stays m (suc n) h from =
@@ -219,7 +220,7 @@ module _ (t : Trace) where
         | inr before ↦ cut-next n ∙ or_first _ _ (cut-stays m n h before)
       ]
 
-  -- a stretch ends past its start, at the latest past the last instant
+  -- a stretch ends after its start, at the latest one after the last instant
   pub end-after : (s : ℕ) → s ≤ last_instant t → s < span_end t s
   unfolding span_end
   end-after s within = by_end (least (stops_at t) (s + 1) (last_instant t + 1)) refl
@@ -238,7 +239,7 @@ module _ (t : Trace) where
       by_end None e = omega arith
       by_end (Some w) e = omega (arith, (least-found (stops_at t) (s + 1) (last_instant t + 1) w e).below)
 
-  -- at its end the bus is reset or control is lost, unless that is past the last instant
+  -- at the end of a stretch the bus is reset or a control line is lost, unless the end is after the last instant
   pub end-stops : (s : ℕ) → span_end t s ≤ last_instant t → stops_at t (span_end t s) ≡ true
   unfolding span_end
   end-stops s = by_end (least (stops_at t) (s + 1) (last_instant t + 1)) refl
@@ -248,7 +249,7 @@ module _ (t : Trace) where
       by_end None e within = absurd (omega arith)
       by_end (Some w) e within = (least-found (stops_at t) (s + 1) (last_instant t + 1) w e).holds
 
-  -- from instant to instant within a stretch
+  -- within a stretch, from instant to instant
   pub in-first : (s : ℕ) → span_starts t s ≡ true → s ≤ last_instant t → IsIn s s
   in-first s starts within = record { starts = starts; from = omega arith; before = end-after s within }
 
@@ -292,11 +293,11 @@ module _ (t : Trace) where
             )
       ]
 
-  -- no other starts within it, nor at its end
+  -- no other stretch starts within a stretch, nor at its end
   pub in-no_start : (s n : ℕ) → IsIn s n → span_starts t (suc n) ≡ false
   in-no_start s n h = idle-no_start (suc n) (in_started s n h).0
 
-  -- where it ends by a reset, the next is awaited
+  -- where a stretch ends by a reset, the next one is awaited
   pub in-reset : (s n : ℕ) → IsIn s n → is_reset_at t (suc n) ≡ true → Awaits t (suc (suc n))
   in-reset s n h reset = record {
     unjudged = was_idle-reset (suc n) reset;
@@ -304,7 +305,7 @@ module _ (t : Trace) where
         (reset-holds_at (suc n) reset));
   }
 
-  -- and where it ends by a loss, none comes after it
+  -- where a stretch ends by a lost control line, it is cut off
   pub in-lost : (s n : ℕ) → IsIn s n → loses_control_at t (suc n) ≡ true → any (is_cut_off t) 0 (suc (suc n)) ≡ true
   in-lost s n h lost = cut-next (suc n) ∙ or_second _ (loses_control_at t (suc n) && was_idle t (suc n))
       (rw (lost, (in_started s n h).0) refl)
@@ -320,7 +321,7 @@ module _ (t : Trace) where
         | inr busy ↦ awaiting (awaits-next n w busy)
       ]
 
-  -- where an instant is
+  -- each instant has its case of `Standing`
   pub standing : (n : ℕ) → n ≤ last_instant t → Standing n
   standing zero within = standing_awaited zero within awaits-first
   standing (suc n) within =
@@ -343,7 +344,7 @@ module _ (t : Trace) where
         | over cut ↦ over (cut-next (suc n) ∙ or_first _ _ cut)
       ]
 
-  -- what is known of a stretch
+  -- facts about a stretch that is judged
   span-is : (span : Stretch) → IsSpanOf t span → span ≡ span_from t span.start
   span-is span is = ap (λ end. from_to span.start end) is.ends
     where
@@ -362,7 +363,7 @@ module _ (t : Trace) where
   pub ends_within : (span : Stretch) → IsSpanOf t span → span.end ≤ last_instant t + 1
   ends_within span is = omega (arith, is.ends, end-within span.start)
 
-  -- from its start on and before its end nothing is lost, and the bus isn't reset
+  -- from its start on and before its end no control line is lost, and the bus isn't reset
   pub span_holds : (span : Stretch) (n : ℕ) → IsSpanOf t span → span.start ≤ n → n < span.end → loses_control_at t n
       ≡ false
   span_holds span n is from before = in-held span.start n (in_span span n is from before)
@@ -376,7 +377,7 @@ module _ (t : Trace) where
   pub span_stops : (span : Stretch) → IsSpanOf t span → span.end ≤ last_instant t → stops_at t span.end ≡ true
   span_stops span is within = ap (stops_at t) is.ends ∙ end-stops span.start (omega (arith, is.ends))
 
-  -- where it doesn't end by a reset, control is lost there
+  -- where a stretch ends within the recording and not by a reset, a control line is lost at its end
   pub span_lost : (span : Stretch) → IsSpanOf t span → span.end ≤ last_instant t → is_reset_at t span.end ≡ false
       → loses_control_at t span.end ≡ true
   span_lost span is within unreset = second_of _ _ unreset (span_stops span is within)
@@ -388,7 +389,7 @@ module _ (t : Trace) where
       by_end zero e = absurd (omega (arith, e, starts_before_end span is))
       by_end (suc n) e = (n, e, in_span span n is (omega (arith, e, starts_before_end span is)) (omega (arith, e)))
 
-  -- and no other starts then or later
+  -- where a stretch ends within the recording and not by a reset, no other starts at its end or later
   pub span_final : (span : Stretch) (j : ℕ) → IsSpanOf t span → span.end ≤ last_instant t → is_reset_at t span.end
       ≡ false → span.end ≤ j → span_starts t j ≡ false
   span_final span j is within unreset from =
@@ -401,19 +402,19 @@ module _ (t : Trace) where
             (omega (arith, last.1)))
       ]
 
-  -- where it ends by a reset, the next is awaited after it
+  -- where a stretch ends by a reset, the next one is awaited after its end
   pub span_reset : (span : Stretch) → IsSpanOf t span → is_reset_at t span.end ≡ true → Awaits t (suc span.end)
   span_reset span is reset =
       let last = last_of span is in
       subst (λ n. Awaits t (suc n)) (sym last.1) (in-reset span.start last.0 last.2 (ap (is_reset_at t) (sym last.1)
       ∙ reset))
 
-  -- no other starts within it, nor at its end
+  -- no other stretch starts within a stretch, nor at its end
   pub span_alone : (span : Stretch) (j : ℕ) → IsSpanOf t span → span.start < j → j ≤ span.end → span_starts t j ≡ false
   span_alone span zero is after upto = absurd (omega arith)
   span_alone span (suc n) is after upto = in-no_start span.start n (in_span span n is (omega arith) (omega arith))
 
-  -- a later one starts only after it ended by a reset
+  -- of two stretches the first one ends by a reset, before the second one starts
   pub spans_apart : (span next : Stretch) → IsSpanOf t span → IsSpanOf t next → span.start < next.start
       → (is_reset_at t span.end ≡ true) × (span.end < next.start)
   spans_apart span next is is_next order =
@@ -430,11 +431,11 @@ module _ (t : Trace) where
       by_test false e past = absurd
           (clash _ is_next.starts (span_final span next.start is (omega (arith, is_next.within)) e (omega arith)))
 
-  -- those of one start are one
+  -- stretches with the same start are the same
   pub spans_same : (span other : Stretch) → IsSpanOf t span → IsSpanOf t other → span.start ≡ other.start → span ≡ other
   spans_same span other is is_other e = span-is span is ∙ (ap (span_from t) e ∙ sym (span-is other is_other))
 
-  -- and an instant is in one at most
+  -- stretches with a common instant are the same
   pub spans_one : (span other : Stretch) (n : ℕ) → IsSpanOf t span → IsSpanOf t other → span.start ≤ n → n < span.end
       → other.start ≤ n → n < other.end → span ≡ other
   spans_one span other n is is_other from before from_other before_other =
@@ -466,7 +467,7 @@ module _ (t : Trace) where
   pub spans_kept : (n : ℕ) → span_starts t n ≡ false → spans_before (suc n) ≡ spans_before n
   spans_kept n h = ap (map (span_from t)) (those-same (span_starts t) 0 n h)
 
-  -- where one is awaited and no instant is idle any more, there is none
+  -- where a stretch is awaited at f and no instant from f on is idle, no stretch comes
   pub spans_none : (f : ℕ) → Awaits t f → any (is_idle_at t) f (last_instant t + 1) ≡ false → spans_after t f ≡ []
   spans_none f w busy =
       ap (map (span_from t))
@@ -492,7 +493,7 @@ module _ (t : Trace) where
       within_or_past : (m last : ℕ) → (m ≤ last + 1) ⊎ (last + 1 < m)
       within_or_past m last = grind arith
 
-  -- the next stretch starts past the end of one
+  -- the stretches that start after the start of one are those that start after its end
   starts_past : (span : Stretch) → IsSpanOf t span → spans_after t (span.start + 1) ≡ spans_after t (span.end + 1)
   starts_past span is =
       ap (map (span_from t)) (same_starts (span.start + 1) (span.end + 1) (omega (arith, starts_before_end span is))
@@ -509,7 +510,7 @@ module _ (t : Trace) where
   starts_there f i from within starts none = ap (map (span_from t)) (those-next (span_starts t) f (last_instant t + 1) i
       from (omega arith) starts none)
 
-  -- where one is awaited, the first idle instant starts it, and the others start past its end
+  -- where a stretch is awaited at f, the first idle instant i starts it, and the others start after its end
   pub spans_next : (f i : ℕ) → Awaits t f → f ≤ i → i ≤ last_instant t → is_idle_at t i ≡ true → any (is_idle_at t) f i
       ≡ false
       → IsSpanOf t (span_from t i) × (spans_after t f ≡ span_from t i ∷ spans_after t (span_end t i + 1))
@@ -522,7 +523,7 @@ module _ (t : Trace) where
             ∙ ap (λ spans. span_from t i ∷ spans) (starts_past (span_from t i) is),
       )
 
-  -- none comes after one that doesn't end by a reset
+  -- no stretch comes after one that doesn't end by a reset
   pub spans_final : (span : Stretch) → IsSpanOf t span → (span.end ≤ last_instant t → is_reset_at t span.end ≡ false)
       → spans_after t (span.end + 1) ≡ []
   spans_final span is unreset =
@@ -531,7 +532,7 @@ module _ (t : Trace) where
       (fails-any (span_starts t) (span.end + 1) (last_instant t + 1) (λ j a b. span_final span j is (omega arith)
       (unreset (omega arith)) (omega arith))))
 
-  -- each is in the list, with those that start before it and after it
+  -- `judged_spans` is the stretches that start before `span`, then `span`, then those that start after its end
   pub span_listed : (span : Stretch) → IsSpanOf t span → judged_spans t ≡ spans_before span.start ++ span
       ∷ spans_after t (span.end + 1)
   span_listed span is =
@@ -544,7 +545,7 @@ module _ (t : Trace) where
       ∙ (ap (λ first. first ∷ spans_after t (span.start + 1)) (sym (span-is span is)) ∙ ap (λ spans. span ∷ spans)
       (starts_past span is)))))
 
--- stretches in order: each but the last ends by a reset, before the next one starts
+-- the stretches are ones of t, in order: each but the last ends by a reset, before the next one starts
 abbrev pub AreInOrder : Trace → List Stretch → Type 0
 AreInOrder t [] = Unit {0}
 AreInOrder t (span ∷ []) = IsSpanOf t span
@@ -597,7 +598,7 @@ module _ (t : Trace) where
   pub spans_in_order : AreInOrder t (judged_spans t)
   spans_in_order = subst (AreInOrder t) (sym (spans_from_first t)) (ordered_from (last_instant t + 1) 0 (omega arith))
 
-  -- between a reset that ends one and the start of the next no instant is idle
+  -- from the end of a stretch on and before the start of the next one, no instant is idle
   pub busy_between : (span next : Stretch) (n : ℕ) → IsSpanOf t span → IsSpanOf t next → span.start < next.start
       → ((j : ℕ) → span.start < j → j < next.start → span_starts t j ≡ false) → span.end ≤ n → n < next.start
       → is_idle_at t n ≡ false

@@ -22,7 +22,7 @@ numbers : map (λ n. cond (nat_lt n 10) (two_digits n) (decimal n)) (range_with_
 unfolding digits
 numbers = refl
 
--- from 10 on two digits are what is written
+-- from 10 on and below 100, the decimal text of a number is its two digits
 pub decimal-two_digits : (n : ℕ) → 10 ≤ n → n < 100 → decimal n ≡ two_digits n
 decimal-two_digits n low high =
     sym (later (nat_lt n 10) (not_below n low))
@@ -67,7 +67,7 @@ later_differs n m before below e =
 order_of : (n m : ℕ) → (n < m) ⊎ ((n ≡ m) ⊎ (m < n))
 order_of n m = grind arith
 
--- lines of one name are one line
+-- lines with the same name are the same
 pub line_name-injective : (n m : ℕ) → n < line_count → m < line_count → line_name n ≡ line_name m → n ≡ m
 line_name-injective n m a b e =
     elim (order_of n m) [
@@ -79,7 +79,7 @@ not_true : (b : Bool) → (b ≡ true → ⊥) → b ≡ false
 not_true true h = absurd (h refl)
 not_true false h = refl
 
--- the line of a name is the one that has it
+-- the line n that has a name is the one that `line_named` finds by it
 pub line_named-is : (n : ℕ) (name : List ℕ) → n < line_count → line_name n ≡ name → line_named name ≡ Some n
 unfolding line_named
 line_named-is n name below e =
@@ -129,7 +129,7 @@ pub rule_named-found : (r : Rule) (name : List ℕ) → rule_named name ≡ Some
 unfolding rule_named
 rule_named-found r name e = same_text _ _ (find-holds (is_rule_name name) all_rules r e)
 
--- so of what is found it is the name
+-- a rule that is found by a name has that name
 pub named_by : (o : Option Rule) (name : List ℕ) → o ≡ rule_named name → IfSome o (λ r. rule_name r ≡ name)
 named_by None name e = tt
 named_by (Some r) name e = rule_named-found r name (sym e)

@@ -1,11 +1,11 @@
--- Laws of the searches over a range.
+-- Laws of the searches over a range, from f on and before n.
 use Rattle.std.proofs.Common.{◌≡◌, ℕ, zero, suc, ◌+◌, ◌<◌, ◌≤◌, Bool, true, false, ◌&&◌, ◌||◌, not, refl, sym, ◌∙◌, ap}
 use Rattle.std.proofs.Common.{arith, add-one, inl, inr, ◌⊎◌, cond, subst, [], ◌∷◌, ◌++◌, append_assoc, append-nil}
 use Rattle.std.specs.Prelude.{Option, None, Some, nat_le}
 use Rattle.std.proofs.lemmas.Bool.Decides.{nat_tests}
 use Rattle.vme_trace.specs.Instants.{any, every, least, those}
 
--- one more at the end
+-- `any` over a range with one more number, n, at its end
 pub any-step : (p : ℕ → Bool) (f n : ℕ) → any p f (n + 1) ≡ (any p f n || (nat_le f n && p n))
 unfolding any
 any-step p f n = rw add-one refl
@@ -31,14 +31,14 @@ or_none : (a b : Bool) → (a || b) ≡ false → (a ≡ false) × (b ≡ false)
 or_none true b h = absurd (cc)
 or_none false b h = (refl, h)
 
--- where one of the range holds, the test finds it
+-- where p holds of some number of the range, `any` is true
 pub any-holds : (p : ℕ → Bool) (f n i : ℕ) → f ≤ i → i < n → p i ≡ true → any p f n ≡ true
 unfolding any
 any-holds p f zero i in_range below h = absurd (omega arith)
 any-holds p f (suc n) i in_range below h = or_holds p f n i (any p f n) in_range below h
     (λ b. any-holds p f n i in_range b h)
 
--- where the test finds none, none holds
+-- where `any` is false, p holds of no number of the range
 pub any-fails : (p : ℕ → Bool) (f n i : ℕ) → any p f n ≡ false → f ≤ i → i < n → p i ≡ false
 unfolding any
 any-fails p f zero i none in_range below = absurd (omega arith)
@@ -48,7 +48,7 @@ any-fails p f (suc n) i none in_range below = or_fails p f n i (any p f n) none 
 and_fails : (p : ℕ → Bool) (f n : ℕ) → (f ≤ n → p n ≡ false) → (nat_le f n && p n) ≡ false
 and_fails p f n h = grind (arith, nat_tests)
 
--- where none holds, the test finds none
+-- where p holds of no number of the range, `any` is false
 pub fails-any : (p : ℕ → Bool) (f n : ℕ) → ((i : ℕ) → f ≤ i → i < n → p i ≡ false) → any p f n ≡ false
 unfolding any
 fails-any p f zero h = refl
@@ -62,7 +62,7 @@ pub any-empty : (p : ℕ → Bool) (f : ℕ) → any p f 0 ≡ false
 unfolding any
 any-empty p f = refl
 
--- the least is found where none before holds
+-- a number of which p holds, and of none before it in the range, is the least
 pub least-is : (p : ℕ → Bool) (f n i : ℕ) → f ≤ i → i < n → p i ≡ true → any p f i ≡ false → least p f n ≡ Some i
 unfolding least any
 least-is p f zero i in_range below h first = absurd (omega arith)
@@ -76,11 +76,11 @@ least_nowhere : (a b : Bool) (o : Option ℕ) (n : ℕ) → o ≡ None → a ≡
     → (cond a o (cond b (Some n) None)) ≡ None
 least_nowhere a b o n e h k = rw (h, k) refl
 
--- where one of the range fails, not every one holds
+-- where p fails of some number of the range, `every` is false
 pub every-fails : (p : ℕ → Bool) (f n i : ℕ) → f ≤ i → i < n → p i ≡ false → every p f n ≡ false
 every-fails p f n i in_range below h = rw (any-holds (λ k. not (p k)) f n i in_range below (rw h refl)) refl
 
--- there is no least where none holds
+-- where p holds of no number of the range, `least` is None
 pub least-none : (p : ℕ → Bool) (f n : ℕ) → any p f n ≡ false → least p f n ≡ None
 unfolding least any
 least-none p f zero none = refl
@@ -95,7 +95,7 @@ and_holds : (a b : Bool) → (a && b) ≡ true → (a ≡ true) × (b ≡ true)
 and_holds true b h = (refl, h)
 and_holds false b h = absurd (cc)
 
--- what it is to be the least
+-- i is the least number of the range of which p holds
 pub record IsLeast (p : ℕ → Bool) (f n i : ℕ) : Type 0 where
   pub first : f ≤ i
   pub below : i < n
@@ -109,7 +109,7 @@ last_is : (n i : ℕ) (b : Bool) → cond b (Some n) None ≡ Some i → (b ≡ 
 last_is n i true h = (refl, cc)
 last_is n i false h = absurd (cc)
 
--- the least that was found is the least
+-- what `least` finds is the least number of which p holds
 pub least-found : (p : ℕ → Bool) (f n i : ℕ) → least p f n ≡ Some i → IsLeast p f n i
 unfolding least any
 least-found p f zero i h = absurd (cc)
@@ -137,14 +137,14 @@ cond_none : (n : ℕ) (b : Bool) → cond b (Some n) None ≡ None → b ≡ fal
 cond_none n true h = absurd (cc)
 cond_none n false h = refl
 
--- tests that agree in the range find the same
+-- where p and q agree in the range, so do `any` of p and of q
 pub any-alike : (p q : ℕ → Bool) (f n : ℕ) → ((i : ℕ) → f ≤ i → i < n → p i ≡ q i) → any p f n ≡ any q f n
 unfolding any
 any-alike p q f zero alike = refl
 any-alike p q f (suc n) alike = rw (any-alike p q f n (λ i a b. alike i a (omega arith)))
     (ap (λ b. any q f n || b) (both_alike p q f n (λ a. alike n a (omega arith))))
 
--- and have the same least
+-- where p and q agree in the range, so do `least` of p and of q
 pub least-alike : (p q : ℕ → Bool) (f n : ℕ) → ((i : ℕ) → f ≤ i → i < n → p i ≡ q i) → least p f n ≡ least q f n
 unfolding least
 least-alike p q f zero alike = refl
@@ -155,7 +155,7 @@ least-alike p q f (suc n) alike =
       both_alike p q f n (λ a. alike n a (omega arith)),
     ) refl
 
--- where there is no least, none holds
+-- where `least` is None, p holds of no number of the range
 pub least-none-any : (p : ℕ → Bool) (f n : ℕ) → least p f n ≡ None → any p f n ≡ false
 unfolding least any
 least-none-any p f zero e = refl
@@ -165,11 +165,11 @@ least-none-any p f (suc n) e =
       | inr none ↦ rw (none.0, cond_none n (nat_le f n && p n) none.1) refl
     ]
 
--- where some holds, there is a least
+-- where p holds of some number of the range, there is a least one
 pub any-least : (p : ℕ → Bool) (f n : ℕ) → any p f n ≡ true → (i : ℕ) × (least p f n ≡ Some i)
 any-least p f n h = some_or_none (least p f n) (λ e. clash (any p f n) h (least-none-any p f n e))
 
--- one more holds
+-- where p holds of all of the range and of n, it holds of all of the range with n at its end
 pub every-more : (p : ℕ → Bool) (f n : ℕ) → every p f n ≡ true → p n ≡ true → every p f (n + 1) ≡ true
 every-more p f n so_far here = ap not (any-step (λ k. not (p k)) f n) ∙ more (any (λ k. not (p k)) f n) (nat_le f n)
     (p n) so_far here
@@ -215,7 +215,7 @@ any-split p f m (suc n) a b =
     regroup true b x y z h k = refl
     regroup false b x y z h k = rw (h, k) refl
 
--- a range in two parts
+-- p holds of all of a range just if it does before m and from m on
 pub every-split : (p : ℕ → Bool) (f m n : ℕ) → f ≤ m → m ≤ n → every p f n ≡ (every p f m && every p m n)
 every-split p f m n a b = ap not (any-split (λ k. not (p k)) f m n a b) ∙ or_splits (any (λ k. not (p k)) f m)
     (any (λ k. not (p k)) m n)
@@ -226,7 +226,7 @@ every-alike p q f n alike = ap not (any-alike (λ k. not (p k)) (λ k. not (q k)
 pub every-holds : (p : ℕ → Bool) (f n : ℕ) → ((i : ℕ) → f ≤ i → i < n → p i ≡ true) → every p f n ≡ true
 every-holds p f n h = ap not (fails-any (λ k. not (p k)) f n (λ i a b. ap not (h i a b)))
 
--- none of a range where none holds
+-- `those` is empty where p holds of no number of the range
 pub those-none : (p : ℕ → Bool) (f n : ℕ) → any p f n ≡ false → those p f n ≡ []
 unfolding those any
 those-none p f zero none = refl
@@ -237,7 +237,7 @@ and_off : (a b : Bool) → b ≡ false → (a && b) ≡ false
 and_off true b h = h
 and_off false b h = refl
 
--- one more of them, or no more
+-- `those` of the range with n at its end has one more, n, where p holds of n, and no more where it doesn't
 pub those-more : (p : ℕ → Bool) (f n : ℕ) → f ≤ n → p n ≡ true → those p f (suc n) ≡ those p f n ++ n ∷ []
 unfolding those
 those-more p f n from h = rw (here p f n from h) refl
@@ -246,7 +246,7 @@ pub those-same : (p : ℕ → Bool) (f n : ℕ) → p n ≡ false → those p f 
 unfolding those
 those-same p f n h = rw (and_off (nat_le f n) (p n) h) (append-nil (those p f n))
 
--- of a range in two parts
+-- `those` of a range are those before m and then those from m on
 pub those-split : (p : ℕ → Bool) (f m n : ℕ) → f ≤ m → m ≤ n → those p f n ≡ those p f m ++ those p m n
 those-split p f m zero a b =
     let e : m ≡ 0 = omega arith in
@@ -272,7 +272,7 @@ those-split p f m (suc n) a b =
         ∙ ap (λ xs. those p f m ++ xs) (sym (those-more p m n c e))))
     by_last false e c earlier = those-same p f n e ∙ (earlier ∙ ap (λ xs. those p f m ++ xs) (sym (those-same p m n e)))
 
--- the first, and those after it
+-- where i is the first number of the range of which p holds, `those` are i and then those after i
 pub those-next : (p : ℕ → Bool) (f n i : ℕ) → f ≤ i → i < n → p i ≡ true → any p f i ≡ false → those p f n ≡ i
     ∷ those p (i + 1) n
 those-next p f n i from below h first =

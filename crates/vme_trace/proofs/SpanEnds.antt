@@ -1,4 +1,4 @@
--- Where a span ends, what can be read within it, and what breaks there.
+-- Where a span ends, which levels are known within it, and what is broken at its end.
 use Rattle.std.proofs.Common.{lit<, lit≤, ◌≡◌, ℕ, zero, suc, ◌+◌, ◌<◌, ◌≤◌, Bool, true, false, ◌&&◌, ◌||◌, not, List}
 use Rattle.std.proofs.Common.{refl, sym, ◌∙◌, ap, arith, inl, inr, ◌⊎◌}
 use Rattle.std.specs.Prelude.{Option, None, Some, slice_get, ◌==◌, nat_le, unwrap_or}
@@ -22,7 +22,7 @@ use Rattle.vme_trace.proofs.Changing.{slots-kept}
 suc-is : (n : ℕ) → suc n ≡ n + 1
 suc-is n = omega arith
 
--- the end of a span is past the instants at which it went on
+-- where no instant after s up to n ends a span that starts at s, its end is after n
 pub end-past : (t : Trace) (s n : ℕ) → any (stops_at t) (s + 1) (n + 1) ≡ false → n ≤ last_instant t → n < span_end t s
 unfolding span_end
 end-past t s n held within = past (least (stops_at t) (s + 1) (last_instant t + 1)) refl
@@ -39,7 +39,7 @@ end-past t s n held within = past (least (stops_at t) (s + 1) (last_instant t + 
               found.first (omega arith)))
         ]
 
--- and is the first at which it doesn't
+-- the first instant after s that ends a span is the end of the span that starts at s
 pub end-is : (t : Trace) (s n : ℕ) → any (stops_at t) (s + 1) (n + 1) ≡ false → s ≤ n → n < last_instant t
     → stops_at t (suc n) ≡ true → span_end t s ≡ suc n
 unfolding span_end
@@ -66,7 +66,7 @@ all_but_last a b c true e f g h k m = rw (h, k, m) refl
 all_but_last a b c false e f g h k m = rw h refl
 
 module _ (t : Trace) (s n : ℕ) where
-  -- at a judged instant U1 isn't broken
+  -- where no control line is lost at n + 1, U1 isn't broken there
   pub u1-held : loses_control_at t (suc n) ≡ false → (l : ℕ) → l < line_count → breaks t (span_from t s) U1 (suc n) l
       ≡ false
   unfolding breaks is_broken loses_control_at loses_control
@@ -74,7 +74,7 @@ module _ (t : Trace) (s n : ℕ) where
       (nat_le (suc n) (last_instant t)) (is_lost (levels_at t (suc n)) l) (any-fails (is_lost (levels_at t (suc n))) 0
       line_count l held (omega arith) below)
 
-  -- at the end of the span it is, on each lost line; where the bus is reset, no line is lost
+  -- at the end of the span U1 is broken on exactly the lost lines; where the bus is reset, no line is lost
   pub u1-lost : span_end t s ≡ suc n → n < last_instant t → (l : ℕ) → breaks t (span_from t s) U1 (suc n) l
       ≡ is_lost (levels_at t (suc n)) l
   unfolding breaks is_broken
@@ -113,15 +113,15 @@ goes_on t s j after before = by_end (least (stops_at t) (s + 1) (last_instant t 
     by_end (Some w) e b = let found = least-found (stops_at t) (s + 1) (last_instant t + 1) w e in
         any-fails (stops_at t) (s + 1) w j found.least (omega arith) b
 
--- within a span nothing is lost
+-- within a span no control line is lost
 pub not_lost : (t : Trace) (s j : ℕ) → s < j → j < span_end t s → loses_control_at t j ≡ false
 not_lost t s j after before = (or_false (is_reset_at t j) (loses_control_at t j) (goes_on t s j after before)).1
 
--- and the bus isn't reset
+-- within a span the bus isn't reset
 pub not_reset : (t : Trace) (s j : ℕ) → s < j → j < span_end t s → is_reset_at t j ≡ false
 not_reset t s j after before = (or_false (is_reset_at t j) (loses_control_at t j) (goes_on t s j after before)).0
 
--- after an idle instant the strobes can be read
+-- after an idle instant both strobes are known, in the span that starts there
 pub reads_strobes : (t : Trace) (s : ℕ) → is_idle_at t s ≡ true → ReadsStrobes t (span_from t s)
 unfolding is_idle_at is_idle high known is_reset_at loses_control_at loses_control
 reads_strobes t s idle = record {
@@ -147,7 +147,7 @@ reads_strobes t s idle = record {
 last_or_before : (j k : ℕ) → j ≤ suc k → (j ≡ suc k) ⊎ (j ≤ k)
 last_or_before j k h = grind arith
 
--- a break stays the least, whatever comes later
+-- the first break before j is also the first break before a later k
 pub break_before-stays : (t : Trace) (span : Stretch) (rules : List Rule) (b : Break) (j k : ℕ) → break_before t span
     rules j ≡ Some b → j ≤ k → break_before t span rules k ≡ Some b
 unfolding break_before

@@ -18,6 +18,6 @@ block_at size t k = record { number = k; opening = levels_at t (k * size); steps
 abbrev pub blocks_of : ℕ → Trace → List Block
 blocks_of size t = map (block_at size t) (range_with_len 0 (block_count size t))
 
--- the steps of some blocks, one block after the other
+-- the steps of `blocks`, one block after the other
 abbrev pub joined_steps : List Block → List Step
 joined_steps blocks = flat_map (λ b. b.steps) blocks

@@ -1,4 +1,4 @@
--- What the lines say of a cycle as the address strobe falls: the class of the cycle, and the lines
+-- What the levels at the fall of the address strobe determine: the class of the cycle, and the lines
 -- that it needs.
 use Rattle.std.specs.Prelude.{ℕ, Bool, true, false, not, ◌==◌, ◌+◌, ◌*◌, ◌&&◌, ◌||◌, List, [], ◌∷◌, nat_le}
 use Rattle.std.specs.Prelude.{Option, None, Some, if◌then◌else◌}
@@ -34,14 +34,14 @@ is_short code = is_among (0x29 ∷ 0x2D ∷ []) code
 abbrev pub is_block : ℕ → Bool
 is_block code = is_among (0x0B ∷ 0x0F ∷ 0x3B ∷ 0x3F ∷ []) code
 
--- the highest address line that is meaningful in a space, or 0 where an address is of none
+-- the number of the highest address line that is meaningful in a space, or 0 without a space
 abbrev pub highest_in : Option Space → ℕ
 highest_in None = 0
 highest_in (Some Short) = 15
 highest_in (Some Standard) = 23
 highest_in (Some Extended) = 31
 
--- the number of the highest address line that a code makes meaningful, or 0 where it makes none so
+-- the number of the highest address line that is meaningful with a code, or 0 where none is
 unfoldable pub highest_address : ℕ → ℕ
 highest_address code = if is_extended code then 31 else if is_standard code then 23 else if is_short code then 15 else 0
 
@@ -60,8 +60,8 @@ class_of v =
     else if highest_address (modifier_of v) == 0 then class.F
     else class.S
 
--- a choice of lines: the interrupt acknowledge line, the address lines up to a highest one, if any, and
--- the address modifier with the long word line, or without
+-- a set of lines: IACK; the address lines from 1 to `highest`, none where that is 0; and, where `modifier` is true,
+-- the address modifier and LWORD
 pub record Needs : Type 0 where
   pub modifier : Bool
   pub highest : ℕ

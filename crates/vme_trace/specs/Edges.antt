@@ -1,4 +1,4 @@
--- What a step does to a line, and to the strobes and the answers, as the levels on both sides of it show.
+-- What a step does to a line, to the strobes and to the answers, by the levels v before it and w after it.
 use Rattle.std.specs.Prelude.{ℕ, Bool, ◌&&◌, ◌||◌}
 use Rattle.vme_trace.specs.LineNumbers.{DS0, DS1, DTACK, BERR}
 use Rattle.vme_trace.specs.Levels.{Levels, level_at, is_low, is_high}

@@ -25,7 +25,7 @@ loses_control_at t i = loses_control (levels_at t i)
 abbrev pub stops_at : Trace → ℕ → Bool
 stops_at t i = is_reset_at t i || loses_control_at t i
 
--- the next instant after s at which the bus is reset or a control line is unknown, or past the last
+-- the next instant after s at which the bus is reset or a control line is unknown, or one more than the last instant
 unfoldable pub span_end : Trace → ℕ → ℕ
 span_end t s = unwrap_or (least (stops_at t) (s + 1) (last_instant t + 1)) (last_instant t + 1)
 
@@ -36,15 +36,15 @@ span_from t s = record { start = s; end = span_end t s }
 abbrev pub last_reset : Trace → ℕ → ℕ
 last_reset t i = unwrap_or (greatest (is_reset_at t) 0 i) 0
 
--- the bus was idle before an instant, and since the last reset
+-- the bus was idle at some instant before i, and since the last reset before i
 unfoldable pub was_idle : Trace → ℕ → Bool
 was_idle t i = any (is_idle_at t) (last_reset t i) i
 
--- an unknown control line ends the stretch that is judged, and no other comes after it
+-- at i an unknown control line ends the stretch that is judged; no stretch comes after it
 unfoldable pub is_cut_off : Trace → ℕ → Bool
 is_cut_off t i = loses_control_at t i && was_idle t i
 
--- a stretch that is judged starts at the first idle instant of all, or since a reset, unless one was cut off before
+-- a stretch that is judged starts at the first idle instant of all, or since a reset, unless an earlier one was cut off
 unfoldable pub span_starts : Trace → ℕ → Bool
 span_starts t i = is_idle_at t i && not (was_idle t i) && none (is_cut_off t) 0 i
 
@@ -52,16 +52,17 @@ span_starts t i = is_idle_at t i && not (was_idle t i) && none (is_cut_off t) 0 
 unfoldable pub judged_spans : Trace → List Stretch
 judged_spans t = map (span_from t) (those (span_starts t) 0 (last_instant t + 1))
 
--- those that start at an instant or later
+-- the stretches that are judged and start at instant n or later
 abbrev pub spans_after : Trace → ℕ → List Stretch
 spans_after t n = map (span_from t) (those (span_starts t) n (last_instant t + 1))
 
--- no stretch is judged before an instant any more, and the next idle one starts one
+-- before instant n the bus wasn't idle since the last reset, and no stretch was cut off: the next idle instant, from n
+-- on, starts a stretch
 pub record Awaits (t : Trace) (n : ℕ) : Type 0 where
   pub unjudged : was_idle t n ≡ false
   pub uncut : any (is_cut_off t) 0 n ≡ false
 
--- this is one of them
+-- `span` is one of the stretches of t that are judged
 pub record IsSpanOf (t : Trace) (span : Stretch) : Type 0 where
   pub within : span.start ≤ last_instant t
   pub starts : span_starts t span.start ≡ true

@@ -1,4 +1,4 @@
--- The data that a transfer moves: which bytes, and what their lines say, in hexadecimal digits of four lines each.
+-- The data that a transfer moves: which bytes, and the levels of their lines as hexadecimal digits of four lines each.
 use Rattle.std.specs.Prelude.{ℕ, Bool, false, not, ◌+◌, ◌*◌, ◌&&◌, nat_lt, nat_le, if◌then◌else◌}
 use Rattle.vme_trace.specs.LineNumbers.{D}
 use Rattle.vme_trace.specs.Levels.{Levels, level_at, is_high, is_known}
@@ -7,7 +7,7 @@ use Rattle.vme_trace.specs.declared.data.MovedBytes.{MovedBytes}
 use Rattle.vme_trace.specs.declared.data.MovedBytes.TheVariants.{Nothing, OddByte, EvenByte, Word, LongWord}
 use Rattle.vme_trace.specs.declared.data.Lanes.{Lanes}
 
--- the digit at a place, 0 that of D00 to D03 and 7 that of D28 to D31, is among the bytes
+-- the digit at place k is among the bytes; place 0 is that of D00 to D03, and 7 that of D28 to D31
 abbrev pub has_digit : MovedBytes → ℕ → Bool
 has_digit Nothing k = false
 has_digit OddByte k = nat_lt k 2
@@ -16,7 +16,7 @@ has_digit Word k = nat_lt k 4
 has_digit LongWord k = nat_lt k 8
 
 module _ (v : Levels) where
-  -- the bytes of which the lines are selected
+  -- the bytes whose lines are selected
   unfoldable pub moved_at : MovedBytes
   moved_at =
       if is_selected v (D 16) then LongWord
@@ -25,28 +25,28 @@ module _ (v : Levels) where
       else if is_selected v (D 8) then EvenByte
       else Nothing
 
-  -- the lines of a digit are selected
+  -- the lines of digit k are selected
   abbrev pub is_digit_moved : ℕ → Bool
   is_digit_moved k = is_selected v (D (4 * k))
 
-  -- each line of a digit is known
+  -- each line of digit k is known
   abbrev pub is_digit_known : ℕ → Bool
   is_digit_known k =
       is_known (level_at v (D (4 * k))) && is_known (level_at v (D (4 * k + 1)))
       && is_known (level_at v (D (4 * k + 2))) && is_known (level_at v (D (4 * k + 3)))
 
-  -- a data line counts so much where it is high
+  -- the weight w where data line n is high, else 0
   abbrev pub weight_at : ℕ → ℕ → ℕ
   weight_at n w = if is_high (level_at v (D n)) then w else 0
 
-  -- the digit at a place, where it is moved and known, else 0
+  -- digit k, where it is moved and known, else 0
   unfoldable pub digit_at : ℕ → ℕ
   digit_at k =
       if is_digit_moved k && is_digit_known k
       then weight_at (4 * k) 1 + weight_at (4 * k + 1) 2 + weight_at (4 * k + 2) 4 + weight_at (4 * k + 3) 8
       else 0
 
-  -- 1 where the digit at a place is moved and not known, else 0
+  -- 1 where digit k is moved and not known, else 0
   unfoldable pub flag_at : ℕ → ℕ
   flag_at k = if is_digit_moved k && not (is_digit_known k) then 1 else 0
 

@@ -1,4 +1,4 @@
--- The levels that the lines of a backplane show at one instant, and what they say by themselves.
+-- The levels of the lines of a backplane at one instant, and what they alone determine.
 use Rattle.std.specs.Prelude.{ℕ, Bool, true, false, not, ◌+◌, ◌==◌, ◌&&◌, ◌||◌, List, slice_set, slice_get, unwrap_or}
 use Rattle.std.specs.Prelude.{nat_le, if◌then◌else◌}
 use Rattle.vme_trace.specs.Instants.{any, every}
@@ -44,15 +44,15 @@ is_known_on v l = is_known (level_at v l)
 abbrev pub rests_high : ℕ → Bool
 rests_high l = nat_le l BERR || is_net l || (l == SYSRESET)
 
--- the line shows what an idle bus shows on it: a control line is known, and high if it rests high
+-- the line has a level that it may have on an idle bus: a control line is known, and high if it rests high
 abbrev pub is_idle_on : Levels → ℕ → Bool
 is_idle_on v l = if not (is_control v.slots l) then true else if rests_high l then is_high_on v l else is_known_on v l
 
--- each line shows what an idle bus shows on it
+-- each line has a level that it may have on an idle bus
 unfoldable pub is_idle : Levels → Bool
 is_idle v = every (is_idle_on v) 0 line_count
 
--- the same, by the ranges of lines that the backplane has
+-- the bus is idle, by the ranges of lines that the backplane has
 abbrev pub idle_by_ranges : Levels → Bool
 idle_by_ranges v =
     every (is_high_on v) AS (BERR + 1)
@@ -69,7 +69,7 @@ idle_by_ranges v =
 abbrev pub is_reset : Levels → Bool
 is_reset v = is_low (level_at v SYSRESET)
 
--- a control line of which nothing is known, on a bus that isn't reset
+-- the line is an unknown control line, on a bus that isn't reset
 abbrev pub is_lost : Levels → ℕ → Bool
 is_lost v l = is_control v.slots l && not (is_known_on v l) && not (is_reset v)
 

@@ -12,7 +12,7 @@ use Rattle.vme_trace.specs.declared.rule.Rule.{Rule}
 abbrev pub two_digits : ℕ → List ℕ
 two_digits n = (48 + n / 10) ∷ (48 + n % 10) ∷ []
 
--- the name of the line of a number
+-- the name of the line with the number l
 abbrev pub line_name : ℕ → List ℕ
 line_name l =
     if l == AS then codes "AS"
@@ -42,7 +42,7 @@ line_named name = least (is_line_name name) 0 line_count
 abbrev pub is_rule_name : List ℕ → Rule → Bool
 is_rule_name name r = bytes_eq (rule_name r) name
 
--- the place of a rule among all
+-- the place of a rule in `all_rules`, from 0
 abbrev pub rule_number : Rule → ℕ
 rule_number r = position_or_len (is_rule_name (rule_name r)) all_rules
 

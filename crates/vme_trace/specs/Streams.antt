@@ -1,15 +1,17 @@
--- What sources and sinks tell of themselves, and what a read and a write do to their counts.
+-- What a source and a sink specify of themselves, and what a read and a write do to their counts.
 use Rattle.std.specs.Prelude.{◌≡◌, ◌<◌, ◌≤◌, ℕ, suc, List, Option, Result, MatchResult}
 
--- what a source tells: the bytes that reads give from here on, where they are told; how many reads gave bytes; how many
--- of these were short, and gave fewer bytes than they were offered room for; and how many failed
+-- of a source: `left` is the bytes that reads give from here on, or None where that isn't specified; `reads` is how
+-- many reads gave bytes, `short_reads` how many of these gave fewer bytes than they had room for, and `failures` how
+-- many reads failed
 pub record Reading : Type 0 where
   pub left : Option (List ℕ)
   pub reads : ℕ
   pub short_reads : ℕ
   pub failures : ℕ
 
--- what a sink tells: the bytes that were taken so far, where they are told; and how many writes failed
+-- of a sink: `taken` is the bytes that were taken so far, or None where that isn't specified; `failures` is how many
+-- writes failed
 pub record Writing : Type 0 where
   pub taken : Option (List ℕ)
   pub failures : ℕ

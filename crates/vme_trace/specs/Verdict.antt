@@ -21,22 +21,22 @@ abbrev pub rules_in_force : List Rule
 rules_in_force = all_rules
 
 module _ (t : Trace) (span : Stretch) where
-  -- the least line on which a rule is broken at an instant
+  -- the break of rule r at instant j, on the least line, if there is one
   unfoldable pub rule_break : ℕ → Rule → Option Break
   rule_break j r = option_map (λ l. record { instant = j; time = time_at t j; rule = r; line = l })
       (least (breaks t span r j) 0 line_count)
 
-  -- the first of some rules that is broken at an instant
+  -- the break at instant j of the first rule of the list that is broken there, if there is one
   unfoldable pub break_at : List Rule → ℕ → Option Break
   break_at [] j = None
   break_at (r ∷ rs) j = option_or (rule_break j r) (break_at rs j)
 
-  -- the first break before an instant
+  -- the first break of the rules before instant j, if there is one
   unfoldable pub break_before : List Rule → ℕ → Option Break
   break_before rules zero = None
   break_before rules (suc j) = option_or (break_before rules j) (break_at rules j)
 
-  -- the least break of some rules
+  -- the least break of the rules
   unfoldable pub least_break : List Rule → Option Break
   least_break rules = break_before rules (last_instant t + 1)
 
@@ -44,7 +44,7 @@ abbrev pub verdict_on : Option Break → Verdict
 verdict_on None = Conforming
 verdict_on (Some b) = if is_unreadable b.rule then Unreadable b else Broken b
 
--- the least break of some rules in stretches that follow one another
+-- the least break of the rules in stretches that follow one another
 abbrev pub least_of : List Rule → Trace → List Stretch → Option Break
 least_of rules t [] = None
 least_of rules t (span ∷ []) = least_break t span rules
@@ -54,7 +54,7 @@ abbrev pub judge : List Rule → Trace → List Stretch → Verdict
 judge rules t [] = NeverIdle
 judge rules t (span ∷ spans) = verdict_on (least_of rules t (span ∷ spans))
 
--- the verdict by some rules
+-- the verdict by the rules of a list
 unfoldable pub verdict_by : List Rule → Trace → Verdict
 verdict_by rules t = judge rules t (judged_spans t)
 

@@ -24,7 +24,8 @@ pub struct Block {
     pub steps: Steps,
 }
 
-/// Whether the changes name lines that exist, in their order, and each a level that the line hadn't.
+/// Whether the changes name lines that exist, in the order of their numbers, and each gives its line another level than
+/// it has in `lines`.
 #[tactic(auto, unfolding(crate::specs::WellFormed::are_changes))]
 fn are_changes_of(lines: &Lines, changes: &[Change]) -> bool
     ensures { result ≡ are_changes lines.now 0 changes.now }
@@ -40,7 +41,7 @@ fn are_changes_of(lines: &Lines, changes: &[Change]) -> bool
     true
 }
 
-/// Whether a step may be after n others, which left these levels and this time.
+/// Whether `step` may follow `n` other steps, which left the levels `lines` and the time `time`.
 fn may_stand(lines: &Lines, n: usize, time: u64, step: &Step) -> bool
     ensures { result ≡ may_follow lines.now n time step.now }
 {
@@ -68,7 +69,7 @@ impl Block {
         Block::copied(alloc, self.number, &mut opening, self.steps.as_slice())
     }
 
-    /// A block of copies of some steps. The levels before it go on to those after it.
+    /// A block of copies of `steps`, whose opening is `lines`. Then `lines` becomes the levels after `steps`.
     pub(crate) fn copied(
         alloc: Global,
         number: u32,

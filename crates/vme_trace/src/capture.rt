@@ -44,8 +44,8 @@ impl Model for Capture {
 }
 
 impl Capture {
-    /// A capture of the steps, or the steps again with the first one that no capture has there: one that
-    /// doesn't follow those before it, or the first past 268,435,456.
+    /// A capture of the steps. Otherwise the steps again, and the first one that a capture can't have: one that
+    /// doesn't follow those before it, or the first after 268,435,456.
     pub fn new(opening: Lines, steps: Vec<Step>) -> Result<Capture, (Vec<Step>, Malformed)>
         ensures ok { MatchResult result (λ capture. capture ≡ record { opening = opening; steps = steps.items })
             (λ e. e.0 ≡ steps) }
@@ -64,7 +64,7 @@ impl Capture {
         }
     }
 
-    /// A capture of steps of which each is known to follow those before it: their times ascend, in the unit of the
+    /// A capture of steps each of which is known to follow those before it: their times ascend, in the unit of the
     /// recording, and each changes the level of some lines that exist, named in their order. No step is looked at. Over
     /// 268,435,456 steps there is no capture, and the steps are dropped.
     pub fn from_well_formed(opening: Lines, steps: Vec<Step>) -> Option<Capture>

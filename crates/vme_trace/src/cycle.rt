@@ -85,7 +85,7 @@ fn is_modifier_known(lines: &Lines) -> bool
     true
 }
 
-/// A space of addresses, by how many address lines are meaningful.
+/// An address space, by how many address lines are meaningful.
 #[derive(Clone, Copy, Debug, PartialEq, Eq)]
 pub enum Space {
     /// Short, of 16 bits: A01 to A15.
@@ -99,7 +99,7 @@ pub enum Space {
 impl Space {
     ghost use Rattle.vme_trace.specs.Cycle.{highest_in};
 
-    /// The space of an address modifier code, if it is a code of one.
+    /// The address space of an address modifier code; `None` for a code without one.
     #[tactic(auto, unfolding(crate::specs::Cycle::highest_address))]
     pub fn of(modifier: u8) -> Option<Space>
         ensures { highest_address modifier ≡ highest_in result }
@@ -113,7 +113,7 @@ impl Space {
     }
 }
 
-/// The highest address line that a code makes meaningful, 31, 23 or 15, or 0 where it makes none so.
+/// The number of the highest address line that is meaningful with `code`: 31, 23 or 15, or 0 where none is.
 fn highest_address(code: u8) -> u8
     ensures highest { result ≡ highest_address code }
     ensures last { result ≤ 31 }

@@ -1,4 +1,4 @@
-//! The data lines that a transfer moves, and what they say.
+//! The data lines that a transfer moves, and the data on them.
 
 ghost use Rattle.std.specs.Prelude.{◌≡◌, ◌≤◌, ◌<◌, ◌*◌};
 ghost use Rattle.vme_trace.specs.Data.{is_selected as is_selected_at};
@@ -37,7 +37,7 @@ pub struct Lanes {
 }
 
 impl MovedBytes {
-    /// Whether the digit at a place, 0 that of D00 to D03, is among the bytes.
+    /// Whether the digit at `place` is among the bytes; place 0 is that of D00 to D03.
     pub fn has_digit(self, place: u8) -> bool
         ensures { result ≡ has_digit self place }
     {
@@ -90,7 +90,7 @@ fn moved_bytes(lines: &Lines) -> MovedBytes
     }
 }
 
-/// Whether the digit at a place is moved.
+/// Whether the digit at `place` is moved.
 fn is_digit_moved(lines: &Lines, place: u8) -> bool
     requires { place < 8 }
     ensures { result ≡ is_digit_moved lines.now place }
@@ -98,7 +98,7 @@ fn is_digit_moved(lines: &Lines, place: u8) -> bool
     is_selected(lines, Line::data(4 * place))
 }
 
-/// Whether each line of the digit at a place is known.
+/// Whether each line of the digit at `place` is known.
 fn is_digit_known(lines: &Lines, place: u8) -> bool
     requires { place < 8 }
     ensures { result ≡ is_digit_known lines.now place }
@@ -110,7 +110,7 @@ fn is_digit_known(lines: &Lines, place: u8) -> bool
         && lines.level(Line::data(first + 3)).is_known()
 }
 
-/// So much where the data line is high, else 0.
+/// `weight` where data line `bit` is high, else 0.
 fn weight(lines: &Lines, bit: u8, weight: u32) -> u32
     requires { bit < 32 }
     ensures weight { result ≡ weight_at lines.now bit weight }
@@ -123,7 +123,7 @@ fn weight(lines: &Lines, bit: u8, weight: u32) -> u32
     }
 }
 
-/// The digit at a place, where it is moved and known, else 0.
+/// The digit at `place`, where it is moved and known, else 0.
 #[tactic(auto, unfolding(crate::specs::Lanes::digit_at))]
 fn digit(lines: &Lines, place: u8) -> u32
     requires { place < 8 }
@@ -141,7 +141,7 @@ fn digit(lines: &Lines, place: u8) -> u32
     }
 }
 
-/// 1 where the digit at a place is moved and not known, else 0.
+/// 1 where the digit at `place` is moved and not known, else 0.
 #[tactic(auto, unfolding(crate::specs::Lanes::flag_at))]
 fn flag(lines: &Lines, place: u8) -> u8
     requires { place < 8 }

@@ -1,4 +1,4 @@
-//! What a step does to a line, and to the strobes and the answers, as the levels on both sides of it show.
+//! What a step does to a line, to the strobes and to the answers, by the levels before and after it.
 
 ghost use Rattle.std.specs.Prelude.{◌≡◌, IsTrue};
 ghost use Rattle.vme_trace.specs.Edges.{answer_between, falls_between, low_near, rises_between, starts_between};

@@ -36,7 +36,7 @@ impl Level {
         !matches!(self, Level::Unknown)
     }
 
-    /// Whether the two are one level: they are compared by their variants, at once.
+    /// Whether the two levels are the same. Their variants are compared, in one comparison.
     #[tactic(auto, using(crate::proofs::SameLevel::same))]
     pub fn is_same(self, other: Level) -> bool
         ensures { result ≡ same_level self other }

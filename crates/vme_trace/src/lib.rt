@@ -23,8 +23,8 @@
 //! # What is proved
 //!
 //! - `Block::check` names exactly the first step that is malformed. [`Capture`] holds well-formed
-//!   steps alone (`sound`), and `Capture::new` refuses others with the first step that has no place
-//!   there.
+//!   steps alone (`sound`). `Capture::new` refuses others, and names the first step that a capture
+//!   can't have.
 //! - `Capture::cut` gives exactly the numbered blocks of a size (`blocks`), which join to the
 //!   recording (`joined`), and refuses exactly the sizes and counts named below (`bad_size`,
 //!   `too_many`).

@@ -35,7 +35,8 @@ pub const MOST_SLOTS: u8 = 21;
 /// How many nets the daisy chain of a grant level has at most: one before each slot, and one after the last.
 pub const CHAIN_NETS: u8 = MOST_SLOTS + 1;
 
-/// The number of the first grant net: those of a level follow one another, and the levels too.
+/// The number of the first grant net. The grant nets have consecutive numbers, level by level, and in a level by their
+/// place in the chain.
 const FIRST_GRANT: u8 = 50;
 
 /// The number of the first acknowledge output.
@@ -91,7 +92,7 @@ impl Line {
         }
     }
 
-    /// The line of a number that there is.
+    /// The line with the number `number`.
     pub(crate) fn nth(number: u8) -> Line
         requires { number < line_count }
         ensures { result ≡ number }
@@ -179,7 +180,7 @@ impl Line {
         FIRST_GRANT <= self.number && self.number < FIRST_ACKNOWLEDGE
     }
 
-    /// The level of a grant net, 0 to 3, and its place in its daisy chain, 0 to 21; none of another line.
+    /// The level of a grant net, 0 to 3, and its place in its daisy chain, 0 to 21; `None` for another line.
     pub fn grant_place(self) -> Option<(u8, u8)>
         ensures place { result ≡ (if is_grant self then Some (grant_level self, grant_place self) else None) }
         ensures level { IfSome result (λ net. net.0 < 4) }
@@ -245,7 +246,7 @@ impl Line {
         }
     }
 
-    /// The line of a name, if there is one; lines of a name differ, so it is the only one.
+    /// The line whose name is `name`, if there is one. Lines differ in their names, so it is the only one.
     #[tactic(auto, using(crate::proofs::Ranges::searches))]
     pub fn from_name(name: &[u8]) -> Option<Line>
         ensures line { result ≡ line_named name.now }

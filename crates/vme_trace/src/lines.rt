@@ -37,7 +37,7 @@ impl Lines {
     ghost use Rattle.vme_trace.specs.Trace.{changed};
     ghost use Rattle.vme_trace.specs.LineNumbers.{line_count, has_line, is_control, grant};
 
-    /// A backplane of that many slots, 1 to 21, with all lines unknown.
+    /// A backplane of `slots` slots, 1 to 21, with all lines unknown; `None` for another number of slots.
     pub fn new(slots: u8) -> Option<Lines>
         ensures { SomeIff result ((1 ≤ slots) × (slots ≤ 21))
             (record { slots = slots; levels = replicate line_count Unknown }) }
@@ -90,7 +90,7 @@ impl Lines {
         self.at(line.number())
     }
 
-    /// Whether a line has one level here and there.
+    /// Whether `line` has the same level in `self` and in `other`.
     #[inline(always)]
     pub fn is_same_on(&self, other: &Lines, line: Line) -> bool
         ensures { result ≡ same_level (level_at self.now line) (level_at other.now line) }
@@ -111,7 +111,7 @@ impl Lines {
         self.levels[line.number() as usize] = level;
     }
 
-    /// Makes the changes of a step, in the time that they take alone. Most steps have one change.
+    /// Makes the changes of a step, in their order. Only the changed lines are looked at. Most steps have one change.
     #[tactic(auto, unfolding(crate::specs::Trace::changed))]
     pub fn apply(&mut self, changes: &[Change])
         ensures { self.new ≡ changed self.old changes.now }
@@ -161,7 +161,7 @@ impl Lines {
         false
     }
 
-    /// The first changed line that is a control line of which nothing is known any more, on a bus that isn't reset.
+    /// The first changed line that is an unknown control line; `None` where the bus is reset.
     pub fn lost_among(&self, changes: &[Change]) -> Option<Line>
         ensures { result ≡ lost_among self.now changes.now }
     {
@@ -173,7 +173,7 @@ impl Lines {
         None
     }
 
-    /// Whether the lines of some numbers, first and last included, are all high.
+    /// Whether all lines from `first` to `last`, both included, are high.
     #[tactic(auto, using(crate::proofs::Ranges::searches))]
     fn are_high(&self, first: Line, last: Line) -> bool
         requires { first ≤ last }
@@ -187,8 +187,8 @@ impl Lines {
         true
     }
 
-    /// Whether the lines of some numbers, first and last included, are all known. They are counted, so that the work is
-    /// that of a few vectors.
+    /// Whether all lines from `first` to `last`, both included, are known. The known ones are counted, without an early
+    /// return, so that a few vector instructions do it.
     #[inline(always)]
     pub fn are_known(&self, first: Line, last: Line) -> bool
         requires { first ≤ last }
@@ -212,14 +212,14 @@ impl Lines {
     }
 
     /// Whether the bus is idle: each control line is known, and AS*, the strobes, the answers, the nets of
-    /// the daisy chains and SYSRESET* are high. The work is that of the lines up to the first that isn't so.
+    /// the daisy chains and SYSRESET* are high. The lines are looked at up to the first that isn't so.
     pub fn is_idle(&self) -> bool
         ensures { result ≡ is_idle self.now }
     {
         self.is_each_range_idle()
     }
 
-    /// The same, by the lines that exist.
+    /// Whether the bus is idle, by the ranges of lines that the backplane has.
     fn is_each_range_idle(&self) -> bool
         ensures ranges { result ≡ idle_by_ranges self.now }
         ensures first { 1 ≤ self.now.slots }

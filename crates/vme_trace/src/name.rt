@@ -52,7 +52,7 @@ impl Name {
         self.len += 1;
     }
 
-    /// The name with a byte more.
+    /// The name with `byte` appended.
     pub(crate) fn with(mut self, byte: u8) -> Name
         requires { length self < 8 }
         ensures { result ≡ self ++ byte ∷ [] }
@@ -61,7 +61,7 @@ impl Name {
         self
     }
 
-    /// The name with a number below 100 more, of two digits.
+    /// The name with `number` appended, in two digits.
     pub(crate) fn with_two_digits(self, number: u8) -> Name
         requires short { length self < 7 }
         requires below { number < 100 }
@@ -70,7 +70,7 @@ impl Name {
         self.with(b'0' + number / 10).with(b'0' + number % 10)
     }
 
-    /// The name with a number below 100 more, in decimal.
+    /// The name with `number` appended, in decimal.
     pub(crate) fn with_decimal(self, number: u8) -> Name
         requires short { length self < 7 }
         requires below { number < 100 }

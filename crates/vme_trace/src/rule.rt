@@ -14,7 +14,7 @@ pub enum Rule {
     U2,
     /// WRITE* is unknown as a transfer starts.
     U3,
-    /// A data line that a write moves is unknown as a strobe falls before its answer.
+    /// A data line that a write moves is unknown as a strobe falls, no later than its answer.
     U4,
     /// A transfer starts, and DTACK* or BERR* isn't high near.
     H1,
@@ -117,7 +117,7 @@ impl Rule {
         Rule::I5,
     ];
 
-    /// The place of the rule among all, from 0.
+    /// The place of the rule in [`Rule::ALL`], from 0.
     pub fn number(self) -> u8
         ensures number { result ≡ rule_number self }
         ensures there { slice_get all_rules result ≡ Some self }
@@ -132,7 +132,7 @@ impl Rule {
         matches!(self, Rule::U1 | Rule::U2 | Rule::U3 | Rule::U4)
     }
 
-    /// The name of the rule, as in the source.
+    /// The name of the rule: the name of its variant.
     pub fn name(self) -> Name
         ensures { result ≡ rule_name self }
     {
@@ -172,7 +172,7 @@ impl Rule {
         Name::of(name)
     }
 
-    /// The rule of a name, if there is one; rules differ in their names.
+    /// The rule whose name is `name`, if there is one; rules differ in their names.
     pub fn from_name(name: &[u8]) -> Option<Rule>
         ensures rule { result ≡ rule_named name.now }
         ensures named { IfSome result (λ rule. rule_name rule ≡ name.now) }
@@ -182,7 +182,7 @@ impl Rule {
     }
 }
 
-/// The first of some rules that has a name.
+/// The first of `rules` whose name is `name`, if there is one.
 fn first_named(rules: &[Rule], name: &[u8]) -> Option<Rule>
     ensures { result ≡ find (is_rule_name name.now) rules.now }
 {

@@ -61,10 +61,10 @@ impl Changes {
     }
 }
 
-/// Lines that change at one time, in units of the recording.
+/// The changes of lines at one time.
 #[derive(Drop)]
 pub struct Step {
-    /// When: the time of the recording, in its own unit.
+    /// When: the time, in the unit of the recording.
     pub time: u64,
     /// Which lines change, in the order of their numbers, and to which levels.
     pub changes: Changes,

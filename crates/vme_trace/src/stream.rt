@@ -15,8 +15,8 @@ pub trait Source {
     /// room for, and how many failed.
     ghost reading: { Self → Reading };
 
-    /// Reads some of the next bytes into the start of `buffer`, and says how many: none only at the end, or where
-    /// `buffer` is empty. A read that fails gives no byte, and the next read goes on where it was.
+    /// Reads some of the next bytes into the start of `buffer`, and returns how many: 0 only at the end, or where
+    /// `buffer` is empty. A read that fails gives no byte, and the next read continues at the same byte.
     fn read(&mut self, buffer: &mut [u8]) -> Result<usize, Failed>
         ensures bound { ReadsAtMost result buffer.new }
         ensures bytes { ReadConsumes (reading self.old).left (reading self.new).left result buffer.new }
@@ -31,8 +31,8 @@ pub trait Sink {
     /// The bytes that were taken so far, and how many writes failed.
     ghost writing: { Self → Writing };
 
-    /// Takes the first of some bytes, and says how many: at least one, where there are any. A write that fails takes
-    /// none.
+    /// Takes a prefix of `bytes`, and returns its length: at least 1, unless `bytes` is empty. A write that fails takes
+    /// no byte.
     fn write(&mut self, bytes: &[u8]) -> Result<usize, Failed>
         ensures bound { WritesAtMost result bytes.now }
         ensures some { 0 < length bytes.now → IfOk result (λ n. 0 < n) }

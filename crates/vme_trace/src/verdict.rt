@@ -14,7 +14,7 @@ pub struct Break {
     pub line: Line,
 }
 
-/// What the rules say of a recording.
+/// The verdict of the rules on a recording.
 #[derive(Clone, Copy, Debug, PartialEq, Eq)]
 pub enum Verdict {
     /// No rule is broken.

@@ -1,11 +1,11 @@
 //! Tests of vme_trace: what a recording is, cuts and blocks, steps that are malformed, and memory
 //! that is refused.
 //!
-//! They compare what the public calls answer with values that stand beside them: names and numbers
-//! of lines, names of rules, the lines of a backplane, idle buses, the class and the address lines
-//! of modifier codes, moved data lines, the first malformed step by a block and by a capture, and
-//! the blocks of a read. `refused_memory` is made for `tests/memory/run`, which refuses each of its
-//! allocations in turn.
+//! They compare the results of the public calls with values that are given beside them: names and
+//! numbers of lines, names of rules, the lines of a backplane, idle buses, the class and the address
+//! lines of modifier codes, moved data lines, the first malformed step by a block and by a capture,
+//! and the blocks of a read. `refused_memory` is made for `tests/memory/run`, which refuses each of
+//! its allocations in turn.
 //!
 //! Not tried here: the definitions themselves. The laws of vme_rules_eval and of the crates below it
 //! compute what they say of worked recordings.

@@ -74,7 +74,7 @@ fn read_steps(alloc: Global) -> Result<Vec<Step>, AllocError> {
     Ok(steps)
 }
 
-/// Puts a line on a level, where it is on the backplane.
+/// Gives a line a level, if the line is on the backplane.
 fn put(lines: &mut Lines, number: u8, level: Level) {
     if let Some(line) = Line::from_number(number) {
         if lines.has(line) {
@@ -317,7 +317,7 @@ static MOVED: [(Level, Level, Level, Level, u8, u8); 10] = [
     (UNKNOWN, LOW, LOW, LOW, 0, 0),
 ];
 
-/// Whether a transfer moves just the lines with these numbers.
+/// Whether a transfer moves just the lines with the numbers from `first` on and before `end`.
 fn moves(lines: &Lines, first: u8, end: u8) -> bool {
     for number in 0..LINE_COUNT {
         let is_moved = match Line::from_number(number) {
@@ -341,7 +341,7 @@ fn strobed(lword: Level, a01: Level, ds0: Level, ds1: Level) -> Option<Lines> {
     Some(lines)
 }
 
-/// Whether a transfer with these levels does.
+/// Whether a transfer with these levels moves just the lines with the numbers from `first` on and before `end`.
 fn strobed_moves(levels: (Level, Level, Level, Level), first: u8, end: u8) -> bool {
     match strobed(levels.0, levels.1, levels.2, levels.3) {
         Some(lines) => moves(&lines, first, end),
@@ -399,7 +399,7 @@ fn class_and_needed(lines: &Lines) -> (Class, bool, u8) {
     )
 }
 
-/// Whether the lines of a code have it, this class, and this highest address line that is needed.
+/// Whether the lines of a code have that code, this class, and this highest address line that is needed.
 fn has_class(code: u8, class: Class, highest: u8) -> bool {
     match lines_of_code(code) {
         Some(lines) => {
@@ -431,7 +431,7 @@ fn acknowledge_class(rt: HostRuntime) {
     assert!(rt; class_of_unknown_code(Level::Low) == Some((Class::I, false, 3)));
 }
 
-/// The step behind those of the read, and whether it is malformed there.
+/// A step after those of the read, and whether it is malformed there.
 static BEHIND: [(Row, bool); 8] = [
     ((60, &[(AS, LOW)]), false),
     ((50, &[(AS, LOW)]), true),
@@ -443,7 +443,7 @@ static BEHIND: [(Row, bool); 8] = [
     ((60, &[(AS, LOW), (IACK_1, LOW)]), false),
 ];
 
-/// The steps of the read, and one behind them.
+/// The steps of the read, and one after them.
 fn read_and(row: Row, alloc: Global) -> Result<Vec<Step>, AllocError> {
     let mut steps = read_steps(alloc)?;
     steps.push(step(row, alloc)?)?;
@@ -464,7 +464,7 @@ fn malformed_in(opening: Lines, steps: Vec<Step>) -> (Option<usize>, Option<usiz
     }
 }
 
-/// Which step is named where one stands behind those of the read.
+/// Which step is named as malformed, by a block and by a capture, where the step `row` follows those of the read.
 fn malformed_behind(row: Row, alloc: Global) -> Option<(Option<usize>, Option<usize>)> {
     Some(malformed_in(dump_lines()?, read_and(row, alloc).ok()?))
 }
@@ -477,7 +477,7 @@ fn malformed_steps(rt: HostRuntime) {
     }
 }
 
-/// Whether blocks have these numbers and times of their first steps.
+/// Whether the blocks have these numbers, and first steps at these times.
 fn begin_so(blocks: &[Block], firsts: &[(u32, u64)]) -> bool {
     for (block, (number, time)) in blocks.iter().zip(firsts.iter()) {
         let is_so = match block.steps.as_slice().first() {
@@ -491,7 +491,7 @@ fn begin_so(blocks: &[Block], firsts: &[(u32, u64)]) -> bool {
     blocks.len() == firsts.len()
 }
 
-/// Whether blocks that memory is there for begin so, and each can be copied.
+/// Whether the blocks were made, have these numbers and times of their first steps, and can each be copied.
 fn are_cut_and_copied(
     alloc: Global,
     blocks: Result<Vec<Block>, CutFault>,
@@ -529,7 +529,7 @@ fn blocks_of_a_read(rt: HostRuntime) {
     assert!(rt; is_read_cut(rt.alloc()) == Some(true));
 }
 
-/// Whether a cut makes so many blocks, or memory is refused.
+/// Whether a cut makes `count` blocks, or memory is refused.
 fn is_cut_or_refused(alloc: Global, capture: &Capture, size: u32, count: usize) -> bool {
     match capture.cut(alloc, size) {
         Ok(blocks) => blocks.len() == count,

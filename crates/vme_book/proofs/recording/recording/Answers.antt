@@ -14,7 +14,7 @@ no_length : {A : Type 0} (xs : List A) → length xs ≡ 0 → xs ≡ []
 no_length [] e = refl
 no_length (x ∷ xs) e = absurd (omega arith)
 
--- nothing is left of nothing
+-- where no block is left, the steps so far are all steps
 last_part : (items : List (Option Block)) (bs : List Block) (steps all : List Step) → length items ≡ 0 → items
     ≡ map Some bs → steps ++ joined_steps bs ≡ all → steps ≡ all
 last_part items [] steps all n e s = sym (append-nil steps) ∙ s

@@ -1,4 +1,4 @@
--- The number so far is that of the digits so far.
+-- The number so far is the value of the digits so far.
 use Rattle.std.proofs.Common.{◌≡◌, ℕ, ◌-◌, ◌<◌, ◌≤◌, get_or, length, take, true}
 use Rattle.std.specs.Char.{is_ascii_digit}
 use Rattle.std.specs.Str.Parse.{digits_value}

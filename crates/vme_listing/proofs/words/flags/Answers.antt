@@ -3,7 +3,7 @@ use Rattle.std.proofs.Common.{drop_of_length-le, add-one, drop-cons, arith}
 use Rattle.vme_listing.specs.Words.{flag_of, flags_after, flags_of}
 use Rattle.vme_listing.proofs.words.flags.Goals as goal
 
--- one more byte
+-- the step by byte i of the word
 step : (n f : ℕ) (word : List ℕ) (i : ℕ) → i < length word → f ≡ flag_of (get_or word i 0)
     → flags_after (n * 2 % 256 + f) (drop (i + 1) word) ≡ flags_after n (drop i word)
 step n f word i below e = rw (add-one, drop-cons word i 0) (ap (λ x. flags_after (n * 2 % 256 + x) (drop (suc i) word))

@@ -1,4 +1,4 @@
--- What the bytes to come make of the bits so far are the bits of all.
+-- The bits so far, with those of the bytes to come appended, are the bits of the whole word.
 use Rattle.std.proofs.Common.{◌≡◌, drop}
 use Rattle.vme_listing.specs.Words.{flags_after}
 use Rattle.vme_listing.proofs.words.flags.Given as goal

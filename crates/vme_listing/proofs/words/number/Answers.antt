@@ -3,7 +3,7 @@ use Rattle.std.proofs.Common.{drop_of_length-le, add-one, drop-cons, arith}
 use Rattle.vme_listing.specs.Words.{digit_of, number_after, number_of}
 use Rattle.vme_listing.proofs.words.number.Goals as goal
 
--- one more byte
+-- the step by byte i of the word
 step : (base n d : ℕ) (word : List ℕ) (i : ℕ) → i < length word → d ≡ digit_of (get_or word i 0)
     → number_after base ((n * base % 2 ^ 32 + d) % 2 ^ 32) (drop (i + 1) word) ≡ number_after base n (drop i word)
 step base n d word i below e = rw (add-one, drop-cons word i 0)

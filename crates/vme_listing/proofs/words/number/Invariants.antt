@@ -1,4 +1,4 @@
--- What the bytes to come make of the number so far is the number of all.
+-- The number so far, with the digits to come appended, is the number of the whole word.
 use Rattle.std.proofs.Common.{◌≡◌, drop}
 use Rattle.vme_listing.specs.Words.{number_after}
 use Rattle.vme_listing.proofs.words.number.Given as goal

@@ -1,4 +1,4 @@
--- What is gone from the rest was appended, and no write has failed.
+-- The bytes that aren't in `rest` any more were written, and no write has failed.
 use Rattle.std.proofs.Common.{◌≡◌, ℕ, List, ◌++◌, length}
 use Rattle.std.specs.Io.KnownBytes.{Appends}
 use Rattle.vme_listing.proofs.write.put.Given as goal

@@ -1,4 +1,5 @@
--- What went out, what the piece holds and the lines of the rows to come are the text, and no write has failed.
+-- The bytes that were written, those that `piece` holds and the lines of the rows to come are the text, and no write
+-- has failed.
 use Rattle.std.proofs.Common.{◌≡◌, ℕ, List, ◌++◌, drop}
 use Rattle.std.specs.Prelude.{flat_map}
 use Rattle.std.specs.Io.KnownBytes.{Appends}

@@ -1,4 +1,4 @@
--- What was seen of the bits up to the one at hand, and of that one.
+-- Whether the bits before the current one are known, and whether the current one is.
 use Rattle.std.proofs.Common.{sym, ◌∙◌, ap, arith}
 use Rattle.vme_trace.specs.Levels.{is_known, level_at}
 use Rattle.vme_trace.specs.Cycle.{is_modifier_bit_known}

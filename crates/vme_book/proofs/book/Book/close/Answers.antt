@@ -1,4 +1,4 @@
--- Not all join, or all do.
+-- The cases of closing a book: not all blocks join, or all do.
 use Rattle.std.proofs.Common.{◌≡◌, ◌<◌, List, length, map, arith, sym, ◌∙◌, ap, subst}
 use Rattle.std.proofs.Common.{Option, Some}
 use Rattle.std.specs.Global.{Vec}

@@ -1,4 +1,4 @@
--- The block is placed, and judging goes on.
+-- The block is put at its number, and judging continues.
 use Rattle.std.proofs.Common.{◌≡◌, ◌<◌, ◌≤◌, List, [], ◌∷◌, length, arith, set, sym, ◌∙◌, ap, subst, Option}
 use Rattle.std.proofs.Common.{Some}
 use Rattle.vme_trace.specs.declared.block.Block.{Block}

@@ -1,4 +1,4 @@
--- Nothing is inserted.
+-- A new book has nothing inserted.
 use Rattle.std.proofs.Common.{[], ◌<◌, ◌≤◌, arith}
 use Rattle.vme_book.proofs.Prefixes.{keeps_nothing}
 use Rattle.vme_book.proofs.book.Book.new.Goals as goal

@@ -1,4 +1,4 @@
--- Judging has come past the longest list of blocks that join.
+-- The state of judging is that after the longest list of blocks that join.
 use Rattle.std.proofs.Common.{◌≡◌, [], sym, ap, subst}
 use Rattle.std.specs.Option.{option_map}
 use Rattle.vme_trace.specs.Verdict.{rules_in_force, verdict_by}

@@ -1,4 +1,4 @@
--- The next block has a span of its own, and it joins.
+-- The next block has its span, and it joins the blocks before it.
 use Rattle.std.proofs.Common.{arith, ◌≡◌, ℕ, ◌+◌, [], ◌∷◌, ◌++◌, length, length-append}
 use Rattle.std.proofs.Common.{Some, sym, ◌∙◌, ap, subst, set, Option}
 use Rattle.vme_summary.specs.Stands.{SpanStandsFor}

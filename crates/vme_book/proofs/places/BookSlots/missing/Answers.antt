@@ -1,4 +1,4 @@
--- A block stands here, and at each number before.
+-- A block is inserted at this number, and at each number before it.
 use Rattle.std.proofs.Common.{◌≡◌, Some, below_more, ◌∙◌, sym, ap, get_or, None}
 use Rattle.vme_trace.specs.declared.block.Block.{Block}
 use Rattle.vme_book.specs.Inserted.{stored}

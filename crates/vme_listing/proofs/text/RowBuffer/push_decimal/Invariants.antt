@@ -1,4 +1,4 @@
--- The digits from the start on are those that the rest lacks.
+-- The digits of `rest`, and then those in the array from `start` on, are the digits of the number.
 use Rattle.std.proofs.Common.{◌≡◌, ◌≤◌, ◌++◌, length, drop}
 use Rattle.std.specs.Prelude.{decimal}
 use Rattle.vme_listing.proofs.text.RowBuffer.push_decimal.Given as goal

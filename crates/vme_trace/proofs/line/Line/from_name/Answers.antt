@@ -1,4 +1,4 @@
--- The lines before the one at hand have other names.
+-- The lines before the current one have other names.
 use Rattle.std.proofs.Common.{◌≡◌, ◌<◌, sym, ◌∙◌, ap, arith, below_more}
 use Rattle.std.specs.Prelude.{Some}
 use Rattle.vme_trace.specs.LineNumbers.{line_count}

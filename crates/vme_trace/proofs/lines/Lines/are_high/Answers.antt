@@ -1,4 +1,4 @@
--- What was seen of the lines up to the one at hand, and of that one.
+-- Whether the lines before the current one are high, and whether the current one is.
 use Rattle.std.proofs.Common.{◌≡◌, ◌+◌, sym, ◌∙◌, ap, arith}
 use Rattle.vme_trace.specs.Levels.{is_high, is_high_on}
 use Rattle.vme_trace.proofs.Ranges.{every-empty, every-fails, every-more}

@@ -1,4 +1,4 @@
--- The known lines are counted up to the one at hand, and with it.
+-- The known lines are counted up to the current one, and with it.
 use Rattle.std.proofs.Common.{sym, ◌∙◌, ap, arith}
 use Rattle.vme_trace.specs.Levels.{is_known, is_known_on}
 use Rattle.vme_trace.proofs.Counting.{all-counted, none-counted, one-counted, one-passed}

@@ -1,4 +1,4 @@
--- By the ranges of lines that there are.
+-- An idle bus, by the ranges of lines that the backplane has.
 use Rattle.std.proofs.Common.{sym, ◌∙◌}
 use Rattle.vme_trace.proofs.IdleLines.{is_idle-ranges}
 use Rattle.vme_trace.proofs.lines.Lines.is_idle.Goals as goal

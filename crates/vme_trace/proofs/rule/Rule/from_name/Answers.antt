@@ -1,4 +1,4 @@
--- What is found among all rules is the rule of the name.
+-- The rule that is found in the list of all rules is the rule of the name.
 use Rattle.std.proofs.Common.{◌∙◌}
 use Rattle.vme_trace.specs.Names.{rule_named}
 use Rattle.vme_trace.proofs.NameLaws.{rule_named-is, named_by}
