@@ -1,4 +1,5 @@
--- The three rules at a judged instant, by the levels on both sides of the step and what the memory says of the cycle.
+-- The rules I1 to I3 at a judged instant, by the levels before and after the step and what the memory (state of the
+-- automaton) says of the cycle.
 use Rattle.std.proofs.Common.{◌≡◌, ℕ, suc, ◌<◌, ◌≤◌, Bool, true, false, ◌&&◌, not, refl, ◌∙◌, ap, arith, cond}
 use Rattle.std.specs.Prelude.{None}
 use Rattle.vme_trace.specs.Edges.{falls_between, low_near}
@@ -69,7 +70,7 @@ module _ (t : Trace) (span : Stretch) (n : ℕ) (from : span.start ≤ n) (befor
       ∙ ap (λ c. (is_slot_iack l && has_line t.opening.slots l && has_line t.opening.slots l && falls_between old new l)
       && c) (in_cycle_alike m h (is_low (level_at old AS)) refl))
 
-  -- the least lines
+  -- the least lines that break I1, I2 and I3
   pub least_input : least (breaks t span I1 (suc n)) 0 line_count ≡ least (passes_unasked old new) 0 line_count
   least_input = least-alike (breaks t span I1 (suc n)) (passes_unasked old new) 0 line_count (λ l a b. on_input l)
 

@@ -1,4 +1,4 @@
--- What the changes of a step say of the lines that are watched.
+-- What the changes of a step say of the lines on which I1 to I3 depend.
 use Rattle.std.proofs.Common.{◌≡◌, ℕ, ◌+◌, ◌<◌, ◌≤◌, Bool, true, false, ◌||◌, ◌&&◌, not, List, [], ◌∷◌, refl, sym, ◌∙◌}
 use Rattle.std.proofs.Common.{ap, arith, cond}
 use Rattle.std.specs.Prelude.{Option, None, Some, ◌==◌, nat_le}
@@ -36,7 +36,7 @@ none_last false = refl
 equal : (a b : ℕ) → (a == b) ≡ true → a ≡ b
 equal a b h = grind (arith, nat_tests)
 
--- no change is before the least that may
+-- no line below `lowest` is changed
 below_changes : (v : Levels) (lowest l : ℕ) (cs : List Change) → are_changes v lowest cs ≡ true → l < lowest
     → is_changed cs l ≡ false
 unfolding are_changes
@@ -55,7 +55,7 @@ below_changes v lowest l (c ∷ cs) h b =
 exists_below : (slots l : ℕ) → slots ≤ 21 → has_line slots l ≡ true → l < line_count
 exists_below slots l few h = grind (arith, nat_tests)
 
--- the first changed line that has a property is the least that has it, if changed lines alone have it
+-- if p fails on unchanged lines, the first changed line with p is the least line with p
 module _ (v : Levels) (p : ℕ → Bool) (few : v.slots ≤ 21) where
   here_or_later : (c : Change) (cs : List Change) (b : Bool) → p c.line ≡ b → c.line < line_count → any p 0 c.line
       ≡ false → (b ≡ false → first_changed p cs ≡ least p 0 line_count)
@@ -90,7 +90,7 @@ module _ (v : Levels) (p : ℕ → Bool) (few : v.slots ≤ 21) where
       refl)))
       (λ e. first-least (c.line + 1) cs parts.1 (kept_else c cs kept e))
 
--- the least line of those that have a property, where something else is so too
+-- the least line with p, if b
 pub least-when : (p : ℕ → Bool) (b : Bool) (n : ℕ) → least (λ l. p l && b) 0 n ≡ cond b (least p 0 n) None
 least-when p true n = least-alike (λ l. p l && true) p 0 n (λ l from to. true_last (p l))
   where
@@ -121,7 +121,7 @@ pub none_of : {A : Type 0} (o : Option A) → is_some o ≡ false → o ≡ None
 none_of None h = refl
 none_of (Some x) h = absurd (cc)
 
--- where no slot passes an acknowledge on, none does unasked
+-- if no slot passes an acknowledge on, none does while its input isn't low
 pub unasked_none : (v w : Levels) (cs : List Change) → is_some (first_changed (passes_on v w) cs) ≡ false
     → first_changed (passes_unasked v w) cs ≡ None
 unasked_none v w [] h = refl

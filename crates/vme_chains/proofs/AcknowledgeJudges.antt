@@ -1,4 +1,4 @@
--- The machine's memory means what it should at each instant of the span, so its faults are the least breaks.
+-- The memory (state of the automaton) is right of each instant of the span, so the machine's faults are the breaks.
 use Rattle.std.proofs.Common.{◌≡◌, ℕ, zero, suc, ◌<◌, ◌≤◌, Bool, true, false, ◌&&◌, ◌||◌, not, List, refl, sym, ◌∙◌, ap}
 use Rattle.std.proofs.Common.{arith, cond, length, subst, inl, inr, ◌⊎◌, Option, Some, None}
 use Rattle.std.specs.Prelude.{option_map, slice_get, nat_lt}
@@ -38,7 +38,7 @@ module _ (t : Trace) (span : Stretch) (ok : malformed_step t ≡ None) (few : t.
   abbrev step : Acknowledgement → Levels → Levels → List Change → Next Acknowledgement
   step = machine_step acknowledge_observation acknowledge_next
 
-  -- the memory at an instant of the span
+  -- the memory at instant n of the span
   abbrev memory_at : ℕ → Acknowledgement
   memory_at n = memory_from step t (acknowledge_begin (levels_at t span.start)) span.start n
 
@@ -69,7 +69,7 @@ module _ (t : Trace) (span : Stretch) (ok : malformed_step t ≡ None) (few : t.
         (first-least old (passes_unasked old (changed old cs)) few_slots 0 cs (changes_fit t n ok within)
         (unasked_not old cs))
 
-    -- the step, seen or not
+    -- the machine's step from n, with an observation or without
     next_is : (m : Acknowledgement) → Holds t span n m
         → next_at step t m n ≡ record {
           memory = memory_after m old new;
@@ -105,7 +105,7 @@ module _ (t : Trace) (span : Stretch) (ok : malformed_step t ≡ None) (few : t.
     holds_after m h = subst (λ (x : Next Acknowledgement). Holds t span (suc n) x.memory) (sym (next_is m h))
         (holds_next t span facts n from before m h)
 
-    -- the first of the rules that is broken
+    -- the machine's fault at instant n + 1 is the first broken rule
     fault_is : (m : Acknowledgement) → Holds t span n m → option_map (break_of_fault (suc n) (time_at t (suc n)))
         (next_at step t m n).fault ≡ break_at t span acknowledge_rules (suc n)
     unfolding break_at rule_break
@@ -161,7 +161,7 @@ module _ (t : Trace) (span : Stretch) (ok : malformed_step t ≡ None) (few : t.
   first_or_later : (s n : ℕ) → s ≤ suc n → (suc n ≤ s) ⊎ (s ≤ n)
   first_or_later s n h = grind arith
 
-  -- the memory means what it should from the start of the span on
+  -- the memory is right of each instant of the span
   holds_at : (n : ℕ) → span.start ≤ n → n < span.end → n ≤ length t.steps → Holds t span n (memory_at n)
   holds_at zero from before within = let e : span.start ≡ 0 = omega arith in
       subst (λ k. Holds t span k (acknowledge_begin (levels_at t span.start))) e (holds_start t span facts)

@@ -1,4 +1,4 @@
--- What the memory means at an instant, and that it means the same at the next.
+-- What the memory (state of the automaton) means at an instant, and that a step keeps it right.
 use Rattle.std.proofs.Common.{◌≡◌, ℕ, zero, suc, ◌+◌, ◌<◌, ◌≤◌, Bool, true, false, ◌||◌, ◌&&◌, not, refl, sym, ◌∙◌, ap}
 use Rattle.std.proofs.Common.{arith, cond, add-one, lit<}
 use Rattle.std.specs.Prelude.{Option, Some, nat_le}
@@ -27,7 +27,7 @@ use Rattle.vme_chains.specs.AcknowledgeRules.{is_acknowledged, memory_after}
 use Rattle.vme_chains.specs.declared.acknowledge.Acknowledgement.{Acknowledgement}
 use Rattle.vme_chains.proofs.AcknowledgeChanges.{or_false}
 
--- the greatest of one more
+-- the greatest number in a range that is longer by one
 greatest-step : (p : ℕ → Bool) (f n : ℕ) → greatest p f (n + 1) ≡ cond (nat_le f n && p n) (Some n) (greatest p f n)
 unfolding greatest
 greatest-step p f n = rw add-one refl
@@ -36,7 +36,7 @@ chosen : (n i : ℕ) (b : Bool) (o : Option ℕ) → (o ≡ Some i → i < n) �
 chosen n i true o rest e = let same : n ≡ i = cc in omega arith
 chosen n i false o rest e = let below : i < n = rest e in omega arith
 
--- the greatest is in the range
+-- the greatest number is in the range
 greatest-below : (p : ℕ → Bool) (f n i : ℕ) → greatest p f n ≡ Some i → i < n
 unfolding greatest
 greatest-below p f zero i e = absurd (cc)
@@ -52,19 +52,19 @@ module _ (t : Trace) (span : Stretch) where
   abbrev pub acknowledges : ℕ → Bool
   acknowledges r = is_answer t span r && falls t DTACK r
 
-  -- the cycle of instant n, and whether it was acknowledged by then
+  -- the cycle of instant n starts at `start`, and `acknowledged` says whether it was acknowledged up to n
   pub record IsOn (n : ℕ) (acknowledged : Bool) : Type 0 where
     pub start : ℕ
     pub last : cycle_of t span n ≡ Some start
     pub reply : any acknowledges start (suc n) ≡ acknowledged
 
-  -- what the memory means after instant n
+  -- the memory m is right of instant n
   pub record Holds (n : ℕ) (m : Acknowledgement) : Type 0 where
     pub transfer : IsTransferPhase t span n m.transfer
     pub idle : low t AS n ≡ false → m.acknowledged ≡ false
     pub cycle : low t AS n ≡ true → IsOn n m.acknowledged
 
-  -- so it says of the cycle what is asked
+  -- the memory says whether the cycle of n was acknowledged up to n
   pub in_cycle_is : (n : ℕ) (m : Acknowledgement) → Holds n m → low t AS n ≡ true → in_cycle t span
       (λ i. any acknowledges i (suc n)) n ≡ m.acknowledged
   unfolding in_cycle
@@ -104,7 +104,7 @@ module _ (t : Trace) (span : Stretch) where
     high_not_low Low h k = cc
     high_not_low Unknown h k = cc
 
-    -- at the start of a span nothing is open
+    -- the memory is right of the start of a span, at which no transfer is open
     pub holds_start : Holds span.start (acknowledge_begin (levels_at t span.start))
     unfolding low
     holds_start = record {
@@ -114,7 +114,7 @@ module _ (t : Trace) (span : Stretch) where
           (high_not_low (level_at (levels_at t span.start) AS) idle_address on);
     }
 
-    -- the step to suc n
+    -- the step to n + 1
     module _ (n : ℕ) (from : span.start ≤ n) (before : suc n < span.end) where
       abbrev pub old : Levels
       old = levels_at t n
@@ -147,7 +147,7 @@ module _ (t : Trace) (span : Stretch) where
       next_cycle : cycle_of t span (suc n) ≡ cond (falls_between old new AS) (Some (suc n)) (cycle_of t span n)
       next_cycle = start_after n ∙ rw (in_range, starts_is) refl
 
-      -- the cycle of n goes on
+      -- the cycle of n runs on at n + 1
       goes_on : (m : Acknowledgement) → Holds n m → falls_between old new AS ≡ false → low t AS n ≡ true
           → is_low (level_at new AS) ≡ true → IsOn (suc n) (acknowledged_after m old new)
       goes_on m h no_fall on stays =
@@ -168,7 +168,7 @@ module _ (t : Trace) (span : Stretch) where
           within : (i n : ℕ) → i < n + 1 → nat_le i (suc n) ≡ true
           within i n h = grind (arith, nat_tests)
 
-      -- another starts
+      -- a cycle starts at n + 1
       starts_here : (m : Acknowledgement) → IsTransferPhase t span n m.transfer → m.acknowledged ≡ false
           → falls_between old
           new AS ≡ true → is_low (level_at new AS) ≡ true → IsOn (suc n) (acknowledged_after m old new)
@@ -213,7 +213,7 @@ module _ (t : Trace) (span : Stretch) where
       unfolding low
       idle_next m off = rw off refl
 
-      -- so the memory means the same one instant later
+      -- the memory is right of n + 1
       pub holds_next : (m : Acknowledgement) → Holds n m → Holds (suc n) (memory_after m old new)
       holds_next m h = record {
         transfer = tracked_is t span facts.reads n from before m.transfer h.transfer;
@@ -222,7 +222,7 @@ module _ (t : Trace) (span : Stretch) where
         cycle = cycle_next m h;
       }
 
-      -- no transfer is open where both strobes are high
+      -- if both strobes are high at n, no transfer is open
       closed_there : (p : TransferPhase) → IsTransferPhase t span n p → strobes_high_in old ≡ true → p ≡ Closed
       unfolding high
       closed_there Closed says h = refl
@@ -251,7 +251,7 @@ module _ (t : Trace) (span : Stretch) where
       same_acknowledged High High true u k idle r = sym (idle refl)
       same_acknowledged Unknown High true u k idle r = sym (idle refl)
 
-      -- where nothing changes that counts for it, the memory stays
+      -- if `changes_memory` is false, the memory stays
       pub memory_same : (m : Acknowledgement) → Holds n m → changes_memory old new ≡ false → memory_after m old new ≡ m
       unfolding low
       memory_same m h still =

@@ -42,7 +42,7 @@ lower_level m n l e h = omega arith
 net_below : (n : ℕ) → n < 4 → grant n 0 < line_count
 net_below n h = omega arith
 
--- a rule on the nets that the arbiter drives
+-- the least line of a p that fails on all lines but the nets that the arbiter drives
 least_arbiter : (p : ℕ → Bool) → ((l : ℕ) → is_arbiter_grant l ≡ false → p l ≡ false) → least p 0 line_count
     ≡ option_map (λ n. grant n 0) (least (λ n. p (grant n 0)) 0 4)
 least_arbiter p elsewhere = by_least (least (λ n. p (grant n 0)) 0 4) refl

@@ -1,4 +1,4 @@
--- How far a grant has come along its chain.
+-- How far a grant has come along its chain of nets.
 use Rattle.std.proofs.Common.{◌≡◌, ℕ, ◌+◌, ◌-◌, ◌≤◌, true, false, ◌∙◌, ap, arith, Some}
 use Rattle.vme_trace.specs.Instants.{every, greatest}
 use Rattle.vme_trace.specs.LineNumbers.{grant}
@@ -11,7 +11,7 @@ module _ (v : Levels) (n : ℕ) where
   pub first_low : is_low_in v (grant n 0) ≡ true → every (λ net. is_low_in v (grant n net)) 0 1 ≡ true
   first_low h = every-more (λ net. is_low_in v (grant n net)) 0 0 (every-empty (λ net. is_low_in v (grant n net)) 0) h
 
-  -- it has come as far as the net before the first that isn't low
+  -- if `place` is the first net that isn't low, the grant has reached the net before it
   pub reached-before : (place : ℕ) → 1 ≤ place → place ≤ v.slots → every (λ net. is_low_in v (grant n net)) 0 place
       ≡ true → is_low_in v (grant n place) ≡ false → greatest (reaches v n) 0 (v.slots + 1) ≡ Some (place - 1)
   reached-before place first within low here =
@@ -22,7 +22,7 @@ module _ (v : Levels) (n : ℕ) where
       one_less : (k : ℕ) → 1 ≤ k → k - 1 + 1 ≡ k
       one_less k h = omega arith
 
-  -- or to the last
+  -- if all nets are low, the grant has reached the last one
   pub reached-last : every (λ net. is_low_in v (grant n net)) 0 (v.slots + 1) ≡ true → greatest (reaches v n) 0
       (v.slots + 1) ≡ Some v.slots
   reached-last low = greatest-is (reaches v n) 0 (v.slots + 1) v.slots (omega arith) (omega arith) low

@@ -1,4 +1,4 @@
--- What the levels on both sides of a step show, in the words of instants.
+-- What the levels before and after a step show, by the definitions on instants.
 use Rattle.std.proofs.Common.{◌≡◌, ℕ, zero, suc, ◌+◌, ◌-◌, ◌<◌, ◌≤◌, Bool, true, false, ◌&&◌, ◌||◌, not, refl, sym, ◌∙◌}
 use Rattle.std.proofs.Common.{ap, arith, Option, Some, None, cond}
 use Rattle.std.specs.Prelude.{option_map, option_and_then, ◌==◌}
@@ -20,7 +20,7 @@ use Rattle.vme_chains.specs.GrantMemory.{is_in}
 use Rattle.vme_chains.proofs.GrantRanges.{greatest-alike}
 use Rattle.vme_chains.proofs.GrantLines.{net_exists}
 
--- there is a least exactly where some holds
+-- there is a least number with p exactly if some number in the range has p
 pub some-least : (p : ℕ → Bool) (f n : ℕ) → is_some (least p f n) ≡ any p f n
 some-least p f n = by_least (least p f n) refl
   where
@@ -97,7 +97,7 @@ module _ (t : Trace) where
         ≡ any (λ n. not (grant n 0 == l) && low t (grant n 0) k) 0 4
     other_low-is k l = any-alike _ _ 0 4 (λ i a b. both refl (low-is k (grant i 0) (first_net i b)))
 
-    -- the least level that is granted at an instant
+    -- the least level that is granted at instant k
     abbrev pub level_on : ℕ → Option ℕ
     level_on k = least (λ n. low t (grant n 0) k) 0 4
 
@@ -139,7 +139,7 @@ module _ (t : Trace) where
     taken_in-is : (k : ℕ) → taken_in (levels_at t k) ≡ taken_at (level_on k) (slot_on k)
     taken_in-is k = taken_alike _ _ _ _ (granted_level-is k) (reached_slot-is k)
 
-    -- the grant that a tenure takes which starts after the step
+    -- the grant by which a tenure starts at n + 1
     pub taken_between-is : (n : ℕ) → taken_between (levels_at t n) (levels_at t (suc n))
         ≡ taken_at (tenure_level t (suc n)) (tenure_slot t (suc n))
     unfolding tenure_level tenure_slot taken_grant

@@ -1,4 +1,4 @@
--- What a step breaks is what the rules of grants and tenures say.
+-- The fault of a step is the first broken rule of grants and tenures.
 use Rattle.std.proofs.Common.{◌≡◌, ℕ, suc, ◌+◌, ◌<◌, ◌≤◌, true, ◌&&◌, ◌||◌, not, List, refl, sym, ◌∙◌, Option, Some}
 use Rattle.std.proofs.Common.{None, cond}
 use Rattle.std.specs.Prelude.{option_map}
@@ -30,7 +30,7 @@ use Rattle.vme_chains.proofs.GrantTenures.{b1-is, b2-is, b3-is, b4-is}
 abbrev pub broken_on : ℕ → ℕ → Rule → Option ℕ → Option Break
 broken_on j time r lines = option_map (λ l. record { instant = j; time = time; rule = r; line = l }) lines
 
--- the first of nine
+-- the first break of nine rules, each with its line if it is broken
 abbrev pub first_broken : ℕ → ℕ → Option ℕ → Option ℕ → Option ℕ → Option ℕ → Option ℕ → Option ℕ → Option ℕ → Option ℕ
     → Option ℕ → Option Break
 first_broken j time g1 g2 g3 g4 g5 b1 b2 b3 b4 =

@@ -73,7 +73,7 @@ judged_and : (judged b : Bool) → judged ≡ true → b ≡ (judged && b)
 judged_and judged b h = rw h refl
 
 module _ (t : Trace) (span : Stretch) (few : t.opening.slots ≤ 21) where
-  -- at the start
+  -- the memory (state of the automaton) is right of the start of the span
   holds_start : Holds t span span.start (grant_begin (levels_at t span.start))
   holds_start =
       record {
@@ -92,7 +92,7 @@ module _ (t : Trace) (span : Stretch) (few : t.opening.slots ≤ 21) where
     abbrev seen : GrantObservation
     seen = seen_between old new cs
 
-    -- after a step that was looked at
+    -- the memory is right of n + 1 after a step with an observation
     holds_seen : (m : Arbitration) → Holds t span n m → Holds t span (suc n) (grant_next m old new seen).memory
     holds_seen m held =
         record {
@@ -107,7 +107,7 @@ module _ (t : Trace) (span : Stretch) (few : t.opening.slots ≤ 21) where
               (or_alike _ _ _ _ held.granted (grant_begins-is t few n)) ∙ sym (granted-next t span n from);
         }
 
-    -- after one that was passed over
+    -- the memory is right of n + 1 after a step without an observation, which leaves it as it is
     holds_passed : touches_arbitration cs ≡ false → (m : Arbitration) → Holds t span n m → Holds t span (suc n) m
     holds_passed h m held =
         let no_grant : grant_falls t (suc n) ≡ false = sym (grant_begins-is t few n) ∙ grants-none t span few n from
@@ -204,7 +204,7 @@ module _ (t : Trace) (span : Stretch) (few : t.opening.slots ≤ 21) where
     not_before : (n s : ℕ) → s ≤ n → nat_lt n s ≡ false
     not_before n s h = grind (arith, nat_tests)
 
-    -- at each judged instant the memory means what it means
+    -- the memory is right of each judged instant
     holds_along : (n : ℕ) → span.start ≤ n → n < span.end → n ≤ length t.steps → Holds t span n (memory n)
     holds_along zero from before within = holds_at zero (omega arith)
     holds_along (suc n) from before within =

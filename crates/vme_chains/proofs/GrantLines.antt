@@ -27,7 +27,7 @@ exists_below slots l few h = grind (arith, nat_tests)
 one_more : (l k : ℕ) → l < k → l < k + 1
 one_more l k h = omega arith
 
--- no change is before the least that may
+-- no line below `lowest` is changed
 below_changes : (v : Levels) (lowest l : ℕ) (cs : List Change) → are_changes v lowest cs ≡ true → l < lowest
     → is_changed cs l ≡ false
 unfolding are_changes
@@ -46,7 +46,7 @@ below_changes v lowest l (c ∷ cs) h b =
         other : (k m l : ℕ) → nat_le k m ≡ true → l < k → ((m == l) || false) ≡ false
         other k m l h b = grind (arith, nat_tests)
 
--- where only changed lines have a property, the first changed line that has it is the least line that has it
+-- if p fails on unchanged lines, the first changed line with p is the least line with p
 module _ (p : ℕ → Bool) (v : Levels) (few : v.slots ≤ 21) where
   first_here : (c : Change) (cs : List Change) (b : Bool) → p c.line ≡ b → c.line < line_count → any p 0 c.line ≡ false
       → (b ≡ false → first_changed p cs ≡ least p 0 line_count)
@@ -75,7 +75,7 @@ module _ (p : ℕ → Bool) (v : Levels) (few : v.slots ≤ 21) where
       refl)))
       (λ e. first-least (c.line + 1) cs parts.1 (kept_else c cs kept e))
 
--- a line that isn't changed shows the same
+-- a line that isn't changed keeps its level
 pub shown-kept : (v : Levels) (cs : List Change) (l : ℕ) → is_changed cs l ≡ false → shown (changed v cs) l ≡ shown v l
 shown-kept v cs l h = rw (slots-kept v cs, level-kept v cs l h) refl
 
@@ -84,7 +84,7 @@ no_edge Low = (refl, refl)
 no_edge High = (refl, refl)
 no_edge Unknown = (refl, refl)
 
--- and has no edge
+-- a line that isn't changed has no edge: it doesn't fall, nor (`no-rise`) rise
 pub no-fall : (v : Levels) (cs : List Change) (l : ℕ) → is_changed cs l ≡ false → falls_between v (changed v cs) l
     ≡ false
 no-fall v cs l h = ap (λ x. is_high (shown v l) && is_low x) (shown-kept v cs l h) ∙ (no_edge (shown v l)).0
@@ -93,7 +93,7 @@ pub no-rise : (v : Levels) (cs : List Change) (l : ℕ) → is_changed cs l ≡ 
     ≡ false
 no-rise v cs l h = ap (λ x. is_low (shown v l) && is_high x) (shown-kept v cs l h) ∙ (no_edge (shown v l)).1
 
--- what lines there are
+-- lines that every backplane with these slots has
 pub net_exists : (slots n k : ℕ) → n < 4 → k ≤ slots → slots ≤ 21 → has_line slots (grant n k) ≡ true
 net_exists slots n k level place few = grind (arith, nat_tests)
 

@@ -1,4 +1,5 @@
--- What the memory of the grant monitor means at an instant, and that it goes on to mean it.
+-- What the memory of the grant monitor (the state of its automaton) means at an instant, and how this changes with a
+-- step.
 use Rattle.std.proofs.Common.{◌≡◌, ℕ, suc, ◌+◌, ◌<◌, ◌≤◌, Bool, true, false, ◌&&◌, ◌||◌, not, refl, ◌∙◌, ap, arith}
 use Rattle.std.proofs.Common.{cond}
 use Rattle.std.specs.Prelude.{nat_le}
@@ -25,14 +26,16 @@ any_one : (p : ℕ → Bool) (n : ℕ) → any p n (suc n) ≡ p n
 any_one p n = any_suc p n n (omega arith) ∙ ap (λ b. b || p n) (fails-any p n n (λ i a b. absurd (omega arith)))
 
 module _ (t : Trace) (span : Stretch) where
-  -- the level was requested since the last grant up to n, or the start, that instant included
+  -- level l was requested at some instant up to n, from the last grant or the start of the span on, that instant
+  -- included
   abbrev pub requested_since : ℕ → ℕ → Bool
   requested_since n l = any (low t (BR l)) (last_before t span (grant_falls t) (suc n)) (suc n)
 
-  -- a grant fell after the last fall of the busy line up to n, or the start
+  -- a grant fell at some instant up to n, after the last fall of BBSY* or the start of the span
   abbrev pub granted_since : ℕ → Bool
   granted_since n = any (grant_falls t) (last_before t span (falls t BBSY) (suc n) + 1) (suc n)
 
+  -- the memory m is right of instant n
   pub record Holds (n : ℕ) (m : Arbitration) : Type 0 where
     pub requests : (l : ℕ) → l < 4 → is_in m.requests l ≡ requested_since n l
     pub granted : m.granted ≡ granted_since n
@@ -45,7 +48,7 @@ module _ (t : Trace) (span : Stretch) where
   granted-start = ap (λ f. any (grant_falls t) (f + 1) (suc span.start)) (last-start t span (falls t BBSY))
       ∙ fails-any (grant_falls t) (span.start + 1) (suc span.start) (λ i a b. absurd (omega arith))
 
-  -- up to the next instant too, from the same one on
+  -- a request from the last grant before n + 1 on, up to n + 1
   pub requested-more : (n l : ℕ) → span.start ≤ n → any (low t (BR l)) (last_before t span (grant_falls t) (suc n))
       (suc (suc n)) ≡ (requested_since n l || low t (BR l) (suc n))
   requested-more n l from =
@@ -58,7 +61,7 @@ module _ (t : Trace) (span : Stretch) where
       let h = last-within t span (falls t BBSY) n from in
       any_suc (grant_falls t) (last_before t span (falls t BBSY) (suc n) + 1) (suc n) (omega arith)
 
-  -- one instant later
+  -- `requested_since` at n + 1, by what it is at n
   pub requested-next : (n l : ℕ) → span.start ≤ n → requested_since (suc n) l ≡ cond (grant_falls t (suc n))
       (low t (BR l) (suc n)) (requested_since n l || low t (BR l) (suc n))
   requested-next n l from = by_grant (grant_falls t (suc n)) refl
@@ -82,7 +85,7 @@ module _ (t : Trace) (span : Stretch) where
       by_fall false e = ap (λ f. any (grant_falls t) (f + 1) (suc (suc n))) (last-kept t span (falls t BBSY) (suc n) e)
           ∙ granted-more n from
 
-  -- a request that is still there is one since then
+  -- a level that is requested at n is one requested since the last grant
   pub requested-now : (n l : ℕ) → span.start ≤ n → (requested_since n l || low t (BR l) n) ≡ requested_since n l
   requested-now n l from = by_level (low t (BR l) n) refl
     where

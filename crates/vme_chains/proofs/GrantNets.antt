@@ -23,7 +23,7 @@ use Rattle.vme_chains.proofs.GrantLines.{first-least, shown-kept, no-fall, no-ri
 use Rattle.vme_chains.proofs.GrantEdges.{falls-is, rises-is, falls-absent, rises-absent, low_near-is, high_near-is}
 use Rattle.vme_chains.proofs.GrantEdges.{other_low-is}
 
--- one test of an edge of a line, in two spellings that agree where there is the line
+-- two forms of a test of a line: their edges agree if the backplane has the line; else edge' is false
 same_test : (judged has kind edge edge' rest rest' : Bool) → judged ≡ true → (has ≡ true → edge' ≡ edge)
     → (has ≡ false → edge' ≡ false) → (has ≡ true → kind ≡ true → rest' ≡ rest)
     → (judged && has && (kind && edge && rest)) ≡ (kind && edge' && rest')

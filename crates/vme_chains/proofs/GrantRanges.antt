@@ -1,4 +1,4 @@
--- The greatest of a range, and the last instant before another.
+-- The greatest number of a range with some property, and the last instant with it before another instant.
 use Rattle.std.proofs.Common.{◌≡◌, ℕ, zero, suc, ◌+◌, ◌<◌, ◌≤◌, Bool, true, false, ◌&&◌, refl, ◌∙◌, arith, inl, inr}
 use Rattle.std.proofs.Common.{◌⊎◌}
 use Rattle.std.specs.Prelude.{None, Some, nat_le}
@@ -34,7 +34,7 @@ greatest-empty p f (suc n) h = rw (out_of_range f n (p n) (omega arith)) (greate
 last_or_before : (i n : ℕ) → i < suc n → (i ≡ n) ⊎ (i < n)
 last_or_before i n h = grind arith
 
--- the greatest is the one after which none holds
+-- i is the greatest if p holds there, and nowhere after it
 pub greatest-is : (p : ℕ → Bool) (f n i : ℕ) → f ≤ i → i < n → p i ≡ true → ((k : ℕ) → i < k → k < n → p k ≡ false)
     → greatest p f n ≡ Some i
 greatest-is p f zero i from below h none = absurd (omega arith)
@@ -48,7 +48,7 @@ greatest-is p f (suc n) i from below h none =
 both_alike : (p q : ℕ → Bool) (f n : ℕ) → (f ≤ n → p n ≡ q n) → (nat_le f n && p n) ≡ (nat_le f n && q n)
 both_alike p q f n alike = grind (arith, nat_tests)
 
--- tests that agree in the range have the same greatest
+-- tests that agree in the range give the same greatest number
 pub greatest-alike : (p q : ℕ → Bool) (f n : ℕ) → ((i : ℕ) → f ≤ i → i < n → p i ≡ q i) → greatest p f n
     ≡ greatest q f n
 unfolding greatest
@@ -58,7 +58,7 @@ greatest-alike p q f (suc n) alike =
     refl
 
 module _ (t : Trace) (span : Stretch) (p : ℕ → Bool) where
-  -- at the start there is none
+  -- up to the start of the span there is none, so the answer is the start
   pub last-start : last_before t span p (suc span.start) ≡ span.start
   unfolding last_before
   last-start = rw (greatest-empty p (span.start + 1) (suc span.start) (omega arith)) refl
@@ -71,7 +71,7 @@ module _ (t : Trace) (span : Stretch) (p : ℕ → Bool) where
   unfolding last_before
   last-kept n h = rw (greatest-before p (span.start + 1) n h) refl
 
-  -- the last instant before the next is no later than this one
+  -- the last instant before n + 1 is at most n
   pub last-within : (n : ℕ) → span.start ≤ n → last_before t span p (suc n) ≤ n
   last-within n from = by_test n (p n) refl from
     where

@@ -1,4 +1,4 @@
--- A step that touches no line of the arbitration bus breaks and shows nothing, unless a cycle starts.
+-- A step that changes no line of the arbitration bus breaks nothing and shows nothing, unless a cycle starts.
 use Rattle.std.proofs.Common.{◌≡◌, ℕ, suc, ◌<◌, ◌≤◌, Bool, true, false, ◌&&◌, ◌||◌, List, [], ◌∷◌, refl, sym, ◌∙◌, ap}
 use Rattle.std.proofs.Common.{arith, Option, None, cond}
 use Rattle.std.specs.Prelude.{◌==◌}
@@ -21,7 +21,7 @@ use Rattle.vme_chains.specs.declared.grant_memory.LevelSet.{LevelSet}
 use Rattle.vme_chains.proofs.GrantNets.{falls-kept, rises-kept}
 use Rattle.vme_chains.proofs.GrantTests.{or_false, equal, first_false}
 
--- no such line is among the changes
+-- if `touches_arbitration` is false, no line of the arbitration bus is among the changes
 pub untouched : (cs : List Change) (l : ℕ) → touches_arbitration cs ≡ false → is_arbitration l ≡ true → is_changed cs l
     ≡ false
 untouched [] l h k = refl
@@ -75,7 +75,8 @@ module _ (t : Trace) (span : Stretch) (few : t.opening.slots ≤ 21) (n : ℕ) (
   pub ends-none : rises_between (levels_at t n) (levels_at t (suc n)) BBSY ≡ false
   ends-none = rises-kept t span few n from before cs step fit BBSY (untouched cs BBSY h refl)
 
--- then nothing is broken
+-- no rule is broken at a step that breaks none of G1 to G4, in which the arbiter begins no grant, BBSY* doesn't fall,
+-- and no cycle starts while the bus isn't busy
 pub fault-none : (v w : Levels) (requests now : LevelSet) (granted : Bool) (nets : Option Fault)
     (grants takes ungranted ends unowned : Bool) (taken : Option BusGrant)
     → nets ≡ None → grants ≡ false → takes ≡ false → unowned ≡ false

@@ -1,4 +1,4 @@
--- The rules of tenures, B1 to B4: each speaks of one line.
+-- The rules of tenures, B1 to B4: each is on a single line.
 use Rattle.std.proofs.Common.{◌≡◌, ℕ, suc, ◌+◌, ◌<◌, ◌≤◌, Bool, true, false, ◌&&◌, ◌||◌, not, refl, sym, ◌∙◌, ap, arith}
 use Rattle.std.proofs.Common.{Option, Some, None, cond, lit<}
 use Rattle.std.specs.Prelude.{◌==◌, option_map, option_and_then}
@@ -27,7 +27,7 @@ use Rattle.vme_chains.proofs.GrantTests.{equal, off_kind, on_kind, one_more}
 below_unlike : (a b : ℕ) → a < b → (a == b) ≡ false
 below_unlike a b h = grind (arith, nat_tests)
 
--- a rule on one line
+-- the least line of a p that fails on all lines but a
 least_one : (p : ℕ → Bool) (n a : ℕ) → a < n → ((l : ℕ) → (l == a) ≡ false → p l ≡ false) → least p 0 n
     ≡ line_if (p a) a
 least_one p n a below elsewhere = by_test (p a) refl
@@ -41,7 +41,7 @@ least_one p n a below elsewhere = by_test (p a) refl
         (fails-any p 0 a (λ l from to. elsewhere l (below_unlike l a to)))
     by_test false e = least-none p 0 n (fails-any p 0 n (λ l from to. fails_on e l (l == a) refl))
 
--- the slot is there where the level is
+-- the slot of a taken grant is the given slot, which is there only if the level is
 slot_of-taken : (o : Option ℕ) (f : ℕ → Option ℕ) → slot_of (taken_at o (option_map (λ k. 1 + k) (option_and_then f o)))
     ≡ option_map (λ k. 1 + k) (option_and_then f o)
 slot_of-taken None f = refl

@@ -22,11 +22,11 @@ start_or_after s n h = grind arith
 pub one_more : (n : ℕ) → suc n + 1 ≡ suc (suc n)
 one_more n = omega arith
 
--- a rule on some kind of line isn't broken on another
+-- a rule on one kind of line isn't broken on a line of another kind
 pub off_kind : (judged has kind edge rest : Bool) → kind ≡ false → (judged && has && (kind && edge && rest)) ≡ false
 off_kind judged has kind edge rest h = grind (arith, nat_tests)
 
--- on a line of that kind it is a test of the edge and one more
+-- on a line of its kind, a rule is a test of the edge and `rest`
 pub on_kind : (judged has kind edge edge' rest rest' : Bool) → judged ≡ true → has ≡ true → kind ≡ true → edge' ≡ edge
     → rest' ≡ rest → (judged && has && (kind && edge && rest)) ≡ (edge' && rest')
 on_kind judged has kind edge edge' rest rest' j h k e r = rw (j, h, k, e, r) refl

@@ -15,7 +15,8 @@ passed_first : (p : ℕ → Bool) (c : Change) (cs : List Change) → p c.line �
     ≡ first_changed p cs
 passed_first p c cs h = rw h refl
 
--- one change more is passed
+-- if the first line with p of all changes is that of the changes from i on, and change i isn't of a grant net, it is
+-- that of the changes from i + 1 on
 pub passed_more : (p : ℕ → Bool) → ((k : ℕ) → is_grant k ≡ false → p k ≡ false) → (cs : List Change) (i : ℕ)
     (c : Change) → i < length cs → c ≡ get_or cs i c → is_grant c.line ≡ false → first_changed p (drop i cs)
     ≡ first_changed p cs → first_changed p (drop (i + 1) cs) ≡ first_changed p cs
@@ -23,7 +24,7 @@ passed_more p none cs i c h e other so_far =
     let split : drop i cs ≡ c ∷ drop (i + 1) cs = drop_more cs i c h ∙ ap (λ x. x ∷ drop (i + 1) cs) (sym e) in
     sym (passed_first p c (drop (i + 1) cs) (none c.line other)) ∙ (sym (ap (first_changed p) split) ∙ so_far)
 
--- they break no rule on the nets
+-- changes of other lines than grant nets break none of G1 to G4
 pub nets-passed : (v w : Levels) (cs : List Change) → ((p : ℕ → Bool) → ((k : ℕ) → is_grant k ≡ false → p k ≡ false)
     → first_changed p cs ≡ None) → nets_fault v w cs ≡ None
 nets-passed v w cs none =

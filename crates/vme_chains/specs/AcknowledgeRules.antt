@@ -1,4 +1,4 @@
--- How slots pass an acknowledge on, as the levels on both sides of a step and the changes between them show it.
+-- How slots pass an acknowledge on, by the levels before and after a step and its changes.
 use Rattle.std.specs.Prelude.{◌≡◌, refl, ℕ, ◌+◌, ◌-◌, ◌==◌, ◌<◌, Bool, true, false, not, ◌&&◌, ◌||◌, nat_lt, List, []}
 use Rattle.std.specs.Prelude.{◌∷◌, Option, None, Some, if◌then◌else◌}
 use Rattle.std.proofs.Common.{lit<}
@@ -24,7 +24,7 @@ use Rattle.vme_chains.specs.declared.acknowledge.PassingSlots.{PassingSlots}
 abbrev pub acknowledge_rules : List Rule
 acknowledge_rules = I1 ∷ I2 ∷ I3 ∷ []
 
--- the memories, counted: those of a cycle that wasn't acknowledged first
+-- the place of each memory (state of the monitor's automaton): first those of a cycle that wasn't acknowledged
 abbrev pub transfer_phase_place : TransferPhase → ℕ
 transfer_phase_place Closed = 0
 transfer_phase_place Reading = 1
@@ -50,28 +50,28 @@ acknowledgement_nth k =
 abbrev pub passes_on : Levels → Levels → ℕ → Bool
 passes_on v w l = is_slot_iack l && has_line v.slots l && has_line w.slots l && falls_between v w l
 
--- it falls while the slot's input isn't low
+-- the line is the acknowledge output of a slot, and falls while the slot's input isn't low
 abbrev pub passes_unasked : Levels → Levels → ℕ → Bool
 passes_unasked v w l = passes_on v w l && not (low_near v w (input_of l))
 
--- the address strobe is low, and a data strobe
+-- AS* and a data strobe are low, each before the step or after it
 abbrev pub is_strobed : Levels → Levels → Bool
 is_strobed v w = low_near v w AS && (low_near v w DS0 || low_near v w DS1)
 
--- the address strobe is low before the step and after it
+-- AS* is low before the step and after it
 abbrev pub is_addressed : Levels → Levels → Bool
 is_addressed v w = is_low (level_at v AS) && is_low (level_at w AS)
 
--- the first changed line that has a property
+-- the first changed line with p
 abbrev pub first_changed : (ℕ → Bool) → List Change → Option ℕ
 first_changed p [] = None
 first_changed p (c ∷ cs) = if p c.line then Some c.line else first_changed p cs
 
--- a transfer starts, or none is open any more
+-- a transfer starts, or the open one closes
 abbrev pub changes_strobes : Levels → Levels → Bool
 changes_strobes v w = if strobes_high_in v then strobe_low_in w else strobes_high_in w
 
--- what is remembered may change: a transfer starts, is answered or ends, or the address strobe rises
+-- the memory may change: a transfer starts, is answered or closes, or AS* rises
 abbrev pub changes_memory : Levels → Levels → Bool
 changes_memory v w = changes_strobes v w || answer_between v w || (is_low (level_at v AS) && is_high (level_at w AS))
 
@@ -79,7 +79,7 @@ changes_memory v w = changes_strobes v w || answer_between v w || (is_low (level
 abbrev pub is_acknowledged : TransferPhase → Levels → Levels → Bool
 is_acknowledged m v w = is_unanswered (entered m v w) && falls_between v w DTACK
 
--- what is kept of the cycle that runs after the step
+-- whether AS* is low after the step, and a transfer of the cycle was answered by DTACK*
 abbrev pub acknowledged_after : Acknowledgement → Levels → Levels → Bool
 acknowledged_after m v w = is_low (level_at w AS) && (m.acknowledged || is_acknowledged m.transfer v w)
 
@@ -89,12 +89,14 @@ memory_after m v w = record { transfer = tracked m.transfer v w; acknowledged = 
 abbrev pub fault_on : Rule → ℕ → Fault
 fault_on r l = record { rule = r; line = l }
 
--- what is broken by the first slot that passes an acknowledge on
+-- the rule I2 or I3, if the first slot that passes an acknowledge on breaks it
 abbrev pub fault_of_first : Acknowledgement → Levels → Levels → Option ℕ → Option Fault
 fault_of_first m v w None = None
 fault_of_first m v w (Some l) = if not (is_strobed v w) then Some (fault_on I2 l) else if is_addressed v w
     && m.acknowledged then Some (fault_on I3 l) else None
 
+-- the first broken rule: I1 on l, the first acknowledge output that falls while the slot's input isn't low, if there is
+-- one; else I2 or I3 on `first`
 abbrev pub fault_among : Acknowledgement → Levels → Levels → Option ℕ → Option ℕ → Option Fault
 fault_among m v w (Some l) first = Some (fault_on I1 l)
 fault_among m v w None first = fault_of_first m v w first
@@ -124,7 +126,7 @@ acknowledge_next m v w seen = record {
   shown = no_step_marks;
 }
 
--- an acknowledge isn't shown
+-- the monitor of acknowledges has no marks
 abbrev pub acknowledge_shown : Trace → Stretch → ℕ → StepMarks
 acknowledge_shown t span j = no_step_marks
 

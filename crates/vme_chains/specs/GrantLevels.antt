@@ -1,4 +1,4 @@
--- What the levels on both sides of a step show of grants, of requests and of the busy line.
+-- What the levels before and after a step show of grants, of requests and of BBSY*.
 use Rattle.std.specs.Prelude.{ℕ, ◌+◌, ◌-◌, ◌==◌, Bool, false, not, ◌&&◌, ◌||◌, List, [], ◌∷◌, Option, None, Some}
 use Rattle.std.specs.Prelude.{option_map, option_and_then, nat_le, nat_lt, if◌then◌else◌}
 use Rattle.std.specs.Option.{is_some}
@@ -13,7 +13,7 @@ use Rattle.vme_trace.specs.declared.step.Change.{Change}
 use Rattle.vme_monitor.specs.declared.mark.BusGrant.{BusGrant}
 use Rattle.vme_chains.specs.declared.grant_memory.LevelSet.{LevelSet}
 
--- the level of a line, and nothing known of a line that the backplane hasn't
+-- the level of a line; `Unknown` for a line that the backplane doesn't have
 abbrev pub shown : Levels → ℕ → Level
 shown v l = if has_line v.slots l then level_at v l else Unknown
 
@@ -50,18 +50,19 @@ requested_in v = record {
 abbrev pub grant_begins : Levels → Levels → Bool
 grant_begins v w = any (λ n. falls_between v w (grant n 0)) 0 4
 
--- it grants a level on another net than this
+-- the arbiter grants a level on another net than l
 abbrev pub is_other_granted : Levels → ℕ → Bool
 is_other_granted v l = any (λ n. not (grant n 0 == l) && is_low_in v (grant n 0)) 0 4
 
--- the least level that it grants
+-- the least level that the arbiter grants
 abbrev pub granted_level : Levels → Option ℕ
 granted_level v = least (λ n. is_low_in v (grant n 0)) 0 4
 
--- the grant of the level has come as far as net k of its chain
+-- the grant of level n has reached net k of its chain
 abbrev pub reaches : Levels → ℕ → ℕ → Bool
 reaches v n k = every (λ net. is_low_in v (grant n net)) 0 (k + 1)
 
+-- the slot that the grant of the least granted level has reached
 abbrev pub reached_slot : Levels → Option ℕ
 reached_slot v = option_map (λ k. 1 + k) (option_and_then (λ n. greatest (reaches v n) 0 (v.slots + 1))
     (granted_level v))
@@ -72,11 +73,11 @@ taken_at None slot = None
 taken_at (Some n) None = None
 taken_at (Some n) (Some s) = Some (record { level = n; slot = s })
 
+-- the grant of the least granted level, with the slot that it has reached
 abbrev pub taken_in : Levels → Option BusGrant
 taken_in v = taken_at (granted_level v) (reached_slot v)
 
--- the grant that a tenure takes which starts with the step: one that is there after it, or else one that was there
--- before it
+-- the grant by which a tenure starts at the step: one after the step, or else one before it
 abbrev pub taken_between : Levels → Levels → Option BusGrant
 taken_between v w = if is_some (granted_level w) then taken_in w else taken_in v
 
@@ -92,12 +93,12 @@ is_net_broken G3 v w l = is_arbiter_grant l && falls_between v w l && is_other_g
 is_net_broken G4 v w l = is_grant l && falls_between v w l && not (high_near v w BBSY)
 is_net_broken r v w l = false
 
--- the first changed line of some
+-- the first changed line with p
 abbrev pub first_changed : (ℕ → Bool) → List Change → Option ℕ
 first_changed p [] = None
 first_changed p (c ∷ cs) = if p c.line then Some c.line else first_changed p cs
 
--- a line of the arbitration bus: the busy line, a request or a grant
+-- a line of the arbitration bus: BBSY*, a request or a grant
 abbrev pub is_arbitration : ℕ → Bool
 is_arbitration l = nat_le BBSY l && nat_lt l (iack 1)
 

@@ -1,4 +1,4 @@
--- The marks of tenures, by their definitions.
+-- The marks of tenures (events of the bus with their instants), by their definitions.
 use Rattle.std.specs.Prelude.{ℕ, Bool, ◌==◌, ◌&&◌, Option, None, if◌then◌else◌}
 use Rattle.vme_trace.specs.LineNumbers.{BBSY}
 use Rattle.vme_trace.specs.Signals.{low, rises}
@@ -11,7 +11,7 @@ use Rattle.vme_monitor.specs.declared.mark.BusGrant.{BusGrant}
 use Rattle.vme_chains.specs.GrantLevels.{taken_at}
 
 module _ (t : Trace) (span : Stretch) where
-  -- the tenure that is open ends: the busy line rises at a judged instant
+  -- the open tenure ends: BBSY* rises at a judged instant
   abbrev pub tenure_ends : ℕ → Bool
   tenure_ends j = is_judged span j && rises t BBSY j
 
@@ -19,12 +19,13 @@ module _ (t : Trace) (span : Stretch) where
   abbrev pub is_tenure_open : ℕ → Bool
   is_tenure_open j = (j == span.start) && low t BBSY j
 
-  -- the grant that the tenure takes which starts at j, if one does; where the bus becomes busy with no grant, B1 is
-  -- broken there, and no tenure is shown
+  -- the grant by which a tenure starts at j, if one does; if BBSY* falls without a grant, B1 is broken there, and no
+  -- tenure is shown
   abbrev pub tenure_at : ℕ → Option BusGrant
   tenure_at j = if tenure_starts t span j then taken_at (tenure_level t j) (tenure_slot t j) else None
 
--- tenures at an instant: one that is open at the start, one that starts, by its level and slot, and an end
+-- the marks of tenures at instant j: a tenure that is open at the start of the span, one that starts, with its level
+-- and slot, and the end of one
 abbrev pub tenures_shown : Trace → Stretch → ℕ → StepMarks
 tenures_shown t span j = record no_step_marks {
   opened = is_tenure_open t span j;

@@ -1,4 +1,4 @@
--- The memories of the grant monitor, by number.
+-- The memories of the grant monitor (states of its automaton), by number.
 use Rattle.std.proofs.Common.{◌≡◌, ℕ, ◌+◌, ◌*◌, ◌/◌, ◌%◌, ◌<◌, ◌≤◌, Bool, true, false, refl, ap, arith}
 use Rattle.std.specs.Prelude.{◌==◌, ◌||◌, if◌then◌else◌}
 use Rattle.vme_chains.specs.declared.grant_memory.LevelSet.{LevelSet}
@@ -36,7 +36,7 @@ bit_small : (b : Bool) → bit_of b ≤ 1
 bit_small true = omega arith
 bit_small false = omega arith
 
--- there are 32
+-- each place is below 32
 pub arbitration_placed : (m : Arbitration) → arbitration_place m < 32
 arbitration_placed m = below _ _ _ _ _ (bit_small m.granted) (bit_small m.requests.zero) (bit_small m.requests.one)
     (bit_small m.requests.two) (bit_small m.requests.three)
@@ -74,7 +74,7 @@ set_found s =
       last_is s.three,
     ) refl
 
--- and each is found again
+-- the memory at the place of a memory is that memory
 pub arbitration_found : (m : Arbitration) → arbitration_nth (arbitration_place m) ≡ m
 arbitration_found m = rw (
   half_is m.granted (set_place m.requests),

@@ -25,14 +25,14 @@ use Rattle.vme_chains.specs.declared.grant_memory.LevelSet.{LevelSet}
 abbrev pub grant_rules : List Rule
 grant_rules = G1 ∷ G2 ∷ G3 ∷ G4 ∷ G5 ∷ B1 ∷ B2 ∷ B3 ∷ B4 ∷ []
 
--- the rule is broken on the line, if there is one
+-- the fault that rule r is broken on the line, if there is a line
 abbrev pub fault_on : Rule → Option ℕ → Option Fault
 fault_on r lines = option_map (λ l. record { rule = r; line = l }) lines
 
 abbrev pub line_if : Bool → ℕ → Option ℕ
 line_if b l = if b then Some l else None
 
--- what the changes break on the nets, whatever is remembered
+-- the first of the rules G1 to G4 that the changes break, whatever the memory is (the state of the monitor's automaton)
 abbrev pub nets_fault : Levels → Levels → List Change → Option Fault
 nets_fault v w cs =
     option_or (fault_on G1 (first_changed (is_net_broken G1 v w) cs))
@@ -60,7 +60,8 @@ seen_between v w cs =
 abbrev pub slot_of : Option BusGrant → Option ℕ
 slot_of o = option_map (λ x. x.slot) o
 
--- what a step breaks, after these requests since the last grant, and with or without a grant since the bus became busy
+-- the first rule that a step breaks; `requests` are the levels requested since the last grant, `granted` says whether
+-- there was a grant since the last fall of BBSY*
 abbrev pub step_fault : Levels → Levels → LevelSet → Bool → GrantObservation → Option Fault
 step_fault v w requests granted seen =
     option_or seen.net_fault

@@ -1,5 +1,5 @@
-//! Interrupt acknowledge: a slot passes it on only while it is asked, within a cycle and a transfer, and before the
-//! answer.
+//! Interrupt acknowledge: a slot passes it on only while the slot's input is low, within a cycle and a transfer, and
+//! before the answer.
 
 ghost use Rattle.std.specs.Prelude.{◌≡◌, ◌&&◌, ◌<◌, IsTrue};
 ghost use Rattle.vme_trace.specs.Edges.{falls_between};
@@ -22,7 +22,8 @@ use vme_monitor::tracking::TransferPhase;
 use vme_trace::edges::{answer_falls, falls, has_strobe_low, has_strobes_high, is_low_near};
 use vme_trace::{Change, Line, Lines, Rule};
 
-/// What the transfer is doing, and whether AS* is low and a transfer of the cycle was answered by DTACK*.
+/// The memory of `Iack`, i.e. the state of its automaton: the phase of the transfer, and whether AS* is low and a
+/// transfer of the cycle was answered by DTACK*.
 #[derive(Clone, Copy, PartialEq, Eq, Debug)]
 pub struct Acknowledgement {
     pub transfer: TransferPhase,
@@ -98,7 +99,7 @@ impl Small for Acknowledgement {
 }
 
 impl Acknowledgement {
-    /// What is left after a step.
+    /// The memory after a step.
     #[inline(always)]
     fn after(self, before: &Lines, after: &Lines) -> Acknowledgement
         ensures { result ≡ memory_after self before.now after.now }
@@ -137,7 +138,7 @@ fn input_of(output: Line) -> Line
     }
 }
 
-/// Whether a line falls that the backplane has. Few lines are asked for it, so it is called: that keeps the search
+/// Whether the backplane has a line, and it falls. Few lines are tested, so this isn't inlined: that keeps the search
 /// among the changes short.
 #[cold]
 #[inline(never)]
@@ -155,7 +156,7 @@ fn passes_on(before: &Lines, after: &Lines, line: Line) -> bool
     is_output(line) && is_there_and_falls(before, after, line)
 }
 
-/// Whether it falls while the slot's input isn't low.
+/// Whether a line is an acknowledge output that falls while the slot's input isn't low.
 fn passes_on_unasked(before: &Lines, after: &Lines, line: Line) -> bool
     ensures { result ≡ passes_unasked before.now after.now line }
 {
@@ -199,7 +200,7 @@ fn outputs_passing(before: &Lines, after: &Lines, changes: &[Change]) -> Passing
     PassingSlots { first, unasked }
 }
 
-/// Whether a transfer starts, or none is open any more.
+/// Whether a transfer starts, or the open one closes.
 fn changes_strobes(before: &Lines, after: &Lines) -> bool
     ensures { result ≡ changes_strobes_of before.now after.now }
 {
@@ -210,7 +211,7 @@ fn changes_strobes(before: &Lines, after: &Lines) -> bool
     }
 }
 
-/// Whether what is remembered may change: a transfer starts, is answered or ends, or AS* rises.
+/// Whether the memory may change: a transfer starts, is answered or ends, or AS* rises.
 fn changes_memory(before: &Lines, after: &Lines) -> bool
     ensures { result ≡ changes_memory_of before.now after.now }
 {

@@ -20,7 +20,7 @@ use vme_monitor::monitor::Monitor;
 use vme_monitor::over_stretches::{RuleMonitor, Rules};
 use vme_trace::{Change, Line, Lines, Rule};
 
-/// What a step shows of grants and tenures, whatever is remembered.
+/// What a step shows of grants and tenures, whatever the memory is (the state of the monitor's automaton).
 #[derive(Drop)]
 pub struct GrantObservation {
     /// What the changes break of the rules G1 to G4.
@@ -33,7 +33,7 @@ pub struct GrantObservation {
     pub busy_falls: bool,
     /// BBSY* falls, and no level is granted before the step or after it.
     pub busy_ungranted: bool,
-    /// The grant that the fall of BBSY* takes.
+    /// The grant by which BBSY* falls.
     pub tenure: Option<BusGrant>,
     /// BBSY* rises.
     pub busy_rises: bool,
@@ -41,7 +41,7 @@ pub struct GrantObservation {
     pub cycle_unowned: bool,
 }
 
-/// The rule is broken on the line, if there is one.
+/// The fault that `rule` is broken on `line`, if there is a line.
 fn fault_on(rule: Rule, line: Option<Line>) -> Option<Fault>
     ensures { result ≡ fault_on_of rule line }
 {
@@ -57,7 +57,7 @@ fn line_if(broken: bool, line: Line) -> Option<Line>
     if broken { Some(line) } else { None }
 }
 
-/// What the changes break on the nets of grants.
+/// The first of the rules G1 to G4 that the changes break.
 fn nets_fault(before: &Lines, after: &Lines, changes: &[Change]) -> Option<Fault>
     ensures { result ≡ nets_fault_of before.now after.now changes.now }
 {
@@ -119,8 +119,8 @@ impl GrantObservation {
         }
     }
 
-    /// What a step breaks, after these requests since the last grant, and with or without a grant since the bus became
-    /// busy.
+    /// The first rule that a step breaks. `requests` are the levels requested since the last grant; `granted` says
+    /// whether there was a grant since the last fall of BBSY*.
     #[inline(always)]
     fn fault(
         &self,
@@ -146,10 +146,10 @@ impl GrantObservation {
     }
 }
 
-/// The rules of grants and tenures. A slot grants on only while it is granted, and for as long (G1, G2). The arbiter
-/// grants one level at a time, while the bus isn't busy, after a request since the grant before (G3 to G5). The bus
-/// becomes busy by a grant, each grant makes it so once, and a grant doesn't go past the last slot (B1, B2, B4). A
-/// cycle starts only while the bus is busy (B3).
+/// The rules of grants and tenures. A slot's grant output falls only while its input is low, and rises only while its
+/// input is high (G1, G2). The arbiter grants one level at a time, while the bus isn't busy, after a request since the
+/// grant before (G3 to G5). The bus becomes busy by a grant, each grant makes it so once, and a grant doesn't go past
+/// the last slot (B1, B2, B4). A cycle starts only while the bus is busy (B3).
 pub struct GrantRules;
 
 impl Rules for GrantRules {

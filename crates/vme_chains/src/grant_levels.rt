@@ -1,4 +1,4 @@
-//! What the levels on both sides of a step show of grants, of requests and of the busy line.
+//! What the levels before and after a step show of grants, of requests and of BBSY*.
 
 ghost use Rattle.std.specs.Prelude.{◌≡◌, ℕ, Bool, ◌+◌, ◌-◌, ◌≤◌, ◌<◌, IfSome, None, true, false, if◌then◌else◌};
 ghost use Rattle.vme_trace.specs.Instants.{greatest};
@@ -17,7 +17,7 @@ use crate::grant_memory::LevelSet;
 use vme_monitor::mark::BusGrant;
 use vme_trace::{Change, Level, Line, Lines, Rule};
 
-/// The level of a line, and nothing known of a line that the backplane hasn't.
+/// The level of a line; `Unknown` for a line that the backplane doesn't have.
 fn shown(lines: &Lines, line: Line) -> Level
     ensures { result ≡ shown_of lines.now line }
 {
@@ -89,7 +89,7 @@ pub(crate) fn grant_begins(before: &Lines, after: &Lines) -> bool
     false
 }
 
-/// Whether the arbiter grants a level on another net than this.
+/// Whether the arbiter grants a level on another net than `line`.
 #[tactic(auto, using(vme_trace::proofs::Ranges::searches))]
 fn is_other_granted(lines: &Lines, line: Line) -> bool
     ensures { result ≡ is_other_granted_of lines.now line }
@@ -118,7 +118,7 @@ fn granted_level(lines: &Lines) -> Option<u8>
     None
 }
 
-/// The last net of a granted level's chain that the grant has come to.
+/// The last net of a granted level's chain that the grant has reached.
 #[tactic(auto, using(vme_trace::proofs::Ranges::searches))]
 fn reached_net(lines: &Lines, level: u8) -> u8
     requires level { level < 4 }
@@ -134,7 +134,7 @@ fn reached_net(lines: &Lines, level: u8) -> u8
     lines.slots()
 }
 
-/// The grant of the least level that is granted, with the slot that it has come to.
+/// The grant of the least level that is granted, with the slot that it has reached.
 fn taken(lines: &Lines) -> Option<BusGrant>
     ensures { result ≡ taken_in_of lines.now }
 {
@@ -147,7 +147,7 @@ fn taken(lines: &Lines) -> Option<BusGrant>
     }
 }
 
-/// The grant that a tenure takes which starts with the step.
+/// The grant by which a tenure starts at the step: one after the step, or else one before it.
 pub(crate) fn taken_between(before: &Lines, after: &Lines) -> Option<BusGrant>
     ensures { result ≡ taken_between_of before.now after.now }
 {
@@ -165,7 +165,7 @@ pub(crate) fn is_ungranted(before: &Lines, after: &Lines) -> bool
     granted_level(before).is_none() && granted_level(after).is_none()
 }
 
-/// The net at the input of the slot that drives a net of a grant's chain, if a slot does.
+/// If `line` is the grant output of a slot, the net at the slot's grant input.
 fn grant_input(line: Line) -> Option<Line>
     ensures { result ≡ (if is_slot_grant line then Some (line - 1) else None) }
 {
@@ -205,7 +205,7 @@ fn is_net_broken(rule: Rule, before: &Lines, after: &Lines, line: Line) -> bool
     }
 }
 
-/// The first changed line whose change breaks one of the rules G1 to G4.
+/// The first changed line whose change breaks `rule`, one of G1 to G4.
 pub(crate) fn first_broken(
     rule: Rule,
     before: &Lines,
@@ -222,7 +222,7 @@ pub(crate) fn first_broken(
     None
 }
 
-/// Whether a net of a grant is among the changes: the change of another line breaks no rule on those nets.
+/// Whether a net of a grant is among the changes. The change of any other line breaks none of G1 to G4.
 pub(crate) fn touches_nets(changes: &[Change]) -> bool
     ensures { result ≡ false → (p : ℕ → Bool) → ((l : ℕ) → is_grant_line l ≡ false → p l ≡ false)
         → first_changed p changes.now ≡ None }
@@ -235,7 +235,7 @@ pub(crate) fn touches_nets(changes: &[Change]) -> bool
     false
 }
 
-/// Whether the line is the busy line, a request or a grant.
+/// Whether the line is BBSY*, a request or a grant.
 fn is_arbitration(line: Line) -> bool
     ensures { result ≡ is_arbitration_line line }
 {
@@ -243,7 +243,7 @@ fn is_arbitration(line: Line) -> bool
     Line::BBSY.number() <= number && number < Line::iack(1).number()
 }
 
-/// Whether such a line is among the changes.
+/// Whether BBSY*, a request or a grant is among the changes.
 pub(crate) fn touches_arbitration(changes: &[Change]) -> bool
     ensures { result ≡ touches_arbitration_of changes.now }
 {

@@ -1,4 +1,4 @@
-//! What is remembered of requests and grants.
+//! The memory of requests and grants, i.e. the state of the automaton of `Grant`.
 
 ghost use Rattle.std.specs.Prelude.{◌≡◌};
 ghost use Rattle.vme_chains.specs.GrantMemory.{arbitration_nth, arbitration_place, bit_of, is_in};
@@ -73,7 +73,7 @@ impl LevelSet {
     }
 }
 
-/// What is remembered of requests and grants.
+/// The memory of requests and grants.
 #[derive(Clone, Copy, PartialEq, Eq, Debug)]
 pub struct Arbitration {
     /// The levels requested at some instant from the last grant on, its own instant included, or from the start.

@@ -4,17 +4,19 @@
 //! # Parts
 //!
 //! - `grant`: [`grant::Grant`], the monitor of G1 to G5 and B1 to B4.
-//! - `grant_levels`, `grant_memory`: what the levels on both sides of a step show of grants,
-//!   requests and BBSY; what is remembered of requests and grants.
+//! - `grant_levels`, `grant_memory`: what the levels before and after a step show of grants,
+//!   requests and BBSY*; the memory of requests and grants, i.e. the state of the automaton of
+//!   `Grant`.
 //! - `acknowledge`: [`acknowledge::Iack`], the monitor of I1 to I3.
 //!
 //! # What is proved
 //!
 //! Over every recording, also where other rules are broken:
 //!
-//! - [`grant::grants_over_recordings`]: the first break is the least break of the nine rules of
-//!   grants and tenures (`first_break`). The marks are the tenures: an open one at the start, each
-//!   start with its level and slot, and each end (`marks`).
+//! - [`grant::grants_over_recordings`]: the first break (violation of a rule) is the least break of
+//!   the nine rules of grants and tenures (`first_break`). The marks (events of the bus with their
+//!   instants) are the tenures: an open one at the start, each start with its level and slot, and
+//!   each end (`marks`).
 //! - [`acknowledge::acknowledge_over_recordings`]: the first break is the least break of I1 to I3
 //!   (`first_break`), and there are no marks (`marks`).
 //!
@@ -22,8 +24,8 @@
 //!
 //! # What isn't proved
 //!
-//! That memory suffices. That the rules say what the standard says is to be read in vme_trace; it
-//! has no rule on which of several requests an arbiter grants.
+//! That allocations succeed. That the rules say what the standard says is to be read in vme_trace;
+//! it has no rule on which of several requests an arbiter grants.
 //!
 //! # Limits
 //!

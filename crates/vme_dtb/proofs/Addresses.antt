@@ -1,4 +1,4 @@
--- One address line more.
+-- The address by its lines below a number, with one address line more.
 use Rattle.std.proofs.Common.{◌≡◌, ℕ, suc, ◌+◌, ◌*◌, ◌%◌, ◌^◌, ◌<◌, ◌≤◌, Bool, true, false, refl, sym, ◌∙◌, ap, arith}
 use Rattle.std.proofs.Common.{add-one}
 use Rattle.std.specs.Prelude.{nat_le}

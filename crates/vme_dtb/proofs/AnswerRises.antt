@@ -16,7 +16,7 @@ use Rattle.vme_trace.proofs.OpenTransfers.{suc-sub-one}
 use Rattle.vme_dtb.proofs.Searches.{any_more, greatest_more, greatest_within}
 
 module _ (t : Trace) (span : Stretch) where
-  -- the line is low, and a strobe rose from its last fall on
+  -- the line l is low at n, and a strobe rose at its last fall or after it
   abbrev pub may_rise_at : ℕ → ℕ → Bool
   may_rise_at l n = low t l n && any (strobe_rises t) (last_before t span (falls t l) (suc n)) (suc n)
 
@@ -48,7 +48,7 @@ module _ (t : Trace) (span : Stretch) where
   unfolding low
   may_rise_start l n h = rw (not_low (level_at (levels_at t n) l) h) refl
 
-  -- a line that is low falls, or was low before
+  -- a known line that is low after a step falls at the step, or was low before it
   by_levels : (x y : Level) (a b r : Bool) → is_known x ≡ true → ((is_high x && is_low y) ≡ false → a ≡ (b || r))
       → ((is_high x && is_low y) ≡ true → a ≡ r) → (is_low y && a) ≡ (is_low y && ((is_low x && b) || r))
   by_levels x Unknown a b r known h k = refl
@@ -64,7 +64,7 @@ module _ (t : Trace) (span : Stretch) where
   unfolding falls high low
   falls_here l n = rw (suc-sub-one n) refl
 
-  -- one instant later
+  -- `may_rise_at` one instant later, by what it was
   pub may_rise_suc : (l n : ℕ) → span.start ≤ n → is_known (level_at (levels_at t n) l) ≡ true → may_rise_at l (suc n)
       ≡ (low t l (suc n) && (may_rise_at l n || strobe_rises t (suc n)))
   unfolding low
@@ -92,7 +92,8 @@ module _ (t : Trace) (span : Stretch) where
   unfolding rises high low
   rises_here l n = rw (suc-sub-one n) refl
 
-  -- a line that rises was low before
+  -- a line that rises was low before, so no strobe has risen since its last fall exactly if `may_rise_at` was false and
+  -- no strobe rises now
   pub held_is : (l n : ℕ) → span.start ≤ n
       → (rises t l (suc n) && none (strobe_rises t) (last_before t span (falls t l) (suc n)) (suc n + 1))
       ≡ (rises t l (suc n) && not (may_rise_at l n || strobe_rises t (suc n)))

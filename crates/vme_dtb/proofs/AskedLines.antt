@@ -1,4 +1,4 @@
--- A line that is unknown as it is asked for.
+-- The lines on which U2 and U3 are broken: those that are unknown when they have to be known.
 use Rattle.std.proofs.Common.{◌≡◌, ℕ, suc, ◌<◌, ◌≤◌, Bool, true, false, ◌&&◌, not, refl, ◌∙◌, ap, arith, cond, lit<}
 use Rattle.std.proofs.Common.{lit≤}
 use Rattle.std.specs.Prelude.{None, Some, ◌==◌}
@@ -25,7 +25,7 @@ pub least_and : (b : Bool) (p : ℕ → Bool) → least (λ l. b && p l) 0 line_
 least_and true p = refl
 least_and false p = least-none (λ l. false) 0 line_count (fails-any (λ l. false) 0 line_count (λ l a b. refl))
 
--- a rule on WRITE* alone
+-- the least line of a p that fails on all lines but WRITE*
 pub least_write : (p : ℕ → Bool) → ((l : ℕ) → (l == WRITE) ≡ false → p l ≡ false) → least p 0 line_count
     ≡ cond (p WRITE) (Some WRITE) None
 least_write p elsewhere = by_test (p WRITE) refl
@@ -79,7 +79,7 @@ module _ (t : Trace) (span : Stretch) (reads : ReadsStrobes t span) (n : ℕ) (f
       (judged t span reads n from before) (cycle_starts_is t span reads n from before)
       (λ e. bused_line t.opening.slots l (omega (arith, needed_below new l e)))
 
-  -- the least line that is unknown as a cycle starts that needs it
+  -- the least line that breaks U2 is the least unknown line that the starting cycle needs
   pub address_least : least (breaks t span U2 (suc n)) 0 line_count ≡ unknown_address old new
   address_least = least-alike (breaks t span U2 (suc n)) (λ l. falls_between old new AS && lacks new l) 0 line_count
       (λ l a b. address_asked l) ∙ least_and (falls_between old new AS) (lacks new)
@@ -95,6 +95,6 @@ module _ (t : Trace) (span : Stretch) (reads : ReadsStrobes t span) (n : ℕ) (f
       (on_line (is_judged span (suc n)) (starts_between old new) (not (is_known_on new WRITE))
       (judged t span reads n from before))
 
-  -- WRITE*, where it is unknown as a transfer starts
+  -- the least line that breaks U3 is WRITE*, if it is unknown as a transfer starts
   pub direction_least : least (breaks t span U3 (suc n)) 0 line_count ≡ unknown_direction old new
   direction_least = least_write (breaks t span U3 (suc n)) direction_elsewhere ∙ rw direction_asked refl

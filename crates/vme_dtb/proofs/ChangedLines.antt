@@ -1,4 +1,4 @@
--- A line has an edge at a step where it is among the step's changes.
+-- A line has an edge at a step only if it is among the step's changes.
 use Rattle.std.proofs.Common.{◌≡◌, ℕ, ◌+◌, ◌<◌, Bool, true, false, ◌||◌, ◌&&◌, not, List, [], ◌∷◌, refl, sym, ◌∙◌, ap}
 use Rattle.std.proofs.Common.{arith, length, cond, subst}
 use Rattle.std.specs.Prelude.{Some, ◌==◌, nat_le, slice_set}
@@ -51,7 +51,7 @@ one_more l k h = omega arith
 here_below : (k : ℕ) → k < k + 1
 here_below k = omega arith
 
--- no change is before the least that may
+-- no line below `lowest` is changed
 below_changes : (v : Levels) (lowest l : ℕ) (cs : List Change) → are_changes v lowest cs ≡ true → l < lowest
     → is_changed cs l ≡ false
 unfolding are_changes
@@ -105,7 +105,8 @@ edge_is v cs l h inside = by_test (is_changed cs l) refl
     by_test true e = ap not (changed_differs v v 0 cs l h e inside)
     by_test false e = rw (level-kept v cs l e) (ap not (same_itself (level_at v l)))
 
--- the least line with some property among the changed ones is the first that has another, where the two are alike
+-- the least line with p is the first changed line with q, if p fails on unchanged lines and agrees with q on changed
+-- ones
 module _ (p q : ℕ → Bool) (n : ℕ) (bound : (l : ℕ) → q l ≡ true → l < n) where
   first_here : (c : Change) (cs : List Change) (b : Bool) → q c.line ≡ b → (b ≡ true → p c.line ≡ true) → any p 0 c.line
       ≡ false → (b ≡ false → first_among q cs ≡ least p 0 n)

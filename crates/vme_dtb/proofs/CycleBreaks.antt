@@ -41,7 +41,7 @@ nowhere : (b : Bool) → let none : Option ℕ = None in none ≡ cond b none no
 nowhere true = refl
 nowhere false = refl
 
--- whether there is an answer is tested outside instead
+-- the result is o or none, so the tests of whether there is an answer o can be left out
 by_direction : (f : Bool → Bool) (u w : Bool) (o : Option ℕ) → cond ((u && is_some o) && f (w && is_some o)) o None
     ≡ cond (f w) (cond u o None) None
 by_direction f true true None = nowhere (f true)
@@ -53,7 +53,8 @@ by_direction f true false (Some l) = refl
 by_direction f false true (Some l) = nowhere (f true)
 by_direction f false false (Some l) = nowhere (f false)
 
--- the same for the answer of a write
+-- the result is o or none, so the test of whether a write has an answer o can be left out; the phase `Writing` is
+-- that of an unanswered transfer
 by_write : (e : TransferPhase) (x : Bool) (o : Option ℕ) → cond ((is_writing e && is_some o) && x) o None
     ≡ cond (x && is_writing e) (cond (is_unanswered e) o None) None
 by_write Closed true o = refl
@@ -75,7 +76,7 @@ module _ (t : Trace) (span : Stretch) (reads : ReadsStrobes t span) (n : ℕ) (f
   abbrev within : TransferPhase
   within = entered m.transfer (old t n) (new t n)
 
-  -- the cycle in which the next instant is
+  -- the phase of the cycle in which instant n + 1 is
   abbrev here : CyclePhase
   here = cycle_entered m.cycle seen.shown.cycle
 
@@ -94,14 +95,14 @@ module _ (t : Trace) (span : Stretch) (reads : ReadsStrobes t span) (n : ℕ) (f
           None) ≡ cycle_entered d (cond b (Some (cycle_start_of (new t n))) None)
       same_entered c d a b e f = rw (e, f) refl
 
-  -- the answer of a write, by the state of the transfer
+  -- whether instant n + 1 is the answer of a write, by the phase of the transfer and the edges
   pub write_is : answers_write t span (suc n) ≡ (is_writing within && is_some seen.answer_fall)
   write_is =
       answers_write_is t span reads n from before m.transfer holds.transfer
       ∙ ap (λ b. is_writing within && b) (some_of (falls_between (old t n) (new t n) DTACK)
       (falls_between (old t n) (new t n) BERR) DTACK BERR)
 
-  -- a rule that an answer breaks by the phase of its cycle and its own direction
+  -- a rule that an answer breaks, if f of the phase of its cycle and of its direction says so
   from_cycle : (r : Rule) (x : Bool) (f : CyclePhase → Bool → Bool)
       → ((l : ℕ) → breaks t span r (suc n) l ≡ (is_judged span (suc n) && has_line t.opening.slots l
       && (is_answer_line l && falls t l (suc n) && (is_answer t span (suc n) && x))))
@@ -195,7 +196,7 @@ module _ (t : Trace) (span : Stretch) (reads : ReadsStrobes t span) (n : ℕ) (f
       same_and : (a b c d : Bool) → a ≡ c → b ≡ d → (a && b) ≡ (c && d)
       same_and a b c d e f = rw (e, f) refl
 
-  -- each fault is that of its rule
+  -- each fault is the break of its rule
   pub cycle_faults-are-breaks : AreBreaksOf (break_of_fault (suc n) (time_at t (suc n))) (rule_break t span (suc n))
       cycle_rules (cycle_faults here (is_writing within) (answer_in within seen))
   cycle_faults-are-breaks = (c1, (c2, (i4, (i5, tt))))

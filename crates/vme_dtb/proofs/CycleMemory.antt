@@ -1,4 +1,4 @@
--- The memory's phase of the cycle that started last is that of the definitions.
+-- The phase of the last cycle in the memory (the state of the automaton) is that of the definitions.
 use Rattle.std.proofs.Common.{◌≡◌, ℕ, suc, ◌+◌, ◌≤◌, Bool, true, false, ◌&&◌, ◌||◌, not, List, [], ◌∷◌, ◌++◌, refl, sym}
 use Rattle.std.proofs.Common.{◌∙◌, ap, arith, add-one, Option, Some, None, cond}
 use Rattle.std.specs.Option.{option_map_or}
@@ -23,7 +23,7 @@ use Rattle.vme_dtb.specs.declared.cycle.CyclePhase.TheVariants.{BlockWriting, In
 use Rattle.vme_dtb.proofs.Searches.{greatest_more, greatest_before, greatest_within, those_before, those_more}
 
 module _ (t : Trace) (span : Stretch) where
-  -- a cycle of the class with these answers
+  -- the phase of a cycle of the class with answers at these instants
   abbrev pub told : Class → List ℕ → CyclePhase
   told class.F rs = Free
   told class.S [] = Single
@@ -34,16 +34,16 @@ module _ (t : Trace) (span : Stretch) where
   told class.I [] = Interrupt
   told class.I (r ∷ rs) = InterruptDone
 
-  -- the cycle that starts at an instant, by its answers before n
+  -- the phase of the cycle that starts at i, by its answers before n
   abbrev pub told_of : Option ℕ → ℕ → CyclePhase
   told_of None n = Free
   told_of (Some i) n = told (class_at t span i) (answers_of t span i n)
 
-  -- the cycle to which an answer at j belongs, by the answers before j
+  -- the phase of the cycle to which an answer at j belongs, by the answers before j
   abbrev pub cycle_before : ℕ → CyclePhase
   cycle_before j = told_of (cycle_of t span j) j
 
-  -- the same with an answer at j
+  -- the phase of the cycle to which an answer at j belongs, by the answers up to j
   abbrev pub cycle_after : ℕ → CyclePhase
   cycle_after j = told_of (cycle_of t span j) (suc j)
 
@@ -80,7 +80,7 @@ module _ (t : Trace) (span : Stretch) where
   told_more class.I [] j = refl
   told_more class.I (r ∷ rs) j = refl
 
-  -- the last cycle to start, one instant later
+  -- the last cycle to start up to n + 1: one that starts there, or else the last one up to n
   cycle_of_suc : (n : ℕ) → span.start ≤ n → cycle_of t span (suc n) ≡ cond (cycle_starts t span (suc n)) (Some (suc n))
       (cycle_of t span n)
   unfolding cycle_of
@@ -104,13 +104,13 @@ module _ (t : Trace) (span : Stretch) where
   unfolding answers_of
   answers_none i = those_before (is_answer t span) i i (omega arith)
 
-  -- at the start of the span no cycle has started
+  -- at the start of the span no cycle has started, so its phase is `Free`
   pub cycle_start : cycle_after span.start ≡ Free
   unfolding cycle_of
   cycle_start = ap (λ o. told_of o (suc span.start)) (greatest_before (cycle_starts t span) (span.start + 1)
       (span.start + 1) (omega arith))
 
-  -- an instant is in the cycle that starts there, or else in that of the instant before
+  -- instant n + 1 is in the cycle that starts there, or else in that of instant n
   pub before_is : (n : ℕ) → span.start ≤ n → cycle_before (suc n) ≡ cycle_entered (cycle_after n)
       (cond (cycle_starts t span (suc n)) (Some (cycle_start_of (levels_at t (suc n)))) None)
   before_is n from = ap (λ o. told_of o (suc n)) (cycle_of_suc n from) ∙ by_start (cycle_starts t span (suc n))
@@ -120,7 +120,7 @@ module _ (t : Trace) (span : Stretch) where
       by_start true = ap (told (class_at t span (suc n))) (answers_none (suc n)) ∙ told_none (class_at t span (suc n))
       by_start false = refl
 
-  -- an answer counts from the next instant on
+  -- the phase after instant j is that before j, with the answer at j if there is one
   pub after_is : (j : ℕ) → cycle_after j ≡ cond (is_answer t span j)
       (after_answer (cycle_before j) (answers_write t span j)) (cycle_before j)
   after_is j = by_cycle (cycle_of t span j) refl
@@ -220,7 +220,7 @@ module _ (t : Trace) (span : Stretch) where
   acknowledged_is class.I (r ∷ rs) = refl
   acknowledged_is class.F rs = refl
 
-  -- what the rules ask of the cycle, by what a memory tells of it
+  -- the tests of C1, C2, I4 and I5 on a cycle, by its phase
   pub in_broken_read_modify_write : (j : ℕ) → in_cycle t span (λ i. is_single (class_at t span i)
       && breaks_read_modify_write t span
       (answers_of t span i j) j) j ≡ is_read_modify_write_broken (cycle_before j) (answers_write t span j)

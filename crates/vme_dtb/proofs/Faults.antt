@@ -1,5 +1,5 @@
--- The first of some faults: there is none where each is none, and it is the first rule that is broken where each is its
--- rule's.
+-- The first of some faults. There is none if none of them is there; it is the first rule that is broken if each is the
+-- break of its rule.
 use Rattle.std.proofs.Common.{◌≡◌, ℕ, Bool, true, false, ◌&&◌, List, [], ◌∷◌, refl, sym, ◌∙◌, ap, Option, None, Some}
 use Rattle.std.specs.Prelude.{option_map}
 use Rattle.std.specs.Option.{option_or}
@@ -12,7 +12,7 @@ use Rattle.vme_dtb.specs.CycleState.{is_read_modify_write_broken, is_direction_c
 use Rattle.vme_dtb.specs.Machine.{fault_if, cycle_fault, cycle_faults, first_of_faults, or_first}
 use Rattle.vme_dtb.specs.declared.cycle.CyclePhase.{CyclePhase}
 
--- what names no line breaks no rule, nor does what doesn't apply
+-- there is no fault without a line, nor (`not_applied`) where the rule doesn't apply
 pub unnamed : (r : Rule) (applies : Bool) → fault_if r applies None ≡ None
 unnamed r true = refl
 unnamed r false = refl
@@ -20,7 +20,7 @@ unnamed r false = refl
 pub not_applied : (r : Rule) (b : Bool) (o : Option ℕ) → b ≡ false → fault_if r b o ≡ None
 not_applied r b o e = rw e refl
 
--- each of some faults is none
+-- no fault of a list is there
 abbrev pub AreNone : List (Option Fault) → Type 0
 AreNone [] = Unit {0}
 AreNone (f ∷ fs) = (f ≡ None) × AreNone fs
@@ -50,12 +50,12 @@ or_assoc None b c = refl
 or_assoc (Some x) b c = refl
 
 module _ (at : Fault → Break) (of : Rule → Option Break) where
-  -- the first break of some rules, or else a later one
+  -- the first break of some rules, or else `later`
   abbrev pub or_break : List Rule → Option Break → Option Break
   or_break [] later = later
   or_break (r ∷ rs) later = option_or (of r) (or_break rs later)
 
-  -- each of some faults is that of its rule
+  -- each fault is the break of its rule
   abbrev pub AreBreaksOf : List Rule → List (Option Fault) → Type 0
   AreBreaksOf [] [] = Unit {0}
   AreBreaksOf [] (f ∷ fs) = ⊥
@@ -78,7 +78,8 @@ module _ (at : Fault → Break) (of : Rule → Option Break) where
       → option_or (option_map at (first_of_faults fs)) later ≡ or_break rs later
   first-is rs fs h later = or_first-is rs fs h None later
 
-  -- the same of two lists
+  -- of two lists, the first fault of the first list, or else that of the second, is the first break of the rules of
+  -- both
   pub both-first : (rs qs : List Rule) (fs gs : List (Option Fault)) → AreBreaksOf rs fs → AreBreaksOf qs gs
       → option_map at (option_or (first_of_faults fs) (first_of_faults gs)) ≡ or_break rs (or_break qs None)
   both-first rs qs fs gs h k =

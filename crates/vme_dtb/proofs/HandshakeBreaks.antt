@@ -1,4 +1,5 @@
--- The rules of the handshake, each by what the memory and the step show.
+-- The rules H1 to H8: the fault that the machine finds by each, from the memory (the state of the automaton) and the
+-- edges, is the break of that rule.
 use Rattle.std.proofs.Common.{◌≡◌, ℕ, suc, ◌+◌, ◌<◌, ◌≤◌, Bool, true, false, ◌&&◌, ◌||◌, not, refl, sym, ◌∙◌, ap}
 use Rattle.std.proofs.Common.{Option, Some, None, cond}
 use Rattle.std.specs.Prelude.{option_map, is_some, nat_lt, ◌==◌}
@@ -45,7 +46,7 @@ always true true = refl
 always true false = refl
 always false x = refl
 
--- an answer line that falls in an unanswered transfer
+-- the result is o or none, so the test of whether an answer line o falls can be left out
 answered_on : (u x : Bool) (o : Option ℕ) → cond ((u && is_some o) && x) o None ≡ cond x (cond u o None) None
 answered_on true true None = refl
 answered_on true true (Some l) = refl
@@ -64,7 +65,7 @@ module _ (t : Trace) (span : Stretch) (reads : ReadsStrobes t span) (n : ℕ) (f
   abbrev within : TransferPhase
   within = entered m.transfer (old t n) (new t n)
 
-  -- a rule, by the tests that it is of
+  -- H1 by its tests; likewise `form_2` to `form_8` below
   form_1 : (l : ℕ) → breaks t span H1 (suc n) l ≡ (is_judged span (suc n) && has_line t.opening.slots l
       && (is_answer_line l && not (near (high t l) (suc n)) && transfer_starts t span (suc n)))
   unfolding breaks is_broken
@@ -215,7 +216,7 @@ module _ (t : Trace) (span : Stretch) (reads : ReadsStrobes t span) (n : ℕ) (f
       swapped : (a b c d : Bool) → a ≡ c → b ≡ d → (a && b) ≡ (d && c)
       swapped a b c d e f = rw (e, f) (swap c d)
 
-  -- an answer, by the state of the transfer
+  -- whether instant n + 1 is an answer, by the phase of the transfer and the edges
   pub answer_is : is_answer t span (suc n) ≡ (is_unanswered within && is_some seen.answer_fall)
   answer_is =
       is_answer_is t span reads n from before m.transfer holds.transfer
@@ -241,7 +242,7 @@ module _ (t : Trace) (span : Stretch) (reads : ReadsStrobes t span) (n : ℕ) (f
       same_and : (a b c d : Bool) → a ≡ c → b ≡ d → (a && b) ≡ (c && d)
       same_and a b c d e f = rw (e, f) refl
 
-  -- each fault is that of its rule
+  -- each fault is the break of its rule
   pub handshake_faults-are-breaks : AreBreaksOf (break_of_fault (suc n) (time_at t (suc n))) (rule_break t span (suc n))
       strobe_rules (strobe_faults m within seen)
   handshake_faults-are-breaks = (h1, (h2, (h3, (h4, (h5, (h6, (h7, (h8, tt))))))))

@@ -1,4 +1,4 @@
--- The memory of the handshake says what is so at each judged instant, whatever rule is broken.
+-- The memory of the handshake (the state of the automaton) is right of each judged instant, whichever rules are broken.
 use Rattle.std.proofs.Common.{◌≡◌, ℕ, zero, suc, ◌<◌, ◌≤◌, Bool, true, false, ◌&&◌, ◌||◌, not, refl, sym, ◌∙◌, ap}
 use Rattle.std.proofs.Common.{arith, lit<, Option, Some, None, cond, subst, inl, inr, ◌⊎◌}
 use Rattle.std.specs.Prelude.{is_some, slice_get}
@@ -45,7 +45,8 @@ unfolding is_idle
 idle_line v l below idle = true_of_not _ (any-fails (λ k. not (is_idle_on v k)) 0 line_count l (false_of_not _ idle)
     (omega arith) below)
 
--- an answer counts where an answer line falls
+-- two tests of an answer give the same phase: u (the transfer is unanswered) and o (an answer line falls) tested each,
+-- or o tested where u holds
 counted : (u w : Bool) (o : Option ℕ) (c : CyclePhase) → cond (u && is_some o) (after_answer c (w && is_some o)) c
     ≡ cond (is_some (cond u o None)) (after_answer c w) c
 counted true true None c = refl

@@ -1,4 +1,4 @@
--- Over one span, and over whole recordings: the first rule of the handshake that is broken, and the marks.
+-- The first broken rule of the handshake, and the marks, over one span and over whole recordings.
 use Rattle.std.proofs.Common.{◌≡◌, ℕ, suc, ◌+◌, ◌<◌, ◌≤◌, Bool, true, false, ◌&&◌, not, refl, sym, ◌∙◌, ap, arith}
 use Rattle.std.proofs.Common.{Option, Some, None, cond}
 use Rattle.std.specs.Prelude.{option_map, is_some, slice_get, nat_lt}
@@ -58,7 +58,7 @@ answered_line false o = refl
 abbrev told : Option Lanes → Option ℕ → Option Answer
 told d o = option_map (λ l. record { line = l; lanes = d }) o
 
--- an answer of a write is one that falls
+-- the data of an answer don't depend on whether the test of a write also asks for an answer line that falls
 told_by_write : (e : TransferPhase) (o : Option ℕ) (d : Lanes) → told (cond (is_writing e && is_some o) (Some d) None)
     (cond (is_unanswered e) o None) ≡ told (cond (is_writing e) (Some d) None) (cond (is_unanswered e) o None)
 told_by_write Closed o d = refl
@@ -78,7 +78,7 @@ module _ (t : Trace) (span : Stretch) (facts : IsSpan t span) (n : ℕ) (from : 
   abbrev here : CyclePhase
   here = cycle_entered m.cycle seen.shown.cycle
 
-  -- what the machine finds broken is the first rule that is
+  -- the machine's fault at instant n + 1 is the first broken rule
   breaks_are : option_map (break_of_fault (suc n) (time_at t (suc n))) (fault_in m (old t n) (new t n) seen)
       ≡ break_at t span handshake_rules (suc n)
   unfolding break_at

@@ -1,4 +1,5 @@
--- What the memory of the handshake says of a judged instant, in the words of transfers, cycles and edges.
+-- What the memory m of the handshake (the state of the automaton) says of a judged instant n, by the definitions of
+-- transfers, cycles and edges.
 use Rattle.std.proofs.Common.{◌≡◌, ℕ}
 use Rattle.vme_trace.specs.LineNumbers.{DTACK, BERR}
 use Rattle.vme_trace.specs.Trace.{Trace}
@@ -8,6 +9,7 @@ use Rattle.vme_dtb.specs.declared.memory.HandshakeMemory.{HandshakeMemory}
 use Rattle.vme_dtb.proofs.CycleMemory.{cycle_after}
 use Rattle.vme_dtb.proofs.AnswerRises.{may_rise_at}
 
+-- the memory m is right of instant n
 pub record Holds (t : Trace) (span : Stretch) (n : ℕ) (m : HandshakeMemory) : Type 0 where
   pub transfer : IsTransferPhase t span n m.transfer
   pub cycle : m.cycle ≡ cycle_after t span n

@@ -1,4 +1,4 @@
--- A line that a cycle needs changes before the first answer of the cycle.
+-- The rule S1: a line that a cycle needs changes before the first answer of the cycle.
 use Rattle.std.proofs.Common.{◌≡◌, ℕ, zero, suc, ◌+◌, ◌<◌, ◌≤◌, Bool, true, false, ◌&&◌, not, List, refl, sym, ◌∙◌, ap}
 use Rattle.std.proofs.Common.{arith, cond, inl, inr, ◌⊎◌, length, lit<, subst}
 use Rattle.std.specs.Prelude.{Option, None, Some, slice_get, unwrap_or, option_map}
@@ -124,13 +124,13 @@ module _ (t : Trace) (span : Stretch) where
       (option_or (rule_break t span k S3) None)) fourth).1 in
       (or_none (rule_break t span k S2) (option_or (rule_break t span k S3) None) fifth).0
 
-  -- no break before the next instant: none before this one, and none at it
+  -- if there is no break before n + 1, there is none before n and none at n
   pub before_last : (n : ℕ) → break_before t span stability_rules (suc n) ≡ None
       → (break_before t span stability_rules n ≡ None) × (break_at t span stability_rules n ≡ None)
   unfolding break_before
   before_last n h = or_none (break_before t span stability_rules n) (break_at t span stability_rules n) h
 
-  -- no line on which a rule isn't broken
+  -- if S2 isn't broken at k, it is broken on no line
   pub no_fault : (k : ℕ) (f : Option ℕ) → least (breaks t span S2 k) 0 line_count ≡ f → rule_break t span k S2 ≡ None
       → f ≡ None
   unfolding rule_break
@@ -185,7 +185,7 @@ module _ (t : Trace) (span : Stretch) where
           | inr later ↦ same_next k l (no_edge k l later to needed small) ∙ stays k l later (omega arith) needed small
         ]
 
-    -- while a cycle holds its lines, the levels need what they did at its start
+    -- while the lines of a cycle are held, the levels need the same lines as at its start
     pub same_needs : needs_of (levels_at t n) ≡ needs_of (levels_at t i)
     unfolding is_needed
     same_needs = needs_same (levels_at t i) (levels_at t n) (λ l h. stays n l order (omega arith) h
@@ -215,7 +215,7 @@ module _ (t : Trace) (span : Stretch) where
               (no_rise runs k later to)
         ]
 
-    -- and the address strobe is low
+    -- while the lines of a cycle are held, AS* is low
     pub strobe_low : is_low (level_at (levels_at t n) AS) ≡ true
     unfolding low
     strobe_low = stays_low n order (omega arith)
@@ -235,7 +235,7 @@ module _ (t : Trace) (span : Stretch) where
     abbrev still_held : Bool
     still_held = any (holds_address t span (suc n)) (span.start + 1) (suc n)
 
-    -- what holds on to suc n held at n
+    -- a cycle that runs at n + 1 runs at n; likewise (`held_before`) held lines
     runs_before : (i : ℕ) → cycle_runs t span i (suc n) ≡ true → cycle_runs t span i n ≡ true
     unfolding cycle_runs
     runs_before i h = none_shorter (rises t AS) (i + 1) (n + 1) (suc n + 1) (omega arith) h
@@ -247,7 +247,7 @@ module _ (t : Trace) (span : Stretch) where
         let one = and_true (cycle_starts t span i) (cycle_runs t span i (suc n)) two.0 in
         rw (one.0, runs_before i one.1, none_shorter (is_answer t span) i (n + 1) (suc n + 1) (omega arith) two.1) refl
 
-    -- so the lines that the cycle needs are those that the levels before the step need
+    -- the lines that the held cycle needs are those that the levels before the step need
     needed_since : (l : ℕ) → any (λ i. holds_address t span (suc n) i && is_needed (levels_at t i) l) (span.start + 1)
         (suc n) ≡ (still_held && is_needed old l)
     unfolding is_needed

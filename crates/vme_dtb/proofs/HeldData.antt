@@ -1,4 +1,4 @@
--- A data line of a write that is unknown as a strobe falls, and one that changes while it is held.
+-- The rules U4 and S3: a data line of a write is unknown as a strobe falls, or changes while it is held.
 use Rattle.std.proofs.Common.{◌≡◌, ℕ, suc, ◌+◌, ◌-◌, ◌<◌, ◌≤◌, Bool, true, false, ◌||◌, ◌&&◌, not, refl, sym, ◌∙◌, ap}
 use Rattle.std.proofs.Common.{arith, cond, inl, inr, ◌⊎◌}
 use Rattle.std.specs.Prelude.{Option, None, Some, List, nat_le, nat_lt}
@@ -39,7 +39,7 @@ use Rattle.vme_dtb.proofs.Lasting.{none_more}
 use Rattle.vme_dtb.proofs.Searches.{le_holds}
 use Rattle.vme_dtb.proofs.Progressing.{held_data, is_closed, kept_is, writes_entered}
 
--- a transfer moves data lines alone
+-- lines that a transfer moves are from 159 on, the first data line
 data_from : (a b c d e : Bool) (l : ℕ)
     → ((a && ((b && (nat_le 159 l && nat_le l 166)) || (c && (nat_le 167 l && nat_le l 174)))) || (d && e && b && c
     && (nat_le 159 l && nat_le l 190))) ≡ true → 159 ≤ l
@@ -111,7 +111,7 @@ may : (h l d z : Bool) → cond h (l && d) z ≡ true → (not h || d) ≡ true
 may true l d z e = (and_true l d e).1
 may false l d z e = refl
 
--- the line moves where the rule is broken
+-- if the instant is judged, and the write is held, the rule is broken on a line exactly if the line moves
 moved : (j h s e q k d : Bool) → j ≡ true → q ≡ (k && d) → (k && d) ≡ true → (j && h && (s && e && q))
     ≡ (h && h && (s && e))
 moved j h s e q k d jt qk kd = rw (jt, qk, kd) (by_tests h s e)
@@ -162,7 +162,7 @@ module _ (t : Trace) (span : Stretch) (reads : ReadsStrobes t span) (n : ℕ) (f
   enters : Enters t span (suc n) (entered holds.state old new)
   enters = entered_is t span reads n from before holds.state holds.says
 
-  -- a write that had no answer before the instant
+  -- the transfer that starts at i is a write that had no answer before n + 1
   abbrev is_asked : ℕ → Bool
   is_asked i = is_write t span i && not (is_answered t span i (suc n))
 
@@ -194,7 +194,7 @@ module _ (t : Trace) (span : Stretch) (reads : ReadsStrobes t span) (n : ℕ) (f
       (judged t span reads n from before) falls_here writes_is (λ e. data_line t.opening.slots l (selected_from new l e)
       (selected_to new l e))
 
-  -- the least line that is unknown as a strobe of a write falls that moves it
+  -- the least line that breaks U4 is the least unknown line that the write moves as a strobe falls
   pub undriven_least : (cs : List Change) → least (breaks t span U4 (suc n)) 0 line_count ≡ undriven_fault m old new
       (observation_of old new cs)
   undriven_least cs =
@@ -206,7 +206,8 @@ module _ (t : Trace) (span : Stretch) (reads : ReadsStrobes t span) (n : ℕ) (f
       (may (strobes_high_in old) (strobe_low_in new) (is_low (level_at new WRITE))
       (writes_of m.transfer (is_low (level_at old WRITE)))))
 
-  -- a write that started before the instant, and nothing has come of it up to there
+  -- the transfer that starts at i is a write that started before n + 1 and has had no answer and no rising strobe up to
+  -- n + 1
   abbrev is_held : ℕ → Bool
   is_held i = nat_lt i (suc n) && is_write t span i && not (is_answered t span i (suc n + 1)) && none (strobe_rises t)
       (i + 1) (suc n + 1)
@@ -220,7 +221,7 @@ module _ (t : Trace) (span : Stretch) (reads : ReadsStrobes t span) (n : ℕ) (f
   not_before : (i : ℕ) → i ≡ suc n → nat_lt i (suc n) ≡ false
   not_before i h = grind (arith, nat_tests)
 
-  -- the transfer that starts at the instant isn't held there
+  -- a transfer that starts at n + 1 isn't held there
   just_started : (i : ℕ) (w a : Bool) → IsIn t span (suc n) i w a → strobes_high t n ≡ true → is_held i ≡ false
   just_started i w a o highs =
       elim (order_of i o.within) [
@@ -245,7 +246,7 @@ module _ (t : Trace) (span : Stretch) (reads : ReadsStrobes t span) (n : ℕ) (f
       any-step (λ r. lasts t span i r && answer_falls t r) i (suc n)
       ∙ rw (o.reply, o.last, le_holds i (suc n) o.within, answer_here) refl
 
-  -- the transfer that was open started before
+  -- a transfer that was open at n started at n or before
   started : (i : ℕ) (w a : Bool) → IsIn t span (suc n) i w a → strobes_high_in old ≡ false → i ≤ n
   started i w a o low =
       elim (order_of i o.within) [
@@ -330,7 +331,7 @@ module _ (t : Trace) (span : Stretch) (reads : ReadsStrobes t span) (n : ℕ) (f
       (is_selected old l) (not (same_level (level_at old l) (level_at new l))) (in_transfer t span is_held (suc n))
       (data_is ∙ h)))
 
-  -- the first changed line of a write that nothing has come of
+  -- the least line that breaks S3 is the first changed data line of a write that has had no answer and no rising strobe
   pub shifted_least : (cs : List Change) → new ≡ changed old cs → are_changes old 0 cs ≡ true
       → least (breaks t span S3 (suc n)) 0 line_count ≡ shifted_fault m old new (observation_of old new cs)
   shifted_least cs stepped fit = by_tests (keeps_data m old new) (is_low (level_at old WRITE)) refl refl

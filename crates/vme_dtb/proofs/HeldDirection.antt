@@ -1,4 +1,4 @@
--- WRITE* changes in a transfer before a strobe rises.
+-- The rule S2: WRITE* changes in a transfer before a strobe rises.
 use Rattle.std.proofs.Common.{◌≡◌, ℕ, suc, ◌+◌, ◌<◌, ◌≤◌, Bool, true, false, ◌&&◌, refl, sym, ◌∙◌, arith}
 use Rattle.std.specs.Prelude.{◌==◌, List}
 use Rattle.std.proofs.lemmas.Bool.Decides.{nat_tests}

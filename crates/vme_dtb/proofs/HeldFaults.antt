@@ -1,4 +1,4 @@
--- What a change of what is held breaks, where no needed line moved, or the lines that are needed aren't held.
+-- What a change of a held line breaks, if no needed line moved, or the needed lines aren't held.
 use Rattle.std.proofs.Common.{◌≡◌, ℕ, Bool, true, false, refl, ap}
 use Rattle.std.specs.Prelude.{Option, None, Some, ◌&&◌, if◌then◌else◌}
 use Rattle.std.specs.Option.{is_some, option_or}
@@ -35,6 +35,6 @@ module _ (m : Holding) (v w : Levels) (seen : HoldingObservation) where
   pub undirected : keeps_direction m v w ≡ false → turned_fault m v w seen ≡ None
   undirected h = rw h refl
 
-  -- then the direction alone may break a rule
+  -- if no needed line breaks S1, the fault is that of S2
   pub held-direction : moved_fault m v w seen ≡ None → held_fault m v w seen ≡ fault_on S2 (turned_fault m v w seen)
   held-direction e = ap (λ (o : Option ℕ). option_or (fault_on S1 o) (fault_on S2 (turned_fault m v w seen))) e

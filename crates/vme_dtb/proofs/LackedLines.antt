@@ -1,4 +1,4 @@
--- The search for a needed line of which nothing is known.
+-- The search for an unknown line that a cycle needs.
 use Rattle.std.proofs.Common.{◌≡◌, ℕ, ◌+◌, ◌<◌, ◌≤◌, Bool, true, false, ◌&&◌, not, refl, ◌∙◌, arith, inl, inr, ◌⊎◌}
 use Rattle.std.specs.Prelude.{None, Some, nat_le}
 use Rattle.vme_trace.specs.Instants.{any, every}
@@ -29,11 +29,11 @@ module _ (v : Levels) where
   outside l h = first_false (is_within (needs_of v) l) (not (is_known_on v l))
       (λ e. h (needed_above v l e) (needed_below v l e))
 
-  -- no line before the first that a cycle may need is lacked
+  -- no line below 5, the first that a cycle may need, is lacked
   pub lacks_first : any (lacks v) 0 5 ≡ false
   lacks_first = fails-any (lacks v) 0 5 (λ l a b. outside l (λ x y. omega arith))
 
-  -- nor one after the last
+  -- if no line below n is lacked, and n is past the last line that a cycle may need, none is
   pub lacks_none : (n : ℕ) → 45 ≤ n → any (lacks v) 0 n ≡ false → unknown_need v ≡ None
   lacks_none n past h = least-none (lacks v) 0 line_count
       (fails-any (lacks v) 0 line_count (λ l a b. by_place l (below_or_not l n)))
@@ -45,7 +45,7 @@ module _ (v : Levels) where
       by_place l (inl below) = any-fails (lacks v) 0 n l h (omega arith) below
       by_place l (inr above) = outside l (λ x y. omega arith)
 
-  -- where each line that a cycle may need is known, none is lacked
+  -- if each line that a cycle may need is known, none is lacked
   pub lacks_known : every (is_known_on v) 5 45 ≡ true → unknown_need v ≡ None
   unfolding is_needed
   lacks_known h =
@@ -59,7 +59,7 @@ module _ (v : Levels) where
   pub lacks_more : (n : ℕ) → any (lacks v) 0 n ≡ false → lacks v n ≡ false → any (lacks v) 0 (n + 1) ≡ false
   lacks_more n h e = any-step (lacks v) 0 n ∙ rw (h, e) (and_false (nat_le 0 n))
 
-  -- what is seen of a line, of a set that is what a cycle needs
+  -- whether the line l, whose number is n, is lacked, if `needs` is what a cycle needs
   module _ (needs : Needs) (n l : ℕ) (same : needs ≡ needs_of v) (there : l ≡ n) where
     pub lacks_there : is_within needs l ≡ true → is_known_on v l ≡ false → lacks v n ≡ true
     unfolding is_needed

@@ -1,4 +1,4 @@
--- What started and has lasted, from one instant to the next.
+-- What started at some instant and has lasted, from one instant to the next.
 use Rattle.std.proofs.Common.{◌≡◌, ℕ, zero, suc, ◌+◌, ◌<◌, ◌≤◌, Bool, true, false, ◌||◌, ◌&&◌, not, refl, ◌∙◌, ap}
 use Rattle.std.proofs.Common.{arith}
 use Rattle.std.specs.Prelude.{nat_le}
@@ -10,7 +10,7 @@ use Rattle.vme_dtb.proofs.Searches.{le_holds}
 pub suc-is : (n : ℕ) → suc n ≡ n + 1
 suc-is n = omega arith
 
--- what doesn't speak of the number can be asked before
+-- a test k that doesn't depend on the number moves out of the search
 pub any-and : (q : ℕ → Bool) (k : Bool) (f n : ℕ) → any (λ i. q i && k) f n ≡ (any q f n && k)
 unfolding any
 any-and q k f zero = refl
@@ -24,7 +24,7 @@ any-and q k f (suc n) = rw (any-and q k f n) (spread (any q f n) (nat_le f n) (q
     spread false true c k = refl
     spread false false c k = refl
 
--- none up to an instant, and not there
+-- there is none up to n + 1 exactly if there is none up to n, and none at n + 1
 pub none_more : (p : ℕ → Bool) (f n : ℕ) → f ≤ suc n → none p f (suc n + 1) ≡ (none p f (n + 1) && not (p (suc n)))
 none_more p f n h = ap not (any-step p f (suc n)) ∙ more (any p f (suc n)) (any p f (n + 1)) (nat_le f (suc n))
     (p (suc n)) (ap (any p f) (suc-is n)) (le_holds f (suc n) h)
@@ -33,11 +33,11 @@ none_more p f n h = ap not (any-step p f (suc n)) ∙ more (any p f (suc n)) (an
     more a true c d e h = rw e refl
     more a false c d e h = rw (e, h) refl
 
--- none in an empty range
+-- there is none in an empty range
 pub none_empty : (p : ℕ → Bool) (f : ℕ) → none p f f ≡ true
 none_empty p f = ap not (fails-any p f f (λ i a b. absurd (omega arith)))
 
--- none in a range of one
+-- there is none in a range of one number exactly if p fails there
 pub none_one : (p : ℕ → Bool) (f : ℕ) → none p f (f + 1) ≡ not (p f)
 none_one p f = ap not (any-step p f f) ∙ one (any p f f) (nat_le f f) (p f)
     (fails-any p f f (λ i a b. absurd (omega arith))) (le_holds f f (omega arith))
@@ -45,7 +45,7 @@ none_one p f = ap not (any-step p f f) ∙ one (any p f f) (nat_le f f) (p f)
     one : (a b c : Bool) → a ≡ false → b ≡ true → not (a || (b && c)) ≡ not c
     one a b c e h = rw (e, h) refl
 
--- none in a range that is shorter
+-- if there is none from f on below n, there is none below an m that is at most n
 pub none_shorter : (p : ℕ → Bool) (f m n : ℕ) → m ≤ n → none p f n ≡ true → none p f m ≡ true
 none_shorter p f m n order h = ap not (fails-any p f m (λ i a b. fails i a b))
   where
@@ -54,7 +54,7 @@ none_shorter p f m n order h = ap not (fails-any p f m (λ i a b. fails i a b))
 
 module _ (old new : ℕ → Bool) (keep : Bool) (f n : ℕ) (from : f ≤ suc n) (kept : (i : ℕ) → f ≤ i → i ≤ n → new i
     ≡ (old i && keep)) where
-  -- what started before and lasts
+  -- if `new` is `old` and `keep` for what started up to n, there is a `new` exactly if there is an `old` and `keep`
   pub lasts_on : any new f (suc n) ≡ (any old f (n + 1) && keep)
   lasts_on = any-alike new (λ i. old i && keep) f (suc n) (λ i a b. kept i a (omega arith))
       ∙ (any-and old keep f (suc n) ∙ ap (λ k. any old f k && keep) (suc-is n))

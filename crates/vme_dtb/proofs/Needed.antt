@@ -80,7 +80,7 @@ not_interrupting v h = rw h (by_tests (not (has_known_modifier v)) (is_block (mo
     by_tests false false true = refl
     by_tests false false false = refl
 
--- and a cycle that is no interrupt acknowledge needs the address modifier
+-- a cycle that is no interrupt acknowledge needs the address modifier
 asks_modifier : (v : Levels) → is_low (level_at v IACK) ≡ false → (needs_of v).modifier ≡ true
 asks_modifier v h = modifier_by v (class_of v) refl (λ e. clash (is_interrupting (class_of v)) (ap is_interrupting e)
     (not_interrupting v h))
@@ -147,7 +147,7 @@ module _ (v w : Levels) where
   needs_by_code class.S e h code = rw (e, h, code) refl
   needs_by_code class.K e h code = rw (e, h, code) refl
 
-  -- where the lines that the first need are alike, the second need the same
+  -- if w agrees with v on the lines that v needs, w needs the same lines
   pub needs_same : ((l : ℕ) → is_within (needs_of v) l ≡ true → level_at w l ≡ level_at v l) → needs_of w ≡ needs_of v
   needs_same alike = by_class (is_low (level_at v IACK)) refl
     where

@@ -1,4 +1,4 @@
--- What the state of the transfer says of the transfer in which the next instant is.
+-- What the phase of the transfer says of the transfer in which instant n + 1 is.
 use Rattle.std.proofs.Common.{◌≡◌, ℕ, suc, ◌+◌, ◌<◌, ◌≤◌, Bool, true, false, ◌||◌, ◌&&◌, not, refl, sym, ◌∙◌, ap, arith}
 use Rattle.std.proofs.Common.{inl, inr, ◌⊎◌, add-one}
 use Rattle.std.specs.Prelude.{nat_lt}
@@ -60,7 +60,7 @@ module _ (t : Trace) (span : Stretch) (reads : ReadsStrobes t span) (n : ℕ) (f
       (any-fails (λ k. transfer_starts t span k && lasts t span k (suc n) && true) (span.start + 1) (suc n + 1) i none
       a b))
 
-  -- a transfer that is entered after both strobes were high starts there
+  -- if both strobes are high at n, a transfer in which n + 1 is starts there
   starts_now : (i : ℕ) (w a : Bool) → IsIn t span (suc n) i w a → strobes_high t n ≡ true → i ≡ suc n
   starts_now i w a o high_before =
       elim (last_or_before i n o.within) [
@@ -81,7 +81,7 @@ module _ (t : Trace) (span : Stretch) (reads : ReadsStrobes t span) (n : ℕ) (f
   closed_by p Answered o high_before fails = in_one p o.0 o.1 true o.2 ∙ ap p (starts_now o.0 o.1 true o.2 high_before)
       ∙ fails
 
-  -- where none is open, the instant is in none that started before
+  -- if no transfer is open at n, instant n + 1 is in none that started before
   closed_is : (p : ℕ → Bool) → strobes_high t n ≡ true → p (suc n) ≡ false → in_transfer t span p (suc n) ≡ false
   closed_is p high_before fails = closed_by p (entered Closed (levels_at t n) (levels_at t (suc n)))
       (entered_is t span reads n from before Closed high_before) high_before fails
@@ -97,7 +97,7 @@ module _ (t : Trace) (span : Stretch) (reads : ReadsStrobes t span) (n : ℕ) (f
   not_yet : (b : Bool) → (nat_lt (suc n) (suc n) && b) ≡ false
   not_yet b = rw (lt_fails (suc n) (suc n) (omega arith)) refl
 
-  -- a transfer that started before stays without an answer
+  -- whether n + 1 is in a transfer that started before and has no answer up to n + 1
   pub left_unanswered_is : (m : TransferPhase) → IsTransferPhase t span n m → in_transfer t span (λ i. nat_lt i (suc n)
       && not (is_answered t span i (suc n + 1))) (suc n) ≡ (is_unanswered m && not (answer_falls t (suc n)))
   left_unanswered_is Closed high_before = closed_is (λ i. nat_lt i (suc n) && not (is_answered t span i (suc n + 1)))
@@ -112,7 +112,7 @@ module _ (t : Trace) (span : Stretch) (reads : ReadsStrobes t span) (n : ℕ) (f
       open_is (λ i. nat_lt i (suc n) && not (is_answered t span i (suc n + 1))) o.0 o.1 true o.2
       ∙ rw (lt_holds o.0 (suc n) (omega (arith, o.2.within)), open_answered o.0 o.1 true o.2) refl
 
-  -- a transfer that started before has its answer
+  -- whether n + 1 is in a transfer that started before n + 1 and was answered before n + 1
   pub replied_is : (m : TransferPhase) → IsTransferPhase t span n m → in_transfer t span (λ i. nat_lt i (suc n)
       && is_answered t span i (suc n)) (suc n) ≡ is_replied m
   replied_is Closed high_before = closed_is (λ i. nat_lt i (suc n) && is_answered t span i (suc n)) high_before
@@ -124,7 +124,7 @@ module _ (t : Trace) (span : Stretch) (reads : ReadsStrobes t span) (n : ℕ) (f
   replied_is Answered o = open_is (λ i. nat_lt i (suc n) && is_answered t span i (suc n)) o.0 o.1 true o.2
       ∙ rw (lt_holds o.0 (suc n) (omega (arith, o.2.within)), o.2.reply) refl
 
-  -- a transfer that started before is open
+  -- whether n + 1 is in a transfer that started before
   pub started_is : (m : TransferPhase) → IsTransferPhase t span n m → in_transfer t span (λ i. nat_lt i (suc n)) (suc n)
       ≡ is_within m
   started_is Closed high_before = closed_is (λ i. nat_lt i (suc n)) high_before (lt_fails (suc n) (suc n) (omega arith))
@@ -151,7 +151,7 @@ module _ (t : Trace) (span : Stretch) (reads : ReadsStrobes t span) (n : ℕ) (f
   doubled_by Writing o = in_one answered_twice o.0 true false o.1 ∙ twice_one o.0 true o.1
   doubled_by Answered o = in_one answered_twice o.0 o.1 true o.2 ∙ rw o.2.reply refl
 
-  -- it is answered again, or by both lines
+  -- whether n + 1 is in a transfer that is answered again there, or by both lines
   pub doubled_is : (m : TransferPhase) → IsTransferPhase t span n m → let e = entered m (levels_at t n)
       (levels_at t (suc n)) in
       in_transfer t span answered_twice (suc n)

@@ -29,7 +29,8 @@ passed_first : (v w : Levels) (c : Change) (cs : List Change) → is_data c.line
     (c ∷ cs) ≡ first_among (is_shifted v w) cs
 passed_first v w c cs h = rw (not_moved v w c.line h) refl
 
--- one change more is passed
+-- if the first moved line of all changes is that of the changes from i on, and change i isn't of a data line, it is
+-- that of the changes from i + 1 on
 pub passed_more : (v w : Levels) (cs : List Change) (i : ℕ) (c : Change) → i < length cs → c ≡ get_or cs i c
     → is_data c.line ≡ false → first_among (is_shifted v w) (drop i cs) ≡ first_among (is_shifted v w) cs
     → first_among (is_shifted v w) (drop (i + 1) cs) ≡ first_among (is_shifted v w) cs

@@ -10,7 +10,7 @@ no_modifier : (b : Bool) → ((b && false) || false) ≡ false
 no_modifier true = refl
 no_modifier false = refl
 
--- no cycle needs the address strobe, a data strobe or an answer
+-- no cycle needs AS*, a data strobe or an answer line
 not_within : (needs : Needs) (l : ℕ) → l < 5 → is_within needs l ≡ false
 not_within needs zero h = no_modifier needs.modifier
 not_within needs (suc zero) h = no_modifier needs.modifier
@@ -23,7 +23,8 @@ passed_first : (needs : Needs) (c : Change) (cs : List Change) → c.line < 5 �
     ≡ first_needed needs cs
 passed_first needs c cs h = rw (not_within needs c.line h) refl
 
--- one change more is passed
+-- if the first needed line of all changes is that of the changes from i on, and change i is of a line below 5, it is
+-- that of the changes from i + 1 on
 pub passed_more : (needs : Needs) (cs : List Change) (i : ℕ) (c : Change) → i < length cs → c ≡ get_or cs i c
     → c.line < 5 → first_needed needs (drop i cs) ≡ first_needed needs cs → first_needed needs (drop (i + 1) cs)
     ≡ first_needed needs cs

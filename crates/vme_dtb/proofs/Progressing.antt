@@ -1,4 +1,4 @@
--- What has come of a transfer, by what is asked of it.
+-- What has happened in a transfer, by the tests on it.
 use Rattle.std.proofs.Common.{◌≡◌, Bool, true, false, ◌||◌, ◌&&◌, not, refl, sym, ◌∙◌, cond}
 use Rattle.std.specs.Prelude.{Option, None, Some, ℕ}
 use Rattle.vme_trace.proofs.Ranges.{clash}
@@ -49,7 +49,7 @@ passed_same RisenInWrite d = refl
 passed_same Answered d = refl
 passed_same Over d = refl
 
--- no strobe has risen by the next instant
+-- if the strobes aren't both high after the step, no strobe has risen exactly if none had and none rises
 pub fresh_more : (k r s : Bool) → k ≡ false → (not r && not s) ≡ not (not k && (r || s))
 fresh_more true r s h = absurd (cc)
 fresh_more false true true h = refl
@@ -61,7 +61,8 @@ pub fresh_here : (k r s : Bool) → r ≡ false → s ≡ false → true ≡ not
 fresh_here true r s h j = refl
 fresh_here false r s h j = rw (h, j) refl
 
--- a write that has had no answer, by what the memory and the levels say, from one instant to the next
+-- whether there is a write without an answer, by the memory (state of the automaton) and the levels, after the next
+-- step
 pub directed_next : (p : TransferPhase) (x : TransferState) (a s d e : Bool) → is_answered_state p ≡ was_answered x
     → (is_closed p ≡ true → has_risen x ≡ false) → (is_closed p ≡ true → s ≡ false)
     → (is_closed p ≡ false → writes_of x d ≡ is_writing p)
@@ -114,7 +115,8 @@ closed_unanswered phase.Reading x c h = absurd (cc)
 closed_unanswered phase.Writing x c h = absurd (cc)
 closed_unanswered phase.Answered x c h = absurd (cc)
 
--- the same as the levels say it, where the strobes aren't both high after the step
+-- whether there is a write without an answer after the next step, if the strobes aren't both high then, by the tests on
+-- the levels
 pub directed_by : (p : TransferPhase) (x : TransferState) (h l k a s d e : Bool) → h ≡ is_closed p → l ≡ not k → k
     ≡ false
     → is_answered_state p ≡ was_answered x
@@ -149,7 +151,7 @@ directed_by p x false l false a s d e c low inside answered risen rises directed
     by_state phase.Answered c h w = directed_next phase.Answered x a s d e h (λ y. absurd (clash false y refl))
         (λ y. absurd (clash false y refl)) w still
 
--- the instant after the step is in a write that had no answer, by what the memory and the levels say
+-- whether the instant after the step is in a write that had no answer, by the memory and the levels
 pub writes_entered : (p : TransferPhase) (h l e z : Bool) → h ≡ is_closed p → (h ≡ false → z ≡ is_writing p)
     → is_writing (cond (h && l) (cond e phase.Writing phase.Reading) p) ≡ cond h (l && e) z
 writes_entered phase.Closed true true true z c d = refl
@@ -163,7 +165,7 @@ writes_entered phase.Writing false l e z c d = sym (d refl)
 writes_entered phase.Answered true l e z c d = absurd (cc)
 writes_entered phase.Answered false l e z c d = sym (d refl)
 
--- the data of an open write are held where nothing has come of it
+-- the data of an open write are held if it has had no answer and no rising strobe
 pub held_data : (x : TransferState) (a s d : Bool) → (writes_of x d && not a && (not (has_risen x) && not s))
     ≡ ((((true && not (has_risen x)) && not s) && not (was_answered x) && not a) && d)
 held_data Fresh true true true = refl

@@ -1,4 +1,4 @@
--- The comparison of levels by their variants is that by what they show.
+-- The comparison of two levels by their variants is `same_level`.
 use Rattle.std.proofs.Common.{◌≡◌, refl}
 use denote.Enum.Bare.{sameb}
 use Rattle.vme_trace.specs.Levels.{same_level}

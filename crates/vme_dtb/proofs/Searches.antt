@@ -1,4 +1,4 @@
--- One more at the end of a range that is searched.
+-- Searches of a range that gets longer by one number at its end.
 use Rattle.std.proofs.Common.{◌≡◌, ℕ, zero, suc, ◌<◌, ◌≤◌, Bool, true, false, ◌&&◌, ◌||◌, [], ◌∷◌, ◌++◌, refl, arith}
 use Rattle.std.proofs.Common.{Option, Some, None, cond, inl, inr, ◌⊎◌}
 use Rattle.std.specs.Prelude.{nat_le, nat_lt}
@@ -44,7 +44,7 @@ and_first false b h = absurd (cc)
 same_value : (n i : ℕ) → Some n ≡ Some i → n ≡ i
 same_value n i h = cc
 
--- the greatest that was found is in the range
+-- the greatest number that a search finds is in its range
 pub greatest_within : (p : ℕ → Bool) (f n i : ℕ) → greatest p f n ≡ Some i → (f ≤ i) × (i < n)
 unfolding greatest
 greatest_within p f zero i h = absurd (cc)

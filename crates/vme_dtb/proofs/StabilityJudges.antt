@@ -1,4 +1,4 @@
--- What the monitor of stability finds at each judged instant is what the rules say.
+-- The fault that the monitor of stability finds at each judged instant is the first broken rule.
 use Rattle.std.proofs.Common.{◌≡◌, ℕ, zero, suc, ◌<◌, ◌≤◌, Bool, true, false, not, ◌&&◌, List, [], refl, sym, arith}
 use Rattle.std.proofs.Common.{cond, inl, inr, ◌⊎◌, length, lit<, subst}
 use Rattle.std.specs.Prelude.{Option, None, Some, option_map, slice_get, nat_lt}
@@ -41,7 +41,7 @@ use Rattle.vme_dtb.proofs.Unobserved.{quiet_there}
 abbrev step : Holding → Levels → Levels → List Change → Next Holding
 step = machine_step stability_observation stability_next
 
--- the least rule, of six, that is broken on a line
+-- of six rules, the first that is broken on a line gives the fault and the break
 first_fault : (n time : ℕ) (a b c d e f : Option ℕ)
     → option_map (break_of_fault n time) (option_or (option_or (fault_on U2 a) (fault_on U3 b))
     (option_or (fault_on U4 c) (option_or (option_or (fault_on S1 d) (fault_on S2 e)) (fault_on S3 f))))
@@ -72,7 +72,7 @@ module _ (t : Trace) (span : Stretch) (ok : malformed_step t ≡ None) (facts : 
     full = stability_next m (levels_at t n) (levels_at t (suc n)) (observation_of (levels_at t n) (levels_at t (suc n))
         (changes_at n))
 
-    -- a step in which nothing is observed would change nothing
+    -- the machine's step is the full one: without an observation it would change nothing
     next_is : next_at step t m n ≡ full
     next_is = by_test (is_observed (levels_at t n) (levels_at t (suc n)) (changes_at n)) refl
       where
@@ -128,7 +128,7 @@ module _ (t : Trace) (span : Stretch) (ok : malformed_step t ≡ None) (facts : 
   same_low Unknown High h = refl
   same_low Unknown Unknown h = refl
 
-  -- while the direction is held it stays, where no rule is broken
+  -- while the direction is held, WRITE* stays low, or stays not low, if no rule is broken
   stays : (n : ℕ) → span.start ≤ n → suc n < span.end → (m : Holding) → Holds t span n m → break_before t span
       stability_rules (suc (suc n)) ≡ None → keeps_direction m (levels_at t n) (levels_at t (suc n)) ≡ true
       → is_low (level_at (levels_at t (suc n)) WRITE) ≡ is_low (level_at (levels_at t n) WRITE)
@@ -150,7 +150,7 @@ module _ (t : Trace) (span : Stretch) (ok : malformed_step t ≡ None) (facts : 
   first_or_later : (s n : ℕ) → s ≤ suc n → (s ≡ suc n) ⊎ (s ≤ n)
   first_or_later s n h = grind arith
 
-  -- the address strobe is high where the span starts
+  -- AS* isn't low at the start of the span
   address_high : is_low (level_at (levels_at t span.start) AS) ≡ false
   unfolding is_idle
   address_high = not_low (level_at (levels_at t span.start) AS)
@@ -162,7 +162,7 @@ module _ (t : Trace) (span : Stretch) (ok : malformed_step t ≡ None) (facts : 
       not_low Low h = absurd (cc)
       not_low Unknown h = refl
 
-  -- at each judged instant the memory says what it should
+  -- the memory is right of each judged instant
   holds_at : (n : ℕ) → span.start ≤ n → n < span.end → n ≤ length t.steps → Holds t span n (memory_at n)
   holds_at zero from before within = let e : span.start ≡ 0 = omega arith in
       subst (λ k. Holds t span k (stability_begin (levels_at t span.start))) e

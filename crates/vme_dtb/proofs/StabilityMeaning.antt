@@ -1,5 +1,5 @@
--- What the memory of what is held says of a judged instant, in the words of transfers and cycles; it keeps saying so,
--- whatever rule is broken.
+-- What the memory of the held lines (the state of the automaton) says of a judged instant, by the definitions of
+-- transfers and cycles. It stays right, whichever rules are broken.
 use Rattle.std.proofs.Common.{◌≡◌, ℕ, suc, ◌+◌, ◌<◌, ◌≤◌, Bool, true, false, ◌||◌, ◌&&◌, not, refl, sym, ◌∙◌, ap, arith}
 use Rattle.std.proofs.Common.{cond}
 use Rattle.vme_trace.specs.Edges.{answer_between, falls_between, rises_between, starts_between, strobe_low_in}
@@ -34,7 +34,7 @@ use Rattle.vme_dtb.proofs.ChangedLines.{and_true, or_false}
 use Rattle.vme_dtb.proofs.Lasting.{none_more, none_empty, none_one, lasts_on}
 use Rattle.vme_dtb.proofs.Searches.{le_holds}
 
--- the transfer that the step enters, or that was open, has had no answer
+-- whether the transfer that the step enters, or that was open, has had no answer
 unanswered_is : (p : TransferPhase) (h l w : Bool) → h ≡ is_closed p
     → is_unanswered (cond (h && l) (cond w Writing Reading)
     p) ≡ (not (is_answered_state p) && (not h || l))
@@ -65,7 +65,7 @@ answered_next Writing h l w false false e low = rw e refl
 answered_next Answered h l w false true e low = rw e refl
 answered_next Answered h l w false false e low = rw e refl
 
--- a strobe is low where both are known, and not both high
+-- of two known levels, one is low exactly if not both are high
 low_is : (x y : Level) → is_known x ≡ true → is_known y ≡ true → (is_low x || is_low y) ≡ not (is_high x && is_high y)
 low_is Low y k j = refl
 low_is High Low k j = refl
@@ -88,7 +88,7 @@ was_high High y k r h = refl
 was_high Low y k r h = absurd (clash (is_high y) h r)
 was_high Unknown y k r h = absurd (cc)
 
--- so strobes that don't rise, and are high, were high
+-- known strobes that don't rise, and are high, were high
 pub high_before : (v w : Levels) → is_known (level_at v DS0) ≡ true → is_known (level_at v DS1) ≡ true
     → strobe_rises_between v w ≡ false → strobes_high_in w ≡ true → strobes_high_in v ≡ true
 high_before v w first second still h =
@@ -100,7 +100,7 @@ high_before v w first second still h =
           second rises.1 highs.1,
     ) refl
 
--- whether a transfer is open in which no strobe has risen, by the strobes before and after
+-- whether a transfer is open in which no strobe has risen, by the strobes before and after the step
 unturned_next : (h k l r s : Bool) → (h ≡ true → s ≡ false) → (h ≡ true → r ≡ false) → l ≡ not k
     → (r ≡ false → k ≡ true → h ≡ true)
     → (not k && not (not k && (s || r))) ≡ (((not h && not s) && not r) || (h && l))
@@ -126,6 +126,7 @@ module _ (t : Trace) (span : Stretch) where
   abbrev pub holds_direction : ℕ → ℕ → Bool
   holds_direction n i = transfer_starts t span i && none (strobe_rises t) (i + 1) (n + 1)
 
+  -- the memory m is right of instant n, at which the phase of the transfer is `state`
   pub record Holds (n : ℕ) (m : Holding) : Type 0 where
     pub state : TransferPhase
     pub says : IsTransferPhase t span n state
@@ -162,7 +163,7 @@ module _ (t : Trace) (span : Stretch) where
           → strobes_high t span.start ≡ false
       low_there i a low = low span.start a (omega arith)
 
-  -- the levels on both sides of the step to suc n
+  -- the levels before and after the step to n + 1
   module _ (reads : ReadsStrobes t span) (n : ℕ) (from : span.start ≤ n) (before : suc n < span.end) where
     abbrev pub old : Levels
     old = levels_at t n
@@ -192,7 +193,7 @@ module _ (t : Trace) (span : Stretch) where
     unfolding cycle_starts
     cycle_starts_is = rw (judged, falls_is AS) refl
 
-    -- both strobes are high where no transfer is open
+    -- both strobes are high exactly if no transfer is open
     pub high_is : (p : TransferPhase) → IsTransferPhase t span n p → strobes_high_in old ≡ is_closed p
     unfolding high
     high_is Closed says = says
@@ -217,7 +218,7 @@ module _ (t : Trace) (span : Stretch) where
     unfolding cycle_runs
     runs_here = none_empty (rises t AS) (suc n + 1)
 
-    -- the address is held on where the cycle runs on and no answer comes
+    -- the lines of a cycle are held at n + 1 if they were at n, AS* doesn't rise, and no answer comes
     pub address_more : (i : ℕ) → span.start + 1 ≤ i → i ≤ n → holds_address (suc n) i
         ≡ (holds_address n i && (not (rises t AS (suc n)) && not (is_answer t span (suc n))))
     address_more i a b = rw (runs_more i b, none_more (is_answer t span) i n (omega arith))
@@ -255,7 +256,7 @@ module _ (t : Trace) (span : Stretch) where
         no_test true = refl
         no_test false = refl
 
-    -- what is held up to the instant itself
+    -- whether the lines that a cycle needs are still held at n + 1
     pub keeps_address_is : (m : Holding) → Holds n m → keeps_address m old new ≡ any (holds_address (suc n))
         (span.start + 1) (suc n)
     keeps_address_is m h =
@@ -317,7 +318,7 @@ module _ (t : Trace) (span : Stretch) where
     last_or_before : (i : ℕ) → i ≤ suc n → (i ≡ suc n) ⊎ (i ≤ n)
     last_or_before i h = grind arith
 
-    -- no strobe has risen in the transfer that is open
+    -- whether no strobe has risen up to n + 1 in the transfer that is open
     fresh_next : (m : Holding) → Holds n m → (i : ℕ) → i ≤ suc n → transfer_starts t span i ≡ true
         → ((r : ℕ) → i ≤ r → r ≤ suc n → strobes_high t r ≡ false) → none (strobe_rises t) (i + 1) (suc n + 1)
         ≡ not (risen_now m)
@@ -338,7 +339,7 @@ module _ (t : Trace) (span : Stretch) where
               (low (suc n) a (omega arith)))
         ]
 
-    -- so the memory says the same one instant later, where the direction stays while it is held
+    -- the memory is right of n + 1, if the direction stays while it is held
     pub holds_next : (break_before t span stability_rules (suc (suc n)) ≡ None → break_before t span stability_rules
         (suc n) ≡ None)
         → ((m : Holding) → Holds n m → break_before t span stability_rules (suc (suc n)) ≡ None → keeps_direction m old

@@ -62,7 +62,7 @@ same_first a b c d x y e f = rw (e, f) refl
 pub same_cond : (c d : Bool) (o q : Option ℕ) → c ≡ d → o ≡ q → cond c o None ≡ cond d q None
 same_cond c d o q e f = rw (e, f) refl
 
--- the least of a test that holds of the address strobe alone
+-- the least line of a p that fails on all lines but AS*
 least_address : (p : ℕ → Bool) → ((l : ℕ) → (l == AS) ≡ false → p l ≡ false) → least p 0 line_count
     ≡ cond (p AS) (Some AS) None
 least_address p h = by_test (p AS) refl

@@ -1,4 +1,4 @@
--- Where the address strobe, the strobes and the answer lines stay as they are, nothing happens.
+-- If AS*, the strobes and the answer lines stay as they are, nothing happens.
 use Rattle.std.proofs.Common.{◌≡◌, ℕ, Bool, true, false, ◌&&◌, ◌||◌, not, refl, sym, ◌∙◌, ap, arith, List, Option, Some}
 use Rattle.std.proofs.Common.{None, cond}
 use Rattle.std.specs.Prelude.{is_some, option_map}
@@ -110,7 +110,7 @@ built as_falls as_rises starts closes rise0 rise1 fall0 fall1 dtack_falls berr_f
       unaddressed = unaddressed;
     }
 
--- the edges of a step that has none
+-- the edges of a step that has none; u says that AS* is low neither before nor after
 abbrev silent : Bool → Edges
 silent u = record {
   shown = no_step_marks;
@@ -233,7 +233,7 @@ module _ (t : Trace) (span : Stretch) (n : ℕ) (m : HandshakeMemory) (holds : H
   abbrev told : TransferPhase → ℕ → Answer
   told e l = record { line = l; lanes = data_in e (old t n) (new t n) }
 
-  -- a step without edges leaves all as it is
+  -- a step without edges leaves the memory as it is, breaks nothing and shows nothing
   pub next_still : is_still (old t n) (new t n) ≡ true → dtb_next m (old t n) (new t n)
       (edges_between (old t n) (new t n)) ≡ quiet m
   unfolding low
@@ -284,7 +284,7 @@ module _ (t : Trace) (span : Stretch) (n : ℕ) (m : HandshakeMemory) (holds : H
       (ap (cycle_fault m.cycle (is_writing e)) none ∙ sym (unanswered m.cycle (is_writing e))))
       no_mark
 
-  -- so a step in which nothing is observed is done all the same
+  -- the machine's step is `dtb_next`, also where nothing is observed
   pub machine_step_is : (cs : List Change) → machine_step dtb_observation dtb_step m (old t n) (new t n) cs
       ≡ dtb_next m (old t n)
       (new t n) (edges_between (old t n) (new t n))

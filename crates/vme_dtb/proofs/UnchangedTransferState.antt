@@ -1,4 +1,4 @@
--- Where neither an answer comes nor a strobe rises, no more has come of an open transfer than before.
+-- If no answer comes and no strobe rises, the state of an open transfer stays.
 use Rattle.std.proofs.Common.{◌≡◌, Bool, false, ◌||◌, refl}
 use Rattle.vme_dtb.specs.HoldingNumbers.{has_risen, passed, was_answered, writes_of}
 use Rattle.vme_dtb.specs.declared.holding.TransferState.{TransferState}

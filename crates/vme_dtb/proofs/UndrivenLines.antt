@@ -1,4 +1,4 @@
--- The search for a data line that is moved and of which nothing is known.
+-- The search for an unknown data line that a transfer moves.
 use Rattle.std.proofs.Common.{◌≡◌, ℕ, ◌+◌, ◌<◌, ◌≤◌, Bool, true, false, ◌&&◌, not, refl, ◌∙◌, arith, inl, inr, ◌⊎◌}
 use Rattle.std.specs.Prelude.{None, Some, nat_le}
 use Rattle.vme_trace.specs.Instants.{any, every, least}
@@ -35,7 +35,7 @@ module _ (v : Levels) where
       apart : (l : ℕ) → 191 ≤ l → l < 191 → ⊥
       apart l h k = omega arith
 
-  -- past the last data line
+  -- if no line below n is undriven, and n is past the last data line, none is
   pub undriven_none : (n : ℕ) → 191 ≤ n → any (is_undriven v) 0 n ≡ false → least (is_undriven v) 0 line_count ≡ None
   undriven_none n past h =
       least-none (is_undriven v) 0 line_count (fails-any (is_undriven v) 0 line_count
@@ -48,7 +48,7 @@ module _ (v : Levels) where
       by_place l (inl below) = any-fails (is_undriven v) 0 n l h (omega arith) below
       by_place l (inr from) = beyond l (omega arith)
 
-  -- where each data line is known, none is undriven
+  -- if each data line is known, none is undriven
   pub undriven_known : every (is_known_on v) 159 191 ≡ true → least (is_undriven v) 0 line_count ≡ None
   undriven_known h =
       least-outside (is_known_on v) (is_undriven v) 159 191 line_count h

@@ -1,4 +1,4 @@
--- Where nothing is observed in a step, it changes nothing that is remembered and breaks no rule.
+-- A step in which nothing is observed leaves the memory (the state of the automaton) as it is and breaks no rule.
 use Rattle.std.proofs.Common.{◌≡◌, ℕ, suc, ◌<◌, ◌≤◌, Bool, true, false, ◌||◌, ◌&&◌, not, List, refl, sym, ◌∙◌, arith}
 use Rattle.std.proofs.Common.{cond, lit<}
 use Rattle.std.specs.Prelude.{Option, None, Some}
@@ -46,7 +46,7 @@ same_open true a off = sym (off refl)
 same_open false true off = refl
 same_open false false off = refl
 
--- where a step changes nothing that is remembered
+-- a step without an answer and without a rise of a strobe or AS* leaves the memory as it is
 same_memory : (v w : Levels) (m : Holding) → answer_between v w ≡ false → strobe_rises_between v w ≡ false
     → rises_between v w AS ≡ false
     → (strobes_high_in w ≡ true → was_answered m.transfer ≡ false) → (strobes_high_in w ≡ true → has_risen m.transfer
@@ -82,7 +82,7 @@ module _ (t : Trace) (span : Stretch) (facts : IsSpan t span) (n : ℕ) (from : 
   abbrev new : Levels
   new = levels_at t (suc n)
 
-  -- no transfer is open where both strobes are high
+  -- if both strobes are high, no transfer is open, so none is answered
   closed_there : (p : TransferPhase) → strobes_high_in old ≡ is_closed p → strobes_high_in old ≡ true
       → is_answered_state p
       ≡ false

@@ -27,19 +27,20 @@ no_edges = record {
   unaddressed = false;
 }
 
--- AS* alone falls
+-- the edges of a step in which AS* alone falls
 abbrev pub start_edges : CycleStart → Edges
 start_edges cycle_start = record no_edges { shown = record no_step_marks { cycle = Some cycle_start } }
 
--- DTACK* alone falls while AS* is low
+-- the edges of a step in which DTACK* alone falls while AS* is low
 abbrev pub answer_edges : Edges
 answer_edges = record no_edges { answer_fall = Some DTACK }
 
--- DTACK* alone rises
+-- the edges of a step in which DTACK* alone rises
 abbrev pub ready_edges : Bool → Edges
 ready_edges u = record no_edges { dtack_rises = true; unaddressed = u }
 
--- strobes move, and the cycle may end: a strobe rises, one falls, a transfer starts or closes
+-- the edges of a step in which strobes move: `rise` and `fall` are the first strobes that rise and fall, `start` and
+-- `close` say whether a transfer starts or closes, `end` whether the cycle ends
 abbrev pub strobes_edges : Option ℕ → Option ℕ → Option Bool → Bool → Bool → Edges
 strobes_edges rise fall start close end = record no_edges {
   shown = record no_step_marks { cycle_end = end; transfer = start; close = close };
@@ -78,7 +79,7 @@ all_four true false c d h = absurd (cc)
 all_four true true false d h = absurd (cc)
 all_four true true true false h = absurd (cc)
 
--- where a transfer starts both answer lines are high, so neither is named
+-- if both answer lines are high wherever a transfer starts, neither is named as not high
 readied : (s x y b c : Bool) (k l : ℕ) → (not s || (x && y)) ≡ true
     → cond s (first_of (not (x || b)) k (not (y || c)) l) None ≡ None
 readied false x y b c k l h = refl

@@ -1,4 +1,4 @@
--- What follows from the usual kinds of steps.
+-- What the usual kinds of steps give.
 use Rattle.std.proofs.Common.{◌≡◌, ℕ, Bool, true, false, ◌&&◌, ◌||◌, not, refl, sym, ◌∙◌, ap, Option, Some, None, cond}
 use Rattle.std.specs.Prelude.{is_some, option_map}
 use Rattle.std.specs.Option.{option_or}
@@ -93,7 +93,7 @@ broken_by_end Answered r e f h = refl
 broken_by_end Reading r e f h = (neither r e h).1
 broken_by_end Writing r e f h = (neither r e h).1
 
--- the answer of a transfer without one is one line alone
+-- in a transfer without an answer, DTACK* alone is its answer, and no second one
 one_answer : (e : TransferPhase) → is_unanswered e ≡ true → (not (is_within e) ≡ false)
     × ((is_replied e || (is_unanswered e && false)) ≡ false) × (cond (is_unanswered e) (Some DTACK) None ≡ Some DTACK)
 one_answer Reading h = (refl, refl, refl)
@@ -109,7 +109,7 @@ module _ (m : HandshakeMemory) (v w : Levels) where
   abbrev within : TransferPhase
   within = entered m.transfer v w
 
-  -- where no answer comes, nothing is broken by one
+  -- without an answer, no rule on the answers of a cycle is broken
   unanswered_here : (c : CyclePhase) → cycle_fault c (is_writing within) (cond (is_unanswered within) None None) ≡ None
   unanswered_here c = ap (cycle_fault c (is_writing within)) (nowhere (is_unanswered within))
       ∙ sym (unanswered c (is_writing within))
@@ -122,7 +122,7 @@ module _ (m : HandshakeMemory) (v w : Levels) where
   no_h8 : (u : Bool) → fault_if H8 u (cond (is_unanswered within) None None) ≡ None
   no_h8 u = ap (fault_if H8 u) (nowhere (is_unanswered within)) ∙ unnamed H8 u
 
-  -- what is left open, by whether an answer line falls
+  -- the phase of the transfer after a step in which no answer line falls
   unanswered_left : (o : TransferPhase) → falls_between v w DTACK ≡ false → falls_between v w BERR ≡ false → within ≡ o
       → tracked m.transfer v w ≡ cond (strobes_high_in w) Closed o
   unanswered_left o d b e = left_by (strobes_high_in w) (falls_between v w DTACK) (falls_between v w BERR) within o d b
@@ -156,7 +156,7 @@ module _ (m : HandshakeMemory) (v w : Levels) where
   no_mark : option_map told (cond (is_unanswered within) None None) ≡ None
   no_mark = ap (option_map told) (nowhere (is_unanswered within))
 
-  -- the answer of a transfer that started earlier
+  -- the answer of the transfer that was open before the step
   abbrev pub plain_answer : ℕ → Answer
   plain_answer = told_with (cond (is_writing m.transfer) (Some (lanes_at v)) None)
 

@@ -15,7 +15,7 @@ unanswered_of class.K = Block
 unanswered_of class.I = Interrupt
 unanswered_of class.F = Free
 
--- the cycle in which an instant is, where another may start
+-- the cycle in which an instant is: c, unless another one starts there
 abbrev pub cycle_entered : CyclePhase → Option CycleStart → CyclePhase
 cycle_entered c None = c
 cycle_entered c (Some cycle_start) = unanswered_of cycle_start.class

@@ -1,4 +1,4 @@
--- What one step shows of the handshake, from the levels on both sides of it.
+-- What one step shows of the handshake, from the levels before and after it.
 use Rattle.std.specs.Prelude.{ℕ, zero, suc, ◌+◌, ◌^◌, Bool, not, ◌&&◌, ◌||◌, Option, None, Some, nat_le, if◌then◌else◌}
 use Rattle.vme_trace.specs.Edges.{falls_between, rises_between, starts_between, strobes_high_in}
 use Rattle.vme_trace.specs.LineNumbers.{AS, DS0, DS1, DTACK, BERR, WRITE, A}
@@ -9,7 +9,7 @@ use Rattle.vme_monitor.specs.declared.mark.CycleStart.{CycleStart}
 use Rattle.vme_monitor.specs.declared.mark.StepMarks.{StepMarks}
 use Rattle.vme_dtb.specs.declared.edges.Edges.{Edges}
 
--- the address by its lines below a number, bit n being of the weight 2 ^ n and a high line being 1
+-- the address by its lines below A n: each high line A k, k from 1 on, adds 2 ^ k
 unfoldable pub address_below : Levels → ℕ → ℕ
 address_below v zero = 0
 address_below v (suc n) = address_below v n + (if nat_le 1 n && is_high_on v (A n) then 2 ^ n else 0)
@@ -18,11 +18,11 @@ address_below v (suc n) = address_below v n + (if nat_le 1 n && is_high_on v (A 
 abbrev pub address_of : Levels → ℕ
 address_of v = address_below v 32
 
--- what the lines say as a cycle starts
+-- what the lines show as a cycle starts
 abbrev pub cycle_start_of : Levels → CycleStart
 cycle_start_of v = record { class = class_of v; modifier = modifier_of v; address = address_of v }
 
--- the first of two lines of which something holds
+-- x if a, else y if b
 abbrev pub first_of : Bool → ℕ → Bool → ℕ → Option ℕ
 first_of a x b y = if a then Some x else if b then Some y else None
 
@@ -38,11 +38,11 @@ module _ (v w : Levels) where
   abbrev pub closes_between : Bool
   closes_between = strobes_high_in w && not (strobes_high_in v)
 
-  -- AS* is low on either side
+  -- AS* is low before or after the step
   abbrev pub is_addressed : Bool
   is_addressed = is_low (level_at v AS) || is_low (level_at w AS)
 
-  -- the line isn't high on either side
+  -- the line is high neither before nor after the step
   abbrev pub is_answer_not_high : ℕ → Bool
   is_answer_not_high l = not (is_high (level_at v l) || is_high (level_at w l))
 

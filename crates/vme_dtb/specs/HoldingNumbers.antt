@@ -1,4 +1,4 @@
--- What has come of a transfer; and the number of each value of what is remembered of lines that are held.
+-- What has happened in a transfer, and the number of each memory of the held lines (state of the monitor's automaton).
 use Rattle.std.proofs.Common.{◌≡◌, refl, ℕ, ◌+◌, ◌<◌, Bool, true, false, lit<}
 use Rattle.std.specs.Prelude.{◌/◌, ◌%◌, ◌==◌, if◌then◌else◌}
 use Rattle.vme_dtb.specs.declared.holding.Holding.{Holding}
@@ -21,7 +21,7 @@ has_risen RisenInWrite = true
 has_risen Answered = false
 has_risen Over = true
 
--- it is a write that has had no answer, by what WRITE* shows
+-- the transfer is a write that has had no answer; `low` says whether WRITE* is low
 abbrev pub writes_of : TransferState → Bool → Bool
 writes_of Fresh low = low
 writes_of RisenInRead low = false
@@ -29,7 +29,7 @@ writes_of RisenInWrite low = true
 writes_of Answered low = false
 writes_of Over low = false
 
--- an answer has come, a strobe has risen, it is a write
+-- the state of a transfer, by whether it was answered, a strobe has risen in it, and it is a write
 abbrev pub passed : Bool → Bool → Bool → TransferState
 passed true true w = Over
 passed true false w = Answered

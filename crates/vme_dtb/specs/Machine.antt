@@ -39,7 +39,7 @@ fault_if r applies line = if applies then option_map (λ l. record { rule = r; l
 abbrev pub answer_in : TransferPhase → Edges → Option ℕ
 answer_in e s = if is_unanswered e then s.answer_fall else None
 
--- the data that an answer takes, if the transfer is a write: what the lines say before the step, or after it where the
+-- the data that an answer takes, if the transfer is a write: the data on the lines before the step, or after it if the
 -- transfer starts there
 abbrev pub data_in : TransferPhase → Levels → Levels → Option Lanes
 data_in e v w = if is_writing e then Some (lanes_at (if starts_between v w then w else v)) else None
@@ -48,7 +48,7 @@ data_in e v w = if is_writing e then Some (lanes_at (if starts_between v w then 
 abbrev pub answered_in : TransferPhase → Levels → Levels → Edges → Option Answer
 answered_in e v w s = option_map (λ l. record { line = l; lanes = data_in e v w }) (answer_in e s)
 
--- a strobe has risen since the answer line fell
+-- a strobe has risen since the answer line fell; `was` says whether one had before the step
 abbrev pub may_rise : Bool → Edges → Bool
 may_rise was s = was || is_some s.strobe_rise
 
@@ -65,7 +65,7 @@ abbrev pub early_rise : HandshakeMemory → Edges → Option ℕ
 early_rise m s = first_of (s.dtack_rises && not (may_rise m.dtack_may_rise s)) DTACK
     (s.berr_rises && not (may_rise m.berr_may_rise s)) BERR
 
--- an earlier fault if there is one, or else the first of some faults
+-- `earlier` if there is one, or else the first of some faults
 abbrev pub or_first : Option Fault → List (Option Fault) → Option Fault
 or_first earlier [] = earlier
 or_first earlier (f ∷ fs) = or_first (option_or earlier f) fs
@@ -73,7 +73,7 @@ or_first earlier (f ∷ fs) = or_first (option_or earlier f) fs
 abbrev pub first_of_faults : List (Option Fault) → Option Fault
 first_of_faults = or_first None
 
--- the rules on strobes and answers, and what breaks each
+-- the rules on strobes and answers, and (`strobe_faults`) for each the fault where it is broken
 abbrev pub strobe_rules : List Rule
 strobe_rules = H1 ∷ H2 ∷ H3 ∷ H4 ∷ H5 ∷ H6 ∷ H7 ∷ H8 ∷ []
 
@@ -89,7 +89,8 @@ strobe_faults m e s =
     ∷ fault_if H8 s.unaddressed (answer_in e s)
     ∷ []
 
--- the rules on the answers of a cycle, and what breaks each; w: the transfer is a write
+-- the rules on the answers of a cycle, and (`cycle_faults`) for each the fault where it is broken; w says whether the
+-- transfer is a write
 abbrev pub cycle_rules : List Rule
 cycle_rules = C1 ∷ C2 ∷ I4 ∷ I5 ∷ []
 
@@ -110,6 +111,7 @@ handshake_fault m e s = first_of_faults (strobe_faults m e s)
 abbrev pub cycle_fault : CyclePhase → Bool → Option ℕ → Option Fault
 cycle_fault c w answer = first_of_faults (cycle_faults c w answer)
 
+-- the memory (state of the monitor's automaton) after a step with the edges s
 abbrev pub memory_after : HandshakeMemory → Levels → Levels → Edges → HandshakeMemory
 memory_after m v w s =
     let e = entered m.transfer v w in
@@ -121,6 +123,7 @@ memory_after m v w s =
       berr_may_rise = (is_low (level_at w BERR) && may_rise m.berr_may_rise s);
     }
 
+-- the first rule that a step with the edges s breaks
 abbrev pub fault_in : HandshakeMemory → Levels → Levels → Edges → Option Fault
 fault_in m v w s =
     let e = entered m.transfer v w in
@@ -135,11 +138,11 @@ dtb_start_marks v = no_step_marks
 abbrev pub dtb_end_fault : ℕ → Option Fault
 dtb_end_fault l = None
 
--- whether AS*, a strobe or an answer line moves
+-- there is an observation where AS*, a strobe or an answer line moves
 abbrev pub dtb_observation : Levels → Levels → List Change → Option (Unit {0})
 dtb_observation v w cs = if is_still v w then None else Some tt
 
--- what follows from the edges of a step
+-- the result of a step with the edges s
 abbrev pub dtb_next : HandshakeMemory → Levels → Levels → Edges → Next HandshakeMemory
 dtb_next m v w s =
     record {

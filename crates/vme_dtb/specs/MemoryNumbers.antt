@@ -1,4 +1,4 @@
--- The number of each memory of the handshake.
+-- The number of each memory of the handshake (state of the monitor's automaton).
 use Rattle.std.proofs.Common.{◌≡◌, ℕ, ◌+◌, ◌*◌, ◌/◌, ◌%◌, ◌<◌, ◌≤◌, Bool, true, false, refl, ap, ◌∙◌, arith}
 use Rattle.std.specs.Prelude.{◌==◌, if◌then◌else◌}
 use Rattle.vme_monitor.specs.declared.tracking.TransferPhase.{TransferPhase}

@@ -1,4 +1,4 @@
--- What a step shows of the lines that are asked for and held, from the levels on both sides of it and its changes.
+-- What a step shows of the lines that have to be known and held, from the levels before and after it and its changes.
 use Rattle.std.specs.Prelude.{ℕ, Bool, false, not, ◌&&◌, ◌||◌, List, [], ◌∷◌, Option, None, Some, if◌then◌else◌}
 use Rattle.std.specs.Option.{option_or, is_some}
 use Rattle.vme_trace.specs.Edges.{answer_between, falls_between, rises_between, starts_between, strobe_falls_between}
@@ -33,24 +33,27 @@ abbrev pub fault_on : Rule → Option ℕ → Option Fault
 fault_on r None = None
 fault_on r (Some l) = Some (fault_at r l)
 
--- a cycle that starts at these levels needs the line, and nothing is known of it
+-- a cycle that starts at these levels needs the line, and the line is unknown
 abbrev pub lacks : Levels → ℕ → Bool
 lacks w l = is_needed w l && not (is_known_on w l)
 
+-- the least line that a cycle needs that starts at these levels, and that is unknown
 abbrev pub unknown_need : Levels → Option ℕ
 unknown_need w = least (lacks w) 0 line_count
 
+-- the least line on which U2 is broken
 abbrev pub unknown_address : Levels → Levels → Option ℕ
 unknown_address v w = if falls_between v w AS then unknown_need w else None
 
+-- the line on which U3 is broken: WRITE*
 abbrev pub unknown_direction : Levels → Levels → Option ℕ
 unknown_direction v w = if starts_between v w && not (is_known_on w WRITE) then Some WRITE else None
 
--- the first rule that a line breaks which isn't known as it is asked for
+-- the rule U2 or U3, if a line is unknown that has to be known at this step
 abbrev pub faults_unknown : Levels → Levels → Option Fault
 faults_unknown v w = option_or (fault_on U2 (unknown_address v w)) (fault_on U3 (unknown_direction v w))
 
--- a transfer at these levels moves the line, and nothing is known of it
+-- a transfer at these levels moves the line, and the line is unknown
 abbrev pub is_undriven : Levels → ℕ → Bool
 is_undriven w l = is_selected w l && not (is_known_on w l)
 
@@ -58,16 +61,16 @@ is_undriven w l = is_selected w l && not (is_known_on w l)
 abbrev pub may_write : Levels → Levels → Bool
 may_write v w = not (strobes_high_in v) || is_low (level_at w WRITE)
 
--- the least data line of which nothing is known, where a strobe falls that may be a write's
+-- the least unknown data line that a transfer moves, if a strobe falls in a transfer that may be a write
 abbrev pub undriven_line : Levels → Levels → Option ℕ
 undriven_line v w = if strobe_falls_between v w && may_write v w then least (is_undriven w) 0 line_count else None
 
--- the first changed line that has a property
+-- the first changed line with p
 abbrev pub first_among : (ℕ → Bool) → List Change → Option ℕ
 first_among p [] = None
 first_among p (c ∷ cs) = if p c.line then Some c.line else first_among p cs
 
--- the first changed line of a set
+-- the first changed line that is among `needs`
 abbrev pub first_needed : Needs → List Change → Option ℕ
 first_needed needs cs = first_among (is_within needs) cs
 
@@ -76,18 +79,18 @@ abbrev pub is_shifted : Levels → Levels → ℕ → Bool
 is_shifted v w l = has_line v.slots l && has_line w.slots l
     && (is_selected v l && not (same_level (level_at v l) (level_at w l)))
 
--- the first changed one, if the transfer was a write by what WRITE* showed
+-- the first changed line that a transfer moved before the step, if WRITE* was low
 abbrev pub shifted_line : Levels → Levels → List Change → Option ℕ
 shifted_line v w cs = if is_low (level_at v WRITE) then first_among (is_shifted v w) cs else None
 
--- the first changed line that a cycle needs whose address strobe was low before
+-- the first changed line that the cycle needs, if AS* was low before the step
 abbrev pub address_moved : Levels → List Change → Option ℕ
 address_moved v cs = if is_low (level_at v AS) then first_needed (needs_of v) cs else None
 
 abbrev pub direction_turned : Levels → Levels → Bool
 direction_turned v w = not (same_level (level_at v WRITE) (level_at w WRITE))
 
--- what is remembered may change: an answer comes, or a strobe rises
+-- the memory (state of the automaton) may change: an answer comes, or a data strobe or AS* rises
 abbrev pub changes_holding : Levels → Levels → Bool
 changes_holding v w = answer_between v w || strobe_rises_between v w || rises_between v w AS
 
@@ -100,7 +103,7 @@ observation_of v w cs = record {
   shifted = shifted_line v w cs;
 }
 
--- nothing that counts has changed where none of these holds
+-- whether the step is observed: otherwise nothing has changed that counts
 abbrev pub is_observed : Levels → Levels → List Change → Bool
 is_observed v w cs = is_some (faults_unknown v w) || is_some (address_moved v cs) || direction_turned v w
     || changes_holding v w || is_some (undriven_line v w) || is_some (shifted_line v w cs)
@@ -116,7 +119,7 @@ answers_in m v w = not (was_answered m.transfer) && (not (strobes_high_in v) || 
 abbrev pub awaits_answer : Holding → Levels → Bool
 awaits_answer m v = is_low (level_at v AS) && not m.cycle_answered
 
--- the lines that a cycle needs are held on
+-- the lines that the cycle needs are still held at the step
 abbrev pub keeps_address : Holding → Levels → Levels → Bool
 keeps_address m v w = awaits_answer m v && not (rises_between v w AS) && not (answers_in m v w)
 
@@ -124,26 +127,27 @@ keeps_address m v w = awaits_answer m v && not (rises_between v w AS) && not (an
 abbrev pub holds_direction : Holding → Levels → Bool
 holds_direction m v = not (strobes_high_in v) && not (has_risen m.transfer)
 
--- the direction is held on
+-- the direction is still held at the step
 abbrev pub keeps_direction : Holding → Levels → Levels → Bool
 keeps_direction m v w = holds_direction m v && not (strobe_rises_between v w)
 
--- the data lines of a write are held on: nothing has come of the transfer
+-- the data lines of a write are still held at the step: the transfer has had no answer and no rising strobe
 abbrev pub keeps_data : Holding → Levels → Levels → Bool
 keeps_data m v w = keeps_direction m v w && not (was_answered m.transfer) && not (answer_between v w)
 
--- the transfer in which the instant after the step is, is a write that had no answer before
+-- at the instant after the step there is a transfer that is a write and had no answer before
 abbrev pub writes_now : Holding → Levels → Levels → Bool
 writes_now m v w = if strobes_high_in v then strobe_low_in w
     && is_low (level_at w WRITE) else writes_of m.transfer (is_low (level_at v WRITE))
 
--- what has come of the transfer after a step
+-- what has happened in the transfer up to the end of a step
 abbrev pub passed_in : Holding → Levels → Levels → TransferState
 passed_in m v w =
     passed (not (strobes_high_in w) && (was_answered m.transfer || answer_between v w))
     (not (strobes_high_in w) && (has_risen m.transfer || strobe_rises_between v w))
     (writes_of m.transfer (is_low (level_at v WRITE)))
 
+-- the memory after a step
 abbrev pub stepped : Holding → Levels → Levels → Holding
 stepped m v w =
     record {
@@ -151,9 +155,11 @@ stepped m v w =
       cycle_answered = is_low (level_at w AS) && (m.cycle_answered || answers_in m v w);
     }
 
+-- the line on which S1 is broken
 abbrev pub moved_fault : Holding → Levels → Levels → HoldingObservation → Option ℕ
 moved_fault m v w seen = if keeps_address m v w then seen.moved else None
 
+-- the line on which S2 is broken: WRITE*
 abbrev pub turned_fault : Holding → Levels → Levels → HoldingObservation → Option ℕ
 turned_fault m v w seen = if keeps_direction m v w && seen.turned then Some WRITE else None
 
@@ -161,14 +167,16 @@ turned_fault m v w seen = if keeps_direction m v w && seen.turned then Some WRIT
 abbrev pub held_fault : Holding → Levels → Levels → HoldingObservation → Option Fault
 held_fault m v w seen = option_or (fault_on S1 (moved_fault m v w seen)) (fault_on S2 (turned_fault m v w seen))
 
--- a line, where a test holds
+-- the line, if b
 abbrev pub kept : Bool → Option ℕ → Option ℕ
 kept b None = None
 kept b (Some l) = if b then Some l else None
 
+-- the line on which U4 is broken
 abbrev pub undriven_fault : Holding → Levels → Levels → HoldingObservation → Option ℕ
 undriven_fault m v w seen = kept (writes_now m v w) seen.undriven
 
+-- the line on which S3 is broken
 abbrev pub shifted_fault : Holding → Levels → Levels → HoldingObservation → Option ℕ
 shifted_fault m v w seen = kept (keeps_data m v w) seen.shifted
 

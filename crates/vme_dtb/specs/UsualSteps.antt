@@ -24,8 +24,8 @@ module _ (v w : Levels) where
   is_strobes_alone = is_low (level_at v AS) && stays_on v w DTACK && stays_on v w BERR
       && (not (starts_between v w) || (is_high (level_at v DTACK) && is_high (level_at v BERR)))
 
--- the memory after a step to the levels w in which no answer line falls, or where p has its answer: in the cycle c, the
--- transfer being p unless it closes, and a strobe rises or none does
+-- the memory after a step to the levels w, in the cycle c, with the transfer p unless it closes; `rises` says whether a
+-- strobe rises. For steps in which no answer line falls, or after which p has its answer.
 abbrev pub memory_left : HandshakeMemory → Levels → TransferPhase → CyclePhase → Bool → HandshakeMemory
 memory_left m w p c rises =
     record {

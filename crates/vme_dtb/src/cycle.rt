@@ -1,4 +1,4 @@
-//! What the cycle that started last still admits.
+//! Which answers the cycle that started last still admits.
 
 ghost use Rattle.std.specs.Prelude.{◌≡◌, ◌<◌};
 ghost use Rattle.vme_dtb.specs.CycleState.{after_answer, cycle_entered, is_interrupt_acknowledge};

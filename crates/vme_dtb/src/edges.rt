@@ -13,12 +13,12 @@ use vme_monitor::mark::{CycleStart, NOTHING, StepMarks};
 use vme_trace::edges::{falls, has_strobes_high, rises, starts_transfer};
 use vme_trace::{Line, Lines, am_class, am_code};
 
-/// What a step shows of the handshake, whatever was before it.
+/// What a step shows of the handshake, by the levels before and after it alone.
 #[derive(Clone, Copy, PartialEq, Eq, Debug)]
 pub struct Edges {
     /// What happens, but for the answer of a transfer.
     pub shown: StepMarks,
-    /// A transfer starts, and this answer line is the first that isn't high before or after the step.
+    /// A transfer starts, and this answer line is the first that is high neither before nor after the step.
     pub answer_not_high: Option<Line>,
     /// The first strobe that rises.
     pub strobe_rise: Option<Line>,
@@ -103,7 +103,7 @@ pub(crate) fn is_addressed(before: &Lines, after: &Lines) -> bool
     before.level(Line::AS).is_low() || after.level(Line::AS).is_low()
 }
 
-/// The first of the strobes of which something holds.
+/// DS0* if `first`, else DS1* if `second`.
 fn first_strobe(first: bool, second: bool) -> Option<Line>
     ensures { result ≡ first_of first DS0 second DS1 }
 {
@@ -116,7 +116,7 @@ fn first_strobe(first: bool, second: bool) -> Option<Line>
     }
 }
 
-/// The first of the answer lines of which something holds.
+/// DTACK* if `dtack`, else BERR* if `berr`.
 pub(crate) fn first_answer(dtack: bool, berr: bool) -> Option<Line>
     ensures { result ≡ first_of dtack DTACK berr BERR }
 {
@@ -143,7 +143,7 @@ fn address(lines: &Lines) -> u32
     address
 }
 
-/// What the lines say where a cycle starts.
+/// What the lines show where a cycle starts.
 #[inline(always)]
 pub(crate) fn cycle_start(lines: &Lines) -> CycleStart
     ensures { result ≡ cycle_start_of lines.now }
@@ -174,7 +174,7 @@ pub(crate) fn closes(before: &Lines, after: &Lines) -> bool
     has_strobes_high(after) && !has_strobes_high(before)
 }
 
-/// Whether an answer line isn't high before or after the step.
+/// Whether an answer line is high neither before nor after the step.
 fn is_answer_not_high(before: &Lines, after: &Lines, line: Line) -> bool
     requires { line < grant 0 0 }
     ensures { result ≡ is_answer_not_high before.now after.now line }
@@ -201,7 +201,7 @@ fn shown(before: &Lines, after: &Lines) -> StepMarks
 }
 
 impl Edges {
-    /// What the levels on both sides of a step show.
+    /// What the levels before and after a step show.
     pub(crate) fn between(before: &Lines, after: &Lines) -> Edges
         ensures { result ≡ edges_between before.now after.now }
     {

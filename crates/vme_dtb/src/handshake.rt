@@ -88,7 +88,7 @@ fn answer_of(entered: TransferPhase, seen: &Edges) -> Option<Line>
     }
 }
 
-/// The data that the lines say, if they are those of a write.
+/// The data on the lines, if `write`.
 #[inline(always)]
 fn taken(write: bool, lines: &Lines) -> Option<Lanes>
     ensures { result ≡ (if write then Some (lanes_at lines.now) else None) }
@@ -132,7 +132,7 @@ fn is_doubled(entered: TransferPhase, seen: &Edges) -> bool
     is_answered(entered) || (is_unanswered(entered) && seen.both_fall)
 }
 
-/// Whether a strobe has risen since an answer line fell, if `was` says so of the time before the step.
+/// Whether a strobe has risen since an answer line fell. `was` says whether one had before the step.
 fn may_rise(was: bool, seen: &Edges) -> bool
     ensures { result ≡ may_rise_by was seen.now }
 {
@@ -193,7 +193,7 @@ fn cycle_fault(cycle: CyclePhase, write: bool, answer: Option<Line>) -> Option<F
 }
 
 impl HandshakeMemory {
-    /// What follows from any edges, which few steps come to.
+    /// The result of a step with any edges. Few steps get here.
     #[cold]
     #[inline(never)]
     #[tactic(auto, using(crate::proofs::UsualNexts::closed_twice))]
@@ -224,7 +224,8 @@ impl HandshakeMemory {
         }
     }
 
-    /// The same, its fields taken out and put together again: so what follows from the usual edges stays in registers.
+    /// The result of a step with any edges, its fields taken out and put together again, so that the results of the
+    /// usual steps stay in registers.
     #[inline(always)]
     fn at_any(self, before: &Lines, after: &Lines) -> Next<HandshakeMemory>
         ensures { result ≡ dtb_next self before.now after.now (edges_between before.now after.now) }
@@ -241,7 +242,8 @@ impl HandshakeMemory {
         }
     }
 
-    /// What is remembered after a step, by the transfer and the cycle that it leaves and whether a strobe rises.
+    /// The memory after a step that leaves `transfer` (unless it closes) and `cycle`. `rises` says whether a strobe
+    /// rises.
     #[inline(always)]
     fn left(
         self,
@@ -264,7 +266,7 @@ impl HandshakeMemory {
         }
     }
 
-    /// What follows where AS* alone falls.
+    /// The result of a step in which AS* alone falls.
     #[inline(always)]
     fn at_cycle_start(self, before: &Lines, after: &Lines) -> Next<HandshakeMemory>
         requires { is_start_alone before.now after.now ≡ true }
@@ -297,7 +299,8 @@ impl HandshakeMemory {
         }
     }
 
-    /// What follows where strobes move and the answer lines stay.
+    /// The result of a step in which strobes may move and the answer lines stay. AS* is low before it, and if a
+    /// transfer starts, both answer lines are high.
     #[inline(always)]
     fn at_strobes(self, before: &Lines, after: &Lines) -> Next<HandshakeMemory>
         requires { is_strobes_alone before.now after.now ≡ true }
@@ -321,7 +324,7 @@ impl HandshakeMemory {
         }
     }
 
-    /// What follows where DTACK* alone falls while AS* is low.
+    /// The result of a step in which DTACK* alone falls while AS* is low.
     #[inline(always)]
     fn at_dtack_fall(self, before: &Lines, after: &Lines) -> Next<HandshakeMemory>
         requires alone { is_answer_alone before.now after.now ≡ true }
@@ -351,7 +354,7 @@ impl HandshakeMemory {
         }
     }
 
-    /// What follows where DTACK* alone rises.
+    /// The result of a step in which DTACK* alone rises.
     #[inline(always)]
     fn at_dtack_rise(self, before: &Lines, after: &Lines) -> Next<HandshakeMemory>
         requires alone { is_answer_alone before.now after.now ≡ true }
@@ -364,7 +367,7 @@ impl HandshakeMemory {
         quiet(self.left(after, self.transfer, self.cycle, false))
     }
 
-    /// What follows where neither AS*, the strobes nor BERR* move.
+    /// The result of a step in which AS*, the strobes and BERR* stay as they are.
     #[inline(always)]
     fn at_dtack_alone(self, before: &Lines, after: &Lines) -> Next<HandshakeMemory>
         requires { is_answer_alone before.now after.now ≡ true }
@@ -386,7 +389,7 @@ impl Rules for HandshakeRules {
 
     type Memory = HandshakeMemory;
 
-    /// That AS*, a strobe or an answer line moves.
+    /// An observation says that AS*, a strobe or an answer line moves.
     type Observation = ();
 
     ghost begin = { dtb_begin };

@@ -1,4 +1,4 @@
-//! What is being held.
+//! The memory of `Stability`, i.e. the state of its automaton: it says which lines have to be held.
 
 ghost use Rattle.std.specs.Prelude.{◌≡◌};
 ghost use Rattle.vme_dtb.specs.HoldingNumbers.{has_risen as risen_of, passed, progress_nth, progress_place};
@@ -6,10 +6,11 @@ ghost use Rattle.vme_dtb.specs.HoldingNumbers.{was_answered as answered_of, writ
 
 use vme_monitor::machine::{Enumerable, Small};
 
-/// What has come of a transfer, so whether it is held, and for which direction.
+/// What has happened in a transfer: whether it was answered, whether a data strobe has risen in it, and its direction.
 #[derive(Clone, Copy, PartialEq, Eq, Debug)]
 pub enum TransferState {
-    /// No transfer is open, or nothing has come of it, so its direction is the one that WRITE* shows.
+    /// No transfer is open, or it has had no answer and no data strobe has risen in it: its direction is the one that
+    /// WRITE* shows.
     Fresh,
     /// A data strobe has risen in a read that has had no answer.
     RisenInRead,
@@ -22,7 +23,7 @@ pub enum TransferState {
 }
 
 impl TransferState {
-    /// What has come of an open transfer.
+    /// The state of an open transfer.
     pub(crate) fn of(answered: bool, risen: bool, writes: bool) -> TransferState
         ensures { result ≡ passed answered risen writes }
     {
@@ -52,7 +53,7 @@ impl TransferState {
         )
     }
 
-    /// It is a write that has had no answer, where WRITE* is low as told.
+    /// Whether the transfer is a write that has had no answer. `low` says whether WRITE* is low.
     pub(crate) fn writes(self, low: bool) -> bool
         ensures { result ≡ writes_of self low }
     {
@@ -88,10 +89,10 @@ impl TransferState {
     }
 }
 
-/// What has come of a cycle and of a transfer, so which lines have to stay as they are.
+/// What has happened in the cycle and in the transfer. This determines which lines have to stay as they are.
 #[derive(Clone, Copy, PartialEq, Eq, Debug)]
 pub struct Holding {
-    /// What has come of the transfer.
+    /// What has happened in the transfer.
     pub transfer: TransferState,
     /// A cycle runs, and was answered, so the lines that it needs aren't held any more.
     pub cycle_answered: bool,

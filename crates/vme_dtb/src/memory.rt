@@ -1,4 +1,4 @@
-//! What is remembered of the handshake from one step to the next.
+//! The memory of the handshake, i.e. the state of its automaton between two steps.
 
 ghost use Rattle.std.specs.Prelude.{◌≡◌, ◌<◌};
 ghost use Rattle.vme_dtb.specs.MemoryNumbers.{bit, transfer_phase_nth, transfer_phase_place};
@@ -10,7 +10,7 @@ use vme_monitor::tracking::TransferPhase;
 /// What the levels before a step don't show of the handshake.
 #[derive(Clone, Copy, PartialEq, Eq, Debug)]
 pub struct HandshakeMemory {
-    /// What the transfer is doing.
+    /// The phase of the transfer.
     pub transfer: TransferPhase,
     /// The cycle that started last.
     pub cycle: CyclePhase,
@@ -45,7 +45,7 @@ fn transfer_phase_at(place: usize) -> TransferPhase
     }
 }
 
-/// 1 for a truth, else 0.
+/// 1 for `true`, else 0.
 fn bit_of(truth: bool) -> usize
     ensures bit { result ≡ bit truth }
     ensures below { result < 2 }

@@ -1,4 +1,5 @@
-//! What a step shows of the lines that are asked for and held, whatever is remembered.
+//! What a step shows of the lines that have to be known and held, whatever the memory is (the state of the monitor's
+//! automaton).
 
 ghost use Rattle.std.specs.Prelude.{◌≡◌, None, false, true};
 ghost use Rattle.vme_trace.specs.Cycle.{Needs};
@@ -18,19 +19,19 @@ use vme_trace::edges::{
 };
 use vme_trace::{Change, Line, Lines, NeededLines, Rule, is_selected, needed};
 
-/// What one step shows.
+/// The observation of one step.
 #[derive(Clone, Copy, Debug)]
 pub struct HoldingObservation {
-    /// A line is unknown that is asked for at this step.
+    /// The rule U2 or U3 is broken: a line is unknown that has to be known at this step.
     pub unknown: Option<Fault>,
-    /// A data strobe falls, and this is the least line of which nothing is known that the transfer moves, which may be
-    /// a write.
+    /// A data strobe falls in a transfer that may be a write, and this is the least unknown data line that the transfer
+    /// moves.
     pub undriven: Option<Line>,
-    /// The first changed line that a cycle needs whose address strobe was low before.
+    /// AS* was low before the step, and this is the first changed line that the cycle needs.
     pub moved: Option<Line>,
     /// WRITE* changes.
     pub turned: bool,
-    /// The first changed line that a transfer moved before, which may be a write.
+    /// WRITE* was low before the step, and this is the first changed data line that a transfer moved then.
     pub shifted: Option<Line>,
 }
 
@@ -44,7 +45,7 @@ pub(crate) fn fault_on(rule: Rule, line: Option<Line>) -> Option<Fault>
     }
 }
 
-/// The least line of which nothing is known, among those that a cycle needs whose address strobe falls at these levels.
+/// The least unknown line among those that a cycle needs whose AS* falls at these levels.
 fn unknown_needed(lines: &Lines) -> Option<Line>
     ensures { result ≡ unknown_need lines.now }
 {
@@ -73,7 +74,7 @@ fn unknown_direction(before: &Lines, after: &Lines) -> Option<Line>
     }
 }
 
-/// The rule that is broken by a line that isn't known as it is asked for.
+/// The rule U2 or U3, if a line is unknown that has to be known at this step.
 #[inline(always)]
 fn fault_of_unknown(before: &Lines, after: &Lines) -> Option<Fault>
     ensures { result ≡ faults_unknown before.now after.now }
@@ -101,8 +102,8 @@ fn first_needed(needed: &NeededLines, changes: &[Change]) -> Option<Line>
     None
 }
 
-/// Whether another line than AS*, the strobes and the answers is among the changes: no cycle needs those, and no
-/// transfer moves them.
+/// Whether a line other than AS*, the strobes and the answer lines is among the changes. No cycle needs AS*, a strobe
+/// or an answer line, and no transfer moves them.
 fn touches_others(changes: &[Change]) -> bool
     ensures needed { result ≡ false → (needs : Needs) → first_needed_of needs changes.now ≡ None }
     ensures moved { result ≡ false → (v w : Levels) → first_among (is_shifted v w) changes.now ≡ None }
@@ -115,7 +116,8 @@ fn touches_others(changes: &[Change]) -> bool
     false
 }
 
-/// The first changed line that a cycle needs whose address strobe was low before, if `others` change.
+/// The first changed line that the cycle needs, if AS* was low before the step. `others` says whether lines other than
+/// AS*, the strobes and the answer lines change.
 #[inline(always)]
 fn moved_line(others: bool, before: &Lines, changes: &[Change]) -> Option<Line>
     requires { others ≡ false → (needs : Needs) → first_needed_of needs changes.now ≡ None }
@@ -135,7 +137,7 @@ fn may_write(before: &Lines, after: &Lines) -> bool
     !has_strobes_high(before) || after.level(Line::WRITE).is_low()
 }
 
-/// The least line that is moved and of which nothing is known.
+/// The least unknown data line that a transfer moves at these levels.
 fn least_undriven(lines: &Lines) -> Option<Line>
     ensures { result ≡ least (is_undriven lines.now) 0 line_count }
 {
@@ -151,7 +153,7 @@ fn least_undriven(lines: &Lines) -> Option<Line>
     None
 }
 
-/// The same, where a strobe falls that may be a write's.
+/// The least unknown data line that a transfer moves, if a strobe falls in a transfer that may be a write.
 #[inline(always)]
 fn undriven_line(before: &Lines, after: &Lines) -> Option<Line>
     ensures { result ≡ undriven_line_of before.now after.now }
@@ -163,7 +165,7 @@ fn undriven_line(before: &Lines, after: &Lines) -> Option<Line>
     }
 }
 
-/// Whether a data line is among the changes: no transfer moves others.
+/// Whether a data line is among the changes. A transfer moves no other lines.
 fn touches_data(changes: &[Change]) -> bool
     ensures { result ≡ false → (v w : Levels) → first_among (is_shifted v w) changes.now ≡ None }
 {
@@ -185,7 +187,7 @@ fn data_line_changes(line: Line, before: &Lines, after: &Lines) -> bool
         && !before.level(line).is_same(after.level(line))
 }
 
-/// The first changed line that a transfer moved before.
+/// The first changed data line that a transfer moved before the step.
 fn first_shifted(before: &Lines, after: &Lines, changes: &[Change]) -> Option<Line>
     ensures { result ≡ first_among (is_shifted before.now after.now) changes.now }
 {
@@ -197,7 +199,8 @@ fn first_shifted(before: &Lines, after: &Lines, changes: &[Change]) -> Option<Li
     None
 }
 
-/// The same, where WRITE* was low, if `others` change than AS*, the strobes and the answers.
+/// The first changed data line that a transfer moved before the step, if WRITE* was low. `others` says whether lines
+/// other than AS*, the strobes and the answer lines change.
 #[inline(always)]
 fn shifted_line(others: bool, before: &Lines, after: &Lines, changes: &[Change]) -> Option<Line>
     requires { others ≡ false → (v w : Levels) → first_among (is_shifted v w) changes.now ≡ None }
@@ -210,7 +213,7 @@ fn shifted_line(others: bool, before: &Lines, after: &Lines, changes: &[Change])
     }
 }
 
-/// Whether what is remembered may change: an answer comes, or a strobe rises.
+/// Whether the memory may change: an answer comes, or a data strobe or AS* rises.
 fn changes_holding(before: &Lines, after: &Lines) -> bool
     ensures { result ≡ changes_holding_of before.now after.now }
 {
@@ -220,7 +223,7 @@ fn changes_holding(before: &Lines, after: &Lines) -> bool
 impl HoldingObservation {
     ghost use Rattle.vme_dtb.specs.StabilityRules.{stability_observation};
 
-    /// What a step shows, if it shows anything.
+    /// The observation of a step, if there is anything to observe.
     #[inline(always)]
     pub fn of(before: &Lines, after: &Lines, changes: &[Change]) -> Option<HoldingObservation>
         ensures { result ≡ stability_observation before.now after.now changes.now }

@@ -1,4 +1,5 @@
-//! The rules of stability.
+//! The monitor of stability: lines are known when they have to be, and are then held. Its memory (the state of its
+//! automaton) is `Holding`.
 
 ghost use Rattle.std.specs.Prelude.{◌≡◌, ◌&&◌};
 ghost use Rattle.vme_monitor.specs.Run.{no_step_marks};
@@ -16,7 +17,7 @@ use vme_monitor::over_stretches::{RuleMonitor, Rules};
 use vme_trace::edges::{answer_falls, has_strobe_low, has_strobes_high, rises, strobe_rises};
 use vme_trace::{Change, Line, Lines, Rule};
 
-/// The rules that lines are known as they are asked for, and then held.
+/// The rules that lines are known when they have to be (U2 to U4), and are then held (S1 to S3).
 pub struct StabilityRules;
 
 impl Holding {
@@ -39,7 +40,7 @@ impl Holding {
         lines.level(Line::AS).is_low() && !self.cycle_answered
     }
 
-    /// Whether they are still held.
+    /// Whether the lines that the cycle needs are still held at the step.
     fn keeps_address(self, before: &Lines, after: &Lines) -> bool
         ensures { result ≡ keeps_address self before.now after.now }
     {
@@ -55,7 +56,7 @@ impl Holding {
         !has_strobes_high(before) && !self.transfer.has_risen() && !strobe_rises(before, after)
     }
 
-    /// What has come of the transfer after a step: mostly no more than before.
+    /// What has happened in the transfer up to the end of a step: mostly no more than before.
     #[inline(always)]
     #[tactic(auto, using(crate::proofs::UnchangedTransferState::passed_same))]
     fn passed(self, before: &Lines, after: &Lines) -> TransferState
@@ -76,7 +77,7 @@ impl Holding {
         )
     }
 
-    /// What is remembered after a step.
+    /// The memory after a step.
     #[inline(always)]
     fn after_step(self, before: &Lines, after: &Lines) -> Holding
         ensures { result ≡ stepped self before.now after.now }
@@ -88,7 +89,7 @@ impl Holding {
         }
     }
 
-    /// The first rule that is broken by a change of what is held.
+    /// The rule S1 or S2, if a change of a held line breaks it.
     #[inline(always)]
     fn broken(self, before: &Lines, after: &Lines, seen: &HoldingObservation) -> Option<Fault>
         ensures { result ≡ held_fault self before.now after.now seen.now }
@@ -104,7 +105,8 @@ impl Holding {
 }
 
 impl Holding {
-    /// Whether nothing has come of the transfer that was open, so the data lines of a write are held on.
+    /// Whether a transfer was open that has had no answer and no rising data strobe, also not at the step: the data
+    /// lines of a write are still held.
     fn keeps_data(self, before: &Lines, after: &Lines) -> bool
         ensures { result ≡ keeps_data_in self before.now after.now }
     {
@@ -124,7 +126,7 @@ impl Holding {
         }
     }
 
-    /// The data line of a write that isn't known as a strobe falls.
+    /// The rule U4 on the data line of a write that isn't known as a strobe falls, if there is one.
     #[inline(always)]
     fn undriven(self, before: &Lines, after: &Lines, seen: &HoldingObservation) -> Option<Fault>
         ensures { result ≡ fault_on_line U4 (undriven_fault self before.now after.now seen.now) }
@@ -144,7 +146,7 @@ impl Holding {
         }
     }
 
-    /// The data line of a write that changes while it is held.
+    /// The rule S3 on the data line of a write that changes while it is held, if there is one.
     #[inline(always)]
     fn shifted(self, before: &Lines, after: &Lines, seen: &HoldingObservation) -> Option<Fault>
         ensures { result ≡ fault_on_line S3 (shifted_fault self before.now after.now seen.now) }
@@ -164,7 +166,7 @@ impl Holding {
         }
     }
 
-    /// The first rule that the step breaks, whatever it shows. It takes what is shown by value: so that stays in
+    /// The first rule that the step breaks, for any observation. `seen` is taken by value, so that it stays in
     /// registers wherever this isn't called.
     #[cold]
     #[inline(never)]
@@ -183,7 +185,7 @@ impl Holding {
         }
     }
 
-    /// The same; most steps show nothing unknown, undriven or shifted.
+    /// The first rule that the step breaks. Most steps show nothing unknown, undriven or shifted.
     #[inline(always)]
     fn fault(self, before: &Lines, after: &Lines, seen: &HoldingObservation) -> Option<Fault>
         ensures { result ≡ fault_in self before.now after.now seen.now }

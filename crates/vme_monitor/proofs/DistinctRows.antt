@@ -1,4 +1,4 @@
--- Rows in different memories that steps leave show no more marks than the steps show from each such memory once.
+-- Rows in different memories that steps may leave show no more marks than the steps show from each such memory once.
 use Rattle.std.proofs.Common.{◌≡◌, ◌≢◌, ◌==◌, ℕ, zero, suc, ◌+◌, ◌<◌, ◌≤◌, Bool, true, false, cond, List, [], ◌∷◌, ◌++◌}
 use Rattle.std.proofs.Common.{length, map, refl, ap, sym, ◌∙◌, arith, eq-eqb, ne_eqb, Option, Some, None, append_assoc}
 use Rattle.std.proofs.Common.{append-nil, length-append, get_or}
@@ -23,7 +23,7 @@ use Rattle.vme_monitor.specs.Walk.{LinkValue}
 use Rattle.vme_monitor.specs.declared.mark.Next.{Next}
 use Rattle.vme_monitor.proofs.LastSeen.{no_value, same_value}
 
--- a function but for one number
+-- h, but 0 at n
 abbrev pub without : (ℕ → ℕ) → ℕ → ℕ → ℕ
 without h n k = cond (k == n) 0 (h k)
 
@@ -33,7 +33,8 @@ without_here h n = ap (λ b. cond b 0 (h n)) (eq-eqb n n refl)
 without_else : (h : ℕ → ℕ) (n k : ℕ) → k ≢ n → without h n k ≡ h k
 without_else h n k ne = ap (λ b. cond b 0 (h k)) (ne_eqb k n ne)
 
--- sums over neighbouring numbers
+-- sums of h and of `without h n` over the `len` numbers from a on: they are equal if n is below a, and (`sum_without`)
+-- differ by h n if n is among these numbers
 sum_past : (h : ℕ → ℕ) (n a len : ℕ) → n < a → sum_by (without h n) (range_with_len a len)
     ≡ sum_by h (range_with_len a len)
 sum_past h n a zero past = refl
@@ -91,7 +92,7 @@ sum_filter g test (x ∷ xs) = by_test (test x) refl (sum_filter g test xs)
         let none : cond (test x) (g x) 0 ≡ 0 = ap (λ c. cond c (g x) 0) e in
         omega (arith, left, none, sum_by-cons (λ k. cond (test k) (g k) 0) x xs, rest)
 
--- two sums over a list whose terms agree
+-- sums over a list are equal if their terms are
 sum_agree : {A : Type 0} (f g : A → ℕ) (xs : List A) → ((i : ℕ) (x : A) → slice_get xs i ≡ Some x → f x ≡ g x)
     → sum_by f xs ≡ sum_by g xs
 sum_agree f g [] same = refl
@@ -105,7 +106,7 @@ sum_agree f g (x ∷ xs) same = omega (
 )
 
 module _ {P : Type 0} (place : P → ℕ) (count : ℕ) (placed : (p : P) → place p < count) where
-  -- of memories at different places no two count one number
+  -- memories at different places: the sum of h over their places is at most that over all places
   pub sum_apart : (h : ℕ → ℕ) (ms : List P) → AreDistinct place ms → sum_by (λ m. h (place m)) ms ≤ sum_by h
       (range_with_len 0 count)
   sum_apart h [] apart = omega arith
@@ -130,7 +131,7 @@ sum_map f g (x ∷ xs) = omega (arith, sum_by-cons f (g x) (map g xs), sum_by-co
 
 module _ {P : Type 0} (next : P → Levels → Levels → List Change → Next P) (count : ℕ) (place : P → ℕ) (nth : ℕ → P)
     (placed : (p : P) → place p < count) (found : (p : P) → nth (place p) ≡ p) where
-  -- a step further, the sum over the steps is one term more
+  -- with one step s more, `shown_after` is one term more, `shown_by` of s
   shown_on : (x y : List Step) (s : Step) (o : Levels) → shown_after (run_of next) count place nth o x (y ++ s ∷ [])
       ≡ shown_after (run_of next) count place nth o x y + shown_by (run_of next) count place nth o (x ++ y) s
   shown_on x [] s o = omega (arith, ap (λ z. shown_by (run_of next) count place nth o z s) (sym (append-nil x)))
@@ -145,7 +146,7 @@ module _ {P : Type 0} (next : P → Levels → Levels → List Change → Next P
       ≡ shown_apart (run_of next) count place nth o x + shown_by (run_of next) count place nth o x s
   shown_more x s o = shown_on [] x s o
 
-  -- a memory that some steps leave is at a place that they leave
+  -- the place of a memory that x leaves for some entering memory q is left
   left_at : (o : Levels) (x : List Step) (p q : P) → (run_of next q o x).leaving ≡ p → is_left (run_of next) count place
       nth o x (place p) ≡ true
   left_at o x p q leaves =
@@ -160,7 +161,7 @@ module _ {P : Type 0} (next : P → Levels → Levels → List Change → Next P
       ∙ ap (λ m. place (run_of next m o x).leaving == place p) (found q) ∙ eq-eqb (place (run_of next q o x).leaving)
       (place p) (ap place leaves))
 
-  -- how many marks a step shows from a memory
+  -- how many marks a step shows from the memory p
   abbrev pub added : Levels → Levels → List Change → P → ℕ
   added before after cs p = length (kinds_of (next p before after cs).shown)
 
@@ -173,7 +174,7 @@ module _ {P : Type 0} (next : P → Levels → Levels → List Change → Next P
         ap length (append-nil (map (mark_at 1) shown)) ∙ length-map shown (mark_at 1)
         ∙ ap (λ l. added l (changed l s.changes) s.changes p) (sym b) ∙ ap (λ l. added before l s.changes p) (sym a)
 
-    -- rows in different memories that the steps leave
+    -- rows in different memories that x may leave add no more marks with s than `shown_by` counts
     rows_add : (rows : List (Outcome P)) → AreDistinct place (memories_in rows)
         → ((i : ℕ) (p : P) → slice_get (memories_in rows) i ≡ Some p → (q : P) × ((run_of next q o x).leaving ≡ p))
         → sum_by (λ r. added before after s.changes r.leaving) rows ≤ shown_by (run_of next) count place nth o x s
@@ -194,7 +195,7 @@ module _ {P : Type 0} (next : P → Levels → Levels → List Change → Next P
         test (range_with_len 0 count) in
         omega (arith, moved, each, few, chosen)
 
-    -- what a step adds to the rows
+    -- a step adds its marks to those of a row
     row_advanced : (n time : ℕ) (r : Outcome P) → row_marks (advanced next before after s.changes n time r)
         ≡ row_marks r + added before after s.changes r.leaving
     row_advanced n time r =
@@ -217,7 +218,7 @@ module _ {P : Type 0} (next : P → Levels → Levels → List Change → Next P
               rows,
         )
 
-    -- the memories after the step
+    -- if the rows' memories are left by x, those after the step are left by x and s
     left_advanced : (n time : ℕ) (rows : List (Outcome P)) → ((i : ℕ) (p : P) → slice_get (memories_in rows) i ≡ Some p
         → (q : P) × ((run_of next q o x).leaving ≡ p))
         → (i : ℕ) (p : P) → slice_get (memories_in (map (advanced next before after s.changes n time) rows)) i ≡ Some p
@@ -231,7 +232,7 @@ module _ {P : Type 0} (next : P → Levels → Levels → List Change → Next P
         (l.0, here)
     left_advanced n time (r ∷ rows) left (suc i) p e = left_advanced n time rows (λ j. left (suc j)) i p e
 
-    -- rows a step further, of which those that met were joined
+    -- rows that are advanced by a step, and then merged, keep apart
     pub keep_apart : (n time : ℕ) (ls ls' : List (List LinkValue)) (rows mid rows' : List (Outcome P))
         → mid ≡ map (advanced next before after s.changes n time) rows
         → AreDistinct place (memories_in rows') → AreAmong (memories_in rows') (memories_in mid) → marks_of ls' rows'
@@ -249,7 +250,7 @@ module _ {P : Type 0} (next : P → Levels → Levels → List Change → Next P
               omega (arith, now, rows_advanced n time rows, rows_add rows g.apart g.left, g.few, shown_more x s o);
         }
 
-  -- a step in which nothing is seen
+  -- rows keep apart over a step that changes no memory
   pub keep_unseen : (s : Step) (o : Levels) (x : List Step) (ls : List (List LinkValue)) (rows : List (Outcome P))
       → ((p : P) → (run_of next p o (x ++ s ∷ [])).leaving ≡ (run_of next p o x).leaving)
       → KeepApart (run_of next) count place nth ls rows o x → KeepApart (run_of next) count place nth ls rows o
@@ -261,7 +262,7 @@ module _ {P : Type 0} (next : P → Levels → Levels → List Change → Next P
         few = omega (arith, g.few, shown_more x s o);
       }
 
--- a machine that sees nothing in a step
+-- rows keep apart over a step without an observation
 pub unseen_apart : {P S : Type 0} (observation : Levels → Levels → List Change → Option S) (next : P → Levels → Levels
     → S → Next P) (count : ℕ) (place : P → ℕ) (nth : ℕ → P) (placed : (p : P) → place p < count)
     (found : (p : P) → nth (place p) ≡ p)
@@ -278,7 +279,7 @@ unseen_apart observation next count place nth placed found before after s o x b 
     x) none))
     g
 
--- rows of no steps, each in a memory of its own
+-- rows of no steps keep apart if their memories are different and they have no marks
 pub fresh_apart : {P : Type 0} (next : P → Levels → Levels → List Change → Next P) (count : ℕ) (place : P → ℕ)
     (nth : ℕ → P) (ls : List (List LinkValue)) (rows : List (Outcome P)) (o : Levels)
     → AreDistinct place (memories_in rows) → marks_of ls rows ≡ 0 → KeepApart (run_of next) count place nth ls rows o []

@@ -1,4 +1,4 @@
--- Memories with an entry of `last_seen` for each place, and that no two are at one place.
+-- Memories with an entry of `last_seen` for each place, and lists in which no two memories are at one place.
 use Rattle.std.proofs.Common.{◌≡◌, ◌≢◌, ◌⊎◌, ℕ, zero, suc, ◌<◌, ◌≤◌, List, [], ◌∷◌, ◌++◌, length, map, set, refl, ap}
 use Rattle.std.proofs.Common.{sym, ◌∙◌, subst, arith, inl, inr, ⊎_elim, get_or, Option, Some, None}
 use mathlib.Core.Logic.{dite}
@@ -10,10 +10,11 @@ use Rattle.vme_monitor.specs.Walk.{outcome_of}
 use Rattle.vme_monitor.specs.declared.link.TableRow.{TableRow}
 use Rattle.vme_monitor.specs.Meeting.{AreAmong, AreLastSeen, AreDistinct, memories_in}
 
--- what two equal options hold, and that nothing is no value
+-- equal options hold equal values, and `None` isn't `Some`
 pub same_value : {A : Type 0} (x y : A) → Some x ≡ Some y → x ≡ y
 same_value {A} x y e = ap (λ (o : Option A). unwrap_or o x) e
 
+-- an option has a value
 abbrev Holds : {A : Type 0} → Option A → Type 0
 Holds None = ⊥
 Holds (Some x) = Unit {0}
@@ -59,17 +60,17 @@ pub memories_unchanged : {P : Type 0} (ms : List P) → memories_in (map nothing
 memories_unchanged [] = refl
 memories_unchanged (m ∷ ms) = ap (λ l. m ∷ l) (memories_unchanged ms)
 
--- the list itself, and what is among what is among it
+-- `AreAmong` is reflexive and transitive
 pub among_itself : {P : Type 0} (ms : List P) → AreAmong ms ms
 among_itself ms i p e = (i, e)
 
 module _ {P : Type 0} (place : P → ℕ) where
-  -- entries of `last_seen` tell places apart
+  -- memories whose places have their indices as entries of `last_seen` are at different places
   pub seated_apart : (ms : List P) (last_seen : List ℕ) → AreLastSeen place ms last_seen → AreDistinct place ms
   seated_apart ms last_seen index_at_place i j p q a b same = same_value i j (sym (index_at_place i p a)
       ∙ ap (λ k. slice_get last_seen k) same ∙ index_at_place j q b)
 
-  -- at the places of the memories so far the entries have a stamp
+  -- the entries of `last_seen` at the places of ms are `stamp`
   abbrev pub AreStamped : ℕ → List P → List ℕ → Type 0
   AreStamped stamp ms last_seen = (i : ℕ) (p : P) → slice_get ms i ≡ Some p → slice_get last_seen (place p) ≡ Some stamp
 
@@ -86,7 +87,7 @@ module _ {P : Type 0} (place : P → ℕ) where
       (λ a. ap (λ n. slice_get (set last_seen k stamp) n) (ap place a.1 ∙ sym is) ∙ get_set last_seen k stamp below)
       (get_pushed ms m p i e)
 
-  -- a memory at a place without a stamp is new
+  -- a memory m whose place has another entry than `stamp` is at another place than those of ms
   pub apart_more : (stamp found : ℕ) (ms : List P) (last_seen : List ℕ) (m : P) (k : ℕ) → k ≡ place m
       → slice_get last_seen k ≡ Some found → found ≢ stamp → AreStamped stamp ms last_seen → AreDistinct place ms
       → AreDistinct place (ms ++ m ∷ [])
@@ -101,7 +102,8 @@ module _ {P : Type 0} (place : P → ℕ) where
       new r n e at = other (same_value found stamp (sym there ∙ ap (λ n. slice_get last_seen n) (is ∙ sym at)
           ∙ stamped n r e))
 
-  -- a memory that is put after the others, in the entry of its place
+  -- if no memory of ms is at the place k of m, `AreLastSeen` stays true as m is appended to ms and its index is written
+  -- to entry k
   pub seated_more : (ms : List P) (last_seen : List ℕ) (m : P) (k : ℕ) → k ≡ place m → k < length last_seen
       → ((i : ℕ) (p : P) → slice_get ms i ≡ Some p → place p ≢ k) → AreLastSeen place ms last_seen → AreLastSeen place
       (ms ++ m ∷ []) (set last_seen k (length ms))
@@ -110,7 +112,8 @@ module _ {P : Type 0} (place : P → ℕ) where
       (λ a. ap (λ n. slice_get (set last_seen k (length ms)) n) (ap place a.1 ∙ sym is) ∙ get_set last_seen k
       (length ms) below ∙ ap Some (sym a.0)) (get_pushed ms m p i e)
 
-  -- a place that has no entry, or whose entry names no memory there, has none
+  -- no memory of ms is at a place without an entry, nor (`seated_beyond`, `seated_other`) at one whose entry is an
+  -- index past ms or that of a memory at another place
   pub seated_past : (ms : List P) (last_seen : List ℕ) (k : ℕ) → length last_seen ≤ k → AreLastSeen place ms last_seen
       → (i : ℕ) (p : P) → slice_get ms i ≡ Some p → place p ≢ k
   seated_past ms last_seen k past index_at_place i p e same = let w = slice_get_within last_seen (place p) i
@@ -135,7 +138,7 @@ module _ {P : Type 0} (place : P → ℕ) where
       (same_value other p (sym here ∙ ap (λ n. slice_get ms n) (seat_of ms last_seen k at there index_at_place i p e
       same) ∙ e)) ∙ same)
 
-  -- two memories
+  -- two memories at different places
   pub two_apart : (ms : List P) (p q : P) → ms ≡ p ∷ q ∷ [] → place p ≢ place q → AreDistinct place ms
   two_apart ms p q is other = subst (AreDistinct place) (sym is) at
     where
@@ -151,12 +154,12 @@ module _ {P : Type 0} (place : P → ℕ) where
       at zero (suc (suc j)) a b e f same = absurd (no_value b f)
       at (suc zero) (suc (suc j)) a b e f same = absurd (no_value b f)
 
-  -- one memory at most
+  -- at most one memory
   pub one_apart : (ms : List P) → length ms < 2 → AreDistinct place ms
   one_apart ms few i j p q a b same = let x = slice_get_within ms i p a in let y = slice_get_within ms j q b in
       omega (arith, x, y)
 
--- one memory more that is among others
+-- a list with one memory more is among `others` if that memory is
 pub among_more : {P : Type 0} (ms more others : List P) (m : P) (k : ℕ) → slice_get others k ≡ Some m
     → ((i : ℕ) (p : P) → slice_get more i ≡ Some p → (slice_get ms i ≡ Some p) ⊎ (p ≡ m)) → AreAmong ms others
     → AreAmong more others
@@ -178,7 +181,7 @@ two_memories {P} (x ∷ y ∷ []) a b len first second =
     ap (λ (r : TableRow P). r.memory ∷ y.memory ∷ []) one ∙ ap (λ (r : TableRow P). a.memory ∷ r.memory ∷ []) two
 two_memories (x ∷ y ∷ z ∷ rows) a b len first second = absurd (omega arith)
 
--- two rows of which one is more sensitive, or whose memories are at different places
+-- two rows are in different memories if one is more sensitive, or if the places differ
 pub two_rows_apart : {P : Type 0} (place sensitivity : P → ℕ) (nth : ℕ → P) → ((p : P) → nth (place p) ≡ p)
     → (rows : List (TableRow P)) (a b : TableRow P) → length rows ≡ 2 → a ≡ get_or rows 0 a → b ≡ get_or rows 1 b
     → (sensitivity a.memory ≢ sensitivity b.memory) ⊎ (place a.memory ≢ place b.memory) → AreDistinct place

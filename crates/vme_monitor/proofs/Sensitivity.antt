@@ -11,7 +11,7 @@ use Rattle.vme_monitor.specs.Walk.{outcome_of}
 use Rattle.vme_monitor.specs.declared.link.TableRow.{TableRow}
 use Rattle.vme_monitor.specs.declared.mark.Next.{Next}
 
--- no more than less is no more than more
+-- a bound m on the sizes gives each greater bound n
 pub no_more : {A : Type 0} (size : A → ℕ) (m n : ℕ) (xs : List A) → m ≤ n → All (λ x. size x ≤ m) xs
     → All (λ x. size x ≤ n) xs
 no_more size m n xs h a k d b = let small : size (get_or xs k d) ≤ m = a k d b in omega arith
@@ -20,7 +20,7 @@ earlier-none : {A : Type 0} (a : Option A) → earlier a None ≡ a
 earlier-none None = refl
 earlier-none (Some x) = refl
 
--- a step that leaves the memory and shows nothing
+-- a step that leaves the memory as it is, breaks nothing and shows nothing, leaves the outcome as it is
 pub extended_quiet : {P : Type 0} (n time : ℕ) (a : Outcome P) (next : Next P) → next ≡ quiet a.leaving
     → extended a (outcome_at n time next) ≡ a
 extended_quiet n time a next e = rw (e, earlier-none a.first_break, append-nil a.marks) refl
@@ -29,7 +29,7 @@ module _ {P S : Type 0} (observation : Levels → Levels → List Change → Opt
     → Next P) (sensitivity : P → ℕ) (threshold : S → ℕ)
     (unchanged : (p : P) (before after : Levels) (seen : S) → sensitivity p < threshold seen → next p before after seen
     ≡ quiet p) where
-  -- a step whose threshold is above the sensitivity of the rows
+  -- a step whose threshold is above `most`, and so above the sensitivity of each row, leaves the rows as they are
   pub rows_unchanged : (before after : Levels) (cs : List Change) (seen : S) (n time most : ℕ)
       (rows : List (TableRow P))
       → observation before after cs ≡ Some seen → most < threshold seen → All (λ row. sensitivity row.memory ≤ most)
@@ -51,7 +51,7 @@ module _ {P S : Type 0} (observation : Levels → Levels → List Change → Opt
       first : sensitivity row.memory ≤ most → sensitivity row.memory < threshold seen
       first l = omega arith
 
-  -- a step leaves no row more sensitive, but for one that all react to
+  -- if no row is more sensitive than `most`, none is after a step whose threshold isn't 0
   pub rows_sensitivity : ((p : P) (before after : Levels) (seen : S) → 0 < threshold seen
       → sensitivity (next p before after seen).memory ≤ sensitivity p) → (before after : Levels) (cs : List Change)
       (seen : S) (n time most : ℕ) (rows rows' : List (TableRow P))

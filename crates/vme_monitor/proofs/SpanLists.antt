@@ -1,4 +1,5 @@
--- The spans that have started at an instant, and breaks and marks over spans that follow one another, up to an instant.
+-- The spans that have started at an instant; and breaks (violations of rules) and marks (events of the bus) over spans
+-- that follow one another, up to an instant.
 use Rattle.std.proofs.Common.{◌≡◌, ℕ, zero, suc, ◌+◌, ◌<◌, ◌≤◌, true, false, ◌&&◌, List, [], ◌∷◌, ◌++◌, map, refl, ap}
 use Rattle.std.proofs.Common.{sym, ◌∙◌, arith, Option, Some, None, add-one, append-nil, append_assoc}
 use Rattle.std.specs.Prelude.{nat_lt, nat_le}
@@ -19,7 +20,7 @@ use Rattle.vme_monitor.specs.declared.mark.StepMarks.{StepMarks}
 use Rattle.vme_monitor.specs.declared.mark.Mark.{Mark}
 use Rattle.vme_monitor.proofs.Unbroken.{unbroken_after, unbroken_before}
 
--- the spans that have started at an instant or before
+-- the spans that have started at instant n or before
 abbrev pub started : Trace → ℕ → List Stretch
 started t n = spans_before t (suc n)
 
@@ -33,7 +34,7 @@ started_none t h = spans_kept t 0 h ∙ none_before t
 pub started_one : (t : Trace) → span_starts t 0 ≡ true → started t 0 ≡ span_from t 0 ∷ []
 started_one t h = spans_more t 0 h ∙ ap (λ spans. spans ++ span_from t 0 ∷ []) (none_before t)
 
--- each span of a list has ended at an instant or before
+-- each span of a list has ended at instant n or before
 abbrev pub AreOver : ℕ → List Stretch → Type 0
 AreOver n [] = Unit {0}
 AreOver n (span ∷ spans) = (span.end ≤ n) × AreOver n spans
@@ -47,12 +48,12 @@ pub over_both : (n : ℕ) (spans : List Stretch) (span : Stretch) → AreOver n 
 over_both n [] span h e = (e, tt)
 over_both n (x ∷ spans) span h e = (h.0, over_both n spans span h.1 e)
 
--- the first break before an instant, over spans
+-- the first break before instant n, over the spans in order
 abbrev pub breaks_to : Trace → List Rule → ℕ → List Stretch → Option Break
 breaks_to t rules n [] = None
 breaks_to t rules n (span ∷ spans) = option_or (break_before t span rules n) (breaks_to t rules n spans)
 
--- the marks before an instant, over spans
+-- the marks before instant n, over the spans in order
 abbrev pub marks_to : (Stretch → ℕ → StepMarks) → ℕ → List Stretch → List Mark
 marks_to shown n [] = []
 marks_to shown n (span ∷ spans) = marks_until span (shown span) n ++ marks_to shown n spans
@@ -69,7 +70,7 @@ pub earlier_none : (a : Option Break) → earlier a None ≡ a
 earlier_none None = refl
 earlier_none (Some b) = refl
 
--- what comes next counts where nothing came before
+-- the first of a, b and c is the first of a, b and d, if c and d are equal where there is no b
 pub then_first : (a b c d : Option Break) → (b ≡ None → c ≡ d) → earlier (option_or a b) c ≡ option_or a (option_or b d)
 then_first None None c d h = h refl
 then_first None (Some b) c d h = refl
@@ -104,7 +105,7 @@ module _ (t : Trace) (rules : List Rule) where
   unfolding break_before
   before_first span = refl
 
-  -- up to its start a span has no break
+  -- up to its start s, a span has no break
   pub before_start : (s n : ℕ) → s ≤ last_instant t → n ≤ s + 1 → break_before t (span_from t s) rules n ≡ None
   before_start s zero within h = before_first (span_from t s)
   before_start s (suc n) within h =
@@ -115,7 +116,7 @@ module _ (t : Trace) (rules : List Rule) where
             (omega arith),
       ) refl
 
-  -- spans that are over have no more
+  -- spans that are over at n have nothing more at n + 1
   pub breaks_over : (n : ℕ) (spans : List Stretch) → AreOver n spans → breaks_to t rules (suc (suc n)) spans
       ≡ breaks_to t rules (suc n) spans
   breaks_over n [] over = refl
@@ -163,7 +164,7 @@ module _ (shown : Stretch → ℕ → StepMarks) where
   marks_first [] = refl
   marks_first (span ∷ spans) = marks_first spans
 
-  -- spans that are over have no more
+  -- spans that are over at n have nothing more at n + 1
   pub marks_no_more : (n : ℕ) (spans : List Stretch) → AreOver n spans → marks_to shown (suc (suc n)) spans
       ≡ marks_to shown (suc n) spans
   marks_no_more n [] over = refl

@@ -1,4 +1,4 @@
--- How many marks the lists of a table have.
+-- How many marks (events of the bus with their instants) the lists of a table have.
 use Rattle.std.proofs.Common.{◌≡◌, ℕ, ◌+◌, List, [], ◌∷◌, ◌++◌, length, map, refl, ap, ◌∙◌, arith}
 use Rattle.std.specs.Prelude.{min}
 use Rattle.std.specs.List.{sum_by}
@@ -73,7 +73,7 @@ module _ {P : Type 0} where
   rejoined_marks merged [] (h ∷ hs) r = absurd r
   rejoined_marks merged (o ∷ os) [] r = absurd r
 
-  -- rows that are joined keep their marks, in a layer of their own
+  -- rows that are merged keep their marks, in the added layer
   pub marks_rejoined : (ls : List (List LinkValue)) (merged : List P) (rows : List (Outcome P)) (links : List LinkValue)
       → AllRejoin merged rows links → marks_of (ls ++ links ∷ []) (map nothing_shown merged) ≡ marks_of ls rows
   marks_rejoined ls merged rows links r =
@@ -82,7 +82,7 @@ module _ {P : Type 0} where
       let one : sum_by layer_marks (links ∷ []) ≡ sum_by link_marks links + 0 = sum_by-cons layer_marks links [] in
       omega (arith, all, one, unchanged_marks merged, rejoined_marks merged rows links r)
 
-  -- fresh rows have none
+  -- fresh rows without layers have no marks
   pub marks_fresh : (ls : List (List LinkValue)) (ms : List P) (rows : List (Outcome P)) → ls ≡ [] → rows
       ≡ map nothing_shown ms → marks_of ls rows ≡ 0
   marks_fresh ls ms rows none fresh =
@@ -90,7 +90,7 @@ module _ {P : Type 0} where
       let all : sum_by row_marks rows ≡ 0 = ap (sum_by row_marks) fresh ∙ unchanged_marks ms in
       omega (arith, layers, all)
 
-  -- a table of two keeps the marks of both
+  -- a table that is composed of two has as many marks as both
   pub marks_composed : (place : P → ℕ) (m n : ℕ) (h1 h2 h3 : List (List LinkValue)) (link_of : List LinkValue)
       (rows : List (Outcome P)) (ls : List (List LinkValue)) (ras : List (Outcome P)) (bs : List (List LinkValue))
       (rbs : List (Outcome P))
@@ -111,7 +111,7 @@ module _ {P : Type 0} where
       omega (arith, first, between, middle, one, last, later_layers n bs, ends)
 
 module _ {P : Type 0} (place : P → ℕ) where
-  -- and so does one that takes over another
+  -- a table that takes over another has as many marks as both
   pub marks_appended : (n : ℕ) (h1 h2 : List (List LinkValue)) (link_of : List LinkValue) (rows : List (Outcome P))
       (ls : List (List LinkValue)) (ras : List (Outcome P)) (bs : List (List LinkValue)) (rbs : List (Outcome P))
       → link_of ≡ map (link_to_place place) ras → h1 ≡ ls ++ link_of ∷ [] → h2 ≡ h1 ++ map (map (later_link_value n)) bs
@@ -128,7 +128,7 @@ module _ {P : Type 0} (place : P → ℕ) where
       let ends : sum_by row_marks rows ≡ sum_by row_marks rbs = ap (sum_by row_marks) er ∙ later_rows n rbs in
       omega (arith, between, middle, one, last, later_layers n bs, ends)
 
--- sums up to a greatest number
+-- a saturating sum of saturated sums is the saturated sum; `most` is the greatest number
 pub capped_sum : (a b c d count most : ℕ) → c ≡ min a most → d ≡ min b most → count ≡ min (c + d) most → count
     ≡ min (a + b) most
 capped_sum a b c d count most first second sum = omega (arith, first, second, sum)

@@ -1,5 +1,5 @@
--- Where no rule is broken, whatever it says: up to the start of a span, after its end, and at its end where the bus is
--- reset.
+-- Instants at which no rule is broken, whatever it says: up to the start of a span, after its end, and at its end where
+-- the bus is reset.
 use Rattle.std.proofs.Common.{◌≡◌, ℕ, ◌<◌, ◌≤◌, Bool, true, false, ◌&&◌, not, List, [], ◌∷◌, refl, arith, inl, inr, ◌⊎◌}
 use Rattle.std.specs.Prelude.{◌==◌, None, nat_le, nat_lt}
 use Rattle.std.proofs.lemmas.Bool.Decides.{nat_tests}
@@ -13,7 +13,7 @@ use Rattle.vme_trace.specs.declared.rule.Rule.{Rule}
 use Rattle.vme_trace.specs.declared.rule.Rule.TheVariants.{U1}
 use Rattle.vme_trace.proofs.Ranges.{fails-any, least-none}
 
--- one rule alone speaks of the end of a span
+-- no rule but U1 is broken at the end of a span
 ends_alone : (r : Rule) → (ends_span r ≡ false) ⊎ (r ≡ U1)
 ends_alone U1 = inr refl
 ends_alone r = inl refl

@@ -6,7 +6,7 @@ use Rattle.vme_trace.specs.declared.step.Change.{Change}
 use Rattle.vme_monitor.specs.declared.view.End.{End}
 use Rattle.vme_monitor.specs.declared.view.End.TheVariants as end
 
--- where a control line changes: the reset of the bus, or else the first changed line that is lost
+-- if a control line changes: the reset of the bus, or else the first changed line that is lost
 abbrev pub end_among : Levels → List Change → Option End
 end_among after cs =
     if touches_control after.slots cs

@@ -1,4 +1,5 @@
--- How many marks a table stores: runs that have met go on as one.
+-- How many marks a table stores. Runs that have met, i.e. are in the same memory (state of the automaton), share what
+-- follows.
 use Rattle.std.specs.Prelude.{◌≡◌, ℕ, ◌+◌, ◌≤◌, ◌==◌, Bool, List, [], ◌∷◌, ◌++◌, length, map, Some, slice_get}
 use Rattle.std.specs.List.{filter, list_any, range_with_len, sum_by}
 use Rattle.vme_trace.specs.Levels.{Levels}
@@ -34,31 +35,31 @@ AreDistinct {P} place ms = (i j : ℕ) (p q : P) → slice_get ms i ≡ Some p �
 abbrev pub AreAmong : {P : Type 0} → List P → List P → Type 0
 AreAmong {P} ms others = (i : ℕ) (p : P) → slice_get ms i ≡ Some p → (j : ℕ) × (slice_get others j ≡ Some p)
 
--- the entry of each memory's place says where the memory is in a list
+-- for each memory of ms, the entry of `last_seen` at its place is its index in ms
 abbrev pub AreLastSeen : {P : Type 0} → (P → ℕ) → List P → List ℕ → Type 0
 AreLastSeen {P} place ms last_seen = (i : ℕ) (p : P) → slice_get ms i ≡ Some p → slice_get last_seen (place p) ≡ Some i
 
 module _ {P : Type 0} (run : P → Levels → List Step → Outcome P) (count : ℕ) (place : P → ℕ) (nth : ℕ → P) where
-  -- whether steps after an opening leave the memory of a place, whatever memory enters
+  -- whether the steps x after the opening o leave the memory at place k, for some entering memory
   abbrev pub is_left : Levels → List Step → ℕ → Bool
   is_left o x k = list_any (λ j. place (run (nth j) o x).leaving == k) (range_with_len 0 count)
 
-  -- how many marks the step after those shows, from each of the memories that they leave, once
+  -- how many marks the step s after x shows, added up over the memories that x may leave
   abbrev pub shown_by : Levels → List Step → Step → ℕ
   shown_by o x s = sum_by (λ k. length (run (nth k) (levels_after o x) (s ∷ [])).marks)
       (filter (is_left o x) (range_with_len 0 count))
 
-  -- the same of all steps that follow some steps
+  -- how many marks the steps y after x show, each step added up over the memories that the steps before it may leave
   abbrev pub shown_after : Levels → List Step → List Step → ℕ
   shown_after o x [] = 0
   shown_after o x (s ∷ y) = shown_by o x s + shown_after o (x ++ s ∷ []) y
 
-  -- how many marks steps show, each step from each of the memories that those before it leave, once
+  -- how many marks the steps x show, each step added up over the memories that the steps before it may leave
   abbrev pub shown_apart : Levels → List Step → ℕ
   shown_apart o x = shown_after o [] x
 
--- the rows of a table of steps are in different memories that the steps leave, and the table has no more marks than the
--- steps show, each step from each of the memories that those before it leave, once
+-- the rows of a table of the steps x are in different memories, each of which x leaves for some entering memory, and
+-- the table has at most as many marks as `shown_apart` counts
 pub record KeepApart {P : Type 0} (run : P → Levels → List Step → Outcome P) (count : ℕ) (place : P → ℕ) (nth : ℕ → P)
     (layers : List (List LinkValue)) (rows : List (Outcome P)) (o : Levels) (x : List Step) : Type 0 where
   pub apart : AreDistinct place (memories_in rows)

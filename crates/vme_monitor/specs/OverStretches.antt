@@ -38,10 +38,11 @@ has_started (InStretch p) = true
 has_started Reset = true
 has_started Ended = true
 
--- what the inner machine does, in the memory of the outer one
+-- a step of the inner machine as one of the outer machine
 abbrev pub inner : {P : Type 0} → Next P → Next (StretchPhase P)
 inner n = record { memory = InStretch n.memory; fault = n.fault; shown = n.shown }
 
+-- there is an observation if a control line changes or the rules see something
 abbrev pub observed : {S : Type 0} → (Levels → Levels → List Change → Option S)
     → Levels → Levels → List Change → Option (StretchObservation S)
 observed observation before after cs =
@@ -57,7 +58,7 @@ phase_sensitivity (InStretch p) = 1
 phase_sensitivity Reset = 3
 phase_sensitivity Ended = 0
 
--- all react to what ends a span: where it is a reset, a machine that judged waits again
+-- 0 for what ends a span, so that all react to it; 1 for what the rules see; 2 for any other change of a control line
 abbrev pub threshold_by : {S : Type 0} → Option End → Option S → ℕ
 threshold_by (Some ends) seen = 0
 threshold_by None (Some s) = 1
@@ -68,7 +69,7 @@ stretch_threshold seen = threshold_by seen.end seen.inner
 
 module _ {P S : Type 0} (begin : Levels → P) (start_marks : Levels → StepMarks) (reset_marks : StepMarks)
     (end_fault : ℕ → Option Fault) (next : P → Levels → Levels → S → Next P) where
-  -- in the memory of one who waits
+  -- a step of a machine that waits: judging starts if the bus is idle after it
   abbrev pub waiting : StretchPhase P → Levels → Next (StretchPhase P)
   waiting m after =
       if is_idle after then record { memory = InStretch (begin after); fault = None; shown = start_marks after }
@@ -80,6 +81,7 @@ module _ {P S : Type 0} (begin : Levels → P) (start_marks : Levels → StepMar
   abbrev pub ending : ℕ → Next (StretchPhase P)
   ending l = record { memory = Ended; fault = end_fault l; shown = no_step_marks }
 
+  -- a step in the phase `InStretch p`, by what ends the span there and by what the rules see
   abbrev pub judging : P → Levels → Levels → Option End → Option S → Next (StretchPhase P)
   judging p before after (Some end.Reset) s = resetting
   judging p before after (Some (end.Lost l)) s = ending l

@@ -35,7 +35,7 @@ phases_few count h = omega arith
 
 module _ {P S : Type 0} (begin : Levels → P) (start_marks : Levels → StepMarks) (reset_marks : StepMarks)
     (end_fault : ℕ → Option Fault) (next : P → Levels → Levels → S → Next P) where
-  -- a machine that waits reacts to all that is seen
+  -- no threshold is above 2, so a machine that waits reacts to each observation
   never_waiting : (end : Option End) (seen : Option S) → ¬ (2 < threshold_by end seen)
   never_waiting (Some ends) seen h = omega arith
   never_waiting None (Some s) h = omega arith
@@ -74,7 +74,7 @@ module _ {P S : Type 0} (begin : Levels → P) (start_marks : Levels → StepMar
   judging_sensitivity p before after None None h = omega arith
   judging_sensitivity p before after None (Some s) h = omega arith
 
-  -- but for what ends a span, a machine waits after a reset, waits, judges and has ended, in this order
+  -- a step that doesn't end a span makes no phase more sensitive
   pub phase_step_sensitivity : (m : StretchPhase P) (before after : Levels) (seen : StretchObservation S)
       → 0 < stretch_threshold
       seen

@@ -39,6 +39,7 @@ marks_shifted : (n : ℕ) (ms : List Mark) → MarksWithin n ms → MarksWithin 
 marks_shifted n [] p = tt
 marks_shifted n (m ∷ ms) p = (omega arith, omega arith, marks_shifted n ms p.2)
 
+-- the instants of a run's breaks and marks are from 1 to the number of its steps
 pub run_within : {P : Type 0} (next : P → Levels → Levels → List Change → Next P) (x : List Step) (p : P) (o : Levels)
     → IsWithin (length x) (run_of next p o x)
 run_within next [] p o = (tt, tt)
@@ -79,7 +80,7 @@ followed_within m n a b p q = (
       (marks_moved m n b.marks q.1),
 )
 
--- where the sum is a number, later is shifted
+-- where m + n is below 2^32, `later n i` is i + n for each i up to m
 later_sum : (m n i : ℕ) → i ≤ m → m + n < 2 ^ 32 → later n i ≡ i + n
 later_sum m n i p h = omega arith
 
@@ -101,13 +102,14 @@ marks_here : (ms : List Mark) → map (shifted_mark 0) ms ≡ ms
 marks_here [] = refl
 marks_here (m ∷ ms) = rw (add-zero, marks_here ms) refl
 
--- the outcome of two tables is a run through both
+-- where the instants stay below 2^32, a followed by b later by m is their composed outcome
 pub followed_same : {P : Type 0} (m n : ℕ) (a b : Outcome P) → IsWithin n b → m + n < 2 ^ 32
     → extended a (later_outcome m b) ≡ composed_outcome m a b
 followed_same m n a b q h =
     let hn : n + m < 2 ^ 32 = omega arith in
     rw (break_same n m b.first_break q.0 hn, marks_same n m b.marks q.1 hn) refl
 
+-- where the instants stay below 2^32, a later by 0, followed by b later by m, is their composed outcome
 pub extended_same : {P : Type 0} (m n : ℕ) (a b : Outcome P) → IsWithin m a → IsWithin n b → m + n < 2 ^ 32
     → extended (later_outcome 0 a) (later_outcome m b) ≡ composed_outcome m a b
 extended_same m n a b p q h =
@@ -121,7 +123,7 @@ extended_same m n a b p q h =
     (followed_same m n a b q h)
 
 module _ {P : Type 0} (run : P → Levels → List Step → Outcome P) where
-  -- what is said of two parts in turn stands for the whole
+  -- a summary that composes one of x and one of y stands for x ++ y
   pub stands_joined : (wa wb wt : P → Outcome P) (ca cb ct : ℕ) (o : Levels) (x y : List Step)
       → ((p : P) → run p o (x ++ y) ≡ composed_outcome (length x) (run p o x)
       (run (run p o x).leaving (levels_after o x) y))

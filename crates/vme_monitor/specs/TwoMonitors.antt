@@ -1,4 +1,4 @@
--- What two monitors find and show apart, another finds and shows together.
+-- A monitor that finds and shows together what two others find and show each.
 use Rattle.std.specs.Prelude.{ℕ, List}
 use Rattle.vme_trace.specs.Judged.{Stretch}
 use Rattle.vme_trace.specs.Levels.{Levels}
@@ -13,13 +13,13 @@ use Rattle.vme_monitor.specs.declared.mark.StepMarks.{StepMarks}
 module _ {P Q R : Type 0} (first : P → Levels → List Step → Outcome P) (begin_first : Levels → P)
     (second : Q → Levels → List Step → Outcome Q) (begin_second : Levels → Q)
     (both : R → Levels → List Step → Outcome R) (begin_both : Levels → R) where
-  -- the least break of the rules of both
+  -- if `first` and `second` find the least breaks of rs and of qs, `both` finds that of all of these rules
   abbrev pub FindsTogether : Type 0
   FindsTogether =
       (rs qs all : List Rule) → AreJoined rs qs all → FindsLeast first begin_first rs
       → FindsLeast second begin_second qs → FindsLeast both begin_both all
 
-  -- the marks of both, which are never of one kind at once
+  -- if `first` and `second` show their marks, never two of one kind at once, `both` shows the marks of both
   abbrev pub ShowsTogether : Type 0
   ShowsTogether =
       (a b : StepMarks) (f g : Trace → Stretch → ℕ → StepMarks) → AreApart a b

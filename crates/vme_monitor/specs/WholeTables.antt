@@ -1,4 +1,4 @@
--- What a whole table says.
+-- What a whole table gives.
 use Rattle.std.specs.Prelude.{◌≡◌, ◌+◌, ◌≤◌, ℕ, List, [], map, vec_capacity, vec_len}
 use Rattle.std.specs.Global.{Vec}
 use Rattle.std.specs.declared.cmp.PartialEq.{Ghosts as Equality}
@@ -12,32 +12,32 @@ use Rattle.vme_monitor.specs.declared.machine.Enumerable.{Ghosts as Places}
 use Rattle.vme_monitor.specs.declared.table.Table.{Table}
 
 module _ {P : Type 0} {places : Places P} {equal : Equality P} where
-  -- of how many steps it is
+  -- how many steps a table covers
   abbrev pub table_steps : Table P places equal → ℕ
   table_steps t = t.steps
 
-  -- what it says of an entering memory
+  -- the outcome that a table gives for an entering memory
   abbrev pub table_outcome : Table P places equal → P → Outcome P
   table_outcome t p = outcome t.layers.items t.rows.items p (places.place_of p)
 
-  -- how many marks all its lists have
+  -- how many marks all lists of a table have together
   abbrev pub table_marks : Table P places equal → ℕ
   table_marks t = marks_of (link_values t.layers.items) (map outcome_of t.rows.items)
 
-  -- what it is made of
+  -- the layers and the rows of a table
   abbrev pub table_layers : Table P places equal → List (Vec Link)
   table_layers t = t.layers.items
 
   abbrev pub table_rows : Table P places equal → Vec (TableRow P)
   table_rows t = t.rows
 
-  -- what two say, one after the other
+  -- the outcome of the steps of `first` and then those of `second`
   abbrev pub outcome_of_both : Table P places equal → Table P places equal → P → Outcome P
   outcome_of_both first second p =
       let a = table_outcome first p in
       composed_outcome (table_steps first) a (table_outcome second a.leaving)
 
-  -- room to take over a second table: for a link in place of each row, and for its layers and one more
+  -- `room` suffices for a link from each row of `first`, and the layers of `first` for those of `second` and one more
   pub record HasRoomFor (room : Vec Link) (first second : Table P places equal) : Type 0 where
     pub empty : room.items ≡ []
     pub links : vec_len first.rows ≤ vec_capacity room

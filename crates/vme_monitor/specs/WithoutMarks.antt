@@ -1,4 +1,4 @@
--- Machines that show nothing, and what is known where nothing is shown.
+-- Machines that show nothing, and what a summary gives where nothing is shown.
 use Rattle.std.proofs.Common.{◌≡◌, ℕ, ◌<◌, List, [], ◌∷◌, length, refl, ap, ◌∙◌, Option, Some, None}
 use Rattle.std.specs.Option.{option_map_or}
 use Rattle.vme_trace.specs.Levels.{Levels}
@@ -9,14 +9,15 @@ use Rattle.vme_monitor.specs.Outcome.{Outcome, StandsFor, composed_outcome}
 use Rattle.vme_monitor.specs.Run.{machine_step, no_step_marks, outcome_at, quiet, run_of}
 use Rattle.vme_monitor.specs.declared.mark.Next.{Next}
 
--- a summary finds the memory that some steps after an opening leave, and their first break; of marks it says nothing
+-- a summary `says` gives the leaving memory and the first break of the steps x after the opening o; of marks it says
+-- nothing
 pub record FindsFor {P : Type 0} (run : P → Levels → List Step → Outcome P) (says : P → Outcome P) (count : ℕ)
     (o : Levels) (x : List Step) : Type 0 where
   pub leaving : (p : P) → (says p).leaving ≡ (run p o x).leaving
   pub first_break : (p : P) → (says p).first_break ≡ (run p o x).first_break
   pub counted : count ≡ length x
 
--- what stands for steps finds these
+-- a summary that stands for steps gives their leaving memory and first break
 pub stands_finds : {P : Type 0} {run : P → Levels → List Step → Outcome P} {says : P
     → Outcome P} {count : ℕ} {o : Levels} {x : List Step} → StandsFor run says count o x → FindsFor run says count o x
 stands_finds stands =
@@ -38,7 +39,7 @@ unmarked_step next p before after seen = unmarked_next (next p before after seen
 abbrev pub unmarked : {P : Type 0} → Outcome P → Outcome P
 unmarked a = record { leaving = a.leaving; first_break = a.first_break; marks = [] }
 
--- what is below a memory's threshold leaves it as it is, without marks too
+-- without marks too, an observation whose threshold is above a memory's sensitivity leaves the memory as it is
 pub unmarked_unchanged : {P S : Type 0} (next : P → Levels → Levels → S → Next P) (sensitivity : P → ℕ) (threshold : S
     → ℕ)
     → ((p : P) (before after : Levels) (seen : S) → sensitivity p < threshold seen → next p before after seen ≡ quiet p)

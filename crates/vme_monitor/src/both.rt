@@ -1,4 +1,4 @@
-//! Two monitors at once.
+//! Two monitors at once: the least of their breaks (violations of rules), and their marks (events of the bus) merged.
 
 ghost use Rattle.std.specs.Prelude.{◌≡◌, ◌≤◌, ◌∷◌, ◌++◌, [], IfOk, drop, false, length, slice_get, take};
 ghost use Rattle.vme_monitor.specs.TwoMonitors.{FindsTogether, ShowsTogether};
@@ -53,7 +53,7 @@ fn mark_lt(a: &Mark, b: &Mark) -> bool
     a.instant < b.instant || (a.instant == b.instant && i < j)
 }
 
-/// The sooner of two breaks.
+/// The least of two breaks by instant, then rule, then line.
 pub fn least(first: Option<Break>, second: Option<Break>) -> Option<Break>
     ensures { result ≡ least_of first second }
 {
@@ -66,7 +66,7 @@ pub fn least(first: Option<Break>, second: Option<Break>) -> Option<Break>
     }
 }
 
-/// Whether there is a mark at a place, and it comes before another.
+/// Whether there is a mark at index `j`, and it comes before `a`.
 fn is_before(marks: &[Mark], j: usize, a: Mark) -> bool
     ensures { result ≡ option_map_or (λ b. mark_before b a) (slice_get marks.now j) false }
 {
@@ -77,7 +77,7 @@ fn is_before(marks: &[Mark], j: usize, a: Mark) -> bool
     }
 }
 
-/// Marks of two monitors, by instant and then kind.
+/// Merges the marks of two monitors by instant, then kind. If both are equal, that of `first` comes first.
 fn merge_marks(alloc: Global, first: &[Mark], second: &[Mark]) -> Result<Vec<Mark>, AllocError>
     ensures { IfOk result (λ v. v.items ≡ merged first.now second.now) }
 {
@@ -100,7 +100,7 @@ fn merge_marks(alloc: Global, first: &[Mark], second: &[Mark]) -> Result<Vec<Mar
     Ok(all)
 }
 
-/// How many marks come before one.
+/// How many marks at the front of `marks` come before `mark`.
 fn count_before(marks: &[Mark], mark: Mark) -> usize
     ensures before { take result marks.now ≡ front mark marks.now }
     ensures after { drop result marks.now ≡ rest mark marks.now }
@@ -114,7 +114,7 @@ fn count_before(marks: &[Mark], mark: Mark) -> usize
     marks.len()
 }
 
-/// How many marks one doesn't come before.
+/// How many marks at the front of `marks` there are before the first that `mark` comes before.
 fn count_until(marks: &[Mark], mark: Mark) -> usize
     ensures placed { take result marks.now ++ mark ∷ drop result marks.now ≡ merged marks.now (mark ∷ []) }
     ensures there { result ≤ length marks.now }
@@ -127,7 +127,7 @@ fn count_until(marks: &[Mark], mark: Mark) -> usize
     marks.len()
 }
 
-/// One mark put among others, in its place.
+/// Merges the single mark of `alone` with `marks`. Where instant and kind are equal, it comes first.
 fn put_among(alone: &[Mark], marks: Vec<Mark>) -> Result<Vec<Mark>, AllocError>
     requires { length alone.now ≡ 1 }
     ensures { IfOk result (λ v. v.items ≡ merged alone.now marks.items) }
@@ -138,7 +138,7 @@ fn put_among(alone: &[Mark], marks: Vec<Mark>) -> Result<Vec<Mark>, AllocError>
     Ok(all)
 }
 
-/// One mark put after those of others that it doesn't come before.
+/// Merges `marks` with the single mark of `alone`. Where instant and kind are equal, it comes last.
 fn put_behind(marks: Vec<Mark>, alone: &[Mark]) -> Result<Vec<Mark>, AllocError>
     requires { length alone.now ≡ 1 }
     ensures { IfOk result (λ v. v.items ≡ merged marks.items alone.now) }
@@ -149,8 +149,8 @@ fn put_behind(marks: Vec<Mark>, alone: &[Mark]) -> Result<Vec<Mark>, AllocError>
     Ok(all)
 }
 
-/// The same of marks that are given away: where one of the two shows nothing, they are those of the other, and where
-/// one shows one mark alone, as the start of judging, it is put among the others.
+/// Merges the marks of two monitors, which are both consumed. If one list is empty, the result is the other. If one has
+/// a single mark, e.g. the start of judging, it is inserted into the other.
 pub fn marks_together(
     alloc: Global,
     first: Vec<Mark>,
@@ -179,7 +179,7 @@ pub struct Pair<M: Monitor, N: Monitor> {
     ghost same: { M.count first ≡ N.count second },
 }
 
-/// Both monitors.
+/// The monitor that runs `M` and `N` over the same steps.
 pub struct Both<M, N> {
     of: PhantomData<(M, N)>,
 }
@@ -279,8 +279,8 @@ impl<M: Monitor, N: Monitor> Monitor for Both<M, N> {
     }
 }
 
-/// Over a whole recording, the first break of both monitors is the least break of the rules of both, and their marks
-/// are what both show.
+/// Over a whole recording, the first break of `Both` is the least break of the rules of `M` and `N`, and its marks are
+/// what both show.
 pub fn both_over_recordings<M: Monitor, N: Monitor>()
     ensures first_break { FindsTogether M.run M.begin N.run N.begin
         ⟦<Both<M, N> as Monitor>⟧.run ⟦<Both<M, N> as Monitor>⟧.begin }

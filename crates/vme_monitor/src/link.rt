@@ -1,4 +1,4 @@
-//! The parts of a table.
+//! The parts of a table: links and rows.
 
 ghost use Rattle.std.specs.Prelude.{◌≡◌, ◌≤◌, ◌-◌, ◌^◌, [], ◌++◌, map, min, IfOk, OnOk, vec_len, vec_capacity};
 ghost use Rattle.std.specs.List.{sum_by};
@@ -19,7 +19,8 @@ use crate::mark::{BusGrant, CycleStart, Fault, Mark, MarkKind, Next, StepMarks, 
 use std::alloc::{AllocError, Global};
 use vme_trace::{Break, Lanes, Line};
 
-/// What runs show until they meet others, and which row of the next layer they go on in.
+/// What a run shows until it is merged with others, and the index in the next layer at which it continues: of a link,
+/// or after the last layer of a row.
 #[derive(Debug, Drop)]
 pub struct Link {
     pub first_break: Option<Break>,
@@ -27,7 +28,7 @@ pub struct Link {
     pub next: usize,
 }
 
-/// What runs show up to now, and the memory that they are in.
+/// What a run has shown since its last link, and the memory (state of the automaton) that it is in.
 #[derive(Debug, Drop)]
 pub struct TableRow<P> {
     pub memory: P,
@@ -36,7 +37,7 @@ pub struct TableRow<P> {
 }
 
 impl Mark {
-    /// Counts the instant from a start that is some instants earlier.
+    /// Makes the instant later by `by`, at most `u32::MAX`.
     fn shift_instants(&mut self, by: u32)
         ensures { self.new ≡ later_mark by self.old }
     {
@@ -44,7 +45,7 @@ impl Mark {
     }
 }
 
-/// Counts the instants of marks from a start that is some instants earlier.
+/// Makes the instants of `marks` later by `by`, at most `u32::MAX`.
 fn shift_marks(marks: &mut [Mark], by: u32)
     ensures { marks.new ≡ map (later_mark by) marks.old }
 {
@@ -109,7 +110,7 @@ pub fn later_rows<P: Copy>(
     Ok(all)
 }
 
-/// A link from each row to the place of its memory.
+/// A link from each row to the place of its memory, with all instants later by `by`.
 pub fn links_to_places<P: Enumerable>(
     alloc: Global,
     rows: &[TableRow<P>],
@@ -131,7 +132,7 @@ pub fn links_to_places<P: Enumerable>(
 }
 
 impl Link {
-    /// Counts the instants from a start that is some instants earlier.
+    /// Makes all instants later by `by`, at most `u32::MAX`.
     fn shift_instants(&mut self, by: u32)
         ensures { link_value self.new ≡ later_link_value by (link_value self.old) }
     {
@@ -140,7 +141,7 @@ impl Link {
     }
 }
 
-/// Counts the instants of links from a start that is some instants earlier.
+/// Makes the instants of `links` later by `by`, at most `u32::MAX`.
 pub fn shift_links(links: &mut [Link], by: u32)
     ensures { map link_value links.new ≡ map (later_link_value by) (map link_value links.old) }
 {
@@ -150,7 +151,7 @@ pub fn shift_links(links: &mut [Link], by: u32)
 }
 
 impl<P: Copy> TableRow<P> {
-    /// Counts the instants from a start that is some instants earlier.
+    /// Makes all instants later by `by`, at most `u32::MAX`.
     fn shift_instants(&mut self, by: u32)
         ensures { outcome_of self.new ≡ later_outcome by (outcome_of self.old) }
     {
@@ -159,7 +160,7 @@ impl<P: Copy> TableRow<P> {
     }
 }
 
-/// Counts the instants of rows from a start that is some instants earlier.
+/// Makes the instants of `rows` later by `by`, at most `u32::MAX`.
 pub fn shift_rows<P: Copy>(rows: &mut [TableRow<P>], by: u32)
     ensures { map outcome_of rows.new ≡ map (later_outcome by) (map outcome_of rows.old) }
 {
@@ -168,7 +169,7 @@ pub fn shift_rows<P: Copy>(rows: &mut [TableRow<P>], by: u32)
     }
 }
 
-/// Rows as links to the places of their memories, in room that is there.
+/// Turns each row into a link to the place of its memory. The links are put into `room`, whose capacity suffices.
 pub fn links_in<P: Enumerable>(room: Vec<Link>, rows: Vec<TableRow<P>>) -> Vec<Link>
     requires empty { room.items ≡ [] }
     requires fits { vec_len rows ≤ vec_capacity room }
@@ -202,7 +203,7 @@ pub fn fresh_rows<P: Copy>(alloc: Global, memories: &[P]) -> Result<Vec<TableRow
     Ok(rows)
 }
 
-/// How many marks links hold together, or the greatest number.
+/// How many marks `links` hold together, or the greatest `u64`.
 pub fn marks_in_links(links: &[Link]) -> u64
     ensures { result ≡ min (sum_by link_marks (map link_value links.now)) (2 ^ 64 - 1) }
 {
@@ -213,7 +214,7 @@ pub fn marks_in_links(links: &[Link]) -> u64
     count
 }
 
-/// How many marks rows hold together, or the greatest number.
+/// How many marks `rows` hold together, or the greatest `u64`.
 pub fn marks_in_rows<P: Copy>(rows: &[TableRow<P>]) -> u64
     ensures { result ≡ min (sum_by row_marks (map outcome_of rows.now)) (2 ^ 64 - 1) }
 {
@@ -231,8 +232,8 @@ fn when(shown: bool, kind: MarkKind) -> Option<MarkKind>
     if shown { Some(kind) } else { None }
 }
 
-/// Adds a mark, if a kind is shown. Room grows fourfold: many marks then mostly move into memory of their own, which
-/// the system gets back when they are dropped.
+/// Appends a mark, if `kind` is there. The capacity grows fourfold: a long list then mostly moves into pages of its
+/// own, which the system gets back when the list is dropped.
 #[inline(always)]
 fn show(marks: &mut Vec<Mark>, instant: u32, kind: Option<MarkKind>) -> Result<(), AllocError>
     ensures { OnOk result (marks.new.items ≡ marks.old.items ++ map (mark_at instant) (option_to_list kind)) }
@@ -303,7 +304,8 @@ fn answered_kind(shown: Option<TransferAnswer>) -> Option<MarkKind>
     }
 }
 
-/// Adds what a step shows. Where it is part of a monitor, the kinds that the monitor never shows cost nothing.
+/// Appends the marks of a step. Where this is inlined in a monitor, the kinds that the monitor never shows cost
+/// nothing.
 #[inline(always)]
 fn show_all(marks: &mut Vec<Mark>, instant: u32, shown: StepMarks) -> Result<(), AllocError>
     ensures { OnOk result (marks.new.items ≡ marks.old.items ++ map (mark_at instant) (kinds_of shown)) }
@@ -332,7 +334,7 @@ fn break_of(fault: Fault, instant: u32, time: u64) -> Break
 }
 
 impl<P: Copy> TableRow<P> {
-    /// One step further.
+    /// Advances the row by a step that gives `next`.
     #[inline(always)]
     pub fn extend(&mut self, next: Next<P>, instant: u32, time: u64) -> Result<(), AllocError>
         ensures { OnOk result (outcome_of self.new ≡ extended (outcome_of self.old) (outcome_at instant time next)) }

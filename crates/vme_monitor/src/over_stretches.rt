@@ -1,5 +1,5 @@
 //! Judging starts at an idle instant, and ends where the bus is reset or a control line is lost. After a reset it
-//! starts again.
+//! starts again at the next idle instant.
 
 ghost use Rattle.std.specs.Prelude.{◌≡◌, ℕ, ◌≤◌, List, Option, None};
 ghost use Rattle.vme_trace.specs.Trace.{Trace, levels_at};
@@ -26,7 +26,8 @@ use crate::view::{End, StepView};
 use std::marker::PhantomData;
 use vme_trace::{Change, Line, Lines};
 
-/// What judges by some rules, from the start of a span to its end.
+/// An automaton that judges by some rules, from the start of a span (a stretch of judged instants) to its end. Its
+/// memory is its state.
 pub trait Rules {
     type Memory: Small;
 
@@ -71,7 +72,7 @@ pub trait Rules {
         ensures { result ≡ next memory before.now after.now seen.now };
 }
 
-/// Before, within and after a span.
+/// Whether judging is before, within or after a span.
 #[derive(Clone, Copy, PartialEq, Eq, Debug)]
 pub enum StretchPhase<P> {
     /// A reset has ended a span, and none has started since.
@@ -123,7 +124,7 @@ impl<P: Small> Enumerable for StretchPhase<P> {
     }
 }
 
-/// What a step shows to one who judges.
+/// The observation of a step: what ends a span there, and what the rules see.
 #[derive(Drop)]
 pub struct StretchObservation<S> {
     pub end: Option<End>,
@@ -258,8 +259,8 @@ impl<R: Rules> Machine for OverStretches<R> {
 pub type RuleMonitor<R> = TableMonitor<OverStretches<R>>;
 
 /// Over a whole recording, the first break is the least break of the rules, and the marks are what happens in the spans
-/// and at the resets that end them, for rules of which this holds in each span (`Judges`, `Shows`). Within a span
-/// the memory is the inner machine's.
+/// and at the resets that end them, if this holds for the rules' automaton in each span (`Judges`, `Shows`). After the
+/// recording, the phase says whether there was a span. Within a span the memory is the inner automaton's.
 pub fn rules_over_recordings<R: Rules>()
     ensures first_break { FindsLeastWhere ⟦<RuleMonitor<R> as Monitor>⟧.run ⟦<RuleMonitor<R> as Monitor>⟧.begin
         (λ t span rules. Judges (machine_step R.observation R.next) (R.begin (levels_at t span.start)) R.end_fault t

@@ -1,4 +1,5 @@
-//! A table with one outcome for each entering memory. Runs that meet share what follows.
+//! A table with one outcome for each entering memory (state of the monitor's automaton). Runs that reach the same
+//! memory at the same instant share what follows.
 
 ghost use Rattle.std.specs.Prelude.{◌≡◌, ℕ, ◌+◌, ◌-◌, ◌^◌, ◌≤◌, List, [], ◌++◌, All, length, map, min, IfOk, OnOk};
 ghost use Rattle.std.specs.Prelude.{IsTrue};
@@ -23,8 +24,9 @@ use crate::view::StepView;
 use std::alloc::{AllocError, Global};
 use vme_trace::{Break, Step};
 
-/// What steps say to a monitor, whatever memory enters: runs that have met go on as one row, and each layer of links
-/// says which row of the next one a run goes on in.
+/// The outcomes of steps for all entering memories. A run starts at the place of its memory in the first layer. Runs
+/// that have met, i.e. are in the same memory, continue in one row: `next` of a link is the index of the link in the
+/// next layer, or after the last layer of the row, in which its runs continue.
 #[derive(Debug, Drop)]
 pub struct Table<P: Enumerable> {
     steps: u32,
@@ -36,9 +38,9 @@ pub struct Table<P: Enumerable> {
         (P.place_of p)) } by { inside-prop steps (λ (p : P). outcome layers.items rows.items p (P.place_of p)) },
 }
 
-/// Rows whose runs have met go on as one, in a layer of their own.
-/// The answer is the greatest sensitivity of the rows, by what they were before: it is computed again only where that
-/// may be less.
+/// Merges rows that are in the same memory, and adds the links from the old rows to the merged ones as a layer. `most`
+/// is at least the sensitivity of each row, and so is the result. It is computed anew only if rows are merged or `most`
+/// is above 1.
 fn merge_rows<M: Machine>(
     alloc: Global,
     layers: &mut Vec<Vec<Link>>,
@@ -76,9 +78,9 @@ fn merge_rows<M: Machine>(
 pub struct Unfinished<M: Machine> {
     layers: Vec<Vec<Link>>,
     rows: Vec<TableRow<M::Memory>>,
-    /// The instant at which a row was last met in the memory of each place.
+    /// For each place, the instant at which `have_merged` last found a row in the memory of that place.
     last_seen: Vec<u32>,
-    /// The greatest sensitivity of the rows.
+    /// No row is more sensitive than this.
     most: u8,
 }
 
@@ -115,7 +117,7 @@ impl<M: Machine> Unfinished<M> {
         })
     }
 
-    /// One step more that all rows react to, which may make some more sensitive.
+    /// Adds a step whose threshold is 0: all rows react to it, and some may become more sensitive.
     fn extend_all(
         &mut self,
         alloc: Global,
@@ -145,7 +147,7 @@ impl<M: Machine> Unfinished<M> {
         Ok(())
     }
 
-    /// One step more, at its instant after the opening.
+    /// Adds a step at its instant after the opening.
     #[inline(always)]
     pub fn extend(
         &mut self,
@@ -172,7 +174,7 @@ impl<M: Machine> Unfinished<M> {
         }
         let rows = self.rows.as_mut_slice();
         advance::<M>(rows, &view.before, &view.after, &seen, step, instant)?;
-        // a row that judges reacts to no less
+        // rows that are apart need no merge, and a `most` of at most 1 isn't computed anew
         if self.most <= 1 && are_apart::<M>(self.rows.as_slice()) {
             return Ok(());
         }
@@ -187,7 +189,7 @@ impl<M: Machine> Unfinished<M> {
         Ok(())
     }
 
-    /// The table of the steps, as many as that.
+    /// The table of the steps so far; `steps` is their number.
     pub fn finish(self, steps: u32) -> Table<M::Memory>
         requires { (o : Levels) × (x : List Step) × (steps ≡ length x)
             × HasRuns M.observation M.next M.Memory.place_of M.sensitivity_of self o x }
@@ -210,7 +212,7 @@ impl<M: Machine> Unfinished<M> {
     }
 }
 
-/// Adds layers, some instants later.
+/// Appends `layers` to `all`, with each instant later by `by`.
 fn later_layers(
     alloc: Global,
     all: &mut Vec<Vec<Link>>,
@@ -227,7 +229,7 @@ fn later_layers(
     Ok(())
 }
 
-/// Counts the instants of layers from a start that is some instants earlier.
+/// Makes each instant of `layers` later by `by`.
 fn shift_layers(layers: &mut [Vec<Link>], by: u32)
     ensures { link_values layers.new ≡ map (map (later_link_value by)) (link_values layers.old) }
 {
@@ -255,7 +257,7 @@ impl<P: Enumerable> Table<P> {
         })
     }
 
-    /// The table of the steps of two, one after the other.
+    /// The table of the steps of `first` and then those of `second`.
     pub fn compose(
         alloc: Global,
         first: &Table<P>,
@@ -279,8 +281,8 @@ impl<P: Enumerable> Table<P> {
         })
     }
 
-    /// Takes all the memory that it needs to take over another table: room for links in place of the rows comes back.
-    /// It says what it said, after an error too.
+    /// Allocates all that `append_in` needs: room for the layers of `second` and one more, and a vector for one link
+    /// from each row, which is the result. The table's steps, layers and rows stay as they are, after an error too.
     pub fn make_room(&mut self, alloc: Global, second: &Table<P>) -> Result<Vec<Link>, AllocError>
         ensures steps { table_steps self.new ≡ table_steps self.old }
         ensures layers { table_layers self.new ≡ table_layers self.old }
@@ -292,8 +294,8 @@ impl<P: Enumerable> Table<P> {
         Vec::with_capacity(alloc, self.rows.len())
     }
 
-    /// The table of the steps of two, one after the other, where both are given away: their links and rows are taken
-    /// over, not copied, in room that was made. Takes no memory.
+    /// The table of the steps of `self` and then those of `second`, which are both consumed: their links and rows are
+    /// moved, not copied. `room` is made by `make_room`. Allocates nothing.
     pub fn append_in(self, room: Vec<Link>, second: Table<P>) -> Table<P>
         requires few { table_steps self + table_steps second ≤ 268435456 }
         requires room { HasRoomFor room self second }
@@ -325,7 +327,7 @@ impl<P: Enumerable> Table<P> {
         }
     }
 
-    /// How many marks its lists hold together, or the greatest number.
+    /// How many marks the table's lists hold together, or the greatest `u64`.
     pub fn stored(&self) -> u64
         ensures { result ≡ min (table_marks self.now) (2 ^ 64 - 1) }
     {
@@ -336,14 +338,14 @@ impl<P: Enumerable> Table<P> {
         count.saturating_add(marks_in_rows(self.rows.as_slice()))
     }
 
-    /// Of how many steps it is.
+    /// How many steps the table covers.
     pub fn steps(&self) -> u32
         ensures { result ≡ table_steps self.now }
     {
         self.steps
     }
 
-    /// The memory that leaves, where this one enters.
+    /// The leaving memory, if `memory` enters.
     pub fn leaving(&self, memory: P) -> P
         ensures { result ≡ (table_outcome self.now memory).leaving }
     {
@@ -361,7 +363,7 @@ impl<P: Enumerable> Table<P> {
         }
     }
 
-    /// The first break, where this memory enters.
+    /// The first break, if `memory` enters.
     pub fn first_break(&self, memory: P) -> Option<Break>
         ensures { result ≡ (table_outcome self.now memory).first_break }
     {
@@ -383,7 +385,7 @@ impl<P: Enumerable> Table<P> {
         }
     }
 
-    /// How many marks there are to collect, where this memory enters, or the greatest number.
+    /// How many marks there are to collect if `memory` enters, or the greatest `usize`.
     fn count_marks(&self, memory: P) -> usize {
         let mut count = 0usize;
         let mut k = memory.place();
@@ -401,7 +403,7 @@ impl<P: Enumerable> Table<P> {
         count
     }
 
-    /// The marks, where this memory enters.
+    /// The marks, if `memory` enters.
     pub fn marks(&self, alloc: Global, memory: P) -> Result<Vec<Mark>, AllocError>
         ensures { IfOk result (λ v. v.items ≡ (table_outcome self.now memory).marks) }
     {

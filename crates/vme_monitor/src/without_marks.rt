@@ -1,4 +1,4 @@
-//! A monitor that shows nothing, for who asks for the first break alone.
+//! A monitor that shows nothing, for callers that need the first break (violation of a rule) alone.
 
 ghost use Rattle.std.specs.Prelude.{◌≡◌};
 
@@ -10,7 +10,8 @@ use crate::view::StepView;
 use std::marker::PhantomData;
 use vme_trace::{Change, Lines};
 
-/// A machine without marks: it leaves the same memories and breaks the same rules, and shows nothing.
+/// A machine without marks: it leaves the same memories (states of its automaton) and breaks the same rules, and shows
+/// nothing.
 pub struct WithoutMarks<M> {
     of: PhantomData<M>,
 }

@@ -12,7 +12,7 @@ const CONFORMING: Recording = Recording {
         AS=1 DS0=1 IA.1=1;DTACK=1 IACK=1;BBSY=1",
 };
 
-/// One whose slot is skipped.
+/// An interrupt acknowledge that skips slot 1.
 const SKIPPED: Recording = Recording {
     slots: 3,
     opening: "",

@@ -1,5 +1,5 @@
-//! Grants and the bus that is busy: a tenure, a grant that is taken twice (B2), one that goes past the last slot (B4),
-//! and a tenure that is open after a reset.
+//! Grants and tenures: a tenure, a grant that is taken twice (B2), one that goes past the last slot (B4), and a tenure
+//! that is open after a reset.
 
 use crate::recordings::{Recording, break_of, finds, has_places, mark};
 use vme_chains::grant::Grant;

@@ -42,7 +42,7 @@ fn answer_with(instant: u32, lanes: Lanes) -> Mark {
     )
 }
 
-/// In blocks of any size.
+/// Cycles and transfers are marked, in blocks of each of the sizes.
 #[test]
 fn cycles_and_transfers_are_marked(rt: HostRuntime) {
     let want = [
@@ -72,7 +72,7 @@ fn an_answer_falls_in_a_transfer(rt: HostRuntime) {
     assert!(rt; finds::<Dtb>(rt.alloc(), &STRAY, stray, None));
 }
 
-/// The marks of the answers over a recording.
+/// The marks of the answers in a recording.
 fn answers_of(alloc: Global, recording: &Recording) -> Option<Vec<Mark>> {
     let capture = capture_of(alloc, recording)?;
     let all = whole::<Dtb>(alloc, &capture, 1000)?;
@@ -86,7 +86,7 @@ fn answers_of(alloc: Global, recording: &Recording) -> Option<Vec<Mark>> {
     Some(marks)
 }
 
-/// Whether these are the answers over a recording.
+/// Whether `want` are the marks of the answers in a recording.
 fn has_answers(alloc: Global, recording: &Recording, want: &[Mark]) -> bool {
     match answers_of(alloc, recording) {
         Some(answers) => answers.as_slice() == want,
@@ -101,7 +101,8 @@ const READ_AND_WRITE: Recording = Recording {
         AS=0 D04=0 D05=1 D06=0 D07=1;DS0=0;DTACK=0;DS0=1;DTACK=1;WRITE=0;DS0=0;DTACK=0 D01=1;AS=1 DS0=1 D00=0;DTACK=1",
 };
 
-/// What is on D00 to D07 before the answer of a write is written, whatever they change to with it; a read has no data.
+/// The levels of D00 to D07 before the answer are the data of a write, whatever they change to with the answer. A read
+/// has no data.
 #[test]
 fn the_answer_of_a_write_has_its_data(rt: HostRuntime) {
     let byte = Lanes {
@@ -120,8 +121,8 @@ const AT_ONCE: Recording = Recording {
         AS=0 D04=0 D05=0 D06=0;DS0=0 DS1=0 DTACK=0 D00=1;BBSY=1",
 };
 
-/// A digit of which a line is unknown is told as such. Where the answer comes as the transfer starts, the data are
-/// those there.
+/// A hexadecimal digit with an unknown line has its bit set in `unknown`. If the answer comes as the transfer starts,
+/// the data are those at that instant.
 #[test]
 fn the_data_of_a_write_may_be_unknown(rt: HostRuntime) {
     let word = Lanes {

@@ -1,15 +1,17 @@
 //! Tests of the monitors in vme_monitor, vme_dtb and vme_chains: worked recordings, joined and run.
 //!
-//! The breaks and marks that are found are compared with those that stand beside the recordings,
-//! whatever the size of the blocks; and each memory stands at its place.
+//! The breaks (violations of rules) and marks (events of the bus with their instants) that are
+//! found are compared with those that are written with the recordings, for blocks of several sizes.
+//! Each memory (state of a monitor's automaton) is at its place.
 //!
-//! - `recordings`: how recordings are written, and whether a monitor finds in them what is wanted.
+//! - `recordings`: how recordings are written, and whether a monitor finds the wanted breaks and
+//!   marks in them.
 //! - `known_tests`: where judging starts, again after a reset, of two monitors at once, and without
 //!   marks. The only rules here are those of `Known`.
 //! - `handshake_tests`: pipelined cycles and an answer without a transfer (H4); the data of a write,
 //!   known and unknown.
-//! - `stability_tests`: cycles with and without data, and resets that end what is held. U3, U4, S1,
-//!   S2 and S3 are broken; U2 is in vme_summary_tests and vme_eval.
+//! - `stability_tests`: cycles with and without data, and resets after which no lines are held. U3,
+//!   U4, S1, S2 and S3 are broken; U2 is in vme_summary_tests and vme_eval.
 //! - `grant_tests` and `acknowledge_tests`: a tenure, a grant that is taken twice (B2), one that
 //!   goes past the last slot (B4), a tenure that is open after a reset, an acknowledge along its
 //!   chain, and one that skips a slot (I1).

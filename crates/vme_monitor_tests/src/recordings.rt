@@ -1,4 +1,4 @@
-//! Worked recordings, and whether a monitor finds and shows in them what stands beside them.
+//! Worked recordings, and whether a monitor finds and shows in them what is written with them.
 
 use smallvec::SmallVec;
 use std::alloc::Global;
@@ -19,7 +19,7 @@ pub(crate) struct Recording {
     pub steps: &'static str,
 }
 
-/// The change that a word says, as BR3=0.
+/// The change that `word` denotes, e.g. BR3=0.
 fn change_of(word: &str) -> Option<Change> {
     let (name, level) = word.split_once('=')?;
     let level = match level.as_bytes() {
@@ -33,7 +33,8 @@ fn change_of(word: &str) -> Option<Change> {
     })
 }
 
-/// Adds that each line gets high, but A24 to A31 and the data lines from a number on where the bus gets quiet.
+/// Appends a change to high for each line of the bus; if `is_quiet`, not for A24 to A31 and the data lines from number
+/// `first_data` on.
 fn push_high(
     changes: &mut Vec<Change>,
     lines: &Lines,
@@ -51,7 +52,7 @@ fn push_high(
     Some(())
 }
 
-/// Adds the changes that a word says.
+/// Appends the changes that `word` denotes.
 fn push_word(changes: &mut Vec<Change>, lines: &Lines, word: &str) -> Option<()> {
     if word == "high" {
         return push_high(changes, lines, false, LINE_COUNT);
@@ -65,7 +66,7 @@ fn push_word(changes: &mut Vec<Change>, lines: &Lines, word: &str) -> Option<()>
     changes.push(change_of(word)?).ok()
 }
 
-/// The changes that a text says.
+/// The changes that `text` denotes.
 fn changes_of(alloc: Global, lines: &Lines, text: &str) -> Option<Vec<Change>> {
     let mut changes = Vec::new(alloc);
     for word in text.split_whitespace() {
@@ -74,7 +75,7 @@ fn changes_of(alloc: Global, lines: &Lines, text: &str) -> Option<Vec<Change>> {
     Some(changes)
 }
 
-/// Adds a step of a text, if it has changes.
+/// Appends the step that `text` denotes, if it has changes.
 fn push_step(alloc: Global, steps: &mut Vec<Step>, lines: &Lines, text: &str) -> Option<()> {
     let changes = changes_of(alloc, lines, text)?;
     if changes.is_empty() {
@@ -85,7 +86,7 @@ fn push_step(alloc: Global, steps: &mut Vec<Step>, lines: &Lines, text: &str) ->
     steps.push(Step { time, changes }).ok()
 }
 
-/// The steps that a text says.
+/// The steps that `text` denotes.
 fn steps_of(alloc: Global, lines: &Lines, text: &str) -> Option<Vec<Step>> {
     let mut steps = Vec::new(alloc);
     for part in text.split(';') {
@@ -94,7 +95,7 @@ fn steps_of(alloc: Global, lines: &Lines, text: &str) -> Option<Vec<Step>> {
     Some(steps)
 }
 
-/// The lines that a recording opens with.
+/// The lines at the opening of a recording.
 fn opening_of(alloc: Global, recording: &Recording) -> Option<Lines> {
     let mut opening = Lines::new(recording.slots)?;
     for change in changes_of(alloc, &opening, recording.opening)? {
@@ -133,7 +134,7 @@ fn joined<M: Monitor>(
     join::<M>(alloc, first, second).ok()
 }
 
-/// The summary of a recording that is cut into blocks.
+/// The summary of a recording that is cut into blocks of `size` steps.
 pub(crate) fn whole<M: Monitor>(alloc: Global, capture: &Capture, size: u32) -> Option<M::Summary> {
     let mut all = none::<M>(alloc).ok()?;
     for block in capture.cut(alloc, size).ok()? {
@@ -143,7 +144,7 @@ pub(crate) fn whole<M: Monitor>(alloc: Global, capture: &Capture, size: u32) -> 
     Some(all)
 }
 
-/// Whether this is found in a recording, and these marks are shown if they are told, in blocks of a size.
+/// Whether `first_break` is found in a recording, and `marks` are shown if they are given, in blocks of `size` steps.
 fn finds_in<M: Monitor>(
     alloc: Global,
     capture: &Capture,
@@ -164,7 +165,8 @@ fn finds_in<M: Monitor>(
 /// The sizes of blocks that are tried.
 static SIZES: [u32; 5] = [1, 2, 3, 9, 65536];
 
-/// Whether this is found in a recording, and these marks are shown if they are told, whatever the size of the blocks.
+/// Whether `first_break` is found in a recording, and `marks` are shown if they are given, in blocks of each of the
+/// sizes.
 pub(crate) fn finds<M: Monitor>(
     alloc: Global,
     recording: &Recording,
@@ -182,7 +184,7 @@ pub(crate) fn finds<M: Monitor>(
     true
 }
 
-/// Whether a monitor has so many memories, each at its place.
+/// Whether a monitor has `count` memories (states of its automaton), each at its place.
 pub(crate) fn has_places<M: Finite>(count: usize) -> bool {
     for k in 0..M::COUNT {
         if M::place(M::nth(k)) != k {
@@ -192,7 +194,7 @@ pub(crate) fn has_places<M: Finite>(count: usize) -> bool {
     M::COUNT == count
 }
 
-/// The break of a rule on a line, in a recording whose steps stand ten units apart.
+/// The break of a rule on a line, in a recording whose steps are ten units apart.
 pub(crate) fn break_of(instant: u32, rule: Rule, line: Line) -> Option<Break> {
     Some(Break {
         instant,

@@ -1,12 +1,12 @@
-//! Known and held lines: cycles with and without data, and resets that end what is held. U3, U4, S1, S2 and S3 are
-//! broken here.
+//! Known and held lines: cycles with and without data, and resets after which no lines are held. U3, U4, S1, S2 and S3
+//! are broken here.
 
 use crate::recordings::{Recording, break_of, finds, has_places};
 use std::alloc::Global;
 use vme_dtb::stability::Stability;
 use vme_trace::{Line, Rule};
 
-/// The steps of a recording on three slots, and its break, the line by its name.
+/// The steps of a recording on three slots, and its break: the instant, the rule and the name of the line.
 type JudgedSteps = (&'static str, Option<(u32, Rule, &'static str)>);
 
 /// Recordings whose bus is granted to slot 2.
@@ -81,7 +81,7 @@ static WORKED: [JudgedSteps; 13] = [
     ),
 ];
 
-/// What a cycle holds may change once the bus is reset, and not before.
+/// The lines that a cycle needs may change once the bus is reset, and not before.
 static RESETS: [JudgedSteps; 2] = [
     (
         "quiet;AM1=0 AM2=0 A05=0;AS=0;SYSRESET=0;AS=1 A05=1;SYSRESET=1",
@@ -93,7 +93,7 @@ static RESETS: [JudgedSteps; 2] = [
     ),
 ];
 
-/// Whether this is found in a recording, and nothing is shown.
+/// Whether the monitor finds the break that is written with the recording, and shows no marks.
 fn is_judged(alloc: Global, worked: &JudgedSteps) -> bool {
     let (steps, want) = *worked;
     let first_break = match want {

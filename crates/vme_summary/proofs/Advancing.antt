@@ -1,4 +1,4 @@
--- A monitor is advanced along the steps from the memory that it is in.
+-- A monitor is advanced step by step from the memory (state of its automaton) that it is in.
 use Rattle.std.proofs.Common.{◌≡◌, ℕ, ◌+◌, List, [], ◌∷◌, ◌++◌, length, sym}
 use Rattle.std.proofs.Common.{ap, ◌∙◌}
 use Rattle.std.proofs.Common.{Option}
@@ -19,7 +19,7 @@ use Rattle.vme_monitor.specs.declared.view.StepView.{StepView}
 use Rattle.vme_summary.specs.Progressed.{HasMonitorState}
 use Rattle.vme_summary.specs.declared.monitor_states.MonitorState.{MonitorState}
 
--- one step more
+-- if a is the state of a monitor before a step, and b is a advanced by it, b is the state after the step
 pub led_on : {P : Type 0} (next : P → Levels → Levels → List Change → Next P) (begin : Levels
     → P) (a b : MonitorState P)
     (o : Levels) (x : List Step) (s : Step) (before after : Levels) (n : ℕ) → before ≡ levels_after o x
@@ -44,6 +44,6 @@ led_on {P} next begin a b o x s before after n here there count m e seen =
           ∙ sym (ap (λ (r : Outcome P). r.first_break) whole);
     }
 
--- what the lines are after a step
+-- the levels after a step are those before it, changed
 pub view_after : (v : StepView) (cs : List Change) → v ≡ seen_in v.before cs → v.after ≡ changed v.before cs
 view_after v cs e = ap (λ (w : StepView). w.after) e

@@ -1,4 +1,4 @@
--- Two extents, of blocks that join or don't.
+-- The extents of blocks, and whether the blocks of two join.
 use Rattle.std.proofs.Common.{◌≡◌, zero, suc, ◌+◌, ◌↔◌, IsTrue, Bool, true, false, List, [], ◌∷◌, ◌++◌, sym, ◌∙◌, ap}
 use Rattle.std.proofs.Common.{append-nil, subst, arith, Some, None}
 use Rattle.std.specs.Prelude.{All, option_map}
@@ -23,7 +23,7 @@ use Rattle.vme_summary.proofs.Times.{first_time-append, last_or-append, last_tim
 use Rattle.vme_summary.proofs.Chains.{Boundary, chain_joins, chain_of, joins_apart, joins_together, last_left}
 use Rattle.vme_summary.proofs.Chains.{last_number, left_after, left_by_all, number_after, steps-append}
 
--- what an extent says of the block at its head and of those that follow it
+-- what an extent e says of its first block a and of those after it
 record Reads (e : Extent) (a : Block) (rest : List Block) : Type 0 where
   first : a.number ≡ e.first
   last : number_after a.number rest ≡ e.last
@@ -85,7 +85,7 @@ extent_joined e f (a ∷ rest) (b ∷ bs) p q m =
           (joined_steps (a ∷ rest)) (joined_steps (b ∷ bs))));
     }
 
--- the lines that all steps leave are those that the last block leaves
+-- all steps of the blocks leave the lines that the last block leaves
 pub left_by_steps : (e : Extent) (x : List Block) → IsExtent e x → levels_after e.opening (joined_steps x) ≡ e.left
 left_by_steps e [] p = let none : None ≡ Some e.first = p.first in absurd (cc)
 left_by_steps e (a ∷ rest) p =
@@ -94,7 +94,7 @@ left_by_steps e (a ∷ rest) p =
     (joined_steps rest)
     ∙ left_by_all a.number (left_by a) (last_time a.steps) rest (chain_of a rest p.join) ∙ r.left
 
--- a test that tells whether extents meet tells whether their blocks join
+-- if a test of whether two extents meet fails, their blocks don't join
 pub test_torn : (e f : Extent) (test : Bool) (x y : List Block) → (IsTrue test ↔ Meets e f) → test ≡ false
     → IsExtent e x → IsExtent f y → ¬ BlocksJoin (x ++ y)
 test_torn e f test x y t off p q j = let on : test ≡ true = t.1 (join_meets e f x y p q j) in absurd (cc)
@@ -102,7 +102,7 @@ test_torn e f test x y t off p q j = let on : test ≡ true = t.1 (join_meets e 
 pub test_meets : (e f : Extent) (test : Bool) → (IsTrue test ↔ Meets e f) → test ≡ true → Meets e f
 test_meets e f test t on = t.0 on
 
--- a single block
+-- the list of a single block joins
 pub one_joins : (b : Block) → BlocksJoin (b ∷ [])
 one_joins b = chain_joins b [] tt
 
@@ -128,7 +128,7 @@ spans_joined s t e r same m both x y p q =
           (subst (λ steps. SummaryStandsFor r s.extent.opening steps) (sym (steps-append x y)) whole);
     }
 
--- two spans that meet make parts that stand for some blocks
+-- if two spans meet, their joined extent and summary stand for some blocks
 pub some_joined : (s t : Span) (e : Extent) (r : MonitorSummaries) → e ≡ joined_extent s.extent t.extent
     → Meets s.extent t.extent
     → SummaryStandsForBoth s.summary t.summary r → ∥ StandForBlocks e r ∥₁

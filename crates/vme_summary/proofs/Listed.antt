@@ -30,7 +30,8 @@ listing_at t judged first_break opening marks started first opens seen =
     let whole = marked_is_listed t in
     cc
 
--- it is made of what is found from the opening on, and of the marks
+-- the listing is made from what the monitors find from the opening on, and from the marks (events of the bus with their
+-- instants)
 pub listing_found : (s : MonitorSummaries) (o : Levels) (t : Trace) → StandsForAll s o t
     → (f : MonitorStates) → FindsFrom s o f
     → (judged : Bool) → ((t : Trace) → HasFoundAll f t → judged ≡ has_span (judged_spans t))
@@ -42,14 +43,14 @@ listing_found s o t all f finds judged started first_break first marks seen =
     ap in_newest_version (listing_at t judged first_break o marks (started t found) (first t found) all.opens
     (seen t all))
 
--- a law of the listings of recordings holds of it
+-- if the listings of all recordings of at most 21 slots and less than 2^32 steps are well placed, so is this one
 pub placed_found : (s : MonitorSummaries) (o : Levels) (t : Trace) → StandsForAll s o t → summary_steps s < 2 ^ 32
     → ((t : Trace) → t.opening.slots ≤ 21 → length t.steps < 2 ^ 32 → is_well_placed (listing_of t) ≡ true)
     → is_well_placed (listing_of t) ≡ true
 placed_found s o t all counted law = law t all.few (omega (arith, all.stands.known.counted, counted))
 
 module _ (s : Span) (few : s.extent.opening.slots ≤ 21) (listing : Listed) where
-  -- a listing of whatever recording a span's summary stands for is that of the recording that its blocks make
+  -- a listing of each recording that a span's summary stands for is the listing of the recording that its blocks make
   pub listing_joined : ((t : Trace) → StandsForAll s.summary s.extent.opening t → listing ≡ listing_of t)
       → IsListingOf s listing
   listing_joined is [] stands = let none : None ≡ Some s.extent.first = stands.extent.first in absurd (cc)

@@ -8,7 +8,7 @@ use Rattle.vme_summary.specs.Progressed.{HasMarked, IsMarkedOf, StandsSoFar}
 use Rattle.vme_summary.specs.declared.chunk_summary.ChunkSummary.{ChunkSummary}
 use Rattle.vme_summary.specs.declared.summary.MonitorSummaries.{MonitorSummaries}
 
--- what goes on past further steps knows the lines that they leave
+-- after further steps, the state of judging with marks has the lines that they leave
 pub marked_on : (j : ChunkSummary) (s : Option MonitorSummaries) (o : Levels) (x y : List Step)
     → StandsSoFar s o (x ++ y) → IsMarkedOf j (levels_after o x) y → HasMarked (record { left = j.left; summary = s }) o
     (x ++ y)

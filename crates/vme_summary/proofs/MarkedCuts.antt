@@ -1,4 +1,4 @@
--- The marks of a span before an instant.
+-- The marks (events of the bus) of a span before an instant.
 use Rattle.std.proofs.Common.{◌≡◌, ℕ, zero, suc, ◌+◌, ◌-◌, ◌<◌, ◌≤◌, Bool, true, false, ◌&&◌, List, [], ◌∷◌, ◌++◌, map}
 use Rattle.std.proofs.Common.{refl, sym, ◌∙◌, ap, arith, cond, append_assoc, append-nil}
 use Rattle.std.specs.Prelude.{nat_lt, nat_le}
@@ -15,7 +15,7 @@ use Rattle.vme_summary.specs.MarkedRows.{marks_before}
 le_fails : (i j : ℕ) → j < i → nat_le i j ≡ false
 le_fails i j h = grind (arith, nat_tests)
 
--- three tests, of which one fails
+-- three tests fail if the second fails, or (`third_fails`) the third
 second_fails : (a b c : Bool) → b ≡ false → (a && b && c) ≡ false
 second_fails true b c e = rw e refl
 second_fails false b c e = refl
@@ -25,18 +25,18 @@ third_fails true true c e = e
 third_fails true false c e = refl
 third_fails false b c e = refl
 
--- marks of an instant before the end are kept
+-- marks of an instant j before the end are kept
 cut_kept : (end j : ℕ) (ks : List MarkKind) (ms : List Mark) → j < end → marks_before end (map (mark_at j) ks ++ ms)
     ≡ map (mark_at j) ks ++ marks_before end ms
 cut_kept end j [] ms h = refl
 cut_kept end j (k ∷ ks) ms h = rw (lt_holds j end h) (ap (λ x. mark_at j k ∷ x) (cut_kept end j ks ms h))
 
--- and those of one from the end on aren't
+-- marks of an instant j from the end on aren't kept
 cut_none : (end j : ℕ) (ks : List MarkKind) → end ≤ j → marks_before end (map (mark_at j) ks) ≡ []
 cut_none end j [] h = refl
 cut_none end j (k ∷ ks) h = rw (lt_fails j end h) refl
 
--- where none of the last marks is kept, the others are cut
+-- if none of the last marks ys is kept, the kept marks are those of xs
 pub cut_first : (end : ℕ) (xs ys : List Mark) → marks_before end ys ≡ [] → marks_before end (xs ++ ys)
     ≡ marks_before end xs
 cut_first end [] ys h = h
@@ -67,7 +67,7 @@ module _ (span : Stretch) (shown : ℕ → StepMarks) where
   until_whole end = ap (marks_before end) (sym (append-nil (marks_until span shown end)))
       ∙ (until_kept end end [] (omega arith) ∙ append-nil (marks_until span shown end))
 
-  -- the marks before an instant are those that are shown until then
+  -- the marks before an instant are those of the instants before it
   until_cut : (end k : ℕ) → marks_before end (marks_until span shown (k + end)) ≡ marks_until span shown end
   until_cut end zero = ap (λ n. marks_before end (marks_until span shown n)) none ∙ until_whole end
     where
@@ -89,7 +89,7 @@ module _ (span : Stretch) (shown : ℕ → StepMarks) where
       whole : n ≡ (n - end) + end
       whole = omega arith
 
-  -- before the start there are none
+  -- before the start of a span there are no marks
   pub on_early : (n : ℕ) → n < span.start → marks_on span shown n ≡ []
   on_early n h = ap (λ c. cond c (map (mark_at n) (kinds_of (shown n))) [])
       (second_fails (nat_lt 0 n) (nat_le span.start n) (nat_le n span.end) (le_fails span.start n h))
@@ -99,7 +99,7 @@ module _ (span : Stretch) (shown : ℕ → StepMarks) where
   until_start (suc n) h = ap (λ ms. ms ++ marks_on span shown n) (until_start n (omega arith))
       ∙ on_early n (omega arith)
 
-  -- and none after the end
+  -- after the end of a span there are no marks
   on_late : (n : ℕ) → span.end < n → marks_on span shown n ≡ []
   on_late n h = ap (λ c. cond c (map (mark_at n) (kinds_of (shown n))) [])
       (third_fails (nat_lt 0 n) (nat_le span.start n) (nat_le n span.end) (le_fails n span.end h))
@@ -124,7 +124,7 @@ module _ (span : Stretch) (shown : ℕ → StepMarks) where
       whole : n ≡ (n - suc span.end) + suc span.end
       whole = omega arith
 
--- marks that are the same at each instant
+-- what is shown alike at each instant before n gives the same marks before n
 pub until_alike : (span : Stretch) (a b : ℕ → StepMarks) (n : ℕ) → ((j : ℕ) → j < n → a j ≡ b j) → marks_until span a n
     ≡ marks_until span b n
 until_alike span a b zero alike = refl

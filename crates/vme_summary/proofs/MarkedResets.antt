@@ -1,4 +1,4 @@
--- The marks after a reset say nothing of what is before it.
+-- The marks after a reset don't change the rows of those before it.
 use Rattle.std.proofs.Common.{◌≡◌, ℕ, Bool, false, ◌||◌, List, [], ◌∷◌, ◌++◌, refl, sym, ◌∙◌, ap, Option, Some, None}
 use Rattle.std.proofs.Common.{cond, append_assoc}
 use Rattle.std.specs.Option.{option_map_or, option_to_list}
@@ -43,7 +43,7 @@ module _ (w : ℕ) (rest : List Mark) where
       ∙ ap Some (transfer_is i (marked_direction write) (first_instant is_close ms) latest ms)
   row_is latest i ms k = refl
 
-  -- their rows, the reset, and the rows of the rest, to which no cycle is known
+  -- the rows of some marks, the row of the reset, and the rows of the rest, with no latest cycle
   pub rows_with_reset : (latest : Option ℕ) (ms : List Mark) → rows_of latest (with_reset ms) ≡ rows_of latest ms
       ++ row.Reset w ∷ rows_of None rest
   rows_with_reset latest [] = refl

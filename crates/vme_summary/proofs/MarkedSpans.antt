@@ -1,4 +1,4 @@
--- The rows of the marks of a span before an instant.
+-- The rows of the marks (events of the bus) of a span before an instant.
 use Rattle.std.proofs.Common.{◌≡◌, ℕ, zero, suc, ◌+◌, ◌<◌, ◌≤◌, Bool, true, false, ◌&&◌, List, [], ◌∷◌, ◌++◌, map, refl}
 use Rattle.std.proofs.Common.{sym, ◌∙◌, ap, arith, Option, None, cond, inl, inr, ◌⊎◌, append_assoc, append-nil}
 use Rattle.std.specs.Prelude.{◌==◌, nat_lt, nat_le}
@@ -37,7 +37,7 @@ not_equal_after i j h = grind (arith, nat_tests)
 before_or_from : (i s : ℕ) → (i < s) ⊎ (s ≤ i)
 before_or_from i s = grind arith
 
--- the marks of one instant
+-- the marks of instant j
 abbrev pub pieces : (ℕ → StepMarks) → ℕ → List Mark
 pieces shown j = map (mark_at j) (kinds_of (shown j))
 
@@ -48,7 +48,7 @@ module _ (shown : ℕ → StepMarks) (unreset : (j : ℕ) → (shown j).reset �
       ∙ (sym (append_assoc (pieces shown i) xs ys)
       ∙ ap (λ x. x ++ ys) (all_put_is i (shown i) xs (unreset i)))
 
-  -- one more instant at the end
+  -- the marks of n + 1 instants are those of n instants, and then those of the last one
   from_last : (n i : ℕ) → marks_from shown i (suc n) ≡ marks_from shown i n ++ pieces shown (i + n)
   from_last zero i = sym (all_put_is i (shown i) [] (unreset i))
       ∙ (append-nil (pieces shown i) ∙ ap (pieces shown) none)
@@ -64,7 +64,7 @@ module _ (shown : ℕ → StepMarks) (unreset : (j : ℕ) → (shown j).reset �
       more = omega arith
 
 module _ (t : Trace) (span : Stretch) where
-  -- what is shown at the opening
+  -- the marks of the opening, by whether judging starts there (b) and the bus is busy (c)
   opening_by : (b c : Bool) → cond b (mark_at 0 kind.Start ∷ cond c (mark_at 0 kind.Open ∷ []) []) [] ≡ map (mark_at 0)
       (kinds_of (record no_step_marks { start = b; opened = b && c }))
   opening_by true true = refl
@@ -79,7 +79,7 @@ module _ (t : Trace) (span : Stretch) where
       ∙ (opening_by (0 == span.start) (is_low (level_at t.opening BBSY))
       ∙ sym (ap (λ k. map (mark_at 0) (kinds_of k)) (plainly_unjudged t span 0 (not_judged t span 0 (omega arith)))))
 
-  -- before the start nothing is shown
+  -- before the start of the span nothing is shown
   pub nothing_early : (j : ℕ) → j < span.start → pieces (plainly t span) j ≡ []
   nothing_early j early = ap (λ k. map (mark_at j) (kinds_of k))
       (plainly_unjudged t span j (not_judged t span j (omega arith))) ∙ rw (not_equal j span.start early) refl
@@ -87,7 +87,7 @@ module _ (t : Trace) (span : Stretch) where
   tested : (a b c : Bool) → a ≡ true → b ≡ true → c ≡ true → (a && b && c) ≡ true
   tested a b c e f g = rw (e, f, g) refl
 
-  -- at any other instant before the end, the marks are what is shown
+  -- at any instant before the end but the opening, the marks are those of what is shown
   on_is : (j : ℕ) → 0 < j → j < span.end → marks_on span (plainly t span) j ≡ pieces (plainly t span) j
   on_is j later below =
       elim (before_or_from j span.start) [
@@ -96,7 +96,7 @@ module _ (t : Trace) (span : Stretch) where
             (nat_le j span.end) (lt_holds 0 j later) (le_holds span.start j from) (le_holds j span.end (omega arith)))
       ]
 
-  -- with what is shown at the opening, the marks are those of all instants
+  -- with the marks of the opening, the marks of the span up to n are those of the instants from 0 to n
   until_is : (n : ℕ) → suc n ≤ span.end → pieces (plainly t span) 0 ++ marks_until span (plainly t span) (suc n)
       ≡ marks_from (plainly t span) 0 (suc n)
   until_is zero below = all_put_is 0 (plainly t span 0) [] refl
@@ -116,13 +116,13 @@ module _ (t : Trace) (span : Stretch) where
   from_opening zero some below = absurd (omega arith)
   from_opening (suc n) some below = until_is n below
 
-  -- before the end of the span each instant shows what is plainly there
+  -- before the end of the span, all monitors show what `plainly` has
   over_is : (j : ℕ) → j < span.end → all_over t span j ≡ plainly t span j
   over_is j h = ap (λ b. cond b (all_shown t span j) (cond (is_reset_at t j) known_reset_marks no_step_marks))
       (lt_holds j span.end h) ∙ plainly_is t span j
 
   module _ (end : ℕ) (within : end ≤ span.end) where
-    -- the rows of so many instants from one on
+    -- the rows of n instants from i on
     abbrev rows_from : ℕ → ℕ → List Row
     rows_from i zero = []
     rows_from i (suc n) = start_row i (i == span.start)
@@ -142,7 +142,7 @@ module _ (t : Trace) (span : Stretch) where
     unfolding transfer_rows
     early_transfers i early = rw (no_transfer t span i (not_judged t span i (omega arith))) refl
 
-    -- the marks of so many instants after one, and the rows that it gives before them
+    -- the marks of n instants after i; below, the rows of the marks of i before them
     abbrev later : ℕ → ℕ → List Mark
     later i n = marks_from (plainly t span) (suc i) n
 
@@ -196,14 +196,14 @@ module _ (t : Trace) (span : Stretch) where
         ∙ ap (λ r. start_row i (i == span.start)
         ++ (tenure_rows t span end i ++ (cycle_rows t span end i ++ (transfer_rows t span end i ++ r)))) after))
 
-    -- the rows of the marks from an instant on are those of the instants
+    -- the rows of the marks of n instants from i on are the rows of these instants
     rows_found : (n i : ℕ) → i + n ≡ end → rows_of (latest t span i) (marks_from (plainly t span) i n) ≡ rows_from i n
     rows_found zero i e = refl
     rows_found (suc n) i e =
         let whole : suc i + n ≡ end = omega arith in
         instant_found i n whole (rows_found n (suc i) whole)
 
-    -- the listing's rows, joined to those from an instant on
+    -- an append of lists, regrouped
     joined : (b x y z r : List Row) → b ++ (x ++ (y ++ (z ++ r))) ≡ (b ++ x ++ y ++ z) ++ r
     joined b x y z r = simp append_assoc refl
 
@@ -291,7 +291,7 @@ module _ (t : Trace) (span : Stretch) where
         whole : 0 + end ≡ end
         whole = omega arith
 
-  -- the rows of the marks before an instant, with what is shown at the opening
+  -- the rows of the marks before `end`, with those of the opening
   pub rows_until : (end : ℕ) → span.start < end → end ≤ span.end
       → rows_of None (pieces (plainly t span) 0 ++ marks_until span (all_over t span) end) ≡ row.Start span.start
       ∷ rows_before t span end end

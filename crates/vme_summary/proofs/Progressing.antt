@@ -1,4 +1,4 @@
--- Judging goes on past further blocks, and past further steps.
+-- Judging continues with further blocks, and with further steps.
 use Rattle.std.proofs.Common.{◌≡◌, ℕ, ◌+◌, ◌≤◌, List, [], ◌∷◌, ◌++◌, length, length-append, sym, ◌∙◌, ap, subst, refl}
 use Rattle.std.proofs.Common.{Some, None}
 use Rattle.std.specs.Option.{option_map}
@@ -32,7 +32,7 @@ use Rattle.vme_summary.proofs.Chains.{steps-append}
 use Rattle.vme_summary.proofs.Extents.{extent_joined, left_by_steps}
 use Rattle.vme_summary.proofs.Whole.{joined_sound}
 
--- what a monitor sees of further steps from the memory that it is in
+-- the state of a monitor after further steps, from its memory (the state of its automaton) before them
 pub seen_after : {P : Type 0} (next : P → Levels → Levels → List Change → Next P) (begin : Levels → P)
     (says : P → Outcome P) (count n : ℕ) (a b : MonitorState P) (o : Levels) (x y : List Step)
     → b.memory ≡ (says a.memory).leaving → b.first_break ≡ earlier a.first_break
@@ -94,7 +94,7 @@ past_recording p few v found (b ∷ bs) c =
       found_there = subst (λ (v : Levels). HasFound p.found v (joined_steps (b ∷ bs))) same c.found;
     }))
 
--- how many steps there are
+-- how many steps the judged blocks have
 pub come_steps : (p : RunningVerdict) (blocks : List Block) → HasCome p blocks → judged_steps p
     ≡ length (joined_steps blocks)
 come_steps p blocks c = c.steps
@@ -102,15 +102,15 @@ come_steps p blocks c = c.steps
 pub span_steps : (s : Span) (blocks : List Block) → SpanStandsFor s blocks → step_count s ≡ length (joined_steps blocks)
 span_steps s blocks p = p.summary.known.counted
 
--- the number that a span starts at
+-- a span starts at the number of its first block
 pub span_first : (s : Span) (b : Block) (bs : List Block) → SpanStandsFor s (b ∷ bs) → first_number s ≡ b.number
 span_first s b bs p = let first : Some b.number ≡ Some s.extent.first = p.extent.first in cc
 
--- blocks that judging has come past join
+-- blocks that have been judged join
 pub come_join : (p : RunningVerdict) (blocks : List Block) → HasCome p blocks → BlocksJoin blocks
 come_join p blocks c = c.extent.join
 
--- judging goes on past further steps
+-- the state of judging after further steps, by their summary
 pub judged_on : (j : VerdictState) (m : ChunkSummary) (n : ℕ) (f : MonitorStates) → n ≡ j.steps + summary_steps
     m.summary → FoundAfter j.found j.steps m.summary f
     → (o : Levels) (x y : List Step) → HasJudged j o x → IsFoundOf m (levels_after o x) y

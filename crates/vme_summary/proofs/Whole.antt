@@ -39,7 +39,7 @@ head_sound b bs all = all 0 b (omega arith)
 no_steps : (v : Levels) → malformed_step (record { opening = v; steps = [] }) ≡ None
 no_steps v = stands_sound v [] tt
 
--- what is later than a time is later than the last of some steps, whatever that time is
+-- blocks that continue some steps begin later than the last of these steps, whatever the time t before them is
 later_own : (steps : List Step) (t : Option ℕ) (bs : List Block) (n : ℕ) (v : Levels)
     → GoOn n v (option_or (last_time steps) t) bs → is_later_time (last_time steps) (first_time (joined_steps bs))
     ≡ true
@@ -106,7 +106,7 @@ judged_none : (spans : List Stretch) (t : Trace) → has_span spans ≡ false �
 judged_none [] t e = refl
 judged_none (span ∷ spans) t e = absurd (cc)
 
--- the verdict where something is judged
+-- the verdict if something is judged
 pub judged_verdict : (t : Trace) (judged : Bool) (first_break : Option Break) → judged ≡ has_span (judged_spans t)
     → first_break
     ≡ first_break_of t → judged ≡ true → verdict_by rules_in_force t ≡ verdict_on first_break
@@ -114,13 +114,13 @@ unfolding verdict_by
 judged_verdict t judged first_break started first on = judged_some (judged_spans t) t (sym started ∙ on)
     ∙ ap verdict_on (sym first)
 
--- and where nothing is
+-- the verdict if nothing is judged
 pub waiting_verdict : (t : Trace) (judged : Bool) → judged ≡ has_span (judged_spans t) → judged ≡ false
     → verdict_by rules_in_force t ≡ NeverIdle
 unfolding verdict_by
 waiting_verdict t judged started off = judged_none (judged_spans t) t (sym started ∙ off)
 
--- what monitors that begin at an opening find of all steps of a summary
+-- f has what the monitors that begin at the opening o find of the steps that s covers
 abbrev pub FindsFrom : MonitorSummaries → Levels → MonitorStates → Type 0
 FindsFrom s o f = (x : List Step) → SummaryFindsFor s o x → HasFound f o x
 

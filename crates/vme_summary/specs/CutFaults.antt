@@ -1,4 +1,4 @@
--- Which cuts of a recording there are not: a block has 1 to 65,536 steps, and there are at most 4,096 blocks.
+-- Which cuts of a recording are refused: a block has 1 to 65,536 steps, and there are at most 4,096 blocks.
 use Rattle.std.specs.Prelude.{◌≡◌, ℕ, ◌<◌, ◌≤◌, ◌⊎◌}
 use Rattle.vme_trace.specs.Blocks.{block_count}
 use Rattle.vme_trace.specs.Trace.{Trace}

@@ -18,13 +18,13 @@ pub record IsExtent (e : Extent) (blocks : List Block) : Type 0 where
   pub starts : e.starts ≡ first_time (joined_steps blocks)
   pub ends : e.ends ≡ last_time (joined_steps blocks)
 
--- an extent goes on where another ends
+-- the extent b continues where a ends
 pub record Meets (a b : Extent) : Type 0 where
   pub numbered : b.first ≡ a.last + 1
   pub opened : b.opening ≡ a.left
   pub later : is_later_time a.ends b.starts ≡ true
 
--- two extents made one
+-- the extent of the blocks of a and then those of b
 abbrev pub joined_extent : Extent → Extent → Extent
 joined_extent a b =
     record {

@@ -1,4 +1,4 @@
--- Room to take over a summary: for each of its tables.
+-- Room to take over the summary `second`: for each of its tables.
 use Rattle.vme_monitor.specs.WholeTables.{HasRoomFor}
 use Rattle.vme_summary.specs.declared.summary.Room.{Room}
 use Rattle.vme_summary.specs.declared.summary.MonitorSummaries.{MonitorSummaries}

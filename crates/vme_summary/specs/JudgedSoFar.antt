@@ -1,4 +1,4 @@
--- A recording that is judged as it is made.
+-- A recording that is judged as its steps come.
 use Rattle.std.specs.Prelude.{◌≡◌, ℕ, ◌+◌, ◌≤◌, List, ◌++◌, length, min}
 use Rattle.vme_trace.specs.Levels.{Levels}
 use Rattle.vme_trace.specs.Trace.{levels_after}
@@ -6,13 +6,15 @@ use Rattle.vme_trace.specs.WellFormed.{capture_limit}
 use Rattle.vme_trace.specs.declared.step.Step.{Step}
 use Rattle.vme_summary.specs.declared.chunk_summary.ChunkSummary.{ChunkSummary}
 
--- so many steps as a recording may have were judged, but for those that wait; what judges is past steps as this says
+-- `count` is the number of steps taken, at most `capture_limit` + 1; if these are at most `capture_limit`, all but the
+-- waiting ones have been judged, as `IsPast` says
 pub record KeepsUp (IsPast : Levels → List Step → Type 0) (count : ℕ) (opening : Levels)
     (taken waiting : List Step) : Type 0 where
   pub counted : count ≡ min (length taken) (capture_limit + 1)
   pub kept : length taken ≤ capture_limit → (done : List Step) × IsPast opening done × (done ++ waiting ≡ taken)
 
--- a part was judged by itself, if a recording may have so many steps; what judges says so of this judgement
+-- `count` is the number of steps of a part, at most `capture_limit` + 1; if these are at most `capture_limit`, the part
+-- was judged by itself, as `IsMadeOf` says
 pub record IsPart (IsMadeOf : ChunkSummary → Levels → List Step → Type 0) (chunk_summary : ChunkSummary) (count : ℕ)
     (opening : Levels) (taken : List Step) (left : Levels) : Type 0 where
   pub counted : count ≡ min (length taken) (capture_limit + 1)

@@ -1,4 +1,4 @@
--- What steps mean to each monitor, from a memory and the lines before them.
+-- The outcome of steps for each monitor, from a memory (state of its automaton) and the levels before them.
 use Rattle.std.specs.Prelude.{List}
 use Rattle.vme_trace.specs.Levels.{Levels}
 use Rattle.vme_trace.specs.declared.step.Step.{Step}

@@ -1,4 +1,4 @@
--- What a listing tells of the recording that a span stands for.
+-- What a listing says of the recording that a span stands for.
 use Rattle.std.specs.Prelude.{◌≡◌, List, Some}
 use Rattle.vme_trace.specs.Trace.{Trace}
 use Rattle.vme_trace.specs.Verdict.{verdict}
@@ -9,7 +9,7 @@ use Rattle.vme_summary.specs.Joins.{joined_trace}
 use Rattle.vme_summary.specs.Stands.{SpanStandsFor}
 use Rattle.vme_summary.specs.declared.span.Span.{Span}
 
--- the edges of the recording that a span's blocks make split into what the listing tells
+-- the edges of the recording that a span's blocks make split into what the rows of the listing list
 abbrev pub SplitsItsRecording : Span → Listed → Type 0
 SplitsItsRecording s listing =
     (blocks : List Block) (t : Trace) → SpanStandsFor s blocks → joined_trace blocks ≡ Some t

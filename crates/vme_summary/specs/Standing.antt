@@ -1,4 +1,4 @@
--- What an extent and a summary together say of blocks.
+-- For which blocks an extent and a summary together stand.
 use Rattle.std.specs.Prelude.{List}
 use Rattle.vme_trace.specs.Blocks.{joined_steps}
 use Rattle.vme_trace.specs.declared.block.Block.{Block}
@@ -7,11 +7,12 @@ use Rattle.vme_summary.specs.Summaries.{SummaryStandsFor}
 use Rattle.vme_summary.specs.declared.extent.Extent.{Extent}
 use Rattle.vme_summary.specs.declared.summary.MonitorSummaries.{MonitorSummaries}
 
--- they stand for blocks: these have the extent, and the summary is one of all their steps, after the first opening
+-- an extent and a summary stand for blocks: these have the extent, and the summary is one of all their steps, after the
+-- first opening
 pub record StandFor (e : Extent) (s : MonitorSummaries) (blocks : List Block) : Type 0 where
   pub extent : IsExtent e blocks
   pub summary : SummaryStandsFor s e.opening (joined_steps blocks)
 
--- they stand for some blocks
+-- an extent and a summary stand for some blocks
 abbrev pub StandForBlocks : Extent → MonitorSummaries → Type 0
 StandForBlocks e s = (blocks : List Block) × StandFor e s blocks

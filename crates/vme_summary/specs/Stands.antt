@@ -1,4 +1,4 @@
--- What a span says of blocks.
+-- For which blocks a span stands, and what it gives of them.
 use Rattle.std.specs.Prelude.{◌≡◌, ◌↔◌, ℕ, ◌≤◌, List, [], ◌∷◌, ◌++◌, length, Option, Some, None, option_map}
 use Rattle.vme_trace.specs.Trace.{Trace}
 use Rattle.vme_trace.specs.WellFormed.{malformed_step}
@@ -17,7 +17,7 @@ use Rattle.vme_summary.specs.declared.span.Span.{Span}
 abbrev pub SpanStandsFor : Span → List Block → Type 0
 SpanStandsFor s blocks = StandFor s.extent s.summary blocks
 
--- it stands for some blocks
+-- a span stands for some blocks
 abbrev pub StandsForBlocks : Span → Type 0
 StandsForBlocks s = StandForBlocks s.extent s.summary
 
@@ -25,28 +25,28 @@ StandsForBlocks s = StandForBlocks s.extent s.summary
 abbrev pub first_number : Span → ℕ
 first_number s = s.extent.first
 
--- how many steps a span is of
+-- how many steps a span covers
 abbrev pub step_count : Span → ℕ
 step_count s = summary_steps s.summary
 
--- for whatever blocks two spans stand, a third stands for the blocks of both
+-- for all blocks x and y for which s and t stand, r stands for x and then y
 abbrev pub StandsForBoth : Span → Span → Span → Type 0
 StandsForBoth s t r = (x y : List Block) → SpanStandsFor s x → SpanStandsFor t y → SpanStandsFor r (x ++ y)
 
--- for whatever blocks two spans stand, this says that those of both don't join
+-- for all blocks x and y for which s and t stand, `torn` is so exactly if x and then y don't join
 abbrev pub SaysTorn : Type 0 → Span → Span → Type 0
 SaysTorn torn s t = (x y : List Block) → SpanStandsFor s x → SpanStandsFor t y → (torn ↔ ¬ BlocksJoin (x ++ y))
 
--- something of the recording that blocks make, if there are any
+-- f of the recording that blocks make, if there are any blocks
 abbrev pub recorded : {A : Type 0} → (Trace → A) → List Block → Option A
 recorded f blocks = option_map f (joined_trace blocks)
 
--- this is the verdict, by the rules in force, of the recording that a span's blocks make
+-- v is the verdict, by the rules in force, of the recording that a span's blocks make
 abbrev pub IsVerdictOf : Span → Verdict → Type 0
 IsVerdictOf s v =
     (blocks : List Block) → SpanStandsFor s blocks → recorded (verdict_by rules_in_force) blocks ≡ Some v
 
--- this is the listing of the recording that a span's blocks make
+-- `listing` is the listing of the recording that a span's blocks make
 abbrev pub IsListingOf : Span → Listed → Type 0
 IsListingOf s listing = (blocks : List Block) → SpanStandsFor s blocks → recorded listing_of blocks ≡ Some listing
 

@@ -1,4 +1,4 @@
--- What a summary stands for: steps after an opening, whatever memories enter.
+-- What a summary stands for: steps after an opening, for all entering memories (states of the monitors' automata).
 use Rattle.std.specs.Prelude.{◌≡◌, ◌↔◌, ℕ, ◌≤◌, List, ◌++◌, Option, None}
 use Rattle.vme_trace.specs.Levels.{Levels}
 use Rattle.vme_trace.specs.Trace.{Trace, levels_after}
@@ -36,8 +36,8 @@ abbrev pub acknowledge_outcome : MonitorSummaries → StretchPhase Acknowledgeme
     → Outcome (StretchPhase Acknowledgement)
 acknowledge_outcome s p = table_outcome s.acknowledge p
 
--- it stands for these steps after that opening: from each memory that enters, each table gives what its monitor's run
--- gives
+-- s stands for the steps x after the opening o: for each entering memory, each table gives the outcome of its monitor's
+-- run
 pub record SummaryStandsFor (s : MonitorSummaries) (o : Levels) (x : List Step) : Type 0 where
   pub known : StandsFor known_run (known_outcome s) (table_steps s.known) o x
   pub handshake : StandsFor handshake_run (handshake_outcome s) (table_steps s.handshake) o x
@@ -45,8 +45,8 @@ pub record SummaryStandsFor (s : MonitorSummaries) (o : Levels) (x : List Step) 
   pub grant : StandsFor grant_run (grant_outcome s) (table_steps s.grant) o x
   pub acknowledge : StandsFor acknowledge_run (acknowledge_outcome s) (table_steps s.acknowledge) o x
 
--- it finds what these steps after that opening do: from each memory that enters, each table gives the memory that is
--- left and the first break of its monitor's run
+-- s finds what the steps x after the opening o do: for each entering memory, each table gives the leaving memory and
+-- the first break of its monitor's run
 pub record SummaryFindsFor (s : MonitorSummaries) (o : Levels) (x : List Step) : Type 0 where
   pub known : FindsFor known_run (known_outcome s) (table_steps s.known) o x
   pub handshake : FindsFor handshake_run (handshake_outcome s) (table_steps s.handshake) o x
@@ -54,7 +54,7 @@ pub record SummaryFindsFor (s : MonitorSummaries) (o : Levels) (x : List Step) :
   pub grant : FindsFor grant_run (grant_outcome s) (table_steps s.grant) o x
   pub acknowledge : FindsFor acknowledge_run (acknowledge_outcome s) (table_steps s.acknowledge) o x
 
--- one that stands for steps finds what they do
+-- a summary that stands for steps finds what they do
 pub stands_finds_all : {s : MonitorSummaries} {o : Levels} {x : List Step} → SummaryStandsFor s o x → SummaryFindsFor s
     o x
 stands_finds_all p =
@@ -66,21 +66,21 @@ stands_finds_all p =
       acknowledge = stands_finds p.acknowledge;
     }
 
--- of how many steps it is
+-- how many steps a summary covers
 abbrev pub summary_steps : MonitorSummaries → ℕ
 summary_steps s = table_steps s.known
 
--- two stand for the same steps
+-- s and r stand for the same steps
 abbrev pub StandAlike : MonitorSummaries → MonitorSummaries → Type 0
 StandAlike s r = (o : Levels) (x : List Step) → (SummaryStandsFor s o x ↔ SummaryStandsFor r o x)
 
--- where two stand for steps that follow one another, a third stands for those of both
+-- if s stands for some steps, and t for the steps after them, r stands for the steps of both
 abbrev pub SummaryStandsForBoth : MonitorSummaries → MonitorSummaries → MonitorSummaries → Type 0
 SummaryStandsForBoth s t r =
     (o : Levels) (x y : List Step)
     → SummaryStandsFor s o x → SummaryStandsFor t (levels_after o x) y → SummaryStandsFor r o (x ++ y)
 
--- it stands for all steps of a well-formed recording, which has this opening
+-- s stands for all steps of the well-formed recording t, whose opening is `opening`
 pub record StandsForAll (s : MonitorSummaries) (opening : Levels) (t : Trace) : Type 0 where
   pub sound : malformed_step t ≡ None
   pub few : t.opening.slots ≤ 21

@@ -1,4 +1,4 @@
-//! What judges a recording, some steps at once.
+//! Judging a recording in order, some steps at a time.
 
 ghost use Rattle.std.specs.Prelude.{◌≡◌, ◌+◌, ◌≤◌, List, [], ◌++◌, length, IfOk, OnErr, OnOk};
 ghost use Rattle.vme_trace.specs.Levels.{Levels};
@@ -13,16 +13,17 @@ use vme_trace::{Lines, Step};
 /// How many steps a recording has at most.
 pub(crate) const MOST_STEPS: u32 = 268435456;
 
-/// What judges a recording from its opening on, some steps at once: from where it has come to, or whatever stood before
-/// them, and then it goes past them.
+/// Judges a recording from its opening on, some steps at a time. `go_on` judges the next steps from the state after
+/// those before. `judge` judges steps by themselves, whatever is before them, and `pass` takes its result where they
+/// are the next.
 pub trait ChunkJudge: Drop {
-    /// It has come past these steps after that opening.
+    /// These steps after that opening have been judged.
     ghost is_past: { Self → Levels → List Step → Type 0 };
 
-    /// These steps after that opening were judged by themselves, and this is what they do.
+    /// The summary is that of these steps after that opening, judged by themselves.
     ghost is_made_of: { ChunkSummary → Levels → List Step → Type 0 };
 
-    /// Before the first step.
+    /// A judge that has judged no steps.
     fn at(opening: &Lines) -> Self
         ensures { is_past result opening.now [] };
 
@@ -30,14 +31,14 @@ pub trait ChunkJudge: Drop {
     fn left(&self) -> &Lines
         ensures { (o : Levels) (x : List Step) → is_past self.now o x → result.now ≡ levels_after o x };
 
-    /// Judges steps by themselves: of what stands before them no more is known than the lines that it leaves.
+    /// Judges steps by themselves: of what is before them only the lines that it leaves, `opening`, are known.
     fn judge(alloc: Global, opening: &Lines, steps: &[Step]) -> Result<ChunkSummary, AllocError>
         requires { length steps.now ≤ 268435456 }
         ensures made { IfOk result (λ chunk_summary. is_made_of chunk_summary opening.now steps.now) }
         ensures left { IfOk result (λ chunk_summary. chunk_summary.left ≡ levels_after opening.now steps.now) };
 
-    /// Past the steps that follow, which were judged by themselves: there are at most 268,435,456 in all. Without
-    /// memory it stays where it is.
+    /// Takes the next steps, which were judged by themselves. There are at most 268,435,456 steps in all. If an
+    /// allocation fails, the same steps as before have been judged.
     fn pass(&mut self, alloc: Global, chunk_summary: ChunkSummary) -> Result<(), AllocError>
         requires { (o : Levels) × (x : List Step) × (y : List Step) × is_past self.old o x
             × is_made_of chunk_summary (levels_after o x) y × (length x + length y ≤ 268435456) }
@@ -45,8 +46,8 @@ pub trait ChunkJudge: Drop {
             → is_past self.old o x → is_made_of chunk_summary (levels_after o x) y → is_past self.new o (x ++ y)) }
         ensures stays { OnErr result ((o : Levels) (x : List Step) → is_past self.old o x → is_past self.new o x) };
 
-    /// Past the steps that follow, which are judged from where it has come to: there are at most 268,435,456 in all.
-    /// Without memory it stays where it is.
+    /// Judges the next steps from the state after those before. There are at most 268,435,456 steps in all. If an
+    /// allocation fails, the same steps as before have been judged.
     fn go_on(&mut self, alloc: Global, steps: &[Step]) -> Result<(), AllocError>
         requires { (o : Levels) × (x : List Step) × is_past self.old o x
             × (length x + length steps.now ≤ 268435456) }

@@ -1,9 +1,10 @@
-//! Some steps that were judged by themselves.
+//! The summary of steps that were judged by themselves.
 
 use crate::summary::MonitorSummaries;
 use vme_trace::Lines;
 
-/// What some steps do, whatever stood before them, and the lines that they leave.
+/// The summary of some steps for all entering memories (states of the monitors' automata), and the lines that the steps
+/// leave.
 #[derive(Drop)]
 pub struct ChunkSummary {
     pub(crate) summary: MonitorSummaries,

@@ -20,7 +20,7 @@ const LONGEST: u32 = 65536;
 /// How many blocks a capture is cut into at most.
 const MOST_BLOCKS: usize = 4096;
 
-/// Whether `Capture::cut` takes this size, and the number of blocks of so many steps that the capture fills.
+/// Checks that `Capture::cut` takes `size`, and the number of blocks of `size` steps that `capture` fills.
 fn check_size(capture: &Capture, size: u32) -> Result<(), CutFault>
     ensures bad_size { (result ≡ Err CutFault.BadSize) ↔ IsBadSize size }
     ensures too_many { (result ≡ Err CutFault.TooManyBlocks) ↔ HasTooManyBlocks size capture.now }
@@ -34,7 +34,7 @@ fn check_size(capture: &Capture, size: u32) -> Result<(), CutFault>
     Ok(())
 }
 
-/// What judged all steps of a capture, block by block.
+/// The judge that has judged all steps of `capture`, block by block.
 fn judged_by_blocks<J: ChunkJudge>(
     alloc: Global,
     capture: &Capture,
@@ -56,9 +56,9 @@ fn judged_by_blocks<J: ChunkJudge>(
     Ok(judging)
 }
 
-/// The verdict on a capture by the rules in force: it is cut into blocks of `size` steps, 1 to 65,536, at most 4,096 of
-/// them, and judging goes on past one after the other. No marks are made, and nothing is kept of a block. Memory stands
-/// for want of memory in any of this.
+/// The verdict on a capture by the rules in force. The capture is cut into blocks of `size` steps, 1 to 65,536, at most
+/// 4,096 of them, which are judged in order. No marks (events of the bus) are made, and nothing is kept of a block.
+/// `Memory` says that an allocation failed.
 pub fn verdict_by_blocks(alloc: Global, capture: &Capture, size: u32) -> Result<Verdict, CutFault>
     ensures bad_size { (result ≡ Err CutFault.BadSize) ↔ IsBadSize size }
     ensures too_many { (result ≡ Err CutFault.TooManyBlocks) ↔ HasTooManyBlocks size capture.now }
@@ -72,7 +72,7 @@ pub fn verdict_by_blocks(alloc: Global, capture: &Capture, size: u32) -> Result<
 }
 
 /// The listing of a capture by the rules in force: its tenures, cycles and transfers before the least break, and the
-/// verdict. It is cut so too, with the same faults; the blocks are judged with their marks, which are kept.
+/// verdict. The capture is cut as by `verdict_by_blocks`, with the same faults. The marks of the blocks are kept.
 pub fn listing_by_blocks(alloc: Global, capture: &Capture, size: u32) -> Result<Listing, CutFault>
     ensures bad_size { (result ≡ Err CutFault.BadSize) ↔ IsBadSize size }
     ensures too_many { (result ≡ Err CutFault.TooManyBlocks) ↔ HasTooManyBlocks size capture.now }

@@ -1,4 +1,4 @@
-//! Five monitors that are advanced along the steps at once.
+//! Five monitors that are advanced in one pass over the steps.
 
 ghost use Rattle.std.specs.Prelude.{◌≡◌, ◌≤◌, ◌∷◌, ◌++◌, [], IfOk, List, OnOk, length};
 ghost use Rattle.vme_trace.specs.Levels.{Levels};
@@ -13,22 +13,22 @@ use vme_monitor::stepping::Stepping;
 use vme_monitor::view::StepView;
 use vme_trace::{Lines, Step};
 
-/// Something of each of the five monitors.
+/// A value for each of the five monitors.
 #[derive(Drop)]
 pub struct EachMonitor<A: Drop, B: Drop, C: Drop, D: Drop, E: Drop> {
-    /// Of the one that reads levels.
+    /// For the monitor of the start and end of judging, and of lost control lines.
     pub known: A,
-    /// Of the one of strobes and answers.
+    /// For the monitor of strobes and answers.
     pub handshake: B,
-    /// Of the one of levels that have to stay.
+    /// For the monitor of lines that have to be known and held.
     pub stability: C,
-    /// Of the one of bus grants.
+    /// For the monitor of bus grants.
     pub grant: D,
-    /// Of the one of interrupts that are acknowledged.
+    /// For the monitor of interrupt acknowledges.
     pub acknowledge: E,
 }
 
-/// What five monitors know of no steps.
+/// The progress of five monitors before the first step.
 fn begin_monitors<A: Stepping, B: Stepping, C: Stepping, D: Stepping, E: Stepping>(
     alloc: Global,
 ) -> Result<
@@ -78,8 +78,8 @@ fn step_monitors<A: Stepping, B: Stepping, C: Stepping, D: Stepping, E: Stepping
     E::go_on(alloc, &mut all.acknowledge, view, step, instant)
 }
 
-/// The summary of each of five monitors of the steps after an opening, and the lines that the last step leaves. All of
-/// them are led along the steps at once. The only error is want of memory.
+/// The summaries of the steps after an opening by five monitors, and the lines that the last step leaves. One pass over
+/// the steps advances all of them. The only error is that an allocation fails.
 pub fn summarise_monitors<A: Stepping, B: Stepping, C: Stepping, D: Stepping, E: Stepping>(
     alloc: Global,
     opening: &Lines,

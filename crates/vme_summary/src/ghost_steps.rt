@@ -7,7 +7,7 @@ ghost use Rattle.vme_trace.specs.declared.step.Step.{Step};
 use std::marker::Model;
 use vme_trace::Step;
 
-/// Steps, one after the other. Clauses read them; in the program they are nothing.
+/// Steps, one after the other. Only clauses read them; the program holds nothing of them.
 #[derive(Drop)]
 pub struct GhostSteps {
     pub ghost items: { List Step },
@@ -21,21 +21,21 @@ impl Model for GhostSteps {
 unsafe impl Send for GhostSteps {}
 
 impl GhostSteps {
-    /// No step was taken.
+    /// No steps.
     pub fn new() -> GhostSteps
         ensures { result.items ≡ [] }
     {
         GhostSteps {}
     }
 
-    /// One more was taken.
+    /// The steps so far, and then `step`.
     pub fn and(&self, step: &Step) -> GhostSteps
         ensures { result.items ≡ self.now.items ++ step.now ∷ [] }
     {
         GhostSteps {}
     }
 
-    /// These were taken.
+    /// The steps of a slice.
     pub fn of(steps: &[Step]) -> GhostSteps
         ensures { result.items ≡ steps.now }
     {
@@ -46,7 +46,7 @@ impl GhostSteps {
         taken
     }
 
-    /// And then others.
+    /// The steps so far, and then those of `more`.
     pub fn and_all(&self, more: &GhostSteps) -> GhostSteps
         ensures { result.items ≡ self.now.items ++ more.now.items }
     {

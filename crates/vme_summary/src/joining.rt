@@ -1,4 +1,4 @@
-//! One span of two whose blocks follow one another.
+//! Joining two spans whose blocks follow one another.
 
 ghost use Rattle.std.specs.Prelude.{◌≡◌, ◌+◌, ◌≤◌, ◌↔◌, List, IfOk, IfErr, Err};
 ghost use Rattle.vme_trace.specs.declared.block.Block.{Block};
@@ -11,18 +11,18 @@ use crate::span::Span;
 use crate::summary::MonitorSummaries;
 use std::alloc::Global;
 
-/// Why two spans make none together.
+/// Why two spans aren't joined.
 #[derive(Clone, Copy, Debug, PartialEq, Eq)]
 pub enum JoinFault {
-    /// The second doesn't go on where the first ends: its first number isn't the next, it doesn't open with the lines
-    /// that the first leaves, slots included, or its first step isn't later than the last one before it.
+    /// The second span doesn't continue where the first ends: its first number isn't the next, it doesn't open with the
+    /// lines that the first leaves, slots included, or its first step isn't later than the last one before it.
     Torn,
-    /// There is no memory.
+    /// An allocation failed.
     Memory,
 }
 
-/// One span of two, the second of which goes on where the first ends. They have at most 268,435,456 steps together.
-/// Torn goes before Memory.
+/// The span of the blocks of `first` and then those of `second`, which continues where `first` ends. They have at most
+/// 268,435,456 steps together. `Torn` takes precedence over `Memory`.
 pub fn join(alloc: Global, first: &Span, second: &Span) -> Result<Span, JoinFault>
     requires { step_count first.now + step_count second.now ≤ 268435456 }
     ensures starts { IfOk result (λ s. first_number s ≡ first_number first.now) }
@@ -42,8 +42,8 @@ pub fn join(alloc: Global, first: &Span, second: &Span) -> Result<Span, JoinFaul
     })
 }
 
-/// The same of two spans that are given away: what they hold is taken over, not copied, and all memory is taken before
-/// anything is moved. Where they make none together, both are handed back: the first stands for what it stood for, and
+/// Joins two spans as `join` does, and consumes them: what they hold is moved, not copied. All memory is allocated
+/// before anything is moved. With an error both are handed back: the first stands for the same blocks as before, and
 /// the second is as it was.
 pub fn append(alloc: Global, first: Span, second: Span) -> Result<Span, (Span, Span, JoinFault)>
     requires { step_count first + step_count second ≤ 268435456 }

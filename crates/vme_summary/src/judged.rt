@@ -51,7 +51,7 @@ impl Judged {
         &self.span
     }
 
-    /// The block again.
+    /// The block, without the span.
     pub fn into_block(self) -> Block
         ensures { result ≡ self }
     {
@@ -73,8 +73,8 @@ impl Judged {
     }
 }
 
-/// Judges a block, whatever stood before it. It has to be one that `Block::check` accepts, of at most 65,536 steps. The
-/// only error is want of memory: the block is then handed back as it was.
+/// Judges a block, whatever came before it. It has to be one that `Block::check` accepts, of at most 65,536 steps. The
+/// only error is that an allocation fails: the block is then handed back as it was.
 pub fn judge_block(alloc: Global, block: Block) -> Result<Judged, (Block, AllocError)>
     requires accepted { malformed_step (trace_of block) ≡ None }
     requires short { length block.steps ≤ 65536 }
@@ -87,7 +87,7 @@ pub fn judge_block(alloc: Global, block: Block) -> Result<Judged, (Block, AllocE
     }
 }
 
-/// The span of a block of these steps, whatever stood before it.
+/// The span of a block of `steps`, whatever came before it.
 fn span_of_steps(
     alloc: Global,
     number: u32,

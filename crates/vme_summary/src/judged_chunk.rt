@@ -10,11 +10,11 @@ use std::alloc::{AllocError, Global};
 use std::marker::{Model, PhantomData};
 use vme_trace::{Lines, Step};
 
-/// Steps that were judged by themselves, whatever stands before them, but for the lines that it leaves. Contracts see
-/// these lines and the steps, as the recording that they are; of the steps themselves nothing is kept.
+/// Steps that were judged by themselves: of what is before them only the lines that it leaves are known. Contracts see
+/// these lines and the steps as a recording. Of the steps themselves nothing is kept.
 #[derive(Drop)]
 pub struct JudgedChunk<J: ChunkJudge> {
-    /// How many steps there are, or one over the most.
+    /// How many steps there are, at most `MOST_STEPS + 1`.
     pub(crate) count: u32,
     opening: Lines,
     /// The lines that the steps leave.
@@ -47,8 +47,8 @@ fn left_by(lines: &Lines, steps: &[Step]) -> Lines
 }
 
 impl<J: ChunkJudge> JudgedChunk<J> {
-    /// Judges steps by themselves, which follow these lines: of a recording's most, 268,435,456, the first. The only
-    /// error is want of memory.
+    /// Judges `steps` by themselves, which follow the lines `opening`. Only the first 268,435,456, the most that a
+    /// recording has, are judged. The only error is that an allocation fails.
     pub fn of(alloc: Global, opening: &Lines, steps: &[Step]) -> Result<JudgedChunk<J>, AllocError>
         ensures { IfOk result (λ part. part ≡ record { opening = opening.now; steps = steps.now }) }
     {

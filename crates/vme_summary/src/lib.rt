@@ -1,36 +1,36 @@
-//! One summary of blocks of a recording, by all rules in force; the verdict and the listing that it
-//! leads to.
+//! Summaries of blocks of a recording by all rules in force, and the verdict and the listing that
+//! they give.
 //!
 //! # Parts
 //!
-//! - `judged`, `span`, `extent`, `summary`: [`judge_block`] makes of a block a [`Judged`]: the
+//! - `judged`, `span`, `extent`, `summary`: [`judge_block`] gives for a block a [`Judged`]: the
 //!   block, and a [`Span`] that stands for it, whatever came before.
-//! - `joining`: [`join`] makes one span of two whose blocks follow one another; [`append`] does it
-//!   with spans that are given away.
-//! - `monitors`: the only place that knows which monitors there are; their tables stand beside one
-//!   another in `MonitorSummaries`. `each_monitor`: [`each_monitor::summarise_monitors`] leads five
-//!   of them along the steps at once. `monitor_states`: what they have come to from the opening on.
-//! - `rows`: the rows that marks make.
-//! - `chunk_judge`, `chunk_summary`, `verdict_state`, `listing_state`: what judges a recording in
-//!   order, some steps at once, without marks for a verdict and with them for a listing.
+//! - `joining`: [`join`] joins two spans whose blocks follow one another; [`append`] does so with
+//!   spans that it consumes.
+//! - `monitors`: the only place that knows which monitors there are; `MonitorSummaries` has a table
+//!   for each. `each_monitor`: [`each_monitor::summarise_monitors`] advances five of them in one
+//!   pass over the steps. `monitor_states`: their states after steps from the opening on.
+//! - `rows`: the rows of a listing, made from marks (events of the bus with their instants).
+//! - `chunk_judge`, `chunk_summary`, `verdict_state`, `listing_state`: judging a recording in
+//!   order, some steps at a time, without marks for a verdict and with them for a listing.
 //! - `stream_judge`, `judged_chunk`, `step_discarder`: [`Judge`] and [`Lister`] take the steps as
 //!   they are made, and parts that were judged separately ([`JudgedChunk`]), on any thread;
 //!   [`StepDiscarder`] takes steps and judges none.
 //! - `cut`: [`verdict_by_blocks`] and [`listing_by_blocks`] take a capture, and copy none of its
 //!   blocks.
-//! - `running_verdict`: [`RunningVerdict`] goes on past further blocks without a join and without
-//!   memory.
+//! - `running_verdict`: [`RunningVerdict`] takes the spans of further blocks without joining them,
+//!   and allocates nothing.
 //! - `ghost_steps`: the steps that were taken, which proofs alone read.
 //!
 //! # What is proved
 //!
-//! - Each [`Span`] stands for some blocks ([`spans_stand_for_blocks`]), so that what is said of all
-//!   blocks for which one stands is never said of none.
+//! - Each [`Span`] stands for some blocks ([`spans_stand_for_blocks`]), so that a statement about
+//!   all blocks for which a span stands is about some blocks.
 //! - However the blocks of a recording were joined, [`Span::verdict`] is its verdict by the
 //!   definitions, and [`Span::listing`] its listing (`listing`), which is well placed (`placed`)
 //!   and splits the judged edges (`split`).
-//! - [`join`] and [`append`] say that spans are torn exactly where their blocks don't join
-//!   (`torn`). [`judge_block`] and [`append`] hand back what they were given where they fail.
+//! - [`join`] and [`append`] give the error `Torn` exactly if the blocks of the two spans don't
+//!   join (`torn`). [`judge_block`] and [`append`] hand back what they were given where they fail.
 //! - [`verdict_by_blocks`] and [`listing_by_blocks`] give the verdict and the listing of the
 //!   recording for every size of block. So do [`Judge`] and [`Lister`] of the steps that came, or
 //!   they answer that these are too many, or fill too many blocks (`too_many_steps`,
@@ -48,9 +48,9 @@
 //!
 //! # In which order to read
 //!
-//! Contracts about blocks have one word: `SpanStandsFor span blocks` (`specs/Stands`). Start there
-//! and with `span`. `Span` and `Judged` are plain types, so they go into tables, lists and threads.
-//! Then `monitors`, and `stream_judge`.
+//! Contracts about blocks use one definition: `SpanStandsFor span blocks` (`specs/Stands`). Start
+//! there and with `span`. `Span` and `Judged` are plain types, so they go into tables, lists and
+//! threads. Then `monitors`, and `stream_judge`.
 #![tactic(auto)]
 
 pub mod chunk_judge;

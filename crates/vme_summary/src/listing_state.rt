@@ -17,8 +17,8 @@ use std::alloc::{AllocError, Global};
 use vme_listing::Listing;
 use vme_trace::{Lines, Step};
 
-/// What judging a recording with its marks has come to: the lines that the steps so far leave, and one summary of all
-/// of them. Of the steps no more is kept.
+/// The state of judging a recording with its marks (events of the bus with their instants): the lines that the steps so
+/// far leave, and one summary of all of them. Of the steps nothing else is kept.
 #[derive(Drop)]
 pub struct ListingState {
     left: Lines,
@@ -64,7 +64,7 @@ impl ChunkJudge for ListingState {
 }
 
 impl ListingState {
-    /// Appends the summary of the steps that follow. Without memory it stands for what it stood for.
+    /// Appends the summary of the next steps. If an allocation fails, the summary stands for the same steps as before.
     fn append(&mut self, alloc: Global, next: MonitorSummaries) -> Result<(), AllocError>
         requires { (o : Levels) × (x : List Step) × StandsSoFar self.old.summary o x
             × (length x + summary_steps next ≤ 268435456) }
@@ -90,8 +90,8 @@ impl ListingState {
         }
     }
 
-    /// The listing, by the rules in force, of a recording all of whose steps were judged, which begins with these
-    /// lines.
+    /// The listing, by the rules in force, of a recording all of whose steps were judged, which begins with the lines
+    /// `opening`.
     pub(crate) fn listing(self, alloc: Global, opening: &Lines) -> Result<Listing, AllocError>
         ensures listing { IfOk result (λ listing. (t : Trace) → malformed_step t ≡ None → t.opening.slots ≤ 21
             → opening.now ≡ t.opening → HasMarked self t.opening t.steps → listing ≡ listing_of t) }

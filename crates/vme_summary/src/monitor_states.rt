@@ -1,4 +1,4 @@
-//! What monitors have come to that judge a recording from its opening on.
+//! The states of monitors that judge a recording from its opening on.
 
 ghost use Rattle.std.specs.Prelude.{◌≡◌, ◌+◌, ◌^◌, ◌<◌, ◌≤◌, ◌++◌, List, None, length, option_map, unwrap_or};
 ghost use Rattle.vme_monitor.specs.Outcome.{earlier, shifted_break};
@@ -27,7 +27,8 @@ use vme_monitor::table::Table;
 use vme_monitor::view::{End, StepView};
 use vme_trace::{Break, Change, Lines, Step, Verdict};
 
-/// What a monitor that began at an opening has come to: the memory that it is in, and the first break that it found.
+/// The state of a monitor that began at an opening: its memory, i.e. the state of its automaton, and the first break
+/// (violation of a rule) that it found.
 #[derive(Drop)]
 pub(crate) struct MonitorState<P> {
     pub(crate) memory: P,
@@ -35,7 +36,7 @@ pub(crate) struct MonitorState<P> {
 }
 
 impl<P: Enumerable> MonitorState<P> {
-    /// What a monitor that begins in this memory has come to before any step.
+    /// The state of a monitor that begins in `memory`, before any step.
     pub(crate) fn at(memory: P) -> MonitorState<P>
         ensures memory { result.memory ≡ memory }
         ensures first_break { result.first_break ≡ None }
@@ -46,7 +47,7 @@ impl<P: Enumerable> MonitorState<P> {
         }
     }
 
-    /// What it has come to after the steps of a table more, before which so many were.
+    /// The state after the steps of `table`, which follow `steps` earlier ones.
     pub(crate) fn after(&self, table: &Table<P>, steps: u32) -> MonitorState<P>
         requires { steps + table_steps table.now < 2 ^ 32 }
         ensures memory { result.memory ≡ (table_outcome table.now self.now.memory).leaving }
@@ -64,8 +65,8 @@ impl<P: Enumerable> MonitorState<P> {
     }
 }
 
-/// What a step that ends no span gives to one who judges, but for what it shows; nothing, where it gives nothing and
-/// the memory stays.
+/// The result of a step that ends no span, in the phase `InStretch(memory)` and without marks. `None` says that the
+/// memory stays and nothing is broken.
 #[inline(always)]
 fn next_judging<R: Rules>(
     memory: R::Memory,
@@ -89,8 +90,8 @@ fn next_judging<R: Rules>(
     })
 }
 
-/// What a step gives to one who is in this memory, but for what it shows; nothing, where it gives nothing and the
-/// memory stays. The memory is asked first: to most memories most steps give nothing.
+/// The result of a step in the phase `memory`, without marks. `None` says that the memory stays and nothing is broken.
+/// The memory is tested first: in most memories most steps give nothing.
 #[inline(always)]
 fn next_in<R: Rules>(
     memory: StretchPhase<R::Memory>,
@@ -125,7 +126,7 @@ fn next_in<R: Rules>(
     }
 }
 
-/// Advances a monitor that began at an opening past the step that follows, at its instant after the opening.
+/// Advances a monitor that began at an opening by the next step, at its instant after the opening.
 #[inline(always)]
 pub(crate) fn advance<R: Rules>(
     state: &mut MonitorState<StretchPhase<R::Memory>>,
@@ -157,7 +158,7 @@ pub(crate) fn advance<R: Rules>(
     }
 }
 
-/// What all monitors that began at an opening have come to.
+/// The states of all monitors that began at an opening.
 #[derive(Drop)]
 pub(crate) struct MonitorStates {
     pub(crate) known: MonitorState<StretchPhase<Stateless>>,
@@ -167,7 +168,7 @@ pub(crate) struct MonitorStates {
     pub(crate) acknowledge: MonitorState<StretchPhase<Acknowledgement>>,
 }
 
-/// The verdict that the first break gives, where anything is judged.
+/// The verdict by the first break, if anything is judged.
 fn verdict_of(found: Option<Break>) -> Verdict
     ensures { result ≡ verdict_on found }
 {
@@ -179,8 +180,8 @@ fn verdict_of(found: Option<Break>) -> Verdict
 }
 
 impl MonitorStates {
-    /// Past the steps that follow some that leave these lines: so many were before them. The answer is the lines that
-    /// they leave.
+    /// Advances the monitors by `steps`, which follow `before` earlier steps that leave the lines `opening`. Gives the
+    /// lines that `steps` leave.
     pub(crate) fn advance_along(&mut self, opening: &Lines, before: u32, steps: &[Step]) -> Lines
         requires { before + length steps.now ≤ 268435456 }
         ensures found { (o : Levels) (x : List Step) → opening.now ≡ levels_after o x → before ≡ length x
@@ -199,7 +200,7 @@ impl MonitorStates {
         view.before
     }
 
-    /// The verdict on a recording past whose steps the monitors have come.
+    /// The verdict on a recording, if the monitors have been advanced by all its steps.
     pub(crate) fn verdict(&self) -> Verdict
         ensures { (t : Trace) → HasFoundAll self.now t → verdict_by rules_in_force t ≡ result }
     {

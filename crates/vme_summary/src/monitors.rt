@@ -87,14 +87,14 @@ impl MonitorSummaries {
         ))
     }
 
-    /// Of how many steps it is.
+    /// How many steps the summary covers.
     pub(crate) fn steps(&self) -> u32
         ensures { result ≡ summary_steps self.now }
     {
         self.known.steps()
     }
 
-    /// The summary of the steps of one and then those of another.
+    /// The summary of the steps of `first` and then those of `second`.
     pub(crate) fn compose(
         alloc: Global,
         first: &MonitorSummaries,
@@ -118,7 +118,7 @@ impl MonitorSummaries {
         })
     }
 
-    /// Takes all the memory that it needs to take over another summary. After an error it stands for what it stood for.
+    /// Allocates all that `append_in` needs. The summary stands for the same steps as before, after an error too.
     pub(crate) fn make_room(
         &mut self,
         alloc: Global,
@@ -142,8 +142,8 @@ impl MonitorSummaries {
         })
     }
 
-    /// The summary of the steps of one and then those of another, where both are given away: their tables are taken
-    /// over, not copied. Takes no memory.
+    /// The summary of the steps of `self` and then those of `second`, which are both consumed: their tables are moved,
+    /// not copied. Allocates nothing.
     pub(crate) fn append_in(self, room: Room, second: MonitorSummaries) -> MonitorSummaries
         requires few { summary_steps self + summary_steps second ≤ 268435456 }
         requires room { HasRoom room self second }
@@ -161,7 +161,7 @@ impl MonitorSummaries {
         }
     }
 
-    /// What the monitors that begin at this opening have come to after the steps.
+    /// The states of the monitors that begin at `opening`, after the steps.
     pub(crate) fn found_from(&self, opening: &Lines) -> MonitorStates
         ensures { (x : List Step) → SummaryFindsFor self.now opening.now x → HasFound result opening.now x }
     {
@@ -169,7 +169,7 @@ impl MonitorSummaries {
         self.found_after(&MonitorStates::at(opening), 0)
     }
 
-    /// What they have come to where so many steps were before these.
+    /// The states of the monitors after the steps, if `before` are their states after `steps` earlier ones.
     pub(crate) fn found_after(&self, before: &MonitorStates, steps: u32) -> MonitorStates
         requires { steps + summary_steps self.now < 2 ^ 32 }
         ensures { FoundAfter before.now steps self.now result }
@@ -183,7 +183,7 @@ impl MonitorSummaries {
         }
     }
 
-    /// The marks of a recording that has these steps after that opening, break or not.
+    /// The marks of a recording that has these steps after `opening`, whether a rule is broken or not.
     pub(crate) fn marks(&self, alloc: Global, opening: &Lines) -> Result<Vec<Mark>, AllocError>
         ensures { IfOk result (λ marks. (t : Trace) → StandsForAll self.now opening.now t → marks.items ≡ all_marks t) }
     {
@@ -205,7 +205,7 @@ impl MonitorSummaries {
 }
 
 impl MonitorStates {
-    /// What the monitors that begin at this opening have come to before any step.
+    /// The states of the monitors that begin at `opening`, before any step.
     pub(crate) fn at(opening: &Lines) -> MonitorStates
         ensures { HasFound result opening.now [] }
     {
@@ -218,7 +218,7 @@ impl MonitorStates {
         }
     }
 
-    /// Past the step that follows, at its instant after the opening.
+    /// Advances the monitors by the next step, at its instant after the opening.
     #[inline(always)]
     pub(crate) fn advance(&mut self, view: &StepView, step: &Step, instant: u32)
         requires { view.now ≡ seen_in view.now.before step.now.changes }
@@ -234,7 +234,7 @@ impl MonitorStates {
         advance::<AcknowledgeRules>(&mut self.acknowledge, view, changes, time, instant);
     }
 
-    /// Whether anything is judged of a recording past whose steps the monitors have come.
+    /// Whether anything of a recording is judged, if the monitors have been advanced by all its steps.
     pub(crate) fn has_judged(&self) -> bool
         ensures { (t : Trace) → HasFoundAll self.now t → result ≡ has_span (judged_spans t) }
     {
@@ -242,7 +242,7 @@ impl MonitorStates {
         Known::started(self.known.memory)
     }
 
-    /// Its first break.
+    /// The first break of a recording, if the monitors have been advanced by all its steps.
     pub(crate) fn first_break(&self) -> Option<Break>
         ensures { (t : Trace) → HasFoundAll self.now t → result ≡ first_break_of t }
     {

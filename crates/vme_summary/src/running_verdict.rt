@@ -1,4 +1,4 @@
-//! What judging a recording from its opening on has come to, block by block. It takes no memory.
+//! The state of judging a recording from its opening on, block by block. It allocates nothing.
 
 ghost use Rattle.std.specs.Prelude.{◌≡◌, ◌+◌, ◌≤◌, ◌↔◌, List, ◌++◌, IfSome, None, Some};
 ghost use Rattle.vme_trace.specs.Verdict.{rules_in_force, verdict_by};
@@ -12,7 +12,8 @@ use crate::monitor_states::MonitorStates;
 use crate::span::Span;
 use vme_trace::Verdict;
 
-/// What judging blocks that join has come to, from the opening of the first one on: where they lie, and what was found.
+/// The state of judging blocks that join, from the opening of the first one on: their extent, and what the monitors
+/// found.
 #[derive(Drop)]
 pub struct RunningVerdict {
     extent: Extent,
@@ -21,7 +22,7 @@ pub struct RunningVerdict {
 }
 
 impl RunningVerdict {
-    /// Past the blocks of a span.
+    /// The state after the blocks of a span.
     pub fn of(span: &Span) -> RunningVerdict
         ensures steps { judged_steps result ≡ step_count span.now }
         ensures come { (blocks : List Block) → SpanStandsFor span.now blocks → HasCome result blocks }
@@ -33,9 +34,9 @@ impl RunningVerdict {
         }
     }
 
-    /// Past the blocks of a further span, if they join those before: the span's first number is the next, it opens with
-    /// the lines that those before leave, slots included, and its first step is later than the last one before it. They
-    /// have at most 268,435,456 steps together.
+    /// The state after the blocks of a further span, if they join those before: the span's first number is the next, it
+    /// opens with the lines that those before leave, slots included, and its first step is later than the last one
+    /// before it. They have at most 268,435,456 steps together.
     pub fn after(&self, next: &Span) -> Option<RunningVerdict>
         requires { judged_steps self.now + step_count next.now ≤ 268435456 }
         ensures steps { IfSome result (λ p. judged_steps p ≡ judged_steps self.now + step_count next.now) }

@@ -1,4 +1,4 @@
-//! One summary of blocks that join.
+//! The summary of blocks that join.
 
 ghost use Rattle.std.specs.Prelude.{List};
 ghost use Rattle.vme_trace.specs.declared.block.Block.{Block};
@@ -10,8 +10,9 @@ use std::alloc::{AllocError, Global};
 use vme_listing::Listing;
 use vme_trace::Verdict;
 
-/// What blocks that join say to all monitors, whatever stood before them: where they lie, and one summary of their
-/// steps. A span stands for every list of blocks that has all of this (`SpanStandsFor`), and there is one that has.
+/// The summary of blocks that join, by all monitors and whatever came before: the extent of the blocks, and one summary
+/// of their steps. A span stands for each list of blocks that has this extent and this summary (`SpanStandsFor`), and
+/// there is such a list.
 #[derive(Drop)]
 pub struct Span {
     pub(crate) extent: Extent,
@@ -51,7 +52,7 @@ impl Span {
     }
 
     /// The verdict, by the rules in force, of the recording that the blocks make. The first of them has to be the
-    /// recording's first. Takes no memory.
+    /// recording's first. Allocates nothing.
     pub fn verdict(&self) -> Verdict
         requires { first_number self.now ≡ 0 }
         ensures { IsVerdictOf self.now result }
@@ -68,7 +69,7 @@ impl Span {
         requires { first_number self.now ≡ 0 }
         ensures listing { IfOk result (IsListingOf self.now) }
 
-        // The judged edges of that recording split into exactly what it tells.
+        // The judged edges of that recording split into exactly what the listing lists.
         ensures split { IfOk result (SplitsItsRecording self.now) }
         ensures placed { IfOk result (λ rows. is_well_placed rows ≡ true) }
     {

@@ -1,4 +1,4 @@
-//! What takes a recording and keeps none of its steps.
+//! A visitor that takes a recording and keeps none of its steps.
 
 ghost use Rattle.std.specs.Prelude.{◌≡◌, []};
 
@@ -24,7 +24,7 @@ impl Model for StepDiscarder {
 }
 
 impl StepDiscarder {
-    /// Before the first step.
+    /// A visitor that no steps have come to.
     pub fn new(opening: &Lines) -> StepDiscarder
         ensures { result ≡ record { opening = opening.now; steps = [] } }
     {

@@ -1,4 +1,4 @@
-//! What judges a recording as it is made.
+//! Judging a recording as its steps come.
 
 ghost use Rattle.std.specs.Prelude.{◌≡◌, ◌+◌, ◌<◌, ◌≤◌, ◌↔◌, List, [], ◌∷◌, ◌++◌, length, true, IfOk, IsTrue, OnErr};
 ghost use Rattle.std.specs.Prelude.{OnOk, Err, None};
@@ -35,18 +35,18 @@ pub enum NoVerdict {
     TooManySteps,
     /// They fill over 4,096 blocks.
     TooManyBlocks,
-    /// There is no memory.
+    /// An allocation failed.
     Memory,
 }
 
-/// Judges a recording as its steps come, 16,384 of them at once: of its steps no more are kept.
+/// Judges a recording as its steps come, 16,384 at a time. No steps that have been judged are kept.
 #[derive(Drop)]
 pub struct StreamJudge<J: ChunkJudge> {
-    /// How many steps came, or one over the most.
+    /// How many steps came, at most `MOST_STEPS + 1`.
     count: u32,
     opening: Lines,
     judging: J,
-    /// The steps that came since some were judged.
+    /// The steps that came and haven't been judged yet.
     waiting: Vec<Step>,
     taken: GhostSteps,
 }
@@ -81,7 +81,7 @@ fn wait(waiting: &mut Vec<Step>, step: Step) -> Result<(), AllocError>
     Ok(())
 }
 
-/// Judges the steps that wait, at most 268,435,456 with those before them: then none waits. Few steps come to this.
+/// Judges the waiting steps, at most 268,435,456 with those before them; then none waits. Few steps get here.
 #[cold]
 #[inline(never)]
 fn judge_waiting<J: ChunkJudge>(
@@ -104,7 +104,7 @@ fn judge_waiting<J: ChunkJudge>(
 }
 
 impl<J: ChunkJudge> StreamJudge<J> {
-    /// Before the first step.
+    /// A judge that no steps have come to.
     pub fn new(alloc: Global, opening: &Lines) -> StreamJudge<J>
         ensures { result ≡ record { opening = opening.now; steps = [] } }
     {
@@ -117,8 +117,8 @@ impl<J: ChunkJudge> StreamJudge<J> {
         }
     }
 
-    /// Whether the steps that came leave these lines. All of them are judged first; where there are over 268,435,456,
-    /// this isn't known, and the answer is no. The only error is want of memory.
+    /// Whether the steps that came leave `lines`. All of them are judged first. If there are over 268,435,456, this
+    /// isn't known, and the answer is `false`. The only error is that an allocation fails.
     pub fn leaves(&mut self, alloc: Global, lines: &Lines) -> Result<bool, AllocError>
         ensures same { self.new ≡ self.old }
         ensures leaves { IfOk result (λ leaves. IsTrue leaves
@@ -132,7 +132,8 @@ impl<J: ChunkJudge> StreamJudge<J> {
         Ok(*self.judging.left() == *lines)
     }
 
-    /// Takes steps that were judged by themselves, and follow those that came. The only error is want of memory.
+    /// Takes steps that were judged by themselves, and follow those that came. The only error is that an allocation
+    /// fails.
     pub fn pass(&mut self, alloc: Global, part: JudgedChunk<J>) -> Result<(), AllocError>
         requires { part.opening ≡ levels_after self.old.opening self.old.steps }
         ensures { OnOk result (self.new ≡ with_steps self.old part.steps) }
@@ -152,8 +153,8 @@ impl<J: ChunkJudge> StreamJudge<J> {
         Ok(())
     }
 
-    /// What judged all steps that came, if there are at most 268,435,456 of them, and they fill at most 4,096 blocks of
-    /// `size` steps.
+    /// The judge of all steps that came, if there are at most 268,435,456 of them, and they fill at most 4,096 blocks
+    /// of `size` steps.
     fn finish(self, alloc: Global, size: u32) -> Result<J, NoVerdict>
         requires { (1 ≤ size) × (size ≤ 65536) }
         ensures too_many_steps { (result ≡ Err NoVerdict.TooManySteps) ↔ (capture_limit < length self.steps) }
@@ -195,8 +196,8 @@ impl StreamJudge<VerdictState> {
 }
 
 impl StreamJudge<ListingState> {
-    /// The listing, by the rules in force, of that recording: its tenures, cycles and transfers before the least break,
-    /// and the verdict.
+    /// The listing, by the rules in force, of the recording whose steps came, within the limits of `verdict`: its
+    /// tenures, cycles and transfers before the least break, and the verdict.
     pub fn listing(self, alloc: Global, size: u32) -> Result<Listing, NoVerdict>
         requires { (1 ≤ size) × (size ≤ 65536) }
         ensures too_many_steps { (result ≡ Err NoVerdict.TooManySteps) ↔ (capture_limit < length self.steps) }
@@ -228,7 +229,7 @@ impl<J: ChunkJudge> StepVisitor for StreamJudge<J> {
         self.taken = GhostSteps::new();
     }
 
-    // Past the most that a recording has, steps are dropped.
+    // Steps beyond the most that a recording has are dropped.
     #[inline(always)]
     fn step(&mut self, alloc: Global, step: Step) -> Result<(), AllocError> {
         let taken = self.taken.and(&step);

@@ -1,4 +1,4 @@
-//! What steps say to all monitors, whatever stood before them.
+//! The summary of steps by all monitors, for all entering memories (states of their automata).
 
 ghost use Rattle.std.specs.Prelude.{◌≡◌};
 ghost use Rattle.vme_monitor.specs.WholeTables.{table_steps};
@@ -13,7 +13,7 @@ use vme_monitor::link::Link;
 use vme_monitor::over_stretches::StretchPhase;
 use vme_monitor::table::Table;
 
-/// What steps say to all monitors, whatever stood before them: a table for each.
+/// The summary of steps by all monitors, for all entering memories: a table for each monitor.
 #[derive(Drop)]
 pub(crate) struct MonitorSummaries {
     pub(crate) known: Table<StretchPhase<Stateless>>,
@@ -25,7 +25,7 @@ pub(crate) struct MonitorSummaries {
         (table_steps acknowledge) },
 }
 
-/// Room for what it takes to take over a summary: links for each table.
+/// Room to take over a summary: a vector of links for each table.
 #[derive(Drop)]
 pub(crate) struct Room {
     pub(crate) known: Vec<Link>,

@@ -13,8 +13,8 @@ use crate::summary::MonitorSummaries;
 use std::alloc::{AllocError, Global};
 use vme_trace::{Lines, Step, Verdict};
 
-/// What judging a recording has come to: the lines that the steps so far leave, how many they are, and what was
-/// found. Of the steps nothing is kept.
+/// The state of judging a recording: the lines that the steps so far leave, their number, and what the monitors found.
+/// Of the steps nothing is kept.
 #[derive(Drop)]
 pub struct VerdictState {
     left: Lines,

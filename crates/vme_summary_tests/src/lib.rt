@@ -1,7 +1,7 @@
 //! Tests of vme_summary: worked recordings judged in blocks of every size, their listings, spans
 //! that move between threads, and parts that are judged by themselves.
 //!
-//! - `tests`: verdicts, spans of single steps and joins, against values that stand beside the
+//! - `tests`: verdicts, spans of single steps and joins, against values that are written with the
 //!   recordings. `each_growth_fails_once` is made for `tests/memory/run`, which refuses each of its
 //!   allocations in turn.
 //! - `listing_tests`: the rows of listings, as texts that are written and read back.

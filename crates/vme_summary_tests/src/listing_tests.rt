@@ -26,7 +26,7 @@ impl Sink for Page {
     }
 }
 
-/// What a text reads as. Where memory is short once, it is read again.
+/// The listing that `text` is read as. After a failed allocation it is read again.
 fn read(alloc: Global, text: &[u8]) -> Result<Listing, ListFault> {
     match read_listing(alloc, text) {
         Err(ListFault::Memory) => read_listing(alloc, text),
@@ -34,7 +34,7 @@ fn read(alloc: Global, text: &[u8]) -> Result<Listing, ListFault> {
     }
 }
 
-/// What is written of a listing.
+/// The text of a listing.
 fn written(alloc: Global, listing: &Listing) -> Option<Vec<u8>> {
     let mut page = Page {
         bytes: Vec::with_capacity(alloc, 1000).ok()?,
@@ -46,7 +46,7 @@ fn written(alloc: Global, listing: &Listing) -> Option<Vec<u8>> {
     }
 }
 
-/// Whether the rows of the listing are written so, and what is written is read as the listing.
+/// Whether the listing is written as `rows`, and what is written is read as the listing.
 pub(crate) fn has_rows(alloc: Global, listing: &Listing, rows: &str) -> bool {
     let Some(text) = written(alloc, listing) else {
         return false;
@@ -61,7 +61,7 @@ pub(crate) fn has_rows(alloc: Global, listing: &Listing, rows: &str) -> bool {
     }
 }
 
-/// The listing. Where memory is short once, the capture is judged again.
+/// The listing, in blocks of `size` steps. After a failed allocation the capture is judged again.
 fn listing_in(alloc: Global, capture: &Capture, size: u32) -> Result<Listing, CutFault> {
     match listing_by_blocks(alloc, capture, size) {
         Err(CutFault::Memory) => listing_by_blocks(alloc, capture, size),
@@ -76,7 +76,7 @@ fn listing_as_made(alloc: Global, capture: &Capture) -> Option<Listing> {
     lister.listing(alloc, 65536).ok()
 }
 
-/// Whether this is the listing in blocks of some size.
+/// Whether `rows` is the listing in blocks of `size` steps.
 fn is_listed(alloc: Global, capture: &Capture, size: u32, rows: &str) -> bool {
     match listing_in(alloc, capture, size) {
         Ok(listing) => has_rows(alloc, &listing, rows),
@@ -84,7 +84,7 @@ fn is_listed(alloc: Global, capture: &Capture, size: u32, rows: &str) -> bool {
     }
 }
 
-/// Whether this is the listing as it is made.
+/// Whether `rows` is the listing of the steps one after the other.
 fn is_made(alloc: Global, capture: &Capture, rows: &str) -> bool {
     match listing_as_made(alloc, capture) {
         Some(listing) => has_rows(alloc, &listing, rows),

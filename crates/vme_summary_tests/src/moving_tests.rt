@@ -1,4 +1,4 @@
-//! Judged blocks in a list, in a table and through a thread, and spans that are given away.
+//! Judged blocks in a list, in a table and through a thread, and spans that are consumed.
 use crate::tests::{GRANTED, READ, capture_of, judged};
 use atomic_table::{Table, TableRule};
 use std::alloc::Global;
@@ -10,7 +10,7 @@ use vme_summary::judged::Judged;
 use vme_summary::{Span, append};
 use vme_trace::Verdict;
 
-/// Nothing is asked of the blocks in the table.
+/// The rule of a table that asks nothing of its blocks.
 struct AnyBlocks;
 
 impl TableRule<Option<Judged>, (), ()> for AnyBlocks {
@@ -19,7 +19,7 @@ impl TableRule<Option<Judged>, (), ()> for AnyBlocks {
     ghost first = { λ _. tt };
 }
 
-/// A block lies in a table, and is taken out again.
+/// Puts a block into a table, and takes it out again.
 fn through_table(alloc: Global, judged: Judged) -> Option<Judged> {
     let mut slots = Vec::new(alloc);
     slots.push(Some(judged)).ok()?;
@@ -35,7 +35,7 @@ fn through_table(alloc: Global, judged: Judged) -> Option<Judged> {
     found
 }
 
-/// A thread reads one block, and gives another back that was sent to it.
+/// A thread reads the block `read`, and gives back the block `sent`, which was sent to it.
 fn through_thread<R: Threads + Wait + Sync>(rt: &R, read: &Judged, sent: Judged) -> Option<Judged> {
     thread::scope(thread::scope_env(), rt, |scope| -> Option<Judged> {
         let Ok(handle) = scope.spawn(move || -> Judged {
@@ -58,7 +58,7 @@ fn listed(alloc: Global) -> Option<Vec<Option<Judged>>> {
     Some(all)
 }
 
-/// One span of two that are given away. Where memory is short once, they come back and are joined again.
+/// The span of two that are consumed. After a failed allocation they come back and are joined again.
 fn appended(alloc: Global, first: Span, second: Span) -> Option<Span> {
     if first.steps() > 1000 || second.steps() > 1000 {
         return None;
@@ -81,7 +81,7 @@ fn moved<R: Threads + Wait + Sync>(
     Some((middle.into_parts().1, last.into_parts().1))
 }
 
-/// The span of both.
+/// The span of blocks 1 and 2, after they have been moved.
 fn back_of<R: Threads + Wait + Sync>(
     rt: &R,
     alloc: Global,
@@ -93,7 +93,7 @@ fn back_of<R: Threads + Wait + Sync>(
     appended(alloc, middle, last)
 }
 
-/// The span of both, behind block 0.
+/// The span of block 0, and then that of blocks 1 and 2.
 fn whole_of<R: Threads + Wait + Sync>(
     rt: &R,
     alloc: Global,

@@ -1,4 +1,4 @@
-//! Recordings whose parts are judged by themselves, and passed in order to what judges them.
+//! Recordings whose parts are judged by themselves, and passed in order to a judge.
 
 ghost use Rattle.std.specs.Prelude.{◌≡◌};
 
@@ -36,7 +36,7 @@ fn left_by(block: &Block) -> Lines {
     left
 }
 
-/// Passes a block, which is judged by itself, to what leaves the lines that it opens with.
+/// Judges a block by itself, and passes it to `stream_judge`, whose steps leave the lines at the block's opening.
 fn pass_block<J: ChunkJudge + Send>(
     alloc: Global,
     stream_judge: &mut StreamJudge<J>,
@@ -58,7 +58,7 @@ fn pass_block<J: ChunkJudge + Send>(
     stream_judge.pass(alloc, part).ok()
 }
 
-/// Passes a block, or its steps one after the other.
+/// Passes a block to `stream_judge`, or its steps one after the other.
 fn take_block<J: ChunkJudge + Send>(
     alloc: Global,
     stream_judge: &mut StreamJudge<J>,
@@ -79,7 +79,7 @@ fn take_block<J: ChunkJudge + Send>(
     Some(())
 }
 
-/// What took a recording that is cut into blocks.
+/// A judge of the steps of all blocks.
 fn taken_in_blocks<J: ChunkJudge + Send + Drop>(
     alloc: Global,
     opening: &Lines,
@@ -94,7 +94,7 @@ fn taken_in_blocks<J: ChunkJudge + Send + Drop>(
     Some(stream_judge)
 }
 
-/// The verdict on what is taken in these blocks.
+/// The verdict on the steps of the blocks.
 fn verdict_taken(
     alloc: Global,
     opening: &Lines,
@@ -105,7 +105,7 @@ fn verdict_taken(
     judge.verdict(alloc, 3).ok()
 }
 
-/// Its listing.
+/// The listing of the steps of the blocks.
 fn listing_taken(
     alloc: Global,
     opening: &Lines,
@@ -116,7 +116,7 @@ fn listing_taken(
     lister.listing(alloc, 3).ok()
 }
 
-/// Whether what is taken in these blocks has this verdict and this listing.
+/// Whether the steps of the blocks have the verdict `verdict` and the listing `rows`.
 fn is_taken(
     alloc: Global,
     opening: &Lines,
@@ -134,7 +134,7 @@ fn is_taken(
     }
 }
 
-/// Whether a recording has its verdict and its listing, where it is cut so.
+/// Whether a recording has its verdict and its listing, if it is cut into blocks of `size` steps.
 fn is_taken_in(alloc: Global, capture: &Capture, size: u32, verdict: &Verdict, rows: &str) -> bool {
     match capture.cut(alloc, size) {
         Ok(blocks) => {
@@ -156,7 +156,7 @@ fn is_taken_by_each_size(alloc: Global, capture: &Capture, verdict: &Verdict, ro
     same
 }
 
-/// Whether a worked recording has.
+/// Whether a worked recording has its verdict and its listing, cut into blocks of each size from 1 to 14.
 fn has_parts(alloc: Global, recording: &Worked) -> bool {
     let (start, text, expected, rows) = recording;
     let Some(verdict) = verdict_of(*expected) else {

@@ -14,8 +14,8 @@ use vme_trace::{
 };
 
 /// How a recording starts: its slots, the levels of its opening, and its first steps. A step is the lines that change,
-/// with their new levels, and they stand ten units apart. `high` is every line high, `quiet` every line but A24 to A31,
-/// and `others` every line but SYSRESET.
+/// with their new levels. Steps are ten units apart. `high` is every line high, `quiet` every line but A24 to A31, and
+/// `others` every line but SYSRESET.
 #[derive(Clone, Copy)]
 pub(crate) struct Start {
     slots: u8,
@@ -32,7 +32,7 @@ pub(crate) enum Expected {
     Unreadable(u32, Rule, &'static str),
 }
 
-/// A worked recording: how it starts and goes on, its verdict, and the rows of its listing.
+/// A worked recording: how it starts, its further steps, its verdict, and the rows of its listing.
 pub(crate) type Worked = (Start, &'static str, Expected, &'static str);
 
 use Expected::{Broken, Conforming, NeverIdle, Unreadable};
@@ -51,14 +51,14 @@ pub(crate) const GRANTED: Start = Start {
     steps: "quiet;BR3=0;BG3.0=0;BG3.1=0;BBSY=0 BR3=1;BG3.0=1;BG3.1=1",
 };
 
-/// The same on a bus that is quiet from the opening on.
+/// A requester in slot 2 takes the bus by level 3. The bus is quiet from the opening on.
 const GRANTED_FROM_IDLE: Start = Start {
     slots: 3,
     opening: "quiet",
     steps: "BR3=0;BG3.0=0;BG3.1=0;BBSY=0 BR3=1;BG3.0=1;BG3.1=1",
 };
 
-/// The bus gets quiet, and a grant goes on to slot 3.
+/// The bus gets quiet, and a grant is passed on to slot 3.
 const PASSED_ON: Start = Start {
     slots: 3,
     opening: "",
@@ -76,12 +76,12 @@ const UNKNOWN: Start = Start {
 pub(crate) const READ: &str =
     "AM1=0 AM2=0 A05=0;AS=0;DS0=0 DS1=0;DTACK=0;AS=1 DS0=1 DS1=1;DTACK=1;BBSY=1";
 
-/// What its listing says.
+/// The listing of `READ` after `GRANTED`.
 const READ_ROWS: &str =
     "start 1\ntenure 5 level 3 slot 2 end 14\ncycle 9 S 39 FFFFDE end 12\ntransfer 10 of 9 read DTACK 11 close 12\n\
         verdict conforming\n";
 
-/// Recordings as a dump gives them.
+/// Recordings as read from a dump.
 pub(crate) static DUMPS: [Worked; 4] = [
     (
         DUMPED,
@@ -386,7 +386,7 @@ pub(crate) static RESETS: [Worked; 15] = [
     ),
 ];
 
-/// The break of a recording whose steps stand ten units apart.
+/// The break of a recording whose steps are ten units apart.
 fn break_of(instant: u32, rule: Rule, name: &str) -> Option<Break> {
     Some(Break {
         instant,
@@ -407,7 +407,7 @@ pub(crate) fn verdict_of(expected: Expected) -> Option<Verdict> {
     }
 }
 
-/// The change that a word says, as BR3=0.
+/// The change that `word` denotes, e.g. BR3=0.
 fn change_of(word: &str) -> Option<Change> {
     let (name, level) = word.split_once('=')?;
     let level = match level.as_bytes() {
@@ -421,7 +421,7 @@ fn change_of(word: &str) -> Option<Change> {
     })
 }
 
-/// Adds that each line gets high, but those of some numbers.
+/// Appends a change to high for each line but those of the numbers from `first` to `last`.
 fn push_high(changes: &mut Vec<Change>, lines: &Lines, first: u8, last: u8) -> Option<()> {
     for number in 0..LINE_COUNT {
         let line = Line::from_number(number)?;
@@ -433,7 +433,7 @@ fn push_high(changes: &mut Vec<Change>, lines: &Lines, first: u8, last: u8) -> O
     Some(())
 }
 
-/// Adds the changes that a word says.
+/// Appends the changes that `word` denotes.
 fn push_word(changes: &mut Vec<Change>, lines: &Lines, word: &str) -> Option<()> {
     if word == "high" {
         return push_high(changes, lines, LINE_COUNT, LINE_COUNT);
@@ -447,7 +447,7 @@ fn push_word(changes: &mut Vec<Change>, lines: &Lines, word: &str) -> Option<()>
     changes.push(change_of(word)?).ok()
 }
 
-/// The changes that a text says.
+/// The changes that `text` denotes.
 fn changes_of(alloc: Global, lines: &Lines, text: &str) -> Option<Vec<Change>> {
     let mut changes = Vec::new(alloc);
     for word in text.split_whitespace() {
@@ -465,7 +465,7 @@ fn step_of(alloc: Global, lines: &Lines, time: u64, text: &str) -> Option<Step> 
     })
 }
 
-/// Adds the steps of a text.
+/// Appends the steps that `text` denotes.
 fn push_steps(alloc: Global, steps: &mut Vec<Step>, lines: &Lines, text: &str) -> Option<()> {
     for part in text.split(';') {
         if !part.is_empty() {
@@ -476,7 +476,7 @@ fn push_steps(alloc: Global, steps: &mut Vec<Step>, lines: &Lines, text: &str) -
     Some(())
 }
 
-/// The lines that a start opens with.
+/// The lines at the opening of a start.
 fn opening_of(alloc: Global, start: Start) -> Option<Lines> {
     let mut opening = Lines::new(start.slots)?;
     for change in changes_of(alloc, &opening, start.opening)? {
@@ -487,7 +487,7 @@ fn opening_of(alloc: Global, start: Start) -> Option<Lines> {
     Some(opening)
 }
 
-/// The recording that starts so and goes on with the steps of a text.
+/// The recording that begins with `start`, and continues with the steps that `text` denotes.
 pub(crate) fn capture_of(alloc: Global, start: Start, text: &str) -> Option<Capture> {
     let opening = opening_of(alloc, start)?;
     let mut steps = Vec::new(alloc);
@@ -496,7 +496,7 @@ pub(crate) fn capture_of(alloc: Global, start: Start, text: &str) -> Option<Capt
     Capture::new(opening, steps).ok()
 }
 
-/// The verdict. Where memory is short once, the capture is judged again.
+/// The verdict, in blocks of `size` steps. After a failed allocation the capture is judged again.
 fn verdict_in(alloc: Global, capture: &Capture, size: u32) -> Option<Verdict> {
     match verdict_by_blocks(alloc, capture, size) {
         Ok(verdict) => Some(verdict),
@@ -504,7 +504,7 @@ fn verdict_in(alloc: Global, capture: &Capture, size: u32) -> Option<Verdict> {
     }
 }
 
-/// What took the steps of a capture one after the other.
+/// The visitor, after it has taken the steps of a capture one after the other.
 pub(crate) fn followed<F: StepVisitor + Drop>(
     alloc: Global,
     capture: &Capture,
@@ -527,7 +527,7 @@ fn verdict_as_made(alloc: Global, capture: &Capture, size: u32) -> Option<Verdic
     judge.verdict(alloc, size).ok()
 }
 
-/// Whether this verdict was found.
+/// Whether the verdict `wanted` was found.
 pub(crate) fn is_verdict(found: Option<Verdict>, wanted: &Verdict) -> bool {
     match found {
         Some(found) => found == *wanted,
@@ -535,7 +535,7 @@ pub(crate) fn is_verdict(found: Option<Verdict>, wanted: &Verdict) -> bool {
     }
 }
 
-/// Whether a recording gets its verdict in blocks of this size, and as it is made.
+/// Whether a recording gets its verdict in blocks of `size` steps, and step by step.
 fn has_verdict(alloc: Global, capture: &Capture, size: u32, verdict: &Verdict) -> bool
     requires { (1 ≤ size) × (size ≤ 65536) }
 {
@@ -543,7 +543,7 @@ fn has_verdict(alloc: Global, capture: &Capture, size: u32, verdict: &Verdict) -
         && is_verdict(verdict_as_made(alloc, capture, size), verdict)
 }
 
-/// Whether it does, whatever the size of the blocks.
+/// Whether a recording gets its verdict in blocks of several sizes, and step by step.
 fn always_has_verdict(alloc: Global, capture: &Capture, verdict: &Verdict) -> bool {
     has_verdict(alloc, capture, 1, verdict)
         && has_verdict(alloc, capture, 2, verdict)
@@ -580,7 +580,7 @@ fn verdicts(rt: HostRuntime) {
     assert_verdicts(&rt, rt.alloc(), &RESETS);
 }
 
-/// The span of a block. Where memory is short once, the block that comes back is judged again.
+/// A block with its span. After a failed allocation the block that comes back is judged again.
 pub(crate) fn judged(alloc: Global, block: Block) -> Option<Judged> {
     if let Err(_) = block.check() {
         return None;
@@ -594,7 +594,7 @@ pub(crate) fn judged(alloc: Global, block: Block) -> Option<Judged> {
     }
 }
 
-/// One span of two that aren't torn. Where memory is short once, they are joined again.
+/// The span of two that aren't torn. After a failed allocation they are joined again.
 fn joined(alloc: Global, first: &Span, second: &Span) -> Option<Span> {
     if first.steps() > 1000 || second.steps() > 1000 {
         return None;
@@ -606,7 +606,7 @@ fn joined(alloc: Global, first: &Span, second: &Span) -> Option<Span> {
     }
 }
 
-/// A span behind those so far, if any.
+/// The span of those so far, if any, and then `span`.
 fn added(alloc: Global, all: Option<Span>, span: Span) -> Option<Span> {
     match all {
         None => Some(span),
@@ -624,7 +624,7 @@ fn span_of(alloc: Global, blocks: Vec<Block>) -> Option<Span> {
     all
 }
 
-/// Whether a span is that of a whole recording, which conforms, in blocks of one step.
+/// Whether a span is that of a whole recording in blocks of one step, which conforms and has the listing `rows`.
 fn is_whole(alloc: Global, all: &Span, last: u32, rows: &str) -> bool {
     if all.first() != 0 {
         return false;
@@ -641,7 +641,7 @@ fn is_whole(alloc: Global, all: &Span, last: u32, rows: &str) -> bool {
     }
 }
 
-/// Whether a recording that conforms and is cut into single steps conforms.
+/// Whether a recording that is cut into single steps has the span of a whole recording that conforms.
 fn is_joined(alloc: Global, recording: &Worked, last: u32) -> Option<bool> {
     let (start, text, _, rows) = recording;
     let blocks = capture_of(alloc, *start, text)?.cut(alloc, 1).ok()?;
@@ -655,7 +655,7 @@ fn joined_spans(rt: HostRuntime) {
     assert!(rt; is_joined(rt.alloc(), &RESETS[1], 26).unwrap_or(false));
 }
 
-/// The recording of a read. Where memory is refused once, it is made again.
+/// The recording of a read. After a failed allocation it is made again.
 fn read_capture(alloc: Global) -> Option<Capture> {
     match capture_of(alloc, GRANTED, READ) {
         Some(capture) => Some(capture),
@@ -663,7 +663,7 @@ fn read_capture(alloc: Global) -> Option<Capture> {
     }
 }
 
-/// The recording in blocks of five. Where memory is refused once, it is cut again.
+/// The recording in blocks of five steps. After a failed allocation it is cut again.
 fn cut_by_fives(alloc: Global, capture: &Capture) -> Option<Vec<Block>> {
     match capture.cut(alloc, 5) {
         Ok(blocks) => Some(blocks),
@@ -671,7 +671,7 @@ fn cut_by_fives(alloc: Global, capture: &Capture) -> Option<Vec<Block>> {
     }
 }
 
-/// The listing of a span. Where memory is refused once, it is made again.
+/// The listing of a span. After a failed allocation it is made again.
 fn listing_of(alloc: Global, whole: &Span) -> Option<Listing>
     requires { first_number whole.now ≡ 0 }
 {
@@ -695,13 +695,13 @@ fn is_read(alloc: Global, whole: &Span) -> bool {
     }
 }
 
-/// The span of the read by fives.
+/// The span of the read in blocks of five steps.
 fn span_of_read(alloc: Global) -> Option<Span> {
     let capture = read_capture(alloc)?;
     span_of(alloc, cut_by_fives(alloc, &capture)?)
 }
 
-/// `tests/memory/run` refuses each of its allocations in turn.
+/// `tests/memory/run` refuses each of this test's allocations in turn.
 #[test]
 fn each_growth_fails_once(rt: HostRuntime) {
     match span_of_read(rt.alloc()) {

@@ -1,4 +1,4 @@
--- Where no slot passes an acknowledge on, none does unasked.
+-- If no slot passes an acknowledge on, none does while its input isn't low.
 use Rattle.std.proofs.Common.{◌∙◌, sym, ap}
 use Rattle.std.specs.Option.{is_some}
 use Rattle.vme_chains.proofs.AcknowledgeChanges.{unasked_none}

@@ -1,4 +1,4 @@
--- A line that was looked at is undriven where it is moved and not known.
+-- A data line that was examined is undriven exactly if the transfer moves it and it is unknown.
 use Rattle.std.proofs.Common.{ℕ, ◌+◌, ◌∙◌, ap, sym, arith, Some}
 use Rattle.vme_trace.specs.Instants.{every}
 use Rattle.vme_trace.specs.Levels.{is_known, is_known_on}

@@ -1,4 +1,4 @@
--- A line that was looked at is lacked where it is needed and not known.
+-- A line that was examined is lacked exactly if the cycle needs it and it is unknown.
 use Rattle.std.proofs.Common.{ℕ, ◌+◌, ◌∙◌, ap, sym, arith, Some}
 use Rattle.vme_trace.specs.Instants.{every}
 use Rattle.vme_trace.specs.Levels.{is_known, is_known_on}

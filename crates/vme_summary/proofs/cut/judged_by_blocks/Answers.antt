@@ -1,4 +1,4 @@
--- The blocks are the steps, one after the other.
+-- The steps of the blocks, one block after the other, are all steps.
 use Rattle.std.proofs.Common.{◌≡◌, ℕ, ◌<◌, [], ◌++◌, length, ap, sym, ◌∙◌, subst, arith, rules, append_assoc}
 use Rattle.std.proofs.Common.{append-nil, length-append, inl}
 use Rattle.std.proofs.lemmas.List.{nil_from_length}

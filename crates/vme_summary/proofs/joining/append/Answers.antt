@@ -1,4 +1,4 @@
--- The extents meet exactly where the blocks join.
+-- The extents meet exactly if the blocks join.
 use Rattle.std.proofs.Common.{refl}
 use Rattle.std.proofs.Math.Logic.{∥∥₁_map}
 use Rattle.vme_summary.proofs.Extents.{meets_join, some_joined, spans_joined, test_meets, test_torn}

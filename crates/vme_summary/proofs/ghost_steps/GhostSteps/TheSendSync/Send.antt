@@ -1,4 +1,4 @@
--- What was taken owns nothing, so it may go to another thread.
+-- A list of ghost steps owns nothing, so it may go to another thread.
 use denote.Param.Send.{IsSend, owning_send}
 use Rattle.vme_summary.specs.contracts.ghost_steps.GhostSteps.{the_row, the_type}
 

@@ -1,4 +1,4 @@
--- The summary so far stands for what it stood for, with room for the next.
+-- With room for the next summary, the summary so far stands for the same steps as before.
 use Rattle.std.proofs.Common.{◌≡◌, subst, Option, Some}
 use Rattle.vme_summary.specs.Progressed.{StandsSoFar}
 use Rattle.vme_summary.specs.declared.summary.MonitorSummaries.{MonitorSummaries}

@@ -1,4 +1,4 @@
--- What the steps do is kept behind what was kept of those before.
+-- The summary of the steps is appended to that of the steps before.
 use Rattle.std.proofs.Common.{ap, arith, subst, sym, ◌∙◌}
 use Rattle.vme_trace.specs.Levels.{Levels}
 use Rattle.vme_trace.specs.Trace.{levels_after}

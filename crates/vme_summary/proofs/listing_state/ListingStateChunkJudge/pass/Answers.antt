@@ -1,4 +1,4 @@
--- What the steps do was kept whatever stood before them.
+-- The steps were summarised by themselves, whatever is before them.
 use Rattle.vme_summary.proofs.Marked.{marked_on}
 use Rattle.vme_summary.proofs.listing_state.ListingStateChunkJudge.pass.Goals as goal
 

@@ -1,4 +1,4 @@
--- No steps leave each memory as it is at the opening.
+-- A run of no steps leaves each memory (state of an automaton) as it is at the opening.
 use Rattle.std.proofs.Common.{◌∙◌}
 use Rattle.vme_summary.specs.Runs.{known_run, handshake_run, stability_run, grant_run, acknowledge_run}
 use Rattle.vme_summary.proofs.monitor_states.MonitorStates.at.Goals as goal

@@ -1,4 +1,4 @@
--- The memory that is left has started exactly where something is judged.
+-- The leaving memory (state of the automaton) has started exactly if something is judged.
 use Rattle.std.proofs.Common.{◌∙◌, ap}
 use Rattle.vme_monitor.specs.OverStretches.{has_started}
 use Rattle.vme_summary.specs.Runs.{known_run}

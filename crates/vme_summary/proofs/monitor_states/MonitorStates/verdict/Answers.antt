@@ -1,4 +1,4 @@
--- The first break gives the verdict where anything is judged.
+-- The first break determines the verdict if anything is judged.
 use Rattle.std.proofs.Common.{sym, ◌∙◌}
 use Rattle.vme_summary.proofs.Whole.{judged_verdict, waiting_verdict}
 use Rattle.vme_summary.proofs.monitor_states.MonitorStates.verdict.Goals as goal

@@ -1,4 +1,4 @@
--- The extents meet exactly where the blocks join.
+-- The extents meet exactly if the blocks join.
 use Rattle.std.proofs.Common.{◌+◌, ap, refl}
 use Rattle.vme_summary.proofs.Extents.{meets_join, test_meets, test_torn}
 use Rattle.vme_summary.proofs.Progressing.{come_after}

@@ -1,4 +1,4 @@
--- What stands for the steps finds what they do.
+-- A summary that stands for the steps finds what they do.
 use Rattle.std.proofs.Common.{◌∙◌}
 use Rattle.vme_trace.specs.Blocks.{joined_steps}
 use Rattle.vme_summary.specs.Summaries.{stands_finds_all}

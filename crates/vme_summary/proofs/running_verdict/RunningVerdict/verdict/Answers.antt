@@ -1,4 +1,4 @@
--- What was found is of the recording.
+-- What the monitors found is what they find of the recording.
 use Rattle.std.proofs.Common.{◌≤◌, arith}
 use Rattle.vme_summary.proofs.Progressing.{past_recording}
 use Rattle.vme_summary.proofs.running_verdict.RunningVerdict.verdict.Goals as goal

@@ -1,4 +1,4 @@
--- The summary has the listing.
+-- The summary gives the listing.
 use Rattle.std.proofs.Common.{◌≡◌, ◌≤◌, sym, ◌∙◌, ap, subst, arith, Some, option_map}
 use Rattle.vme_trace.specs.Verdict.{verdict}
 use Rattle.vme_listing.specs.Listed.{Listed}
@@ -20,7 +20,7 @@ returns-clause-listing c =
     let few : s.extent.opening.slots ≤ 21 = omega arith in
     IfOk-weaker c.listing.result _ _ (λ rows is. listing_joined s few rows is) c.listing.ensures.listing
 
--- a listing of the recording splits it
+-- the edges of the recording split into what its listing lists
 split_of : (s : Span) (listing : Listed) → IsListingOf s listing → SplitsItsRecording s listing
 split_of s listing is blocks t stands joins =
     let same : Some (listing_of t) ≡ Some listing = sym (ap (option_map listing_of) joins) ∙ is blocks stands in

@@ -1,4 +1,4 @@
--- What the monitors find from the opening on.
+-- The verdict is that of what the monitors find from the opening on.
 use Rattle.std.proofs.Common.{◌≤◌, arith}
 use Rattle.vme_summary.proofs.Whole.{verdict_found}
 use Rattle.vme_summary.proofs.span.Span.verdict.Goals as goal

@@ -1,4 +1,4 @@
--- The steps that wait are judged at the end.
+-- The waiting steps are judged at the end.
 use Rattle.std.proofs.Common.{subst}
 use Rattle.vme_trace.specs.Trace.{Trace}
 use Rattle.vme_summary.proofs.StreamJudging.{few_wait, all-judged}

@@ -1,4 +1,4 @@
--- What judges all steps that came knows the lines that they leave.
+-- After all steps that came have been judged, the judge has the lines that they leave.
 use Rattle.std.proofs.Common.{sym, ◌∙◌, ap}
 use Rattle.vme_trace.specs.Trace.{Trace, levels_after}
 use Rattle.vme_trace.proofs.SameLines.{lines_decide}

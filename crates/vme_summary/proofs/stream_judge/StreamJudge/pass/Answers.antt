@@ -1,4 +1,4 @@
--- What judges the steps so far goes past those of the part.
+-- The judge of the steps so far takes those of the part.
 use Rattle.std.proofs.Common.{◌≡◌, ◌+◌, List, ◌++◌, append-nil, length, length-append, sym, ◌∙◌, ap, subst, arith}
 use Rattle.vme_trace.specs.Levels.{Levels}
 use Rattle.vme_trace.specs.Trace.{Trace, levels_after}

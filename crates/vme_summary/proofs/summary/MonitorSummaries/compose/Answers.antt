@@ -1,4 +1,4 @@
--- Each table is one of the steps of both.
+-- Each table is that of the steps of both summaries.
 use Rattle.vme_monitor.specs.Run.{no_step_marks, machine_step}
 use Rattle.vme_monitor.specs.OverStretches.{observed, phase_step}
 use Rattle.vme_monitor.specs.KnownRules.{known_begin, known_end_fault, known_next, known_start_marks, known_reset_marks}

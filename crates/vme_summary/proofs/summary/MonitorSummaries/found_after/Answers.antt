@@ -1,4 +1,4 @@
--- Each monitor goes on from its memory.
+-- Each monitor continues from its memory (the state of its automaton).
 use Rattle.vme_monitor.specs.Run.{no_step_marks, machine_step}
 use Rattle.vme_monitor.specs.OverStretches.{observed, phase_step, start_in}
 use Rattle.vme_monitor.specs.KnownRules.{known_begin, known_end_fault, known_next, known_start_marks, known_reset_marks}

@@ -1,4 +1,4 @@
--- No steps were before.
+-- There are no steps before.
 use Rattle.std.proofs.Common.{[], refl}
 use Rattle.vme_summary.proofs.summary.MonitorSummaries.found_from.Goals as goal
 

@@ -1,4 +1,4 @@
--- The listing is made of what the summary finds and of its marks.
+-- The listing is made from what the summary finds and from its marks (events of the bus).
 use Rattle.std.proofs.Common.{◌≡◌, ◌<◌, ◌^◌, true, sym, ◌∙◌, ap, subst, arith}
 use Rattle.std.proofs.lemmas.Result.{IfOk-weaker}
 use Rattle.vme_listing.specs.Places.{is_well_placed}

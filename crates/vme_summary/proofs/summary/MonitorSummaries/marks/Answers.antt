@@ -1,4 +1,4 @@
--- Each monitor has its marks.
+-- The marks (events of the bus) are those of the tables of all monitors, merged.
 use Rattle.std.proofs.Common.{◌∙◌, ap}
 use Rattle.std.proofs.lemmas.Result.{IfOk-weaker}
 use Rattle.vme_monitor.specs.BothMonitors.{merged}

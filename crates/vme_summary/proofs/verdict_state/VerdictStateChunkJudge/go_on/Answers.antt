@@ -1,4 +1,4 @@
--- The monitors are led along the steps from where they are.
+-- The monitors are advanced by the steps from their states.
 use Rattle.std.proofs.Common.{◌+◌, ap, length, length-append, sym, ◌∙◌}
 use Rattle.vme_trace.specs.Trace.{levels_after}
 use Rattle.vme_trace.specs.Levels.{Levels}

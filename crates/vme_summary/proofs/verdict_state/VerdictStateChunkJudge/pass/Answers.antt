@@ -1,4 +1,4 @@
--- What the steps do was found whatever stood before them.
+-- The steps were summarised by themselves, whatever is before them.
 use Rattle.std.proofs.Common.{◌+◌, ap}
 use Rattle.vme_summary.proofs.Progressing.{judged_on}
 use Rattle.vme_summary.proofs.verdict_state.VerdictStateChunkJudge.pass.Goals as goal
