@@ -1,4 +1,4 @@
--- What is kept of a recording that ends is what its verdict and its listing say.
+-- What is kept of a recording at its end agrees with its verdict and its listing.
 use Rattle.std.proofs.Common.{◌≡◌, ◌+◌, ◌≤◌, ℕ, Bool, true, false, List, [], ◌∷◌, ◌++◌, map, refl, sym, ap, ◌∙◌}
 use Rattle.std.proofs.Common.{arith, cond, reverse, Option, None, Some}
 use Rattle.std.proofs.lemmas.List.{reverse-append}
@@ -51,11 +51,11 @@ use Rattle.vme_account.specs.declared.row_kind.RowKind.TheVariants as kind
 
 -- ---- the verdict
 
--- by the break that it names
+-- if the verdict names a break, that break determines it
 pub named-verdict : (t : Trace) (b : Break) → named_break (verdict t) ≡ Some b → verdict t ≡ verdict_on (Some b)
 named-verdict t b e = first_told t b (first_is t ∙ e)
 
--- and where it names none by whether anything is judged
+-- if the verdict names no break, it depends on whether anything is judged
 pub unnamed-verdict : (t : Trace) → named_break (verdict t) ≡ None → verdict t
     ≡ cond (has_span (judged_spans t)) Conforming NeverIdle
 unfolding verdict_by
@@ -68,13 +68,13 @@ unnamed-verdict t e = conforms (judged_spans t) e
 
 -- ---- whether anything is judged
 
--- what a step leads to, by the break that it makes
+-- what is reached after a step that makes break `f`, if any
 abbrev later : Levels → ℕ → Memories → List Mark → Step → Option Break → StepsReached
 later o n m ms s f =
     after_fault (changed o s.changes) (n + 1) (memories_next m o (changed o s.changes) s.changes) ms
     (map (mark_at (n + 1)) (kinds_shown m o (changed o s.changes) s.changes)) f
 
--- where no break is found the monitors were led along all steps
+-- if no break is found, the monitors' memories are those after all steps
 quiet-reached : (x : List Step) (o : Levels) (n : ℕ) (m : Memories) (ms : List Mark)
     → (fold with_step (at o n m ms) x).found ≡ None
     → (fold with_step (at o n m ms) x).memories ≡ quiet_memories m o x
@@ -105,14 +105,14 @@ started-reached starts t ok few none =
 
 -- ---- the listing
 
--- an idle opening starts a stretch
+-- in a recording with an idle opening something is judged
 idle_starts : (t : Trace) → is_idle t.opening ≡ true → has_span (judged_spans t) ≡ true
 unfolding is_idle_at levels_at
 idle_starts t idle =
     let none : any (is_idle_at t) 0 0 ≡ false = fails-any (is_idle_at t) 0 0 (λ i a b. absurd (omega arith)) in
     ap has_span (spans_from_first t ∙ (spans_next t 0 0 (awaits-first t) (omega arith) (omega arith) idle none).1)
 
--- where nothing is judged there is no mark
+-- a recording in which nothing is judged has no marks
 module _ (t : Trace) (nothing : has_span (judged_spans t) ≡ false) where
   no_spans : (spans : List Stretch) → has_span spans ≡ false → spans ≡ []
   no_spans [] e = refl
@@ -136,6 +136,7 @@ module _ (t : Trace) (nothing : has_span (judged_spans t) ≡ false) where
   no_marks o =
       ap (λ (ms : List Mark). ms ++ marks_listed o (all_marks t)) (no_opening (is_idle t.opening) refl) ∙ none_listed o
 
+-- the marks that the monitors show step by step are those of the recording
 abbrev ShowsMarks : Type 0
 ShowsMarks = (t : Trace) → malformed_step t ≡ None → t.opening.slots ≤ 21
     → joined_marks (memories_at t.opening) t.opening t.steps ≡ all_marks t
@@ -158,7 +159,7 @@ module _ (finds : FindsFirst) (shows : ShowsMarks) (t : Trace) (ok : malformed_s
       (joined_marks (memories_at t.opening) t.opening t.steps)) (sym (finds t ok few) ∙ named_is_least t)
       ∙ ap (λ (ms : List Mark). opening_marks t.opening ++ marks_listed first ms) (shows t ok few))
 
-  -- the listing has the rows of the marks that are reached, and then the verdict
+  -- the listing has the rows of the marks that are reached, and a verdict after them
   rows_by : (b : Bool) → has_span (judged_spans t) ≡ b
       → (v : ListedVerdict) × (rows_of None marks ++ row.Verdict v ∷ [] ≡ recorded_rows t)
   rows_by true e = (
@@ -174,7 +175,7 @@ module _ (finds : FindsFirst) (shows : ShowsMarks) (t : Trace) (ok : malformed_s
         (row.Verdict listed_as.NeverIdle ∷ [])) e) ∙ marked_is_listed t),
   )
 
-  -- a verdict isn't counted, and isn't open
+  -- a verdict row isn't counted, and isn't open
   uncounted : (k : RowKind) (v : ListedVerdict) → is_of k (row.Verdict v) ≡ false
   uncounted kind.OpenTenures v = refl
   uncounted (kind.Tenures level slot) v = refl

@@ -1,4 +1,4 @@
--- What is counted row by row is how many rows of each kind there are.
+-- What is counted row by row is the number of rows of each kind.
 use Rattle.std.proofs.Common.{◌≡◌, ◌≢◌, ◌+◌, ◌*◌, ◌<◌, ℕ, Bool, true, false, List, [], ◌∷◌, length, get_or, cond}
 use Rattle.std.proofs.Common.{refl, sym, ap, ◌∙◌, arith}
 use Rattle.std.specs.Prelude.{◌&&◌, ◌==◌, nat_lt, count_by}
@@ -48,7 +48,7 @@ within level slot is =
     bound : (level slot : ℕ) → level < 4 → slot < 22 → level * 22 + slot < 88
     bound level slot l s = omega (arith, l, s)
 
--- two places that are one are of one level and one slot
+-- different levels or slots have different places
 one_place : (level slot granted taken : ℕ) → is_place level slot ≡ true → is_place granted taken ≡ true
     → (granted == level && taken == slot) ≡ false → place_of level slot ≢ place_of granted taken
 one_place level slot granted taken is other differs same =
@@ -83,7 +83,7 @@ module _ (tenures : List ℕ) (long : length tenures ≡ 88) (level slot : ℕ) 
   shown : (these : List ℕ) → tenures_of these level slot ≡ read these
   shown these = rw is refl
 
-  -- the same tenure once more
+  -- counting a tenure adds one to the count of its level and slot
   counted_here : read (with_one tenures (place_of level slot)) ≡ read tenures + 1
   counted_here = get_or-set_same tenures (place_of level slot) (read tenures + 1) 0 (inside (within level slot is))
     where
@@ -128,7 +128,7 @@ module _ (tenures : List ℕ) (long : length tenures ≡ 88) (level slot : ℕ) 
   one_tenure (row.PendingTransfer start direction) = no_more (read tenures)
   one_tenure (row.Verdict outcome) = no_more (read tenures)
 
--- as many counts stay
+-- the table of tenures keeps its length
 stays_long : (tenures : List ℕ) (r : Row) → length tenures ≡ 88 → length (with_tenure tenures r) ≡ 88
 stays_long tenures (row.Tenure start level slot end) long = by_test (is_place level slot)
   where
@@ -145,7 +145,7 @@ stays_long tenures (row.Transfer direction line start own answer end lanes) long
 stays_long tenures (row.PendingTransfer start direction) long = long
 stays_long tenures (row.Verdict outcome) long = long
 
--- ---- one row more
+-- ---- one more row
 
 one_more : (c : RowCounts) (r : Row) (k : RowKind) → is_counted k ≡ true → length c.tenures ≡ 88
     → count_in (with_row c r) k ≡ count_in c k + one_if (is_of k r)
@@ -166,7 +166,7 @@ one_more c r kind.Errors is long = refl
 one_more c r kind.Pending is long = refl
 one_more c r kind.Resets is long = refl
 
--- some rows more
+-- after more rows each count is higher by the number of rows of its kind
 pub some-more : (rows : List Row) (c : RowCounts) (k : RowKind) → is_counted k ≡ true → length c.tenures ≡ 88
     → count_in (fold with_row c rows) k ≡ count_in c k + count_by (is_of k) rows
 some-more [] c k is long = no_more (count_in c k)
@@ -197,7 +197,7 @@ none_yet kind.Resets is = refl
 
 -- ---- all rows of some marks
 
--- what is counted by some marks, and by the end
+-- the counts of all rows of some marks
 abbrev pub counts_of : List Mark → RowCounts
 counts_of ms = fold with_row (fold with_row no_rows (knowns_from nothing_open ms)) (pending_rows (opens ms).waiting)
 
@@ -205,7 +205,7 @@ long_fold : (rows : List Row) (c : RowCounts) → length c.tenures ≡ 88 → le
 long_fold [] c long = long
 long_fold (r ∷ rows) c long = long_fold rows (with_row c r) (stays_long c.tenures r long)
 
--- as many are counted of each kind as there are in the listing of these marks
+-- the count of each kind is the number of its rows in the listing of the marks
 pub all-counted : (k : RowKind) (ms : List Mark) → is_counted k ≡ true → count_in (counts_of ms) k
     ≡ count_by (is_of k) (rows_of None ms)
 all-counted k ms is =

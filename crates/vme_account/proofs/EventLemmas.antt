@@ -1,4 +1,4 @@
--- What happened last, and what first since then, one instant more.
+-- The last instant of an event, and the first one since another event, after one more instant.
 use Rattle.std.proofs.Common.{◌≡◌, ◌+◌, ◌<◌, ◌≤◌, ◌&&◌, ◌||◌, ℕ, zero, suc, Bool, true, false, cond, inl, inr, refl, ap}
 use Rattle.std.proofs.Common.{◌∙◌, add-one, arith}
 use Rattle.std.specs.Prelude.{Option, None, Some, is_some, nat_le, unwrap_or, if◌then◌else◌}
@@ -23,7 +23,7 @@ any-some p f n =
       | inr none ↦ rw (none, least-none p f n none) refl
     ]
 
--- nothing happened in no instants
+-- there is no greatest instant in an empty range
 pub greatest-nowhere : (p : ℕ → Bool) (f n : ℕ) → n ≤ f → greatest p f n ≡ None
 unfolding greatest
 greatest-nowhere p f zero le = refl
@@ -46,7 +46,7 @@ least-nowhere p f n le = least-none p f n (none_from n le)
 from_first : (s i : ℕ) → s ≤ i → nat_le (s + 1) (i + 1) ≡ true
 from_first s i le = grind (arith, nat_tests)
 
--- the last one, where it happens at the next instant, and where it doesn't
+-- the last instant up to the next one, if the event happens there, or doesn't
 pub last-now : (p : ℕ → Bool) (s i : ℕ) → s ≤ i → p (i + 1) ≡ true → greatest p (s + 1) (i + 1 + 1) ≡ Some (i + 1)
 last-now p s i le now = greatest-step p (s + 1) (i + 1) ∙ rw (from_first s i le, now) refl
 
@@ -61,7 +61,7 @@ last-before p s i none = greatest-step p (s + 1) (i + 1) ∙ rw none (by_test (n
 
 -- ---- the first one since something else
 
--- the last time that it happened, or else the first instant
+-- the last instant of `q` up to `i`, or else the first judged instant
 abbrev pub since_last : (ℕ → Bool) → ℕ → ℕ → ℕ
 since_last q s i = unwrap_or (greatest q (s + 1) (i + 1)) (s + 1)
 
@@ -85,7 +85,7 @@ module _ (p q : ℕ → Bool) (s i : ℕ) (le : s ≤ i) where
   abbrev first_since : ℕ → Option ℕ
   first_since n = least p (since_last q s n) (n + 1)
 
-  -- it is sought anew where the other happens
+  -- if `q` happens at the next instant, `p` is searched from there on
   pub since-now : q (i + 1) ≡ true → first_since (i + 1) ≡ (if p (i + 1) then Some (i + 1) else None)
   since-now now =
       let here : since_last q s (i + 1) ≡ i + 1 = ap (λ (o : Option ℕ). unwrap_or o (s + 1)) (last-now q s i le now) in
@@ -98,7 +98,7 @@ module _ (p q : ℕ → Bool) (s i : ℕ) (le : s ≤ i) where
       none_before : any p (i + 1) (i + 1) ≡ false
       none_before = any-some p (i + 1) (i + 1) ∙ ap is_some (least-nowhere p (i + 1) (i + 1) (omega arith))
 
-  -- and else the one that was found stays
+  -- otherwise the first `p` since `q` stays, if there is one
   pub since-before : q (i + 1) ≡ false → first_since (i + 1)
       ≡ (if is_some (first_since i) then first_since i else if p (i + 1) then Some (i + 1) else None)
   since-before none =

@@ -1,4 +1,4 @@
--- What is judged and noted of some steps, one step more.
+-- What is judged and noted after one more step.
 use Rattle.std.proofs.Common.{◌≡◌, ◌+◌, ℕ, suc, Bool, true, false, List, [], ◌∷◌, ◌++◌, length, map, take}
 use Rattle.std.proofs.Common.{refl, sym, ap}
 use Rattle.std.proofs.Common.{◌∙◌, append_assoc, arith, length-append, subst, Option, None, Some}
@@ -78,7 +78,7 @@ reached-instant o x = instant_from x (reached_at o) ∙ none_less (length x)
     none_less : (n : ℕ) → 0 + n ≡ n
     none_less n = omega arith
 
--- ---- a step behind others
+-- ---- a step after others
 
 taken : (x y : List Step) → take (length x) (x ++ y) ≡ x
 taken [] y = refl
@@ -106,7 +106,7 @@ module _ (o : Levels) (x : List Step) (s : Step) (y : List Step) where
   time_then : time_at whole (length x + 1) ≡ s.time
   time_then = time_at-step whole (length x) ∙ ap time_of (get_here x s y)
 
--- what is so of the steps in this order is so of those in that
+-- steps can be split after `s` instead of before it
 apart : (o : Levels) (x : List Step) (s : Step) (y : List Step) (P : Trace → Type 0) → P (recorded o (x ++ s ∷ y))
     → P (recorded o ((x ++ s ∷ []) ++ y))
 apart o x s y P h = subst (λ (l : List Step). P (recorded o l)) (sym (append_assoc x (s ∷ []) y)) h
@@ -132,7 +132,7 @@ follows-first o v m n l before after memories notes =
       seen = λ e. notes.seen;
     }
 
--- ---- behind a break
+-- ---- after a break
 
 pub follows-found : (o : Levels) (x : List Step) (s : Step) (j : FollowedSteps) (b : Break) → FollowsSteps o x j
     → j.notes.found ≡ Some b → FollowsSteps o (x ++ s ∷ []) j
@@ -188,7 +188,7 @@ module _ (o : Levels) (x : List Step) (s : Step) (j : FollowedSteps) (f : Follow
   next = reached-more o x s
       ∙ ap (λ (g : Option Break). if is_some g then passed r s else judged r s) (sym f.found ∙ quiet)
 
-  -- what is said of these levels and changes is said of those
+  -- the memories, levels and changes of the code are those of the definitions
   alike : {X : Type 0} (g : Memories → Levels → Levels → List Change → X)
       → g j.memories u.before u.after cs ≡ g r.memories r.levels w s.changes
   alike g =

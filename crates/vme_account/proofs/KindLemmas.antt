@@ -1,4 +1,4 @@
--- Of which kind a row is doesn't depend on where the row ends.
+-- The kind of a row doesn't depend on where the row ends.
 use Rattle.std.proofs.Common.{◌≡◌, ℕ, Option, None, Some, refl}
 use Rattle.vme_listing.specs.declared.row.Direction.{Direction}
 use Rattle.vme_listing.specs.declared.row.Row.{Row}
@@ -13,7 +13,7 @@ use Rattle.vme_account.specs.RowKinds.{is_of}
 use Rattle.vme_account.specs.declared.row_kind.RowKind.{RowKind}
 use Rattle.vme_account.specs.declared.row_kind.RowKind.TheVariants as kind
 
--- one more of a kind
+-- 1 if the row is of kind `k`, or else 0
 abbrev pub weight : RowKind → Row → ℕ
 weight k r = one_if (is_of k r)
 

@@ -1,4 +1,4 @@
--- The rows that are known one by one are those of all marks, but for where they end.
+-- The rows known mark by mark are the rows of all marks, except for their ends.
 use Rattle.std.proofs.Common.{◌≡◌, ◌+◌, ℕ, Bool, true, false, List, [], ◌∷◌, ◌++◌, Option, None, Some}
 use Rattle.std.proofs.Common.{refl, ap, arith}
 use Rattle.std.specs.Prelude.{◌||◌, if◌then◌else◌}
@@ -24,7 +24,7 @@ use Rattle.vme_account.specs.declared.open_rows.Waiting.{Waiting}
 abbrev mark : ℕ → MarkKind → Mark
 mark i k = record { instant = i; kind = k }
 
--- a number for each row that doesn't depend on where the row ends
+-- `f` gives a number for each row that doesn't depend on where the row ends
 pub record SaysNoEnd (f : Row → ℕ) : Type 0 where
   pub open_tenure : (i : ℕ) (e : Option ℕ) → f (row.OpenTenure i e) ≡ f (row.OpenTenure i None)
   pub tenure : (i level slot : ℕ) (e : Option ℕ) → f (row.Tenure i level slot e) ≡ f (row.Tenure i level slot None)
@@ -62,7 +62,7 @@ module _ (f : Row → ℕ) (no_end : SaysNoEnd f) where
       by_answer rest None = by_test rest (is_transfer m.kind || is_reset m.kind)
       by_answer rest (Some a) = no_end.answer i d e m.instant latest a
 
-  -- the transfer that waits, by the marks that follow
+  -- the row of the waiting transfer, by the marks that follow
   abbrev waiting_row : Option ℕ → List Mark → Waiting → Row
   waiting_row latest ms w = marked_transfer w.start w.direction None latest ms
 
@@ -72,23 +72,25 @@ module _ (f : Row → ℕ) (no_end : SaysNoEnd f) where
   abbrev value : UnendedRows → List Mark → ℕ
   value o ms = total (waiting_rows o.waiting o.latest ms) + total (rows_of o.latest ms)
 
-  -- a mark that begins a row
+  -- a mark that begins a row: its number doesn't depend on the row's end
   begins : (r shown : Row) (rows : List Row) → f shown ≡ f r → total (shown ∷ rows) ≡ total (r ∷ []) + total rows
   begins r shown rows same = omega (arith, sum_by-cons f shown rows, one r, same)
 
-  -- what the others leave as it is
+  -- a mark that leaves the waiting transfer's row as it is
   waits : (i : ℕ) (k : MarkKind) (w : Option Waiting) (latest next : Option ℕ) (ms : List Mark)
       → ((w : Waiting) → waiting_row latest (mark i k ∷ ms) w ≡ waiting_row next ms w)
       → total (waiting_rows w latest (mark i k ∷ ms)) ≡ total (waiting_rows w next ms)
   waits i k None latest next ms same = refl
   waits i k (Some w) latest next ms same = ap (λ (r : Row). total (r ∷ [])) (same w)
 
+  -- a mark at which the waiting transfer stays without an answer
   left : (i : ℕ) (k : MarkKind) (w : Option Waiting) (latest : Option ℕ) (ms : List Mark)
       → ((w : Waiting) → waiting_row latest (mark i k ∷ ms) w ≡ pending_row w)
       → total (waiting_rows w latest (mark i k ∷ ms)) ≡ total (pending_rows w)
   left i k None latest ms same = refl
   left i k (Some w) latest ms same = ap (λ (r : Row). total (r ∷ [])) (same w)
 
+  -- a mark at which the waiting transfer is answered
   answers : (o : UnendedRows) (i : ℕ) (k : MarkKind) (a : TransferAnswer) (ms : List Mark)
       → ((w : Waiting) → waiting_row o.latest (mark i k ∷ ms) w ≡ answered_row i a o.latest w)
       → total (waiting_rows o.waiting o.latest (mark i k ∷ ms)) ≡ total (answered_rows i a o)
@@ -102,6 +104,7 @@ module _ (f : Row → ℕ) (no_end : SaysNoEnd f) where
   none : total [] ≡ 0
   none = refl
 
+  -- the total of a mark's rows and of the rows after it
   step : (o : UnendedRows) (i : ℕ) (k : MarkKind) (ms : List Mark) → value o (mark i k ∷ ms)
       ≡ total (known_at i k o) + value (open_after i k o) ms
   step o i kind.Reset ms =
@@ -182,6 +185,7 @@ module _ (f : Row → ℕ) (no_end : SaysNoEnd f) where
   last_waiting None latest = refl
   last_waiting (Some w) latest = refl
 
+  -- the total of all rows known from `o` on
   knowns : (o : UnendedRows) (ms : List Mark) → value o ms
       ≡ total (knowns_from o ms) + total (pending_rows (fold open_next o ms).waiting)
   knowns o [] = omega (arith, none, last_waiting o.waiting o.latest)

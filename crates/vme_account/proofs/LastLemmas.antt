@@ -1,4 +1,4 @@
--- What is noted step by step is what happened last.
+-- The moments noted step by step are those of the last events.
 use Rattle.std.proofs.Common.{◌≡◌, ◌≢◌, ◌+◌, ◌-◌, ◌<◌, ◌≤◌, ℕ, zero, suc, Bool, true, false, List, [], ◌∷◌}
 use Rattle.std.proofs.Common.{length, set, get_or}
 use Rattle.std.proofs.Common.{Option, None, Some, refl, sym, subst, ap, ◌∙◌, arith, replicate}
@@ -70,7 +70,7 @@ module _ (is : ℕ → Bool) (m : Moment) where
     abbrev at : List (Option Moment) → Option Moment
     at table = get_or table l None
 
-    -- of another line it stays
+    -- if `is` doesn't hold of line `l`, no change alters its moment
     other_one : is l ≡ false → (table : List (Option Moment)) (c : Change) → at (one table c) ≡ at table
     other_one none table c = by_tests (is c.line) refl
       where
@@ -86,7 +86,7 @@ module _ (is : ℕ → Bool) (m : Moment) where
     noted-other none [] table = refl
     noted-other none (c ∷ cs) table = noted-other none cs (one table c) ∙ other_one none table c
 
-    -- once it is noted, it stays so
+    -- once moment `m` is noted for line `l`, other changes leave it
     stays_one : (table : List (Option Moment)) (c : Change) → l < length table → at table ≡ Some m
         → at (one table c) ≡ Some m
     stays_one table c less here = by_test (is c.line)
@@ -129,12 +129,12 @@ module _ (is : ℕ → Bool) (m : Moment) where
         by_place true e o rest = noted_stays cs (one table c) in_table (here (grind (arith, nat_tests, e)))
         by_place false e o rest = rest o
 
--- ---- one instant more
+-- ---- one more instant
 
 before-next : (i : ℕ) → i + 1 - 1 ≡ i
 before-next i = omega arith
 
--- what happens in the step
+-- an event happens at the next instant exactly if it happens in the step to it
 pub happens-next : (t : Trace) (i : ℕ) (v w : Levels) → v ≡ levels_at t i → w ≡ levels_at t (i + 1) → (e : StepEvent)
     → happens t e (i + 1) ≡ happens_between v w e
 unfolding happens
@@ -147,14 +147,14 @@ module _ (t : Trace) (s i : ℕ) (le : s ≤ i) where
   abbrev now : StepEvent → Bool
   now e = happens t e (i + 1)
 
-  -- the last one
+  -- the last instant of an event up to the next instant
   last_next : (e : StepEvent) (b : Bool) → now e ≡ b
       → moment t (greatest (happens t e) (s + 1) (i + 1 + 1))
       ≡ now_or b (moment_at t (i + 1)) (moment t (greatest (happens t e) (s + 1) (i + 1)))
   last_next e true is = ap (moment t) (last-now (happens t e) s i le is)
   last_next e false is = ap (moment t) (last-before (happens t e) s i is)
 
-  -- the first one since another
+  -- the first instant of `p` since `q`
   abbrev found : StepEvent → StepEvent → Option ℕ
   found p q = least (happens t p) (since t q s i) (i + 1)
 
@@ -255,7 +255,7 @@ module _ (t : Trace) (s i : ℕ) (le : s ≤ i) (v : Levels) (cs : List Change) 
     dtack_in_cycle = first_since (Falls DTACK) (Falls AS) e.dtack_in_cycle last.dtack_in_cycle;
   }
 
--- where nothing of the handshake happens all stays
+-- if nothing of the handshake happens at a step, its moments stay
 abbrev with_firsts : LastEvents → Option Moment → Option Moment → Option Moment → LastEvents
 with_firsts e a b c = record e { answer_in_transfer = a; answer_in_cycle = b; dtack_in_cycle = c }
 
@@ -314,7 +314,7 @@ last-none t s = record {
     first_nowhere p q = ap (λ (f : ℕ). moment t (least (happens t p) f (s + 1))) (since_nothing t q s)
         ∙ ap (moment t) (least-nowhere (happens t p) (s + 1) (s + 1) (omega arith))
 
--- ---- a step, as it is taken
+-- ---- taking a step
 
 same_moment : (m : Moment) (i time : ℕ) (dtack berr : Bool) → m.instant ≡ i → m.time ≡ time → m.dtack_falls ≡ dtack
     → m.berr_falls ≡ berr → m ≡ record { instant = i; time = time; dtack_falls = dtack; berr_falls = berr }

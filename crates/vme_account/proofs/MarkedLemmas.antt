@@ -1,4 +1,4 @@
--- What is kept of marks is of their listing.
+-- The rows and counts kept of marks are those of their listing.
 use Rattle.std.proofs.Common.{◌≡◌, ℕ, Bool, true, false, List, [], ◌∷◌, ◌++◌, map, None, refl, sym, ap, ◌∙◌}
 use Rattle.std.specs.Prelude.{◌&&◌, count_by, if◌then◌else◌}
 use Rattle.std.specs.List.{fold}
@@ -26,7 +26,7 @@ use Rattle.vme_account.specs.declared.marked.Marked.{Marked}
 use Rattle.vme_account.specs.declared.row_kind.Part.{Part}
 use Rattle.vme_account.specs.declared.row_kind.RowKind.{RowKind}
 
--- both, kept together
+-- the open rows and the counts after marks `ms`, each by itself
 together : (ms : List Mark) (m : Marked) → fold marked_next m ms
     ≡ record { opened = fold open_next m.opened ms; counts = fold with_row m.counts (knowns_from m.opened ms) }
 together [] m = refl
@@ -85,7 +85,7 @@ module _ (i : ℕ) where
 
 -- ---- the opening
 
--- judging starts there where it is idle, and a tenure is open where the bus is busy
+-- the marks of the opening, by whether it is idle and whether the bus is busy
 pub opening-marked : (v : Levels) (idle busy : Bool) → is_idle v ≡ idle → is_low (level_at v BBSY) ≡ busy
     → (if idle && busy then marked (mark_at 0 Start ∷ mark_at 0 Open ∷ []) else nothing_marked)
     ≡ marked (opening_marks v)

@@ -1,4 +1,4 @@
--- What is reached is the first break of the recording, and the marks of which its listing is made.
+-- What is reached after all steps is the recording's first break, and the marks from which its listing is made.
 use Rattle.std.proofs.Common.{◌≡◌, ◌+◌, ◌≤◌, ℕ, Bool, true, false, List, [], ◌∷◌, ◌++◌, map}
 use Rattle.std.proofs.Common.{Option, None, Some, refl, sym, ap, ◌∙◌, arith}
 use Rattle.std.specs.Prelude.{IfSome, is_some, nat_lt, option_map, if◌then◌else◌}
@@ -21,7 +21,7 @@ use Rattle.vme_auditor.specs.Memories.{first_fault_of, memories_at, memories_nex
 use Rattle.vme_auditor.specs.declared.memories.Memories.{Memories}
 use Rattle.vme_account.specs.StepsReached.{StepsReached, judged, passed, reached, reached_at, with_step}
 
--- ---- one step more
+-- ---- one more step
 
 pub reached-more : (o : Levels) (x : List Step) (s : Step) → reached o (x ++ s ∷ []) ≡ with_step (reached o x) s
 unfolding reached
@@ -51,7 +51,7 @@ twice_moved n (Some b) = ap
     joined : (i n : ℕ) → i + (n + 1) ≡ i + 1 + n
     joined i n = omega arith
 
--- a break is at no opening
+-- a break is after the opening
 abbrev Behind : Option Break → Type 0
 Behind b = IfSome b (λ b. 1 ≤ b.instant)
 
@@ -89,7 +89,7 @@ marks_moved n (m ∷ ms) =
     joined : (i n : ℕ) → i + (n + 1) ≡ i + 1 + n
     joined i n = omega arith
 
--- those before an instant
+-- the marks before an instant
 
 before_shifted : (n : ℕ) (ms : List Mark) → marks_before (n + 1) (map (shifted_mark 1) ms)
     ≡ map (shifted_mark 1) (marks_before n ms)
@@ -128,7 +128,7 @@ kinds_before n (k ∷ ks) ms le =
     is_before : (n : ℕ) → 1 ≤ n → nat_lt 1 (n + 1) ≡ true
     is_before n le = grind (arith, nat_tests, le)
 
--- the marks that are listed, behind a step without a break
+-- the marks that are listed, after a step without a break
 listed_behind : (ks : List MarkKind) (b : Option Break) (ms : List Mark) → Behind b
     → marks_listed (option_map (shifted_break 1) b) (map (mark_at 1) ks ++ map (shifted_mark 1) ms)
     ≡ map (mark_at 1) ks ++ map (shifted_mark 1) (marks_listed b ms)
@@ -156,12 +156,12 @@ marks_stay (s ∷ x) r b is =
 abbrev pub at : Levels → ℕ → Memories → List Mark → StepsReached
 at o n m ms = record { levels = o; instant = n; memories = m; found = None; marks = ms }
 
--- a step that finds something, or nothing
+-- what is reached after a step, by its break, if any
 abbrev pub after_fault : Levels → ℕ → Memories → List Mark → List Mark → Option Break → StepsReached
 after_fault o n m ms shown f =
     record { levels = o; instant = n; memories = m; found = f; marks = if is_some f then ms else ms ++ shown }
 
--- a step, by what the monitors say of it
+-- a step, by the break and the marks that the monitors show
 module _ (s : Step) (o : Levels) (m : Memories) where
   abbrev next : Levels
   next = changed o s.changes
@@ -178,7 +178,7 @@ module _ (s : Step) (o : Levels) (m : Memories) where
   abbrev found_then : ℕ → List Mark → Option Break → StepsReached
   found_then n ms f = after_fault next (n + 1) later ms (map (mark_at (n + 1)) kinds) f
 
-  -- the first break of the step, and of those behind it
+  -- the first break of a step and of the steps after it
   abbrev first_with : Option Fault → List Step → Option Break
   first_with f x = earlier (option_map (break_of_fault 1 s.time) f)
       (option_map (shifted_break 1) (first_break_from later next x))

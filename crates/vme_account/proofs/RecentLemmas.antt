@@ -1,4 +1,4 @@
--- The last steps of a recording, one step more.
+-- The last steps of a recording, after one more step.
 use Rattle.std.proofs.Common.{◌≡◌, ◌+◌, ◌-◌, ◌<◌, ◌≤◌, ◌++◌, ◌∷◌, [], ℕ, suc, zero, List, drop, length, refl, sym, ap}
 use Rattle.std.proofs.Common.{◌∙◌, append_assoc, arith, length-append, length-drop}
 use Rattle.std.specs.Prelude.{None, Some, slice_get}
@@ -11,7 +11,7 @@ use Rattle.vme_trace.proofs.CutBlocks.{levels_at-taken}
 use Rattle.vme_trace.proofs.WellFormedSteps.{levels_at-step}
 use Rattle.vme_account.specs.RecentSteps.{levels_of, with_step}
 
--- ---- the instants so far stay
+-- ---- the earlier instants stay
 
 get_before : (xs ys : List Step) (n : ℕ) → n < length xs → slice_get (xs ++ ys) n ≡ slice_get xs n
 get_before [] ys n lt = absurd (omega (arith, lt))
@@ -92,7 +92,7 @@ pub next-none : (t : Trace) (n : ℕ) (v : Levels) → slice_get t.steps n ≡ N
     → v ≡ levels_at t (n + 1)
 next-none t n v none is = is ∙ sym (levels_at-step t n ∙ ap (after (levels_at t n)) none)
 
--- one instant more
+-- the levels of one more instant
 pub levels-more : (t : Trace) (first place : ℕ) (items : List Levels) (v : Levels) → first ≤ place → items
     ≡ levels_of t first (place - first + 1) → v ≡ levels_at t (place + 1)
     → items ++ v ∷ [] ≡ levels_of t first (place + 1 - first + 1)

@@ -1,4 +1,4 @@
--- The steps that are kept, one step more; and what they say of the whole recording.
+-- The kept steps after one more step, and the levels and times of the whole recording that follow from them.
 use Rattle.std.proofs.Common.{◌≡◌, ◌+◌, ◌<◌, ◌≤◌, ◌++◌, ◌∷◌, [], ℕ, suc, zero, List, length, take, refl, sym, ap}
 use Rattle.std.proofs.Common.{◌∙◌, arith, length-append, subst}
 use Rattle.std.specs.Prelude.{slice_get}
@@ -21,9 +21,9 @@ take_all (s ∷ x) = ap (λ (l : List Step). s ∷ l) (take_all x)
 length_one : (x : List Step) (s : Step) → length (x ++ s ∷ []) ≡ length x + 1
 length_one x s = length-append x (s ∷ [])
 
--- ---- one step more
+-- ---- one more step
 
--- where all steps are kept
+-- if all steps are kept, the recent steps are those of the whole recording
 pub all-kept : (o : Levels) (x : List Step) (k : StoredSteps) → AreStored o x k → k.end ≡ k.steps
     → AreRecent k.recent (recorded o x)
 all-kept o x k kept all =

@@ -1,4 +1,4 @@
--- When that happened of which a break speaks, by what happened last up to it and up to the instant before.
+-- When the event happened that a break refers to, by the last events up to the break and up to the instant before.
 use Rattle.std.proofs.Common.{◌≡◌, ◌+◌, ◌-◌, ◌<◌, ◌≤◌, ℕ, Bool, true, false, cond, Option, None, Some, refl}
 use Rattle.std.proofs.Common.{sym, subst, ap}
 use Rattle.std.proofs.Common.{◌∙◌, arith}
@@ -52,6 +52,7 @@ module _ (t : Trace) where
   either : (p q : ℕ → Bool) (f n : ℕ) → last_at (λ i. p i || q i) f n ≡ later (last_at p f n) (last_at q f n)
   either p q f n = ap (moment t) (greatest-either p q f n) ∙ moment_later (greatest p f n) (greatest q f n)
 
+  -- the later of the last moments of `p` and of `q` is the last moment of either
   two : (p q : ℕ → Bool) (f n : ℕ) (a b : Option Moment) → a ≡ last_at p f n → b ≡ last_at q f n
       → later a b ≡ last_at (λ i. p i || q i) f n
   two p q f n a b e g =
@@ -100,7 +101,7 @@ module _ (t : Trace) where
         (λ (c : Bool). cond c None (first_since (greatest (happens t q) (s + 1) (i + 1))))
         (differs n (i + 1) (w n refl))
 
-    -- where the other happens at the next instant there is none before it
+    -- if `q` happens at the next instant, there is no `p` since `q` before that instant
     pub first-then : unless_now (greatest (happens t q) (s + 1) (i + 1 + 1))
         ≡ moment t (least (happens t p) (since t q s (i + 1)) (i + 1))
     first-then = by_test (happens t q (i + 1)) refl
@@ -125,7 +126,7 @@ module _ (t : Trace) where
 
   module _ (s i : ℕ) (le : s ≤ i) (now before : LastEvents) (is_now : AreLast t s (i + 1) now)
       (is_before : AreLast t s i before) where
-    -- the first one since another, by the last time of that, and by the first one an instant before
+    -- the first `p` since `q`, by the last `q`, and by the first `p` one instant before
     first_at : (p q : StepEvent) (last first : Option Moment)
         → last ≡ moment t (greatest (happens t q) (s + 1) (i + 1 + 1))
         → first ≡ moment t (least (happens t p) (since t q s i) (i + 1)) → cond (is_at last (i + 1)) None first

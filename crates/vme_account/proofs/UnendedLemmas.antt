@@ -1,4 +1,4 @@
--- What is kept of the open rows, mark by mark, is the last open row of the listing.
+-- The open rows kept mark by mark are the last open rows of the listing.
 use Rattle.std.proofs.Common.{◌≡◌, ℕ, Bool, true, false, List, [], ◌∷◌, ◌++◌, Option, None, Some, reverse}
 use Rattle.std.proofs.Common.{refl, sym, ap, ◌∙◌}
 use Rattle.std.specs.Prelude.{◌||◌, find, is_some, if◌then◌else◌}
@@ -34,7 +34,7 @@ mark i k = record { instant = i; kind = k }
 
 -- ---- the last open row, from the front
 
--- the last that is open, behind one row more
+-- the last open row of part `p` after one more row `r`
 abbrev after : Part → Option Row → Row → Option Row
 after p found r = if is_open p r then Some r else if is_reset r then None else found
 
@@ -48,7 +48,7 @@ abbrev or_found : Option Row → Option Row → Option Row
 or_found None found = found
 or_found (Some r) found = unless_reset r
 
--- a reset isn't open
+-- a reset row isn't open
 reset_closed : (p : Part) (i : ℕ) → is_open p (row.Reset i) ≡ false
 reset_closed part.Tenure i = refl
 reset_closed part.Cycle i = refl
@@ -100,7 +100,7 @@ module _ (p : Part) where
 
 -- ---- what may end
 
--- what is open of it where these marks follow
+-- the open row, if no mark that ends it follows
 abbrev carried : (MarkKind → Bool) → List Mark → Option Row → Option Row
 carried is ms found = if is_some (first_instant is ms) then None else found
 
@@ -239,11 +239,11 @@ cycles o (m ∷ ms) = cycle_step o m.instant m.kind ms ∙ cycles (open_next o m
 
 -- ---- transfers
 
--- the transfers that wait no more
+-- the last open transfer that doesn't wait any more
 abbrev settled : Option Row → Option Row → List Mark → Option Row
 settled unanswered answered ms = option_or (carried is_close ms answered) unanswered
 
--- and the one that waits
+-- the last open transfer, with the waiting one
 abbrev with_waiting : Option Row → Option ℕ → List Mark → Waiting → Option Row
 with_waiting found latest ms w = after part.Transfer found
     (marked_transfer w.start w.direction (option_or w.close (first_instant is_close ms)) latest ms)
@@ -266,7 +266,7 @@ module _ (o : UnendedRows) (i : ℕ) (ms : List Mark) where
   starts write None = refl
   starts write (Some w) = sym (settled_none (Some (pending_row w)) ms)
 
-  -- one is answered
+  -- the waiting transfer is answered
   module _ (k : MarkKind) (a : TransferAnswer)
       (row_is : (w : Waiting) → with_waiting (settled o.unanswered o.answered ms) o.latest (mark i k ∷ ms) w
       ≡ after part.Transfer (settled o.unanswered o.answered ms)
@@ -297,7 +297,7 @@ module _ (o : UnendedRows) (i : ℕ) (ms : List Mark) where
     answers None = without_waiting o.latest
     answers (Some w) = row_is w ∙ by_cycle w o.latest
 
-  -- the strobes are high again
+  -- the strobes are High again
   closes : (w : Option Waiting) → found_of o.unanswered w o.latest (mark i kind.Close ∷ ms)
       ≡ found_of (settled o.unanswered None ms) (closed i w) o.latest ms
   closes None = sym (settled_none o.unanswered ms)
@@ -348,7 +348,7 @@ transfers o [] = by_waiting o.waiting
     by_waiting (Some w) = refl
 transfers o (m ∷ ms) = transfer_step o m.instant m.kind ms ∙ transfers (open_next o m) ms
 
--- ---- of each part
+-- ---- each part
 
 pub all-open : (p : Part) (ms : List Mark) → open_in (opens ms) p ≡ open_row p (rows_of None ms)
 all-open part.Tenure ms =

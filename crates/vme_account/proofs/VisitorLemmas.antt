@@ -1,4 +1,4 @@
--- What takes the steps keeps up with one step more.
+-- What the visitor has after one more step.
 use Rattle.std.proofs.Common.{◌≡◌, ◌+◌, ◌<◌, ◌≤◌, ℕ, List, [], ◌∷◌, ◌++◌, length, min, Option, None, Some, arith}
 use Rattle.std.proofs.Common.{length-append}
 use Rattle.std.specs.Global.{Box}
@@ -9,17 +9,17 @@ use Rattle.vme_trace.specs.declared.step.Step.{Step}
 use Rattle.vme_account.specs.Accounts.{IsRunning, KeepsAccount}
 use Rattle.vme_account.specs.declared.running_account.RunningAccount.{RunningAccount}
 
--- what holds anyway
+-- a fact `P` that doesn't depend on the result
 pub if-ok : {A B P : Type 0} → P → (r : Result A B) → IfOk r (λ a. P)
 if-ok p (Ok a) = p
 if-ok p (Err e) = tt
 
--- before the first step
+-- the state before the first step
 pub running-first : (o : Levels) (a : Option (Box RunningAccount)) → IfSome a (λ b. KeepsAccount o [] b.value)
     → IsRunning o [] a 0
 running-first o a keeps = record { counted = omega arith; kept = λ e. keeps }
 
--- where there was no memory, nothing is known but the count
+-- after a failed allocation only the count is known
 pub running-lost : (o : Levels) (x : List Step) (a : Option (Box RunningAccount)) (count : ℕ) → IsRunning o x a count
     → IsRunning o x None count
 running-lost o x a count i = record { counted = i.counted; kept = λ e. tt }
@@ -32,11 +32,11 @@ module _ (o : Levels) (x : List Step) (s : Step) (a : Option (Box RunningAccount
   counted : more ≡ min (length (x ++ s ∷ [])) (capture_limit + 1)
   counted = omega (arith, next, i.counted, longer)
 
-  -- a step is passed over where there are too many, or was no memory
+  -- if there are too many steps, or an allocation failed, a step is counted and not kept
   pub running-passed : IsRunning o (x ++ s ∷ []) None more
   running-passed = record { counted = counted; kept = λ few. tt }
 
-  -- a step that is taken
+  -- a step that is kept
   module _ (few : more ≤ 67108864) (b : Box RunningAccount) (some : a ≡ Some b) where
     pub running-keeps : KeepsAccount o x b.value
     running-keeps = rw some at i.kept (omega (arith, few, next))

@@ -1,4 +1,4 @@
--- What an account says of a recording.
+-- What an account has of a recording.
 use Rattle.std.specs.Prelude.{◌≡◌, ◌+◌, ◌≤◌, ℕ, true, List, length, min, IfSome, None, Option, count_by, is_some}
 use Rattle.std.specs.Global.{Box}
 use Rattle.vme_audit.specs.Parts.{named_break}
@@ -24,14 +24,15 @@ use Rattle.vme_account.specs.declared.row_kind.Part.{Part}
 use Rattle.vme_account.specs.declared.row_kind.RowKind.{RowKind}
 use Rattle.vme_account.specs.declared.running_account.RunningAccount.{RunningAccount}
 
--- ---- how far it has come
+-- ---- the steps so far
 
--- it follows the steps, and keeps the last of them
+-- the account follows the steps `x`, and keeps the last of them
 pub record KeepsAccount (o : Levels) (x : List Step) (a : RunningAccount) : Type 0 where
   pub judged : FollowsSteps o x a.judged
   pub kept : AreStored o x a.kept
 
--- it does so unless there was no memory, or there are too many steps; these are counted as far as a recording has them
+-- `count` is the number of steps, limited to one more than a recording may have; while `count` is at most 67,108,864,
+-- `a`, if it is there, is the account of these steps
 pub record IsRunning (o : Levels) (x : List Step) (a : Option (Box RunningAccount)) (count : ℕ) : Type 0 where
   pub counted : count ≡ min (length x) (capture_limit + 1)
   pub kept : count ≤ 67108864 → IfSome a (λ b. KeepsAccount o x b.value)
@@ -50,13 +51,13 @@ judged_from a = a.running.value.judged.notes.events.start
 abbrev pub first_kept : Account → ℕ
 first_kept a = a.running.value.kept.recent.first
 
--- and the last one
+-- the last instant whose levels are kept
 abbrev pub last_kept : Account → ℕ
 last_kept a = a.running.value.kept.end
 
--- It opens with these levels. The break is that of the verdict, and something is judged where it is so. The rows are
--- those of the listing, those that are open and those of each kind. The steps that are kept, the times and the events
--- are those of the recording.
+-- The opening levels are those of `t`. The break is that of the verdict, and without one the monitors have started
+-- exactly if something is judged. The open rows, and the numbers of rows of each kind, are those of the listing. The
+-- kept steps, the times and the events are those of the recording.
 pub record IsAccountOf (a : Account) (t : Trace) : Type 0 where
   pub opening : a.opening ≡ t.opening
   pub found : found_break a ≡ named_break (verdict t)

@@ -1,4 +1,4 @@
--- How far the judging of a recording has come, and what is noted of its steps up to the first break.
+-- How far a recording is judged, and what is noted of its steps up to the first break.
 use Rattle.std.specs.Prelude.{◌≡◌, ◌+◌, ◌++◌, ℕ, List, map, length, true, IfSome, None, is_some, if◌then◌else◌}
 use Rattle.std.specs.List.{fold}
 use Rattle.std.specs.Option.{option_map}
@@ -27,7 +27,7 @@ pub record AreNotesAtOpening (o : Levels) (n : StepNotes) : Type 0 where
   pub events : (t : Trace) → AreEvents t n.events
   pub seen : n.events.seen ≡ 0
 
--- this is noted of a step at an instant and a time, between these levels, that shows this
+-- the notes after a step at an instant and a time, between levels `v` and `w`, at which the monitors show `shown`
 pub record AreNotesOfStep (v w : Levels) (instant time : ℕ) (shown : AllShown) (old new : StepNotes) : Type 0 where
   pub found : new.found ≡ option_map (break_of_fault instant time) shown.fault
   pub marked : new.marked
@@ -42,8 +42,8 @@ pub record AreNotesOfStep (v w : Levels) (instant time : ℕ) (shown : AllShown)
 
 -- ---- how far it has come
 
--- Behind some steps the break is found that they have, and the marks before it are taken; the times and the events that
--- are noted are those of the recording, however it goes on; and up to the break the monitors are where the steps lead.
+-- After the steps `x` the break is their first one, and the marks before it are taken. The times and the events noted
+-- are those of the recording, whatever steps `y` follow. Up to the break the monitors have the memories after `x`.
 pub record FollowsSteps (o : Levels) (x : List Step) (j : FollowedSteps) : Type 0 where
   pub found : j.notes.found ≡ (reached o x).found
   pub marked : j.notes.marked ≡ marked (reached o x).marks

@@ -1,4 +1,4 @@
--- The rows of marks, each as soon as its kind is known: where its end follows later, it is told without one.
+-- The rows of marks, each as soon as its kind is known. A row whose end comes later is without an end.
 use Rattle.std.specs.Prelude.{ℕ, List, [], ◌∷◌, ◌++◌, Option, None, Some}
 use Rattle.std.specs.Option.{option_map_or}
 use Rattle.vme_listing.specs.declared.row.Row.{Row}
@@ -12,18 +12,18 @@ use Rattle.vme_account.specs.UnendedRows.{open_next, pending_row}
 use Rattle.vme_account.specs.declared.open_rows.UnendedRows.{UnendedRows}
 use Rattle.vme_account.specs.declared.open_rows.Waiting.{Waiting}
 
--- the transfer that waits, where it stays without an answer
+-- the waiting transfer's row, if it stays without an answer
 abbrev pub pending_rows : Option Waiting → List Row
 pending_rows w = option_map_or (λ w. pending_row w ∷ []) w []
 
--- the transfer that waits, where it is answered
+-- the waiting transfer's row, if it is answered
 abbrev pub answered_row : ℕ → TransferAnswer → Option ℕ → Waiting → Row
 answered_row i a latest w = marked_answer w.start w.direction None i latest a
 
 abbrev pub answered_rows : ℕ → TransferAnswer → UnendedRows → List Row
 answered_rows i a o = option_map_or (λ w. answered_row i a o.latest w ∷ []) o.waiting []
 
--- the rows whose kind is known by a mark, where these are open before it
+-- the rows whose kind is known at a mark, where `o` are the open rows before it
 abbrev pub known_at : ℕ → MarkKind → UnendedRows → List Row
 known_at i kind.Reset o = pending_rows o.waiting ++ row.Reset i ∷ []
 known_at i kind.Start o = row.Start i ∷ []
@@ -39,7 +39,7 @@ known_at i (kind.WriteAnswer line moved unknown value) o =
     (record { line = line; lanes = Some (record { moved = moved; unknown = unknown; value = value }) }) o
 known_at i kind.Close o = []
 
--- the rows that are known by these marks, one mark after the other
+-- the rows whose kinds are known at the marks, one mark after the other
 abbrev pub knowns_from : UnendedRows → List Mark → List Row
 knowns_from o [] = []
 knowns_from o (m ∷ ms) = known_at m.instant m.kind o ++ knowns_from (open_next o m) ms

@@ -4,7 +4,7 @@ use Rattle.vme_trace.specs.Trace.{Trace, time_at}
 use Rattle.vme_account.specs.declared.known_times.KnownTimes.{KnownTimes}
 use Rattle.vme_account.specs.declared.known_times.TimedInstant.{TimedInstant}
 
--- an instant of a recording has this time
+-- the time of `p` is that of its instant in recording `t`
 abbrev pub IsTime : Trace → TimedInstant → Type 0
 IsTime t p = p.time ≡ time_at t p.instant
 

@@ -1,4 +1,4 @@
--- What happened last in the stretch that is judged, as far as it has come.
+-- When each event last happened in the judged stretch, up to some instant.
 use Rattle.std.specs.Prelude.{◌≡◌, ◌+◌, ◌<◌, ◌≤◌, nat_le, ℕ, Bool, List, Option, None, Some, is_some}
 use Rattle.std.specs.Prelude.{if◌then◌else◌, length, replicate}
 use Rattle.std.specs.Prelude.{slice_index_or, slice_set, option_map}
@@ -29,7 +29,7 @@ no_events =
       dtack_in_cycle = None;
     }
 
--- a moment in the places of the lines that change and of which this holds
+-- the table with moment `m` for each line that changes and that `is` holds of
 abbrev pub noted : (ℕ → Bool) → Moment → List (Option Moment) → List Change → List (Option Moment)
 noted is m table cs = fold (λ table c. if is c.line then slice_set table c.line (Some m) else table) table cs
 
@@ -42,7 +42,7 @@ unless is before = if is then None else before
 abbrev pub first_or : Bool → Moment → Option Moment → Option Moment
 first_or is m before = if is_some before then before else if is then Some m else None
 
--- with a transfer that starts, an answer, a cycle that begins, and an answer by DTACK
+-- the handshake's moments after a step, by whether a transfer starts, an answer comes, a cycle begins, DTACK answers
 abbrev pub handshake_after : Bool → Bool → Bool → Bool → Moment → LastEvents → LastEvents
 handshake_after starts answers begins by_dtack m e =
     record e {
@@ -52,7 +52,7 @@ handshake_after starts answers begins by_dtack m e =
       dtack_in_cycle = first_or by_dtack m (unless begins e.dtack_in_cycle);
     }
 
--- what happened last, with a step between these levels
+-- the last events after a step from levels `v` to `w`
 abbrev pub last_after : Levels → Levels → List Change → Moment → LastEvents → LastEvents
 last_after v w cs m e =
     record {
@@ -66,7 +66,7 @@ last_after v w cs m e =
 
 -- ---- when an event happened last
 
--- the later of two moments
+-- the later of `m` and another moment, if there is one
 abbrev pub later_of : Moment → Option Moment → Option Moment
 later_of m None = Some m
 later_of m (Some n) = if nat_le m.instant n.instant then Some n else Some m
@@ -81,7 +81,7 @@ last_fall e l = slice_index_or e.falls l None
 abbrev pub last_rise : LastEvents → ℕ → Option Moment
 last_rise e l = slice_index_or e.rises l None
 
--- but for answers
+-- when an event last happened; none for an answer
 abbrev pub last_of : LastEvents → StepEvent → Option Moment
 last_of e (Falls l) = last_fall e l
 last_of e (Rises l) = last_rise e l
@@ -92,7 +92,7 @@ last_of e GrantFalls =
     later (later (later (last_fall e (grant 0 0)) (last_fall e (grant 1 0))) (last_fall e (grant 2 0)))
     (last_fall e (grant 3 0))
 
--- an answer, or else a fall of DTACK, in the cycle
+-- when an answer first fell in the cycle, if the event is an answer, or else when DTACK first fell there
 abbrev pub first_in_cycle : LastEvents → StepEvent → Option Moment
 first_in_cycle e AnswerFalls = e.answer_in_cycle
 first_in_cycle e k = e.dtack_in_cycle
@@ -112,8 +112,8 @@ moment_at t i =
 abbrev pub moment : Trace → Option ℕ → Option Moment
 moment t found = option_map (moment_at t) found
 
--- In the stretch that is judged from instant s on these are the last events up to instant i, and the first answers of
--- the transfer and of the cycle that are open there.
+-- In the stretch judged from instant `s` on, `e` are the last events up to instant `i`, and the first answers since the
+-- last transfer and since the last cycle started, or since judging started.
 pub record AreLast (t : Trace) (s i : ℕ) (e : LastEvents) : Type 0 where
   pub all_falls : length e.falls ≡ line_count
   pub all_rises : length e.rises ≡ line_count
@@ -129,7 +129,8 @@ pub record AreLast (t : Trace) (s i : ℕ) (e : LastEvents) : Type 0 where
   pub dtack_in_cycle : e.dtack_in_cycle
       ≡ moment t (least (happens t (Falls DTACK)) (since t (Falls AS) s i) (i + 1))
 
--- With the step from some levels to others, the last events up to an instant become those up to the next, at this time.
+-- By the step to `instant` at `time`, from levels `before` to `after`, the last events `old` up to the instant before
+-- become `new`, those up to `instant`.
 abbrev pub AreLastNext : LastEvents → LastEvents → Levels → Levels → ℕ → ℕ → Type 0
 AreLastNext old new before after instant time =
     (t : Trace) (s i : ℕ) → AreLast t s i old → s ≤ i → instant ≡ i + 1 → before ≡ levels_at t i

@@ -11,7 +11,7 @@ use Rattle.vme_account.specs.declared.row_counts.RowCounts.{RowCounts}
 abbrev pub nothing_marked : Marked
 nothing_marked = record { opened = nothing_open; counts = no_rows }
 
--- one mark more
+-- the state after one more mark
 abbrev pub marked_next : Marked → Mark → Marked
 marked_next m k =
     record {
@@ -22,6 +22,6 @@ marked_next m k =
 abbrev pub marked : List Mark → Marked
 marked ms = fold marked_next nothing_marked ms
 
--- the counts where no mark follows
+-- the counts if no mark follows
 abbrev pub counts_in : Marked → RowCounts
 counts_in m = fold with_row m.counts (pending_rows m.opened.waiting)

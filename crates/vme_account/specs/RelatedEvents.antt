@@ -1,4 +1,4 @@
--- What a break speaks of besides its own edge: the edges before it that make it a break.
+-- What a break refers to besides its own edge: the edges before it that make it a break.
 use Rattle.std.specs.Prelude.{ℕ, Bool, ◌+◌, ◌-◌, ◌&&◌, ◌||◌, Option, None, Some, unwrap_or, if◌then◌else◌}
 use Rattle.vme_trace.specs.Edges.{answer_between, starts_between}
 use Rattle.vme_trace.specs.Instants.{greatest, least}
@@ -17,7 +17,7 @@ use Rattle.vme_account.specs.declared.related_event.Occurrence.{Occurrence}
 use Rattle.vme_account.specs.declared.related_event.Occurrence.TheVariants.{Last, LastOrNow, FirstInTransfer}
 use Rattle.vme_account.specs.declared.related_event.Occurrence.TheVariants.{FirstInCycle}
 
--- the level of a line; a line that the backplane lacks has none that is known
+-- the level of a line, unknown if the backplane lacks the line
 abbrev pub shown_on : Levels → ℕ → Level
 shown_on v l = if has_line v.slots l then level_at v l else Unknown
 
@@ -27,7 +27,7 @@ falls_shown v w l = is_high (shown_on v l) && is_low (shown_on w l)
 abbrev pub rises_shown : Levels → Levels → ℕ → Bool
 rises_shown v w l = is_low (shown_on v l) && is_high (shown_on w l)
 
--- it happens in a step between these levels
+-- the event happens in a step between levels `v` and `w`
 abbrev pub happens_between : Levels → Levels → StepEvent → Bool
 happens_between v w (Falls l) = falls_shown v w l
 happens_between v w (Rises l) = rises_shown v w l
@@ -38,13 +38,13 @@ happens_between v w GrantFalls =
     falls_shown v w (grant 0 0) || falls_shown v w (grant 1 0) || falls_shown v w (grant 2 0) || falls_shown v w
     (grant 3 0)
 
--- it happens at an instant
+-- the event happens at instant `i`
 unfoldable pub happens : Trace → StepEvent → ℕ → Bool
 happens t e i = happens_between (levels_at t (i - 1)) (levels_at t i) e
 
--- The instant of what a break at instant j speaks of, in the stretch that is judged from instant s on.
+-- The instant of the event that a break at instant `j` refers to, in the stretch judged from instant `s` on.
 module _ (t : Trace) where
-  -- the last time that it happened, j included, or else the first instant that is judged
+  -- the last instant of the event up to `j`, or else the first judged instant
   abbrev pub since : StepEvent → ℕ → ℕ → ℕ
   since e s j = unwrap_or (greatest (happens t e) (s + 1) (j + 1)) (s + 1)
 
@@ -60,9 +60,9 @@ module _ (t : Trace) where
 abbrev pub last : StepEvent → Option RelatedEvent
 last e = Some (record { event = e; occurrence = Last })
 
--- What a rule speaks of besides the edge on line l that breaks it.
+-- The event that a rule refers to besides the edge on line `l` that breaks it.
 abbrev pub first_related_event : Rule → ℕ → Option RelatedEvent
--- the answer that stands still, and the one whose end comes too early
+-- the answer that hasn't ended, and the one that ends too early
 first_related_event rule.H1 l = last (Falls l)
 first_related_event rule.H6 l = last (Falls l)
 -- the transfer that isn't answered, and the write that moves the line

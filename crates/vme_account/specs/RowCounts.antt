@@ -1,4 +1,4 @@
--- How many rows of each kind there are, row by row.
+-- The numbers of rows of each kind, row by row.
 use Rattle.std.specs.Prelude.{◌+◌, ◌*◌, ℕ, Bool, true, ◌&&◌, List, nat_lt, if◌then◌else◌, replicate, slice_index_or}
 use Rattle.std.specs.Prelude.{slice_set}
 use Rattle.vme_listing.specs.declared.row.AnswerLine.TheVariants.{Dtack, Berr}
@@ -17,7 +17,7 @@ one_if b = if b then 1 else 0
 
 -- ---- tenures by the level and the slot
 
--- there are such a level and such a slot
+-- the level is at most 3, and the slot at most 21
 abbrev pub is_place : ℕ → ℕ → Bool
 is_place level slot = nat_lt level 4 && nat_lt slot 22
 
@@ -55,7 +55,7 @@ no_rows =
       tenures = replicate 88 0;
     }
 
--- one row more
+-- the counts after one more row
 abbrev pub with_row : RowCounts → Row → RowCounts
 with_row c r =
     record {
@@ -73,12 +73,12 @@ with_row c r =
       tenures = with_tenure c.tenures r;
     }
 
--- a kind of which there are rows
+-- rows of this kind are counted
 abbrev pub is_counted : RowKind → Bool
 is_counted (kind.Tenures level slot) = is_place level slot
 is_counted k = true
 
--- how many rows of a kind there are
+-- the number of rows of a kind
 abbrev pub count_in : RowCounts → RowKind → ℕ
 count_in c kind.OpenTenures = c.open_tenures
 count_in c (kind.Tenures level slot) = tenures_of c.tenures level slot

@@ -102,12 +102,12 @@ is_transfer_open (row.Transfer direction line start cycle answer close lanes) = 
 is_transfer_open (row.PendingTransfer start direction) = true
 is_transfer_open r = false
 
--- a row is such a part, and is open where the listing ends
+-- a row is of this part, and is open where the listing ends
 abbrev pub is_open : Part → Row → Bool
 is_open part.Tenure r = is_tenure_open r
 is_open part.Cycle r = is_cycle_open r
 is_open part.Transfer r = is_transfer_open r
 
--- the row, if it isn't a reset's, behind which nothing of before is open
+-- the row, unless it is a reset, after which nothing from before is open
 abbrev pub unless_reset : Row → Option Row
 unless_reset r = if is_reset r then None else Some r

@@ -1,4 +1,4 @@
--- What happened last in a stretch, up to its break and before it.
+-- When each event last happened in a stretch, up to its break and before it.
 use Rattle.std.specs.Prelude.{◌-◌, ◌==◌, ◌<◌, ◌≤◌, ℕ, Bool, true, false, nat_lt, Option, None, Some, IfSome}
 use Rattle.std.specs.Prelude.{if◌then◌else◌}
 use Rattle.vme_trace.specs.LineNumbers.{AS, DTACK, line_count}
@@ -14,15 +14,15 @@ use Rattle.vme_account.specs.declared.related_event.StepEvent.{StepEvent}
 use Rattle.vme_account.specs.declared.related_event.StepEvent.TheVariants.{AnswerFalls, Falls, Rises, TransferStarts}
 use Rattle.vme_account.specs.declared.stretch_events.StretchEvents.{StretchEvents}
 
--- these are the last events of the stretch up to its last instant, and up to the one before, if they are kept
+-- `e` are the last events of the stretch up to its last instant, and up to the one before, if those are kept
 pub record AreEvents (t : Trace) (e : StretchEvents) : Type 0 where
   pub start : e.start ≤ e.seen
   pub last : AreLast t e.start e.seen e.last
   pub before : IfSome e.before (λ b. (e.start < e.seen) × AreLast t e.start (e.seen - 1) b)
 
--- ---- which are known, and how
+-- ---- which moments are known
 
--- it was at this instant
+-- the moment is at instant `j`
 abbrev pub is_at : Option Moment → ℕ → Bool
 is_at None j = false
 is_at (Some m) j = m.instant == j
@@ -30,7 +30,7 @@ is_at (Some m) j = m.instant == j
 abbrev pub is_now : LastEvents → ℕ → StepEvent → Bool
 is_now now j k = is_at (last_of now k) j
 
--- the one that is meant, by what happened up to an instant, and up to the one before
+-- the moment of event `k` that is meant, by the events up to instant `j` (`now`) and up to the one before (`before`)
 abbrev pub moment_before : LastEvents → ℕ → LastEvents → Occurrence → StepEvent → Option Moment
 moment_before now j before Last k = last_of before k
 moment_before now j before LastOrNow k = last_of now k
@@ -52,7 +52,8 @@ is_kept_first AnswerFalls = true
 is_kept_first (Falls l) = l == DTACK
 is_kept_first e = false
 
--- When it happened is known: of answers the first, of the other events the last time.
+-- Whether it is known when an event happened: of an answer the first time, of other events the last time, and of a fall
+-- of DTACK also the first time in the cycle.
 abbrev pub is_kept_at : Occurrence → StepEvent → Bool
 is_kept_at Last e = is_kept_last e
 is_kept_at LastOrNow e = is_kept_last e

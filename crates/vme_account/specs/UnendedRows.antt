@@ -1,4 +1,4 @@
--- The rows that are open where some marks end, as the marks come.
+-- The rows that are open after some marks, as the marks come.
 use Rattle.std.specs.Prelude.{ℕ, List, Option, None, Some, find, reverse, ◌||◌}
 use Rattle.std.specs.List.{fold}
 use Rattle.std.specs.Option.{option_and_then, option_map_or, option_or}
@@ -15,7 +15,7 @@ use Rattle.vme_account.specs.declared.row_kind.Part.{Part}
 use Rattle.vme_account.specs.declared.row_kind.Part.TheVariants as part
 use Rattle.vme_account.specs.declared.open_rows.Waiting.{Waiting}
 
--- the last row of a listing that is such a part and is open, and no reset follows
+-- the last row of a listing that is of part `p` and is open, if no reset follows it
 abbrev pub open_row : Part → List Row → Option Row
 open_row p rows = option_and_then unless_reset (find (λ r. is_open p r || is_reset r) (reverse rows))
 
@@ -32,17 +32,17 @@ pending w = option_map_or (λ w. Some (pending_row w)) w None
 
 -- ---- transfers
 
--- the one that waits, with where it is closed
+-- the waiting transfer, closed at instant `i` unless it was closed before
 abbrev pub closed : ℕ → Option Waiting → Option Waiting
 closed i None = None
 closed i (Some w) = Some (record w { close = option_or w.close (Some i) })
 
--- a transfer that stays without an answer comes behind all others
+-- `other`, unless a waiting transfer stays without an answer, which then is after all others
 abbrev pub unless_left : Option Waiting → Option Row → Option Row
 unless_left None other = other
 unless_left (Some w) other = None
 
--- the transfer that waits is answered: without a cycle it counts as one that isn't
+-- the last unanswered transfer after an answer: the waiting one, if no cycle has started
 abbrev pub unanswered_by : Option ℕ → Option Waiting → Option Row → Option Row
 unanswered_by None w other = option_or (pending w) other
 unanswered_by (Some cycle) w other = other
@@ -90,11 +90,11 @@ open_after i kind.Close o = record o { answered = None; waiting = closed i o.wai
 abbrev pub open_next : UnendedRows → Mark → UnendedRows
 open_next o m = open_after m.instant m.kind o
 
--- what is open behind some marks
+-- the open rows after the marks
 abbrev pub opens : List Mark → UnendedRows
 opens ms = fold open_next nothing_open ms
 
--- the last of a part
+-- the last open row of a part
 abbrev pub open_in : UnendedRows → Part → Option Row
 open_in o part.Tenure = o.tenure
 open_in o part.Cycle = o.cycle

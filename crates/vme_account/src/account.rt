@@ -1,4 +1,4 @@
-//! What an explanation says of a recording, without the recording.
+//! What an explanation reports of a recording, kept without the recording.
 
 ghost use Rattle.std.specs.Prelude.{◌≡◌, ◌+◌, ◌-◌, ◌≤◌, IfOk, IfSome, Some, count_by, if◌then◌else◌, true};
 ghost use Rattle.vme_trace.specs.Trace.{Trace, time_at};
@@ -27,8 +27,8 @@ use std::alloc::{AllocError, Global};
 use vme_listing::Row;
 use vme_trace::{Break, Line, Lines, Verdict};
 
-/// What an explanation says of a recording: its verdict, its rows, counted, those that are open at its end or at its
-/// break, when what a break speaks of happened, and its levels there.
+/// What an explanation reports of a recording: its verdict, the counts of its rows, the rows that are open at its end
+/// or at its break, when the events happened that a break refers to, and the levels at its last instants.
 #[derive(Drop)]
 pub struct Account {
     pub(crate) opening: Lines,
@@ -55,7 +55,7 @@ impl Account {
         }
     }
 
-    /// How many rows of its listing are of a kind. Tenures of a level above 3 or a slot above 21 aren't counted.
+    /// The number of rows of `kind` in the listing. Tenures of a level above 3 or a slot above 21 aren't counted.
     pub fn count_of(&self, kind: RowKind) -> u64
         ensures { (t : Trace) → IsAccountOf self.now t → is_counted kind ≡ true
             → result ≡ count_by (is_of kind) (recorded_rows t) }
@@ -63,15 +63,16 @@ impl Account {
         self.counts.of(kind)
     }
 
-    /// The last row of its listing that is such a part and is open where the listing ends: what was open as the bus was
-    /// reset isn't.
+    /// The last row of the listing that is a `part` and is open where the listing ends. A reset of the bus closes what
+    /// was open before it.
     pub fn open_row(&self, part: Part) -> Option<Row>
         ensures { (t : Trace) → IsAccountOf self.now t → result ≡ open_row part (recorded_rows t) }
     {
         self.opened.of(part)
     }
 
-    /// When that happened of which the break speaks, in the stretch that is judged; none where it didn't happen there.
+    /// When the event happened that the break refers to, within the judged stretch, or `None` if it didn't happen
+    /// there.
     pub fn moment_of(&self, other: &RelatedEvent) -> Option<Moment>
         ensures { (t : Trace) (found : BreakOf) → IsAccountOf self.now t → found_break self.now ≡ Some found
             → is_kept other.now ≡ true
@@ -80,8 +81,8 @@ impl Account {
         self.running.judged.notes.events.moment_of(other)
     }
 
-    /// The time of an instant, if it is kept: the opening has none, and counts as 0. Kept are the last instants, the
-    /// first one, and those of the rows that are open, of the first start, of the last reset.
+    /// The time of an instant, if it is kept. The opening has none, and counts as 0. The times of the last instants are
+    /// kept, and those of the first step, of the open rows, of the first start and of the last reset.
     pub fn time_at(&self, instant: u32) -> Option<u64>
         ensures { (t : Trace) → IsAccountOf self.now t → IfSome result (λ time. time ≡ time_at t instant) }
     {
@@ -99,14 +100,14 @@ impl Account {
         self.running.kept.first()
     }
 
-    /// The last one: that of the last step, or one that is three instants behind the break.
+    /// The last instant whose levels are kept: that of the last step, but at most three instants after the break.
     pub fn end(&self) -> u32
         ensures { result ≡ last_kept self.now }
     {
         self.running.kept.end()
     }
 
-    /// The levels at the instants from a first to a last one, both included, that are kept.
+    /// The levels at the instants from `first` to `last`, both included, which must be kept.
     pub fn levels_from(
         &self,
         alloc: Global,
@@ -120,17 +121,17 @@ impl Account {
         self.running.kept.levels_from(alloc, first, last)
     }
 
-    /// Where judging starts first.
+    /// The instant at which judging starts first.
     pub fn first_start(&self) -> Option<u32> {
         self.running.judged.notes.stretches.first_start
     }
 
-    /// The last reset that ended what was judged.
+    /// The instant of the last reset that ended judging.
     pub fn last_reset(&self) -> Option<u32> {
         self.running.judged.notes.stretches.last_reset
     }
 
-    /// The last instant that is judged: the bus may be reset there, and never idle behind.
+    /// The last judged instant: that of the last reset, if judging doesn't start again after it, or else `end`.
     pub fn last_judged(&self) -> u32 {
         self.running
             .judged
@@ -150,19 +151,19 @@ impl Account {
         self.running.judged.lines.moved.has(line)
     }
 
-    /// Whether a line was once as an idle bus has it.
+    /// Whether a line was as an idle bus has it at some instant, before judging started.
     pub fn was_fit(&self, line: Line) -> bool {
         self.running.judged.lines.fit.has(line)
     }
 
-    /// Whether it is so at the end of a recording without a break.
+    /// Whether the line is as an idle bus has it at the end of a recording without a break.
     pub fn is_fit(&self, line: Line) -> bool {
         let levels = self.running.judged.levels();
         levels.has(line) && is_fit(line, levels.level(line))
     }
 }
 
-/// The verdict that a break makes.
+/// The verdict on a recording with break `found`.
 fn verdict_of(found: Break) -> Verdict
     ensures { result ≡ verdict_on (Some found) }
 {
@@ -173,7 +174,7 @@ fn verdict_of(found: Break) -> Verdict
     }
 }
 
-/// The verdict where there is no break, by whether anything is judged.
+/// The verdict on a recording without a break, by whether anything is judged.
 fn unbroken_verdict(has_started: bool) -> Verdict
     ensures { result ≡ (if has_started then Conforming else NeverIdle) }
 {

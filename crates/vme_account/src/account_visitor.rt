@@ -1,4 +1,4 @@
-//! What takes the steps of a recording, and makes its account.
+//! Takes the steps of a recording, and makes its account.
 
 ghost use Rattle.std.specs.Prelude.{◌≡◌, ◌+◌, ◌<◌, ◌≤◌, [], Err, IfErr, IfOk, None, length, min};
 ghost use Rattle.vme_trace.specs.Trace.{Trace};
@@ -12,10 +12,10 @@ use std::marker::Model;
 use vme_summary::GhostSteps;
 use vme_trace::{Lines, Step, StepVisitor};
 
-/// How many steps a recording has at most.
+/// The greatest number of steps of a recording.
 const MOST_STEPS: u32 = 268_435_456;
 
-/// How many steps are taken: 4,096 blocks of 16,384 steps.
+/// The greatest number of steps of an account: 4,096 blocks of 16,384 steps.
 const MOST_TAKEN: u32 = 67_108_864;
 
 /// Why there is no account.
@@ -25,20 +25,20 @@ pub enum NoAccount {
     Memory,
     /// The recording has more than 67,108,864 steps.
     TooManyBlocks,
-    /// It has more than 268,435,456.
+    /// The recording has more than 268,435,456 steps.
     TooManySteps,
 }
 
-/// Takes the steps of a recording as they come, and keeps of them what its account has, which is as large however many
-/// they are.
+/// Takes the steps of a recording as they come, and keeps what its account has. Its size doesn't depend on the number
+/// of steps.
 #[derive(Drop)]
 pub struct AccountVisitor {
     alloc: Global,
     opening: Lines,
     taken: GhostSteps,
-    /// None behind more steps than are taken, or where there was no memory.
+    /// `None` after more than `MOST_TAKEN` steps, or after a failed allocation.
     running: Option<Box<RunningAccount>>,
-    /// How many steps came, or one over the most.
+    /// The number of steps so far, at most `MOST_STEPS + 1`.
     count: u32,
 }
 
@@ -54,7 +54,7 @@ impl Model for AccountVisitor {
 }
 
 impl AccountVisitor {
-    /// Before the first step.
+    /// The visitor before the first step.
     pub fn new(alloc: Global, opening: &Lines) -> AccountVisitor
         ensures { result ≡ record { opening = opening.now; steps = [] } }
     {
@@ -107,7 +107,7 @@ fn ended(running: Box<RunningAccount>, opening: Lines) -> Result<Account, NoAcco
     }
 }
 
-/// One step more, where no more are counted than one over the most.
+/// `count` and one more, at most `MOST_STEPS + 1`.
 fn with_one(count: u32) -> u32
     ensures { result ≡ min (count + 1) (capture_limit + 1) }
 {

@@ -13,10 +13,10 @@ use vme_auditor::Memories;
 use vme_monitor::view::StepView;
 use vme_trace::{Lines, Step};
 
-/// The monitors of all rules, led from step to step up to the first break, and what is noted of the steps.
+/// The monitors of all rules, run from step to step up to the first break, and what is noted of the steps.
 #[derive(Clone, Copy, Debug)]
 pub(crate) struct FollowedSteps {
-    /// The levels that the steps leave, on both sides.
+    /// The levels after the steps so far, on both sides.
     view: StepView,
     memories: Memories,
     pub notes: StepNotes,
@@ -24,7 +24,7 @@ pub(crate) struct FollowedSteps {
 }
 
 impl FollowedSteps {
-    /// Before the first step.
+    /// The state before the first step.
     pub fn at_opening(opening: &Lines) -> FollowedSteps
         ensures { FollowsSteps opening.now [] result }
     {
@@ -36,8 +36,7 @@ impl FollowedSteps {
         }
     }
 
-    /// Takes the step that follows, of this instant. Behind a break nothing is judged. The only error is want of
-    /// memory.
+    /// Takes the next step, at `instant`. After a break nothing is judged. The only error is want of memory.
     pub fn take(&mut self, step: &Step, instant: u32) -> Result<(), AllocError>
         requires { (o : Levels) × (x : List StepOf) × FollowsSteps o x self.old }
         ensures { (o : Levels) (x : List StepOf) → FollowsSteps o x self.old → instant ≡ length x + 1
@@ -49,7 +48,7 @@ impl FollowedSteps {
         }
     }
 
-    /// Judges the step, where no break was found.
+    /// Judges the step. No break has been found before it.
     fn judge(&mut self, step: &Step, instant: u32) -> Result<(), AllocError>
         requires follows { (o : Levels) × (x : List StepOf) × FollowsSteps o x self.old }
         requires quiet { self.old.notes.found ≡ None }
@@ -73,7 +72,7 @@ impl FollowedSteps {
         self.memories.have_started()
     }
 
-    /// The levels that the steps leave, up to the break.
+    /// The levels after the steps so far, up to the break.
     pub fn levels(&self) -> &Lines {
         &self.view.after
     }

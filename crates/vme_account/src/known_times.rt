@@ -1,4 +1,4 @@
-//! The times of the instants that are told, as the steps come.
+//! The times of the instants that an explanation reports, as the steps come.
 
 ghost use Rattle.std.specs.Prelude.{◌≡◌, IfSome};
 ghost use Rattle.vme_trace.specs.Trace.{Trace, time_at};
@@ -14,7 +14,7 @@ pub(crate) struct TimedInstant {
     pub time: u64,
 }
 
-/// The times of some instants. Before something happened its instant is that of the opening.
+/// The times of some instants. An instant is the opening as long as its event hasn't happened.
 #[derive(Clone, Copy, Debug, PartialEq, Eq)]
 pub(crate) struct KnownTimes {
     /// The first step.
@@ -27,7 +27,7 @@ pub(crate) struct KnownTimes {
     tenure: TimedInstant,
     /// The start of the last cycle.
     cycle: TimedInstant,
-    /// The start of the transfer that waits, or waited last.
+    /// The start of the transfer that waits for its answer, or waited last.
     waiting: TimedInstant,
     /// The start of the last transfer that stays without an answer.
     unanswered: TimedInstant,
@@ -45,7 +45,7 @@ const OPENING: TimedInstant = TimedInstant {
 };
 
 impl KnownTimes {
-    /// Before the first step, where judging starts at the opening or doesn't.
+    /// The times before the first step. `has_started` is whether judging starts at the opening.
     pub fn at_opening(has_started: bool) -> KnownTimes
         ensures { (t : Trace) → AreTimes t result }
     {
@@ -65,7 +65,7 @@ impl KnownTimes {
         }
     }
 
-    /// Takes what a step shows.
+    /// Notes `now` for the events that a step shows.
     #[inline(always)]
     pub fn note_times(&mut self, now: TimedInstant, shown: &AllShown)
         ensures { (t : Trace) → AreTimes t self.old → IsTime t now → AreTimes t self.new }
@@ -74,7 +74,7 @@ impl KnownTimes {
         self.note_transfer(now, &shown.transfer);
     }
 
-    /// Takes the first step, and what a step shows of stretches and tenures, if that is anything.
+    /// Notes the first step, and a step's marks of stretches and tenures, if there are any.
     #[inline(always)]
     fn note_chains(&mut self, now: TimedInstant, stretch: &StepMarks, tenure: &StepMarks)
         ensures { (t : Trace) → AreTimes t self.old → IsTime t now → AreTimes t self.new }
@@ -84,7 +84,7 @@ impl KnownTimes {
         }
     }
 
-    /// Takes what a step shows of cycles and transfers, if that is anything.
+    /// Notes a step's marks of cycles and transfers, if there are any.
     #[inline(always)]
     fn note_transfer(&mut self, now: TimedInstant, transfer: &StepMarks)
         ensures { (t : Trace) → AreTimes t self.old → IsTime t now → AreTimes t self.new }
@@ -94,7 +94,7 @@ impl KnownTimes {
         }
     }
 
-    /// Takes the first step, and what a step shows of stretches and tenures.
+    /// Notes the first step, and a step's marks of stretches and tenures.
     fn take_chains(&mut self, now: TimedInstant, stretch: &StepMarks, tenure: &StepMarks)
         ensures { (t : Trace) → AreTimes t self.old → IsTime t now → AreTimes t self.new }
     {
@@ -114,8 +114,8 @@ impl KnownTimes {
         self.has_cycle = has_cycle;
     }
 
-    /// Takes what a step shows of cycles and transfers. A transfer that waits as another starts stays without an
-    /// answer, and so does one that is answered before any cycle starts.
+    /// Notes a step's marks of cycles and transfers. A waiting transfer stays without an answer if another starts, or
+    /// if it is answered before any cycle starts.
     fn take_transfer(&mut self, now: TimedInstant, transfer: &StepMarks)
         ensures { (t : Trace) → AreTimes t self.old → IsTime t now → AreTimes t self.new }
     {
@@ -155,14 +155,14 @@ impl KnownTimes {
     }
 }
 
-/// An instant, or the one before.
+/// `now` if `is_now`, or else `before`.
 fn now_if(is_now: bool, now: TimedInstant, before: TimedInstant) -> TimedInstant
     ensures { (t : Trace) → IsTime t now → IsTime t before → IsTime t result }
 {
     if is_now { now } else { before }
 }
 
-/// The time, if it is that of the instant, or else another.
+/// The time of `timed` if it is of `instant`, or else `other`.
 fn time_or(timed: &TimedInstant, instant: u32, other: Option<u64>) -> Option<u64>
     ensures { (t : Trace) → IsTime t timed.now → IfSome other (λ time. time ≡ time_at t instant)
         → IfSome result (λ time. time ≡ time_at t instant) }

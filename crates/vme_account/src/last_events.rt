@@ -1,4 +1,4 @@
-//! What happened last on the bus, as the steps of a stretch come.
+//! When each event last happened on the bus, as the steps of a stretch come.
 
 ghost use Rattle.std.specs.Prelude.{◌≡◌, ◌<◌, ℕ, None, slice_index_or};
 ghost use Rattle.vme_trace.specs.Trace.{Trace, changed};
@@ -23,25 +23,25 @@ pub struct Moment {
     pub berr_falls: bool,
 }
 
-/// The moments at which something happened last, since judging started.
+/// The moments at which each event last happened, since judging started.
 #[derive(Clone, Copy, Debug, PartialEq, Eq)]
 pub struct LastEvents {
-    /// Falls, by the number of the line.
+    /// The last fall of each line, by the number of the line.
     falls: [Option<Moment>; LINE_COUNT as usize],
-    /// Rises, by the number of the line.
+    /// The last rise of each line, by the number of the line.
     rises: [Option<Moment>; LINE_COUNT as usize],
-    /// The start of a transfer.
+    /// The last start of a transfer.
     transfer: Option<Moment>,
-    /// The first answer since then, or since judging started.
+    /// The first answer since the last transfer started, or since judging started.
     answer_in_transfer: Option<Moment>,
     /// The first answer since the last cycle started, or since judging started.
     answer_in_cycle: Option<Moment>,
-    /// The first fall of DTACK since then.
+    /// The first fall of DTACK since the last cycle started, or since judging started.
     dtack_in_cycle: Option<Moment>,
 }
 
 impl LastEvents {
-    /// Nothing happened since judging started.
+    /// No events: nothing happened since judging started.
     pub fn none() -> LastEvents
         ensures value { result ≡ no_events }
         ensures last { (t : Trace) (s : ℕ) → AreLast t s s result }
@@ -56,7 +56,7 @@ impl LastEvents {
         }
     }
 
-    /// Takes the step of an instant, which leads from some levels to others by these changes.
+    /// Takes the step to `instant`, from the levels `before` to `after` by `changes`.
     pub fn take(
         &mut self,
         before: &Lines,
@@ -90,7 +90,8 @@ impl LastEvents {
         self.note_handshake(starts, answers, begins, answers_by_dtack, moment);
     }
 
-    /// Notes a transfer that starts, an answer, a cycle that begins, and an answer by DTACK; mostly there is none.
+    /// Notes a transfer that starts, an answer, a cycle that begins, and an answer by DTACK. Most steps have none of
+    /// these.
     #[inline(always)]
     fn note_handshake(
         &mut self,
@@ -131,7 +132,7 @@ impl LastEvents {
         );
     }
 
-    /// When an event happened last, but for answers.
+    /// When `event` last happened. For an answer the result is `None`.
     pub(crate) fn last_of(&self, event: &StepEvent) -> Option<Moment>
         ensures { result ≡ last_of self.now event.now }
     {
@@ -170,7 +171,7 @@ impl LastEvents {
         self.answer_in_transfer
     }
 
-    /// When an answer, or DTACK, fell first in the cycle.
+    /// When an answer first fell in the cycle, if `event` is an answer, or else when DTACK first fell there.
     pub(crate) fn first_in_cycle(&self, event: &StepEvent) -> Option<Moment>
         ensures { result ≡ first_in_cycle self.now event.now }
     {
@@ -205,7 +206,7 @@ impl LastEvents {
     }
 }
 
-/// The later of two moments, if there are any.
+/// The later of two moments, or the only one, if there is one.
 fn later(one: Option<Moment>, other: Option<Moment>) -> Option<Moment>
     ensures { result ≡ later one other }
 {

@@ -1,29 +1,32 @@
-//! What an explanation says of a recording, kept as the steps of the recording come: of the
-//! recording itself no more is kept than a few steps.
+//! What an explanation reports of a recording, kept as the steps of the recording come. Of the
+//! recording itself only a few steps are kept.
+//!
+//! A *mark* is an event of the bus with its instant: judging starts or a reset ends it, or a
+//! tenure, cycle or transfer begins or ends. A *break* is a violation of a rule.
 //!
 //! # Parts
 //!
-//! - `account_visitor`: [`AccountVisitor`] takes one step after the other, and gives the account;
-//!   `account`: [`Account`], and what can be asked of it. `running_account`: how far it has come.
-//! - `followed_steps`, `step_notes`: the monitors of all rules, led from step to step up to the
+//! - `account_visitor`: [`AccountVisitor`] takes one step after the other, and returns the account.
+//!   `account`: [`Account`] and its queries. `running_account`: the account of the steps so far.
+//! - `followed_steps`, `step_notes`: the monitors of all rules, run from step to step up to the
 //!   first break, and what is noted of the steps.
-//! - `marked`, `open_rows`, `row_counts`, `row_kind`: the rows of the listing, by the marks of which
-//!   it is made: the last that is open of each part, and how many there are of each kind.
-//! - `stretch_events`, `last_events`, `related_event`: of which other events a rule speaks, and when
-//!   they happened last.
-//! - `stored_steps`, `recent_steps`, `known_times`: the levels of the last instants; the times of the
-//!   instants that are told.
+//! - `marked`, `open_rows`, `row_counts`, `row_kind`: the rows of the listing, by the marks from
+//!   which it is made: the last open row of each part, and the number of rows of each kind.
+//! - `stretch_events`, `last_events`, `related_event`: the other events that a rule refers to, and
+//!   when they last happened.
+//! - `stored_steps`, `recent_steps`, `known_times`: the levels of the last instants, and the times
+//!   of the instants that an explanation reports.
 //! - `stretches`, `marked_lines`: where judging starts and ends, and which lines move.
 //!
 //! # What is proved
 //!
-//! An account that [`AccountVisitor::finish`] gives is one of the recording whose steps came
-//! (`IsAccountOf`). Of each recording of which it is the account: [`Account::verdict`] is the
-//! verdict; [`Account::count_of`] counts the rows of a kind in its listing, and
-//! [`Account::open_row`] is the last row that is open; [`Account::moment_of`] is the instant of an
-//! event by the definitions of vme_trace; [`Account::levels_from`] gives its levels, and
+//! An account that [`AccountVisitor::finish`] returns is one of the recording whose steps came
+//! (`IsAccountOf`). For each recording that it is an account of: [`Account::verdict`] is the
+//! verdict. [`Account::count_of`] counts the rows of a kind in its listing, and
+//! [`Account::open_row`] is the last row that is open. [`Account::moment_of`] is the instant of an
+//! event by the definitions of vme_trace. [`Account::levels_from`] returns its levels, and
 //! [`Account::time_at`] the time of an instant. [`first_related_event`] and
-//! [`second_related_event`] say of which other events a rule speaks.
+//! [`second_related_event`] are the other events that a rule refers to.
 //!
 //! # What isn't proved
 //!

@@ -21,16 +21,16 @@ use std::alloc::AllocError;
 use vme_monitor::mark::{BusGrant, CycleStart, Mark, MarkKind, StepMarks, TransferAnswer};
 use vme_trace::{Line, Lines};
 
-/// The rows that are open, and how many there are of each kind.
+/// The open rows, and the number of rows of each kind.
 #[derive(Clone, Copy, Debug, PartialEq, Eq)]
 pub struct Marked {
     opened: UnendedRows,
-    /// The counts, but for the transfer that waits.
+    /// The counts without the waiting transfer.
     counts: RowCounts,
 }
 
 impl Marked {
-    /// Before any mark.
+    /// The state before any mark.
     pub fn none() -> Marked
         ensures { result ≡ nothing_marked }
     {
@@ -40,14 +40,14 @@ impl Marked {
         }
     }
 
-    /// What the opening shows: judging starts there if it is idle, and a tenure is open if the bus is busy.
+    /// The state after the opening: judging starts there if it is idle, and then a tenure is open if BBSY* is Low.
     pub fn at_opening(opening: &Lines) -> Marked
         ensures { result ≡ marked (opening_marks opening.now) }
     {
         Marked::opened_by(opening.is_idle(), opening.level(Line::BBSY).is_low())
     }
 
-    /// The same, by whether the opening is idle, and the bus busy.
+    /// The state after the opening, by whether it is idle, and whether BBSY* is Low.
     fn opened_by(is_idle: bool, is_busy: bool) -> Marked
         ensures { result ≡ (if is_idle && is_busy then marked (mark_at 0 Start ∷ mark_at 0 Open ∷ []) else
             nothing_marked) }
@@ -74,7 +74,7 @@ impl Marked {
         }
     }
 
-    /// Takes what a step shows to one monitor. The only error is want of memory.
+    /// Takes the marks that one monitor shows at a step. The only error is want of memory.
     #[inline(always)]
     pub fn take_shown(&mut self, instant: u32, shown: &StepMarks) -> Result<(), AllocError>
         ensures { OnOk result (self.new
@@ -123,7 +123,7 @@ impl Marked {
         Ok(())
     }
 
-    /// The last rows that are open: of marks, those of their listing.
+    /// The last open rows: after the marks of a recording, those of its listing.
     pub fn opened(&self) -> UnendedRows
         ensures value { result ≡ self.now.opened }
         ensures listed { (ms : List MarkOf) (p : PartOf) → self.now ≡ marked ms
@@ -132,7 +132,7 @@ impl Marked {
         self.opened
     }
 
-    /// How many rows there are of each kind, where no mark follows: of marks, those of their listing.
+    /// The number of rows of each kind, if no mark follows: after the marks of a recording, those of its listing.
     pub fn counts(&self) -> Result<RowCounts, AllocError>
         ensures value { IfOk result (λ c. c ≡ counts_in self.now) }
         ensures listed { (ms : List MarkOf) (k : KindOf) → self.now ≡ marked ms → is_counted k ≡ true

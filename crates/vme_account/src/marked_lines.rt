@@ -1,11 +1,11 @@
-//! Which lines move, and which are once as an idle bus has them.
+//! Which lines move, and which are at some time as an idle bus has them.
 
 ghost use Rattle.std.specs.Prelude.{◌≡◌};
 ghost use Rattle.vme_account.specs.Idle.{rests_high};
 
 use vme_trace::{Change, LINE_COUNT, Level, Line, Lines};
 
-/// A mark for each line, by its number.
+/// For each line, by its number, whether it is marked.
 #[derive(Clone, Copy, Debug, PartialEq, Eq)]
 pub(crate) struct MarkedLines {
     lines: [bool; LINE_COUNT as usize],
@@ -18,8 +18,7 @@ pub fn rests_high(line: Line) -> bool
     line <= Line::BERR || line.is_net() || line == Line::SYSRESET
 }
 
-/// Whether a level is one that a line has on an idle bus: that of those that rest High is so, and that of the others is
-/// known.
+/// Whether `line` may have `level` on an idle bus: High if it rests High, or else any known level.
 pub(crate) fn is_fit(line: Line, level: Level) -> bool {
     if rests_high(line) {
         level == Level::High
@@ -28,17 +27,17 @@ pub(crate) fn is_fit(line: Line, level: Level) -> bool {
     }
 }
 
-/// Which lines move, and which are once as an idle bus has them.
+/// Which lines move, and which are at some time as an idle bus has them.
 #[derive(Clone, Copy, Debug, PartialEq, Eq)]
 pub(crate) struct LineNotes {
-    /// Those that moved since judging started first.
+    /// The lines that moved since judging started first.
     pub moved: MarkedLines,
-    /// Those that were once as an idle bus has them, before judging started.
+    /// The lines that were at some time as an idle bus has them, before judging started.
     pub fit: MarkedLines,
 }
 
 impl LineNotes {
-    /// Before the first step.
+    /// The notes before the first step.
     pub fn at_opening(opening: &Lines) -> LineNotes {
         LineNotes {
             moved: MarkedLines::none(),
@@ -46,7 +45,7 @@ impl LineNotes {
         }
     }
 
-    /// Takes the changes of a step, once judging has started or before.
+    /// Takes the changes of a step. `has_started` is whether judging has started before it.
     pub fn note_lines(&mut self, has_started: bool, changes: &[Change]) {
         if has_started {
             self.moved.mark_all(changes);
@@ -57,14 +56,14 @@ impl LineNotes {
 }
 
 impl MarkedLines {
-    /// None is marked.
+    /// No line is marked.
     fn none() -> MarkedLines {
         MarkedLines {
             lines: [false; LINE_COUNT as usize],
         }
     }
 
-    /// Those that are as an idle bus has them.
+    /// The lines that are as an idle bus has them.
     fn fit_in(lines: &Lines) -> MarkedLines {
         let mut marked = MarkedLines::none();
         for number in 0..LINE_COUNT {
@@ -81,7 +80,7 @@ impl MarkedLines {
         self.lines[usize::from(line.number())] = true;
     }
 
-    /// Marks those that change so that they are as an idle bus has them.
+    /// Marks the lines that change to a level that an idle bus has.
     fn mark_fit(&mut self, changes: &[Change]) {
         for change in changes {
             if is_fit(change.line, change.level) {
@@ -90,7 +89,7 @@ impl MarkedLines {
         }
     }
 
-    /// Marks those that change.
+    /// Marks the lines that change.
     fn mark_all(&mut self, changes: &[Change]) {
         for change in changes {
             self.mark(change.line);

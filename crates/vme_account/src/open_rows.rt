@@ -1,4 +1,4 @@
-//! Which rows are open where some marks end, as the marks come.
+//! Which rows are open after some marks, as the marks come.
 
 ghost use Rattle.std.specs.Prelude.{◌≡◌, ◌+◌, ◌%◌, ◌^◌, None, Some};
 ghost use Rattle.std.specs.Option.{option_or};
@@ -19,22 +19,22 @@ pub struct Waiting {
     pub start: u32,
     /// Its direction.
     pub direction: Direction,
-    /// Where the strobes are high again, if they are.
+    /// The instant at which the strobes are High again, if they are.
     pub close: Option<u32>,
 }
 
-/// The last rows that are open, of each part.
+/// The last open row of each part.
 #[derive(Clone, Copy, Debug, PartialEq, Eq)]
 pub struct UnendedRows {
     tenure: Option<Row>,
     cycle: Option<Row>,
     /// The last transfer that stays without an answer.
     unanswered: Option<Row>,
-    /// The last transfer behind it that is answered and not closed.
+    /// The last transfer after `unanswered` that is answered and not closed.
     answered: Option<Row>,
-    /// The transfer behind them that waits.
+    /// The transfer after both of them that waits for its answer.
     waiting: Option<Waiting>,
-    /// The start of the latest cycle since a reset.
+    /// The start of the last cycle since a reset.
     latest: Option<u32>,
 }
 
@@ -60,7 +60,7 @@ fn unless_left(waiting: &Option<Waiting>, other: Option<Row>) -> Option<Row>
 }
 
 impl UnendedRows {
-    /// Before any mark.
+    /// No open row, before any mark.
     pub fn none() -> UnendedRows
         ensures { result ≡ nothing_open }
     {
@@ -138,7 +138,7 @@ impl UnendedRows {
         }
     }
 
-    /// The transfer that waits is answered.
+    /// The waiting transfer is answered.
     fn answer(&mut self, instant: u32, answer: TransferAnswer)
         ensures { self.new ≡ after_answer instant answer self.old }
     {
@@ -156,14 +156,14 @@ impl UnendedRows {
         }
     }
 
-    /// The transfer that waits.
+    /// The waiting transfer.
     pub(crate) fn waiting(&self) -> Option<Waiting>
         ensures { result ≡ self.now.waiting }
     {
         self.waiting
     }
 
-    /// The start of the latest cycle since a reset.
+    /// The start of the last cycle since a reset.
     pub(crate) fn latest(&self) -> Option<u32>
         ensures { result ≡ self.now.latest }
     {
@@ -179,7 +179,7 @@ impl UnendedRows {
         }
     }
 
-    /// The last transfer that waits no more.
+    /// The last open transfer that doesn't wait any more.
     fn settled(&self) -> Option<Row>
         ensures { result ≡ option_or self.now.answered self.now.unanswered }
     {
@@ -189,7 +189,7 @@ impl UnendedRows {
         }
     }
 
-    /// The last row of a part that is open.
+    /// The last open row of `part`.
     pub fn of(&self, part: Part) -> Option<Row>
         ensures { result ≡ open_in self.now part }
     {
@@ -201,7 +201,7 @@ impl UnendedRows {
     }
 }
 
-/// The row of a transfer that is answered in a cycle, if it isn't closed, or else another.
+/// The row of a transfer that is answered in `cycle`, if it isn't closed, or else `other`.
 fn answered_in(
     instant: u32,
     answer: TransferAnswer,
@@ -225,7 +225,7 @@ fn answered_in(
     }
 }
 
-/// The transfer that waits, with where it is closed.
+/// The waiting transfer, closed at `instant` unless it was closed before.
 fn closed(instant: u32, waiting: Option<Waiting>) -> Option<Waiting>
     ensures { result ≡ closed instant waiting }
 {

@@ -9,7 +9,7 @@ use std::alloc::{AllocError, Global};
 use std::mem::swap;
 use vme_trace::{Lines, Step};
 
-/// How many steps are kept at least, once so many came; at most there are twice as many.
+/// At least this many steps are kept, once that many came, and at most twice as many.
 const KEPT: usize = 12;
 
 /// The last steps of a recording, and the levels and the time before them.
@@ -23,7 +23,7 @@ pub struct RecentSteps {
     newer: Vec<Step>,
 }
 
-/// The step at a place among older ones and newer ones.
+/// The step at index `place` of the older steps and the newer ones after them.
 fn step_among<'a>(older: &'a [Step], newer: &'a [Step], place: usize) -> Option<&'a Step>
     ensures { MatchOption result (slice_get (older.now ++ newer.now) place ≡ None)
         (λ step. slice_get (older.now ++ newer.now) place ≡ Some step.now) }
@@ -36,7 +36,7 @@ fn step_among<'a>(older: &'a [Step], newer: &'a [Step], place: usize) -> Option<
 }
 
 impl RecentSteps {
-    /// Before the first step.
+    /// The state before the first step.
     pub fn new(alloc: Global, opening: &Lines) -> RecentSteps
         ensures { AreRecent result (record { opening = opening.now; steps = [] }) }
     {
@@ -49,7 +49,7 @@ impl RecentSteps {
         }
     }
 
-    /// Keeps one step more. The only error is want of memory.
+    /// Keeps one more step. The only error is want of memory.
     pub fn push(&mut self, step: Step) -> Result<(), AllocError>
         requires { (t : Trace) × AreRecent self.old t × (length t.steps < 268435456) }
         ensures { OnOk result ((t : Trace) → AreRecent self.old t → AreRecent self.new (with_step t step)) }
@@ -91,8 +91,8 @@ impl RecentSteps {
         self.first
     }
 
-    /// The levels at the instants from a first to a last one, both included. Behind the last instant of the recording
-    /// the levels stay.
+    /// The levels at the instants from `first` to `last`, both included. After the last instant of the recording the
+    /// levels stay.
     pub fn levels_from(
         &self,
         alloc: Global,
@@ -126,7 +126,7 @@ impl RecentSteps {
         lines
     }
 
-    /// Makes the levels of an instant those of the next one.
+    /// Advances `lines` from the levels at `instant` to those at the next one.
     fn advance(&self, lines: &mut Lines, instant: u32)
         requires { self.now.first ≤ instant }
         ensures { (t : Trace) → AreRecent self.now t → lines.old ≡ levels_at t instant

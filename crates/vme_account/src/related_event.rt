@@ -1,4 +1,4 @@
-//! What else a break speaks of: the edges before it that make its own a break.
+//! What else a break refers to: the edges before it that make its own edge a break.
 
 ghost use Rattle.std.specs.Prelude.{◌≡◌, None, Some};
 ghost use Rattle.vme_account.specs.RelatedEvents.{first_related_event, happens_between, second_related_event, shown_on};
@@ -23,12 +23,12 @@ pub enum StepEvent {
     GrantFalls,
 }
 
-/// Which of the instants before a break is meant, within the stretch that is judged.
+/// Which of the instants before a break is meant, within the judged stretch.
 #[derive(Clone, Copy, Debug, PartialEq, Eq)]
 pub enum Occurrence {
     /// The last one.
     Last,
-    /// The last one, or that of the break.
+    /// The last one up to the break, that of the break included.
     LastOrNow,
     /// The first one since the last transfer started.
     FirstInTransfer,
@@ -36,16 +36,16 @@ pub enum Occurrence {
     FirstInCycle,
 }
 
-/// An event of which a rule speaks beside the edge that breaks it.
+/// An event that a rule refers to, besides the edge that breaks the rule.
 #[derive(Clone, Copy, Debug, PartialEq, Eq)]
 pub struct RelatedEvent {
     /// What happens.
     pub event: StepEvent,
-    /// At which of the instants.
+    /// Which of the instants at which it happens is meant.
     pub occurrence: Occurrence,
 }
 
-/// The level of a line. A line that the backplane lacks has none that is known.
+/// The level of a line, `Unknown` if the backplane lacks the line.
 fn shown_on(lines: &Lines, line: Line) -> Level
     ensures { result ≡ shown_on lines.now line }
 {
@@ -104,7 +104,7 @@ fn first_in_cycle(event: StepEvent) -> Option<RelatedEvent>
     })
 }
 
-/// What a rule speaks of beside the edge on this line that breaks it, if it does.
+/// The event that `rule` refers to besides the edge on `line` that breaks it, if there is one.
 pub fn first_related_event(rule: Rule, line: Line) -> Option<RelatedEvent>
     ensures { result ≡ first_related_event rule line }
 {
@@ -125,7 +125,7 @@ pub fn first_related_event(rule: Rule, line: Line) -> Option<RelatedEvent>
     }
 }
 
-/// What it speaks of besides that, if it does: of a grant the request, and of a tenure the grant that came last.
+/// A second event that `rule` refers to, if there is one: for a grant the request, and for a tenure the last grant.
 pub fn second_related_event(rule: Rule, line: Line) -> Option<RelatedEvent>
     ensures { result ≡ second_related_event rule line }
 {

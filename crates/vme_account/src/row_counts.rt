@@ -12,10 +12,10 @@ use vme_listing::Row;
 use vme_monitor::mark::{Mark, MarkKind, TransferAnswer};
 use vme_trace::Lanes;
 
-/// How many counts of tenures there are: for each of 4 levels, one for each slot from 0 to 21.
+/// The number of counts of tenures: for each of 4 levels, one for each slot from 0 to 21.
 const TENURE_COUNTS: usize = 88;
 
-/// How many rows there are of each kind.
+/// The number of rows of each kind, by the names of the kinds in `RowKind`.
 #[derive(Clone, Copy, Debug, PartialEq, Eq)]
 pub struct RowCounts {
     open_tenures: u64,
@@ -29,11 +29,11 @@ pub struct RowCounts {
     errors: u64,
     pending: u64,
     resets: u64,
-    /// The tenures by level and slot.
+    /// The tenures by level and slot, at index `22 * level + slot`.
     tenures: [u64; TENURE_COUNTS],
 }
 
-/// A count, and one more where it is so. A count beyond 64 bits is told as want of memory.
+/// `count`, and one more if `is_one`. A count beyond 64 bits is reported as `AllocError`.
 #[inline(always)]
 fn counted(count: u64, is_one: bool) -> Result<u64, AllocError>
     ensures { IfOk result (λ more. more ≡ count + one_if is_one) }
@@ -49,7 +49,7 @@ fn counted(count: u64, is_one: bool) -> Result<u64, AllocError>
 }
 
 impl RowCounts {
-    /// No row.
+    /// No rows.
     pub fn none() -> RowCounts
         ensures { result ≡ no_rows }
     {
@@ -78,7 +78,7 @@ impl RowCounts {
         counts
     }
 
-    /// Counts the rows whose kind is known by a mark, where these are open before it.
+    /// Counts the rows whose kind is known at `mark`, where `open` are the open rows before it.
     pub fn take(&mut self, mark: &Mark, open: &UnendedRows) -> Result<(), AllocError>
         ensures { OnOk result (self.new ≡ fold with_row self.old (known_at mark.now.instant mark.now.kind open.now)) }
     {
@@ -125,7 +125,7 @@ impl RowCounts {
         }
     }
 
-    /// The transfer that waits stays without an answer: so it is where no mark follows.
+    /// Counts the waiting transfer as one without an answer, as where no mark follows.
     pub fn leave(&mut self, open: &UnendedRows) -> Result<(), AllocError>
         ensures { OnOk result (self.new ≡ fold with_row self.old (pending_rows open.now.waiting)) }
     {
@@ -138,7 +138,7 @@ impl RowCounts {
         }
     }
 
-    /// The transfer that waits is answered.
+    /// The waiting transfer is answered.
     fn answer(
         &mut self,
         instant: u32,
@@ -196,7 +196,7 @@ impl RowCounts {
         }
     }
 
-    /// How many rows there are of a kind. Tenures of a level above 3 or a slot above 21 aren't counted.
+    /// The number of rows of `kind`. Tenures of a level above 3 or a slot above 21 aren't counted.
     pub fn of(&self, kind: RowKind) -> u64
         ensures { result ≡ count_in self.now kind }
     {
@@ -217,7 +217,7 @@ impl RowCounts {
     }
 }
 
-/// The row of a transfer that is answered: without a cycle it counts as one that isn't.
+/// The row of the answered transfer. If no cycle has started, it is that of a transfer without an answer.
 fn answered_row(instant: u32, answer: TransferAnswer, latest: Option<u32>, waiting: &Waiting) -> Row
     ensures { result ≡ answered_row instant answer latest waiting.now }
 {

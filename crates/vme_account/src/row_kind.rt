@@ -1,4 +1,4 @@
-//! Of which kind a row is, and which are open where a listing ends.
+//! The kinds of rows, and the parts that may be open where a listing ends.
 
 ghost use Rattle.std.specs.Prelude.{◌≡◌};
 ghost use Rattle.vme_account.specs.RowKinds.{is_answered_by, is_cycle_of, is_of, is_reset, is_tenure_of};

@@ -1,4 +1,4 @@
-//! How far an account has come.
+//! The account of the steps so far.
 
 ghost use Rattle.std.specs.Prelude.{◌≡◌, ◌+◌, ◌∷◌, ◌++◌, ◌<◌, [], List, IfOk, IfSome, None, OnOk, length};
 ghost use Rattle.vme_trace.specs.Levels.{Levels};
@@ -15,19 +15,19 @@ use vme_auditor::{first_break_is_found, marks_are_found};
 use vme_monitor::known::known_over_recordings;
 use vme_trace::{Lines, Step};
 
-/// How many steps behind a break are kept.
+/// The number of steps after a break that are kept.
 const BEHIND: u32 = 3;
 
 /// What is known of the steps so far.
 #[derive(Drop)]
 pub(crate) struct RunningAccount {
     pub judged: FollowedSteps,
-    /// The last steps up to the end, or three instants behind the break.
+    /// The last steps up to the end, but at most three after the break.
     pub kept: StoredSteps,
 }
 
 impl RunningAccount {
-    /// Before the first step. It has large tables, so it stands in a box, and isn't moved.
+    /// The account before the first step. It has large tables, so it is boxed and isn't moved.
     pub fn boxed(alloc: Global, opening: &Lines) -> Option<Box<RunningAccount>>
         ensures { IfSome result (λ running. KeepsAccount opening.now [] running.value) }
     {
@@ -41,14 +41,14 @@ impl RunningAccount {
         }
     }
 
-    /// How many steps came.
+    /// The number of steps so far.
     pub fn steps(&self) -> u32
         ensures { result ≡ self.now.kept.steps }
     {
         self.kept.steps()
     }
 
-    /// Takes the step that follows. The only error is want of memory.
+    /// Takes the next step. The only error is want of memory.
     pub fn take(&mut self, step: Step) -> Result<(), AllocError>
         requires { (o : Levels) × (x : List StepOf) × KeepsAccount o x self.old × (length x < 67108864) }
         ensures { OnOk result ((o : Levels) (x : List StepOf) → KeepsAccount o x self.old
@@ -59,7 +59,7 @@ impl RunningAccount {
         self.kept.take(step, is_wanted)
     }
 
-    /// Whether the next step is wanted: at most three are behind the break.
+    /// Whether the next step is kept: at most three steps after the break are.
     fn wants_more(&self) -> bool {
         match self.judged.notes.found {
             Some(found) => self.kept.steps() < found.instant.saturating_add(BEHIND),

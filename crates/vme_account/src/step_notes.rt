@@ -21,15 +21,15 @@ pub(crate) struct StepNotes {
     pub found: Option<Break>,
     /// What is kept of the marks before the break.
     pub marked: Marked,
-    /// What happened last, the break included.
+    /// When each event last happened, up to the break and including it.
     pub events: StretchEvents,
-    /// The times of the instants that are told.
+    /// The times of the instants that an explanation reports.
     pub times: KnownTimes,
     pub stretches: Stretches,
 }
 
 impl StepNotes {
-    /// Before the first step.
+    /// The notes before the first step.
     pub fn at_opening(opening: &Lines) -> StepNotes
         ensures { AreNotesAtOpening opening.now result }
     {
@@ -43,7 +43,7 @@ impl StepNotes {
         }
     }
 
-    /// Notes what a step shows, or the break that it makes. The only error is want of memory.
+    /// Notes a step's marks, or the break that it makes. The only error is want of memory.
     pub fn take(
         &mut self,
         view: &StepView,
@@ -66,7 +66,7 @@ impl StepNotes {
         }
     }
 
-    /// Notes what a step shows that breaks no rule.
+    /// Notes the marks of a step that breaks no rule.
     fn note(
         &mut self,
         view: &StepView,
@@ -96,7 +96,7 @@ impl StepNotes {
     }
 }
 
-/// A break by its fault.
+/// The break of `fault` at `instant`.
 fn break_of(fault: Fault, instant: u32, time: u64) -> Break
     ensures { result ≡ break_of_fault instant time fault }
 {

@@ -17,12 +17,12 @@ pub(crate) struct StoredSteps {
     recent: RecentSteps,
     /// The instant up to which they are kept.
     end: u32,
-    /// How many steps came.
+    /// The number of steps so far.
     steps: u32,
 }
 
 impl StoredSteps {
-    /// Before the first step.
+    /// The state before the first step.
     pub fn new(alloc: Global, opening: &Lines) -> StoredSteps
         ensures { AreStored opening.now [] result }
     {
@@ -33,14 +33,14 @@ impl StoredSteps {
         }
     }
 
-    /// How many steps came.
+    /// The number of steps so far.
     pub fn steps(&self) -> u32
         ensures { result ≡ self.now.steps }
     {
         self.steps
     }
 
-    /// Takes the step that follows, and keeps it if it is wanted, and so were all before it. The only error is want of
+    /// Takes the next step, and keeps it if `is_wanted` and all steps before it were kept. The only error is want of
     /// memory.
     pub fn take(&mut self, step: Step, is_wanted: bool) -> Result<(), AllocError>
         requires { (o : Levels) × (x : List StepOf) × AreStored o x self.old × (length x < 67108864) }
@@ -55,7 +55,7 @@ impl StoredSteps {
         }
     }
 
-    /// Keeps the step that follows, where all before it were wanted.
+    /// Keeps the next step, where all steps before it were kept.
     fn keep(&mut self, step: Step) -> Result<(), AllocError>
         requires kept { (o : Levels) × (x : List StepOf) × AreStored o x self.old × (length x < 67108864) }
         requires all { self.old.end ≡ self.old.steps }
@@ -75,14 +75,14 @@ impl StoredSteps {
         self.recent.first()
     }
 
-    /// The last one.
+    /// The last instant whose levels are known.
     pub fn end(&self) -> u32
         ensures { result ≡ self.now.end }
     {
         self.end
     }
 
-    /// The levels at the instants from a first to a last one, both included.
+    /// The levels at the instants from `first` to `last`, both included.
     pub fn levels_from(
         &self,
         alloc: Global,

@@ -1,4 +1,4 @@
-//! What happened last in the stretch that was judged last, up to its break and before it.
+//! When each event last happened in the last judged stretch, up to its break and before it.
 
 ghost use Rattle.std.specs.Prelude.{◌≡◌, ◌+◌, None, true, is_some};
 ghost use Rattle.vme_trace.specs.Trace.{Trace, changed, levels_at, time_at};
@@ -11,21 +11,21 @@ use crate::related_event::{Occurrence, RelatedEvent, StepEvent};
 use vme_monitor::view::StepView;
 use vme_trace::{Change, Line};
 
-/// What happened last in a stretch, and before its last instant too, where that has a break.
+/// When each event last happened in a stretch, and before its last instant too, if that has a break.
 #[derive(Clone, Copy, Debug, PartialEq, Eq)]
 pub(crate) struct StretchEvents {
     /// The instant from which on the stretch is judged.
     start: u32,
     /// The last instant so far.
     seen: u32,
-    /// What happened last, up to that instant.
+    /// When each event last happened, up to that instant.
     last: LastEvents,
-    /// The same up to the instant before it, where it has a break.
+    /// When each event last happened up to the instant before, if the last one has a break.
     before: Option<LastEvents>,
 }
 
 impl StretchEvents {
-    /// Before the first step.
+    /// The state before the first step.
     pub fn none() -> StretchEvents
         ensures events { (t : Trace) → AreEvents t result }
         ensures seen { result.seen ≡ 0 }
@@ -38,7 +38,7 @@ impl StretchEvents {
         }
     }
 
-    /// Takes the step of an instant, between these levels.
+    /// Takes the step to `instant`, between the levels of `view`.
     pub fn take_step(&mut self, view: &StepView, changes: &[Change], instant: u32, time: u64)
         requires { view.now.after ≡ changed view.now.before changes.now }
         ensures events { (t : Trace) → AreEvents t self.old → instant ≡ self.old.seen + 1
@@ -52,7 +52,7 @@ impl StretchEvents {
         self.forget_before();
     }
 
-    /// What happened up to the instant before isn't kept any more. Mostly it wasn't: so nothing is written.
+    /// Drops `before`. It is mostly `None` already, and then nothing is written.
     #[inline(always)]
     fn forget_before(&mut self)
         ensures { self.new ≡ record self.old { before = None } }
@@ -63,7 +63,7 @@ impl StretchEvents {
         }
     }
 
-    /// The same of a step that breaks a rule.
+    /// Takes a step that breaks a rule, and keeps the events up to the instant before it.
     pub fn take_break(&mut self, view: &StepView, changes: &[Change], instant: u32, time: u64)
         requires { view.now.after ≡ changed view.now.before changes.now }
         ensures events { (t : Trace) → AreEvents t self.old → instant ≡ self.old.seen + 1
@@ -79,7 +79,7 @@ impl StretchEvents {
         self.before = Some(last);
     }
 
-    /// Judging may start at the last instant.
+    /// Judging starts at the last instant, if `starts`.
     pub fn begin_if(&mut self, starts: bool)
         ensures events { (t : Trace) → AreEvents t self.old → AreEvents t self.new }
         ensures seen { self.new.seen ≡ self.old.seen }
@@ -99,7 +99,7 @@ impl StretchEvents {
         self.before = None;
     }
 
-    /// When that happened of which a break at the last instant speaks, if it did in the stretch.
+    /// When the event happened that a break at the last instant refers to, if it happened in the stretch.
     pub fn moment_of(&self, other: &RelatedEvent) -> Option<Moment>
         ensures { (t : Trace) → AreEvents t self.now → is_some self.now.before ≡ true → is_kept other.now ≡ true
             → result ≡ moment t (instant_of t other.now self.now.start self.now.seen) }
@@ -110,7 +110,7 @@ impl StretchEvents {
         }
     }
 
-    /// The same, by what happened up to the instant before.
+    /// When the event happened, by the events up to the instant before (`before`) and up to the last one.
     fn moment_before(&self, before: &LastEvents, other: &RelatedEvent) -> Option<Moment>
         ensures { result ≡ moment_before self.now.last self.now.seen before.now other.now.occurrence other.now.event }
     {
@@ -134,7 +134,7 @@ impl StretchEvents {
         }
     }
 
-    /// Whether it happened last at the last instant.
+    /// Whether `event` last happened at the last instant.
     fn is_now(&self, event: &StepEvent) -> bool
         ensures { result ≡ is_now self.now.last self.now.seen event.now }
     {

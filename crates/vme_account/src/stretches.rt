@@ -16,17 +16,17 @@ pub struct StartedTenure {
 /// Where judging starts and ends, and the last tenure.
 #[derive(Clone, Copy, Debug, PartialEq, Eq)]
 pub(crate) struct Stretches {
-    /// Where judging starts first.
+    /// The instant at which judging starts first.
     pub first_start: Option<u32>,
-    /// The last reset that ended what was judged.
+    /// The instant of the last reset that ended judging.
     pub last_reset: Option<u32>,
-    /// The same, unless judging started again behind it.
+    /// The last reset, unless judging started again after it.
     pub ended: Option<u32>,
     pub tenure: Option<StartedTenure>,
 }
 
 impl Stretches {
-    /// Before the first step, where judging starts at the opening or doesn't.
+    /// The state before the first step. `has_started` is whether judging starts at the opening.
     pub fn at_opening(has_started: bool) -> Stretches {
         Stretches {
             first_start: if has_started { Some(0) } else { None },
@@ -36,7 +36,7 @@ impl Stretches {
         }
     }
 
-    /// Takes what a step shows.
+    /// Takes a step's marks of the stretch and of the tenure.
     pub fn note_stretch(&mut self, instant: u32, stretch: &StepMarks, tenure: &StepMarks) {
         if stretch.reset {
             self.last_reset = Some(instant);

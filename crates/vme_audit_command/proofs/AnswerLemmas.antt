@@ -1,4 +1,4 @@
--- The answer to a dump.
+-- The answer for a dump.
 use Rattle.std.proofs.Common.{◌≡◌, ◌≤◌, ℕ, Bool, true, false, List, [], ◌++◌, Option, None, Some, IfSome, Result, Ok}
 use Rattle.std.proofs.Common.{Err, length}
 use Rattle.std.proofs.Common.{sym, ap, subst, ◌∙◌, append-nil, flat_map, refl}
@@ -39,25 +39,25 @@ pub no-lines : (head : List ℕ) (audit : GivenSteps) → breaks (read_of audit)
 unfolding break_lines
 no-lines head audit none = ap (flat_map (line_of_break audit.allowances audit.stop head)) none
 
--- what is told of an audit with these allowances, this stop, this skew
+-- the options of an audit, by their fields
 abbrev pub options_by : List Allowance → Option ℕ → ℕ → ℕ → Bool → AuditOptions
 options_by allowances stop skew transfers is_quiet =
     record { allowances = allowances; transfers = transfers; stop = stop; skew = skew; is_quiet = is_quiet }
 
--- the first of an answer are the lines of its breaks
+-- an answer begins with the lines of the breaks
 lines-first : (options : AuditOptions) (head lines : List ℕ) (ended : Result Trace Refusal)
     → (more : List ℕ) × ((answer_by options head lines ended).out ≡ lines ++ more)
 lines-first options head lines (Ok a) = (last_lines options head a, refl)
 lines-first options head lines (Err refusal) = ([], sym (append-nil lines))
 
--- the lines of all breaks are those that were told from the first on
+-- if no lines were written before, the text is all lines
 all-told : (all before text : List ℕ) → before ≡ [] → all ≡ before ++ text → all ≡ text
 all-told all before text none is = is ∙ ap (λ (l : List ℕ). l ++ text) none
 
 module _ (skew transfers : ℕ) (is_quiet : Bool) (head : List ℕ) (first later : GivenSteps)
     (none : lines_of head first ≡ [])
     (reading : TextReading) (u v : Writing) where
-  -- a body without an outcome
+  -- a body ends without an outcome
   pub ends-without : (why : NoOutcome)
       → EndsBehind {A = Unit {0}} head first (lines_of head first) reading later.recording u v (Err why)
       → EndsAs (reading_answer (options_by first.allowances first.stop skew transfers is_quiet) head reading) u v
@@ -100,10 +100,10 @@ module _ (skew transfers : ℕ) (is_quiet : Bool) (head : List ℕ) (first later
       let all = is ∙ ap (λ (l : List ℕ). l ++ more) (all-told lines (lines_of head first) text none same) in
       subst (λ (l : List ℕ). WritesPrefix u v l) (sym all) (prefix-longer u v text more some)
 
-  -- behind the lines of its breaks the last lines are told
+  -- after the lines of the breaks the last lines are written
   module _ (w : Writing) (kept : IsLater first later)
       (ends : EndsBehind {A = Unit {0}} head first (lines_of head first) reading later.recording u v (Ok tt)) where
-    -- what the last lines are told of
+    -- the last lines of audit `a` are written
     abbrev TellsLast : GivenSteps → Result ℕ TellFault → Type 0
     TellsLast a result = TellsOutcome (counts_unless is_quiet a.allowances head (read_of a)
         ++ outcome_line_of head (outcome_of a.allowances transfers (read_of a)))
@@ -150,13 +150,13 @@ module _ (skew transfers : ℕ) (is_quiet : Bool) (head : List ℕ) (first later
         subst (λ (a : DumpAnswer). EndsAs a u w (Err (NotWritten Memory))) (sym answer)
         (prefix-after u v w text _ writes (tells-ours (Err Memory) tells))
 
--- ---- behind the definitions
+-- ---- after the definitions
 
 module _ (allowances : List Allowance) (stop : Option ℕ) (skew transfers : ℕ) (is_quiet : Bool) (head : List ℕ)
     (first later : GivenSteps) (fits : first.allowances ≡ allowances) (stops : first.stop ≡ stop)
     (none : lines_of head first ≡ []) (r : StepReading) (held : List ℕ) (is_more : Bool) (source : Reading)
     (u : Writing) where
-  -- by the rules that the audit has
+  -- the rules in the options can be replaced by the equal rules of the audit
   behind-by : (w : Writing) (result : Result ℕ NoOutcome)
       → AuditsBehind (options_by first.allowances first.stop skew transfers is_quiet) head r held is_more source u w
       result
@@ -213,7 +213,7 @@ module _ (allowances : List Allowance) (stop : Option ℕ) (skew transfers : ℕ
 
 -- ---- a whole dump
 
--- the audit of a body before its first step
+-- before its first step an audit was given what the reader has given: nothing
 pub given-first : (skew : Option ℕ) (settler : Option Settling) (first : GivenSteps) (r : StepReading)
     → ComesOut skew settler r.given (whole_reading r []).time r.given
     → first.recording ≡ r.given → r.given.opening.slots ≤ 21 → length r.given.opening.levels ≡ line_count
@@ -232,7 +232,7 @@ all-behind (Some x) None done more read all = absurd read
 all-behind (Some x) (Some y) done more read all = ap (λ (l : List ℕ). done ++ l) all ∙ sym read
 
 module _ (options : AuditOptions) (head : List ℕ) (bound : BoundLines) (source : Reading) (u : Writing) where
-  -- nothing is read of a dump
+  -- without memory nothing is written of a dump
   pub unread-answers : AuditsDump options head bound source u u (Err (NotWritten Memory))
   unread-answers = (left_of source.left, all-left source.left, prefix-of u _)
 
@@ -249,7 +249,7 @@ module _ (options : AuditOptions) (head : List ℕ) (bound : BoundLines) (source
   unbegun-answers new left (NotWritten CannotWrite) reads = absurd reads.2
   unbegun-answers new left (NotWritten Memory) reads = (left_of source.left, all-left source.left, prefix-of u _)
 
-  -- all of it
+  -- a dump with its definitions and its body was audited
   pub dump-answers : (new : Reading) (left : List ℕ) (r : StepReading) (is_more : Bool) (w : Writing)
       (result : Result ℕ NoOutcome) → ReadsDefinitions bound source new left (Ok (r, is_more))
       → (IsBodyBegun r → AuditsBehind options head r left is_more new u w result)

@@ -1,4 +1,4 @@
--- What the audit of a body comes to piece by piece.
+-- The result of auditing a body, piece by piece.
 use Rattle.std.proofs.Common.{◌≡◌, ◌≤◌, ℕ, List, [], ◌∷◌, ◌++◌, Option, None, Result, Ok, Err, flat_map, length}
 use Rattle.std.proofs.Common.{sym, ap, subst, ◌∙◌, append_assoc, append-nil, refl, take}
 use Rattle.std.proofs.Common.{◌+◌, ◌<◌, drop, get_or, take-append-drop}
@@ -22,13 +22,13 @@ use Rattle.vme_audit_command.specs.declared.told.TellFault.TheVariants.{Memory, 
 use Rattle.vme_audit_command.proofs.WriteLemmas.{fails-after, fails-longer, prefix-after, prefix-longer}
 use Rattle.vme_audit_command.proofs.WriteLemmas.{writes-as-prefix, writes-both, writes-nothing}
 
--- the breaks stay where a recording goes on
+-- when steps are added to a recording, its breaks stay
 abbrev pub ReadGoesOn : Type 0
 ReadGoesOn = (allowances : List Allowance) (stop : Option ℕ) (t : Trace) (more : List Step)
     → malformed_step (with_steps t more) ≡ None → t.opening.slots ≤ 21
     → BreaksGoOn allowances stop t (with_steps t more)
 
--- so do their lines
+-- when steps are added to a recording, the lines of its breaks stay
 pub lines-go-on : ReadGoesOn → (head : List ℕ) (allowances : List Allowance) (stop : Option ℕ) (t : Trace)
     (more : List Step) → malformed_step (with_steps t more) ≡ None → t.opening.slots ≤ 21
     → (text : List ℕ) × (break_lines allowances stop head (with_steps t more) ≡ break_lines allowances stop head t
@@ -44,7 +44,7 @@ lines-go-on law head allowances stop t more formed few =
 pub steps-both : (t : Trace) (x y : List Step) → with_steps (with_steps t x) y ≡ with_steps t (x ++ y)
 steps-both t x y = ap (λ (s : List Step). record t { steps = s }) (append_assoc t.steps x y)
 
--- no memory for a step
+-- if there is no memory for further steps, a prefix of their lines is written, the empty one
 pub no-memory : (A : Type 0) → ReadGoesOn → (head : List ℕ) (audit : GivenSteps) (steps : List Step) (w : Writing)
     → malformed_step (with_steps audit.recording steps) ≡ None → audit.recording.opening.slots ≤ 21
     → AuditGoesOn {A = A} head audit steps w w (Err Memory)
@@ -54,14 +54,14 @@ no-memory A law head audit steps w formed few =
 
 -- ---- a step
 
--- the lines that a text tells were told, as far as it was
+-- the added text was written, or in part if there is an error
 pub tells-on : {A : Type 0} (before after text : List ℕ) (u v : Writing) (result : Result A TellFault)
     → after ≡ before ++ text → TellsText u v result text → GoesOn before after u v result
 tells-on before after text u v (Ok x) same tells = (text, same, tells)
 tells-on before after text u v (Err CannotWrite) same tells = (text, same, tells)
 tells-on before after text u v (Err Memory) same tells = (text, same, tells)
 
--- the line of a break that a step makes
+-- the line of a break is the text that its step adds
 pub break-told : (head : List ℕ) (audit later : GivenSteps) (steps : List Step) (b : Break) (line : List ℕ)
     → later ≡ given_too audit steps → breaks (read_of later) ≡ breaks (read_of audit) ++ b ∷ []
     → line ≡ line_of_break audit.allowances audit.stop head b
@@ -74,7 +74,7 @@ break-told head audit later steps b line is more told =
     ap (flat_map f) grown ∙ flat_map-append f (breaks (read_of audit)) (b ∷ [])
     ∙ ap (λ (l : List ℕ). flat_map f (breaks (read_of audit)) ++ l) (append-nil (f b) ∙ sym told)
 
--- a step that makes no break
+-- a step without a break adds no text
 pub nothing-told : (head : List ℕ) (audit later : GivenSteps) (steps : List Step) → later ≡ given_too audit steps
     → breaks (read_of later) ≡ breaks (read_of audit) ++ []
     → lines_of head (given_too audit steps) ≡ lines_of head audit ++ []
@@ -112,7 +112,7 @@ goes-after before middle after u v w (Err Memory) one two =
       prefix-after u v w first second writes told,
     )
 
--- an early end leaves lines that weren't told
+-- after an error a prefix of any longer text was written
 pub goes-further : (A B : Type 0) (before after all : List ℕ) (u v : Writing) (fault : TellFault)
     → GoesOn {A = A} before after u v (Err fault) → (later : List ℕ) × (all ≡ after ++ later)
     → GoesOn {A = B} before all u v (Err fault)
@@ -133,7 +133,7 @@ goes-further A B before after all u v Memory goes more =
 
 -- ---- steps one by one
 
--- the front of steps that may stand where they stand
+-- the first `n` of some steps are well formed if all of them are
 pub front-formed : (t : Trace) (steps : List Step) (n : ℕ) → malformed_step (with_steps t steps) ≡ None
     → malformed_step (with_steps t (take n steps)) ≡ None
 front-formed t steps n formed =
@@ -143,7 +143,7 @@ front-formed t steps n formed =
     (sound_apart t.opening (t.steps ++ take n steps) (drop n steps)
     (subst (λ (x : List Step). malformed_step (record { opening = t.opening; steps = x }) ≡ None) split formed)).first
 
--- one more was given
+-- one more step was given
 pub one-more : (first audit later : GivenSteps) (steps : List Step) (i : ℕ) (step : Step)
     → audit ≡ given_too first (take i steps) → later ≡ given_too audit (step ∷ []) → i < length steps
     → step ≡ get_or steps i step → later ≡ given_too first (take (i + 1) steps)
@@ -155,7 +155,7 @@ one-more first audit later steps i step so_far next lt is =
     ∙ ap (λ (x : List Step). all ++ x)
     (ap (λ (d : Step). take i steps ++ d ∷ []) is ∙ sym (take_more steps i step lt)))
 
--- a step of some that may stand where they stand
+-- the next step is well formed if all steps are
 pub next-formed : (first audit later : GivenSteps) (steps : List Step) (i : ℕ) (step : Step)
     → audit ≡ given_too first (take i steps) → i < length steps → step ≡ get_or steps i step
     → malformed_step (with_steps first.recording steps) ≡ None
@@ -164,7 +164,7 @@ next-formed first audit later steps i step so_far lt is formed =
     let one = one-more first audit (given_too audit (step ∷ [])) steps i step so_far refl lt is in
     ap (λ (a : GivenSteps). malformed_step a.recording) one ∙ front-formed first.recording steps (i + 1) formed
 
--- the lines of more steps
+-- the lines of one more step are written after those so far
 pub lines-next : (head : List ℕ) (first audit later : GivenSteps) (step : Step) (u v w : Writing)
     → later ≡ given_too audit (step ∷ [])
     → (text : List ℕ) × (lines_of head audit ≡ lines_of head first ++ text) × Writes u v text
@@ -180,7 +180,7 @@ lines-next head first audit later step u v w is one two =
       writes-both u v w text more writes told,
     )
 
--- the rest of the steps wasn't audited
+-- if the audit of a step ends with an error, so does that of all steps
 pub rest-unwritten : (A B : Type 0) → ReadGoesOn → (head : List ℕ) (first audit : GivenSteps) (steps : List Step)
     (i : ℕ) (step : Step) (u v w : Writing) (fault : TellFault) → audit ≡ given_too first (take i steps)
     → i < length steps → step ≡ get_or steps i step → malformed_step (with_steps first.recording steps) ≡ None

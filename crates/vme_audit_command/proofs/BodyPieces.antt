@@ -1,4 +1,4 @@
--- A body that is audited piece by piece.
+-- The audit of a body, piece by piece.
 use Rattle.std.proofs.Common.{◌≡◌, ℕ, List, [], ◌++◌, Option, None, Some, IfSome, Result, Ok, Err, take, drop, sym}
 use Rattle.std.proofs.Common.{ap, subst, ◌∙◌, append_assoc, append-nil, take-append-drop, refl}
 use Rattle.std.specs.Io.KnownBytes.{Consumes, IsAtEnd}
@@ -25,7 +25,7 @@ use Rattle.vme_audit_command.proofs.Onward.{given-on}
 use Rattle.vme_audit_command.proofs.PieceLemmas.{ends-after, memory-ends}
 use Rattle.vme_audit_command.proofs.WriteLemmas.{writes-both, writes-nothing}
 
--- what is left of a source whose first bytes were read
+-- what is left of a source after its first bytes were read
 abbrev pub left_of : Option (List ℕ) → List ℕ
 left_of None = []
 left_of (Some x) = x
@@ -47,7 +47,8 @@ pub all-left : (a : Option (List ℕ)) → IfSome a (λ told. left_of a ≡ told
 all-left None = tt
 all-left (Some x) = refl
 
--- these bytes were read, of which some are done with and others held; and the lines of the breaks so far were told
+-- the audit of a body that began with `held`: `more` was read from `source`; `done` is taken, and `left` is held now;
+-- the lines of the breaks so far, `text`, were written
 pub record IsUnderway (head : List ℕ) (source now : Reading) (old new : Writing) (first audit : GivenSteps)
     (begun r : StepReading) (held left : List ℕ) : Type 0 where
   pub done : List ℕ
@@ -116,7 +117,7 @@ module _ (skew : Option ℕ) (head : List ℕ) (source now : Reading) (old new :
     writes = u.writes;
   }
 
-  -- what comes of all that the source tells
+  -- what all bytes of the body give is what the reader gives from the held ones on
   same_reading : (rest : List ℕ) → whole_reading begun (held ++ (u.more ++ rest)) ≡ whole_reading r (left ++ rest)
   same_reading rest =
       ap (whole_reading begun) (sym (append_assoc held u.more rest) ∙ ap (λ (l : List ℕ). l ++ rest) u.split
@@ -170,7 +171,7 @@ module _ (skew : Option ℕ) (head : List ℕ) (source now : Reading) (old new :
         (sym (append-nil left)) ends)),
   )
 
--- no more could be read: the first of all lines were written
+-- no more could be read: a prefix of all lines was written
 module _ (law : ReadGoesOn) (front : GivenIsPrefix) (follows : StepsFollow) (on : TimeGoesOn) (head : List ℕ)
     (skew : Option ℕ) (settler : Option Settling) (audit : GivenSteps) (r : StepReading)
     (h : HasGiven skew settler audit r) (w : Writing) where
@@ -186,7 +187,7 @@ module _ (law : ReadGoesOn) (front : GivenIsPrefix) (follows : StepsFollow) (on 
       (Err CannotRead)
   unread-ends A t rest = unheld-ends A t rest
 
-  -- why no more was read
+  -- the reason why no more was read
   pub no-more-ends : (fault : ReadFault) (why : NoOutcome) (t : Trace) → why ≡ unread fault → (rest : List ℕ)
       → EndsBehind {A = Unit {0}} head audit (lines_of head audit) (settled_by skew (whole_reading r rest)) t w w
       (Err why)
@@ -199,7 +200,7 @@ module _ (law : ReadGoesOn) (front : GivenIsPrefix) (follows : StepsFollow) (on 
 
 -- ---- a piece of a body that is underway
 
--- the audit has been given what comes out of what the reader has given
+-- after a piece the audit was given what comes out of the reader's steps
 pub given-next : (skew : Option ℕ) (head : List ℕ) (audit later : GivenSteps) (settled : Option Settling)
     (r next : StepReading) (n : ℕ) (bytes : List ℕ) (u v : Writing)
     → TakesPiece skew head audit later settled r bytes u v (Ok (Some (next, n))) → HasGiven skew settled later next
@@ -209,7 +210,7 @@ module _ (skew : Option ℕ) (head : List ℕ) (source now : Reading) (old new :
     (begun r : StepReading) (held left bytes : List ℕ)
     (u : IsUnderway head source now old new first audit begun r held left) (is : bytes ≡ left)
     (later : GivenSteps) (settled : Option Settling) (after : Writing) where
-  -- it ends in this piece
+  -- the body ends in this piece with an error
   pub underway-fails : (why : NoOutcome) → TakesPiece skew head audit later settled r bytes new after (Err why)
       → AuditsBody {A = Unit {0}} skew head first later begun held source old after (Err why)
   underway-fails why takes =
@@ -229,7 +230,7 @@ module _ (skew : Option ℕ) (head : List ℕ) (source now : Reading) (old new :
       (subst (λ (l : List ℕ). (rest : List ℕ) → EndsBehind {A = Unit {0}} head audit (lines_of head audit)
       (settled_by skew (whole_reading r (l ++ rest))) later.recording new after (Ok tt)) is ends)
 
-  -- it goes on
+  -- the audit continues after this piece
   pub underway-on : (next : StepReading) (n : ℕ) (dropped : List ℕ) → dropped ≡ drop n left
       → TakesPiece skew head audit later settled r bytes new after (Ok (Some (next, n)))
       → IsUnderway head source now old after first later begun next held dropped
@@ -241,7 +242,7 @@ module _ (skew : Option ℕ) (head : List ℕ) (source now : Reading) (old new :
       subst (λ (l : List ℕ). IsUnderway head source now old after first later begun next held l) (sym drops)
       (underway-taken skew head source now old new first audit begun r held left u later next n after passes same told)
 
--- the same piece, where it is known that one goes on
+-- a piece after which the audit is known to continue
 pub takes-some : (skew : Option ℕ) (head : List ℕ) (audit later : GivenSteps) (settled : Option Settling)
     (r : StepReading) (bytes : List ℕ) (u v : Writing)
     (going : Option (StepReading × ℕ)) (next : StepReading) (n : ℕ) → going ≡ Some (next, n)

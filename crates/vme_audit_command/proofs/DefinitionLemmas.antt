@@ -1,4 +1,4 @@
--- The definitions of a dump, as it is read.
+-- The definitions of a dump, as the dump is read.
 use Rattle.std.proofs.Common.{◌≡◌, ℕ, List, ◌++◌, true, Option, Some, Ok, Err, sym, subst}
 use Rattle.std.specs.Io.KnownBytes.{Consumes, IsAtEnd}
 use Rattle.std.proofs.KnownBytes.{Consumes-trans}
@@ -13,13 +13,13 @@ use Rattle.vme_audit_command.specs.declared.told.NoOutcome.{NoOutcome}
 use Rattle.vme_audit_command.specs.declared.told.NoOutcome.TheVariants.{CannotRead, NotWritten, Refused}
 use Rattle.vme_audit_command.proofs.BodyPieces.{all-at-end, all-left, all-of, left_of}
 
--- all that was read is held
+-- all bytes that were read are held
 pub all-held : (a b c : Option (List ℕ)) (held more now : List ℕ) → Consumes a b held → Consumes b c more
     → now ≡ held ++ more → Consumes a c now
 all-held a b c held more now one two is = subst (Consumes a c) (sym is) (Consumes-trans a b c held more one two)
 
 module _ (bound : BoundLines) (old new : Reading) (left : List ℕ) where
-  -- a text isn't read to its body
+  -- reading a text ends before its body
   not-begun : (text : List ℕ) (why : NoOutcome) → AreAllBytesOf old text → NotBegun (reading_of_text bound text) why
       → ReadsDefinitions bound old new left (Err why)
   not-begun text (Refused refusal) all not = (text, all, not)

@@ -30,7 +30,7 @@ use Rattle.vme_audit_command.specs.declared.told.NoOutcome.TheVariants.{CannotRe
 use Rattle.vme_audit_command.specs.declared.told.TellFault.TheVariants.{Memory, CannotWrite}
 use Rattle.vme_audit_command.proofs.SeveralLemmas.{not-five}
 
--- ---- no status but that of a write that fails is 5
+-- ---- only the status of a failed write is 5
 
 outcome-other : (o : Outcome) → outcome_status o ≡ 5 → ⊥
 outcome-other (outcome.Conforming n) is = not-five 0 refl is
@@ -60,13 +60,13 @@ ended-other options head (Ok reading) status is five =
     (ended_at options.allowances options.stop settled.recorded settled.fault) status is five
 ended-other options head (Err fault) status is five = not-five 0 refl (ap status_or_zero is ∙ five)
 
--- ---- what is told of a dump without an outcome
+-- ---- the text of a dump without an outcome
 
 pub whole-is-front : (text : List ℕ) → IsTextPrefix text text
 whole-is-front text = (length text, sym (take-length text))
 
 module _ (name : List ℕ) (answer : DumpAnswer) (out : List ℕ) (is_front : IsTextPrefix out answer.out) where
-  -- there was no memory
+  -- memory runs out
   lacks : (before : List (List ℕ)) (last : List ℕ) (status : ℕ) → All (IsErrorLine name) before
       → (last ≡ memory_line) ⊎ (last ≡ refusal_line_of name refusal.Memory) → status ≡ 4
       → (errors : List (List ℕ)) → errors ≡ before ++ last ∷ []
@@ -84,13 +84,13 @@ module _ (name : List ℕ) (answer : DumpAnswer) (out : List ℕ) (is_front : Is
   one-line : (line : List ℕ) → IsErrorLine name line → All (IsErrorLine name) (line ∷ [])
   one-line line is = All-cons (IsErrorLine name) line [] is (All-nil (IsErrorLine name))
 
-  -- what is told on standard error, and how the dump ends so
+  -- the dump may end with these error lines and this status, which isn't 5
   abbrev EndsSo : Writing → Writing → ℕ → Type 0
   EndsSo e p status =
       (errors : List (List ℕ)) × IsEndOf name answer (record { out = out; errors = errors; status = status })
       × TriesEach e p errors × (status ≡ 5 → ⊥)
 
-  -- it has an outcome
+  -- the dump has an outcome
   kept-so : (e p : Writing) (ended status : ℕ)
       → IsEndOf name answer (record { out = out; errors = []; status = ended }) → (ended ≡ 5 → ⊥)
       → EndsWith ended e p status → EndsSo e p status
@@ -107,7 +107,7 @@ module _ (name : List ℕ) (answer : DumpAnswer) (out : List ℕ) (is_front : Is
     λ five. not-five 4 refl (sym four ∙ five),
   )
 
-  -- it has none
+  -- the dump has no outcome
   refused-so : (why : Refusal) (e p : Writing) (status : ℕ) → IsEndOf name answer (end_by name out (Err why))
       → RefusesAs name why e p status → EndsSo e p status
   refused-so why e p status told (w, ended, inl (tries, from), inl (nothing, is)) = (

@@ -1,4 +1,4 @@
--- An audit that has been given what came out of what a reader has given, and a piece more.
+-- An audit that was given what comes out of the reader's steps, after one more piece.
 use Rattle.std.proofs.Common.{◌≡◌, ◌≤◌, ℕ, List, ◌++◌, true, Option, None, Some, IfNone, IfSome, Ok, Err, take, drop}
 use Rattle.std.proofs.Common.{[]}
 use Rattle.std.proofs.Common.{length, sym, ap, subst, ◌∙◌, append_assoc, take-append-drop, arith}
@@ -23,13 +23,13 @@ use Rattle.vme_dump_input.proofs.ReadSteps.{StepsFollow, StepsWithin, TimeGoesOn
 use Rattle.vme_audit_command.proofs.Onward.{GoesOnWith, piece-to, reading-on}
 use Rattle.vme_audit_command.proofs.PieceLemmas.{StopIsRead, StopStays, cut-ends, final-ends}
 
--- a piece is taken, and its steps were given
+-- a piece is taken, and its steps are given
 module _ (front : GivenIsPrefix) (follows : StepsFollow) (within : StepsWithin) (on : TimeGoesOn) (skew : Option ℕ)
     (settler : Option Settling) (audit : GivenSteps) (r : StepReading) (h : HasGiven skew settler audit r)
     (next : StepReading) (steps : List Step) (n : ℕ) (bytes : List ℕ)
     (taken : (rest : List ℕ) → whole_reading r (take n bytes ++ rest) ≡ whole_reading next rest)
     (given : next.given ≡ with_steps r.given steps) (time : ℕ) (now : time ≡ (whole_reading next []).time) where
-  -- what is settled then
+  -- what is settled after the piece
   abbrev so_far : Trace
   so_far = settled_so_far skew time (with_steps r.given steps)
 
@@ -52,7 +52,7 @@ module _ (front : GivenIsPrefix) (follows : StepsFollow) (within : StepsWithin) 
   next-few : next.given.opening.slots ≤ 21
   next-few = subst (λ (t : Trace). t.opening.slots ≤ 21) (sym given) h.few
 
-  -- and all of a text goes on with it
+  -- what the whole text settles to continues what is settled after the piece
   piece-onward : (rest : List ℕ) → GoesOnWith so_far (settled_by skew (whole_reading r (bytes ++ rest))).recorded
   piece-onward rest =
       subst (λ (x : TextReading). GoesOnWith so_far (settled_by skew x).recorded) (sym (piece-whole rest))
@@ -61,7 +61,7 @@ module _ (front : GivenIsPrefix) (follows : StepsFollow) (within : StepsWithin) 
       (reading-on front follows on skew next (drop n bytes ++ rest) time (omega (arith, now)) next-few
       (ap (λ (t : Trace). length t.opening.levels) given ∙ h.whole) next-formed))
 
-  -- not all of its steps were told
+  -- not all lines of the piece were written
   pub piece-cut : ReadGoesOn → (head : List ℕ) (u v : Writing) (fault : TellFault) (t : Trace) (rest : List ℕ)
       → AuditGoesTo {A = Unit {0}} head audit so_far u v (Err fault)
       → EndsBehind {A = Unit {0}} head audit (lines_of head audit) (settled_by skew (whole_reading r (bytes ++ rest)))
@@ -81,7 +81,7 @@ module _ (front : GivenIsPrefix) (follows : StepsFollow) (within : StepsWithin) 
         ap malformed_step later-is
         ∙ so-far-formed skew time (with_steps r.given steps) h.whole (sym (ap malformed_step given) ∙ formed)
 
-    -- the audit goes on
+    -- the audit continues
     piece-on : n ≤ length bytes → ComesOut skew settled (with_steps r.given steps) time later.recording
         → TakesPiece skew head audit later settled r bytes u v (Ok (Some (next, n)))
     piece-on fits comes =

@@ -17,18 +17,18 @@ use Rattle.vme_audit_command.specs.declared.told.TellFault.TheVariants.{Memory, 
 use Rattle.vme_audit_command.proofs.WriteLemmas.{fails-after, fails-longer, prefix-after, prefix-longer}
 use Rattle.vme_audit_command.proofs.WriteLemmas.{writes-as-prefix, writes-both, writes-nothing}
 
--- what was counted is what the recording has
+-- the lines of the counts and findings are those of the recording
 pub counts-are : (allowances : List Allowance) (head : List ℕ) (a : Trace) (c : BreakCounts) (f : AuditFindings)
     → AreBreakCountsOf c allowances a → AreFindingsOf f a → unasked f.events ≡ never_asked a
     → count_lines head c f ≡ count_lines_of allowances head a
 counts-are allowances head a c f counted found asked =
     rw (counted.broken, counted.unreadable, counted.allowed, found.counts, asked) refl
 
--- nothing of a text was told
+-- nothing of a text was written, which is a prefix of it
 pub prefix-of : (w : Writing) (text : List ℕ) → WritesPrefix w w text
 prefix-of w text = prefix-longer w w [] text (writes-as-prefix w w [] (writes-nothing w))
 
--- an outcome is kept once it was told
+-- the outcome was written; after that the only error is want of memory
 pub outcome-told : (o : Outcome) (u v : Writing) (text : List ℕ) (result : Result ℕ TellFault)
     → Writes u v text → IfOk result (λ status. status ≡ outcome_status o) → IfErr result (λ fault. fault ≡ Memory)
     → TellsOutcome text o u v result
@@ -39,20 +39,20 @@ outcome-told o u v text (Err CannotWrite) writes ok err = absurd (differ err)
     differ same = cc
 outcome-told o u v text (Err Memory) writes ok err = writes-as-prefix u v text writes
 
--- an outcome that isn't told
+-- the outcome wasn't written
 pub outcome-unwritten : (A : Type 0) (o : Outcome) (u v : Writing) (text : List ℕ) (fault : TellFault)
     → TellsText {A = A} u v (Err fault) text → TellsOutcome text o u v (Err fault)
 outcome-unwritten A o u v text CannotWrite tells = tells
 outcome-unwritten A o u v text Memory tells = tells
 
--- a text before it
+-- an outcome after another text
 pub outcome-after : (o : Outcome) (u v w : Writing) (text more : List ℕ) (result : Result ℕ TellFault)
     → Writes u v text → TellsOutcome more o v w result → TellsOutcome (text ++ more) o u w result
 outcome-after o u v w text more (Ok status) one two = (writes-both u v w text more one two.0, two.1)
 outcome-after o u v w text more (Err CannotWrite) one two = fails-after u v w text more one two
 outcome-after o u v w text more (Err Memory) one two = prefix-after u v w text more one two
 
--- a text before it that isn't told
+-- an outcome after another text that wasn't written
 pub outcome-unreached : (A : Type 0) (o : Outcome) (u v : Writing) (text more : List ℕ) (fault : TellFault)
     → TellsText {A = A} u v (Err fault) text → TellsOutcome (text ++ more) o u v (Err fault)
 outcome-unreached A o u v text more CannotWrite tells = fails-longer u v text more tells

@@ -1,4 +1,4 @@
--- An audit that is later the same audit.
+-- When an audit is a later state of another one (`IsLater`).
 use Rattle.std.proofs.Common.{◌≡◌, ℕ, List, Option, None, Some, IfNone, Result, Ok, Err, OnOk, sym, ap, subst, ◌∙◌}
 use Rattle.vme_trace.specs.Followed.{with_steps}
 use Rattle.vme_trace.specs.Trace.{Trace}

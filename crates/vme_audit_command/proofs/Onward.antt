@@ -1,4 +1,4 @@
--- What is settled of a recording goes on with what is settled of it so far.
+-- What is settled of a recording continues what was settled of it before.
 use Rattle.std.proofs.Common.{◌≡◌, ◌≤◌, ℕ, List, [], ◌++◌, Option, None, Some, sym, ap, subst, ◌∙◌, arith}
 use Rattle.std.proofs.Common.{append-nil, refl, length}
 use Rattle.std.specs.Prelude.{All}
@@ -25,14 +25,14 @@ use Rattle.vme_dump_input.specs.SettledReadings.{settled_before, settled_by, set
 use Rattle.vme_dump_input.specs.SettledSteps.{ComesOut, GoOnFrom, GoOnTo}
 use Rattle.vme_step_auditor.specs.ReadBy.{GivenSteps}
 
--- a recording goes on with another
+-- `u` is `t` with further steps
 pub record GoesOnWith (t u : Trace) : Type 0 where
   pub more : List Step
   pub is : u ≡ with_steps t more
   pub formed : malformed_step u ≡ None
   pub few : t.opening.slots ≤ 21
 
--- it goes on with itself
+-- a recording is itself with no further steps
 pub goes-nowhere : (t : Trace) → malformed_step t ≡ None → t.opening.slots ≤ 21 → GoesOnWith t t
 goes-nowhere t formed few = record {
   more = [];
@@ -89,7 +89,7 @@ module _ (skew : Option ℕ) (known : ℕ) (given : Trace) (steps : List Step)
   before-on None time on = whole-on
   before-on (Some fault) time on = so-far-on time on
 
--- what came out of a recording is what is settled of it at a time that is known
+-- `t` is what is settled of `given` at a time that is known
 record IsKnown (skew : Option ℕ) (given : Trace) (time : ℕ) (t : Trace) : Type 0 where
   at : ℕ
   known : at ≤ time
@@ -110,7 +110,7 @@ later-than a b steps le h =
 
 module _ (skew : Option ℕ) (settler : Option Settling) (given : Trace) (from : ℕ) (t : Trace)
     (comes : ComesOut skew settler given from t) (steps : List Step) where
-  -- where a time is reached
+  -- what is settled when `time` is reached continues what came out before
   pub to-next : (time : ℕ) → GoOnTo given from steps time
       → GoesOnWith t (settled_so_far skew time (with_steps given steps))
   to-next time to =
@@ -119,18 +119,18 @@ module _ (skew : Option ℕ) (settler : Option Settling) (given : Trace) (from :
       (so-far-on skew k.at given steps (later-than k.at from steps k.known to.go.follows) to.go.formed to.go.whole
       to.go.few time (omega (arith, k.known, to.on)))
 
-  -- where the recording ends
+  -- what is settled at the end of the recording continues what came out before
   pub to-end : GoOnFrom given from steps → GoesOnWith t (settled_whole skew (with_steps given steps))
   to-end go =
       let k = comes-known skew settler given from t comes in
       subst (λ (x : Trace). GoesOnWith x (settled_whole skew (with_steps given steps))) (sym k.is)
       (whole-on skew k.at given steps (later-than k.at from steps k.known go.follows) go.formed go.whole go.few)
 
--- ---- what reading comes to
+-- ---- the result of reading
 
 module _ (front : GivenIsPrefix) (follows : StepsFollow) (on : TimeGoesOn) (skew : Option ℕ) (r : StepReading)
     (rest : List ℕ) where
-  -- from a time that is known
+  -- what the whole text settles to continues what is settled at time `known`
   pub reading-on : (known : ℕ) → known ≤ (whole_reading r []).time → r.given.opening.slots ≤ 21
       → length r.given.opening.levels ≡ line_count → IsFormed r
       → GoesOnWith (settled_so_far skew known r.given) (settled_by skew (whole_reading r rest)).recorded
@@ -173,7 +173,7 @@ module _ (follows : StepsFollow) (within : StepsWithin) (on : TimeGoesOn) (skew 
           on = subst (λ (n : ℕ). (whole_reading r []).time ≤ n) time (on r rest);
         }
 
-    -- what is settled then
+    -- what the text settles to is what is settled at the time of the fault
     pub stopped-is : (settled_by skew (whole_reading r rest)).recorded
         ≡ settled_so_far skew stopped.time (with_steps r.given stopped.steps.items)
     stopped-is =
@@ -202,7 +202,7 @@ module _ (follows : StepsFollow) (within : StepsWithin) (on : TimeGoesOn) (skew 
         (with_steps r.given stopped.steps.items) stopped.time (whole_reading r rest) stops other in
         fault
 
-  -- at the end
+  -- at the end of the text
   module _ (bytes : List ℕ) (steps : List Step)
       (is : (whole_reading r bytes).recorded ≡ with_steps r.given steps) where
     pub last-from : GoOnFrom r.given (whole_reading r []).time steps
@@ -223,7 +223,7 @@ module _ (follows : StepsFollow) (within : StepsWithin) (on : TimeGoesOn) (skew 
         (goes-nowhere t (whole-formed skew (with_steps r.given steps) h.whole last-from.formed)
         (subst (λ (v : Levels). v.slots ≤ 21) (sym (whole-opens skew (with_steps r.given steps))) h.few))
 
-  -- a piece more
+  -- after one more piece
   module _ (front : GivenIsPrefix) (next : StepReading) (steps : List Step) (piece : List ℕ)
       (taken : (rest : List ℕ) → whole_reading r (piece ++ rest) ≡ whole_reading next rest)
       (given : next.given ≡ with_steps r.given steps) where

@@ -1,4 +1,4 @@
--- A piece of a body, and where a body ends.
+-- A piece of a body, and the end of a body.
 use Rattle.std.proofs.Common.{◌≡◌, ◌≤◌, ℕ, List, [], ◌++◌, Bool, true, false, if◌then◌else◌, Option, None, Some, Result}
 use Rattle.std.proofs.Common.{Ok, Err}
 use Rattle.std.proofs.Common.{IfErr, OnOk, sym, ap, subst, ◌∙◌, append_assoc, refl}
@@ -31,9 +31,9 @@ use Rattle.vme_audit_command.proofs.Onward.{GoesOnWith}
 use Rattle.vme_audit_command.proofs.WriteLemmas.{fails-after, fails-longer, prefix-after, prefix-longer}
 use Rattle.vme_audit_command.proofs.WriteLemmas.{writes-as-prefix, writes-both, writes-nothing}
 
--- ---- one body after another
+-- ---- one part of a body after another
 
--- what was written before a part of a body
+-- the end of a part of a body, with the text written before it
 pub until-after : {A : Type 0} (ended : Result Trace Refusal) (a : Trace) (u v w : Writing) (x y : List ℕ)
     (result : Result A NoOutcome) → Writes u v x → WritesUntil ended a v w y result
     → WritesUntil ended a u w (x ++ y) result
@@ -52,7 +52,7 @@ ends-after head audit told more reading t u v w result one two =
 
 -- ---- steps before the end of a body
 
--- not all steps could be told: some of all lines were written
+-- not all lines of the steps were written: a prefix of all lines is
 pub unwritten-ends : (A B : Type 0) (ended : Result Trace Refusal) (a : Trace) (before after all later : List ℕ)
     (u v : Writing) (fault : TellFault) → GoesOn {A = A} before after u v (Err fault) → all ≡ after ++ later
     → (text : List ℕ) × (all ≡ before ++ text) × WritesUntil {A = B} ended a u v text (Err (NotWritten fault))
@@ -69,7 +69,7 @@ unwritten-ends A B ended a before after all later u v Memory goes more =
       prefix-longer u v text later some,
     )
 
--- no memory before the end of a body
+-- memory runs out before the end of a body
 pub memory-ends : (A : Type 0) → ReadGoesOn → (head : List ℕ) (audit : GivenSteps) (reading : TextReading) (t : Trace)
     (w : Writing) → GoesOnWith audit.recording reading.recorded
     → EndsBehind {A = A} head audit (lines_of head audit) reading t w w (Err (NotWritten Memory))
@@ -83,20 +83,20 @@ memory-ends A law head audit reading t w on =
 
 -- ---- steps that come out
 
--- they were told
+-- the lines of the steps were written
 pub goes-to : {A : Type 0} (head : List ℕ) (audit : GivenSteps) (t : Trace) (steps : List Step) (u v : Writing)
     (result : Result A TellFault) → with_steps audit.recording steps ≡ t
     → AuditGoesOn head audit steps u v result → AuditGoesTo head audit t u v result
 goes-to head audit t steps u v result is goes = subst (λ (x : Trace). AuditGoesTo head audit x u v result) is goes
 
--- there was no memory for them
+-- memory runs out before the steps
 pub memory-goes : (A : Type 0) → ReadGoesOn → (head : List ℕ) (audit : GivenSteps) (t : Trace) (w : Writing)
     → GoesOnWith audit.recording t → AuditGoesTo {A = A} head audit t w w (Err Memory)
 memory-goes A law head audit t w on =
     goes-to {A = A} head audit t on.more w w (Err Memory) (sym on.is)
     (no-memory A law head audit on.more w (sym (ap malformed_step on.is) ∙ on.formed) on.few)
 
--- not all of them were told
+-- not all lines of the steps were written
 pub cut-ends : (A B : Type 0) → ReadGoesOn → (head : List ℕ) (audit : GivenSteps) (reading : TextReading) (t : Trace)
     (u v : Writing) (fault : TellFault) (x : Trace) → GoesOnWith t reading.recorded
     → AuditGoesTo {A = A} head audit t u v (Err fault)
@@ -109,7 +109,7 @@ cut-ends A B law head audit reading t u v fault x on goes =
     (read_by audit.allowances audit.stop x) (lines_of head audit) (lines_of head (given_all audit t))
     (break_lines audit.allowances audit.stop head reading.recorded) later u v fault goes all
 
--- all of a dump was told
+-- all lines of a dump were written
 pub whole-ends : (head : List ℕ) (audit : GivenSteps) (reading : TextReading) (t : Trace) (u v : Writing)
     → reading.recorded ≡ t → reading.fault ≡ None → AuditGoesTo {A = Unit {0}} head audit t u v (Ok tt)
     → EndsBehind {A = Unit {0}} head audit (lines_of head audit) reading t u v (Ok tt)
@@ -143,7 +143,7 @@ ended-refused allowances stop t fault stopped other =
     ap (λ (b : Bool). if b then Ok (read_by allowances stop t) else Err (dump_refusal fault)) stopped
     ∙ ap Err (refused-as fault.line fault.kind other)
 
--- what a body that is read so ends with
+-- the end of a body with this fault
 ended-there : (audit : GivenSteps) (reading : TextReading) (t : Trace) (fault : VcdFault) → reading.recorded ≡ t
     → reading.fault ≡ Some fault → ended_at audit.allowances audit.stop reading.recorded reading.fault
     ≡ ended_at audit.allowances audit.stop t (Some fault)
@@ -151,7 +151,7 @@ ended-there audit reading t fault is faulty =
     ap (λ (f : Option VcdFault). ended_at audit.allowances audit.stop reading.recorded f) faulty
     ∙ ap (λ (r : Trace). ended_at audit.allowances audit.stop r (Some fault)) is
 
--- a fault, or a stop before it
+-- a body ends with a fault, or the audit stops before it
 pub fault-ends : (head : List ℕ) (audit : GivenSteps) (reading : TextReading) (u v : Writing) (fault : VcdFault)
     (t : Trace) (result : Result (Unit {0}) NoOutcome)
     → reading.recorded ≡ t → reading.fault ≡ Some fault → (fault.kind ≡ vcd.Memory → ⊥)
@@ -178,12 +178,13 @@ fault-ends head audit reading u v fault t (Err why) is faulty other stopped refu
 
 -- ---- a stop
 
--- what follows where an audit stops changes nothing
+-- once an audit stops, it stays stopped when steps are added
 abbrev pub StopStays : Type 0
 StopStays = (allowances : List Allowance) (stop : Option ℕ) (t : Trace) (steps : List Step)
     → malformed_step (with_steps t steps) ≡ None → t.opening.slots ≤ 21 → is_stopped allowances stop t ≡ true
     → is_stopped allowances stop (with_steps t steps) ≡ true
 
+-- once an audit stops, what is read stays when steps are added
 abbrev pub StopIsRead : Type 0
 StopIsRead = (allowances : List Allowance) (stop : Option ℕ) (t : Trace) (steps : List Step)
     → malformed_step (with_steps t steps) ≡ None → t.opening.slots ≤ 21 → is_stopped allowances stop t ≡ true
@@ -194,7 +195,7 @@ ended-at : (allowances : List Allowance) (stop : Option ℕ) (t : Trace) (fault 
 ended-at allowances stop t None stopped = refl
 ended-at allowances stop t (Some fault) stopped = ended-stopped allowances stop t fault stopped
 
--- the audit stopped before the end of a body
+-- the audit stops before the end of a body
 pub final-ends : StopStays → StopIsRead → (head : List ℕ) (audit : GivenSteps) (reading : TextReading) (t : Trace)
     (u v : Writing) → GoesOnWith t reading.recorded → is_stopped audit.allowances audit.stop t ≡ true
     → AuditGoesTo {A = Unit {0}} head audit t u v (Ok tt)

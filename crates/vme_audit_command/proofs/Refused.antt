@@ -1,4 +1,4 @@
--- What a text that has a fault isn't begun by.
+-- A fault of a text, and the refusal that reports it.
 use Rattle.std.proofs.Common.{◌≡◌, ℕ, Result, sym}
 use Rattle.vcd_read.specs.declared.fault.FaultKind.{FaultKind}
 use Rattle.vcd_read.specs.declared.fault.FaultKind.TheVariants as vcd
@@ -27,7 +27,7 @@ binding-refused line bind.Memory reading refusal fails is other = absurd (other 
 binding-refused line kind reading refusal fails is other =
     (Binding (record { line = line; kind = kind }), fails, sym is)
 
--- a fault is its refusal, unless memory ran out
+-- a fault that isn't want of memory is reported as its refusal
 pub refused : (fault : CaptureFault) (reading : Result TextReading CaptureFault) (refusal : Refusal)
     → CaptureFailsBy fault reading → refusal ≡ capture_refusal fault → (refusal ≡ Memory → ⊥)
     → IsRefused reading refusal

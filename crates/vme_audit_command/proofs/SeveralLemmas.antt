@@ -1,4 +1,4 @@
--- One dump after the other.
+-- Several dumps, one after the other.
 use Rattle.std.proofs.Common.{◌≡◌, ◌⊎◌, ℕ, ◌+◌, ◌<◌, ◌≤◌, Bool, true, false, ◌||◌, if◌then◌else◌, nat_eq, List, [], ◌∷◌}
 use Rattle.std.proofs.Common.{◌++◌, flat_map, length, get_or, take, drop, map, inl, inr}
 use Rattle.std.proofs.Common.{refl, sym, ap, subst, ◌∙◌, add-zero, append-nil, append_assoc, take-append-drop}
@@ -18,7 +18,7 @@ use Rattle.vme_audit_command.proofs.WriteLemmas.{fails-after, writes-both, write
 
 -- ---- the status
 
--- this is none of some statuses
+-- `s` isn't the first of `statuses` that occurred, whichever occurred
 abbrev IsNoneOf : ℕ → List ℕ → Type 0
 IsNoneOf s statuses = (occurred : List ℕ) → nat_eq (first_occurred statuses occurred) s ≡ false
 
@@ -32,7 +32,7 @@ is_none_of-then s t statuses other none occurred = by (list_any (λ n. nat_eq n 
     by true = other
     by false = none occurred
 
--- what is first of all is first of the first of those before, and of the last
+-- the first status that occurred in a list and one more is that of the list's first one and the last one
 abbrev IsFirst : List ℕ → Type 0
 IsFirst statuses = (occurred : List ℕ) (last : ℕ)
     → first_occurred statuses (occurred ++ last ∷ [])
@@ -59,7 +59,7 @@ first-then s statuses none first occurred last =
     by false false = first occurred last
         ∙ ap (λ (e : Bool). if e || false then s else first_occurred statuses (r ∷ last ∷ [])) (sym (none occurred))
 
--- a dump more
+-- the status after one more dump
 pub status-then : (occurred : List ℕ) (last : ℕ)
     → audit_status (occurred ++ last ∷ []) ≡ audit_status (audit_status occurred ∷ last ∷ [])
 status-then =
@@ -121,7 +121,7 @@ module _ (options : AuditOptions) (bound : BoundLines) where
 
   module _ (dumps : List NamedReading) (named : NamedReading) (a b c e p h : Writing) (so_far ended : ℕ)
       (before : TellsDumps options bound dumps (a, b) (e, p) so_far) where
-    -- a dump more
+    -- one more dump
     tells-then : TellsDump options bound named (b, c) (p, h) ended
         → TellsDumps options bound (dumps ++ named ∷ []) (a, c) (e, h) (audit_status (so_far ∷ ended ∷ []))
     tells-then one = record {
@@ -171,7 +171,7 @@ module _ (options : AuditOptions) (bound : BoundLines) where
 
     module _ (a b c e p h : Writing) (so_far ended : ℕ)
         (before : TellsDumps options bound (map f (take i dumps)) (a, b) (e, p) so_far) where
-      -- the audit of the dump that stands there
+      -- the audit of the dump at index `i`
       abbrev Audits : A → Type 0
       Audits d = TellsDump options bound (f d) (b, c) (p, h) ended
           ⊎ CannotTellDump options bound (f d) (b, c) (p, h) ended
@@ -202,7 +202,7 @@ module _ (options : AuditOptions) (bound : BoundLines) where
       pub cannot-on : ended ≡ 5 → Audits (get_or now i x) → AuditsDumps options bound (map f dumps) (a, c) (e, h) 5
       cannot-on five audits = cannot-this five (subst Audits (sym is) audits)
 
-  -- all of them
+  -- all dumps were audited
   pub tells-all : {A : Type 0} (f : A → NamedReading) (dumps : List A) (i : ℕ) → length dumps ≤ i
       → (status : ℕ) (a b e p : Writing) → TellsDumps options bound (map f (take i dumps)) (a, b) (e, p) status
       → AuditsDumps options bound (map f dumps) (a, b) (e, p) status

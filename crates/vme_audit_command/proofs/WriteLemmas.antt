@@ -1,4 +1,4 @@
--- What writing one text after another comes to.
+-- Writing one text after another.
 use Rattle.std.proofs.Common.{◌≡◌, ℕ, suc, ◌+◌, List, [], ◌++◌, length, take, drop, sym, ap, subst, ◌∙◌, append_assoc}
 use Rattle.std.proofs.Common.{take-append-drop, refl}
 use Rattle.std.proofs.Math.Seq.{take-append_seam, take-append-add, take-length}
@@ -8,7 +8,7 @@ use Rattle.vme_trace.specs.Streams.{Writing}
 use Rattle.vme_stream.specs.Outputs.{Writes, FailsToWrite}
 use Rattle.vme_audit_command.specs.DumpAudits.{WritesPrefix}
 
--- the first of a text are the first of a longer one
+-- a prefix of a text is a prefix of a longer one
 pub front_of : (x y : List ℕ) (n : ℕ) → take n x ≡ take (length (take n x)) (x ++ y)
 front_of x y n =
     let split : x ++ y ≡ take n x ++ (drop n x ++ y) =

@@ -1,4 +1,4 @@
--- How an audit ends whose binding is refused.
+-- How an audit ends if its binding is refused.
 use Rattle.std.specs.Prelude.{◌≡◌, ℕ, List, [], Option, Err}
 use Rattle.vme_trace.specs.Streams.{Reading, Writing}
 use Rattle.vme_bind.specs.Binding.{BoundLines}
@@ -8,7 +8,7 @@ use Rattle.vme_stream.specs.Answers.{AnswerGives, binding_read}
 use Rattle.vme_stream.specs.Texts.{line_of, refusal_status, refusal_text}
 use Rattle.vme_stream.specs.declared.refusal.Refusal.{Refusal}
 
--- the bytes of the binding were read, or can't be, and are refused: nothing is audited, and why is told
+-- the binding's bytes can't be read, or were read and are refused: nothing is audited, and a line gives the reason
 pub record RefusesBinding (binding : Reading × Reading) (out err : Writing × Writing) (status : ℕ) : Type 0 where
   pub bytes : Option (List ℕ)
   pub refusal : Refusal

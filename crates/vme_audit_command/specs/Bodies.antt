@@ -1,4 +1,4 @@
--- What the audit of a dump's body comes to, as it is read.
+-- The result of auditing a dump's body as it is read.
 use Rattle.std.specs.Prelude.{◌≡◌, ◌≤◌, ℕ, List, [], ◌++◌, length, take, Option, None, Some, Result, Ok, Err}
 use Rattle.vme_trace.specs.Streams.{Reading, Writing}
 use Rattle.vme_trace.specs.Trace.{Trace}
@@ -23,22 +23,22 @@ use Rattle.vme_audit_command.specs.declared.told.NoOutcome.TheVariants.{CannotRe
 use Rattle.vme_audit_command.specs.declared.told.TellFault.TheVariants.{Memory, CannotWrite}
 
 module _ (allowances : List Allowance) (stop : Option ℕ) where
-  -- where this is recorded of a dump before its end, or before a fault: the recording, as far as it is audited; a fault
-  -- isn't met where the audit stopped before it
+  -- `t` is recorded before the end of a dump, or before its fault: the recording as far as it is audited, or a refusal
+  -- for the fault, unless the audit stopped before the fault
   abbrev pub ended_at : Trace → Option VcdFault → Result Trace Refusal
   ended_at t None = Ok (read_by allowances stop t)
   ended_at t (Some fault) =
       if is_stopped allowances stop t then Ok (read_by allowances stop t) else Err (dump_refusal fault)
 
--- an audit has been given what a settler let out of what a reader has given, or all of that where there is no skew
+-- the audit was given what the settler let out of the reader's steps, or all of these steps if there is no skew
 pub record HasGiven (skew : Option ℕ) (settler : Option Settling) (audit : GivenSteps) (r : StepReading) : Type 0 where
   pub comes : ComesOut skew settler r.given (whole_reading r []).time audit.recording
   pub few : r.given.opening.slots ≤ 21
   pub whole : length r.given.opening.levels ≡ line_count
   pub formed : IsFormed r
 
--- What of a text was written where a body ends so: all of it, where this is the recording as far as it is audited, or
--- this the refusal; or some of the first of it.
+-- What is written of `text` if a body ends with this result: all of it, and `ended` is then `a`, the recording as far
+-- as it is audited, or the refusal of the result; or else a prefix of it.
 abbrev pub WritesUntil : {A : Type 0} → Result Trace Refusal → Trace → Writing → Writing → List ℕ
     → Result A NoOutcome → Type 0
 WritesUntil ended a old new text (Ok _) = Writes old new text × (ended ≡ Ok a)
@@ -47,7 +47,7 @@ WritesUntil ended a old new text (Err CannotRead) = WritesPrefix old new text
 WritesUntil ended a old new text (Err (NotWritten CannotWrite)) = FailsToWrite old new text
 WritesUntil ended a old new text (Err (NotWritten Memory)) = WritesPrefix old new text
 
--- These lines were told, and the others of what is recorded were until its end.
+-- The lines `told` were written before. The other lines of what is recorded are written until the body ends.
 abbrev pub EndsBehind : {A : Type 0} → List ℕ → GivenSteps → List ℕ → TextReading → Trace → Writing → Writing
     → Result A NoOutcome → Type 0
 EndsBehind head audit told reading t old new result =
@@ -56,8 +56,8 @@ EndsBehind head audit told reading t old new result =
     × WritesUntil (ended_at audit.allowances audit.stop reading.recorded reading.fault)
     (read_by audit.allowances audit.stop t) old new text result
 
--- An audit takes these bytes: some of the first of them, whatever follows, and then it has been given what comes out of
--- this settler; or it ends.
+-- An audit takes some of the first of `bytes`, whatever follows them, and was then given what comes out of the settler;
+-- or the body ends for it.
 abbrev pub TakesPiece : Option ℕ → List ℕ → GivenSteps → GivenSteps → Option Settling → StepReading → List ℕ → Writing
     → Writing → Result (Option (StepReading × ℕ)) NoOutcome → Type 0
 TakesPiece skew head audit later settler r bytes old new (Ok (Some (next, n))) =
@@ -73,7 +73,7 @@ TakesPiece skew head audit later settler r bytes old new (Err why) =
     → EndsBehind {A = Unit {0}} head audit (lines_of head audit) (settled_by skew (whole_reading r (bytes ++ rest)))
     later.recording old new (Err why)
 
--- the body that what is held begins and a source goes on with was audited until it ends
+-- the body that begins with `held` and continues with the bytes of `source` was audited until it ends
 abbrev pub AuditsBody : {A : Type 0} → Option ℕ → List ℕ → GivenSteps → GivenSteps → StepReading → List ℕ → Reading
     → Writing → Writing → Result A NoOutcome → Type 0
 AuditsBody skew head audit later r held source old new result =
@@ -81,12 +81,12 @@ AuditsBody skew head audit later r held source old new result =
     × EndsBehind head audit (lines_of head audit) (settled_by skew (whole_reading r (held ++ more))) later.recording old
     new result
 
--- these are all bytes of a body whose first are held, and of which a source may tell more
+-- `whole` are all bytes of a body that begins with `held`; if the flag is true, the bytes of `source` follow
 abbrev pub IsWholeBody : Bool → Reading → List ℕ → List ℕ → Type 0
 IsWholeBody true source held whole = (more : List ℕ) × AreAllBytesOf source more × (whole ≡ held ++ more)
 IsWholeBody false source held whole = whole ≡ held
 
--- a body whose first bytes are held was audited until it ends
+-- the body that begins with `held` was audited until it ends
 abbrev pub AuditsRest : {A : Type 0} → Option ℕ → List ℕ → GivenSteps → GivenSteps → StepReading → List ℕ → Bool
     → Reading → Writing → Writing → Result A NoOutcome → Type 0
 AuditsRest skew head audit later r held is_more source old new result =
@@ -94,7 +94,7 @@ AuditsRest skew head audit later r held is_more source old new result =
     × EndsBehind head audit (lines_of head audit) (settled_by skew (whole_reading r whole)) later.recording old new
     result
 
--- an audit by the same rules, of a recording whose steps may stand where they stand
+-- `later` is an audit by the rules of `first`, of a well-formed recording
 pub record IsLater (first later : GivenSteps) : Type 0 where
   pub same : later ≡ given_all first later.recording
   pub formed : malformed_step later.recording ≡ None

@@ -1,4 +1,4 @@
--- What reading the definitions of a dump comes to.
+-- The result of reading the definitions of a dump.
 use Rattle.std.specs.Prelude.{◌≡◌, ℕ, Bool, true, false, List, [], ◌++◌, Option, None, Some, Result, Ok, Err, IfSome}
 use Rattle.std.specs.Io.KnownBytes.{Consumes}
 use Rattle.vme_trace.specs.Followed.{with_steps}
@@ -17,53 +17,53 @@ use Rattle.vme_audit_command.specs.declared.told.NoOutcome.{NoOutcome}
 use Rattle.vme_audit_command.specs.declared.told.NoOutcome.TheVariants.{CannotRead, NotWritten, Refused}
 use Rattle.vme_audit_command.specs.declared.told.TellFault.TheVariants.{Memory, CannotWrite}
 
--- what is given is a front of what is recorded, whatever follows
+-- the given steps are a prefix of the recorded ones, whatever follows
 abbrev pub GivenIsPrefix : Type 0
 GivenIsPrefix = (r : StepReading) (rest : List ℕ)
     → (more : List Step) × ((whole_reading r rest).recorded ≡ with_steps r.given more)
 
--- whatever follows, each step that is recorded may stand where it stands
+-- whatever follows, the recording is well formed
 abbrev pub IsFormed : StepReading → Type 0
 IsFormed r = (rest : List ℕ) → malformed_step (whole_reading r rest).recorded ≡ None
 
--- the body is begun with, and nothing of it is given
+-- the body has begun, and no step of it was given
 pub record IsBodyBegun (r : StepReading) : Type 0 where
   pub nothing : r.given.steps ≡ []
   pub formed : IsFormed r
 
--- reading a text gives this refusal
+-- reading a text ends with this refusal
 abbrev pub IsRefused : Result TextReading CaptureFault → Refusal → Type 0
 IsRefused reading refusal = (fault : CaptureFault) × (reading ≡ Err fault) × (capture_refusal fault ≡ refusal)
 
--- a read gave no bytes, or they couldn't be held
+-- a read failed, or there was no memory for its bytes
 abbrev pub unread : ReadFault → NoOutcome
 unread read.Failed = CannotRead
 unread read.Memory = NotWritten Memory
 
--- a text that isn't read to its body has this fault; nothing is said where there is no memory
+-- reading a text ends before its body, with this fault; without memory nothing is stated
 abbrev pub NotBegun : Result TextReading CaptureFault → NoOutcome → Type 0
 NotBegun reading (Refused refusal) = IsRefused reading refusal
 NotBegun reading CannotRead = ⊥
 NotBegun reading (NotWritten CannotWrite) = ⊥
 NotBegun reading (NotWritten Memory) = Unit {0}
 
--- The definitions of a dump end in what is held, of which this is left then; or they don't, or there is a fault.
+-- The definitions of a dump end in `held`, of which `left` is left then; or they don't; or there is a fault.
 abbrev pub BeginsBody : BoundLines → List ℕ → List ℕ → Result (Option StepReading) NoOutcome → Type 0
 BeginsBody bound held left (Ok (Some r)) =
     IsBodyBegun r × ((rest : List ℕ) → reading_of_text bound (held ++ rest) ≡ Ok (whole_reading r (left ++ rest)))
 BeginsBody bound held left (Ok None) = left ≡ held
 BeginsBody bound held left (Err why) = (rest : List ℕ) → NotBegun (reading_of_text bound (held ++ rest)) why
 
--- the same at the end of the dump
+-- The definitions of a dump that ends with `held` end there, and `left` is left then; or there is a fault.
 abbrev pub BeginsLast : BoundLines → List ℕ → List ℕ → Result StepReading NoOutcome → Type 0
 BeginsLast bound held left (Ok r) = IsBodyBegun r × (reading_of_text bound held ≡ Ok (whole_reading r left))
 BeginsLast bound held left (Err why) = NotBegun (reading_of_text bound held) why
 
--- these are all bytes that a source gives
+-- `text` are all bytes of a source
 abbrev pub AreAllBytesOf : Reading → List ℕ → Type 0
 AreAllBytesOf old text = IfSome old.left (λ told. text ≡ told)
 
--- The definitions of a dump were read. Where there may be more of it, whatever follows is the rest of a body.
+-- The definitions of a dump were read. If more of the dump may follow, whatever follows is the rest of the body.
 abbrev pub ReadsDefinitions : BoundLines → Reading → Reading → List ℕ → Result (StepReading × Bool) NoOutcome → Type 0
 ReadsDefinitions bound old new left (Ok (r, true)) =
     IsBodyBegun r × ((done : List ℕ) × Consumes old.left new.left done

@@ -23,8 +23,8 @@ use Rattle.vme_audit_command.specs.declared.told.NoOutcome.{NoOutcome}
 use Rattle.vme_audit_command.specs.declared.told.NoOutcome.TheVariants.{CannotRead, NotWritten, Refused}
 use Rattle.vme_audit_command.specs.declared.told.TellFault.TheVariants.{Memory, CannotWrite}
 
--- How a dump is audited: which breaks are allowed, how many transfers have to be answered, at which of the breaks that
--- aren't allowed the audit ends, within which time edges are one moment, and whether counts are left out.
+-- How a dump is audited: the allowed breaks, the number of transfers that must be answered, the number of breaks that
+-- aren't allowed at which the audit stops, the time within which edges are one moment, and whether counts are left out.
 pub record AuditOptions : Type 0 where
   pub allowances : List Allowance
   pub transfers : ℕ
@@ -42,12 +42,12 @@ given_options options =
       is_quiet = options.is_quiet;
     }
 
--- what is written to standard output; and the status by the outcome, or why there is no outcome
+-- the text for standard output; and the exit status of the outcome, or why there is no outcome
 pub record DumpAnswer : Type 0 where
   pub out : List ℕ
   pub ended : Result ℕ Refusal
 
--- before each line stands the head: the name of the dump's file, or nothing
+-- each line begins with `head`: the name of the dump's file, or nothing
 module _ (options : AuditOptions) (head : List ℕ) where
   abbrev pub dump_outcome : Trace → Outcome
   dump_outcome a = outcome options.allowances options.transfers a
@@ -56,17 +56,17 @@ module _ (options : AuditOptions) (head : List ℕ) where
   abbrev pub last_lines : Trace → List ℕ
   last_lines a = counts_unless options.is_quiet options.allowances head a ++ outcome_line_of head (dump_outcome a)
 
-  -- after the lines of the breaks, by the recording as far as it is audited; or why there is no outcome
+  -- the lines of the breaks, then the last lines for the recording as far as it is audited; or why there is no outcome
   abbrev pub answer_by : List ℕ → Result Trace Refusal → DumpAnswer
   answer_by lines (Ok a) = record { out = lines ++ last_lines a; ended = Ok (outcome_status (dump_outcome a)) }
   answer_by lines (Err refusal) = record { out = lines; ended = Err refusal }
 
-  -- the answer to what reading a dump gives
+  -- the answer for a reading of a dump
   abbrev pub reading_answer : TextReading → DumpAnswer
   reading_answer reading = answer_by (break_lines options.allowances options.stop head reading.recorded)
       (ended_at options.allowances options.stop reading.recorded reading.fault)
 
-  -- the answer to a dump by what reading it gives, settled by the skew
+  -- the answer for a dump: that for its reading, settled by the skew, or a refusal
   abbrev pub dump_answer : Result TextReading CaptureFault → DumpAnswer
   dump_answer (Ok reading) = reading_answer (settled_by (skew_of options.skew) reading)
   dump_answer (Err fault) = record { out = []; ended = Err (capture_refusal fault) }
@@ -80,14 +80,14 @@ EndsAs answer old new (Err CannotRead) = WritesPrefix old new answer.out
 EndsAs answer old new (Err (NotWritten CannotWrite)) = FailsToWrite old new answer.out
 EndsAs answer old new (Err (NotWritten Memory)) = WritesPrefix old new answer.out
 
--- the body of a dump was audited, of which some bytes were held, and more may have come from its source
+-- the body of a dump was audited, which begins with `held`, and of which more may have come from `source`
 abbrev pub AuditsBehind : AuditOptions → List ℕ → StepReading → List ℕ → Bool → Reading → Writing → Writing
     → Result ℕ NoOutcome → Type 0
 AuditsBehind options head r held is_more source old new result =
     (whole : List ℕ) × IsWholeBody is_more source held whole
     × EndsAs (dump_answer options head (Ok (whole_reading r whole))) old new result
 
--- a dump was audited, whose bytes are those that its source gives
+-- the dump with the bytes of `source` was audited
 abbrev pub AuditsDump : AuditOptions → List ℕ → BoundLines → Reading → Writing → Writing → Result ℕ NoOutcome → Type 0
 AuditsDump options head bound source old new result =
     (text : List ℕ) × AreAllBytesOf source text

@@ -1,4 +1,4 @@
--- The lines of the breaks of a recording, as they are told.
+-- The lines of the breaks of a recording, as they are written.
 use Rattle.std.specs.Prelude.{◌≡◌, ℕ, List, ◌++◌, flat_map, take, Option, Result, Ok, Err}
 use Rattle.std.specs.Io.KnownBytes.{Appends}
 use Rattle.vme_trace.specs.Followed.{with_steps}
@@ -16,7 +16,7 @@ use Rattle.vme_audit_command.specs.declared.told.TellFault.{TellFault}
 use Rattle.vme_audit_command.specs.declared.told.TellFault.TheVariants.{Memory, CannotWrite}
 
 module _ (allowances : List Allowance) (stop : Option ℕ) (head : List ℕ) where
-  -- the line that tells a break
+  -- the line of a break
   abbrev pub line_of_break : Break → List ℕ
   line_of_break b = head ++ line_of (audit_break_text (category_of allowances b) b)
 
@@ -24,17 +24,17 @@ module _ (allowances : List Allowance) (stop : Option ℕ) (head : List ℕ) whe
   unfoldable pub break_lines : Trace → List ℕ
   break_lines t = flat_map line_of_break (breaks (read_by allowances stop t))
 
--- a prefix of a text was taken, and no write failed
+-- a prefix of a text was written, and no write failed
 abbrev pub WritesPrefix : Writing → Writing → List ℕ → Type 0
 WritesPrefix old new text = ((n : ℕ) × Appends old.taken new.taken (take n text)) × (new.failures ≡ old.failures)
 
--- a text was told, or a write of it failed, or there was no memory for all of it
+-- a text was written, or a write of it failed, or there was no memory for all of it
 abbrev pub TellsText : {A : Type 0} → Writing → Writing → Result A TellFault → List ℕ → Type 0
 TellsText old new (Ok _) text = Writes old new text
 TellsText old new (Err CannotWrite) text = FailsToWrite old new text
 TellsText old new (Err Memory) text = WritesPrefix old new text
 
--- the lines of the breaks are told that more steps make
+-- the lines after some more steps, `after`, are `before` and a text, which was written, or in part if there is an error
 abbrev pub GoesOn : {A : Type 0} → List ℕ → List ℕ → Writing → Writing → Result A TellFault → Type 0
 GoesOn before after old new (Ok _) = (text : List ℕ) × (after ≡ before ++ text) × Writes old new text
 GoesOn before after old new (Err CannotWrite) =
@@ -45,11 +45,11 @@ GoesOn before after old new (Err Memory) = (text : List ℕ) × (after ≡ befor
 abbrev pub lines_of : List ℕ → GivenSteps → List ℕ
 lines_of head audit = break_lines audit.allowances audit.stop head audit.recording
 
--- an audit that goes on with these steps
+-- an audit that was given these further steps
 abbrev pub given_too : GivenSteps → List Step → GivenSteps
 given_too audit steps = record audit { recording = with_steps audit.recording steps }
 
--- the same of an audit
+-- the lines of the breaks that `steps` add to an audit are written, or in part if there is an error
 abbrev pub AuditGoesOn : {A : Type 0} → List ℕ → GivenSteps → List Step → Writing → Writing → Result A TellFault
     → Type 0
 AuditGoesOn head audit steps old new result =
@@ -59,7 +59,7 @@ AuditGoesOn head audit steps old new result =
 abbrev pub given_all : GivenSteps → Trace → GivenSteps
 given_all audit t = record audit { recording = t }
 
--- the same of an audit that goes on to this recording
+-- the lines that follow those of an audit when it is given recording `t` are written, or in part if there is an error
 abbrev pub AuditGoesTo : {A : Type 0} → List ℕ → GivenSteps → Trace → Writing → Writing → Result A TellFault → Type 0
 AuditGoesTo head audit t old new result =
     GoesOn (lines_of head audit) (lines_of head (given_all audit t)) old new result

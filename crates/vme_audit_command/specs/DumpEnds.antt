@@ -1,4 +1,4 @@
--- What is told at the end of the audit of a dump.
+-- What is written at the end of the audit of a dump.
 use Rattle.std.specs.Prelude.{◌≡◌, ◌≢◌, ◌⊎◌, ℕ, List, Result, Ok, Err}
 use Rattle.vme_trace.specs.Streams.{Writing}
 use Rattle.vme_bind.specs.Binding.{BoundLines}
@@ -15,25 +15,26 @@ use Rattle.vme_audit_command.specs.declared.told.NoOutcome.{NoOutcome}
 use Rattle.vme_audit_command.specs.declared.told.NoOutcome.TheVariants.{CannotRead, NotWritten, Refused}
 use Rattle.vme_audit_command.specs.declared.told.TellFault.TheVariants.{Memory, CannotWrite}
 
--- want of memory is told, and is the status
+-- a line reports want of memory, and the status is 4
 abbrev pub TellsMemory : Writing → Writing → ℕ → Type 0
 TellsMemory old new status = TriesToWrite old new memory_line × (status ≡ 4)
 
--- why there is no outcome is told, and gives the status; or there is no memory for its line
+-- a line gives the reason why there is no outcome, and the status is that of the reason; or memory runs out for the
+-- line
 abbrev pub TellsWhy : List ℕ → Refusal → Writing → Writing → ℕ → Type 0
 TellsWhy name why old new status =
     (TriesToWrite old new (refusal_line_of name why) × (status ≡ refusal_status why)) ⊎ TellsMemory old new status
 
--- this is the status; or there is no memory for what is kept of the dump
+-- the status is `ended`; or memory runs out for what is kept of the dump
 abbrev pub EndsWith : ℕ → Writing → Writing → ℕ → Type 0
 EndsWith ended old new status = ((new ≡ old) × (status ≡ ended)) ⊎ TellsMemory old new status
 
--- why there is no outcome is told, and the dump is kept
+-- a line gives the reason why there is no outcome, and the dump's results are kept
 abbrev pub RefusesAs : List ℕ → Refusal → Writing → Writing → ℕ → Type 0
 RefusesAs name why old new status =
     (told : Writing) × (ended : ℕ) × TellsWhy name why old told ended × EndsWith ended told new status
 
--- what is told of a dump whose audit ended so, beside its lines, and its status
+-- what is written of a dump whose audit ended so, besides its lines, and its status
 abbrev pub TellsEnd : List ℕ → Result ℕ NoOutcome → Writing → Writing → ℕ → Type 0
 TellsEnd name (Ok ended) old new status = EndsWith ended old new status
 TellsEnd name (Err (Refused why)) old new status = RefusesAs name why old new status
@@ -44,7 +45,7 @@ TellsEnd name (Err (NotWritten CannotWrite)) old new status =
 
 module _ (options : AuditOptions) (bound : BoundLines) (named : NamedReading) (out err : Writing × Writing)
     (status : ℕ) where
-  -- a dump is told as it ends
+  -- the output, the error lines and the status are those of a possible end of the dump
   pub record TellsDump : Type 0 where
     pub end : DumpEnd
     pub may : MayEnd options bound named end

@@ -1,4 +1,4 @@
--- The lines about a dump behind those of its breaks.
+-- The lines about a dump after those of its breaks.
 use Rattle.std.specs.Prelude.{◌≡◌, ℕ, Bool, if◌then◌else◌, List, [], ◌++◌, length, Result, Ok, Err}
 use Rattle.vme_trace.specs.Streams.{Writing}
 use Rattle.vme_trace.specs.Trace.{Trace}
@@ -19,7 +19,7 @@ use Rattle.vme_audit_command.specs.declared.told.TellFault.{TellFault}
 use Rattle.vme_audit_command.specs.declared.told.TellFault.TheVariants.{Memory, CannotWrite}
 
 module _ (allowances : List Allowance) (head : List ℕ) where
-  -- how many breaks of a recording count as what
+  -- the numbers of a recording's breaks, by how they count
   abbrev pub break_counts_of : Trace → BreakCounts
   break_counts_of a =
       record {
@@ -28,20 +28,20 @@ module _ (allowances : List Allowance) (head : List ℕ) where
         allowed = allowed_count allowances a;
       }
 
-  -- what the recording has, and the rules that it never asks
+  -- the counts of the recording, and the rules that it never asks
   abbrev pub count_lines_of : Trace → List ℕ
   count_lines_of a =
       head ++ line_of (break_counts_text (break_counts_of a)) ++ head ++ line_of (cycle_counts_text (counts a))
       ++ head ++ line_of (transfer_counts_text (counts a)) ++ unasked_line head (never_asked a)
 
--- the same, unless that isn't wanted
+-- the lines of counts, unless `is_quiet`
 abbrev pub counts_unless : Bool → List Allowance → List ℕ → Trace → List ℕ
 counts_unless is_quiet allowances head a = if is_quiet then [] else count_lines_of allowances head a
 
 abbrev pub outcome_line_of : List ℕ → Outcome → List ℕ
 outcome_line_of head o = head ++ line_of (outcome_text o)
 
--- a text is told that ends with an outcome, and its status is the answer
+-- a text that ends with an outcome is written, and the result is the status of the outcome
 abbrev pub TellsOutcome : List ℕ → Outcome → Writing → Writing → Result ℕ TellFault → Type 0
 TellsOutcome text o old new (Ok status) = Writes old new text × (status ≡ outcome_status o)
 TellsOutcome text o old new (Err CannotWrite) = FailsToWrite old new text

@@ -18,72 +18,72 @@ use Rattle.vme_audit_command.specs.DumpAnswers.{AuditOptions, DumpAnswer, dump_a
 
 -- ---- the status
 
--- the first of these statuses that occurred, or else 0
+-- the first of `statuses` that occurred, or else 0
 abbrev pub first_occurred : List ℕ → List ℕ → ℕ
 first_occurred [] occurred = 0
 first_occurred (s ∷ statuses) occurred =
     if list_any (λ n. n == s) occurred then s else first_occurred statuses occurred
 
--- of the statuses of all dumps the one that counts
+-- the status of all dumps, by the statuses of each
 abbrev pub audit_status : List ℕ → ℕ
 audit_status occurred = first_occurred (5 ∷ 4 ∷ 3 ∷ 1 ∷ 2 ∷ 6 ∷ []) occurred
 
 -- ---- standard error
 
--- the line that tells why there is no outcome of a dump of this name
+-- the line with the reason why there is no outcome of the dump of this name
 abbrev pub refusal_line_of : List ℕ → Refusal → List ℕ
 refusal_line_of name why = codes "vmecheck: " ++ head_of name ++ line_of (refusal_behind why)
 
--- the line that tells that memory runs out
+-- the line that reports that memory runs out
 abbrev pub memory_line : List ℕ
 memory_line = line_of (refusal_text Memory)
 
--- the line that tells that a write fails
+-- the line that reports that a write fails
 abbrev pub cannot_write_line : List ℕ
 cannot_write_line = line_of cannot_write_text
 
--- each of these lines was taken, or the first of it before a write failed
+-- each of these lines was written, or a prefix of it before a write failed
 abbrev pub TriesEach : Writing → Writing → List (List ℕ) → Type 0
 TriesEach old new [] = new ≡ old
 TriesEach old new (line ∷ lines) = (next : Writing) × TriesToWrite old next line × TriesEach next new lines
 
 -- ---- one dump
 
--- a dump by its name, and what tells its bytes
+-- a dump by its name, and the reading of its bytes
 pub record NamedReading : Type 0 where
   pub name : List ℕ
   pub dump : Reading
 
--- what is written of a dump to standard output, the lines on standard error, and its status
+-- the text of a dump on standard output, its lines on standard error, and its status
 pub record DumpEnd : Type 0 where
   pub out : List ℕ
   pub errors : List (List ℕ)
   pub status : ℕ
 
--- a dump has an outcome with this status, or none, and then why is told
+-- a dump has an outcome with this status, or none, and then a line gives the reason
 abbrev pub end_by : List ℕ → List ℕ → Result ℕ Refusal → DumpEnd
 end_by name out (Ok status) = record { out = out; errors = []; status = status }
 end_by name out (Err why) =
     record { out = out; errors = refusal_line_of name why ∷ []; status = refusal_status why }
 
--- the first bytes of a text, however many
+-- `front` is a prefix of `text`
 abbrev pub IsTextPrefix : List ℕ → List ℕ → Type 0
 IsTextPrefix front text = (n : ℕ) × (front ≡ take n text)
 
--- all of an answer is told
+-- all of an answer is written
 abbrev pub IsTold : List ℕ → DumpAnswer → DumpEnd → Type 0
 IsTold name answer end = end ≡ end_by name answer.out answer.ended
 
--- the dump can't be read to its end: the first bytes of the text are told, and why there is no outcome
+-- the dump can't be read to its end: a prefix of its text is written, and why there is no outcome
 abbrev pub IsUnread : List ℕ → DumpAnswer → DumpEnd → Type 0
 IsUnread name answer end =
     (front : List ℕ) × IsTextPrefix front answer.out × (end ≡ end_by name front (Err (CannotRead Dump)))
 
--- a line says why there is no outcome of a dump, or that there is no memory
+-- the line gives the reason why there is no outcome of a dump, or reports that there is no memory
 abbrev pub IsErrorLine : List ℕ → List ℕ → Type 0
 IsErrorLine name line = (line ≡ memory_line) ⊎ ((why : Refusal) × (line ≡ refusal_line_of name why))
 
--- memory runs out: the first bytes of the text are told, and the last line on standard error says so
+-- memory runs out: a prefix of the text is written, and the last line on standard error reports it
 pub record EndsWithoutMemory (name : List ℕ) (answer : DumpAnswer) (end : DumpEnd) : Type 0 where
   pub out : IsTextPrefix end.out answer.out
   pub before : List (List ℕ)
@@ -93,23 +93,23 @@ pub record EndsWithoutMemory (name : List ℕ) (answer : DumpAnswer) (end : Dump
   pub tells : (last ≡ memory_line) ⊎ (last ≡ refusal_line_of name Memory)
   pub status : end.status ≡ 4
 
--- how a dump may end that has this answer
+-- how a dump with this answer may end
 abbrev pub IsEndOf : List ℕ → DumpAnswer → DumpEnd → Type 0
 IsEndOf name answer end = IsTold name answer end ⊎ (IsUnread name answer end ⊎ EndsWithoutMemory name answer end)
 
 module _ (options : AuditOptions) (bound : BoundLines) where
-  -- what there is to tell of the bytes of a dump
+  -- the answer for a dump with these bytes
   abbrev pub answer_to : List ℕ → List ℕ → DumpAnswer
   answer_to name bytes = dump_answer options (head_of name) (reading_of_text bound bytes)
 
-  -- how a dump may end whose bytes its source tells
+  -- how a dump with the bytes of its source may end
   abbrev pub MayEnd : NamedReading → DumpEnd → Type 0
   MayEnd named end =
       (bytes : List ℕ) × AreAllBytesOf named.dump bytes × IsEndOf named.name (answer_to named.name bytes) end
 
   -- ---- all of them
 
-  -- each dump is told as it ends, one after the other
+  -- the output, the error lines and the status are those of possible ends of the dumps, one after the other
   pub record TellsDumps (dumps : List NamedReading) (out err : Writing × Writing) (status : ℕ) : Type 0 where
     pub ends : List DumpEnd
     pub each : AllZip MayEnd dumps ends
@@ -117,8 +117,8 @@ module _ (options : AuditOptions) (bound : BoundLines) where
     pub err_is : TriesEach err.0 err.1 (flat_map (λ (e : DumpEnd). e.errors) ends)
     pub status_is : status ≡ audit_status (map (λ (e : DumpEnd). e.status) ends)
 
-  -- a write to standard output fails in the text of a dump: that is told, the first bytes of all texts are, and the
-  -- others aren't audited
+  -- a write to standard output fails in the text of a dump: a line reports it, a prefix of all texts is written, and
+  -- the other dumps aren't audited
   pub record CannotTell (dumps : List NamedReading) (out err : Writing × Writing) (status : ℕ) : Type 0 where
     pub before : List NamedReading
     pub named : NamedReading

@@ -29,7 +29,7 @@ use vme_step_reader::{StepReader, StoppedSteps, given_is_a_prefix, times_go_on};
 use vme_stream::Refusal;
 use vme_trace::{Sink, Source, Step};
 
-/// Audits the steps that follow once the dump has told a time.
+/// Audits what is settled when `steps` are added and the dump has reached `time`.
 fn audit_settled<O: Sink>(
     alloc: Global,
     auditor: &mut StepAuditor<'_>,
@@ -59,7 +59,7 @@ fn audit_settled<O: Sink>(
     }
 }
 
-/// What a fault of the dump is to its audit, which may have stopped before it: then it isn't met.
+/// The effect of a fault of the dump: the audit is refused, unless it has stopped before the fault.
 fn at_fault(auditor: &StepAuditor<'_>, fault: VcdFault) -> Result<(), NoOutcome>
     ensures stopped { malformed_step auditor.now.recording ≡ None
         → OnOk result (has_stopped auditor.now ≡ true) }
@@ -100,7 +100,7 @@ fn audit_faulty<O: Sink>(
     }
 }
 
-/// Audits what stands before a fault. Where the audit stopped before it, it isn't met.
+/// Audits the steps before a fault. If the audit stops before the fault, the fault isn't reported.
 fn audit_stopped<O: Sink>(
     alloc: Global,
     auditor: &mut StepAuditor<'_>,
@@ -126,7 +126,7 @@ fn audit_stopped<O: Sink>(
     }
 }
 
-/// What reads on, unless the audit stopped.
+/// The reader and the count with which reading continues, unless the audit has stopped.
 fn going_on(
     auditor: &StepAuditor<'_>,
     reader: StepReader,
@@ -143,8 +143,8 @@ fn going_on(
     }
 }
 
-/// Audits the first of some bytes, as many as are whole tokens, and says how many. There is none of it where no more of
-/// the dump is audited.
+/// Audits the whole tokens at the start of `bytes`. Returns the next reader and the number of bytes taken, or `None` if
+/// no more of the dump is audited.
 fn audit_piece<O: Sink>(
     alloc: Global,
     reader: StepReader,
@@ -238,7 +238,7 @@ fn audit_ended<O: Sink>(
     }
 }
 
-/// Audits a body to its end, or as far as it is to be audited: what is held of it, and then what is read.
+/// Audits a body to its end, or until the audit stops: first the held bytes, and then what is read.
 pub(crate) fn audit_body<D: Source, O: Sink>(
     alloc: Global,
     dump: &mut D,

@@ -23,26 +23,27 @@ use vme_trace::{Sink, Source};
 /// How recordings are audited.
 #[derive(Clone, Copy, Debug)]
 pub struct AuditOptions<'a> {
-    /// The deviations that are allowed.
+    /// The allowed deviations.
     pub allowances: &'a [Allowance],
-    /// How many transfers have to be answered for a recording to be covered.
+    /// The number of transfers that must be answered for a recording to be covered.
     pub transfers: u64,
-    /// After how many breaks that aren't allowed the rest of a dump isn't read; all of it is, where this is `None`.
+    /// The number of breaks that aren't allowed after which the rest of a dump isn't read, or `None` to read all of it.
     pub stop: Option<u64>,
-    /// How far apart probes may tell one moment of the bus, in time units of the dump.
+    /// The greatest difference between the times at which probes record one moment of the bus, in time units of the
+    /// dump.
     pub skew: u64,
-    /// Whether the counts aren't told.
+    /// Whether the counts are left out.
     pub is_quiet: bool,
 }
 
-/// A dump, and its name as it is told.
+/// A dump, and its name in the lines about it.
 #[derive(Drop)]
 pub struct NamedDump<'a, D> {
     pub name: &'a [u8],
     pub dump: D,
 }
 
-/// The one of two statuses that counts.
+/// The status of two that takes precedence.
 fn worse(one: u8, other: u8) -> u8
     ensures { result ≡ audit_status (one ∷ other ∷ []) }
 {
@@ -63,10 +64,10 @@ fn worse(one: u8, other: u8) -> u8
     }
 }
 
-/// Audits dumps by a binding, one after the other, and tells their breaks and outcomes to `out`, and why one has no
-/// outcome to `err`. The answer is whether anything was audited, and the exit status: of all dumps the first of 5
-/// where `out` can't be written, 4 for want of memory, 3 where an input is refused, 1 where a rule is broken, 2 where a
-/// line is unknown, 6 where a recording isn't covered, and else 0.
+/// Audits dumps by a binding, one after the other. Writes their breaks and outcomes to `out`, and to `err` why a dump
+/// has no outcome. Returns whether anything was audited, and the exit status. That is the first of these that occurred
+/// for any dump: 5 if `out` can't be written, 4 for want of memory, 3 if an input is refused, 1 if a rule is broken, 2
+/// if a line is unknown, 6 if a recording isn't covered, or else 0.
 pub fn audit<B: Source, D: Source, O: Sink, E: Sink>(
     alloc: Global,
     binding: &mut B,
@@ -95,7 +96,7 @@ pub fn audit<B: Source, D: Source, O: Sink, E: Sink>(
     }
 }
 
-/// The same where the binding was read.
+/// Audits the dumps by a binding that was read. Returns the exit status.
 fn audit_all<D: Source, O: Sink, E: Sink>(
     alloc: Global,
     bound: &Binding,
@@ -120,7 +121,7 @@ fn audit_all<D: Source, O: Sink, E: Sink>(
     status
 }
 
-/// Audits one of the dumps. The answer is its exit status.
+/// Audits one of the dumps. Returns its exit status.
 fn audit_named<D: Source, O: Sink, E: Sink>(
     alloc: Global,
     bound: &Binding,
@@ -140,7 +141,7 @@ fn audit_named<D: Source, O: Sink, E: Sink>(
     tell_end(alloc, name, &case, ended, suite, err)
 }
 
-/// Tells why a dump has no outcome, if it has none, and keeps its test case. The answer is its exit status.
+/// Writes why a dump has no outcome, if it has none, and keeps its test case. Returns its exit status.
 fn tell_end<E: Sink>(
     alloc: Global,
     name: &[u8],
@@ -168,7 +169,7 @@ fn tell_end<E: Sink>(
     }
 }
 
-/// Tells why a dump has no outcome, and keeps its test case. The answer is its exit status.
+/// Writes why a dump has no outcome, and keeps its test case. Returns its exit status.
 fn refuse<E: Sink>(
     alloc: Global,
     name: &[u8],
@@ -183,8 +184,8 @@ fn refuse<E: Sink>(
     keep(alloc, name, case, Some(&refusal), status, suite, err)
 }
 
-/// Keeps the test case of a dump whose exit status is this, unless there is no memory for it. The answer is the exit
-/// status then.
+/// Keeps the test case of a dump of exit status `status`. Returns `status`, or 4 if there is no memory for the test
+/// case.
 fn keep<E: Sink>(
     alloc: Global,
     name: &[u8],
@@ -205,7 +206,7 @@ fn keep<E: Sink>(
     }
 }
 
-/// Tells why a dump has no outcome. The answer is the exit status.
+/// Writes why a dump has no outcome. Returns the exit status.
 fn tell_refusal<E: Sink>(alloc: Global, name: &[u8], refusal: &Refusal, err: &mut E) -> u8
     ensures { TellsWhy name.now refusal.now (E.writing err.old) (E.writing err.new) result }
 {
@@ -221,14 +222,14 @@ fn tell_refusal<E: Sink>(alloc: Global, name: &[u8], refusal: &Refusal, err: &mu
     }
 }
 
-/// Tells a line. Where that fails, its first bytes went out.
+/// Writes a line. If that fails, a prefix of it is written.
 fn try_to_tell<E: Sink>(line: &[u8], err: &mut E)
     ensures { TriesToWrite (E.writing err.old) (E.writing err.new) line.now }
 {
     let _ = write_all(err, line);
 }
 
-/// The line that tells it.
+/// The line with the reason why a dump has no outcome.
 fn refusal_of(alloc: Global, name: &[u8], refusal: &Refusal) -> Result<Text, AllocError>
     ensures { IfOk result (λ text. text ≡ refusal_line_of name.now refusal.now) }
 {

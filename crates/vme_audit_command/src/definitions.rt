@@ -1,4 +1,4 @@
-//! The definitions of a dump, of which nothing is kept but where the lines of the backplane stand.
+//! The definitions of a dump. Only the places of the backplane's lines are kept of them.
 
 ghost use Rattle.std.specs.Prelude.{◌≡◌, [], Result, Err};
 ghost use Rattle.vme_bind.specs.TextCapture.{CaptureFailsBy};
@@ -16,7 +16,7 @@ use vme_step_reader::{StepReader, begin_last_steps, begin_steps};
 use vme_stream::Refusal;
 use vme_trace::Source;
 
-/// What a fault that is met in a dump's definitions, or of the binding, is to its audit.
+/// Why an audit has no outcome if its dump's definitions, or the binding, have this fault.
 fn no_outcome(fault: CaptureFault) -> NoOutcome
     ensures { (reading : Result TextReading CaptureFault) → CaptureFailsBy fault reading → NotBegun reading result }
 {
@@ -26,7 +26,7 @@ fn no_outcome(fault: CaptureFault) -> NoOutcome
     }
 }
 
-/// What a read that gives no bytes is to an audit.
+/// Why an audit has no outcome if a read fails.
 pub(crate) fn not_read(fault: ReadFault) -> NoOutcome
     ensures { result ≡ unread fault }
 {
@@ -36,7 +36,7 @@ pub(crate) fn not_read(fault: ReadFault) -> NoOutcome
     }
 }
 
-/// Begins with the body, if the definitions end in what is held.
+/// Starts reading the body, if the definitions end in the held bytes.
 fn begin(
     alloc: Global,
     bound: &Binding,
@@ -54,7 +54,7 @@ fn begin(
     }
 }
 
-/// Begins with the body where the dump ends.
+/// Starts reading the body at the end of the dump.
 fn begin_last(
     alloc: Global,
     bound: &Binding,
@@ -71,7 +71,7 @@ fn begin_last(
     }
 }
 
-/// Reads the definitions of a dump. The answer is what reads its body, and whether there may be more of it than is
+/// Reads the definitions of a dump. Returns the reader of its body, and whether more of the body may follow than is
 /// held.
 pub(crate) fn read_definitions<D: Source>(
     alloc: Global,

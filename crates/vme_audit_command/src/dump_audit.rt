@@ -32,7 +32,7 @@ use vme_step_auditor::{AuditRules, StepAuditor};
 use vme_step_reader::StepReader;
 use vme_trace::{Sink, Source};
 
-/// Tells what a recording has, unless that isn't wanted.
+/// Writes the counts of a recording, unless `is_quiet`.
 fn tell_counts<O: Sink>(
     alloc: Global,
     auditor: &StepAuditor<'_>,
@@ -54,7 +54,7 @@ fn tell_counts<O: Sink>(
     }
 }
 
-/// Tells the outcome.
+/// Writes the line of the outcome.
 fn tell_line<O: Sink>(
     alloc: Global,
     outcome: &Outcome,
@@ -69,7 +69,7 @@ fn tell_line<O: Sink>(
     }
 }
 
-/// Keeps what a test case says of the outcome, whose exit status is the answer.
+/// Keeps the counts and the outcome in the test case, and returns the exit status of the outcome.
 fn end_case(
     alloc: Global,
     auditor: &StepAuditor<'_>,
@@ -85,7 +85,7 @@ fn end_case(
     }
 }
 
-/// Tells the outcome of the audit, of which the answer is the exit status.
+/// Writes the outcome of the audit, and returns its exit status.
 fn tell_end<O: Sink>(
     alloc: Global,
     auditor: &StepAuditor<'_>,
@@ -104,7 +104,7 @@ fn tell_end<O: Sink>(
     end_case(alloc, auditor, &outcome, case)
 }
 
-/// Tells what a recording has, and the outcome of its audit, of which this is the exit status.
+/// Writes the counts of a recording and the outcome of its audit, and returns the exit status.
 fn tell_outcome<O: Sink>(
     alloc: Global,
     auditor: &StepAuditor<'_>,
@@ -137,7 +137,7 @@ fn first_audit<'a>(reader: &StepReader, rules: AuditRules<'a>) -> StepAuditor<'a
     StepAuditor::new(reader.opening(), rules)
 }
 
-/// Audits the body of a dump, of which there may be more than is held.
+/// Audits the body of a dump. `is_more` is whether more of it may follow than is held.
 fn audit_rest<D: Source, O: Sink>(
     alloc: Global,
     dump: &mut D,
@@ -174,7 +174,7 @@ fn audit_rest<D: Source, O: Sink>(
     }
 }
 
-/// Audits the body of a dump behind its definitions, and tells it.
+/// Audits the body of a dump, after its definitions, and writes all its lines.
 fn audit_behind<D: Source, O: Sink>(
     alloc: Global,
     dump: &mut D,
@@ -215,7 +215,7 @@ fn audit_behind<D: Source, O: Sink>(
     }
 }
 
-/// Audits a dump by a binding, and tells it line by line to `out`. The answer is the exit status by its outcome.
+/// Audits a dump by a binding, and writes its lines to `out`. Returns the exit status of its outcome.
 pub(crate) fn audit_dump<D: Source, O: Sink>(
     alloc: Global,
     bound: &Binding,

@@ -8,14 +8,14 @@ use std::alloc::{AllocError, Global};
 use std::marker::Model;
 use vme_trace::Source;
 
-/// How much room a read has.
+/// The greatest number of bytes of one read.
 const ROOM: usize = 65_536;
 
-/// The bytes of a dump that were read and not taken.
+/// The bytes of a dump that were read and not yet taken.
 #[derive(Drop)]
 pub(crate) struct DumpInput {
     held: Vec<u8>,
-    /// Where the next bytes are read to.
+    /// The buffer into which the next bytes are read.
     room: Vec<u8>,
 }
 
@@ -29,7 +29,7 @@ impl Model for DumpInput {
     ghost invariant = { λ d. 0 < vec_len d.room };
 }
 
-/// Why no more is read.
+/// Why nothing more is read.
 #[derive(Clone, Copy, Debug)]
 pub(crate) enum ReadFault {
     Failed,
@@ -47,7 +47,7 @@ impl From<AllocError> for ReadFault {
 }
 
 impl DumpInput {
-    /// Before the first read.
+    /// The state before the first read.
     pub fn new(alloc: Global) -> Result<DumpInput, AllocError>
         ensures { IfOk result (λ input. input ≡ []) }
     {
@@ -58,14 +58,14 @@ impl DumpInput {
         })
     }
 
-    /// What was read and not taken.
+    /// The bytes that were read and not yet taken.
     pub fn bytes(&self) -> &[u8]
         ensures { result.now ≡ self.now }
     {
         &self.held
     }
 
-    /// Waits for more bytes, and says whether there are any.
+    /// Waits for more bytes, and returns whether any came.
     pub fn read<D: Source>(&mut self, dump: &mut D) -> Result<bool, ReadFault>
         ensures more { IfOk result (λ _. (more : List ℕ)
             × Consumes (D.reading dump.old).left (D.reading dump.new).left more × (self.new ≡ self.old ++ more)) }

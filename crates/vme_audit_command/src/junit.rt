@@ -1,4 +1,4 @@
-//! What an audit found, as a JUnit file: one test suite, with a test case a dump.
+//! The results of an audit as a JUnit file: one test suite, with one test case for each dump.
 
 use std::alloc::{AllocError, Global};
 use vme_audit::Outcome;
@@ -7,16 +7,16 @@ use vme_auditor::{AuditBreak, AuditFindings, BreakCounts};
 use vme_stream::Refusal;
 use vme_text::Text;
 
-/// How many breaks of a kind a test case names.
+/// The greatest number of breaks of a kind that a test case names.
 const MOST_NAMED: u32 = 100;
 
-/// Appends a text as the value of an attribute: escaped as XML asks, with `?` for what XML can't have.
+/// Appends a text as the value of an attribute, escaped as XML requires. `?` replaces what XML can't have.
 fn push_quoted(text: &mut Text, value: &[u8]) -> Result<(), AllocError> {
     text.push(b"\"")?;
     let mut at = 0;
     while at < value.len() {
         let byte = value[at];
-        // The two characters above U+FFFD that have three bytes are none of XML.
+        // XML excludes U+FFFE and U+FFFF, the two characters after U+FFFD that have three bytes.
         if value[at..].starts_with(b"\xEF\xBF\xBE") || value[at..].starts_with(b"\xEF\xBF\xBF") {
             text.push(b"?")?;
             at += 3;
@@ -46,7 +46,7 @@ fn without_line_feed(line: &[u8]) -> &[u8] {
     }
 }
 
-/// An element of this name that has a message, and nothing else.
+/// Appends an element of this name that has only a message.
 fn push_message(text: &mut Text, element: &[u8], line: &[u8]) -> Result<(), AllocError> {
     text.push(b"<")?;
     text.push(element)?;
@@ -55,20 +55,20 @@ fn push_message(text: &mut Text, element: &[u8], line: &[u8]) -> Result<(), Allo
     text.push(b"/>")
 }
 
-/// What is told of a dump.
+/// The results of a dump.
 #[derive(Debug, Drop)]
 pub(crate) struct TestCase {
     is_wanted: bool,
-    /// Its breaks that aren't allowed, or else why it isn't covered, as elements.
+    /// The breaks that aren't allowed, or else why the recording isn't covered, as elements.
     failures: Text,
     failed: u32,
-    /// Its breaks that are allowed, and its counts, in lines.
+    /// The allowed breaks, and the counts, in lines.
     told: Text,
     allowed: u32,
 }
 
 impl TestCase {
-    /// Of a dump of which nothing was audited. Where no file is wanted, nothing is kept.
+    /// The test case of a dump before anything is audited. If no file is wanted, nothing is kept.
     pub fn new(alloc: Global, is_wanted: bool) -> TestCase {
         TestCase {
             is_wanted,
@@ -79,7 +79,7 @@ impl TestCase {
         }
     }
 
-    /// Takes a break.
+    /// Adds a break.
     pub fn take(
         &mut self,
         alloc: Global,
@@ -108,7 +108,7 @@ impl TestCase {
         Ok(())
     }
 
-    /// Takes what the dump's audit came to.
+    /// Adds the counts and the outcome of the dump's audit.
     pub fn end(
         &mut self,
         alloc: Global,
@@ -137,7 +137,7 @@ pub struct TestSuite {
 }
 
 impl TestSuite {
-    /// Before the first dump. Where no file is wanted, nothing is kept.
+    /// The suite before the first dump. If no file is wanted, nothing is kept.
     pub fn new(alloc: Global, is_wanted: bool) -> TestSuite {
         TestSuite {
             is_wanted,
@@ -145,12 +145,12 @@ impl TestSuite {
         }
     }
 
-    /// What is to be told of the next dump.
+    /// An empty test case for the next dump.
     pub(crate) fn case(&self, alloc: Global) -> TestCase {
         TestCase::new(alloc, self.is_wanted)
     }
 
-    /// Takes what is told of a dump of this name, which was refused or not.
+    /// Adds the test case of the dump of this name, with its refusal if there is one.
     pub(crate) fn take(
         &mut self,
         alloc: Global,

@@ -1,4 +1,4 @@
-//! What is told of a dump, line by line.
+//! The lines about a dump, written one by one.
 
 ghost use Rattle.std.specs.Prelude.{◌≡◌, ◌≤◌, ◌++◌, ◌∷◌, [], None, OnOk};
 ghost use Rattle.vme_auditor.specs.Breaks.{as_break};
@@ -15,7 +15,7 @@ use vme_step_auditor::{CategorizedBreak, StepAuditor, reading_goes_on};
 use vme_stream::{Refusal, write_all};
 use vme_trace::{Sink, Step};
 
-/// Why not all of a text is told.
+/// Why not all of a text is written.
 #[derive(Clone, Copy, Debug)]
 pub(crate) enum TellFault {
     Memory,
@@ -40,7 +40,7 @@ pub(crate) enum NoOutcome {
     NotWritten(TellFault),
 }
 
-/// Tells some bytes.
+/// Writes `bytes` to `out`.
 pub(crate) fn tell<O: Sink>(out: &mut O, bytes: &[u8]) -> Result<(), TellFault>
     ensures { TellsText (O.writing out.old) (O.writing out.new) result bytes.now }
 {
@@ -50,7 +50,7 @@ pub(crate) fn tell<O: Sink>(out: &mut O, bytes: &[u8]) -> Result<(), TellFault>
     }
 }
 
-/// Tells a break.
+/// Writes the line of a break, and keeps it in the test case.
 fn tell_break<O: Sink>(
     alloc: Global,
     told: &CategorizedBreak,
@@ -67,7 +67,7 @@ fn tell_break<O: Sink>(
     Ok(())
 }
 
-/// Audits the step that follows, and tells the break that it makes.
+/// Audits the next step, and writes the line of the break that it makes, if any.
 fn audit_step<O: Sink>(
     alloc: Global,
     auditor: &mut StepAuditor<'_>,
@@ -89,7 +89,7 @@ fn audit_step<O: Sink>(
     }
 }
 
-/// Audits the steps that follow, and tells the breaks that they make.
+/// Audits the next steps, and writes the lines of the breaks that they make.
 pub(crate) fn audit_steps<O: Sink>(
     alloc: Global,
     auditor: &mut StepAuditor<'_>,

@@ -51,25 +51,25 @@ $enddefinitions $end
 /// A read that is answered.
 const READ: &str = "#0 1a 1p 1q 1d 1e 1i 1w 1r\n#10 0a\n#20 0p\n#30 0d\n#40 1a 1p\n#50 1d\n";
 
-/// An answer that nothing asked for, twice: judging starts anew behind the first.
+/// Two answers without a transfer. Judging starts anew after the first.
 const ANSWERS: &str = "#0 1a 1p 1q 1d 1e 1i 1w 1r\n#10 0d\n#20 1d\n#30 0e\n#40 1e\n";
 
-/// The same, and no item of a dump behind it.
+/// The two answers, and after them a word that is no item of a dump.
 const FAULTY_ANSWERS: &str =
     "#0 1a 1p 1q 1d 1e 1i 1w 1r\n#10 0d\n#20 1d\n#30 0e\n#40 1e\nnonsense\n";
 
-/// What is told of both answers.
+/// The lines of both answers.
 const BOTH: &[u8] = b"d: broken H4 at instant 2 time 10 line DTACK
 d: broken H4 at instant 4 time 30 line BERR
 ";
 
-/// The same, and the outcome.
+/// The lines of both answers, and the outcome.
 const BOTH_BROKEN: &[u8] = b"d: broken H4 at instant 2 time 10 line DTACK
 d: broken H4 at instant 4 time 30 line BERR
 d: broken
 ";
 
-/// How a dump is audited: quietly.
+/// Options of an audit without counts.
 fn quietly<'a>(allowances: &'a [Allowance]) -> AuditOptions<'a> {
     AuditOptions {
         allowances,
@@ -80,7 +80,7 @@ fn quietly<'a>(allowances: &'a [Allowance]) -> AuditOptions<'a> {
     }
 }
 
-/// A sink that holds what it took, up to a count of bytes at which writes fail.
+/// A sink that holds the bytes written to it. Writes fail once `room` bytes are held.
 #[derive(Drop)]
 struct Page {
     bytes: Vec<u8>,
@@ -127,7 +127,8 @@ impl Sink for Page {
     }
 }
 
-/// A reader of a text behind another, that gives so many bytes a read at most, and fails behind the last, if so.
+/// A reader of `left`, and of `behind` after it. A read gives at most `portion` bytes. If `is_torn`, reading fails
+/// after the last byte.
 #[derive(Drop)]
 struct PortionReader<'a> {
     left: &'a [u8],
@@ -164,10 +165,10 @@ const WHOLE: DumpFeed = DumpFeed {
     is_torn: false,
 };
 
-/// A dump that is read so.
+/// A dump that a `PortionReader` reads.
 type ReadDump<'a> = NamedDump<'a, Io<PortionReader<'a>>>;
 
-/// The dump of a body behind the definitions.
+/// A dump with the definitions `HEAD`, and `body` after them.
 fn dump_of<'a>(name: &'a [u8], body: &'a str, feed: DumpFeed) -> ReadDump<'a> {
     NamedDump {
         name,
@@ -180,16 +181,16 @@ fn dump_of<'a>(name: &'a [u8], body: &'a str, feed: DumpFeed) -> ReadDump<'a> {
     }
 }
 
-/// What is written, and the status.
+/// The expected output, error output and status.
 #[derive(Clone, Copy)]
 struct WantedAudit<'a> {
-    /// The lines, where `..` at the end of one stands for the names of rules.
+    /// The lines. `..` at the end of a line is for the names of rules.
     out: &'a [u8],
     err: &'a [u8],
     status: u8,
 }
 
-/// Whether a line is the one that is wanted, up to its `..`, if it has one.
+/// Whether a line is the expected one, up to its `..`, if it has one.
 fn is_line(line: &[u8], wanted: &[u8]) -> bool {
     match wanted.strip_suffix(b"..") {
         Some(front) => line.starts_with(front),
@@ -201,7 +202,7 @@ fn count_lines(text: &[u8]) -> usize {
     text.split(|byte| *byte == b'\n').count()
 }
 
-/// Whether these are the lines of a text.
+/// Whether the lines of a text are the expected ones.
 fn has_lines(text: &[u8], wanted: &[u8]) -> bool {
     let lines = text.split(|byte| *byte == b'\n');
     let wanted_lines = wanted.split(|byte| *byte == b'\n');
@@ -211,7 +212,7 @@ fn has_lines(text: &[u8], wanted: &[u8]) -> bool {
             .all(|(line, wanted)| is_line(line, wanted))
 }
 
-/// Whether dumps are audited by a text, with this outcome, where so many bytes can be written.
+/// Whether auditing dumps by a binding gives this result, where only `room` bytes can be written.
 fn audits(
     alloc: Global,
     binding: &[u8],
@@ -237,7 +238,7 @@ fn audits(
         && err.bytes.as_slice() == wanted.1.err
 }
 
-/// Whether the dump of a body has this outcome.
+/// Whether the audit of a dump with this body gives this result.
 fn comes_to(
     alloc: Global,
     body: &str,
@@ -258,7 +259,7 @@ fn comes_to(
     )
 }
 
-/// Whether it has, in portions of each of these sizes.
+/// Whether the audit gives this result for each of these sizes of portions.
 fn always_comes_to(
     alloc: Global,
     body: &str,
@@ -328,14 +329,14 @@ d: conforming
     assert!(rt; comes_to(rt.alloc(), READ, WHOLE, options, told));
 }
 
-/// Both answers are told as breaks.
+/// The result with both answers as breaks.
 const BROKEN: WantedAudit<'static> = WantedAudit {
     out: BOTH_BROKEN,
     err: b"",
     status: 1,
 };
 
-/// Each break is told, in whatever portions the dump comes.
+/// Each break is reported, for any sizes of portions.
 #[test]
 fn breaks_are_told(rt: HostRuntime) {
     assert!(rt;
@@ -371,7 +372,7 @@ d: conforming with 2 allowed
     assert!(rt; comes_to(rt.alloc(), ANSWERS, WHOLE, options, told));
 }
 
-/// No more of a dump is read than to the break that ends its audit: a fault behind it isn't met.
+/// A dump is read only up to the break that ends its audit. A later fault isn't reported.
 #[test]
 fn an_audit_is_stopped(rt: HostRuntime) {
     let told = WantedAudit {
@@ -396,7 +397,7 @@ fn an_audit_is_stopped(rt: HostRuntime) {
     );
 }
 
-/// The breaks of the instants that a later time follows are told before a fault.
+/// Before a fault the breaks are reported whose instants are followed by a later time.
 #[test]
 fn a_fault_is_told(rt: HostRuntime) {
     let told = WantedAudit {
@@ -423,7 +424,7 @@ fn a_fault_is_told(rt: HostRuntime) {
     assert!(rt; comes_to(rt.alloc(), body, WHOLE, quietly(&[]), early));
 }
 
-/// Steps within the skew are one, also before a fault.
+/// Steps within the skew are merged, also before a fault.
 #[test]
 fn a_dump_is_settled(rt: HostRuntime) {
     let told = WantedAudit {
@@ -443,7 +444,7 @@ fn a_dump_is_settled(rt: HostRuntime) {
     assert!(rt; always_comes_to(rt.alloc(), ANSWERS, THREE.as_slice(), false, apart, BROKEN));
 }
 
-/// A reader that fails: what is complete in what was read is told.
+/// If a read fails, what is complete in the bytes read is reported.
 #[test]
 fn a_dump_that_cannot_be_read_is_told(rt: HostRuntime) {
     let told = WantedAudit {
@@ -469,7 +470,7 @@ fn a_dump_that_cannot_be_read_is_told(rt: HostRuntime) {
     assert!(rt; comes_to(rt.alloc(), "", torn, quietly(&[]), nothing));
 }
 
-/// Whether the first of what is told is written, where so many bytes can be.
+/// Whether a prefix of the output is written, where only `room` bytes can be.
 fn writes_the_first(alloc: Global, room: usize) -> bool {
     let mut suite = TestSuite::new(alloc, true);
     let mut dumps = [dump_of(b"d", ANSWERS, WHOLE)];
@@ -489,7 +490,7 @@ fn writes_the_first(alloc: Global, room: usize) -> bool {
     )
 }
 
-/// A write that fails leaves the first of what is told.
+/// If a write fails, a prefix of the output is written.
 #[test]
 fn a_write_that_fails_ends_the_audit(rt: HostRuntime) {
     for room in 0..BOTH_BROKEN.len() {
@@ -497,7 +498,7 @@ fn a_write_that_fails_ends_the_audit(rt: HostRuntime) {
     }
 }
 
-/// Whether a text that is no binding is refused.
+/// Whether a text that isn't a binding is refused.
 fn is_binding_refused(alloc: Global) -> bool {
     let mut suite = TestSuite::new(alloc, true);
     let mut dumps = [dump_of(b"d", "", WHOLE)];
@@ -517,13 +518,13 @@ fn is_binding_refused(alloc: Global) -> bool {
     )
 }
 
-/// Nothing is audited by a text that is no binding.
+/// With a text that isn't a binding nothing is audited.
 #[test]
 fn a_binding_is_refused(rt: HostRuntime) {
     assert!(rt; is_binding_refused(rt.alloc()));
 }
 
-/// What is told of three dumps.
+/// The result for three dumps.
 const IN_ORDER: WantedAudit<'static> = WantedAudit {
     out: b"a<\"b\">?&?: not covered: 1 of 2 transfers answered
 d: broken H4 at instant 2 time 10 line DTACK
@@ -534,7 +535,7 @@ d: broken
     status: 3,
 };
 
-/// The JUnit file of these, where `..` at the end of a line stands for the names of rules.
+/// The JUnit file of these dumps. `..` at the end of a line is for the names of rules.
 const JUNIT: &str = "<?xml version=\"1.0\" encoding=\"UTF-8\"?>
 <testsuite name=\"vmecheck\">
 <testcase name=\"a&lt;&quot;b&quot;&gt;?&amp;&#9;\">\
@@ -553,7 +554,7 @@ never asked: U2 U3 U4 ..
 </testsuite>
 ";
 
-/// Whether the JUnit file of a suite is this.
+/// Whether the JUnit file of a suite is the expected one.
 fn has_junit_file(alloc: Global, suite: &TestSuite, wanted: &str) -> bool {
     match junit_file(alloc, suite) {
         Ok(text) => has_lines(text.as_bytes(), wanted.as_bytes()),
@@ -561,7 +562,7 @@ fn has_junit_file(alloc: Global, suite: &TestSuite, wanted: &str) -> bool {
     }
 }
 
-/// Whether three dumps are told in their order.
+/// Whether three dumps are reported in their order.
 fn are_told_in_order(alloc: Global, suite: &mut TestSuite) -> bool {
     let mut dumps = [
         dump_of(b"a<\"b\">\x01&\t", READ, WHOLE),
@@ -583,19 +584,19 @@ fn are_told_in_order(alloc: Global, suite: &mut TestSuite) -> bool {
     )
 }
 
-/// Whether they are also in the file.
+/// Whether three dumps are reported in their order, on standard output and in the JUnit file.
 fn are_in_order(alloc: Global) -> bool {
     let mut suite = TestSuite::new(alloc, true);
     are_told_in_order(alloc, &mut suite) && has_junit_file(alloc, &suite, JUNIT)
 }
 
-/// Dumps are told in their order, and the JUnit file has a test case for each, with names as XML has them.
+/// Dumps are reported in their order, and the JUnit file has a test case for each, with escaped names.
 #[test]
 fn dumps_are_told_in_their_order(rt: HostRuntime) {
     assert!(rt; are_in_order(rt.alloc()));
 }
 
-/// Whether the outcome is this one, or the first of it and want of memory.
+/// Whether the result is the expected one, or a prefix of the expected output and want of memory.
 fn is_outcome_or_short(out: &[u8], err: &[u8], status: u8, wanted: WantedAudit<'_>) -> bool {
     if status == 4 {
         return wanted.out.starts_with(out) && err.ends_with(b"out of memory\n");
@@ -603,7 +604,8 @@ fn is_outcome_or_short(out: &[u8], err: &[u8], status: u8, wanted: WantedAudit<'
     status == wanted.status && out == wanted.out && err == wanted.err
 }
 
-/// Whether it is that of the dump of a body, written into these.
+/// Whether the audit of a dump with this body gives the expected result, or a prefix of the expected output and want of
+/// memory. `out` and `err` are its sinks.
 fn is_told_or_short_in(
     alloc: Global,
     body: &str,
@@ -625,7 +627,8 @@ fn is_told_or_short_in(
     is_outcome_or_short(out.bytes.as_slice(), err.bytes.as_slice(), status, wanted)
 }
 
-/// The same where there is room for what is told.
+/// Whether the audit of a dump with this body gives the expected result, or is short for want of memory, with `out` as
+/// a sink, or there is no memory for the other sink.
 fn is_told_or_short_by(alloc: Global, body: &str, out: &mut Page, wanted: WantedAudit<'_>) -> bool {
     match Page::with_room(alloc, 1_000) {
         Ok(mut err) => is_told_or_short_in(alloc, body, out, &mut err, wanted),
@@ -633,7 +636,8 @@ fn is_told_or_short_by(alloc: Global, body: &str, out: &mut Page, wanted: Wanted
     }
 }
 
-/// A dump of this body is told so; or, without memory, the first of it is, and the status is 4.
+/// Whether the audit of a dump with this body gives the expected result, or is short for want of memory, or there is no
+/// memory for the sinks.
 fn is_told_or_short(alloc: Global, body: &str, wanted: WantedAudit<'_>) -> bool {
     match Page::with_room(alloc, 1_000) {
         Ok(mut out) => is_told_or_short_by(alloc, body, &mut out, wanted),
@@ -641,7 +645,7 @@ fn is_told_or_short(alloc: Global, body: &str, wanted: WantedAudit<'_>) -> bool 
     }
 }
 
-/// Want of memory is told, and its status is 4, also where there is none for the line of a refusal.
+/// Want of memory is reported with status 4, also if there is no memory for the line of a refusal.
 #[test]
 fn want_of_memory_is_told(rt: HostRuntime) {
     let refused = WantedAudit {

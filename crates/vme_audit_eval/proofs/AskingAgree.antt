@@ -1,4 +1,4 @@
--- Each of these recordings computes.
+-- The rules that each of the recordings asks, computed.
 use Rattle.std.proofs.Common.{refl}
 use Rattle.vme_eval.proofs.Everything.{everything}
 use Rattle.vme_audit_eval.proofs.Computing.{asked}

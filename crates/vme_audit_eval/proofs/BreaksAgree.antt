@@ -1,4 +1,4 @@
--- Each of these recordings computes.
+-- The results of each of the recordings, computed.
 use Rattle.std.proofs.Common.{refl}
 use Rattle.vme_eval.proofs.Everything.{everything, rows}
 use Rattle.vme_audit_eval.proofs.Computing.{audits}

@@ -1,4 +1,4 @@
--- All that has to unfold for an audit to compute, beside what a verdict and a listing take.
+-- What is unfolded to compute an audit, besides what a verdict and a listing need.
 use Rattle.std.specs.Prelude.{ℕ}
 use Rattle.vme_audit.specs.Allowances.{is_allowed, stopped_at}
 use Rattle.vme_audit.specs.AskedRules.{asks, asks_in, happens, is_asked}

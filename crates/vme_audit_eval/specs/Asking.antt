@@ -1,4 +1,4 @@
--- Which rules recordings ask: for each event one in which it happens, and others near to that in which it doesn't.
+-- Which rules recordings ask: for each event one in which it happens, and similar ones in which it doesn't.
 use Rattle.std.specs.Prelude.{List, [], ◌∷◌}
 use Rattle.vme_trace.specs.LineNumbers.{AS, DS0, DS1, DTACK, BERR, IACK, WRITE, AM, BBSY, BR, SYSRESET, grant, iack}
 use Rattle.vme_trace.specs.Trace.{Trace}
@@ -10,7 +10,7 @@ use Rattle.vme_trace.specs.declared.step.Change.{Change}
 use Rattle.vme_eval.specs.Steps.{low, high, unknown_lines, steps_from, from_idle, from_idle_but}
 use Rattle.vme_audit_eval.specs.Audited.{Asking}
 
--- an idle bus on which BBSY is low, and these steps
+-- the steps `later` on an idle bus on which BBSY is Low
 abbrev pub on_busy_bus : List (List Change) → Trace
 on_busy_bus later = from_idle_but BBSY later
 
@@ -24,7 +24,7 @@ never_idle = asks (record { opening = unknown_lines; steps = steps_from 0 ((high
 unfoldable pub idle : Asking
 idle = asks (from_idle []) (U1 ∷ [])
 
--- a strobe rises, and the bus is idle with that: this isn't judged
+-- a strobe rises, and with that the bus is idle: the rise isn't judged
 unfoldable pub strobe_rises_at_the_start : Asking
 strobe_rises_at_the_start = asks (from_idle_but AS ((high AS ∷ []) ∷ [])) (U1 ∷ [])
 
@@ -35,7 +35,7 @@ cycle_starts = asks (on_busy_bus ((low AS ∷ []) ∷ [])) (U1 ∷ U2 ∷ S1 ∷
 unfoldable pub cycle_ends : Asking
 cycle_ends = asks (on_busy_bus ((low AS ∷ []) ∷ (high AS ∷ []) ∷ [])) (U1 ∷ U2 ∷ H7 ∷ S1 ∷ B3 ∷ [])
 
--- it falls as the bus is reset, and behind that
+-- the address strobe falls as the bus is reset, or after a reset
 unfoldable pub cycle_starts_with_a_reset : Asking
 cycle_starts_with_a_reset = asks (on_busy_bus ((low AS ∷ low SYSRESET ∷ []) ∷ [])) (U1 ∷ [])
 
@@ -75,15 +75,15 @@ answer_falls = asks (from_idle ((low DTACK ∷ []) ∷ [])) (U1 ∷ H4 ∷ H5 �
 unfoldable pub bus_error_falls : Asking
 bus_error_falls = asks (from_idle ((low BERR ∷ []) ∷ [])) (U1 ∷ H4 ∷ H5 ∷ [])
 
--- it falls as the bus is reset
+-- an answer line falls as the bus is reset
 unfoldable pub answer_falls_with_a_reset : Asking
 answer_falls_with_a_reset = asks (from_idle ((low DTACK ∷ low SYSRESET ∷ []) ∷ [])) (U1 ∷ [])
 
--- it rises behind the break, where the bus is idle with that
+-- after a break an answer line rises, and with that the bus is idle: the rise isn't judged
 unfoldable pub answer_rises_at_the_start : Asking
 answer_rises_at_the_start = asks (from_idle ((low DTACK ∷ []) ∷ (high DTACK ∷ []) ∷ [])) (U1 ∷ H4 ∷ H5 ∷ [])
 
--- a cycle starts behind a break, before the bus is idle, and once it was
+-- a cycle starts after a break, before the bus is idle again, or after it was
 unfoldable pub cycle_starts_behind_a_break : Asking
 cycle_starts_behind_a_break = asks (on_busy_bus ((low DTACK ∷ []) ∷ (low AS ∷ []) ∷ [])) (U1 ∷ H4 ∷ H5 ∷ [])
 
@@ -137,7 +137,7 @@ two_of_an_acknowledge_cycle =
     asks (answered_twice (low IACK ∷ []))
     (U1 ∷ U2 ∷ U3 ∷ H1 ∷ H2 ∷ H4 ∷ H5 ∷ H6 ∷ H8 ∷ S1 ∷ S2 ∷ B3 ∷ I4 ∷ I5 ∷ [])
 
--- one of each class is: an acknowledge alone has a rule for it
+-- one transfer of a cycle is answered, by its class: only an interrupt acknowledge has a rule for that
 unfoldable pub one_of_a_block_cycle : Asking
 one_of_a_block_cycle =
     asks (answered (low (AM 2) ∷ []) ((low DTACK ∷ []) ∷ []))
@@ -188,7 +188,7 @@ slot_ends_its_grant =
     ∷ (high (grant 3 1) ∷ []) ∷ []))
     (U1 ∷ G1 ∷ G2 ∷ G3 ∷ G4 ∷ G5 ∷ [])
 
--- the last slot grants on at level 0, with no grant
+-- the last slot passes a grant on at level 0, without having one
 unfoldable pub slot_grants : Asking
 slot_grants = asks (from_idle ((low (grant 0 3) ∷ []) ∷ [])) (U1 ∷ G1 ∷ G4 ∷ [])
 
@@ -199,7 +199,7 @@ bus_is_taken = asks (from_idle ((low BBSY ∷ []) ∷ [])) (U1 ∷ B1 ∷ B2 ∷
 unfoldable pub bus_is_let_go : Asking
 bus_is_let_go = asks (on_busy_bus ((high BBSY ∷ []) ∷ [])) (U1 ∷ [])
 
--- a slot acknowledges on: the first one, or the last one
+-- a slot passes an acknowledge on: the first slot, or the last one
 unfoldable pub slot_acknowledges : Asking
 slot_acknowledges = asks (from_idle ((low (iack 1) ∷ []) ∷ [])) (U1 ∷ I1 ∷ I2 ∷ I3 ∷ [])
 

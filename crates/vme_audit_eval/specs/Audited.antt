@@ -1,4 +1,4 @@
--- A worked recording, and what the definitions of its audit say of it.
+-- A worked recording, and the results that its audit should have.
 use Rattle.std.specs.Prelude.{◌≡◌, ℕ, List, [], ◌∷◌, None, map, filter}
 use Rattle.vme_trace.specs.Rules.{all_rules}
 use Rattle.vme_trace.specs.Trace.{Trace}
@@ -13,11 +13,11 @@ use Rattle.vme_audit.specs.declared.allowance.Allowance.{Allowance}
 use Rattle.vme_audit.specs.declared.counts.Counts.{Counts}
 use Rattle.vme_audit.specs.declared.outcome.Outcome.{Outcome}
 
--- where the parts of a recording open
+-- the instants at which the parts of a recording start
 abbrev pub starts_of : Trace → List ℕ
 starts_of t = map (λ (p : Part). p.start) (parts t)
 
--- a recording, what is allowed and how many answered transfers are wanted, and what its audit should say
+-- a recording, the allowed deviations, the number of answered transfers required, and the results of its audit
 pub record Audited : Type 0 where
   pub trace : Trace
   pub allowances : List Allowance
@@ -27,7 +27,7 @@ pub record Audited : Type 0 where
   pub counts : Counts
   pub outcome : Outcome
 
--- each step may stand where it stands, and the definitions say so
+-- the recording is well formed, and its audit has these results by the definitions
 pub record AuditAgrees (r : Audited) : Type 0 where
   pub well_formed : malformed_step r.trace ≡ None
   pub starts : starts_of r.trace ≡ r.starts

@@ -1,4 +1,4 @@
--- Recordings with several breaks, and what is judged behind each.
+-- Recordings with several breaks, and what is judged after each.
 use Rattle.std.specs.Prelude.{ℕ, List, [], ◌∷◌, None, Some}
 use Rattle.vme_trace.specs.LineNumbers.{AS, DS0, DTACK, BERR, AM, BBSY, SYSRESET}
 use Rattle.vme_trace.specs.declared.rule.Rule.{Rule}
@@ -54,18 +54,18 @@ two_stray_answers = record {
   outcome = Broken;
 }
 
--- one of them is allowed
+-- one of the two stray answers is allowed
 unfoldable pub one_of_two_allowed : Audited
 one_of_two_allowed = record two_stray_answers { allowances = allow_on H4 BERR ∷ [] }
 
--- each is, by its line
+-- each of the two stray answers is allowed by its line
 unfoldable pub both_allowed_by_line : Audited
 both_allowed_by_line = record two_stray_answers {
   allowances = allow_on H4 BERR ∷ allow_on H4 DTACK ∷ [];
   outcome = Conforming 2;
 }
 
--- both are, by their rule
+-- both stray answers are allowed by their rule
 unfoldable pub both_allowed_by_rule : Audited
 both_allowed_by_rule = record two_stray_answers { allowances = allow H4 ∷ []; outcome = Conforming 2 }
 
@@ -85,7 +85,7 @@ stray_answer_before_an_idle_instant = record {
   outcome = NotCovered (NeverIdleBehind 2);
 }
 
--- the bus is taken without a grant, which is an idle instant: judging goes on from that instant on, and a read follows
+-- the bus is taken without a grant, at an idle instant: judging continues from that instant on, and a read follows
 unfoldable pub break_at_an_idle_instant : Audited
 break_at_an_idle_instant = record {
   trace =
@@ -99,7 +99,7 @@ break_at_an_idle_instant = record {
   outcome = Conforming 1;
 }
 
--- so is the next instant, at which another rule is broken: a break at each of two instants that follow one another
+-- the instant after the break is judged too, and another rule is broken there: breaks at two consecutive instants
 unfoldable pub break_at_the_next_instant : Audited
 break_at_the_next_instant = record {
   trace = from_idle ((low BBSY ∷ []) ∷ (low DTACK ∷ []) ∷ []);
@@ -111,7 +111,7 @@ break_at_the_next_instant = record {
   outcome = Broken;
 }
 
--- two rules are broken at one instant: the second isn't told
+-- two rules are broken at one instant: only the first is reported
 unfoldable pub two_breaks_at_one_instant : Audited
 two_breaks_at_one_instant = record {
   trace = from_idle ((low DTACK ∷ low BBSY ∷ []) ∷ (high DTACK ∷ []) ∷ []);
@@ -123,7 +123,7 @@ two_breaks_at_one_instant = record {
   outcome = Conforming 1;
 }
 
--- the address strobe is lost and found again: judging goes on, and meets a stray answer
+-- the address strobe becomes unknown and then High again: judging continues, and finds a stray answer
 unfoldable pub break_after_a_lost_strobe : Audited
 break_after_a_lost_strobe = record {
   trace = from_idle ((unknown AS ∷ []) ∷ (high AS ∷ []) ∷ (low DTACK ∷ []) ∷ []);
@@ -135,11 +135,11 @@ break_after_a_lost_strobe = record {
   outcome = Broken;
 }
 
--- the stray answer is allowed, and the loss isn't
+-- the stray answer is allowed, and the unknown level isn't
 unfoldable pub lost_strobe_alone : Audited
 lost_strobe_alone = record break_after_a_lost_strobe { allowances = allow H4 ∷ []; outcome = Unreadable }
 
--- a stray answer while the strobe is unknown isn't judged, and a second line is lost without a word
+-- while the strobe is unknown, a stray answer isn't judged, and a second line that becomes unknown isn't reported
 unfoldable pub nothing_judged_while_lost : Audited
 nothing_judged_while_lost = record {
   trace = from_idle ((unknown AS ∷ []) ∷ (low DTACK ∷ []) ∷ (unknown DS0 ∷ high DTACK ∷ []) ∷ (high DS0 ∷ []) ∷ []);
@@ -151,7 +151,7 @@ nothing_judged_while_lost = record {
   outcome = NotCovered (NeverIdleBehind 2);
 }
 
--- a reset amid what isn't judged, and one that ends what is: the second alone is counted
+-- a reset while nothing is judged, and one that ends judging: only the second is counted
 unfoldable pub resets_between : Audited
 resets_between = record {
   trace =
@@ -188,7 +188,7 @@ idle_break_in_the_last_step = record {
   outcome = NotCovered (FewAnswers 0 1);
 }
 
--- a cycle without the bus: it is cut off by the break at its start, and has no row
+-- a cycle while the bus is free: the break at its start cuts it off, and it has no row
 unfoldable pub cycle_cut_off_at_its_start : Audited
 cycle_cut_off_at_its_start = record {
   trace = from_idle ((low AS ∷ []) ∷ (high AS ∷ []) ∷ []);

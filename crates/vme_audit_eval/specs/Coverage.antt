@@ -1,4 +1,4 @@
--- What is counted of recordings, and which are covered.
+-- What is counted of recordings, and which recordings are covered.
 use Rattle.std.specs.Prelude.{List, [], ◌∷◌}
 use Rattle.vme_trace.specs.LineNumbers.{AS, DS0, DTACK, BERR, IACK, WRITE, AM, BBSY, SYSRESET}
 use Rattle.vme_trace.specs.Trace.{Trace}
@@ -12,7 +12,7 @@ use Rattle.vme_audit_eval.specs.Audited.{Audited}
 use Rattle.vme_audit_eval.specs.Breaks.{allow, allow_on, at_instant, nothing_counted, one_read, two_stray_answers}
 use Rattle.vme_audit_eval.specs.Breaks.{break_in_the_last_step, nothing_judged_while_lost}
 
--- a cycle of one transfer on a busy bus, behind some changes, by an answer line
+-- a cycle of one transfer on a busy bus, after `changes`; `later` has its answer, if there is one
 abbrev pub transfers : List Change → List (List Change) → Trace
 transfers changes later = from_idle_but BBSY (changes ∷ (low AS ∷ []) ∷ (low DS0 ∷ []) ∷ later)
 
@@ -28,7 +28,7 @@ nothing_known = record {
   outcome = NotCovered NeverIdle;
 }
 
--- nothing but an idle opening, of which nothing is asked
+-- only an idle opening, and no answered transfer is required
 unfoldable pub idle_and_nothing_wanted : Audited
 idle_and_nothing_wanted = record {
   trace = record { opening = idle_lines; steps = [] };
@@ -40,11 +40,11 @@ idle_and_nothing_wanted = record {
   outcome = Conforming 0;
 }
 
--- the same where an answer is wanted
+-- only an idle opening, and one answered transfer is required
 unfoldable pub idle_and_one_wanted : Audited
 idle_and_one_wanted = record idle_and_nothing_wanted { wanted = 1; outcome = NotCovered (FewAnswers 0 1) }
 
--- a read in a tenure, where as many answers are wanted
+-- a read in a tenure, and one answered transfer is required
 unfoldable pub read_in_a_tenure : Audited
 read_in_a_tenure = record {
   trace =
@@ -58,11 +58,12 @@ read_in_a_tenure = record {
   outcome = Conforming 0;
 }
 
--- the same where one more is
+-- a read in a tenure, and two answered transfers are required
 unfoldable pub one_answer_of_two : Audited
 one_answer_of_two = record read_in_a_tenure { wanted = 2; outcome = NotCovered (FewAnswers 1 2) }
 
--- a break in a tenure: it is counted in the part in which it began, and not where it is open at a start
+-- a break in a tenure: the tenure is counted in the part in which it starts, and not in the part at whose start it is
+-- open
 unfoldable pub tenure_cut_off : Audited
 tenure_cut_off = record {
   trace = once_granted ((low DTACK ∷ []) ∷ (high DTACK ∷ []) ∷ []);
@@ -123,11 +124,11 @@ bus_hangs = record {
   outcome = NotCovered (Hang 4 30);
 }
 
--- the same where an answer is wanted, which isn't there
+-- a transfer without an answer at the end, and one answered transfer is required: the missing answer takes precedence
 unfoldable pub bus_hangs_and_one_wanted : Audited
 bus_hangs_and_one_wanted = record bus_hangs { wanted = 1; outcome = NotCovered (FewAnswers 0 1) }
 
--- it is reset: no hang
+-- a reset ends the transfer without an answer: it doesn't hang
 unfoldable pub hang_that_is_reset : Audited
 hang_that_is_reset = record bus_hangs {
   trace = transfers (low (AM 1) ∷ low WRITE ∷ []) ((low SYSRESET ∷ []) ∷ []);
@@ -135,7 +136,7 @@ hang_that_is_reset = record bus_hangs {
   outcome = Conforming 0;
 }
 
--- and hangs behind that
+-- after a reset another transfer stays without an answer: it hangs
 unfoldable pub hang_behind_a_reset : Audited
 hang_behind_a_reset = record {
   trace =
@@ -148,7 +149,7 @@ hang_behind_a_reset = record {
   outcome = NotCovered (Hang 5 40);
 }
 
--- a hang behind a break
+-- a transfer after a break hangs
 unfoldable pub hang_behind_a_break : Audited
 hang_behind_a_break = record {
   trace = from_idle ((low DTACK ∷ []) ∷ (high DTACK ∷ []) ∷ (low DS0 ∷ []) ∷ []);
@@ -160,7 +161,7 @@ hang_behind_a_break = record {
   outcome = NotCovered (Hang 4 30);
 }
 
--- a transfer that ends by a break without an answer: no hang
+-- a break ends a transfer without an answer: it doesn't hang
 unfoldable pub transfer_cut_off : Audited
 transfer_cut_off = record {
   trace = from_idle ((low DS0 ∷ []) ∷ (high DS0 ∷ []) ∷ []);
@@ -172,14 +173,14 @@ transfer_cut_off = record {
   outcome = Conforming 1;
 }
 
--- what is broken is told before what isn't covered, and so is what can't be read
+-- a break takes precedence over a gap in the coverage, and so does what can't be read
 unfoldable pub broken_and_not_covered : Audited
 broken_and_not_covered = record break_in_the_last_step { allowances = []; outcome = Broken }
 
 unfoldable pub unreadable_and_not_covered : Audited
 unreadable_and_not_covered = record nothing_judged_while_lost { allowances = []; outcome = Unreadable }
 
--- that nothing was judged is told before that answers are wanted
+-- that nothing was judged takes precedence over missing answers
 unfoldable pub never_idle_and_one_wanted : Audited
 never_idle_and_one_wanted = record break_in_the_last_step { wanted = 1 }
 
@@ -191,7 +192,7 @@ stopped_at_the_first = record two_stray_answers {
   breaks = at_instant 2 10 H4 DTACK ∷ [];
 }
 
--- at the first that isn't allowed, which is the second: the bus isn't idle any more
+-- reading stops at the first break that isn't allowed, the second one, after which the bus isn't idle
 unfoldable pub stopped_at_the_second : Audited
 stopped_at_the_second = record two_stray_answers {
   trace = stopped_at (allow_on H4 DTACK ∷ []) 1 two_stray_answers.trace;
@@ -199,7 +200,7 @@ stopped_at_the_second = record two_stray_answers {
   outcome = NotCovered (NeverIdleBehind 4);
 }
 
--- at the third, of which there is none: the whole recording is read
+-- reading would stop at the third break that isn't allowed, of which there is none: the whole recording is read
 unfoldable pub stopped_nowhere : Audited
 stopped_nowhere = record two_stray_answers {
   trace = stopped_at [] 3 two_stray_answers.trace;

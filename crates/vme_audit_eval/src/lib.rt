@@ -1,14 +1,13 @@
-//! What the definitions of an audit say of worked recordings, by computing them.
+//! The results of an audit's definitions for worked recordings, computed by the prover.
 //!
-//! Each function is a law: its contract is what it says of the recordings of one module of
-//! `specs/`, which ends in the list of them, and the prover computes it.
+//! Each function is a law. Its contract is that the recordings of one module of `specs/` have the
+//! results beside them; the module ends in the list of its recordings.
 //!
 //! - [`several_breaks`]: all breaks, and what is judged after each.
 //! - [`coverage`]: what is counted, and which recordings are covered.
 //! - [`asking`]: which rules are asked.
 //!
-//! Nothing is said of recordings that don't stand here. Start reading in `specs/Audited`, then
-//! `specs/Breaks`.
+//! Nothing is stated of other recordings. Start reading in `specs/Audited`, then `specs/Breaks`.
 #![tactic(auto)]
 
 ghost use Rattle.vme_audit_eval.specs.Asking.{asking};
@@ -16,13 +15,14 @@ ghost use Rattle.vme_audit_eval.specs.Audited.{AllAsk, AllAudits};
 ghost use Rattle.vme_audit_eval.specs.Breaks.{several_breaks};
 ghost use Rattle.vme_audit_eval.specs.Coverage.{coverage};
 
-/// All breaks of recordings, and what is judged behind each: anew from the first idle instant on, that of the break
-/// included.
+/// All breaks of recordings, and what is judged after each: judging starts anew at the first idle
+/// instant from that of the break on.
 pub fn several_breaks()
     ensures { AllAudits several_breaks }
 {}
 
-/// What is counted, and the outcome: which recordings are covered, by what is wanted.
+/// The counts and the outcome: which recordings are covered, by the number of answered transfers
+/// required.
 pub fn coverage()
     ensures { AllAudits coverage }
 {}

@@ -23,7 +23,7 @@ use Rattle.vme_auditor.specs.declared.asked.AskedEvents.{AskedEvents}
 use Rattle.vme_audit_lines.specs.AuditLines.{name_unless_asked, named_behind, names_text, refusal_behind}
 use Rattle.vme_audit_lines.specs.AuditLines.{unasked_among, unasked_line}
 
--- what a call says where it succeeds says something else
+-- if the success of a call gives `P`, and `P` gives `Q`, the success gives `Q`
 pub on_ok : {T E : Type 0} (r : Result T E) (P Q : Type 0) → OnOk r P → (P → Q) → OnOk r Q
 on_ok (Ok x) P Q h f = f h
 on_ok (Err e) P Q h f = tt
@@ -49,7 +49,7 @@ names-more e rules i d lt =
     by_test true = refl
     by_test false = append-nil (named_behind rule)
 
--- one rule more was looked at
+-- the text after one more rule
 pub names-step : (e : AskedEvents) (rules : List Rule) (i : ℕ) (d : Rule) (old so_far new : List ℕ)
     → i < length rules → so_far ≡ old ++ names_text (unasked_among e (take i rules))
     → new ≡ so_far ++ name_unless_asked e (get_or rules i d)
@@ -63,7 +63,7 @@ pub no-names : (e : AskedEvents) (rules : List Rule) → names_text (unasked_amo
 unfolding names_text unasked_among
 no-names e rules = refl
 
--- where no rule is named there is no line
+-- if no rule is named, there is no line
 pub no-line : (head : List ℕ) (rules : List Rule) → length (names_text rules) ≡ 0 → unasked_line head rules ≡ []
 unfolding names_text
 no-line head [] none = refl
@@ -109,7 +109,7 @@ listing-behind (list.BadRow row) = refl
 listing-behind (list.Unsorted row) = refl
 listing-behind list.Memory = refl
 
--- the line that tells a refusal begins with the name of the program
+-- the line of a refusal begins with the name of the program
 pub refusal-behind : (r : Refusal) → refusal_text r ≡ program ++ behind_program (refusal_text r)
 refusal-behind (CannotOpen input) = refl
 refusal-behind (CannotRead input) = refl
@@ -127,7 +127,7 @@ line-behind r text is =
     (omega (arith, length-drop (length program) text))
     ∙ ap (drop (length program)) (is ∙ ap line_of (refusal-behind r))
 
--- another refusal than that an input can't be opened or read
+-- a refusal other than that an input can't be opened or read
 pub behind-other : (r : Refusal) → ((input : Input) → r ≡ CannotOpen input → ⊥)
     → ((input : Input) → r ≡ CannotRead input → ⊥)
     → refusal_behind r ≡ behind_program (refusal_text r)

@@ -1,4 +1,4 @@
--- The lines that an audit writes, in ASCII but for the names of dumps.
+-- The lines that an audit writes, in ASCII except for the names of dumps.
 use Rattle.std.specs.Prelude.{ℕ, ◌+◌, ◌==◌, not, List, [], ◌∷◌, ◌++◌, codes, decimal, drop, length}
 use Rattle.std.specs.Prelude.{filter, flat_map, map, nat_lt, ◌||◌, if◌then◌else◌}
 use Rattle.vme_trace.specs.Rules.{all_rules, is_unreadable, rule_name}
@@ -30,13 +30,13 @@ use Rattle.vme_audit_lines.specs.declared.category.BreakCategory.TheVariants as 
 abbrev pub shown : ℕ → ℕ
 shown byte = if nat_lt byte 32 || (byte == 127) then 63 else byte
 
--- what each line about a dump begins with
+-- the beginning of each line about a dump
 abbrev pub head_of : List ℕ → List ℕ
 head_of name = map shown name ++ codes ": "
 
 -- ---- breaks
 
--- how a break counts where some deviations are allowed
+-- how a break counts with these allowances
 abbrev pub category_of : List Allowance → Break → BreakCategory
 category_of allowances b =
     if is_allowed allowances b then category.Allowed
@@ -71,11 +71,11 @@ transfer_counts_text c =
     ++ codes " write; " ++ decimal c.by_dtack ++ codes " by DTACK, " ++ decimal c.by_berr ++ codes " by BERR, "
     ++ decimal c.pending ++ codes " pending)"
 
--- those of some rules of which nothing happened that they speak of
+-- the rules among `rules` whose event didn't happen
 unfoldable pub unasked_among : AskedEvents → List Rule → List Rule
 unasked_among e rules = filter (λ r. not (asks_by e r)) rules
 
--- those of all rules, in their order
+-- the rules among all rules whose event didn't happen, in their order
 abbrev pub unasked : AskedEvents → List Rule
 unasked e = unasked_among e all_rules
 
@@ -85,11 +85,11 @@ named_behind r = 32 ∷ rule_name r
 abbrev pub name_unless_asked : AskedEvents → Rule → List ℕ
 name_unless_asked e r = if asks_by e r then [] else named_behind r
 
--- the names of some rules, each behind a space
+-- the names of some rules, each after a space
 unfoldable pub names_text : List Rule → List ℕ
 names_text rules = flat_map named_behind rules
 
--- the line that names the rules that are never asked, if there are such
+-- the line that names the rules that are never asked, if there are any
 abbrev pub unasked_line : List ℕ → List Rule → List ℕ
 unasked_line head [] = []
 unasked_line head (r ∷ rs) = head ++ line_of (codes "never asked:" ++ names_text (r ∷ rs))
@@ -128,13 +128,14 @@ outcome_status (NotCovered gap) = 6
 
 -- ---- refusals
 
--- what can't be done with an input: behind the name of a dump it isn't called one
+-- what can't be done with an input; after the name of a dump the word `dump` is left out
 abbrev pub cannot_text : List ℕ → Input → List ℕ
 cannot_text reason Binding = reason ++ codes " binding"
 cannot_text reason Dump = reason
 cannot_text reason Listing = reason ++ codes " listing"
 
--- why there is no outcome of a dump, behind its name: what else stands behind the name of the program
+-- why there is no outcome of a dump, after its name: what can't be done with an input, or else the text that a refusal
+-- has after the name of the program
 abbrev pub refusal_behind : Refusal → List ℕ
 refusal_behind (CannotOpen input) = cannot_text (codes "cannot open") input
 refusal_behind (CannotRead input) = cannot_text (codes "cannot read") input

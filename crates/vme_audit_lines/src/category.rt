@@ -13,13 +13,13 @@ use vme_auditor::AuditBreak;
 pub enum BreakCategory {
     /// The recording is wrong.
     Broken,
-    /// It can't be read there: a line is unknown that has to be known.
+    /// The recording can't be read there: a line is unknown whose level must be known.
     Unreadable,
-    /// It is a known deviation, and allowed.
+    /// The break is a known deviation, and is allowed.
     Allowed,
 }
 
-/// Whether an allowance is of the rule that is broken, and of the line that is named or of no line.
+/// Whether an allowance is for the rule of break `found`, and for its line or for any line.
 fn allows(found: &AuditBreak, allowance: &Allowance) -> bool
     ensures { result ≡ allows_break (as_break found.now) allowance.now }
 {
@@ -38,7 +38,7 @@ pub fn is_allowed(allowances: &[Allowance], found: &AuditBreak) -> bool
 }
 
 impl BreakCategory {
-    /// How a break counts where some deviations are allowed.
+    /// How a break counts with these allowances.
     pub fn of(allowances: &[Allowance], found: &AuditBreak) -> BreakCategory
         ensures { result ≡ category_of allowances.now (as_break found.now) }
     {

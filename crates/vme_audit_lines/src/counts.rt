@@ -1,4 +1,4 @@
-//! What a recording has, in lines.
+//! The counts of a recording, as lines.
 
 ghost use Rattle.std.specs.Prelude.{◌≡◌, ◌++◌, IfOk, OnOk, decimal};
 ghost use Rattle.vme_stream.specs.Texts.{line_of};
@@ -12,8 +12,8 @@ use vme_auditor::{AskedEvents, AuditFindings, BreakCounts};
 use vme_text::Text;
 use vme_trace::Rule;
 
-/// The lines that say what a recording has, each behind a head: its breaks by how they count; resets, tenures and
-/// cycles; transfers; and the rules that it never asks, if there are such.
+/// The lines of counts, each after `head`: breaks by how they count; resets, tenures and cycles; transfers; and the
+/// rules that are never asked, if there are any.
 pub fn count_lines(
     alloc: Global,
     head: &[u8],
@@ -30,7 +30,8 @@ pub fn count_lines(
     Ok(text)
 }
 
-/// Appends a number, and the text behind it. Without memory the text ends somewhere in them; so it is of the others.
+/// Appends a number, and `behind` after it. If memory runs out, here and in the functions below, only a part is
+/// appended.
 fn push_number(alloc: Global, text: &mut Text, number: u64, behind: &[u8]) -> Result<(), AllocError>
     ensures { OnOk result (text.new ≡ text.old ++ decimal number ++ behind.now) }
 {
@@ -38,7 +39,7 @@ fn push_number(alloc: Global, text: &mut Text, number: u64, behind: &[u8]) -> Re
     text.push(behind)
 }
 
-/// The same of a sum.
+/// Appends a sum, and `behind` after it.
 fn push_sum(alloc: Global, text: &mut Text, sum: u128, behind: &[u8]) -> Result<(), AllocError>
     ensures { OnOk result (text.new ≡ text.old ++ decimal sum ++ behind.now) }
 {
@@ -101,7 +102,7 @@ fn push_transfers(
     push_number(alloc, text, counts.pending, b" pending)\n")
 }
 
-/// Appends the name of a rule behind a space, if the rule is never asked.
+/// Appends a space and the name of a rule, if the rule is never asked.
 fn push_unless_asked(text: &mut Text, rule: Rule, events: &AskedEvents) -> Result<(), AllocError>
     ensures { OnOk result (text.new ≡ text.old ++ name_unless_asked events.now rule) }
 {
@@ -113,7 +114,7 @@ fn push_unless_asked(text: &mut Text, rule: Rule, events: &AskedEvents) -> Resul
     text.push(name.as_bytes())
 }
 
-/// Appends the names of those of some rules that are never asked, each behind a space.
+/// Appends the names of the rules among `rules` that are never asked, each after a space.
 fn push_names(text: &mut Text, rules: &[Rule], events: &AskedEvents) -> Result<(), AllocError>
     ensures { OnOk result (text.new ≡ text.old ++ names_text (unasked_among events.now rules.now)) }
 {
@@ -123,7 +124,7 @@ fn push_names(text: &mut Text, rules: &[Rule], events: &AskedEvents) -> Result<(
     Ok(())
 }
 
-/// Appends the line of the rules that are never asked, if there are such.
+/// Appends the line of the rules that are never asked, if there are any.
 fn push_unasked(
     alloc: Global,
     text: &mut Text,

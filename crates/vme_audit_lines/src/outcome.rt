@@ -1,4 +1,4 @@
-//! What an audit comes to, in a line and as an exit status.
+//! The outcome of an audit, as a line and as an exit status.
 
 ghost use Rattle.std.specs.Prelude.{◌≡◌, ◌++◌, IfOk, OnOk, codes, decimal};
 ghost use Rattle.vme_stream.specs.Texts.{line_of};
@@ -9,7 +9,7 @@ use std::alloc::{AllocError, Global};
 use vme_audit::{CoverageGap, Outcome};
 use vme_text::Text;
 
-/// The line that tells what an audit comes to, behind a head.
+/// The line of an outcome, after `head`.
 pub fn outcome_line(alloc: Global, head: &[u8], outcome: &Outcome) -> Result<Text, AllocError>
     ensures { IfOk result (λ text. text ≡ head.now ++ line_of (outcome_text outcome.now)) }
 {
@@ -20,7 +20,7 @@ pub fn outcome_line(alloc: Global, head: &[u8], outcome: &Outcome) -> Result<Tex
     Ok(text)
 }
 
-/// Appends what an audit comes to. Without memory the text ends somewhere in that.
+/// Appends an outcome. If memory runs out, only a part of it is appended.
 fn push_outcome(alloc: Global, text: &mut Text, outcome: &Outcome) -> Result<(), AllocError>
     ensures { OnOk result (text.new ≡ text.old ++ outcome_text outcome.now) }
 {
@@ -32,7 +32,7 @@ fn push_outcome(alloc: Global, text: &mut Text, outcome: &Outcome) -> Result<(),
     }
 }
 
-/// Appends that nothing is broken but what is allowed. Without memory the text ends somewhere in that.
+/// Appends that nothing is broken except what is allowed. If memory runs out, only a part is appended.
 fn push_conforming(alloc: Global, text: &mut Text, allowed: u64) -> Result<(), AllocError>
     ensures { OnOk result (text.new ≡ text.old ++ conforming_text allowed) }
 {
@@ -43,7 +43,7 @@ fn push_conforming(alloc: Global, text: &mut Text, allowed: u64) -> Result<(), A
     }
 }
 
-/// Appends the same where so much is allowed.
+/// Appends that nothing is broken except `allowed` allowed breaks.
 fn push_allowed(alloc: Global, text: &mut Text, allowed: u64) -> Result<(), AllocError>
     ensures { OnOk result (text.new ≡ text.old ++ codes "conforming with " ++ decimal allowed ++ codes " allowed") }
 {
@@ -52,7 +52,7 @@ fn push_allowed(alloc: Global, text: &mut Text, allowed: u64) -> Result<(), Allo
     text.push(b" allowed")
 }
 
-/// Appends why a recording isn't covered. Without memory the text ends somewhere in that.
+/// Appends why a recording isn't covered. If memory runs out, only a part is appended.
 fn push_gap(alloc: Global, text: &mut Text, gap: &CoverageGap) -> Result<(), AllocError>
     ensures { OnOk result (text.new ≡ text.old ++ gap_text gap.now) }
 {
@@ -79,7 +79,7 @@ fn push_gap(alloc: Global, text: &mut Text, gap: &CoverageGap) -> Result<(), All
     }
 }
 
-/// The exit status by what an audit comes to: 0 conforming, 1 broken, 2 unreadable, 6 not covered.
+/// The exit status of an outcome: 0 conforming, 1 broken, 2 unreadable, 6 not covered.
 pub fn outcome_status(outcome: &Outcome) -> u8
     ensures { result ≡ status_of outcome.now }
 {

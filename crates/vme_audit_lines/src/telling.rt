@@ -1,4 +1,4 @@
-//! The lines about a dump: what each begins with, its breaks, and why there is no outcome.
+//! The lines about a dump: their beginning, its breaks, and why there is no outcome.
 
 ghost use Rattle.std.specs.Prelude.{◌≡◌, ◌++◌, IfOk, OnOk};
 ghost use Rattle.vme_stream.specs.Texts.{line_of};
@@ -23,7 +23,7 @@ fn shown(byte: u8) -> u8
     }
 }
 
-/// What each line about a dump of this name begins with. Bytes below 20 and 7F, in hexadecimal, are written as `?`.
+/// The beginning of each line about a dump of this name. Bytes below 20 and 7F, in hexadecimal, are written as `?`.
 pub fn dump_head(alloc: Global, name: &[u8]) -> Result<Text, AllocError>
     ensures { IfOk result (λ text. text ≡ head_of name.now) }
 {
@@ -35,7 +35,7 @@ pub fn dump_head(alloc: Global, name: &[u8]) -> Result<Text, AllocError>
     Ok(text)
 }
 
-/// The word for how a break counts, and a space.
+/// The word for how a break counts, and a space after it.
 fn category_name(category: BreakCategory) -> &'static [u8]
     ensures { result.now ≡ name_of category }
 {
@@ -46,7 +46,7 @@ fn category_name(category: BreakCategory) -> &'static [u8]
     }
 }
 
-/// The line that tells a break, behind a head.
+/// The line of a break, after `head`.
 pub fn break_line(
     alloc: Global,
     head: &[u8],
@@ -71,7 +71,7 @@ pub fn break_line(
     Ok(text)
 }
 
-/// Appends what can't be done with an input. Without memory the text ends somewhere in that.
+/// Appends what can't be done with an input. If memory runs out, only a part is appended.
 fn push_cannot(text: &mut Text, reason: &[u8], input: Input) -> Result<(), AllocError>
     ensures { OnOk result (text.new ≡ text.old ++ line_of (cannot_text reason.now input)) }
 {
@@ -83,7 +83,7 @@ fn push_cannot(text: &mut Text, reason: &[u8], input: Input) -> Result<(), Alloc
     }
 }
 
-/// Appends why there is no outcome of a dump. Without memory the text ends somewhere in that.
+/// Appends why there is no outcome of a dump. If memory runs out, only a part is appended.
 fn push_refusal(text: &mut Text, refusal: &Refusal) -> Result<(), AllocError>
     ensures { OnOk result (text.new ≡ text.old ++ line_of (refusal_behind refusal.now)) }
 {
@@ -97,8 +97,8 @@ fn push_refusal(text: &mut Text, refusal: &Refusal) -> Result<(), AllocError>
     }
 }
 
-/// Why there is no outcome of a dump, behind its name: the line that [`refusal_line`] has behind the name of the
-/// program, but that a dump that can't be opened or read isn't called one.
+/// Why there is no outcome of a dump, as the text after the dump's name: the text that [`refusal_line`] has after the
+/// program's name. If the dump can't be opened or read, the word `dump` is left out.
 pub fn refusal_text(alloc: Global, refusal: &Refusal) -> Result<Text, AllocError>
     ensures { IfOk result (λ text. text ≡ line_of (refusal_behind refusal.now)) }
 {

@@ -6,7 +6,7 @@ use vme_auditor::{AuditBreak, BreakCounts};
 use vme_step_auditor::{AuditRules, CategorizedBreak, StepAuditor};
 use vme_trace::{Change, Changes, LINE_COUNT, Level, Line, Lines, Rule, Step};
 
-/// A strobe that is lost, a stray answer, and a read with a second answer line: what changes at each step.
+/// A strobe that becomes unknown, a stray answer, and a read with a second answer line: the changes of each step.
 static STEPS: [&str; 12] = [
     "AS=x",
     "AS=1",
@@ -25,21 +25,21 @@ static STEPS: [&str; 12] = [
 /// How a break counts, and its instant, time, rule and line.
 type KnownBreak = (BreakCategory, u64, u64, Rule, &'static str);
 
-/// Its breaks, as the second judge tells them, and how each counts where H4 on DTACK* is allowed.
+/// The breaks of these steps by the second judge, and how each counts where H4 on DTACK* is allowed.
 static BREAKS: [KnownBreak; 3] = [
     (BreakCategory::Unreadable, 1, 0, Rule::U1, "AS"),
     (BreakCategory::Allowed, 3, 20, Rule::H4, "DTACK"),
     (BreakCategory::Broken, 9, 80, Rule::H5, "DTACK"),
 ];
 
-/// Puts a line on a level, where it is on the backplane.
+/// Sets a line to a level, if the backplane has it.
 fn put(lines: &mut Lines, line: Line, level: Level) {
     if lines.has(line) {
         lines.set(line, level);
     }
 }
 
-/// Every line is high, but BBSY*.
+/// Every line is High, except BBSY*.
 fn opening() -> Option<Lines> {
     let mut opening = Lines::new(1)?;
     for number in 0..LINE_COUNT {
@@ -49,7 +49,7 @@ fn opening() -> Option<Lines> {
     Some(opening)
 }
 
-/// The change that a word says, as AS=0.
+/// The change of a word, as AS=0.
 fn change_of(word: &str) -> Option<Change> {
     let (name, level) = word.split_once('=')?;
     let level = match level.as_bytes() {
@@ -63,7 +63,7 @@ fn change_of(word: &str) -> Option<Change> {
     })
 }
 
-/// The changes that a text says.
+/// The changes of the words of a text.
 fn changes_of(alloc: Global, text: &str) -> Option<Vec<Change>> {
     let mut changes = Vec::new(alloc);
     for word in text.split_whitespace() {
@@ -72,7 +72,7 @@ fn changes_of(alloc: Global, text: &str) -> Option<Vec<Change>> {
     Some(changes)
 }
 
-/// The step of these. Steps stand ten units apart.
+/// The step of index `number`, with the changes of `text`. Steps are ten time units apart.
 fn step_of(alloc: Global, number: usize, text: &str) -> Option<Step> {
     let changes = changes_of(alloc, text)?;
     let list = SmallVec::from_slice(alloc, changes.as_slice()).ok()?;
@@ -82,7 +82,7 @@ fn step_of(alloc: Global, number: usize, text: &str) -> Option<Step> {
     })
 }
 
-/// A break that is told with its standing.
+/// A known break with its category.
 fn told_of(told: &KnownBreak) -> Option<CategorizedBreak> {
     let (category, instant, time, rule, line) = *told;
     Some(CategorizedBreak {
@@ -96,7 +96,7 @@ fn told_of(told: &KnownBreak) -> Option<CategorizedBreak> {
     })
 }
 
-/// Whether these are the first breaks.
+/// Whether `told` are the first of the known breaks.
 fn are_first_breaks(told: &[CategorizedBreak]) -> bool {
     for (found, known) in told.iter().zip(BREAKS.iter()) {
         let is_so = match told_of(known) {
@@ -110,7 +110,7 @@ fn are_first_breaks(told: &[CategorizedBreak]) -> bool {
     told.len() <= BREAKS.len()
 }
 
-/// Reads the steps, and adds the breaks that are told.
+/// Reads the steps, and adds the breaks that are returned to `told`.
 fn read_steps(
     alloc: Global,
     auditor: &mut StepAuditor<'_>,
@@ -125,11 +125,11 @@ fn read_steps(
     Some(())
 }
 
-/// What an audit comes to: how many breaks are told, whether it is stopped, the counts of breaks, how many transfers
-/// were answered by BERR*, and the outcome.
+/// The result of an audit: how many breaks are returned, whether it is stopped, the counts of breaks, how many
+/// transfers BERR* answered, and the outcome.
 type EndedAudit = (usize, bool, BreakCounts, u64, Outcome);
 
-/// What an audit of the recording comes to that stops at some number of breaks, which are the first of those known.
+/// The result of an audit of the recording with limit `stop`. The returned breaks must be the first of the known ones.
 fn ended(alloc: Global, stop: Option<u64>) -> Option<EndedAudit> {
     let allowances = [Allowance {
         rule: Rule::H4,

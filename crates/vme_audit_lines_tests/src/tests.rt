@@ -25,7 +25,7 @@ const LATE: AuditBreak = AuditBreak {
     line: Line::DTACK,
 };
 
-/// The events of a recording in which no single cycle and no acknowledge goes on.
+/// The events of a recording without a further transfer of a single cycle, and without a further one of an acknowledge.
 const MANY_EVENTS: AskedEvents = AskedEvents {
     stretch: true,
     cycle: true,
@@ -72,7 +72,7 @@ fn names_are_shown(rt: HostRuntime) {
     assert!(rt; is_text(dump_head(rt.alloc(), b"\x80\xFF"), b"\x80\xFF: "));
 }
 
-/// Whether a break is told by this line.
+/// Whether the line of a break is this one.
 fn is_told(alloc: Global, category: BreakCategory, found: &AuditBreak, line: &str) -> bool {
     is_text(break_line(alloc, b"-: ", category, found), line.as_bytes())
 }
@@ -93,7 +93,7 @@ fn anywhere(rule: Rule) -> Allowance {
     Allowance { rule, line: None }
 }
 
-/// One on DTACK*.
+/// An allowance of a rule on DTACK*.
 fn on_dtack(rule: Rule) -> Allowance {
     Allowance {
         rule,
@@ -101,7 +101,7 @@ fn on_dtack(rule: Rule) -> Allowance {
     }
 }
 
-/// One on BERR*.
+/// An allowance of a rule on BERR*.
 fn on_berr(rule: Rule) -> Allowance {
     Allowance {
         rule,
@@ -109,18 +109,18 @@ fn on_berr(rule: Rule) -> Allowance {
     }
 }
 
-/// Whether a break is of a category, and is allowed just where that says so.
+/// Whether a break is of a category, and is allowed exactly if the category says so.
 fn counts_as(allowances: &[Allowance], found: &AuditBreak, category: BreakCategory) -> bool {
     BreakCategory::of(allowances, found) == category
         && is_allowed(allowances, found) == (category == BreakCategory::Allowed)
 }
 
-/// Whether the stray answer is allowed by these.
+/// Whether these allowances allow the stray answer.
 fn is_stray_allowed(one: Allowance, other: Allowance) -> bool {
     counts_as(&[one, other], &STRAY, BreakCategory::Allowed)
 }
 
-/// Whether it is broken by these.
+/// Whether the stray answer counts as broken with these allowances.
 fn is_stray_broken(one: Allowance, other: Allowance) -> bool {
     counts_as(&[one, other], &STRAY, BreakCategory::Broken)
 }
@@ -168,12 +168,12 @@ const BREAKS: BreakCounts = BreakCounts {
     allowed: 0,
 };
 
-/// Whether the counts of a recording are told so.
+/// Whether the lines of counts are these.
 fn are_told(alloc: Global, head: &[u8], findings: &AuditFindings, lines: &[u8]) -> bool {
     is_text(count_lines(alloc, head, BREAKS, findings), lines)
 }
 
-/// What is told of the counts of a recording with many events, with no head.
+/// The lines of counts of a recording with many events, without a head.
 const MANY_TOLD: &[u8] = b"4 broken, 2 unreadable, 0 allowed\n\
 3 resets, 5 tenures, 6 cycles (3 single, 2 block, 1 free, 0 acknowledge)\n\
 7 transfers (2 read, 5 write; 5 by DTACK, 1 by BERR, 1 pending)\n\
@@ -197,7 +197,7 @@ fn counts_are_told(rt: HostRuntime) {
     assert!(rt; are_told(rt.alloc(), b"", &found_with(all), lines));
 }
 
-/// Sums of counts may be longer than a count.
+/// Sums of counts may have more digits than a count.
 #[test]
 fn sums_do_not_wrap(rt: HostRuntime) {
     let most = u64::MAX;
@@ -215,13 +215,13 @@ never asked: C1 I5\n";
     assert!(rt; are_told(rt.alloc(), b"", &findings, lines));
 }
 
-/// Whether an outcome is told by this line, with this status.
+/// Whether the line of an outcome is this one, and its exit status this one.
 fn is_outcome_told(alloc: Global, outcome: &Outcome, line: &str, status: u8) -> bool {
     is_text(outcome_line(alloc, b"-: ", outcome), line.as_bytes())
         && outcome_status(outcome) == status
 }
 
-/// Whether a gap is told by this line.
+/// Whether the line of a gap is this one.
 fn is_gap_told(alloc: Global, gap: CoverageGap, line: &str) -> bool {
     is_outcome_told(alloc, &Outcome::NotCovered { gap }, line, 6)
 }
@@ -265,12 +265,12 @@ fn gaps_are_told(rt: HostRuntime) {
     assert!(rt; is_gap_told(alloc, hang, line));
 }
 
-/// Whether a refusal is told by this text.
+/// Whether the text of a refusal is this one.
 fn is_refusal_told(alloc: Global, refusal: Refusal, text: &str) -> bool {
     is_text(refusal_text(alloc, &refusal), text.as_bytes())
 }
 
-/// Whether inputs that can't be read are.
+/// Whether the texts for inputs that can't be read are right.
 fn are_inputs_told(alloc: Global) -> bool {
     is_refusal_told(alloc, Refusal::CannotOpen(Input::Dump), "cannot open\n")
         && is_refusal_told(alloc, Refusal::CannotRead(Input::Dump), "cannot read\n")
@@ -281,7 +281,7 @@ fn are_inputs_told(alloc: Global) -> bool {
         )
 }
 
-/// Whether faults of inputs are, and want of memory.
+/// Whether the texts for faults of inputs and for want of memory are right.
 fn are_faults_told(alloc: Global) -> bool {
     let bad_dump = VcdFault {
         line: 119,
@@ -308,7 +308,7 @@ fn refusals_are_told(rt: HostRuntime) {
     assert!(rt; are_faults_told(rt.alloc()));
 }
 
-/// Run with each allocation refused in turn, this shows that there is then no line, and else the whole of it.
+/// When each allocation is refused in turn, this test shows that a line is then missing, and is otherwise complete.
 #[test]
 fn a_line_is_whole_or_there_is_none(rt: HostRuntime) {
     let alloc = rt.alloc();

@@ -1,4 +1,4 @@
--- What happens at a judged instant of which a rule speaks is what the step to it shows.
+-- What happens at a judged instant, of the events that rules refer to, is what the step to it shows.
 use Rattle.std.proofs.Common.{◌≡◌, ℕ, suc, ◌<◌, ◌≤◌, Bool, true, false, not, ◌&&◌, ◌||◌, List, [], ◌∷◌, length}
 use Rattle.std.proofs.Common.{refl}
 use Rattle.std.proofs.Common.{sym, ◌∙◌, ap, cond, Option, None, Some}
@@ -89,7 +89,7 @@ if_some : (b : Bool) (o : Option ℕ) → is_some (cond b o None) ≡ (b && is_s
 if_some true o = refl
 if_some false o = refl
 
--- the cycle that is entered had an answer before where it goes on
+-- for a property `is` of cycles with an answer: it holds after a step exactly if it held before and no cycle starts
 entered_goes : (is : CyclePhase → Bool) → ((k : Class) → is (unanswered_of k) ≡ false)
     → (c : CyclePhase) (s : Option CycleStart)
     → (not (is_some s) && is c) ≡ is (cycle_entered c s)

@@ -1,4 +1,4 @@
--- What has happened by an audit's record is what the parts of a recording ask.
+-- The rules whose events happened, by an audit's record, are the rules that the parts of a recording ask.
 use Rattle.std.proofs.Common.{◌≡◌, ℕ, zero, suc, ◌+◌, ◌-◌, ◌≤◌, Bool, true, false, ◌||◌, List, [], ◌∷◌, ◌++◌}
 use Rattle.std.proofs.Common.{length}
 use Rattle.std.proofs.Common.{take, drop, refl, sym, ◌∙◌, ap, subst, arith, add-one, inl, inr, ◌⊎◌, Option, None, Some}
@@ -51,19 +51,19 @@ use Rattle.vme_auditor.proofs.ToldBreaks.{rest_slots}
 use Rattle.vme_auditor.proofs.ToldBreaks.{rest_sound}
 use Rattle.vme_auditor.proofs.Truth.{or_fails}
 
--- the events of one step more
+-- the events after one more step
 abbrev then_step : Memories → Levels → AskedEvents → Step → AskedEvents
 then_step m o e s =
     let after = changed o s.changes in
     events_by e m.handshake (end_among after s.changes) o after s.changes
     (known_at m.known o after s.changes).shown (handshake_at m.handshake o after s.changes).shown
 
--- at its break judging starts anew
+-- the events after a step: at a break judging starts anew
 abbrev events_behind : Option Fault → Levels → AskedEvents → AskedEvents
 events_behind None after e = e
 events_behind (Some f) after e = with_stretch e (has_started (memories_at after).known)
 
--- the events of some steps, from some memories on
+-- the events after steps `x`, by monitors that start from memories `m`
 unfoldable pub events_from : Memories → Levels → AskedEvents → List Step → AskedEvents
 events_from m o e [] = e
 events_from m o e (s ∷ x) =
@@ -95,7 +95,7 @@ events_along (s ∷ x) r =
     ∙ ap (λ (e : AskedEvents). events_from (memories_behind (first_fault_of r.audit.memories r.levels after s.changes)
     after (memories_next r.audit.memories r.levels after s.changes)) after e x) (events_stepped r s)
 
--- the same, whatever is broken
+-- the events after steps `x`, where breaks are ignored
 unfoldable pub quiet_events : Memories → Levels → AskedEvents → List Step → AskedEvents
 quiet_events m o e [] = e
 quiet_events m o e (s ∷ x) =
@@ -108,7 +108,7 @@ quiet_memories m o (s ∷ x) =
     let after = changed o s.changes in
     quiet_memories (memories_next m o after s.changes) after x
 
--- up to the first break, and behind it
+-- the events up to the first break, and after it
 abbrev events_to : Memories → Levels → AskedEvents → List Step → Option Break → AskedEvents
 events_to m o e x None = quiet_events m o e x
 events_to m o e x (Some b) =
@@ -149,7 +149,7 @@ events_first (s ∷ x) m o e =
     to_stepped m o s x e (first_fault_of m o (changed o s.changes) s.changes) s.time
     (events_first x (next m o s x e) (after m o s x e) (more m o s x e))
 
--- memories of the monitors that lead them
+-- after some steps the memory of each monitor is the one that its run leaves
 pub known_left : (x : List Step) (m : Memories) (o : Levels) → (quiet_memories m o x).known
     ≡ (known_run m.known o x).leaving
 unfolding quiet_memories known_run
@@ -162,7 +162,7 @@ unfolding quiet_memories handshake_run
 handshake_left [] m o = refl
 handshake_left (s ∷ x) m o = handshake_left x (memories_next m o (changed o s.changes) s.changes) (changed o s.changes)
 
--- one step more at the end
+-- the events after `x` and one more step `s`
 quiet_more : (x : List Step) (m : Memories) (o : Levels) (e : AskedEvents) (s : Step)
     → quiet_events m o e (x ++ s ∷ [])
     ≡ then_step (quiet_memories m o x) (levels_after o x) (quiet_events m o e x) s
@@ -192,7 +192,7 @@ module _ (o : Levels) (x : List Step) where
   by_all e h k v w cs = events_by e h (end_among w cs) v w cs (known_at k v w cs).shown (handshake_at h v w cs).shown
 
   module _ (ok : malformed_step t ≡ None) (few : o.slots ≤ 21) where
-    -- the events of the first steps are those up to an instant
+    -- the events of the first `n` steps are those up to instant `n`
     quiet_to : (e : AskedEvents) (n : ℕ) → n ≤ length x → quiet_events (memories_at o) o e (take n x)
         ≡ asked_to t ok few e n
     unfolding quiet_events
@@ -221,7 +221,7 @@ module _ (o : Levels) (x : List Step) where
         ∙ ap (λ (w : Levels). by_all (asked_to t ok few e n) (phase_at t ok few n) (known_phase t ok few n)
         (levels_at t n) w (changes_of (slice_get x n))) ahead
 
--- a rule is asked by the stretch alone, or by another event
+-- a rule is asked by the start of a stretch (U1), or by another event
 by_stretch : (r : Rule) → (r ≡ rule.U1) ⊎ (ends_span r ≡ false)
 by_stretch rule.U1 = inl refl
 by_stretch r = inr refl
@@ -235,7 +235,7 @@ module _ (o : Levels) (x : List Step) (ok : malformed_step (recorded o x) ≡ No
   abbrev whole : Trace
   whole = recorded o x
 
-  -- by an event up to the end of the asking
+  -- a rule with an event of its own is asked where that event happens before the end of the asking
   asks_happened : (r : Rule) (own : ends_span r ≡ false) → list_any (asks_in whole found r) (judged_spans whole)
       ≡ list_any (happened_by whole ok few r own k) (started whole k)
   unfolding asks_in
@@ -258,6 +258,7 @@ module _ (o : Levels) (x : List Step) (ok : malformed_step (recorded o x) ≡ No
     abbrev opened : AskedEvents
     opened = with_stretch e (has_started (memories_at o).known)
 
+    -- after the first `k` steps rule `r` is asked exactly if it was asked before, or a judged span asks it
     abbrev Asks : Rule → Type 0
     Asks r = asks_by (quiet_events (memories_at o) o opened (take k x)) r
         ≡ (asks_by e r || list_any (asks_in whole found r) (judged_spans whole))
@@ -276,7 +277,7 @@ module _ (o : Levels) (x : List Step) (ok : malformed_step (recorded o x) ≡ No
         (stretch_alone r e (has_started (memories_at o).known) own)
         ∙ ap (λ b. asks_by e r || b) (sym (asks_happened r own))
 
-    -- what a part asks
+    -- `Asks` holds of every rule
     part_asked : (r : Rule) → Asks r
     part_asked r =
         elim (by_stretch r) [
@@ -284,7 +285,7 @@ module _ (o : Levels) (x : List Step) (ok : malformed_step (recorded o x) ≡ No
           | inr own ↦ other_asked r own
         ]
 
--- monitors know where judging has started
+-- the monitors have started at the end of a recording exactly if it has a judged span
 abbrev pub KnowsStart : Type 0
 KnowsStart = (t : Trace) → malformed_step t ≡ None → t.opening.slots ≤ 21
     → has_started (known_run (start_in known_begin t.opening) t.opening t.steps).leaving ≡ has_span (judged_spans t)
@@ -299,7 +300,7 @@ break_judged : (t : Trace) (b : Break) → named_break (verdict t) ≡ Some b �
 unfolding verdict_by
 break_judged t b e = spans_named t (judged_spans t) b e
 
--- the first break is that of the steps up to it
+-- the first break of all steps is the first break of the steps up to it
 module _ (s : Step) (x : List Step) (m next : Memories) (o after : Levels) (b : Break) where
   cut_stepped : (f : Option Fault) (found : Option Break)
       → earlier (option_map (break_of_fault 1 s.time) f) (option_map (shifted_break 1) found) ≡ Some b
@@ -330,7 +331,7 @@ first_cut (s ∷ x) m o b h =
 
 module _ (finds : FindsFirst) (starts : KnowsStart) where
   module _ (o : Levels) (x : List Step) (ok : malformed_step (recorded o x) ≡ None) (few : o.slots ≤ 21) where
-    -- judging has started where it starts in a recording, at its end
+    -- at the end of a recording the monitors have started exactly if it has a judged span
     begun_last : has_started (known_phase (recorded o x) ok few (length x)) ≡ has_span (judged_spans (recorded o x))
     unfolding known_run
     begun_last =
@@ -340,7 +341,7 @@ module _ (finds : FindsFirst) (starts : KnowsStart) where
         (omega arith)))
         ∙ starts (recorded o x) ok few
 
-    -- and at its break
+    -- at the first break of a recording the monitors have started exactly if it has a judged span
     begun_break : (b : Break) → first_break_from (memories_at o) o x ≡ Some b → b.instant ≤ length x
         → has_started (known_phase (recorded o x) ok few b.instant) ≡ has_span (judged_spans (recorded o x))
     unfolding known_run
@@ -356,7 +357,7 @@ module _ (finds : FindsFirst) (starts : KnowsStart) where
         ∙ sym (break_judged (recorded o x) b (finds (recorded o x) ok few ∙ e))
 
   module _ (r : Rule) where
-    -- what an audit has heard where a part opens, and what that part and those behind it ask
+    -- from the start of a part on, rule `r` is asked exactly if it was asked before or a part from this one on asks it
     abbrev HaveHappened : ℕ → Type 0
     HaveHappened n = (start : ℕ) (o : Levels) (x : List Step) (e : AskedEvents) → length x ≤ n
         → malformed_step (recorded o x) ≡ None → o.slots ≤ 21

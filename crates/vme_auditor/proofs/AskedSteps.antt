@@ -1,4 +1,4 @@
--- What was asked up to an instant of a recording, by its steps and by what happens in the spans that have started.
+-- What is asked up to an instant of a recording, by its steps and by what happens in the spans that have started.
 use Rattle.std.proofs.Common.{◌≡◌, ℕ, zero, suc, ◌+◌, ◌<◌, ◌≤◌, Bool, true, false, ◌||◌, List, [], ◌∷◌, ◌++◌, length}
 use Rattle.std.proofs.Common.{refl}
 use Rattle.std.proofs.Common.{sym, ◌∙◌, ap, subst, arith, cond, inl, inr, Option, None, Some}
@@ -54,13 +54,13 @@ pub any_both : {A : Type 0} (p : A → Bool) (xs ys : List A) → list_any p (xs
 any_both p [] ys = refl
 any_both p (x ∷ xs) ys = ap (λ b. p x || b) (any_both p xs ys) ∙ sym (or_assoc (p x) (list_any p xs) (list_any p ys))
 
--- a stretch is no other event
+-- the start of a stretch changes no other event than that of U1
 pub stretch_alone : (r : Rule) (e : AskedEvents) (b : Bool) → ends_span r ≡ false → asks_by (with_stretch e b) r
     ≡ asks_by e r
 stretch_alone rule.U1 e b h = absurd (cc)
 stretch_alone r e b h = refl
 
--- judging starts, or has started
+-- judging has started after a step where it had started before it, or starts at it
 abbrev StartsBy : StretchPhase Stateless → Next (StretchPhase Stateless) → Type 0
 StartsBy m n = has_started n.memory ≡ (has_started m || n.shown.start)
 
@@ -101,7 +101,7 @@ observed_starts m v w e false = sym (or-false (has_started m))
 pub starts_shown : (m : StretchPhase Stateless) (v w : Levels) (cs : List Change) → StartsBy m (known_at m v w cs)
 starts_shown m v w cs = observed_starts m v w (end_among w cs) (touches_control w.slots cs || false)
 
--- an event only happens in a phase that judges, where no span ends
+-- the events of a step leave `stretch` as it is
 in_stretch : (e : AskedEvents) (m : StretchPhase HandshakeMemory) (o : Option End) (v w : Levels) (cs : List Change)
     (kinds : StepMarks) → (events_in e m o v w cs kinds).stretch ≡ e.stretch
 in_stretch e (phase.InStretch p) None v w cs kinds = on_stretch e p v w cs kinds
@@ -117,7 +117,7 @@ waits_on e (phase.InStretch p) o v w cs kinds h = absurd (cc)
 waits_on e phase.Reset o v w cs kinds h = refl
 waits_on e phase.Ended o v w cs kinds h = absurd (cc)
 
--- what ends a span is what the step does to the phase
+-- if the phase waits after a step in a stretch, the step has an end
 ends_here : (p : HandshakeMemory) (v w : Levels) (o : Option End) (s : Option (Unit {0}))
     → waits (judging dtb_begin dtb_start_marks no_step_marks dtb_end_fault dtb_step p v w o s).memory ≡ true
     → (l : End) × (o ≡ Some l)
@@ -172,12 +172,12 @@ module _ (t : Trace) (ok : malformed_step t ≡ None) (few : t.opening.slots ≤
       (cs_at n)
       (next_at known_at t (known_phase n) n).shown (next_at handshake_at t (phase_at n) n).shown
 
-  -- those up to an instant
+  -- the events up to an instant
   abbrev pub asked_to : AskedEvents → ℕ → AskedEvents
   asked_to e zero = e
   asked_to e (suc n) = then_at (asked_to e n) n
 
-  -- a stretch is among them where one has started
+  -- `stretch` is among the events up to instant `n` exactly if it was before, or judging has started by `n`
   pub stretch_to : (e : AskedEvents) (n : ℕ) → n ≤ length t.steps
       → (asked_to (with_stretch e (has_started (start_in known_begin t.opening))) n).stretch
       ≡ (e.stretch || has_started (known_phase n))
@@ -194,7 +194,7 @@ module _ (t : Trace) (ok : malformed_step t ≡ None) (few : t.opening.slots ≤
       (sym (rw (not_before n) (starts_shown (known_phase n) (levels_at t n) (levels_at t (suc n)) (cs_at n))))
 
   module _ (r : Rule) (own : ends_span r ≡ false) where
-    -- the event of the rule happens in a span, up to an instant
+    -- the event of rule `r` happens in the span, up to instant `n`
     abbrev pub happened_by : ℕ → Stretch → Bool
     happened_by n span = any (happens t span r) (span.start + 1) (min span.end (suc n))
 
@@ -223,7 +223,7 @@ module _ (t : Trace) (ok : malformed_step t ≡ None) (few : t.opening.slots ≤
         ap (λ b. b || list_any (happened_by (suc n)) spans) (happened_over n span (omega (arith, h.0)))
         ∙ ap (λ b. happened_by n span || b) (all_over n spans h.1)
 
-    -- a span that starts adds nothing yet
+    -- a span that starts at instant `n + 1` adds no event up to an instant `k ≤ n + 1`
     happened_more : (k n : ℕ) → k ≤ suc n → list_any (happened_by k) (started t (suc n))
         ≡ list_any (happened_by k) (started t n)
     happened_more k n h = by_start (span_starts t (suc n)) refl
@@ -237,6 +237,7 @@ module _ (t : Trace) (ok : malformed_step t ≡ None) (few : t.opening.slots ≤
             ∙ or-false (list_any (happened_by k) (started t n))
         by_start false e = ap (list_any (happened_by k)) (spans_kept t (suc n) e)
 
+    -- up to instant `n` rule `r` is asked exactly if it was asked before, or its event happens in a started span
     abbrev HaveHappened : AskedEvents → ℕ → Type 0
     HaveHappened e n = asks_by (asked_to e n) r ≡ (asks_by e r || list_any (happened_by n) (started t n))
 
@@ -276,7 +277,7 @@ module _ (t : Trace) (ok : malformed_step t ≡ None) (few : t.opening.slots ≤
       step_of p at = rw at (outer_judging dtb_begin dtb_start_marks no_step_marks dtb_end_fault dtb_observation dtb_step
           v w (cs_at n) p)
 
-      -- it ends the span
+      -- the step ends the span
       ended : (p : HandshakeMemory) (l : End) → phase_at n ≡ phase.InStretch p → ends ≡ Some l → now ≡ before
       ended p l at e = rw (at, e) refl
 
@@ -365,7 +366,7 @@ module _ (t : Trace) (ok : malformed_step t ≡ None) (few : t.opening.slots ≤
             (sym (step_of p work.memory) ∙ loses.step)) in
             stopped end.0 end.1 (omega (arith, loses.last))
 
-      -- no span runs
+      -- at instant `n` the bus is in no judged span
       idle_on : AreOver n (started t n)
           → Stands dtb_begin dtb_start_marks no_step_marks dtb_end_fault dtb_observation dtb_step t few ok n
           → HaveHappened e (suc n)
@@ -408,12 +409,12 @@ module _ (t : Trace) (ok : malformed_step t ≡ None) (few : t.opening.slots ≤
             ∙ ap (λ b. b || false) (not_happened 0 (span_from t 0) (omega arith))
         none_happened false e = ap (list_any (happened_by 0)) (started_none t e)
 
-    -- what was asked up to an instant
+    -- the invariant holds up to instant `n`
     pub happened_to : (e : AskedEvents) (n : ℕ) → n ≤ length t.steps → HaveHappened e n
     happened_to e zero h = happened_first e
     happened_to e (suc n) h = happened_next e n (omega arith) (happened_to e n (omega arith))
 
-    -- later spans add nothing
+    -- spans that start after instant `k` add no event up to `k`
     pub happened_last : (k d : ℕ) → list_any (happened_by k) (started t (k + d))
         ≡ list_any (happened_by k) (started t k)
     happened_last k zero =

@@ -1,4 +1,4 @@
--- What a tally has counted, and the transfer that it knows to hang, by the rows of the parts.
+-- What a tally has counted, and the transfer that hangs by it, follow from the rows of the parts.
 use Rattle.std.proofs.Common.{◌≡◌, ℕ, zero, suc, ◌+◌, ◌-◌, ◌<◌, ◌≤◌, Bool, true, false, List, [], ◌∷◌, ◌++◌, length}
 use Rattle.std.proofs.Common.{take}
 use Rattle.std.proofs.Common.{drop, filter, refl, sym, ◌∙◌, ap, subst, arith, cond, append-nil, length-append, Option}
@@ -38,7 +38,7 @@ use Rattle.vme_auditor.proofs.PartRows.{CountAlike, ShowsMarks, marks_cut, part_
 use Rattle.vme_auditor.proofs.TalliedSteps.{quiet_marks, quiet_tally, tally_by, tally_first, tally_from}
 use Rattle.vme_auditor.proofs.ToldBreaks.{FindsFirst, recorded, rest_slots, rest_sound}
 
--- the counts of rows and of further ones
+-- the number of rows of `xs ++ ys` that `is` holds of is the sum of those of `xs` and of `ys`
 count_append : (is : Row → Bool) (xs ys : List Row) → count_of is (xs ++ ys) ≡ count_of is xs + count_of is ys
 count_append is xs ys = ap length (filter-append is xs ys) ∙ length-append (filter is xs) (filter is ys)
 
@@ -49,11 +49,11 @@ counts_append xs ys =
     (count_append _ xs ys) (count_append _ xs ys) (count_append _ xs ys) (count_append _ xs ys) (count_append _ xs ys)
     (count_append _ xs ys) (count_append _ xs ys) (count_append _ xs ys) (count_append _ xs ys) (count_append _ xs ys)
 
--- a tally where a part opens
+-- the tally at the start of a part, with counts `c` of the parts before
 abbrev pub fresh : Counts → Tally
 fresh c = tally c None None None
 
--- at a break the part's tally ends
+-- after a break only the counts are left of a tally
 break_of_fields : (c : Counts) (h : Bool) (w u : Option StartedTransfer)
     → at_break suc (record { counts = c; has_cycle = h; waiting = w; unanswered = u })
     ≡ fresh (counts_so_far suc (record { counts = c; has_cycle = h; waiting = w; unanswered = u }))
@@ -63,7 +63,7 @@ break_of_fields c h (Some s) u = refl
 break_is_fresh : (a : Tally) → at_break suc a ≡ fresh (counts_so_far suc a)
 break_is_fresh a = break_of_fields a.counts a.has_cycle a.waiting a.unanswered
 
--- where and when a transfer of a part starts
+-- the start of a transfer of part `p`, at its instant `i`
 abbrev pub started_of : Part → ℕ → StartedTransfer
 started_of p i = record { instant = p.start + i; time = time_at p.trace i }
 
@@ -74,7 +74,7 @@ module _ (start : ℕ) (o : Levels) (x : List Step) where
   abbrev marks : List Mark
   marks = joined_marks (memories_at o) o x
 
-  -- a part without a break
+  -- in a part without a break the steps and their marks give the same tally
   quiet_is : (c : Counts) → quiet_tally (memories_at o) o start (fresh c) x
       ≡ fold (mark_tallied (started_of part)) (fresh c) marks
   quiet_is c = quiet_marks x (memories_at o) o start (fresh c) (started_of part) (λ i. refl)
@@ -96,7 +96,7 @@ module _ (start : ℕ) (o : Levels) (x : List Step) where
       by_test true = refl
       by_test false = refl
 
--- a part up to its break
+-- the counts of a part up to its break
 cut_counts : (start : ℕ) (o : Levels) (x : List Step) (c : Counts) (i : ℕ) → 0 < i
     → counts_so_far suc (quiet_tally (memories_at o) o start (fresh c) (take (i - 1) x))
     ≡ sum_of c (counts_of_rows (marked_rows None (marks_before i (joined_marks (memories_at o) o x))))
@@ -107,7 +107,7 @@ cut_counts start o x c i h =
     (sym (marks_cut (i - 1) x (memories_at o) o)
     ∙ ap (λ k. marks_before k (joined_marks (memories_at o) o x)) one_more)
 
--- the last of some parts is that of those behind the first
+-- the last part of `q` and the parts after it doesn't depend on the part before
 pub last_behind : (n : ℕ) (p q : Part) → last_from p (parts_from n q) ≡ last_from q (parts_from n q)
 unfolding parts_from
 last_behind zero p q = refl
@@ -121,14 +121,14 @@ module _ (finds : FindsFirst) (shows : ShowsMarks) where
   rows_are start o x ok slots e found =
       part_rows shows start (recorded o x) ok slots e (finds (recorded o x) ok slots ∙ found)
 
-  -- what is counted where a part opens with some counts
+  -- the counts from the start of a part on, where `c` are the counts before it
   abbrev AreCounted : ℕ → Type 0
   AreCounted n = (start : ℕ) (o : Levels) (x : List Step) (c : Counts) → length x ≤ n
       → malformed_step (recorded o x) ≡ None → o.slots ≤ 21
       → counts_so_far suc (tally_by suc (memories_at o) o start (fresh c) x)
       ≡ sum_of c (counts_of_rows (flat_map rows_of (parts_from n (record { start = start; trace = recorded o x }))))
 
-  -- and which transfer of the last part hangs
+  -- the transfer of the last part that hangs, from the start of a part on
   abbrev AreHung : ℕ → Type 0
   AreHung n = (start : ℕ) (o : Levels) (x : List Step) (c : Counts) → length x ≤ n
       → malformed_step (recorded o x) ≡ None → o.slots ≤ 21
@@ -142,7 +142,7 @@ module _ (finds : FindsFirst) (shows : ShowsMarks) where
     abbrev here : Part
     here = record { start = start; trace = recorded o x }
 
-    -- the last part
+    -- the counts of the last part
     counts_last : first_break_from (memories_at o) o x ≡ None
         → counts_so_far suc (quiet_tally (memories_at o) o start (fresh c) x)
         ≡ sum_of c (counts_of_rows (rows_of here ++ []))
@@ -157,7 +157,7 @@ module _ (finds : FindsFirst) (shows : ShowsMarks) where
         quiet_hang start o x c ∙ ap (option_map (started_of here)) (sym (rows_are start o x ok slots None e).hangs)
 
     module _ (n : ℕ) (few : length x ≤ suc n) where
-      -- a part with a break, and those behind it
+      -- a part with a break, and the parts after it
       module _ (b : Break) (w : BreakWithin (length x) (Some b)) where
         abbrev left : Levels
         left = levels_at (recorded o x) b.instant

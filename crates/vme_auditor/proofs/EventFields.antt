@@ -1,4 +1,4 @@
--- The events of one step more, each by itself.
+-- What one more step does to each event.
 use Rattle.std.proofs.Common.{◌≡◌, ℕ, Bool, true, false, not, ◌&&◌, ◌||◌, List, [], ◌∷◌, refl, sym, ◌∙◌, ap, Option}
 use Rattle.std.proofs.Common.{None, Some}
 use Rattle.std.specs.Prelude.{is_some}
@@ -22,14 +22,14 @@ use Rattle.vme_auditor.specs.Events.{answer_taken, at_step, cycle_taken, further
 use Rattle.vme_auditor.specs.Events.{net_falls, net_rises, net_taken, nets_taken, strobes_taken, tenure_taken}
 use Rattle.vme_auditor.specs.declared.asked.AskedEvents.{AskedEvents}
 
--- what nets don't touch
+-- a field that no change of a net alters is the same after all changes
 nets_kept : (v w : Levels) (get : AskedEvents → Bool)
     → ((e : AskedEvents) (c : Change) → get (net_taken v w e c) ≡ get e)
     → (cs : List Change) (e : AskedEvents) → get (nets_taken v w e cs) ≡ get e
 nets_kept v w get kept [] e = refl
 nets_kept v w get kept (c ∷ cs) e = nets_kept v w get kept cs (net_taken v w e c) ∙ kept e c
 
--- and what each of them may do
+-- a field that each change may set is set after all changes exactly if it was set before or one of them sets it
 nets_any : (v w : Levels) (get : AskedEvents → Bool) (now : Change → Bool)
     → ((e : AskedEvents) (c : Change) → get (net_taken v w e c) ≡ (get e || now c))
     → (cs : List Change) (e : AskedEvents)
@@ -39,7 +39,7 @@ nets_any v w get now taken (c ∷ cs) e =
     nets_any v w get now taken cs (net_taken v w e c) ∙ ap (λ b. b || list_any now cs) (taken e c)
     ∙ or_assoc (get e) (now c) (list_any now cs)
 
--- what an answer doesn't touch
+-- a field that an answer doesn't alter
 module _ (get : AskedEvents → Bool) (kept : (e : AskedEvents) (b : Bool)
     → get (record e { answer = true; interrupt = b }) ≡ get e)
     (single : (e : AskedEvents) → get (record e { single_again = true }) ≡ get e)
@@ -181,12 +181,12 @@ module _ (cycle : CyclePhase) where
       further_interrupt (record e { answer = true; interrupt = e.interrupt || is_interrupt_entered cycle None }) cycle
   answer_interrupt e (Some s) (Some a) = refl
 
--- each event at a step to a judged instant
+-- what a step to a judged instant does to each event
 module _ (e : AskedEvents) (m : HandshakeMemory) (v w : Levels) (cs : List Change) (shown : StepMarks) where
   abbrev stepped : AskedEvents
   stepped = at_step e m v w cs shown
 
-  -- before the nets
+  -- the events of the step before the edges of nets
   abbrev cycles : AskedEvents
   cycles = cycle_taken e v w shown
 
@@ -287,7 +287,7 @@ module _ (e : AskedEvents) (m : HandshakeMemory) (v w : Levels) (cs : List Chang
       (answer_kept (λ e. e.tenure) (λ e b. refl) (λ e. refl) (λ e. refl) (λ e. refl) answering m.cycle shown.cycle
       shown.answer)
 
-  -- a net of some nets falls, or rises
+  -- some chosen net falls, or rises
   abbrev pub any_falls : (ℕ → Bool) → Bool
   any_falls chosen = list_any (λ c. chosen c.line && net_falls v w c.line) cs
 

@@ -1,4 +1,4 @@
--- The least of what the monitors find is what their first steps find that break a rule.
+-- The least of the breaks of all monitors' runs is the first one that the monitors find step by step.
 use Rattle.std.proofs.Common.{◌≡◌, ℕ, suc, Bool, true, false, List, [], ◌∷◌, length, refl, ◌∙◌, ap}
 use Rattle.std.proofs.Common.{arith, cond, Option, None, Some}
 use Rattle.std.specs.Option.{option_map}
@@ -22,7 +22,7 @@ use Rattle.vme_auditor.specs.Memories.{acknowledge_at, comes_before, fault_at, f
 use Rattle.vme_auditor.specs.Memories.{handshake_at, known_at, memories_next, stability_at}
 use Rattle.vme_auditor.specs.declared.memories.Memories.{Memories}
 
--- a fault at the first instant
+-- the fault `f` as a break at instant 1
 abbrev first_at : ℕ → Option Fault → Option Break
 first_at time f = option_map (break_of_fault 1 time) f
 
@@ -50,7 +50,7 @@ least_within n (Some a) (Some b) p q = chosen (sooner b a)
     chosen true = q
     chosen false = p
 
--- of two faults at one instant the first is named
+-- the least of two breaks at one instant is that of the fault that is named
 faults_least : (time : ℕ) (f g : Option Fault) → least (first_at time f) (first_at time g)
     ≡ first_at time (first_fault f g)
 faults_least time None g = refl
@@ -62,7 +62,7 @@ faults_least time (Some f) (Some g) = chosen (comes_before g f)
     chosen true = refl
     chosen false = refl
 
--- the least of what two find at a step and behind it
+-- the least of what two monitors find at a step and after it
 least_stepped : (k time : ℕ) (f g : Option Fault) (c d : Option Break) → BreakWithin k c → BreakWithin k d
     → least (earlier (first_at time f) (later c)) (earlier (first_at time g) (later d))
     ≡ earlier (first_at time (first_fault f g)) (later (least c d))
@@ -70,7 +70,7 @@ least_stepped k time f g c d p q =
     least_joined 1 k (first_at time f) (first_at time g) c d (fault_within 0 time f) (fault_within 0 time g) p q
     ∙ ap (λ e. earlier e (later (least c d))) (faults_least time f g)
 
--- what all five find of some steps
+-- the least of what all five monitors find in steps `x`
 abbrev pub least_event : Memories → Levels → List Step → Option Break
 least_event m o x =
     least (known_run m.known o x).first_break
@@ -113,7 +113,7 @@ runs_first (s ∷ x) m o =
     (run_within grant_at x next.grant after).0 (run_within acknowledge_at x next.acknowledge after).0
     ∙ ap (λ e. earlier (fault_at m o after s.changes 1 s.time) (later e)) (runs_first x next after)
 
--- it is at one of the instants
+-- the first break is at an instant of `x`, if there is one
 pub first_within : (x : List Step) (m : Memories) (o : Levels) → BreakWithin (length x) (first_break_from m o x)
 unfolding first_break_from
 first_within [] m o = tt
@@ -124,7 +124,7 @@ first_within (s ∷ x) m o =
     (fault_within (length x) s.time (first_fault_of m o after s.changes))
     (later_within (length x) (first_break_from next after x) (first_within x next after))
 
--- the break that a verdict names is the least
+-- a verdict on a break names that break
 pub named_on : (found : Option Break) → named_break (verdict_on found) ≡ found
 named_on None = refl
 named_on (Some b) = by_rule (is_unreadable b.rule)

@@ -1,4 +1,4 @@
--- What an audit has come to, one step later.
+-- The state of an audit after one more step.
 use Rattle.std.proofs.Common.{◌≡◌, ℕ, ◌+◌, ◌≤◌, List, [], ◌∷◌, ◌++◌, refl, sym, ◌∙◌, ap, length-append, Option, None}
 use Rattle.std.specs.List.{fold}
 use Rattle.std.specs.Option.{option_to_list}
@@ -27,7 +27,7 @@ reached_more : (o : Levels) (x : List Step) (s : Step) → reached_after o (x ++
 unfolding reached_after
 reached_more o x s = fold_more x (reached_at o) s
 
--- an audit keeps up before the first step
+-- the auditor's fields before the first step are those after no steps
 pub keeps_first : (o : Levels) (v : StepView) (a : Audit) → v.before ≡ o → v.after ≡ o → a ≡ begun_at o
     → HasAudited o [] 0 v a
 unfolding reached_after
@@ -37,7 +37,7 @@ keeps_first o v a before after begun =
 abbrev recorded : Levels → List Step → Trace
 recorded o x = record { opening = o; steps = x }
 
--- one step more: the view goes to it from the levels so far
+-- one more step `s`: the view is advanced to it from the levels so far
 module _ (o : Levels) (x : List Step) (s : Step) (n : ℕ) (v : StepView) (a : Audit) (k : HasAudited o x n v a)
     (cs : List Change) (own : cs ≡ s.changes) (u : StepView) (seen : u ≡ seen_in u.before cs)
     (same : u.before ≡ v.before)
@@ -75,7 +75,7 @@ module _ (o : Levels) (x : List Step) (s : Step) (n : ℕ) (v : StepView) (a : A
       ∙ ap (λ (cs : List Change). fault_at b.memories w w' cs i s.time) q'
       ∙ ap (λ i. fault_at b.memories w w' cs' i s.time) z
 
-  -- an audit keeps up with it
+  -- the auditor's fields after `s` are those after one more step
   pub keeps_next : (w : StepView) (b : Audit) → w.before ≡ u.after → w.after ≡ u.after
       → b ≡ stepped a u.before u.after cs later s.time → HasAudited o (x ++ s ∷ []) later w b
   keeps_next w b before after stepping =
@@ -91,7 +91,7 @@ module _ (o : Levels) (x : List Step) (s : Step) (n : ℕ) (v : StepView) (a : A
             ∙ sym (ap (λ (r : AuditReached). r.audit) reached);
       }
 
-  -- and tells its break
+  -- the break of `s`, if there is one, is what `s` adds to the recording's breaks
   pub told_next : FindsFirst → malformed_step (recorded o (x ++ s ∷ [])) ≡ None → o.slots ≤ 21
       → (found : Option Break) → found ≡ fault_at a.memories u.before u.after cs later s.time
       → breaks (recorded o (x ++ s ∷ [])) ≡ breaks (recorded o x) ++ option_to_list found

@@ -1,4 +1,4 @@
--- What an audit that keeps up with a recording has found of it.
+-- What an audit has found of the recording that it took.
 use Rattle.std.proofs.Common.{◌≡◌, ℕ, ◌+◌, ◌-◌, ◌^◌, ◌≤◌, suc, Bool, false, ◌||◌, List, length, refl, sym, ◌∙◌, ap}
 use Rattle.std.proofs.Common.{arith, Option, None, Some}
 use Rattle.std.specs.Option.{option_map}
@@ -33,12 +33,12 @@ use Rattle.vme_auditor.proofs.TalliedSteps.{tally_along, tally_by}
 use Rattle.vme_auditor.proofs.TallyBounds.{Fits, IsExact, pending_exact, tally_exact}
 use Rattle.vme_auditor.proofs.ToldBreaks.{FindsFirst, recorded, told_are_breaks}
 
--- nothing was asked before a recording
+-- no rule is asked before a recording
 nothing_asked : (r : Rule) → asks_by nothing_happened r ≡ false
 nothing_asked rule.U1 = refl
 nothing_asked r = refl
 
--- nor was anything counted
+-- nothing is counted before a recording
 nothing_fits : Fits 0 0 0 0 nothing_counted None
 nothing_fits =
     record {

@@ -1,4 +1,4 @@
--- The breaks of a recording grow as its steps come: by what an audit tells.
+-- The breaks of a recording grow as its steps come, by the breaks that an audit returns.
 use Rattle.std.proofs.Common.{◌≡◌, ℕ, ◌+◌, ◌≤◌, List, [], ◌∷◌, ◌++◌, length, refl, sym, ◌∙◌, ap, subst, arith}
 use Rattle.std.proofs.Common.{All, IfSome, Option, None, Some}
 use Rattle.std.proofs.lemmas.List.Elements.{All-append, All-cons, All-nil, All-weaker}
@@ -31,7 +31,7 @@ own_within n m time le None = All-nil (λ (b : Break). b.instant ≤ m)
 own_within n m time le (Some f) =
     All-cons (λ (b : Break). b.instant ≤ m) (break_of_fault n time f) [] le (All-nil (λ (b : Break). b.instant ≤ m))
 
--- what was told is at the instants of the steps
+-- no returned break is after the last step
 told_within : (x : List Step) (r : AuditReached) → All (λ (b : Break). b.instant ≤ r.instant) r.told
     → All (λ (b : Break). b.instant ≤ r.instant + length x) (fold with_step r x).told
 told_within [] r so_far =

@@ -30,7 +30,7 @@ pub marked_within : (ks : List MarkKind) → MarksWithin 1 (marked ks)
 marked_within [] = tt
 marked_within (k ∷ ks) = (omega arith, omega arith, marked_within ks)
 
--- kinds below others come before them
+-- a mark of a kind from `n` on is placed after marks of kinds below `n`
 module _ (n : ℕ) where
   front_all : (k : MarkKind) (ls : List MarkKind) → n ≤ kind_number k → AllBelow n ls
       → front (mark_at 1 k) (marked ls) ≡ marked ls
@@ -66,7 +66,7 @@ module _ (n : ℕ) where
   merged_before (k ∷ ks) ls b f =
       rw (front_none k ls b.0 f, rest_all k ls b.0 f) (ap (λ x. mark_at 1 k ∷ x) (merged_before ks ls b.1 f))
 
--- held lines and acknowledges show nothing
+-- the monitors of held lines and of acknowledges show no marks
 stability_silent : (x : List Step) (m : Memories) (o : Levels) → (stability_run m.stability o x).marks ≡ []
 unfolding stability_run
 stability_silent [] m o = refl
@@ -121,7 +121,7 @@ three_joined (s ∷ x) m o =
     ∙ ap (λ (y : List Mark). marked (kinds_shown m o after s.changes) ++ map (shifted_mark 1) y)
     (three_joined x next after)
 
--- and those of all five
+-- the merged marks of the five monitors' runs are the joined marks
 pub runs_joined : (x : List Step) (m : Memories) (o : Levels)
     → merged (known_run m.known o x).marks
     (merged (handshake_run m.handshake o x).marks

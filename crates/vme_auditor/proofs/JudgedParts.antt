@@ -1,4 +1,4 @@
--- Whether the last part is judged, by the memory in which the monitors are, and the last break.
+-- Whether the last part is judged, by the memories of the monitors, and the instant of the last break.
 use Rattle.std.proofs.Common.{◌≡◌, ℕ, zero, suc, ◌+◌, ◌≤◌, List, [], ◌∷◌, ◌++◌, length, drop}
 use Rattle.std.proofs.Common.{refl}
 use Rattle.std.proofs.Common.{sym, ◌∙◌, ap, subst, arith, add-one, append-nil, Option, None, Some}
@@ -30,7 +30,7 @@ use Rattle.vme_auditor.proofs.ToldBreaks.{FindsFirst, levels_next, memories_behi
 use Rattle.vme_auditor.proofs.ToldBreaks.{rest_slots}
 use Rattle.vme_auditor.proofs.ToldBreaks.{rest_sound}
 
--- where the monitors are behind some steps
+-- the memories of the monitors after steps `x`
 unfoldable pub memories_from : Memories → Levels → List Step → Memories
 memories_from m o [] = m
 memories_from m o (s ∷ x) =
@@ -46,7 +46,7 @@ memories_along (s ∷ x) r =
     memories_along x (with_step r s)
     ∙ ap (λ (m : Memories). memories_from m (changed r.levels s.changes) x) (memories_stepped r s)
 
--- up to the first break, and behind it
+-- the memories up to the first break, and after it
 abbrev memories_to : Memories → Levels → List Step → Option Break → Memories
 memories_to m o x None = quiet_memories m o x
 memories_to m o x (Some b) =
@@ -88,6 +88,7 @@ same_started [] = refl
 same_started (span ∷ spans) = refl
 
 module _ (finds : FindsFirst) (starts : KnowsStart) where
+  -- after steps `x` the monitors have started exactly if the last part is judged
   abbrev AreJudged : ℕ → Type 0
   AreJudged n = (start : ℕ) (o : Levels) (x : List Step) → length x ≤ n → malformed_step (recorded o x) ≡ None
       → o.slots ≤ 21
@@ -125,7 +126,7 @@ module _ (finds : FindsFirst) (starts : KnowsStart) where
       (judged_by start o x ok few n short (parts_judged n) (first_break_from (memories_at o) o x)
       (first_within x (memories_at o) o))
 
--- the instant of the last break is that of the last one told
+-- the instant of the last break is that of the last one returned
 last_told : (bs : List Break) (b : Break) → last_instant_of (bs ++ b ∷ []) ≡ Some b.instant
 last_told [] b = refl
 last_told (c ∷ []) b = refl

@@ -1,4 +1,4 @@
--- What marks add to a tally, one by one, is what the rows have that they make.
+-- What marks add to a tally, one by one, is what is counted of the rows that they make.
 use Rattle.std.proofs.Common.{◌≡◌, ℕ, suc, ◌+◌, Bool, true, false, ◌||◌, List, [], ◌∷◌, refl, sym}
 use Rattle.std.proofs.Common.{◌∙◌}
 use Rattle.std.proofs.Common.{ap, arith, cond, Option, None, Some}
@@ -25,7 +25,7 @@ use Rattle.vme_auditor.specs.Tallied.{no_counts, of_direction}
 use Rattle.vme_auditor.specs.declared.tally.StartedTransfer.{StartedTransfer}
 use Rattle.vme_auditor.specs.declared.tally.Tally.{Tally}
 
--- the counts of both
+-- the sum of two counts, field by field
 abbrev pub sum_of : Counts → Counts → Counts
 sum_of c d =
     record {
@@ -48,7 +48,7 @@ nothing_counted = no_counts.counts
 abbrev one_pending : Counts
 one_pending = record nothing_counted { pending = 1 }
 
--- what a mark adds, by where and when a transfer starts at an instant
+-- what a mark adds to a tally; `at` gives the start of a transfer by its instant
 module _ (at : ℕ → StartedTransfer) where
   abbrev pub kind_tallied : Tally → ℕ → MarkKind → Tally
   kind_tallied a i kind.Reset = at_reset suc a
@@ -68,7 +68,7 @@ module _ (at : ℕ → StartedTransfer) where
   abbrev pub mark_tallied : Tally → Mark → Tally
   mark_tallied a m = kind_tallied a m.instant m.kind
 
--- what the transfer comes to that started last, by the marks after it
+-- what an answer by `line` counts for the transfer that started last: it stays pending if no cycle started
 abbrev answer_counts : Option ℕ → ℕ → Counts
 answer_counts None line = one_pending
 answer_counts (Some cycle) line = by_line suc nothing_counted line
@@ -79,7 +79,7 @@ waiting_counts latest (m ∷ ms) =
     option_map_or (λ (a : TransferAnswer). answer_counts latest a.line) (answer_of m.kind)
     (cond (is_transfer m.kind || is_reset m.kind) one_pending (waiting_counts (cycle_after latest m) ms))
 
--- the same if a transfer waits
+-- the count of the waiting transfer's outcome by the marks `ms`, if a transfer waits
 abbrev still_counts : Option StartedTransfer → Option ℕ → List Mark → Counts
 still_counts None latest ms = nothing_counted
 still_counts (Some started) latest ms = waiting_counts latest ms
@@ -124,7 +124,7 @@ sum_assoc b c d =
     same_counts (sum_of (sum_of b c) d) (sum_of b (sum_of c d)) (omega arith) (omega arith) (omega arith) (omega arith)
     (omega arith) (omega arith) (omega arith) (omega arith) (omega arith) (omega arith) (omega arith)
 
--- one more of a kind may be counted with what stands before or with what comes behind
+-- one more of a kind may be counted in the first of three counts or in the last
 module _ (c w r : Counts) where
   reset_moved : sum_of (record c { resets = suc c.resets }) (sum_of w r)
       ≡ sum_of c (sum_of w (record r { resets = suc r.resets }))
@@ -168,7 +168,7 @@ module _ (c w r : Counts) where
       (sum_of c (sum_of w (record r { acknowledge = suc r.acknowledge }))) refl refl refl refl refl (omega arith) refl
       refl refl refl refl
 
--- so may a transfer that stays without an answer
+-- a transfer without an answer may be counted in the first of two counts or in the last
 pending_moved : (c r : Counts) → sum_of (record c { pending = suc c.pending }) r ≡ sum_of c (sum_of one_pending r)
 pending_moved c r =
     same_counts (sum_of (record c { pending = suc c.pending }) r) (sum_of c (sum_of one_pending r)) (omega arith)
@@ -220,7 +220,7 @@ pending_row false i rows =
     (omega arith) (omega arith) (omega arith) (omega arith) (omega arith) (omega arith) (omega arith) (omega arith)
     (omega arith) (omega arith)
 
--- an answered one
+-- the row of an answered transfer
 module _ (i cycle answer : ℕ) (close : Option ℕ) (lanes : Option Lanes) (rows : List Row) where
   abbrev answered_row_of : Bool → Bool → Row
   answered_row_of write dtack =
@@ -259,7 +259,7 @@ module _ (i cycle answer : ℕ) (close : Option ℕ) (lanes : Option Lanes) (row
       (sum_of (by_line suc nothing_counted line) (counts_of_rows rows))
   answered_row write line = answered_by write (line == DTACK)
 
--- a transfer is counted by its direction and by what it comes to
+-- a transfer is counted by its direction and by its outcome
 module _ (i : ℕ) (write : Bool) (close : Option ℕ) (rows : List Row) where
   abbrev OfTransfer : Option ℕ → List Mark → Type 0
   OfTransfer latest ms = counts_of_rows (marked_transfer i (marked_direction write) close latest ms ∷ rows)
@@ -293,14 +293,14 @@ module _ (i : ℕ) (write : Bool) (close : Option ℕ) (rows : List Row) where
 abbrev pub tally : Counts → Option ℕ → Option StartedTransfer → Option StartedTransfer → Tally
 tally c latest w u = record { counts = c; has_cycle = is_some latest; waiting = w; unanswered = u }
 
--- what doesn't speak of transfers leaves one that waits
+-- a mark that is no answer, no transfer and no reset leaves the waiting transfer as it is
 still_same : (w : Option StartedTransfer) (latest : Option ℕ) (m : Mark) (ms : List Mark) → answer_of m.kind ≡ None
     → (is_transfer m.kind || is_reset m.kind) ≡ false → still_counts w latest (m ∷ ms)
     ≡ still_counts w (cycle_after latest m) ms
 still_same None latest m ms e f = refl
 still_same (Some s) latest m ms e f = rw (e, f) refl
 
--- where no more comes
+-- adding nothing changes no count
 sum_none : (c : Counts) → sum_of c (sum_of nothing_counted nothing_counted) ≡ c
 sum_none c =
     same_counts (sum_of c (sum_of nothing_counted nothing_counted)) c (omega arith) (omega arith) (omega arith)
@@ -331,6 +331,7 @@ module _ (at : ℕ → StartedTransfer) where
   abbrev expected : Counts → Option ℕ → Option StartedTransfer → List Mark → Counts
   expected c latest w ms = sum_of c (sum_of (still_counts w latest ms) (rest latest ms))
 
+  -- for any tally, the marks `ms` add to its counts what is expected
   abbrev AreCounted : List Mark → Type 0
   AreCounted ms = (c : Counts) (latest : Option ℕ) (w u : Option StartedTransfer)
       → after_marks (tally c latest w u) ms ≡ expected c latest w ms
@@ -341,7 +342,7 @@ module _ (at : ℕ → StartedTransfer) where
     MoreCounted w k = after_marks (tally c latest w u) (record { instant = i; kind = k } ∷ ms)
         ≡ expected c latest w (record { instant = i; kind = k } ∷ ms)
 
-    -- what has no row and leaves the tally
+    -- a mark that has no row and leaves the tally as it is adds nothing to what is expected
     unlisted : (w : Option StartedTransfer) (k : MarkKind) → answer_of k ≡ None → (is_transfer k || is_reset k) ≡ false
         → cycle_after latest (record { instant = i; kind = k }) ≡ latest
         → after_marks (tally c latest w u) ms
@@ -418,7 +419,7 @@ module _ (at : ℕ → StartedTransfer) where
 
   module _ (ms : List Mark) (counted : AreCounted ms) (c : Counts) (u : Option StartedTransfer) (line : ℕ)
       (lanes : Option Lanes) where
-    -- the transfer that waits, if one does, is answered
+    -- the count of the answer to the waiting transfer, if one waits
     abbrev answered_counts_of : Option StartedTransfer → Option ℕ → Counts
     answered_counts_of None latest = nothing_counted
     answered_counts_of (Some s) latest = answer_counts latest line
@@ -437,7 +438,7 @@ module _ (at : ℕ → StartedTransfer) where
         ∙ line_moved c (sum_of nothing_counted (rest (Some k) ms)) line
         ∙ ap (λ (d : Counts). sum_of c (sum_of (by_line suc nothing_counted line) d)) (sum_nothing (rest (Some k) ms))
 
-  -- the counts behind some marks are those before, those of the transfer that waits, and those of the rows
+  -- the counts after marks `ms` are those before, that of the waiting transfer, and those of the rows
   pub marks_counted : (ms : List Mark) → AreCounted ms
   unfolding counts_of_rows
   marks_counted [] c latest None u = sym (sum_none c)

@@ -33,7 +33,7 @@ abbrev pub has_reset : List Mark → Bool
 has_reset [] = false
 has_reset (m ∷ ms) = is_reset m.kind || has_reset ms
 
--- the transfer that started last stays without an answer, by the marks after it
+-- the transfer that started last stays without an answer in the marks `ms` after it
 abbrev waits : Option ℕ → List Mark → Bool
 waits latest [] = true
 waits latest (m ∷ ms) =
@@ -64,7 +64,7 @@ module _ (i : ℕ) (direction : Direction) (close : Option ℕ) where
   answer_pending None at a = refl
   answer_pending (Some k) at a = refl
 
-  -- what no row of a transfer is
+  -- a property that no row of a transfer has
   module _ (is : Row → Bool) (pending : is (row.PendingTransfer i direction) ≡ false)
       (answered : (line : AnswerLine) (cycle answer : ℕ) (lanes : Option Lanes)
       → is (row.Transfer direction line i cycle answer close lanes) ≡ false) where
@@ -171,11 +171,12 @@ module _ (at : ℕ → StartedTransfer) where
       → Option StartedTransfer
   hanging_before u w latest ms = cond (has_reset ms) None (option_or u (still_waits w latest ms))
 
+  -- for any tally, the first hanging transfer after marks `ms` is one from before them, or else one of their rows
   abbrev Hangs : List Mark → Type 0
   Hangs ms = (c : Counts) (latest : Option ℕ) (w u : Option StartedTransfer)
       → hang_after (tally c latest w u) ms ≡ option_or (hanging_before u w latest ms) (hanging_among latest ms)
 
-  -- what started before, and what starts here
+  -- the first of a transfer from before (`u`), one from instant `i` and a later one (`h`); a reset clears the first two
   hangs_first : (reset wait : Bool) (u : Option StartedTransfer) (i : ℕ) (h : Option ℕ)
       → option_or (cond reset None (option_or u (cond wait (Some (at i)) None))) (option_map at h)
       ≡ option_or (cond reset None u) (option_map at (option_or (cond reset None (cond wait (Some i) None)) h))
@@ -185,7 +186,7 @@ module _ (at : ℕ → StartedTransfer) where
   hangs_first false false None i h = refl
 
   module _ (ms : List Mark) (hangs : Hangs ms) (c : Counts) (i : ℕ) where
-    -- what has no row of a transfer or of a reset
+    -- a mark that makes no row of a transfer or of a reset changes no hanging transfer
     other_hangs : (k : MarkKind) (d : Counts) (latest next : Option ℕ) (w u : Option StartedTransfer)
         → answer_of k ≡ None
         → (is_transfer k || is_reset k) ≡ false → cycle_after latest (record { instant = i; kind = k }) ≡ next
@@ -235,7 +236,7 @@ module _ (at : ℕ → StartedTransfer) where
 
   module _ (ms : List Mark) (hangs : Hangs ms) (c : Counts) (u : Option StartedTransfer) (line : ℕ)
       (lanes : Option Lanes) where
-    -- the transfer that waits, if one does, is answered
+    -- the transfer that stays without an answer though an answer comes: the waiting one, if no cycle started
     abbrev left_waiting : Option StartedTransfer → Option ℕ → Option StartedTransfer
     left_waiting None latest = None
     left_waiting (Some s) latest = cond (not (is_some latest)) (Some s) None
@@ -251,7 +252,7 @@ module _ (at : ℕ → StartedTransfer) where
     answer_hangs (Some k) None = hangs c (Some k) None u
     answer_hangs (Some k) (Some s) = hangs (by_line suc c line) (Some k) None u
 
-  -- behind some marks the first transfer without an answer is one from before, the one that waits, or one of the rows
+  -- after marks `ms` the first transfer without an answer is one from before, the waiting one, or one of the rows
   pub marks_hang : (ms : List Mark) → Hangs ms
   marks_hang [] c latest None u = sym (or_nothing (option_or u None))
   marks_hang [] c latest (Some s) u = sym (or_nothing (option_or u (Some s)))

@@ -1,4 +1,4 @@
--- A net has an edge at an instant where a change of the step to it says so.
+-- A net has an edge at an instant exactly if a change of the step to it makes that edge.
 use Rattle.std.proofs.Common.{◌≡◌, ℕ, zero, suc, ◌+◌, ◌-◌, ◌/◌, ◌<◌, ◌≤◌, Bool, true, false, ◌&&◌, ◌||◌, List}
 use Rattle.std.proofs.Common.{[], ◌∷◌, refl, sym, ◌∙◌, ap, arith}
 use Rattle.std.specs.Prelude.{◌==◌}
@@ -40,7 +40,7 @@ same_truth true false f g = sym (f refl)
 same_truth false true f g = g refl
 same_truth false false f g = refl
 
--- some line has a property that only changed lines have, where a change says so of its line
+-- some line has a property that only changed lines have exactly if the line of some change has it
 module _ (p q : ℕ → Bool) (v : Levels) (few : v.slots ≤ 21)
     (there : (l : ℕ) → has_line v.slots l ≡ true → q l ≡ p l) where
   abbrev exists_first : (lowest : ℕ) (c : Change) (cs : List Change) → are_changes v lowest (c ∷ cs) ≡ true → Type 0
@@ -140,7 +140,7 @@ module _ (v : Levels) (few : v.slots ≤ 21) (cs : List Change) (fit : are_chang
       alone l e = still l (rises_between v after l)
           (ap (λ (x : Level). is_low (level_at v l) && is_high x) (level-kept v cs l e) ∙ never_rises (level_at v l))
 
--- the grant nets that the arbiter drives, by their levels
+-- the grant nets from the arbiter, of levels 0 to 3
 arbiter_net : (n : ℕ) → n < 4 → is_arbiter_grant (grant n 0) ≡ true
 arbiter_net zero h = refl
 arbiter_net (suc zero) h = refl

@@ -1,4 +1,4 @@
--- The outcome by what was found is that of the definitions.
+-- The outcome by the findings is that of the definitions.
 use Rattle.std.proofs.Common.{◌≡◌, ℕ, suc, ◌-◌, ◌^◌, ◌<◌, ◌≤◌, Bool, true, false, not, List, [], ◌∷◌, length, refl, ◌∙◌}
 use Rattle.std.proofs.Common.{ap, arith, cond, Option, None, Some}
 use Rattle.std.specs.Prelude.{min, nat_lt}
@@ -35,7 +35,7 @@ module _ (f : AuditFindings) (c : BreakCounts) (wanted : ℕ) where
       rw (lt_fails 0 c.broken none, lt_fails 0 c.unreadable no_more)
       (ap (λ (gap : Option CoverageGap). option_map_or NotCovered gap (Conforming c.allowed)) e)
 
--- there are some breaks where their number is over 0
+-- there is a break exactly if the number of breaks is over 0
 some_breaks : (bs : List Break) → nat_lt 0 (length bs) ≡ any_of bs
 some_breaks [] = refl
 some_breaks (b ∷ bs) = lt_holds 0 (suc (length bs)) (omega arith)
@@ -45,7 +45,7 @@ idle_behind [] = refl
 idle_behind (b ∷ []) = refl
 idle_behind (b ∷ c ∷ bs) = idle_behind (c ∷ bs)
 
--- a sum that saturates is compared with a number of 64 bits as the sum is
+-- comparing a saturated sum with a number of 64 bits has the same result as comparing the exact sum
 few_answers : (answers wanted : ℕ) (other : Option CoverageGap) → wanted ≤ 2 ^ 64 - 1
     → cond (nat_lt (min answers (2 ^ 64 - 1)) wanted) (Some (FewAnswers (min answers (2 ^ 64 - 1)) wanted)) other
     ≡ cond (nat_lt answers wanted) (Some (FewAnswers answers wanted)) other

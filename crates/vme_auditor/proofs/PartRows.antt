@@ -1,4 +1,4 @@
--- The rows of a part, as far as they are counted, are those that its marks make before its break.
+-- The counted rows of a part are those that its marks before its break make.
 use Rattle.std.proofs.Common.{◌≡◌, ℕ, zero, suc, ◌+◌, ◌<◌, ◌≤◌, Bool, true, false, not, List, [], ◌∷◌, ◌++◌}
 use Rattle.std.proofs.Common.{map, refl}
 use Rattle.std.proofs.Common.{sym, ◌∙◌, ap, subst, arith, cond, take, filter, Option, None, Some, append-nil}
@@ -82,12 +82,12 @@ no_verdict (m ∷ ms) latest = by_kind (no_verdict ms) m.instant m.kind
     by_kind so_far i (kind.WriteAnswer line moved unknown value) = so_far latest
     by_kind so_far i kind.Close = so_far latest
 
--- rows count alike, and leave the same transfer without an answer
+-- two lists of rows have equal counts, and the same transfer hangs
 pub record CountAlike (xs ys : List Row) : Type 0 where
   pub counted : counts_of_rows xs ≡ counts_of_rows ys
   pub hangs : hanging xs ≡ hanging ys
 
--- what the opening shows isn't counted
+-- the marks of the opening aren't counted
 opening_uncounted : (v : Levels) (ms : List Mark) → CountAlike (marked_rows None (opening_marks v ++ ms))
     (marked_rows None ms)
 unfolding counts_of_rows
@@ -110,7 +110,7 @@ opening_uncounted v ms = by_tests (is_idle v) (is_low (level_at v BBSY))
 alike : (xs ys zs : List Row) → xs ≡ ys → CountAlike ys zs → CountAlike xs zs
 alike xs ys zs e a = record { counted = ap counts_of_rows e ∙ a.counted; hangs = ap hanging e ∙ a.hangs }
 
--- the rows of a part, by what is judged, its break and its marks
+-- the rows of a part, by whether judging has started, its first break and its marks
 rows_alike : (v : Levels) (started : Bool) (first_break : Option Break) (ms : List Mark)
     → (started ≡ false → ms ≡ [])
     → CountAlike (filter is_told (listed v started first_break ms)) (marked_rows None (marks_listed first_break ms))
@@ -134,7 +134,7 @@ silent_unstarted : (t : Trace) (spans : List Stretch) → has_span spans ≡ fal
 silent_unstarted t [] e = refl
 silent_unstarted t (span ∷ spans) e = absurd (cc)
 
--- the marks are those of the monitors
+-- the joined marks of the monitors are the marks of the recording
 abbrev pub ShowsMarks : Type 0
 ShowsMarks = (t : Trace) → malformed_step t ≡ None → t.opening.slots ≤ 21
     → joined_marks (memories_at t.opening) t.opening t.steps ≡ all_marks t
@@ -158,7 +158,7 @@ part_rows shows start t ok few first_break e =
 
 -- ---- the marks before a break
 
--- marks of the first instant
+-- marks of the first instant are before any instant `n > 1`
 first_pass : (n : ℕ) (ks : List MarkKind) (ms : List Mark) → 1 < n → marks_before n (map (mark_at 1) ks ++ ms)
     ≡ map (mark_at 1) ks ++ marks_before n ms
 first_pass n [] ms h = refl
@@ -169,7 +169,7 @@ first_stop : (ks : List MarkKind) (ms : List Mark) → marks_before 1 ms ≡ [] 
 first_stop [] ms h = h
 first_stop (k ∷ ks) ms h = refl
 
--- later ones
+-- for marks that are one instant later the bound is one more
 later_before : (n : ℕ) (ms : List Mark) → marks_before (suc n) (map (shifted_mark 1) ms)
     ≡ map (shifted_mark 1) (marks_before n ms)
 later_before n [] = refl
@@ -188,7 +188,7 @@ none_before : (ms : List Mark) → marks_before 0 ms ≡ []
 none_before [] = refl
 none_before (m ∷ ms) = rw (lt_fails m.instant 0 (omega arith)) refl
 
--- before an instant stand the marks of the steps before it
+-- the marks before instant `k + 1` are those of the first `k` steps
 pub marks_cut : (k : ℕ) (x : List Step) (m : Memories) (o : Levels) → marks_before (suc k) (joined_marks m o x)
     ≡ joined_marks m o (take k x)
 unfolding joined_marks

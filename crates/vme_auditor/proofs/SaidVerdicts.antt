@@ -1,4 +1,4 @@
--- What the outcome of a recording says of its verdict.
+-- What the outcome of a recording determines of its verdict.
 use Rattle.std.proofs.Common.{◌≡◌, ℕ, suc, Bool, true, false, not, List, [], ◌∷◌, length, filter, refl, sym, ◌∙◌, ap}
 use Rattle.std.proofs.Common.{cond, Option, None, Some}
 use Rattle.std.specs.Prelude.{nat_lt}
@@ -98,13 +98,13 @@ module _ (allowances : List Allowance) (gap : Option CoverageGap) where
   unbroken [] e = refl
   unbroken (b ∷ bs) e = absurd (none_conforms b bs (is_allowed allowances b) (is_unreadable b.rule) refl e)
 
--- what is judged, where there is no gap
+-- where there is no gap, something is judged
 judged_by : (judged few : Bool) (first second : CoverageGap) (third : Option CoverageGap)
     → cond (not judged) (Some first) (cond few (Some second) third) ≡ None → judged ≡ true
 judged_by true few first second third e = refl
 judged_by false few first second third e = absurd (cc)
 
--- nothing is judged, and there is no break, where the bus is never idle
+-- if the gap is "never idle", there is no break
 idle_first : (bs : List Break) → never_idle bs ≡ NeverIdle → bs ≡ []
 idle_first [] e = refl
 idle_first (b ∷ bs) e = absurd (is_behind bs b e)

@@ -1,4 +1,4 @@
--- What each monitor shows at a step is of its own kinds alone.
+-- Each monitor shows only marks of its own kinds at a step.
 use Rattle.std.proofs.Common.{◌≡◌, ℕ, ◌<◌, ◌≤◌, Bool, true, false, ◌||◌, List, [], ◌∷◌, ◌++◌, refl, sym, subst, arith}
 use Rattle.std.proofs.Common.{lit<, lit≤, cond, Option, None, Some}
 use Rattle.std.specs.Option.{is_some, option_map, option_map_or, option_to_list}
@@ -35,7 +35,7 @@ use Rattle.vme_chains.specs.AcknowledgeRules.{acknowledge_start_marks, acknowled
 use Rattle.vme_auditor.specs.Memories.{acknowledge_at, grant_at, handshake_at, known_at, stability_at}
 use Rattle.vme_auditor.specs.declared.memories.Memories.{Memories}
 
--- what a machine shows that is led over stretches is what it shows as it starts, where it is reset, or by its rules
+-- a machine run over stretches shows its start marks, its reset marks, or what its rules show
 module _ {P S : Type 0} (begin : Levels → P) (start_marks : Levels → StepMarks) (reset_marks : StepMarks)
     (end_fault : ℕ → Option Fault)
     (next : P → Levels → Levels → S → Next P) (IsOwn : StepMarks → Type 0) (none : IsOwn no_step_marks)
@@ -122,7 +122,7 @@ module _ (m : Memories) (v w : Levels) (cs : List Change) where
       shown_own acknowledge_begin acknowledge_start_marks no_step_marks acknowledge_end_fault acknowledge_next IsNothing
       refl (λ v. refl) refl (λ p v w s. refl) acknowledge_observation v w cs m.acknowledge
 
--- numbers of kinds below a bound, and from one on
+-- all kinds have numbers below `n` (`AllBelow`), or from `n` on (`AllFrom`)
 abbrev pub AllBelow : ℕ → List MarkKind → Type 0
 AllBelow n [] = Unit {0}
 AllBelow n (k ∷ ks) = (kind_number k < n) × AllBelow n ks
@@ -148,7 +148,7 @@ answer_from : (line : ℕ) (lanes : Option Lanes) → 5 ≤ kind_number (answer_
 answer_from line None = lit≤ tt
 answer_from line (Some lanes) = lit≤ tt
 
--- the kinds of the stretch come first
+-- the kinds of the stretch have numbers below 2
 stretch_pieces : (reset start : Bool) → AllBelow 2 (kinds_of (record no_step_marks { reset = reset; start = start }))
 stretch_pieces true true = (lit< tt, (lit< tt, tt))
 stretch_pieces true false = (lit< tt, tt)
@@ -158,7 +158,7 @@ stretch_pieces false false = tt
 pub stretch_below : (k : StepMarks) → OfStretch k → AllBelow 2 (kinds_of k)
 stretch_below k own = subst (λ (k : StepMarks). AllBelow 2 (kinds_of k)) (sym own) (stretch_pieces k.reset k.start)
 
--- then those of the tenure
+-- the kinds of the tenure have numbers from 2 on, and below 5
 abbrev of_tenure : Bool → Option BusGrant → Bool → StepMarks
 of_tenure opened tenure tenure_end =
     record no_step_marks { opened = opened; tenure = tenure; tenure_end = tenure_end }
@@ -193,7 +193,7 @@ pub tenure_from : (k : StepMarks) → OfTenure k → AllFrom 2 (kinds_of k)
 tenure_from k own = subst (λ (k : StepMarks). AllFrom 2 (kinds_of k)) (sym own)
     (tenure_from_pieces k.opened k.tenure k.tenure_end)
 
--- and those of the cycle and the transfer last
+-- the kinds of the cycle and the transfer have numbers from 5 on
 module _ (n : ℕ) (few : n ≤ 5) where
   enough : (k : ℕ) → 5 ≤ k → n ≤ k
   enough k h = omega arith

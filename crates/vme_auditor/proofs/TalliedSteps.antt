@@ -1,4 +1,4 @@
--- What a tally comes to step by step, and what the marks of the steps add to it one by one.
+-- A tally step by step, and what the marks of the steps add to it one by one, are the same.
 use Rattle.std.proofs.Common.{◌≡◌, ℕ, suc, ◌+◌, ◌-◌, Bool, true, false, List, [], ◌∷◌, ◌++◌, length}
 use Rattle.std.proofs.Common.{map}
 use Rattle.std.proofs.Common.{take, drop, refl, sym, ◌∙◌, ap, arith, add-one, cond, Option, None, Some}
@@ -41,7 +41,7 @@ module _ (at : ℕ → StartedTransfer) (i : ℕ) where
   abbrev kind_step : Tally → MarkKind → Tally
   kind_step a k = kind_tallied at a i k
 
-  -- the same at once
+  -- what the kinds of one instant add, all at once
   abbrev kinds_tallied : Tally → StepMarks → Tally
   kinds_tallied a k =
       let b = cond k.reset (at_reset suc a) a in
@@ -50,6 +50,7 @@ module _ (at : ℕ → StartedTransfer) (i : ℕ) where
       let e = option_map_or (at_transfer suc d (at i)) k.transfer d in
       option_map_or (at_answer suc e) k.answer e
 
+  -- the kinds `xs`, and after them `ys`, take tally `a` to `c`
   two : (xs ys : List MarkKind) (a b c : Tally) → fold kind_step a xs ≡ b → fold kind_step b ys ≡ c
       → fold kind_step a (xs ++ ys) ≡ c
   two xs ys a b c p q = fold-append kind_step a xs ys ∙ ap (λ (b : Tally). fold kind_step b ys) p ∙ q
@@ -150,7 +151,7 @@ module _ (at : ℕ → StartedTransfer) (i : ℕ) where
   marks_of_kinds [] a = refl
   marks_of_kinds (k ∷ ks) a = marks_of_kinds ks (kind_step a k)
 
--- a step's marks add what the step does
+-- the marks of a step add to a tally what the step does
 step_tallied : (at : ℕ → StartedTransfer) (m : Memories) (o after : Levels) (s : Step) (a : Tally)
     → fold (mark_tallied at) a (map (mark_at 1) (kinds_shown m o after s.changes))
     ≡ tallied suc a (at 1).instant (at 1).time (known_at m.known o after s.changes).shown
@@ -169,12 +170,12 @@ step_tallied at m o after s a =
     (kinds_folded at 1 d c))
     ∙ ap (kinds_tallied at 1 c) (handshake_own m o after s.changes)
 
--- the tally behind a step: at its break the part ends
+-- the tally after a step: at a break the part ends
 abbrev pub tally_behind : (ℕ → ℕ) → Option Fault → Tally → ℕ → ℕ → StepMarks → StepMarks → StepMarks → Tally
 tally_behind more None a n time k g d = tallied more a n time k g d
 tally_behind more (Some f) a n time k g d = at_break more a
 
--- the tally behind some steps, from some memories on
+-- the tally after steps `x`, by monitors that start from memories `m`
 unfoldable pub tally_by : (ℕ → ℕ) → Memories → Levels → ℕ → Tally → List Step → Tally
 tally_by more m o n a [] = a
 tally_by more m o n a (s ∷ x) =
@@ -212,7 +213,7 @@ tally_along (s ∷ x) r =
     ∙ ap (λ (a : Tally). tally_by counted (memories_behind (first_fault_of r.audit.memories r.levels after s.changes)
     after (memories_next r.audit.memories r.levels after s.changes)) after (r.instant + 1) a x) (tally_stepped r s)
 
--- the tally behind steps that break no rule
+-- the tally after steps `x`, where breaks are ignored
 unfoldable pub quiet_tally : Memories → Levels → ℕ → Tally → List Step → Tally
 quiet_tally m o n a [] = a
 quiet_tally m o n a (s ∷ x) =
@@ -221,7 +222,7 @@ quiet_tally m o n a (s ∷ x) =
     (tallied suc a (n + 1) s.time (known_at m.known o after s.changes).shown
     (grant_at m.grant o after s.changes).shown (handshake_at m.handshake o after s.changes).shown) x
 
--- up to the first break, and behind it
+-- the tally up to the first break, and after it
 abbrev pub tally_from : Memories → Levels → ℕ → Tally → List Step → Option Break → Tally
 tally_from m o n a x None = quiet_tally m o n a x
 tally_from m o n a x (Some b) =
@@ -268,7 +269,7 @@ tally_first (s ∷ x) m o n a =
     from_stepped m o s x n a (first_fault_of m o (changed o s.changes) s.changes)
     (tally_first x (next m o s x n a) (after m o s x n a) (n + 1) (more m o s x n a))
 
--- marks of later instants
+-- marks that are one instant later add the same as the marks with `at` one instant later
 later_marks : (at : ℕ → StartedTransfer) (ms : List Mark) (a : Tally) → fold (mark_tallied at) a
     (map (shifted_mark 1) ms)
     ≡ fold (mark_tallied (λ i. at (i + 1))) a ms
@@ -290,11 +291,11 @@ later_marks at (m ∷ ms) a =
     by_kind i (kind.WriteAnswer line moved unknown value) = refl
     by_kind i kind.Close = refl
 
--- a transfer that starts at an instant, by its number and the time of its step
+-- `at` gives the start of a transfer at the `i`-th step of `x`: instant `n + i` and the time of that step
 abbrev pub StartsAt : ℕ → List Step → (ℕ → StartedTransfer) → Type 0
 StartsAt n x at = (i : ℕ) → at (suc i) ≡ record { instant = n + suc i; time = time_of (slice_get x i) }
 
--- steps that break no rule add what their marks do
+-- where breaks are ignored, steps add to a tally what their marks do
 pub quiet_marks : (x : List Step) (m : Memories) (o : Levels) (n : ℕ) (a : Tally) (at : ℕ → StartedTransfer)
     → StartsAt n x at → quiet_tally m o n a x ≡ fold (mark_tallied at) a (joined_marks m o x)
 unfolding quiet_tally joined_marks

@@ -32,7 +32,7 @@ abbrev waiting_count : Option StartedTransfer → ℕ
 waiting_count None = 0
 waiting_count (Some s) = 1
 
--- bounds of the resets, of the tenures, of the cycles and of the transfers. Each transfer has one outcome
+-- bounds of counts: `r` resets, `t` tenures, `c` cycles of each class, `m` transfers, each with at most one outcome
 pub record Fits (r t c m : ℕ) (d : Counts) (w : Option StartedTransfer) : Type 0 where
   pub resets : d.resets ≤ r
   pub tenures : d.tenures ≤ t
@@ -43,7 +43,7 @@ pub record Fits (r t c m : ℕ) (d : Counts) (w : Option StartedTransfer) : Type
   pub moved : d.reads + d.writes ≤ m
   pub served : d.pending + d.by_dtack + d.by_berr + waiting_count w ≤ d.reads + d.writes
 
--- a tally that may saturate is one that doesn't, within bounds
+-- the saturating tally `a` is the exact tally `b`, whose counts are within bounds
 pub record IsExact (r t c m : ℕ) (a b : Tally) : Type 0 where
   pub same : a ≡ b
   pub fits : Fits r t c m b.counts b.waiting
@@ -63,7 +63,7 @@ fits_more r t c m r' t' c' m' d w p q u v f =
     }
 
 module _ (r t c m : ℕ) where
-  -- the transfer that waits stays without an answer
+  -- the waiting transfer stays without an answer
   pub pending_exact : (a : Tally) → Fits r t c m a.counts a.waiting → m ≤ 2 ^ 64 - 1
       → IsExact r t c m (to_pending counted a) (to_pending suc a)
   pending_exact a f few = by_waiting a.waiting refl
@@ -258,7 +258,7 @@ module _ (r t c m : ℕ) where
         served = omega (arith, f.served);
       }
 
-  -- nothing waits any more
+  -- no transfer waits
   none_waits : (a : Tally) → (to_pending suc a).waiting ≡ None
   none_waits a = by_waiting a.waiting refl
     where
@@ -378,7 +378,7 @@ behind_exact k (Some fault) a instant time p q u f below =
           (omega arith) (omega arith) (omega arith) (omega arith) e.fits;
     }
 
--- so it is of the tally behind any steps
+-- the saturating tally is exact after steps `x`, where `k` bounds the counts before and `k + length x` fits 64 bits
 pub tally_exact : (x : List Step) (m : Memories) (o : Levels) (n : ℕ) (a : Tally) (k : ℕ)
     → Fits k k k k a.counts a.waiting → k + length x ≤ 2 ^ 64 - 1
     → IsExact (k + length x) (k + length x) (k + length x) (k + length x) (tally_by counted m o n a x)

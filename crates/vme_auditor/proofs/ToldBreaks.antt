@@ -1,4 +1,4 @@
--- What an audit tells step by step are the breaks of the parts.
+-- The breaks that an audit returns step by step are the breaks of the parts.
 use Rattle.std.proofs.Common.{◌≡◌, ℕ, zero, suc, ◌+◌, ◌≤◌, List, [], ◌∷◌, ◌++◌, length, take, drop, refl, sym, ◌∙◌}
 use Rattle.std.proofs.Common.{ap, subst, arith, append_assoc, append-nil, add-one, Option, None, Some}
 use Rattle.std.proofs.lemmas.List.{length-drop, take-append-drop}
@@ -28,12 +28,12 @@ use Rattle.vme_auditor.proofs.FirstBreaks.{first_within}
 abbrev pub recorded : Levels → List Step → Trace
 recorded o x = record { opening = o; steps = x }
 
--- the memories behind a step: at its break they begin anew
+-- the memories after a step: at a break they start anew
 abbrev pub memories_behind : Option Fault → Levels → Memories → Memories
 memories_behind None after m = m
 memories_behind (Some f) after m = memories_at after
 
--- the breaks that are told of some steps behind an instant, from some memories on
+-- the breaks returned at steps `x` after instant `n`, by monitors that start from memories `m`
 unfoldable pub told_by : Memories → Levels → ℕ → List Step → List Break
 told_by m o n [] = []
 told_by m o n (s ∷ x) =
@@ -42,7 +42,7 @@ told_by m o n (s ∷ x) =
     ++ told_by (memories_behind (first_fault_of m o after s.changes) after (memories_next m o after s.changes)) after
     (n + 1) x
 
--- the memories that an audit comes to
+-- the memories of an audit after one more step
 pub memories_stepped : (r : AuditReached) (s : Step) → (with_step r s).audit.memories
     ≡ memories_behind (first_fault_of r.audit.memories r.levels (changed r.levels s.changes) s.changes)
     (changed r.levels s.changes) (memories_next r.audit.memories r.levels (changed r.levels s.changes) s.changes)
@@ -71,11 +71,11 @@ unfolding levels_at
 levels_next o s x zero = refl
 levels_next o s x (suc n) = rw (levels_next o s x n) refl
 
--- what is told from an opening on
+-- the breaks returned where judging starts anew at levels `o`
 abbrev told_anew : Levels → ℕ → List Step → List Break
 told_anew o n x = told_by (memories_at o) o n x
 
--- a break, and what is told behind it
+-- a break, and the breaks returned after it
 abbrev told_behind : Levels → ℕ → List Step → Option Break → List Break
 told_behind o n x None = []
 told_behind o n x (Some b) =
@@ -88,12 +88,12 @@ behind_later o n s x (Some b) =
     let same : (n + 1) + b.instant ≡ n + suc b.instant = omega arith in
     rw (add-one b.instant, levels_next o s x b.instant, same) refl
 
--- up to the first break nothing is told
+-- the breaks returned from a step on are the first break and those returned after it
 module _ (o : Levels) (s : Step) (x : List Step) (n : ℕ) where
   abbrev after : Levels
   after = changed o s.changes
 
-  -- where what is told behind a step is so
+  -- if the breaks returned after step `s` are the first one there and those after it, so are those from `s` on
   first_stepped : (f : Option Fault) (m : Memories) → told_by m after (n + 1) x
       ≡ told_behind after (n + 1) x (first_break_from m after x)
       → option_to_list (option_map (break_of_fault (n + 1) s.time) f)
@@ -112,7 +112,7 @@ told_first (s ∷ x) m o n =
     let next = memories_next m o after s.changes in
     first_stepped o s x n (first_fault_of m o after s.changes) next (told_first x next after (n + 1))
 
--- the rest behind an instant of a well-formed recording
+-- what remains of a recording after an instant has the same slots, and is well formed if the recording is
 slots_after : (x : List Step) (o : Levels) → (levels_after o x).slots ≡ o.slots
 slots_after [] o = refl
 slots_after (s ∷ x) o = slots_after x (changed o s.changes) ∙ slots-kept o s.changes
@@ -127,13 +127,13 @@ rest_sound t j ok =
     subst (λ (v : Levels). malformed_step (recorded v (drop j t.steps)) ≡ None) (sym (levels_at-taken t j))
     (sound_apart t.opening (take j t.steps) (drop j t.steps) whole).second
 
--- monitors find what a verdict names
+-- the monitors find the break that a verdict names
 abbrev pub FindsFirst : Type 0
 FindsFirst = (t : Trace) → malformed_step t ≡ None → t.opening.slots ≤ 21
     → named_break (verdict t) ≡ first_break_from (memories_at t.opening) t.opening t.steps
 
 module _ (finds : FindsFirst) where
-  -- the breaks of a part and of those behind it, where they are those that are told
+  -- the breaks of a part and of the parts after it are the returned ones
   abbrev AreTold : ℕ → Type 0
   AreTold n = (start : ℕ) (o : Levels) (x : List Step) → length x ≤ n → malformed_step (recorded o x) ≡ None
       → o.slots ≤ 21 → breaks_of (parts_from n (record { start = start; trace = recorded o x })) ≡ told_anew o start x
@@ -161,7 +161,7 @@ module _ (finds : FindsFirst) where
       (breaks_behind n start o x few ok slots (breaks_told n) (first_break_from (memories_at o) o x)
       (first_within x (memories_at o) o))
 
-  -- an audit tells the breaks
+  -- the breaks of a recording are those that an audit returns
   pub told_are_breaks : (t : Trace) → malformed_step t ≡ None → t.opening.slots ≤ 21
       → breaks t ≡ (reached_after t.opening t.steps).told
   unfolding parts reached_after

@@ -1,4 +1,4 @@
--- What an audit has in common with the verdict and with the listing of a recording.
+-- How an audit agrees with the verdict and with the listing of a recording.
 use Rattle.std.proofs.Common.{◌≡◌, ℕ, zero, suc, ◌+◌, Bool, true, false, not, List, [], ◌∷◌, ◌++◌, length, filter, refl}
 use Rattle.std.proofs.Common.{sym, ◌∙◌, ap, arith, append-nil, cond, Option, None, Some}
 use Rattle.std.specs.Prelude.{flat_map, slice_get}
@@ -27,7 +27,7 @@ moved_none b = ap (λ i. record { instant = i; time = b.time; rule = b.rule; lin
     nothing : (i : ℕ) → 0 + i ≡ i
     nothing i = omega arith
 
--- the first break of a part is its own
+-- a recording's first break is that of its first part
 module _ (t : Trace) where
   abbrev here : Part
   here = whole t
@@ -61,7 +61,7 @@ module _ (t : Trace) where
   unfolding parts
   first_is = first_from (length t.steps)
 
-  -- and by its rule the verdict says so
+  -- the rule of the first break determines the verdict
   pub first_told : (b : Break) → slice_get (breaks t) 0 ≡ Some b
       → verdict t ≡ cond (is_unreadable b.rule) (Unreadable b) (Broken b)
   unfolding verdict_by
@@ -73,7 +73,7 @@ module _ (t : Trace) where
       told_of (span ∷ spans) e =
           ap verdict_on (sym (named_on (least_of all_rules t (span ∷ spans))) ∙ e)
 
-  -- where it has none, the recording is its only part
+  -- a recording without a break is its only part
   one_part : (n : ℕ) → named_break (verdict t) ≡ None → parts_from n here ≡ here ∷ []
   unfolding parts_from own_break
   one_part zero e = refl
@@ -82,7 +82,7 @@ module _ (t : Trace) where
   pub none_named : breaks t ≡ [] → named_break (verdict t) ≡ None
   none_named e = sym first_is ∙ ap (λ (bs : List Break). slice_get bs 0) e
 
-  -- what is judged in it conforms
+  -- what is judged in a recording without a break conforms
   pub unbroken_verdict : named_break (verdict t) ≡ None
       → verdict t ≡ cond (is_judged_part (last_part t)) Conforming NeverIdle
   unfolding parts verdict_by is_judged_part
@@ -101,7 +101,7 @@ module _ (t : Trace) where
   unfolding parts own_break
   no_breaks e = ap breaks_of (one_part (length t.steps) e) ∙ rw e refl
 
--- a verdict isn't counted
+-- verdict rows aren't counted
 verdict_only : (r : Row) → is_verdict r ≡ true → (v : ListedVerdict) × (r ≡ row.Verdict v)
 verdict_only (row.Start i) h = absurd (cc)
 verdict_only (row.Reset i) h = absurd (cc)

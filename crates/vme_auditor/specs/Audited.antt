@@ -1,4 +1,4 @@
--- What an audit has come to after some steps: a fold over them, of which nothing is kept.
+-- The state of an audit after some steps: a fold over the steps, which keeps none of them.
 use Rattle.std.specs.Prelude.{◌≡◌, ℕ, ◌+◌, Bool, ◌||◌, List, [], ◌++◌, length, Option, None, Some}
 use Rattle.std.specs.List.{fold}
 use Rattle.std.specs.Option.{option_to_list}
@@ -23,11 +23,11 @@ use Rattle.vme_auditor.specs.Tallied.{at_break, counted, no_counts, tallied}
 use Rattle.vme_auditor.specs.declared.asked.AskedEvents.{AskedEvents}
 use Rattle.vme_auditor.specs.declared.audit.Audit.{Audit}
 
--- judging starts
+-- judging starts, if `starts`
 abbrev pub with_stretch : AskedEvents → Bool → AskedEvents
 with_stretch e starts = record e { stretch = e.stretch || starts }
 
--- the events of a step are those of its instant, if that is judged: in a stretch before and after the step
+-- the events of a step are added if its instant is judged, i.e. in a stretch before and after the step
 abbrev pub events_in : AskedEvents → StretchPhase HandshakeMemory → Option End → Levels → Levels → List Change
     → StepMarks → AskedEvents
 events_in e (InStretch entered) None before after changes transfer = at_step e entered before after changes transfer
@@ -38,7 +38,7 @@ abbrev pub events_by : AskedEvents → StretchPhase HandshakeMemory → Option E
 events_by e entered end before after changes stretch transfer =
     with_stretch (events_in e entered end before after changes transfer) stretch.start
 
--- before the first step
+-- the audit before the first step
 abbrev pub begun_at : Levels → Audit
 begun_at o =
     record {
@@ -48,7 +48,7 @@ begun_at o =
       last_break = None;
     }
 
--- judging begins anew at the break of an instant
+-- judging starts anew at the break at instant `n`
 abbrev pub begun_anew : Audit → Levels → ℕ → Audit
 begun_anew a after n =
     record {
@@ -58,13 +58,13 @@ begun_anew a after n =
       last_break = Some n;
     }
 
--- a step is counted, or breaks a rule
+-- a step without a fault is counted, and at a fault judging starts anew
 abbrev pub ended_with : Audit → Levels → ℕ → ℕ → StepMarks → StepMarks → StepMarks → Option Fault → Audit
 ended_with a after n time stretch tenure transfer None =
     record a { tally = tallied counted a.tally n time stretch tenure transfer }
 ended_with a after n time stretch tenure transfer (Some fault) = begun_anew a after n
 
--- an audit goes on past a step, at its instant and time
+-- an audit after one more step, at its instant `n` and time `time`
 abbrev pub stepped : Audit → Levels → Levels → List Change → ℕ → ℕ → Audit
 stepped a before after changes n time =
     let stretch = (known_at a.memories.known before after changes).shown in
@@ -77,7 +77,7 @@ stepped a before after changes n time =
     after n time stretch (grant_at a.memories.grant before after changes).shown transfer
     (first_fault_of a.memories before after changes)
 
--- how far an audit has come: the levels, the instant, what it has come to, and the breaks that it told
+-- an audit after some steps: the levels, the instant, its state, and the breaks that it returned
 pub record AuditReached : Type 0 where
   pub levels : Levels
   pub instant : ℕ
@@ -101,7 +101,8 @@ with_step r step =
 unfoldable pub reached_after : Levels → List Step → AuditReached
 reached_after o steps = fold with_step (reached_at o) steps
 
--- the steps are counted, the view has the levels that they leave on both sides, and the audit has come as far
+-- the auditor's fields after the steps `taken`: their number, the levels after them on both sides of the view, and the
+-- state of the audit
 pub record HasAudited (opening : Levels) (taken : List Step) (steps : ℕ) (view : StepView)
     (audit : Audit) : Type 0 where
   pub counted : steps ≡ length taken

@@ -1,4 +1,4 @@
--- A break of a recording of any length, as the definitions have it.
+-- A break with numbers of 64 bits, as a break of the definitions.
 use Rattle.std.specs.Prelude.{ℕ, List, [], ◌∷◌, Option, None, Some}
 use Rattle.vme_trace.specs.declared.verdict.Break.{Break}
 use Rattle.vme_auditor.specs.declared.audit_break.AuditBreak.{AuditBreak}

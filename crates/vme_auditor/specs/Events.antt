@@ -1,4 +1,4 @@
--- Which events happened of which rules speak, by the steps at which they do.
+-- Which of the events happened that rules refer to, step by step.
 use Rattle.std.specs.Prelude.{ℕ, Bool, true, false, ◌&&◌, ◌||◌, List, Option, None, Some, is_some}
 use Rattle.std.specs.List.{fold}
 use Rattle.std.specs.Option.{option_map_or}
@@ -47,7 +47,7 @@ nothing_happened =
       acknowledge_fall = false;
     }
 
--- an event happened
+-- whether an event happened
 abbrev pub has_happened : AskedEvents → Event → Bool
 has_happened e event.stretch = e.stretch
 has_happened e event.cycle = e.cycle
@@ -70,11 +70,11 @@ has_happened e event.grant_fall = e.arbiter_fall || e.slot_grant_fall
 has_happened e event.tenure = e.tenure
 has_happened e event.acknowledge_fall = e.acknowledge_fall
 
--- the event of a rule happened
+-- whether the event of rule `r` happened
 abbrev pub asks_by : AskedEvents → Rule → Bool
 asks_by e r = has_happened e (event_of r)
 
--- the class of a cycle that says which answers may follow
+-- whether the cycle is an interrupt acknowledge
 abbrev pub is_interrupt_cycle : CyclePhase → Bool
 is_interrupt_cycle Interrupt = true
 is_interrupt_cycle InterruptDone = true
@@ -84,14 +84,14 @@ abbrev pub is_interrupt_entered : CyclePhase → Option CycleStart → Bool
 is_interrupt_entered cycle None = is_interrupt_cycle cycle
 is_interrupt_entered cycle (Some start) = is_interrupt start.class
 
--- an edge of a net that the backplane has
+-- a net that the backplane has falls or rises
 abbrev pub net_falls : Levels → Levels → ℕ → Bool
 net_falls before after l = has_line before.slots l && has_line after.slots l && falls_between before after l
 
 abbrev pub net_rises : Levels → Levels → ℕ → Bool
 net_rises before after l = has_line before.slots l && has_line after.slots l && rises_between before after l
 
--- ---- the events with those of one step more
+-- ---- the events after one more step
 
 abbrev pub cycle_taken : AskedEvents → Levels → Levels → StepMarks → AskedEvents
 cycle_taken e before after shown = record e {
@@ -107,7 +107,7 @@ strobes_taken e phase before after = record e {
   strobe_fall = e.strobe_fall || (is_within phase && strobe_falls_between before after);
 }
 
--- an answer in a cycle that started before, which another may have had
+-- an answer in a cycle that started before: a further one, if the cycle had an answer already
 abbrev pub further_taken : AskedEvents → CyclePhase → AskedEvents
 further_taken e SingleRead = record e { single_again = true }
 further_taken e SingleDone = record e { single_again = true }

@@ -1,4 +1,4 @@
--- What an audit found of a recording, and its outcome by that.
+-- What an audit found of a recording, and the outcome that follows from it.
 use Rattle.std.specs.Prelude.{◌≡◌, List, length}
 use Rattle.std.specs.Prelude.{ℕ, ◌+◌, ◌-◌, ◌^◌, not, Option, None, Some, min, nat_lt, option_map}
 use Rattle.std.specs.Prelude.{if◌then◌else◌}
@@ -42,11 +42,12 @@ outcome_by f breaks wanted =
     else if nat_lt 0 breaks.unreadable then Unreadable
     else option_map_or NotCovered (gap_by f wanted) (Conforming breaks.allowed)
 
--- when a transfer of the last part starts, by its instant there
+-- the instant in the whole recording, and the time, at which a transfer of the last part starts: `start` is its instant
+-- in that part
 abbrev pub started_at : Trace → ℕ → (ℕ × ℕ)
 started_at t start = ((last_part t).start + start, time_at (last_part t).trace start)
 
--- this was found of a recording
+-- `f` are the findings of recording `t`
 pub record AreFindingsOf (f : AuditFindings) (t : Trace) : Type 0 where
   pub counts : f.counts ≡ counts_of t
   pub asked : (r : Rule) → asks_by f.events r ≡ is_asked t r
@@ -54,7 +55,8 @@ pub record AreFindingsOf (f : AuditFindings) (t : Trace) : Type 0 where
   pub behind : f.last_break ≡ last_instant_of (breaks t)
   pub hang : f.hang ≡ option_map (started_at t) (hang_of t)
 
--- so many of its breaks aren't allowed, by what they say, and are
+-- `c` are the numbers of the breaks of `t`: of those that aren't allowed, by whether they mean that it is wrong or that
+-- it can't be read, and of those that are allowed
 pub record AreBreakCountsOf (c : BreakCounts) (allowances : List Allowance) (t : Trace) : Type 0 where
   pub broken : c.broken ≡ length (wrongs allowances (breaks t))
   pub unreadable : c.unreadable ≡ length (unreadables allowances (breaks t))

@@ -1,4 +1,4 @@
--- The first rule that steps break, by monitors that are led from step to step.
+-- The first rule that steps break, by monitors that run from step to step.
 use Rattle.std.specs.Prelude.{List, [], ◌∷◌, Option, None, option_map}
 use Rattle.vme_trace.specs.Levels.{Levels}
 use Rattle.vme_trace.specs.Trace.{changed}
@@ -8,7 +8,7 @@ use Rattle.vme_monitor.specs.Outcome.{earlier, shifted_break}
 use Rattle.vme_auditor.specs.Memories.{fault_at, memories_next}
 use Rattle.vme_auditor.specs.declared.memories.Memories.{Memories}
 
--- the first break of steps after an opening, from these memories on
+-- the first break of steps after levels `o`, by monitors that start from memories `m`
 unfoldable pub first_break_from : Memories → Levels → List Step → Option Break
 first_break_from m o [] = None
 first_break_from m o (s ∷ ss) =

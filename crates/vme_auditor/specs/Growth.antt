@@ -7,7 +7,7 @@ use Rattle.vme_trace.specs.declared.step.Step.{Step}
 use Rattle.vme_trace.specs.declared.verdict.Break.{Break}
 use Rattle.vme_audit.specs.Parts.{breaks}
 
--- a step that follows breaks one rule at most, at its own instant, and the breaks before it stay
+-- one more step `s` breaks at most one rule, at its own instant, and the breaks before it stay
 pub record StepBreaks (t : Trace) (s : Step) : Type 0 where
   pub found : Option Break
   pub own : IfSome found (λ b. b.instant ≡ length t.steps + 1)

@@ -1,5 +1,5 @@
--- What the monitors of all rules show, led from step to step: at each step the stretch, the tenure, and then the cycle
--- and the transfer.
+-- What the monitors of all rules show from step to step: at each step the marks of the stretch, of the tenure, and then
+-- of the cycle and the transfer.
 use Rattle.std.specs.Prelude.{List, [], ◌∷◌, ◌++◌, map}
 use Rattle.vme_trace.specs.Levels.{Levels}
 use Rattle.vme_trace.specs.Trace.{changed}
@@ -12,14 +12,14 @@ use Rattle.vme_monitor.specs.declared.mark.MarkKind.{MarkKind}
 use Rattle.vme_auditor.specs.Memories.{grant_at, handshake_at, known_at, memories_next}
 use Rattle.vme_auditor.specs.declared.memories.Memories.{Memories}
 
--- what is shown at a step
+-- the kinds of the marks of a step, in this order
 abbrev pub kinds_shown : Memories → Levels → Levels → List Change → List MarkKind
 kinds_shown m before after changes =
     kinds_of (known_at m.known before after changes).shown
     ++ (kinds_of (grant_at m.grant before after changes).shown
     ++ kinds_of (handshake_at m.handshake before after changes).shown)
 
--- the marks of steps after an opening, from these memories on
+-- the marks of steps after levels `o`, by monitors that start from memories `m`
 unfoldable pub joined_marks : Memories → Levels → List Step → List Mark
 joined_marks m o [] = []
 joined_marks m o (s ∷ x) =

@@ -1,4 +1,4 @@
--- The monitors of all rules, led from step to step.
+-- The monitors of all rules, run from step to step.
 use Rattle.std.specs.Prelude.{◌≡◌, ℕ, Bool, ◌&&◌, ◌||◌, ◌==◌, List, Option, None, Some, nat_lt, option_map}
 use Rattle.std.specs.Prelude.{if◌then◌else◌}
 use Rattle.vme_trace.specs.Levels.{Levels}
@@ -26,7 +26,7 @@ use Rattle.vme_chains.specs.declared.acknowledge.Acknowledgement.{Acknowledgemen
 use Rattle.vme_auditor.specs.declared.memories.AllShown.{AllShown}
 use Rattle.vme_auditor.specs.declared.memories.Memories.{Memories}
 
--- what a step is to each monitor
+-- what each monitor does at a step
 abbrev pub known_at : StretchPhase Stateless → Levels → Levels → List Change → Next (StretchPhase Stateless)
 known_at = machine_step (observed known_observation)
     (phase_step known_begin known_start_marks known_reset_marks known_end_fault known_next)
@@ -51,7 +51,7 @@ acknowledge_at =
     machine_step (observed acknowledge_observation)
     (phase_step acknowledge_begin acknowledge_start_marks no_step_marks acknowledge_end_fault acknowledge_next)
 
--- where the monitors begin
+-- the memories in which the monitors start
 abbrev pub memories_at : Levels → Memories
 memories_at o =
     record {
@@ -62,7 +62,7 @@ memories_at o =
       acknowledge = start_in acknowledge_begin o;
     }
 
--- where they are after a step
+-- the memories of the monitors after a step
 abbrev pub memories_next : Memories → Levels → Levels → List Change → Memories
 memories_next m before after changes =
     record {
@@ -73,7 +73,7 @@ memories_next m before after changes =
       acknowledge = (acknowledge_at m.acknowledge before after changes).memory;
     }
 
--- a fault is named before another of the same step by its rule, then by its line
+-- fault `f` is named before fault `g` of the same step: by its rule, then by its line
 abbrev pub comes_before : Fault → Fault → Bool
 comes_before f g = nat_lt (rule_number f.rule) (rule_number g.rule)
     || ((rule_number f.rule == rule_number g.rule) && nat_lt f.line g.line)
@@ -92,11 +92,11 @@ first_fault_of m before after changes =
     (first_fault (grant_at m.grant before after changes).fault
     (acknowledge_at m.acknowledge before after changes).fault)))
 
--- the same as a break, at an instant and a time
+-- the first rule that a step breaks, as a break at instant `n` and time `time`
 abbrev pub fault_at : Memories → Levels → Levels → List Change → ℕ → ℕ → Option Break
 fault_at m before after changes n time = option_map (break_of_fault n time) (first_fault_of m before after changes)
 
--- all monitors go on past a step, and this is what it shows to them
+-- all monitors advance past a step, from memories `old` to `new`, and `shown` is what they show
 pub record AllGoOn (old : Memories) (before after : Levels) (changes : List Change) (new : Memories) (shown : AllShown)
     : Type 0 where
   pub memories : new ≡ memories_next old before after changes

@@ -1,4 +1,4 @@
--- What a recording has, counted as its steps come: by the marks of each.
+-- What happens in a recording, counted as its steps come, by the marks of each step.
 use Rattle.std.specs.Prelude.{ℕ, ◌+◌, ◌-◌, ◌^◌, ◌==◌, Bool, true, false, Option, None, Some, min, if◌then◌else◌}
 use Rattle.std.specs.Option.{option_map_or, option_or}
 use Rattle.vme_trace.specs.LineNumbers.{DTACK}
@@ -12,7 +12,7 @@ use Rattle.vme_audit.specs.declared.counts.Counts.{Counts}
 use Rattle.vme_auditor.specs.declared.tally.StartedTransfer.{StartedTransfer}
 use Rattle.vme_auditor.specs.declared.tally.Tally.{Tally}
 
--- one more, as far as 64 bits go
+-- one more, at most the greatest number of 64 bits
 abbrev pub counted : ℕ → ℕ
 counted n = min (n + 1) (2 ^ 64 - 1)
 
@@ -37,9 +37,9 @@ no_counts =
       unanswered = None;
     }
 
--- what is counted, by what one more is
+-- what is counted, where `more` adds one to a count: with or without saturation
 module _ (more : ℕ → ℕ) where
-  -- the transfer that waits stays without an answer
+  -- the waiting transfer stays without an answer
   abbrev pub left_pending : Tally → Option StartedTransfer → Tally
   left_pending a None = a
   left_pending a (Some started) = record a {
@@ -85,12 +85,12 @@ module _ (more : ℕ → ℕ) where
   by_line c line = if line == DTACK then record c { by_dtack = more c.by_dtack }
       else record c { by_berr = more c.by_berr }
 
-  -- the transfer that waits is answered in a cycle
+  -- the waiting transfer is answered in a cycle
   abbrev pub answered : Tally → ℕ → Option StartedTransfer → Tally
   answered a line None = a
   answered a line (Some started) = record a { waiting = None; counts = by_line a.counts line }
 
-  -- before any cycle an answer counts as none
+  -- before any cycle an answer leaves the waiting transfer without an answer
   abbrev pub at_answer : Tally → TransferAnswer → Tally
   at_answer a answer = if a.has_cycle then answered a answer.line a.waiting else to_pending a
 

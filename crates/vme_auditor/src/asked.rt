@@ -1,4 +1,4 @@
-//! Which events happened of which rules speak.
+//! Which of the events happened that rules refer to.
 
 ghost use Rattle.std.specs.Prelude.{◌≡◌};
 ghost use Rattle.vme_auditor.specs.Events.{answers_taken, asks_by, at_step, cycle_taken, further_taken};
@@ -24,11 +24,11 @@ pub struct AskedEvents {
     pub cycle_end: bool,
     /// A transfer starts.
     pub transfer: bool,
-    /// A transfer starts that is a write.
+    /// A transfer starts, and it is a write.
     pub write: bool,
     /// A strobe rises in a transfer that started before.
     pub strobe_rise: bool,
-    /// A strobe falls in one.
+    /// A strobe falls in a transfer that started before.
     pub strobe_fall: bool,
     /// DTACK* or BERR* falls.
     pub answer_fall: bool,
@@ -42,11 +42,11 @@ pub struct AskedEvents {
     pub block_again: bool,
     /// A transfer of an interrupt acknowledge is answered.
     pub interrupt: bool,
-    /// A further one of it is.
+    /// A further transfer of an interrupt acknowledge is answered.
     pub interrupt_again: bool,
-    /// A slot begins to pass a grant on.
+    /// A slot starts to pass a grant on.
     pub slot_grant_fall: bool,
-    /// A slot ends to pass a grant on.
+    /// A slot stops passing a grant on.
     pub slot_grant_rise: bool,
     /// The arbiter grants.
     pub arbiter_fall: bool,
@@ -70,7 +70,7 @@ fn net_rises(before: &Lines, after: &Lines, net: Line) -> bool
     before.has(net) && after.has(net) && rises(before, after, net)
 }
 
-/// Whether the cycle in which an answer at a step is is an interrupt acknowledge.
+/// Whether an answer at a step is in an interrupt acknowledge cycle. `cycle` is the phase before the step.
 fn is_interrupt_entered(cycle: CyclePhase, shown: &StepMarks) -> bool
     ensures { result ≡ is_interrupt_entered_by cycle shown.now.cycle }
 {
@@ -81,7 +81,7 @@ fn is_interrupt_entered(cycle: CyclePhase, shown: &StepMarks) -> bool
 }
 
 impl AskedEvents {
-    /// None happened.
+    /// No event happened.
     pub(crate) fn none() -> AskedEvents
         ensures { result ≡ nothing_happened }
     {
@@ -108,8 +108,8 @@ impl AskedEvents {
         }
     }
 
-    /// Takes the events of a step to a judged instant, by what is remembered of the handshake before it and what
-    /// happens to its cycle and transfer.
+    /// Adds the events of a step to a judged instant. `entered` is the memory of the handshake before the step, and
+    /// `shown` has the marks of its cycle and transfer.
     pub(crate) fn take(
         &mut self,
         entered: HandshakeMemory,
@@ -160,7 +160,7 @@ impl AskedEvents {
         }
     }
 
-    /// Takes an answer in a cycle that started before, which another may have had.
+    /// Adds an answer in a cycle that started before: a further one, if the cycle had an answer already.
     fn take_further(&mut self, cycle: CyclePhase)
         ensures { self.new ≡ further_taken self.old cycle }
     {
@@ -172,7 +172,7 @@ impl AskedEvents {
         }
     }
 
-    /// Takes the edges of the nets of daisy chains.
+    /// Adds the edges of the nets of daisy chains.
     fn take_nets(&mut self, before: &Lines, after: &Lines, changes: &[Change])
         ensures { self.new ≡ nets_taken before.now after.now self.old changes.now }
     {
@@ -197,7 +197,7 @@ impl AskedEvents {
         }
     }
 
-    /// Whether a rule was asked: its event happened.
+    /// Whether `rule` was asked, i.e. its event happened.
     pub fn ask(&self, rule: Rule) -> bool
         ensures { result ≡ asks_by self.now rule }
     {

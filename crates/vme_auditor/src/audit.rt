@@ -1,4 +1,4 @@
-//! What an audit has come to.
+//! The state of an audit.
 
 ghost use Rattle.std.specs.Prelude.{◌≡◌, option_map};
 ghost use Rattle.vme_monitor.specs.Run.{break_of_fault};
@@ -17,7 +17,7 @@ use vme_monitor::over_stretches::StretchPhase;
 use vme_monitor::view::StepView;
 use vme_trace::{Change, Lines};
 
-/// The memories of the monitors, and what was counted and asked so far.
+/// The memories of the monitors, and what was counted and which events happened so far.
 #[derive(Clone, Copy, Debug, PartialEq, Eq)]
 pub(crate) struct Audit {
     pub memories: Memories,
@@ -28,7 +28,7 @@ pub(crate) struct Audit {
 }
 
 impl Audit {
-    /// Before the first step.
+    /// The audit before the first step.
     pub fn at(opening: &Lines) -> Audit
         ensures { result ≡ begun_at opening.now }
     {
@@ -43,7 +43,7 @@ impl Audit {
         }
     }
 
-    /// Goes on past a step, at its instant and time, and finds whether it breaks a rule.
+    /// Advances past a step, at its instant and time, and returns the break that it makes, if any.
     pub fn go_on(
         &mut self,
         view: &StepView,
@@ -62,7 +62,7 @@ impl Audit {
         self.end_step(&view.after, instant, time, &shown)
     }
 
-    /// Takes the events of a step, if its instant is judged.
+    /// Adds the events of a step, if its instant is judged.
     fn take_events(
         &mut self,
         entered: StretchPhase<HandshakeMemory>,
@@ -83,7 +83,7 @@ impl Audit {
         self.events.stretch = self.events.stretch || shown.stretch.start;
     }
 
-    /// Counts what happens at a step, or begins anew at its break.
+    /// Counts what happens at a step, or starts judging anew if the step breaks a rule.
     fn end_step(
         &mut self,
         after: &Lines,
@@ -118,7 +118,7 @@ impl Audit {
         }
     }
 
-    /// Judging begins anew at the break of an instant: what the bus did before is forgotten.
+    /// Judging starts anew at the break at `instant`: what the bus did before is forgotten.
     fn begin_anew(&mut self, after: &Lines, instant: u64)
         ensures { self.new ≡ begun_anew self.old after.now instant }
     {

@@ -2,10 +2,10 @@
 
 use vme_trace::{Line, Rule};
 
-/// A rule that is broken: when, and on which line.
+/// A rule that is broken: at which instant, and on which line.
 #[derive(Clone, Copy, Debug, PartialEq, Eq)]
 pub struct AuditBreak {
-    /// At which instant: 0 is the opening, and i the step before which i - 1 others stand.
+    /// The instant: 0 is the opening, and `i` is the `i`-th step.
     pub instant: u64,
     /// The time of that instant, in the unit of the recording.
     pub time: u64,

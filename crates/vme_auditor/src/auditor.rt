@@ -20,17 +20,17 @@ use vme_monitor::view::StepView;
 use vme_summary::GhostSteps;
 use vme_trace::{Lines, Step};
 
-/// There are over 18,446,744,073,709,551,615 steps.
+/// There are more than 18,446,744,073,709,551,615 steps.
 #[derive(Clone, Copy, Debug, PartialEq, Eq)]
 pub struct TooManySteps;
 
-/// Finds all breaks of a recording, and what was covered, as its steps come. Of the steps nothing is kept.
+/// Finds all breaks of a recording, and its coverage, as its steps come. No step is kept.
 #[derive(Drop)]
 pub struct Auditor {
     opening: Lines,
-    /// How many steps came.
+    /// The number of steps so far.
     steps: u64,
-    /// The levels that they leave, on both sides.
+    /// The levels after these steps, on both sides.
     view: StepView,
     audit: Audit,
     taken: GhostSteps,
@@ -47,7 +47,7 @@ impl Model for Auditor {
     ghost invariant = { λ a. HasAudited a.opening a.taken.items a.steps a.view a.audit };
 }
 
-/// When a transfer starts: its instant and its time.
+/// The instant and the time at which `transfer` starts.
 fn start_of(transfer: Option<StartedTransfer>) -> Option<(u64, u64)>
     ensures { result ≡ option_map (λ s. (s.instant, s.time)) transfer }
 {
@@ -58,7 +58,7 @@ fn start_of(transfer: Option<StartedTransfer>) -> Option<(u64, u64)>
 }
 
 impl Auditor {
-    /// Before the first step.
+    /// The auditor before the first step.
     pub fn new(opening: &Lines) -> Auditor
         ensures { result ≡ record { opening = opening.now; steps = [] } }
     {
@@ -71,7 +71,7 @@ impl Auditor {
         }
     }
 
-    /// Takes the step that follows, and finds whether it breaks a rule.
+    /// Takes the next step, and returns the break that it makes, if any.
     pub fn step(&mut self, step: &Step) -> Result<Option<AuditBreak>, TooManySteps>
         ensures recorded { OnOk result (self.new ≡ with_steps self.old (step.now ∷ [])) }
         ensures told { malformed_step self.new ≡ None
@@ -95,7 +95,7 @@ impl Auditor {
         Ok(found)
     }
 
-    /// What was found of the recording, where it ends here.
+    /// What was found of the recording, if it ends here.
     pub fn audited(&self) -> AuditFindings
         ensures { malformed_step self.now ≡ None → AreFindingsOf result self.now }
     {

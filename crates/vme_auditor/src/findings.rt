@@ -9,12 +9,12 @@ ghost use Rattle.vme_auditor.specs.Findings.{AreBreakCountsOf, AreFindingsOf, ga
 use crate::asked::AskedEvents;
 use vme_audit::{Counts, CoverageGap, Outcome};
 
-/// What an audit of a recording found, but for its breaks.
+/// What an audit found of a recording, except its breaks.
 #[derive(Clone, Copy, Debug, PartialEq, Eq)]
 pub struct AuditFindings {
     pub counts: Counts,
     pub events: AskedEvents,
-    /// Whether anything is judged behind the last break, or at all where there is none.
+    /// Whether anything is judged after the last break, or at all if there is none.
     pub is_judged: bool,
     /// The instant of the last break.
     pub last_break: Option<u64>,
@@ -22,8 +22,8 @@ pub struct AuditFindings {
     pub hang: Option<(u64, u64)>,
 }
 
-/// How many breaks of a recording there are: those that aren't allowed, by whether they say that it is wrong or that it
-/// can't be read, and those that are.
+/// The numbers of a recording's breaks: those that aren't allowed and mean that it is wrong (`broken`) or that it can't
+/// be read (`unreadable`), and those that are allowed.
 #[derive(Clone, Copy, Debug, Default, PartialEq, Eq)]
 pub struct BreakCounts {
     pub broken: u64,
@@ -31,7 +31,7 @@ pub struct BreakCounts {
     pub allowed: u64,
 }
 
-/// Why a recording isn't covered, where so many answered transfers are wanted, if so.
+/// Why a recording isn't covered, if it isn't, where at least `wanted` answered transfers are required.
 fn gap(findings: &AuditFindings, wanted: u64) -> Option<CoverageGap>
     ensures { result ≡ gap_by findings.now wanted }
 {
@@ -54,7 +54,7 @@ fn gap(findings: &AuditFindings, wanted: u64) -> Option<CoverageGap>
     }
 }
 
-/// What the audit of a recording comes to, where so many answered transfers are wanted.
+/// The outcome of a recording's audit, where at least `wanted` answered transfers are required.
 pub fn outcome(findings: &AuditFindings, breaks: BreakCounts, wanted: u64) -> Outcome
     ensures found { result ≡ outcome_by findings.now breaks wanted }
     ensures defined { (allowances : List Allowance) (t : Trace) → AreFindingsOf findings.now t

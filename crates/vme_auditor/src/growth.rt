@@ -11,8 +11,8 @@ ghost use Rattle.vme_auditor.specs.Growth.{StepBreaks};
 
 use crate::laws::first_break_is_found;
 
-/// Before the first step there is no break. Each step breaks one rule at most, at its own instant, and the breaks
-/// before it stay, so none is behind the last step.
+/// Before the first step there is no break. Each step breaks at most one rule, at its own instant, and the breaks
+/// before it stay. So no break is after the last step.
 pub fn breaks_grow()
     ensures opening { (o : Levels) → o.slots ≤ 21 → breaks (record { opening = o; steps = [] }) ≡ [] }
     ensures step { (t : Trace) (s : Step) → malformed_step (with_steps t (s ∷ [])) ≡ None → t.opening.slots ≤ 21

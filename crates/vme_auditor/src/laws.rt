@@ -1,5 +1,5 @@
-//! What the monitors find from step to step is what the definitions say; and what an audit has in common with a verdict
-//! and a listing.
+//! What the monitors find from step to step agrees with the definitions, and an audit agrees with a verdict and with a
+//! listing.
 
 ghost use Rattle.std.specs.Prelude.{◌≡◌, ◌≤◌, ◌↔◌, ℕ, List, [], None, Some, if◌then◌else◌, slice_get};
 ghost use Rattle.vme_trace.specs.Rules.{is_unreadable};
@@ -26,7 +26,7 @@ use vme_dtb::handshake::handshake_over_recordings;
 use vme_dtb::stability::stability_over_recordings;
 use vme_monitor::known::known_over_recordings;
 
-/// The first break of a recording, step by step, is the one that its verdict names.
+/// The first break that the monitors find, step by step, is the one that the recording's verdict names.
 pub fn first_break_is_found()
     ensures { (t : Trace) → malformed_step t ≡ None → t.opening.slots ≤ 21
         → named_break (verdict t) ≡ first_break_from (memories_at t.opening) t.opening t.steps }
@@ -38,7 +38,7 @@ pub fn first_break_is_found()
     acknowledge_over_recordings();
 }
 
-/// The marks of a recording, step by step, are those of which its listing is made.
+/// The marks that the monitors show, step by step, are those from which the recording's listing is made.
 pub fn marks_are_found()
     ensures { (t : Trace) → malformed_step t ≡ None → t.opening.slots ≤ 21
         → joined_marks (memories_at t.opening) t.opening t.steps ≡ all_marks t }
@@ -50,16 +50,16 @@ pub fn marks_are_found()
     acknowledge_over_recordings();
 }
 
-/// The first break of a recording is the one that its verdict names: by its rule the verdict says that the recording is
-/// wrong there, or that it can't be read.
+/// The first break of a recording is the one that its verdict names. The rule of this break determines whether the
+/// verdict is that the recording is wrong there, or that it can't be read.
 pub fn first_break_is_named()
     ensures named { (t : Trace) → slice_get (breaks t) 0 ≡ named_break (verdict t) }
     ensures verdict { (t : Trace) (b : Break) → slice_get (breaks t) 0 ≡ Some b
         → verdict t ≡ (if is_unreadable b.rule then Unreadable b else Broken b) }
 {}
 
-/// A recording has no break exactly where its verdict names none. What is judged in it, if anything, conforms then, and
-/// it has the counts of its listing.
+/// A recording has no break exactly where its verdict names none. Then what is judged in it, if anything, conforms, and
+/// its counts are those of its listing.
 pub fn unbroken_is_listed()
     ensures breaks { (t : Trace) → (breaks t ≡ []) ↔ (named_break (verdict t) ≡ None) }
     ensures verdict { (t : Trace) → breaks t ≡ []
@@ -67,8 +67,8 @@ pub fn unbroken_is_listed()
     ensures counts { (t : Trace) → breaks t ≡ [] → counts t ≡ counts_of_rows (recorded_rows t) }
 {}
 
-/// Where the outcome of a recording is that it conforms, and no break of it is allowed, its verdict is that it
-/// conforms. The outcome is that the bus is never idle exactly where the verdict is.
+/// If a recording's outcome is that it conforms, and no break of it is allowed, its verdict is that it conforms. The
+/// outcome is that the bus is never idle exactly where the verdict is.
 pub fn outcome_has_verdict()
     ensures conforming { (allowances : List Allowance) (wanted : ℕ) (t : Trace)
         → outcome allowances wanted t ≡ audited.Conforming 0 → verdict t ≡ Conforming }

@@ -1,39 +1,45 @@
-//! All breaks of a recording, and what was covered, as its steps come: no step is kept, however
+//! All breaks of a recording, and its coverage, found as its steps come. No step is kept, however
 //! many there are.
+//!
+//! A *break* is a violation of a rule. A *mark* is an event of the bus with its instant: judging
+//! starts or a reset ends it, or a tenure, cycle or transfer begins or ends. The *parts* of a
+//! recording are the recording itself and the rest after each break; each is judged anew, up to its
+//! first break.
 //!
 //! # Parts
 //!
 //! - `auditor`: [`Auditor`] takes one step after the other, returns the break that a step makes,
-//!   and says at any time what was found so far.
-//! - `audit`, `memories`: the state of an audit: the memory of each of the five monitors
-//!   ([`Memories`]), which run from step to step. At a break all of them start again from the
-//!   levels that the step leaves, so the work is that of the steps, however many of them break a
-//!   rule.
-//! - `tally`, `asked`: what is counted, and which events happened that rules speak of.
-//! - `audit_break`, `findings`: a break with numbers of 64 bits; what was found, and the
-//!   [`outcome`] by it.
-//! - `laws`: what an audit has in common with a verdict and a listing; and that the first break,
-//!   and what each step shows to a listing, are what the definitions say. `growth`: how the breaks
-//!   of a recording grow as its steps come.
+//!   and reports at any time what was found so far.
+//! - `audit`, `memories`: the state of an audit. [`Memories`] has the memory of each of the five
+//!   monitors, i.e. the state of its automaton. At a break all of them start again from the levels
+//!   after the step, so the work is proportional to the number of steps, however many of them
+//!   break a rule.
+//! - `tally`, `asked`: the counts, and which of the events happened that rules refer to.
+//! - `audit_break`, `findings`: a break with numbers of 64 bits; the findings, and the [`outcome`]
+//!   that follows from them.
+//! - `laws`: how an audit agrees with a verdict and with a listing. The first break and the marks
+//!   of each step are those of the definitions. `growth`: how the breaks of a recording grow as
+//!   its steps come.
 //!
 //! # What is proved
 //!
 //! - [`Auditor::step`]: the breaks that are returned are exactly those of the recording so far,
 //!   each with its own step (`told`).
-//! - [`Auditor::audited`]: all of it is what the definitions say of the recording, where it ends
-//!   there (`AreFindingsOf`): the counts are those over the rows of all parts, the rules that are
-//!   asked are those of the definitions, and so are whether anything is judged after the last
-//!   break, the instant of that break, and the transfer that is without an answer.
-//! - [`outcome`] is that of vme_audit for every recording of which these are the findings, and so
-//!   many breaks of each kind (`defined`).
+//! - [`Auditor::audited`]: the findings are those of the definitions for the recording up to here
+//!   (`AreFindingsOf`). The counts are those over the rows of all parts. The rules that are asked
+//!   are those of the definitions. So are whether anything is judged after the last break, the
+//!   instant of that break, and the transfer without an answer.
+//! - [`outcome`] is the outcome by vme_audit of every recording with these findings and these
+//!   numbers of breaks (`defined`).
 //! - [`first_break_is_named`]: the first break is the one that the verdict names.
-//! - [`unbroken_is_listed`]: there is none exactly where the verdict names none; what is judged
-//!   then conforms, and the counts are those of the listing's rows.
-//! - [`outcome_has_verdict`]: a recording that conforms without an allowed break conforms by its
-//!   verdict, and is never idle exactly where its verdict says so.
+//! - [`unbroken_is_listed`]: there is no break exactly where the verdict names none. Then what is
+//!   judged conforms, and the counts are those of the listing's rows.
+//! - [`outcome_has_verdict`]: if a recording's outcome is that it conforms without an allowed
+//!   break, its verdict is that it conforms. The outcome is "never idle" exactly where the verdict
+//!   is.
 //! - [`first_break_is_found`], [`marks_are_found`]: the first break and the marks of a recording are
 //!   those that [`Memories::go_on`] shows, step by step.
-//! - [`breaks_grow`]: each step breaks one rule at most, at its own instant, and the breaks before
+//! - [`breaks_grow`]: each step breaks at most one rule, at its own instant, and the breaks before
 //!   it stay.
 //!
 //! # What isn't proved
@@ -48,7 +54,7 @@
 //! # In which order to read
 //!
 //! `specs/Parts`, `Counted` and `AskedRules` of vme_audit; `specs/Findings`; then `auditor`.
-//! `specs/Audited` says how an audit goes on, as a fold over the steps.
+//! `specs/Audited` defines an audit as a fold over the steps.
 #![tactic(auto)]
 
 mod asked;

@@ -1,4 +1,4 @@
-//! The monitors of all rules, led from step to step.
+//! The monitors of all rules, run from step to step.
 
 ghost use Rattle.std.specs.Prelude.{◌≡◌};
 ghost use Rattle.vme_monitor.specs.OverStretches.{has_started};
@@ -31,7 +31,9 @@ type GrantMachine = OverStretches<GrantRules>;
 
 type AcknowledgeMachine = OverStretches<AcknowledgeRules>;
 
-/// The memory in which each monitor is.
+/// The memory of each monitor, i.e. the state of its automaton. The monitor of `known` finds where judging starts and
+/// ends and where a control line is lost. The others are those of the handshake, of stability, of grants, and of
+/// interrupt acknowledges.
 #[derive(Clone, Copy, Debug, PartialEq, Eq)]
 pub struct Memories {
     pub known: StretchPhase<Stateless>,
@@ -41,15 +43,15 @@ pub struct Memories {
     pub acknowledge: StretchPhase<Acknowledgement>,
 }
 
-/// What a step shows to one monitor.
+/// What one monitor shows at a step: its fault and its marks.
 #[derive(Clone, Copy, Debug, PartialEq, Eq)]
 struct StepOutcome {
     fault: Option<Fault>,
     shown: StepMarks,
 }
 
-/// What a step shows to all monitors: the first rule that it breaks, and what happens to the stretch, to the tenure,
-/// and to the cycle and the transfer. Held lines and acknowledge outputs show nothing.
+/// What all monitors show at a step: the first rule that the step breaks, and the marks of the stretch, of the tenure,
+/// and of the cycle and the transfer. The monitors of held lines and of acknowledge outputs show no marks.
 #[derive(Clone, Copy, Debug, PartialEq, Eq)]
 pub struct AllShown {
     pub fault: Option<Fault>,
@@ -58,7 +60,7 @@ pub struct AllShown {
     pub transfer: StepMarks,
 }
 
-/// Whether a fault is named before another of the same step: by its rule, then by its line.
+/// Whether fault `f` is named before fault `g` of the same step: by its rule, then by its line.
 fn comes_before(f: &Fault, g: &Fault) -> bool
     ensures { result ≡ comes_before_by f.now g.now }
 {
@@ -67,7 +69,7 @@ fn comes_before(f: &Fault, g: &Fault) -> bool
     a < b || (a == b && f.line.number() < g.line.number())
 }
 
-/// The fault of two at one step that is named.
+/// The fault that is named of two at one step.
 fn first_fault(first: Option<Fault>, second: Option<Fault>) -> Option<Fault>
     ensures { result ≡ first_fault_by first second }
 {
@@ -86,7 +88,7 @@ fn first_fault(first: Option<Fault>, second: Option<Fault>) -> Option<Fault>
     }
 }
 
-/// Advances a machine past a step.
+/// Advances the memory of machine `M` past a step, and returns what `M` shows there.
 #[inline(always)]
 fn advance<M: Machine>(memory: &mut M::Memory, view: &StepView, changes: &[Change]) -> StepOutcome
     requires { view.now ≡ seen_in view.now.before changes.now }
@@ -114,7 +116,7 @@ fn advance<M: Machine>(memory: &mut M::Memory, view: &StepView, changes: &[Chang
 }
 
 impl Memories {
-    /// Where the monitors begin, by the levels of an opening.
+    /// The memories in which the monitors start, by the levels of `opening`.
     pub fn at(opening: &Lines) -> Memories
         ensures { result ≡ memories_at opening.now }
     {

@@ -1,4 +1,4 @@
-//! What a recording has, counted as its steps come.
+//! What happens in a recording, counted as its steps come.
 
 ghost use Rattle.std.specs.Prelude.{◌≡◌, if◌then◌else◌};
 ghost use Rattle.std.specs.Option.{option_map_or};
@@ -9,17 +9,17 @@ use vme_audit::Counts;
 use vme_monitor::mark::{BusGrant, CycleStart, StepMarks, TransferAnswer};
 use vme_trace::{Class, Line};
 
-/// A transfer, by its start.
+/// The start of a transfer.
 #[derive(Clone, Copy, Debug, PartialEq, Eq)]
 pub(crate) struct StartedTransfer {
     pub instant: u64,
     pub time: u64,
 }
 
-/// The counts so far, and what the rows of the part at hand still wait for.
+/// The counts so far, and what the rest of the current part may still change. A part ends at a break.
 #[derive(Clone, Copy, Debug, PartialEq, Eq)]
 pub(crate) struct Tally {
-    /// The counts, but for the transfer that waits.
+    /// The counts without the waiting transfer.
     counts: Counts,
     /// Whether a cycle has started since the part began and since the last reset.
     has_cycle: bool,
@@ -29,7 +29,7 @@ pub(crate) struct Tally {
     unanswered: Option<StartedTransfer>,
 }
 
-/// One more. There are no more of anything than steps, so nothing is lost.
+/// `count` and one more. No count exceeds the number of steps, so the sum never saturates.
 #[inline(always)]
 fn one_more(count: u64) -> u64
     ensures { result ≡ counted count }
@@ -38,7 +38,7 @@ fn one_more(count: u64) -> u64
 }
 
 impl Tally {
-    /// Before any step.
+    /// The tally before any step.
     pub fn new() -> Tally
         ensures { result ≡ no_counts }
     {
@@ -121,7 +121,7 @@ impl Tally {
         }
     }
 
-    /// Takes a transfer, if one starts, by its direction.
+    /// Counts a transfer by its direction, if one starts.
     fn take_transfer(&mut self, started: StartedTransfer, write: Option<bool>)
         ensures { self.new ≡ option_map_or (at_transfer counted self.old started) write self.old }
     {
@@ -150,7 +150,7 @@ impl Tally {
         }
     }
 
-    /// The transfer that waits is answered. Before any cycle an answer counts as none.
+    /// The waiting transfer is answered. If no cycle has started, it stays without an answer instead.
     fn answer(&mut self, answer: TransferAnswer)
         ensures { self.new ≡ at_answer counted self.old answer }
     {
@@ -166,7 +166,7 @@ impl Tally {
         }
     }
 
-    /// The transfer that waits stays without an answer.
+    /// The waiting transfer stays without an answer.
     fn leave_waiting(&mut self)
         ensures { self.new ≡ to_pending counted self.old }
     {
@@ -179,7 +179,7 @@ impl Tally {
         }
     }
 
-    /// The counts, where the recording ends here.
+    /// The counts, if the recording ends here.
     pub fn counts(&self) -> Counts
         ensures { result ≡ counts_so_far counted self.now }
     {
@@ -188,7 +188,7 @@ impl Tally {
         ended.counts
     }
 
-    /// The first transfer without an answer that no reset follows, where the recording ends here.
+    /// The first transfer without an answer that no reset follows, if the recording ends here.
     pub fn hang(&self) -> Option<StartedTransfer>
         ensures { result ≡ hang_so_far self.now }
     {

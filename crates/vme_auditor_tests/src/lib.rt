@@ -1,4 +1,5 @@
-//! Tests of vme_auditor: recordings with several breaks, and what the second judge says of them.
+//! Tests of vme_auditor: recordings with several breaks, and the results of the second judge (the
+//! independent reference/vmecheck.py) for them.
 #![tactic(auto)]
 
 #[cfg(test)]

@@ -1,23 +1,23 @@
 use vme_audit::{CoverageGap, Outcome};
 use vme_trace::Rule;
 
-/// A recording, and what the second judge says of it.
+/// A recording, and the results of the second judge for it.
 #[derive(Clone, Copy)]
 pub(crate) struct WorkedRecording {
     pub slots: u8,
     /// The lines of the opening whose levels are known: each with its level, or every line but A24 to A31 (`quiet`), or
     /// every line (`high`).
     pub opening: &'static str,
-    /// The steps, which stand ten units apart: the lines that change, with their new levels.
+    /// The steps, ten time units apart: the lines that change, with their new levels.
     pub steps: &'static str,
     /// Each break: its instant, its time, its rule and its line.
     pub breaks: &'static [(u64, u64, Rule, &'static str)],
     /// Resets, tenures, single, block, free and acknowledge cycles, reads, writes, and transfers by DTACK*, by BERR*
     /// and pending.
     pub counts: [u64; 11],
-    /// The events that happen of which rules speak, as the fields of AskedEvents name them.
+    /// The events that happen, of those that rules refer to, by the names of the fields of AskedEvents.
     pub events: &'static str,
-    /// What it comes to where every break is allowed, and no answered transfer is wanted, or one is.
+    /// The outcomes if every break is allowed, where no answered transfer is required, or one is.
     pub outcomes: (Outcome, Outcome),
 }
 
@@ -73,7 +73,7 @@ pub(crate) static RECORDINGS: [WorkedRecording; 22] = [
             Outcome::Conforming { allowed: 0 },
         ),
     },
-    // two stray answers, the second before an idle instant and another behind one
+    // two stray answers, the second before an idle instant and another after one
     WorkedRecording {
         slots: 1,
         opening: "high",
@@ -144,7 +144,7 @@ pub(crate) static RECORDINGS: [WorkedRecording; 22] = [
             },
         ),
     },
-    // a block transfer that turns, and a write behind it
+    // a block transfer that changes direction, and a write after it
     WorkedRecording {
         slots: 2,
         opening: "high BBSY=0",
@@ -223,7 +223,7 @@ pub(crate) static RECORDINGS: [WorkedRecording; 22] = [
             },
         ),
     },
-    // a transfer stays without an answer behind a reset
+    // a transfer stays without an answer after a reset
     WorkedRecording {
         slots: 1,
         opening: "high BBSY=0",
@@ -282,7 +282,7 @@ pub(crate) static RECORDINGS: [WorkedRecording; 22] = [
             },
         ),
     },
-    // grants go on through three slots
+    // grants are passed on through three slots
     WorkedRecording {
         slots: 3,
         opening: "quiet",
@@ -301,7 +301,7 @@ pub(crate) static RECORDINGS: [WorkedRecording; 22] = [
             },
         ),
     },
-    // a slot grants without a grant, and keeps one
+    // a slot passes a grant on without having one, and keeps one
     WorkedRecording {
         slots: 3,
         opening: "quiet",
@@ -337,7 +337,7 @@ pub(crate) static RECORDINGS: [WorkedRecording; 22] = [
             },
         ),
     },
-    // a free code, an address that moves, and data that is not known
+    // a free code, an address that moves, and data that are not known
     WorkedRecording {
         slots: 2,
         opening: "high BBSY=0",
@@ -351,7 +351,7 @@ pub(crate) static RECORDINGS: [WorkedRecording; 22] = [
             Outcome::Conforming { allowed: 2 },
         ),
     },
-    // a cycle is cut off at its start, and transfers are by breaks
+    // a break cuts a cycle off at its start, and breaks cut transfers off
     WorkedRecording {
         slots: 2,
         opening: "high",

@@ -5,7 +5,7 @@ use vme_audit::{Counts, CoverageGap, Outcome};
 use vme_auditor::{AskedEvents, AuditBreak, AuditFindings, Auditor, BreakCounts, outcome};
 use vme_trace::{Block, Change, Changes, LINE_COUNT, Level, Line, Lines, Rule, Step, Steps};
 
-/// The change that a word says, as BR3=0.
+/// The change of a word, as BR3=0.
 fn change_of(word: &str) -> Option<Change> {
     let (name, level) = word.split_once('=')?;
     let level = match level.as_bytes() {
@@ -19,7 +19,7 @@ fn change_of(word: &str) -> Option<Change> {
     })
 }
 
-/// Adds that each line gets high, but for those of some numbers.
+/// Adds the change to High of each line, except those of numbers `first` to `last`.
 fn push_high(changes: &mut Vec<Change>, lines: &Lines, first: u8, last: u8) -> Option<()> {
     for number in 0..LINE_COUNT {
         let line = Line::from_number(number)?;
@@ -31,7 +31,7 @@ fn push_high(changes: &mut Vec<Change>, lines: &Lines, first: u8, last: u8) -> O
     Some(())
 }
 
-/// Adds the changes that a word says.
+/// Adds the changes of a word.
 fn push_word(changes: &mut Vec<Change>, lines: &Lines, word: &str) -> Option<()> {
     if word == "high" {
         return push_high(changes, lines, LINE_COUNT, LINE_COUNT);
@@ -42,7 +42,7 @@ fn push_word(changes: &mut Vec<Change>, lines: &Lines, word: &str) -> Option<()>
     changes.push(change_of(word)?).ok()
 }
 
-/// The changes that a text says, in the order of lines.
+/// The changes of the words of a text, in their order.
 fn changes_of(alloc: Global, lines: &Lines, text: &str) -> Option<Vec<Change>> {
     let mut changes = Vec::new(alloc);
     for word in text.split_whitespace() {
@@ -70,7 +70,7 @@ fn step_of(alloc: Global, lines: &Lines, time: u64, text: &str) -> Option<Step> 
     })
 }
 
-/// The steps that a text says, ten units apart.
+/// The steps of a text, ten time units apart.
 fn steps_of(alloc: Global, lines: &Lines, text: &str) -> Option<Vec<Step>> {
     let mut steps = Vec::new(alloc);
     for part in text.split(';') {
@@ -82,7 +82,7 @@ fn steps_of(alloc: Global, lines: &Lines, text: &str) -> Option<Vec<Step>> {
     Some(steps)
 }
 
-/// A break as the second judge tells it.
+/// A break of the second judge.
 fn break_of(told: &(u64, u64, Rule, &'static str)) -> Option<AuditBreak> {
     let (instant, time, rule, line) = *told;
     Some(AuditBreak {
@@ -122,7 +122,7 @@ fn counts_of(counts: [u64; 11]) -> Counts {
     }
 }
 
-/// The steps of a recording behind its opening, if they are well formed.
+/// The opening and the steps of a recording, if they are well formed.
 fn block_of(alloc: Global, worked: &WorkedRecording) -> Option<Block> {
     let opening = opening_of(alloc, worked)?;
     let steps = steps_of(alloc, &opening, worked.steps)?;
@@ -137,7 +137,7 @@ fn block_of(alloc: Global, worked: &WorkedRecording) -> Option<Block> {
     }
 }
 
-/// The breaks that are found of a recording, and what else is.
+/// The breaks of a recording, and the findings of its audit.
 fn audited(alloc: Global, worked: &WorkedRecording) -> Option<(Vec<AuditBreak>, AuditFindings)> {
     let block = block_of(alloc, worked)?;
     let mut auditor = Auditor::new(&block.opening);
@@ -150,7 +150,7 @@ fn audited(alloc: Global, worked: &WorkedRecording) -> Option<(Vec<AuditBreak>, 
     Some((breaks, auditor.audited()))
 }
 
-/// Whether these are the breaks that are told.
+/// Whether `breaks` are the breaks `told` by the second judge.
 fn are_breaks(breaks: &[AuditBreak], told: &[(u64, u64, Rule, &'static str)]) -> bool {
     for (found, told) in breaks.iter().zip(told) {
         let is_so = match break_of(told) {
@@ -174,7 +174,7 @@ fn has_name(names: &str, name: &str) -> bool {
     false
 }
 
-/// Whether exactly the events happened that a text names.
+/// Whether exactly the events happened that `names` has.
 fn are_events(events: &AskedEvents, names: &str) -> bool {
     let happened = [
         ("stretch", events.stretch),
@@ -205,7 +205,7 @@ fn are_events(events: &AskedEvents, names: &str) -> bool {
     true
 }
 
-/// Whether a recording comes to this where so many breaks are allowed, and no answered transfer is wanted, or one is.
+/// Whether these are the outcomes with `allowed` allowed breaks, where no answered transfer is required, or one is.
 fn comes_to(findings: &AuditFindings, allowed: u64, outcomes: (Outcome, Outcome)) -> bool {
     let allowed = BreakCounts {
         broken: 0,
@@ -215,7 +215,7 @@ fn comes_to(findings: &AuditFindings, allowed: u64, outcomes: (Outcome, Outcome)
     outcome(findings, allowed, 0) == outcomes.0 && outcome(findings, allowed, 1) == outcomes.1
 }
 
-/// What differs from what the second judge says of a recording, or an empty text.
+/// What differs from the results of the second judge for a recording, or an empty text.
 fn difference(
     breaks: &[AuditBreak],
     findings: &AuditFindings,
@@ -236,7 +236,7 @@ fn difference(
     ""
 }
 
-/// The same of what is audited.
+/// What differs in the audit of a recording from the results of the second judge, or an empty text.
 fn difference_of(alloc: Global, worked: &WorkedRecording) -> &'static str {
     match audited(alloc, worked) {
         Some((breaks, findings)) => difference(breaks.as_slice(), &findings, worked),
@@ -252,7 +252,7 @@ fn recordings_are_audited(rt: HostRuntime) {
     }
 }
 
-/// What was found of a recording of which nothing is known, where so many breaks were found.
+/// The outcome of a recording of which nothing is known, with these numbers of breaks.
 fn outcome_of(counts: BreakCounts) -> Option<Outcome> {
     let opening = Lines::new(1)?;
     Some(outcome(&Auditor::new(&opening).audited(), counts, 1))

@@ -6,17 +6,17 @@ use Rattle.vme_explain.specs.declared.saving.PathEntry.TheVariants.{Nothing, Fil
 use Rattle.vme_explain.specs.declared.saving.SaveRefusal.{SaveRefusal}
 use Rattle.vme_explain.specs.declared.saving.SaveRefusal.TheVariants.{Binding, Dump, Foreign}
 
--- two files are one: they have one number on one device
+-- two files are the same if they have the same number on the same device
 abbrev pub is_same : FileId → FileId → Bool
 is_same one other = one.device == other.device && one.number == other.number
 
--- the entry is this file
+-- the entry is file `id`
 abbrev pub is_this_file : PathEntry → FileId → Bool
 is_this_file Nothing id = false
 is_this_file (File other is_ours) id = is_same other id
 is_this_file Other id = false
 
--- both entries are one file
+-- both entries are the same file
 abbrev pub is_one_file : PathEntry → PathEntry → Bool
 is_one_file Nothing second = false
 is_one_file (File id is_ours) second = is_this_file second id

@@ -1,4 +1,4 @@
-//! What is said of the other events of a break, those that make its edge a break.
+//! The text on the other events of a break, those that make its edge a break.
 
 use crate::driver::{Driver, driver_of};
 use crate::page::{Subject, push_time};
@@ -10,7 +10,7 @@ use vme_account::{
 use vme_text::Text;
 use vme_trace::{Break, Level, Line, Lines, Rule};
 
-/// What is said of an event, before its instant and behind it, and where it didn't happen.
+/// The words on an event: before its instant, after its instant, and instead of both if it didn't happen.
 #[derive(Clone, Copy)]
 struct EventWords {
     before: &'static str,
@@ -18,7 +18,7 @@ struct EventWords {
     none: &'static str,
 }
 
-/// What is said of what a rule asks for first. An event on a line begins with the line's name.
+/// The words on the first event that a rule refers to. If `before` is empty, the name of the event's line is first.
 fn first_words(rule: Rule) -> EventWords {
     let (before, behind, none) = match rule {
         Rule::H1 => ("", ", and is not High since", ""),
@@ -72,7 +72,7 @@ fn first_words(rule: Rule) -> EventWords {
     }
 }
 
-/// What is said of what it asks for besides.
+/// The words on the second event that a rule refers to.
 fn second_words(rule: Rule) -> EventWords {
     match rule {
         Rule::G5 => EventWords {
@@ -88,12 +88,12 @@ fn second_words(rule: Rule) -> EventWords {
     }
 }
 
-/// An event beside the edge of a break.
+/// An event besides the edge of a break.
 #[derive(Drop)]
 pub struct OtherEvent {
     /// Its instant, if it happened.
     pub instant: Option<u32>,
-    /// What is said of it, in a line.
+    /// The text on it, a line without its end.
     pub text: Text,
 }
 
@@ -112,7 +112,7 @@ pub(crate) fn push_others(
     Ok(())
 }
 
-/// The other events of a break, in the order in which they are told.
+/// The other events of a break, in the order of the text.
 pub fn others_of(
     alloc: Global,
     subject: &Subject<'_>,
@@ -133,7 +133,7 @@ pub fn others_of(
     Ok(events)
 }
 
-/// An event of which a rule speaks, with what is said of it.
+/// An event that a rule refers to, with its text.
 fn other_event(
     alloc: Global,
     subject: &Subject<'_>,
@@ -186,7 +186,7 @@ fn tenure_taken(subject: &Subject<'_>, event: &StepEvent, instant: u32) -> Optio
     }
 }
 
-/// Appends which line an event is of: by itself, as `DTACK fell`, or behind other words, as ` by DTACK`.
+/// Appends the line of an event: first, as `DTACK fell`, or after other words, as ` by DTACK`.
 fn push_line(
     text: &mut Text,
     subject: &Subject<'_>,
@@ -216,7 +216,7 @@ fn push_line(
     }
 }
 
-/// Whether a line fell last, before the break, at this instant.
+/// Whether the last fall of `line` before the break is at `instant`.
 fn fell_at(subject: &Subject<'_>, line: Line, instant: u32) -> bool {
     let other = RelatedEvent {
         event: StepEvent::Falls(line),
@@ -233,7 +233,7 @@ fn push_edge(text: &mut Text, line: Line, edge: &str) -> Result<(), AllocError> 
     text.push(edge.as_bytes())
 }
 
-/// Appends those of some lines that fall.
+/// Appends the lines that fall, of some lines.
 fn push_fallen(text: &mut Text, lines: &[(Line, bool)]) -> Result<(), AllocError> {
     let mut is_first = true;
     for (line, falls) in lines {
@@ -251,7 +251,7 @@ fn shows(lines: &Lines, line: Line, level: Level) -> bool {
     lines.has(line) && lines.level(line) == level
 }
 
-/// Adds how the grant that a tenure takes went along its chain, an event for each net.
+/// Adds how the grant that a tenure takes is passed along its chain, an event for each net that fell.
 fn add_passed_on(
     events: &mut Vec<OtherEvent>,
     alloc: Global,
@@ -284,7 +284,7 @@ fn add_passed_on(
     Ok(())
 }
 
-/// The lowest level that is granted at the last of some instants, or else at the one before.
+/// The lowest level that is granted at the last of the instants, or else at the one before.
 fn granted_level(levels: &[Lines]) -> Option<u8> {
     for lines in levels.iter().rev() {
         for level in 0..4u8 {
@@ -296,7 +296,7 @@ fn granted_level(levels: &[Lines]) -> Option<u8> {
     None
 }
 
-/// Appends who drives a net of a chain.
+/// Appends the driver of a net of a chain.
 pub(crate) fn push_driver(text: &mut Text, alloc: Global, line: Line) -> Result<(), AllocError> {
     match driver_of(line) {
         Some(Driver::Arbiter) => text.push(b", driven by the arbiter"),

@@ -16,7 +16,8 @@ pub enum Driver {
     Slot(u8),
 }
 
-/// Who drives a line, if it is a net of a daisy chain: net 0 of a grant chain the arbiter, net k of a chain slot k.
+/// Who drives a line, if it is a net of a daisy chain. Net 0 of a grant chain is the arbiter's, net k of a chain slot
+/// k's.
 pub fn driver_of(line: Line) -> Option<Driver>
     ensures { result ≡ driver_of line }
 {
@@ -32,7 +33,7 @@ pub fn driver_of(line: Line) -> Option<Driver>
     }
 }
 
-/// Appends the name of a line, and after that of a net who drives it.
+/// Appends the name of a line, and if it is a net, its driver.
 pub fn push_label(text: &mut Text, alloc: Global, line: Line) -> Result<(), AllocError> {
     text.push(line.name().as_bytes())?;
     match driver_of(line) {

@@ -1,30 +1,31 @@
-//! Why a recording is judged as it is, as a text for people, and a file for the waveform viewer
-//! GTKWave.
+//! Why a recording is judged as it is, as a text for people, and a save file for the waveform
+//! viewer GTKWave.
 //!
-//! What is known of the recording is its `Account`, of vme_account.
+//! The recording itself isn't needed: its `Account`, of vme_account, has what is explained. A
+//! *break* is a violation of a rule.
 //!
 //! # Parts
 //!
-//! - `page`: [`explanation`], what is said after the line of a verdict.
-//! - `broken`: what is said of a break, and of the other events of which its rule speaks.
-//! - `summary`, `idle`: what is said of a recording without a break; what is asked of an idle bus.
-//! - `window`, `shown`, `values`, `level_characters`: what an excerpt shows around an instant; which
-//!   lines are shown, several lines as one value, and levels as characters.
-//! - `driver`, `scale`: which board drives a net of a chain; what the times of a dump are called.
+//! - `page`: [`explanation`], the text after the line of a verdict.
+//! - `broken`: the text on a break, and on the other events that its rule refers to.
+//! - `summary`, `idle`: the text on a recording without a break; the lines that an idle bus needs.
+//! - `window`, `shown`, `values`, `level_characters`: the excerpt around an instant, the lines that
+//!   it shows, several lines as one value, and levels as characters.
+//! - `driver`, `scale`: which board drives a net of a chain; the heading of a dump's times.
 //! - `sources`, `wrapping`: what lines are bound to; lines that fit a page.
-//! - `viewer`, `saving`: the save file, and whether it may be written where something stands.
+//! - `viewer`, `saving`: the save file, and whether it may replace a file.
 //!
 //! # What is proved
 //!
-//! [`line_characters`] gives the characters of levels. [`driver_of`] says who drives a net.
-//! [`save_refusal`] refuses to write over an input and over what this program didn't write;
-//! [`is_save_file`] knows what [`save_file`] writes. An [`explanation`] has visible characters,
-//! spaces and line feeds alone, whatever the names are. The counts, the rows that are open, the
-//! levels and the other events that it tells are those of the account, which vme_account proves.
+//! [`line_characters`] gives the characters of levels. [`driver_of`] is the driver of a net.
+//! [`save_refusal`] refuses to write over an input and over what this program didn't write.
+//! [`is_save_file`] recognizes what [`save_file`] writes. An [`explanation`] has only visible
+//! characters, spaces and line feeds, whatever the names are. The counts, the open rows, the levels
+//! and the other events in it are those of the account, and vme_account proves those.
 //!
 //! # What isn't proved
 //!
-//! How the text is arranged and what it says: `tests/texts` compares it with what is kept of each
+//! How the text is arranged and what it says: `tests/texts` compares it with the kept text of each
 //! example. What GTKWave makes of a save file.
 //!
 //! # Limits

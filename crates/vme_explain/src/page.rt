@@ -20,13 +20,13 @@ use vme_rules::push_rule;
 use vme_text::{Text, escaped_text};
 use vme_trace::{Break, Class, Lanes, Line, Lines, Verdict};
 
-/// How many characters the names of rows take at least.
+/// The least width of the names of rows, in characters.
 const NAMES: usize = 8;
 
 /// What is explained.
 #[derive(Clone, Copy)]
 pub struct Subject<'a> {
-    /// What is known of the recording.
+    /// The account of the recording.
     pub account: &'a Account,
     /// Its verdict.
     pub verdict: &'a Verdict,
@@ -34,13 +34,13 @@ pub struct Subject<'a> {
     pub binding: &'a [u8],
     /// The variables of the dump.
     pub variables: &'a [Variable],
-    /// How many units of its time scale a time of the dump stands for, as 10 for 10 ns.
+    /// The number in the time scale: a time of the dump is that many units, e.g. 10 for 10 ns.
     pub time_unit: u64,
-    /// The time scale of the dump, as `10ns`, or nothing.
+    /// The time scale of the dump, as `10ns`, or empty.
     pub time_scale: &'a [u8],
 }
 
-/// Why a recording is judged as it is: what is said behind the line of its verdict, in visible characters alone.
+/// Why a recording is judged as it is: the text after the line of its verdict, in visible characters alone.
 pub fn explanation(alloc: Global, subject: &Subject<'_>) -> Result<Text, AllocError>
     ensures { IfOk result (λ text. IsVisible text) }
 {
@@ -52,12 +52,12 @@ pub fn explanation(alloc: Global, subject: &Subject<'_>) -> Result<Text, AllocEr
         Verdict::Conforming => push_summary(&mut text, alloc, subject)?,
         Verdict::NeverIdle => push_never_idle(&mut text, alloc, subject)?,
     }
-    // names are shown already, as lines are wrapped by what is shown; so is whatever else stands there
+    // names are escaped already, since lines are wrapped by what is shown; whatever else needs it is escaped here
     let lines = wrapped(alloc, text.as_bytes())?;
     escaped_text(alloc, lines.as_bytes())
 }
 
-/// Why and where a rule is broken.
+/// Appends why and where a rule is broken.
 fn push_break(
     text: &mut Text,
     alloc: Global,
@@ -214,7 +214,7 @@ fn push_addressed(
     push_hexadecimal(text, address, digits)
 }
 
-/// Appends so many hexadecimal digits of a number, the last ones.
+/// Appends the last `digits` hexadecimal digits of a number, at most 8.
 fn push_hexadecimal(text: &mut Text, number: u32, digits: u32) -> Result<(), AllocError> {
     for place in 0..digits.min(8) {
         let shift = 4 * (digits.min(8) - 1 - place);
@@ -253,18 +253,18 @@ pub(crate) fn push_instant(
     }
 }
 
-/// Appends the time of an instant, behind it.
+/// Appends the time of an instant, after the instant.
 pub(crate) fn push_time(text: &mut Text, alloc: Global, time: u64) -> Result<(), AllocError> {
     text.push(b" time ")?;
     text.push_decimal(alloc, time)
 }
 
-/// The time of an instant that is shown: those that are shown are kept.
+/// The time of a shown instant. The times of the shown instants are kept.
 pub fn shown_time(account: &Account, instant: u32) -> u64 {
     account.time_at(instant).unwrap_or(0)
 }
 
-/// Appends a line that tells the variable of the line of a break, its levels there, and who drives it, if it is a net.
+/// Appends a line with the variable of a break's line, the levels there, and the driver if the line is a net.
 pub fn push_line_value(
     text: &mut Text,
     alloc: Global,
@@ -295,12 +295,12 @@ pub fn push_line_value(
     text.push(b"\n")
 }
 
-/// How wide the columns of an excerpt are, in characters.
+/// The widths of the columns of an excerpt, in characters.
 #[derive(Clone, Copy)]
 struct Widths {
-    /// That of the names.
+    /// The width of the names.
     names: usize,
-    /// That of each instant.
+    /// The width of each instant.
     column: usize,
 }
 
@@ -357,7 +357,7 @@ fn push_excerpt(
     text.push(b"^\n")
 }
 
-/// How many characters the names of the rows take.
+/// The width of the names of the rows, in characters.
 fn names_width(alloc: Global, subject: &Subject<'_>, lines: &[Line]) -> Result<usize, AllocError> {
     let mut width = NAMES.max(time_name(subject.time_scale).len());
     for line in lines {
@@ -368,8 +368,8 @@ fn names_width(alloc: Global, subject: &Subject<'_>, lines: &[Line]) -> Result<u
     Ok(width)
 }
 
-/// How many characters a column takes, if this is the greatest time in it: one more than the longest value or time, and
-/// at least two more than the time.
+/// The width of a column in characters, where `time` is the greatest time in it: at least one more than the longest
+/// value, and at least two more than the time.
 fn column_width(alloc: Global, time: u64, values: &[ValueRow]) -> Result<usize, AllocError> {
     let mut digits = Text::new(alloc);
     digits.push_decimal(alloc, time)?;
@@ -386,7 +386,7 @@ fn push_padded(text: &mut Text, name: &[u8], width: usize) -> Result<(), AllocEr
     text.push_spaces(width.saturating_sub(name.len()))
 }
 
-/// Appends a number, behind spaces up to a width.
+/// Appends a number, after spaces up to a width.
 fn push_number(
     text: &mut Text,
     alloc: Global,

@@ -1,4 +1,4 @@
-//! Whether a file may be written where something stands already, and what is said where it may not.
+//! Whether a file may be written over what is at its path, and the text if it may not.
 
 ghost use Rattle.std.specs.Prelude.{◌≡◌};
 ghost use Rattle.vme_explain.specs.Saving.{is_one_file, is_same, is_this_file, save_refusal};
@@ -6,7 +6,7 @@ ghost use Rattle.vme_explain.specs.Saving.{is_one_file, is_same, is_this_file, s
 use std::alloc::{AllocError, Global};
 use vme_text::{Text, push_escaped};
 
-/// Which file of the system a file is, whatever path or link leads to it: its device, and its number there.
+/// The identity of a file, whatever path or link leads to it: its device, and its number there.
 #[derive(Clone, Copy, Debug, PartialEq, Eq)]
 pub struct FileId {
     /// The device.
@@ -22,9 +22,9 @@ pub enum PathEntry {
     Nothing,
     /// A file.
     File {
-        /// Which one.
+        /// Its identity.
         id: FileId,
-        /// Whether it begins as a file that this program writes.
+        /// Whether it begins like a file that this program writes.
         is_ours: bool,
     },
     /// A folder, a device, a pipe, a link that leads nowhere, or what can't be looked at.
@@ -38,20 +38,20 @@ pub enum SaveRefusal {
     Binding,
     /// It is the dump.
     Dump,
-    /// It is there, and this program didn't write it.
+    /// A file exists there that this program didn't write.
     Foreign,
-    /// Another file is wanted there too.
+    /// Another file is to be written there too.
     Shared,
 }
 
-/// Whether two files are one.
+/// Whether two files are the same.
 fn is_same(one: FileId, other: FileId) -> bool
     ensures { result ≡ is_same one other }
 {
     one.device == other.device && one.number == other.number
 }
 
-/// Whether this file is at a path.
+/// Whether file `id` is at the path of `entry`.
 fn is_this_file(entry: &PathEntry, id: FileId) -> bool
     ensures { result ≡ is_this_file entry.now id }
 {
@@ -61,7 +61,7 @@ fn is_this_file(entry: &PathEntry, id: FileId) -> bool
     }
 }
 
-/// Whether one file is at two paths, by whatever links.
+/// Whether the same file is at two paths, by whatever links.
 pub fn is_one_file(one: &PathEntry, other: &PathEntry) -> bool
     ensures { result ≡ is_one_file one.now other.now }
 {
@@ -71,8 +71,8 @@ pub fn is_one_file(one: &PathEntry, other: &PathEntry) -> bool
     }
 }
 
-/// Why a file isn't written over this entry, by the files of the binding and of the dump: it is one of these inputs, or
-/// a file that this program didn't write. It is written where nothing is, and over a file of its own.
+/// Why a file isn't written over `entry`, by the files of the binding and of the dump: the entry is one of these
+/// inputs, or this program didn't write it. A file is written where nothing is, and over a file of this program.
 pub fn save_refusal(entry: &PathEntry, binding: FileId, dump: FileId) -> Option<SaveRefusal>
     ensures { result ≡ save_refusal entry.now binding dump }
 {
@@ -85,7 +85,7 @@ pub fn save_refusal(entry: &PathEntry, binding: FileId, dump: FileId) -> Option<
     }
 }
 
-/// What is said where the file of this path isn't written. The only error is want of memory.
+/// The message that the file of this path isn't written. The only error is want of memory.
 pub fn save_refusal_text(
     alloc: Global,
     path: &str,

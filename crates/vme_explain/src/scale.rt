@@ -1,7 +1,7 @@
-//! What the times of a dump are called, by its time scale.
+//! The heading of the times of a dump, by its time scale.
 
-/// What the times of a dump of this time scale are called, as `time (ns)`, or `time (10 ns)` where each counts for ten
-/// of them; `time` alone where the scale is none of the standard's.
+/// The heading of a dump's times, as `time (ns)`, or `time (10 ns)` where each counts for 10 ns. It is `time` alone if
+/// the scale isn't one of the standard's.
 pub fn time_name(scale: &[u8]) -> &'static str {
     match scale {
         b"1s" => "time (s)",

@@ -24,7 +24,7 @@ impl Shown {
         Ok(())
     }
 
-    /// Adds a net, if it is Low at one of some instants, or the input of the board that drives the line of the break.
+    /// Adds a net, if it is Low at one of the instants, or is the input of the board that drives the line `broken`.
     fn add_net(&mut self, net: Line, broken: Line, levels: &[Lines]) -> Result<(), AllocError> {
         if is_low(levels, net) || is_input_of(net, broken) {
             self.add(net)?;
@@ -32,7 +32,7 @@ impl Shown {
         Ok(())
     }
 
-    /// Adds the request and the nets of a level.
+    /// Adds the request line of a level, and the nets of its grant chain by the rule of `add_net`.
     fn add_level(
         &mut self,
         level: u8,
@@ -48,7 +48,7 @@ impl Shown {
         Ok(())
     }
 
-    /// Adds the levels that are granted at one of some instants.
+    /// Adds each level that is granted at one of the instants.
     fn add_granted(&mut self, broken: Line, slots: u8, levels: &[Lines]) -> Result<(), AllocError> {
         for level in 0..4 {
             if is_low(levels, Line::grant(level, 0)) {
@@ -58,7 +58,7 @@ impl Shown {
         Ok(())
     }
 
-    /// Adds the line of a break, and those of which its rule speaks.
+    /// Adds the line of a break, and the lines that its rule refers to.
     fn add_broken(
         &mut self,
         rule: Rule,
@@ -100,7 +100,7 @@ impl Shown {
         }
     }
 
-    /// Adds the nets of the acknowledge chain.
+    /// Adds the nets of the acknowledge chain by the rule of `add_net`.
     fn add_acknowledges(
         &mut self,
         broken: Line,
@@ -114,7 +114,7 @@ impl Shown {
     }
 }
 
-/// Whether a line is Low at one of some instants.
+/// Whether a line is Low at one of the instants.
 fn is_low(levels: &[Lines], line: Line) -> bool {
     levels
         .iter()
@@ -130,7 +130,7 @@ fn is_input_of(net: Line, line: Line) -> bool {
     }
 }
 
-/// Whether the bus is reset at one of some instants.
+/// Whether the bus is reset at one of the instants.
 fn is_reset(levels: &[Lines]) -> bool {
     levels.iter().any(|lines| lines.is_reset())
 }
@@ -141,8 +141,8 @@ fn level_of(line: Line) -> Option<u8> {
     Some(level)
 }
 
-/// The lines of which the rule of a break speaks, the line of the break first, then the others of the handshake, and
-/// SYSRESET where it is low. Without a break the first are none.
+/// The lines of an excerpt: if there is a break, its line and those that its rule refers to, then AS, the strobes, the
+/// answers, WRITE, IACK and BBSY, and SYSRESET if the bus is reset at one of the instants.
 pub(crate) fn lines_shown(
     alloc: Global,
     found: Option<&Break>,

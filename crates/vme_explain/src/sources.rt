@@ -1,4 +1,4 @@
-//! What the lines of a backplane are bound to, read off the text of a binding.
+//! What the lines of a backplane are bound to, read from the text of a binding.
 
 use std::alloc::{AllocError, Global};
 use vcd_read::Variable;
@@ -8,13 +8,13 @@ use vme_trace::{Line, MOST_SLOTS};
 /// What a line is bound to.
 #[derive(Clone, Copy)]
 pub(crate) struct Bound<'a> {
-    /// The word behind the equals sign.
+    /// The word after the equals sign.
     pub source: &'a [u8],
-    /// Which of its bits, from the left.
+    /// The index of the bit of `source`, counted from the left.
     pub place: u32,
 }
 
-/// The words of one line of a binding that assigns.
+/// The words of an assignment in a binding.
 #[derive(Clone, Copy)]
 pub(crate) struct Assigned<'a> {
     pub name: &'a [u8],
@@ -25,7 +25,7 @@ fn is_blank(byte: u8) -> bool {
     matches!(byte, b' ' | b'\t' | b'\r')
 }
 
-/// The words of a line `NAME = SOURCE`.
+/// The words of an assignment `NAME = SOURCE`, if `line` is one.
 pub(crate) fn assignment_in(line: &[u8]) -> Option<Assigned<'_>> {
     let mut words = line
         .split(|byte| is_blank(*byte))
@@ -39,7 +39,7 @@ pub(crate) fn assignment_in(line: &[u8]) -> Option<Assigned<'_>> {
     Some(Assigned { name, source })
 }
 
-/// The place of a line among those of a name, from the left.
+/// The index of `line` among the lines that `name` means, counted from the left.
 fn place_in(name: &[u8], line: Line, slots: u8) -> Option<u32> {
     if line.name().as_bytes() == name {
         return Some(0);
@@ -53,7 +53,7 @@ fn place_in(name: &[u8], line: Line, slots: u8) -> Option<u32> {
     }
 }
 
-/// The number of the first line of a group, and how many lines it has.
+/// The number of the first line of a group, and the number of its lines.
 fn group(name: &[u8], slots: u8) -> Option<(u8, u8)> {
     let slots = slots.clamp(1, MOST_SLOTS);
     match name {
@@ -85,7 +85,7 @@ pub(crate) fn bound_to(binding: &[u8], line: Line, slots: u8) -> Option<Bound<'_
     None
 }
 
-/// The path of a source, and the selection in brackets at its end.
+/// The path of a source, and the selection in brackets after it, empty if there is none.
 pub(crate) fn path_of(source: &[u8]) -> (&[u8], &[u8]) {
     match source.iter().rposition(|byte| *byte == b'[') {
         Some(at) if source.ends_with(b"]") => (&source[..at], &source[at..]),
@@ -93,7 +93,7 @@ pub(crate) fn path_of(source: &[u8]) -> (&[u8], &[u8]) {
     }
 }
 
-/// The number of the leftmost bit of a selection, if the bits run downwards from it.
+/// The number of the leftmost bit of a selection, and whether the bit numbers run downwards from it.
 fn leftmost(selection: &[u8]) -> Option<(u32, bool)> {
     let mut numbers = [0u32; 2];
     let mut at: usize = 0;
@@ -112,7 +112,7 @@ fn leftmost(selection: &[u8]) -> Option<(u32, bool)> {
     Some((numbers[0], at == 0 || numbers[0] >= numbers[1]))
 }
 
-/// The number of the bit of a variable that a line is bound to, if the variable has numbers, or some are selected.
+/// The number of the bit that a line is bound to, if bits are selected or the variable has an index.
 fn bit_of(bound: &Bound<'_>, variables: &[Variable]) -> Option<u32> {
     let (path, selection) = path_of(bound.source);
     let selected = if selection.is_empty() {
@@ -134,14 +134,14 @@ fn bit_of(bound: &Bound<'_>, variables: &[Variable]) -> Option<u32> {
     })
 }
 
-/// The variable of a path.
+/// The first variable of a path.
 pub(crate) fn variable_of<'a>(path: &[u8], variables: &'a [Variable]) -> Option<&'a Variable> {
     variables
         .iter()
         .find(|variable| variable.path.as_bytes() == path)
 }
 
-/// How many bits of its variable stand on the left of the one that a line is bound to.
+/// How many bits of its variable are to the left of the one that a line is bound to.
 pub(crate) fn bits_before(bound: &Bound<'_>, variables: &[Variable]) -> u32 {
     let (path, _) = path_of(bound.source);
     match (bit_of(bound, variables), variable_of(path, variables)) {

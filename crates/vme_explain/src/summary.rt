@@ -1,4 +1,4 @@
-//! What is told of a recording without a break.
+//! The text on a recording without a break.
 
 use crate::idle::control_line;
 use crate::page::{Subject, push_instant, push_open};
@@ -8,7 +8,7 @@ use vme_account::{Account, Part, RowKind, rests_high};
 use vme_text::Text;
 use vme_trace::{LINE_COUNT, Line, MOST_SLOTS};
 
-/// What was judged of a conforming recording, and what was pending at its end.
+/// Appends what was judged of a conforming recording, and what was pending at its end.
 pub(crate) fn push_summary(
     text: &mut Text,
     alloc: Global,
@@ -52,7 +52,7 @@ pub(crate) fn push_summary(
     push_unmoved(text, subject)
 }
 
-/// Appends how many resets ended what was judged, and the last, where there is one.
+/// Appends how many resets ended judging, and the last one, if there is one.
 fn push_resets(text: &mut Text, alloc: Global, subject: &Subject<'_>) -> Result<(), AllocError> {
     let account = subject.account;
     let Some(instant) = account.last_reset() else {
@@ -80,7 +80,7 @@ fn push_counts(
     Ok(())
 }
 
-/// Appends how many tenures there are, by level and slot.
+/// Appends the numbers of tenures, by level and slot.
 fn push_tenures(text: &mut Text, alloc: Global, subject: &Subject<'_>) -> Result<(), AllocError> {
     let account = subject.account;
     text.push(b"tenures: ")?;
@@ -114,12 +114,12 @@ fn push_pending(text: &mut Text, alloc: Global, subject: &Subject<'_>) -> Result
     push_open(text, alloc, subject)
 }
 
-/// Whether the binding says what the level of a line is: it may leave out SYSRESET, which then never moves.
+/// Whether the binding binds a line. It may leave out SYSRESET, which then never moves.
 fn is_bound(subject: &Subject<'_>, line: Line) -> bool {
     bound_to(subject.binding, line, subject.account.opening().slots()).is_some()
 }
 
-/// Appends the control lines that are bound and never moved where something was judged.
+/// Appends the control lines that never moved since judging started first. SYSRESET counts only if it is bound.
 fn push_unmoved(text: &mut Text, subject: &Subject<'_>) -> Result<(), AllocError> {
     let account = subject.account;
     text.push(b"control lines that never moved:")?;
@@ -139,7 +139,7 @@ fn push_unmoved(text: &mut Text, subject: &Subject<'_>) -> Result<(), AllocError
     text.push(b"\n")
 }
 
-/// What an idle bus asks of a line.
+/// What an idle bus needs of a line, as the text if it isn't so.
 fn wanted(line: Line) -> &'static str {
     if rests_high(line) {
         ": not High"
@@ -148,7 +148,7 @@ fn wanted(line: Line) -> &'static str {
     }
 }
 
-/// Which lines kept a bus from being idle.
+/// Appends which lines kept the bus from being idle.
 pub(crate) fn push_never_idle(
     text: &mut Text,
     alloc: Global,
@@ -179,7 +179,7 @@ are High.\n",
     push_unfit(text, account)
 }
 
-/// Appends the lines that aren't at the end as an idle bus has them.
+/// Appends the lines that aren't as an idle bus has them at the end.
 fn push_unfit(text: &mut Text, account: &Account) -> Result<(), AllocError> {
     for number in 0..LINE_COUNT {
         if let Some(line) = control_line(account.opening(), number) {

@@ -1,4 +1,4 @@
-//! What several lines say together at some instants: codes, addresses, data and chains, as values.
+//! The values of several lines together at some instants: codes, addresses, data and chains.
 
 use crate::sources::bound_to;
 use std::alloc::{AllocError, Global};
@@ -11,15 +11,15 @@ pub const MOST_DIGITS: usize = 8;
 /// Lines whose levels are shown as one value, the leftmost first.
 #[derive(Drop)]
 pub struct ValueRow {
-    /// What the row is called.
+    /// The name of the row.
     pub name: &'static str,
-    /// The values at the instants.
+    /// The values, one for each instant.
     pub values: Vec<[u8; MOST_DIGITS]>,
-    /// How many digits each value has.
+    /// The number of digits of each value.
     pub width: usize,
 }
 
-/// A bit of a value: none where it is unknown.
+/// A bit of a value, `None` if it is unknown.
 fn bit(lines: &Lines, line: Line) -> Option<u8> {
     if !lines.has(line) {
         return None;
@@ -31,7 +31,7 @@ fn bit(lines: &Lines, line: Line) -> Option<u8> {
     }
 }
 
-/// The hexadecimal digit of four bits, the leftmost first: x where one is unknown.
+/// The hexadecimal digit of four bits, the leftmost first, or `x` if one of them is unknown.
 fn digit(bits: [Option<u8>; 4]) -> u8 {
     let mut number: u8 = 0;
     for bit in bits {
@@ -72,7 +72,7 @@ fn data_line(bit: u8) -> Option<Line> {
     }
 }
 
-/// The net of a grant chain at a place, if a backplane of so many slots has it.
+/// Net `place` of the grant chain of `level`, if a backplane of `slots` slots has it.
 fn grant_line(level: u8, place: u8, slots: u8) -> Option<Line> {
     if place <= slots.min(MOST_SLOTS) {
         Some(Line::grant(level.min(3), place))
@@ -81,7 +81,7 @@ fn grant_line(level: u8, place: u8, slots: u8) -> Option<Line> {
     }
 }
 
-/// The net of the acknowledge chain that is so many after the one of slot 1, if a backplane of so many slots has it.
+/// The net of the acknowledge chain that is `distance` after that of slot 1, if a backplane of `slots` slots has it.
 fn acknowledge_line(distance: u8, slots: u8) -> Option<Line> {
     if distance < slots.min(MOST_SLOTS) {
         Some(Line::iack(distance + 1))
@@ -102,7 +102,7 @@ enum ValueBus {
     Acknowledges,
 }
 
-/// The line of the bit of a bus, counted from the right.
+/// The line of bit `number` of a bus, counted from the right.
 fn line_of(bus: ValueBus, number: u8, slots: u8) -> Option<Line> {
     match bus {
         ValueBus::Modifier => modifier_line(number),
@@ -113,7 +113,7 @@ fn line_of(bus: ValueBus, number: u8, slots: u8) -> Option<Line> {
     }
 }
 
-/// The level of the bit of a bus. Bits that it lacks, such as bit 0 of the address, count as Low.
+/// Bit `number` of a bus. A bit that the bus lacks, such as bit 0 of the address, counts as Low.
 fn bus_bit(lines: &Lines, bus: ValueBus, number: u8) -> Option<u8> {
     match line_of(bus, number, lines.slots()) {
         Some(line) => bit(lines, line),
@@ -121,7 +121,7 @@ fn bus_bit(lines: &Lines, bus: ValueBus, number: u8) -> Option<u8> {
     }
 }
 
-/// The last digits of what a bus says.
+/// The last `count` hexadecimal digits of a bus's value.
 fn digits(lines: &Lines, bus: ValueBus, count: usize) -> [u8; MOST_DIGITS] {
     let mut text = [b' '; MOST_DIGITS];
     let count = count.min(MOST_DIGITS);
@@ -155,15 +155,15 @@ fn row_of(
     })
 }
 
-/// Whether a line is Low at one of some instants.
+/// Whether a line is Low at one of the instants.
 fn is_low_once(line: Line, levels: &[Lines]) -> bool {
     levels.iter().any(|lines| bit(lines, line) == Some(0))
 }
 
-/// The code, the address and the data at some instants, those of the buses that the binding names, and the daisy chains
-/// of which a net is Low there, but for those whose nets are shown each by itself. Of an address the digits that the
-/// codes of short and standard space have, where no other code shows, which all have AM5 Low; of data the lower half,
-/// where no long word is asked for, by LWORD.
+/// The rows of the address modifier code, of the address, of the data if the binding has D00, and of each daisy chain
+/// with a net that is Low at one of the instants and without a net in `shown`. The address has 8 digits if AM5 is Low
+/// at one of the instants, as in extended space, or else 6. The data has 8 digits if LWORD is Low at one of them, or
+/// else 4.
 pub(crate) fn value_rows(
     alloc: Global,
     binding: &[u8],
@@ -205,7 +205,7 @@ pub(crate) fn value_rows(
     Ok(rows)
 }
 
-/// How many hexadecimal digits the nets of a chain have.
+/// The number of hexadecimal digits of a chain's nets.
 fn chain_digits(bus: ValueBus, slots: u8) -> usize {
     let nets = match bus {
         ValueBus::Grants(_) => usize::from(slots).saturating_add(1),
@@ -214,7 +214,8 @@ fn chain_digits(bus: ValueBus, slots: u8) -> usize {
     nets.saturating_add(3) / 4
 }
 
-/// Whether a chain is shown as one value: a net of it is Low at one of some instants, and none is shown by itself.
+/// Whether a chain is shown as one value: a net of it is Low at one of the instants, and none of its nets is in
+/// `shown`.
 fn is_to_be_shown(bus: ValueBus, slots: u8, levels: &[Lines], shown: &[Line]) -> bool {
     let mut is_low = false;
     for number in 0..MOST_SLOTS + 1 {
@@ -230,7 +231,7 @@ fn is_to_be_shown(bus: ValueBus, slots: u8, levels: &[Lines], shown: &[Line]) ->
     is_low
 }
 
-/// Appends a value of a row.
+/// Appends the value of a row at index `place`, after spaces up to a width.
 pub(crate) fn push_value(
     text: &mut Text,
     row: &ValueRow,

@@ -11,11 +11,11 @@ use vcd_read::Variable;
 use vme_text::{Text, push_escaped};
 use vme_trace::{Break, Verdict};
 
-/// How many instants before the break the picture begins.
+/// How many instants before the break the view begins.
 const BEFORE: u32 = 8;
 
-/// The marker stands at most 300 points from the left edge of the picture: one and a half divisions of the time axis,
-/// of 200 points each. The names take 300 points, so that it is in view in a window 1,000 points wide.
+/// The marker is at most 300 points from the left edge of the view: one and a half divisions of the time axis, of 200
+/// points each. The names take 300 points, so the marker is visible in a window 1,000 points wide.
 const HALF_DIVISIONS: u64 = 3;
 
 /// The first line of a save file of this program.
@@ -25,14 +25,15 @@ fn first_line() -> &'static [u8]
     b"[*] written by vmecheck explain\n"
 }
 
-/// Whether a file begins as a save file of this program.
+/// Whether a file begins like a save file of this program.
 pub fn is_save_file(begin: &[u8]) -> bool
     ensures { result ≡ starts_with nat_eq begin.now save_file_first_line }
 {
     begin.starts_with(first_line())
 }
 
-/// The save file for a dump of this name: the bound variables, each once, and where a rule is broken a marker there.
+/// The save file for the dump of name `dump`: the bound variables, each once, and a marker at the break, if there is
+/// one.
 pub fn save_file(alloc: Global, subject: &Subject<'_>, dump: &[u8]) -> Result<Text, AllocError>
     ensures { IfOk result (λ text. (rest : List ℕ) × (text ≡ save_file_first_line ++ rest)) }
 {
@@ -43,10 +44,10 @@ pub fn save_file(alloc: Global, subject: &Subject<'_>, dump: &[u8]) -> Result<Te
     Ok(text)
 }
 
-/// Lines of one kind, which stand together in the viewer.
+/// Lines of one kind, which the viewer shows together.
 struct TraceGroup {
     name: &'static str,
-    /// How the names of a binding begin that are of this kind.
+    /// How the names of this kind begin in a binding.
     names: &'static [&'static str],
 }
 
@@ -73,7 +74,8 @@ const GROUPS: [TraceGroup; 5] = [
     },
 ];
 
-/// Which of the kinds a name of a binding is of: that of the longest beginning, since `BERR` begins as `B` does.
+/// The index in `GROUPS` of a binding's name: the group of the longest matching beginning, since `BERR` begins with
+/// `B`.
 fn group_of(name: &[u8]) -> Option<usize> {
     let mut longest = 0;
     let mut found = None;
@@ -88,7 +90,8 @@ fn group_of(name: &[u8]) -> Option<usize> {
     found
 }
 
-/// What a save file has after its first line: the variable of the broken line, and then all, by kinds, each once.
+/// What a save file has after its first line: the dump, the view, the variable of the broken line, and all variables by
+/// kind, each once.
 fn view_and_traces(alloc: Global, subject: &Subject<'_>, dump: &[u8]) -> Result<Text, AllocError> {
     let mut text = Text::new(alloc);
     push_dump(&mut text, dump)?;
@@ -145,7 +148,7 @@ fn push_broken(text: &mut Text, alloc: Global, subject: &Subject<'_>) -> Result<
     text.push(b"\n")
 }
 
-/// Appends a line that names what stands below it.
+/// Appends a heading for the lines below it.
 fn push_heading(text: &mut Text, name: &str) -> Result<(), AllocError> {
     text.push(b"@200\n-")?;
     text.push(name.as_bytes())?;
@@ -153,8 +156,8 @@ fn push_heading(text: &mut Text, name: &str) -> Result<(), AllocError> {
 }
 
 /// Appends the name of the dump as it is, since the viewer opens it, and knows no escapes. A name with a quotation
-/// mark, a control character or a mark that turns the direction of a line is left out: the viewer is given the dump by
-/// hand.
+/// mark, a control character or a character that turns the direction of a line is left out. Then the user opens the
+/// dump in the viewer by hand.
 fn push_dump(text: &mut Text, name: &[u8]) -> Result<(), AllocError> {
     for at in 0..name.len() {
         if begins_unfit(name.get(at..).unwrap_or(b"")) {
@@ -166,7 +169,7 @@ fn push_dump(text: &mut Text, name: &[u8]) -> Result<(), AllocError> {
     text.push(b"\"\n")
 }
 
-/// Whether some bytes begin with a character that no name in a save file has: a quotation mark, a control character, or
+/// Whether `bytes` begins with a character that no name in a save file has: a quotation mark, a control character, or
 /// one that turns the direction of a line, in UTF-8.
 fn begins_unfit(bytes: &[u8]) -> bool {
     match bytes {
@@ -179,7 +182,7 @@ fn begins_unfit(bytes: &[u8]) -> bool {
     }
 }
 
-/// Appends where the picture begins, its scale, and the marker. The viewer counts them in the unit of the time scale.
+/// Appends where the view begins, its scale, and the marker. The viewer counts them in the unit of the time scale.
 fn push_view(text: &mut Text, alloc: Global, subject: &Subject<'_>) -> Result<(), AllocError> {
     let account = subject.account;
     let (first, marker) = match subject.verdict {
@@ -211,7 +214,7 @@ fn push_view(text: &mut Text, alloc: Global, subject: &Subject<'_>) -> Result<()
     text.push(b"\n")
 }
 
-/// By how many doublings of a division, which is one unit of time at first, so much time fits into the picture.
+/// How often a division, which is one time unit at first, is doubled until one and a half divisions hold `span`.
 fn scale(span: u64) -> u64 {
     let mut doublings: u64 = 0;
     for doubled in 0..63u32 {

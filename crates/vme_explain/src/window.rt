@@ -1,4 +1,4 @@
-//! What an excerpt shows: the levels around a break, in which lines, and the values of buses.
+//! What an excerpt shows: the levels of some lines around a break, and the values of buses.
 
 ghost use Rattle.std.specs.Prelude.{◌≤◌};
 
@@ -19,13 +19,13 @@ const BEHIND: u32 = 3;
 pub struct Excerpt {
     /// The first instant.
     pub first: u32,
-    /// The last one.
+    /// The last instant.
     pub last: u32,
-    /// The levels from the first to the last.
+    /// The levels from the first to the last instant.
     pub levels: Vec<Lines>,
     /// The lines that are shown each by itself.
     pub lines: Vec<Line>,
-    /// Those that are shown together.
+    /// The lines that are shown together, as values.
     pub values: Vec<ValueRow>,
 }
 
@@ -37,7 +37,7 @@ pub fn break_of(verdict: &Verdict) -> Option<&Break> {
     }
 }
 
-/// The first and the last instant that are shown around one, of those that are kept.
+/// The first and the last instant that are shown around the instant `around`, limited to those that are kept.
 fn window(account: &Account, around: u32) -> (u32, u32)
     ensures { result.0 ≤ result.1 }
 {
@@ -46,7 +46,7 @@ fn window(account: &Account, around: u32) -> (u32, u32)
     (first.min(last), last)
 }
 
-/// What is shown around the break, or at the end of the recording, where there is none.
+/// What is shown around the break, or at the end of the recording if there is no break.
 pub fn excerpt_of(alloc: Global, subject: &Subject<'_>) -> Result<Excerpt, AllocError> {
     let account = subject.account;
     let found = break_of(subject.verdict);

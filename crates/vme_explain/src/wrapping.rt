@@ -3,10 +3,11 @@
 use std::alloc::{AllocError, Global};
 use vme_text::Text;
 
-/// The longest line of a text for people.
+/// The greatest length of a line of a text for people, in bytes.
 pub(crate) const LONGEST: usize = 100;
 
-/// A text whose lines, where they are longer, go on in the next one, set in. A word that is longer stays whole.
+/// The text with each line longer than `LONGEST` continued on further lines, which are indented. A longer word stays
+/// whole.
 pub fn wrapped(alloc: Global, bytes: &[u8]) -> Result<Text, AllocError> {
     let mut text = Text::new(alloc);
     let mut is_first = true;

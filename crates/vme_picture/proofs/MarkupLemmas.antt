@@ -1,4 +1,4 @@
--- Markup after markup, and attributes after attributes.
+-- Appending to markup and to attributes.
 use Rattle.std.proofs.Common.{◌≡◌, ◌∙◌, ◌++◌, ◌∷◌, [], ℕ, List, ap, refl, sym}
 use Rattle.std.specs.Prelude.{flat_map}
 use Rattle.std.proofs.lemmas.List.{append-nil, append_assoc, flat_map_more}
@@ -7,7 +7,7 @@ use Rattle.vme_picture.specs.Markup.{attribute_text, element_text, escaped, mark
 use Rattle.vme_picture.specs.declared.markup.Attribute.{Attribute}
 use Rattle.vme_picture.specs.declared.markup.Tag.{Tag}
 
--- one tree after another
+-- the items of one tree, and after them those of another
 joined : MarkupTree → MarkupTree → MarkupTree
 joined nothing n = n
 joined (characters bytes rest) n = characters bytes (joined rest n)

@@ -1,4 +1,4 @@
--- Markup has visible characters and line feeds alone.
+-- Markup has only visible characters, spaces and line feeds.
 use Rattle.std.proofs.Common.{◌≡◌, ◌∙◌, ◌++◌, ◌==◌, ◌∷◌, Bool, List, [], ℕ, codes, false, flat_map, if◌then◌else◌}
 use Rattle.std.proofs.Common.{refl, subst, sym, true}
 use Rattle.std.proofs.lemmas.Bool.{and_from, eqb-true}
@@ -119,7 +119,7 @@ visible_tree (element name attributes inner rest) =
     (visible_element name written (markup_text inner) (visible_attributes attributes) (visible_tree inner))
     (visible_tree rest)
 
--- a picture, by its parts
+-- a picture has only visible characters, spaces and line feeds
 pub picture_is_visible : (attributes inner : List ℕ) → AreAttributes attributes → IsMarkup inner
     → IsVisible (picture_first_line ++ element_text tag.Svg attributes inner ++ 10 ∷ [])
 picture_is_visible attributes inner a i =

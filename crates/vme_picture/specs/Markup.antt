@@ -1,4 +1,4 @@
--- Markup: elements, characters and ends of lines, well nested, in which every name is escaped.
+-- Markup: well-nested elements, characters and ends of lines, in which every name is escaped.
 use Rattle.std.specs.Prelude.{◌≡◌, ℕ, ◌==◌, ◌++◌, ◌∷◌, [], List, codes, flat_map, if◌then◌else◌}
 use Rattle.vme_text.specs.Escaping.{hex_escaped_byte}
 use Rattle.vme_picture.specs.declared.markup.Attribute.{Attribute}
@@ -57,8 +57,7 @@ abbrev pub element_text : Tag → List ℕ → List ℕ → List ℕ
 element_text name attributes inner =
     codes "<" ++ tag_name name ++ attributes ++ codes ">" ++ inner ++ codes "</" ++ tag_name name ++ codes ">"
 
--- what stands one after the other: some characters, the end of a line, or an element with what is in it; each with
--- what follows
+-- a sequence of items: characters, the end of a line, or an element with its content; `rest` is what follows an item
 pub data MarkupTree : Type 0 where
   nothing : MarkupTree
   characters : List ℕ → MarkupTree → MarkupTree
@@ -72,10 +71,10 @@ markup_text (end_of_line rest) = 10 ∷ markup_text rest
 markup_text (element name attributes inner rest) =
     element_text name (flat_map attribute_text attributes) (markup_text inner) ++ markup_text rest
 
--- a text is well nested
+-- the text is that of a markup tree, so it is well nested
 abbrev pub IsMarkup : List ℕ → Type 0
 IsMarkup text = (m : MarkupTree) × (text ≡ markup_text m)
 
--- a text is that of some attributes
+-- the text is that of some attributes
 abbrev pub AreAttributes : List ℕ → Type 0
 AreAttributes text = (list : List (Attribute × List ℕ)) × (text ≡ flat_map attribute_text list)

@@ -11,17 +11,17 @@ use vme_explain::{OtherEvent, Subject, shown_time, time_name};
 use vme_text::Text;
 use vme_trace::Break;
 
-/// Where the marks of events stand, the instants, and the times.
+/// The heights of the marks of events, of the instants, and of the times.
 const MARKS: u64 = 45;
 
 const INSTANTS: u64 = 60;
 
 const TIMES: u64 = 74;
 
-/// How many letters of events stand at one instant.
+/// The greatest number of letters of events at one instant.
 const MOST_LETTERS: usize = 4;
 
-/// Adds the instants and their times, and a line for each.
+/// Adds the instants and their times, and a vertical line for each.
 pub(crate) fn push_axis(
     markup: &mut Markup,
     alloc: Global,
@@ -48,7 +48,7 @@ pub(crate) fn push_axis(
     push_path(markup, alloc, PathKind::Grid, grid.as_bytes())
 }
 
-/// Adds what the row of this height is called.
+/// Adds the name of the row at height `y`.
 fn push_row_name(
     markup: &mut Markup,
     alloc: Global,
@@ -64,7 +64,7 @@ fn push_row_name(
     )
 }
 
-/// The letter of an event, by its place among those that are told.
+/// The letter of an event, by its index in the text below the picture.
 pub(crate) fn letter(place: usize) -> u8 {
     b'a' + (place.min(25) as u8)
 }
@@ -87,7 +87,7 @@ fn letters_at(alloc: Global, others: &[OtherEvent], instant: u32) -> Result<Text
     Ok(letters)
 }
 
-/// Adds the line of the break, with the name of its rule, and those of the other events, each with its letter.
+/// Adds the line of the break, with the name of its rule, and the lines of the other events, each with its letters.
 pub(crate) fn push_events(
     markup: &mut Markup,
     alloc: Global,
@@ -155,7 +155,7 @@ fn push_other(
     push_text_at(markup, alloc, at, TextStyle::Middle, letters)
 }
 
-/// Adds a line from the mark of an event down through all rows, but for the instant and the time.
+/// Adds a line from the mark of an event down through all rows, interrupted at the instant and the time.
 fn push_event_line(
     markup: &mut Markup,
     alloc: Global,

@@ -1,4 +1,4 @@
-//! Buses by their values, each in a frame from where it begins to where it ends.
+//! Buses by their values, each in a frame from where the value begins to where it ends.
 
 use crate::drawing::{
     BoxFill, PathKind, Point, Rectangle, TextStyle, push_axis_line, push_box, push_path,
@@ -11,7 +11,7 @@ use std::alloc::{AllocError, Global};
 use vme_explain::{Excerpt, ValueRow};
 use vme_text::Text;
 
-/// How far below the top of its row a frame begins.
+/// The distance of a frame from the top and from the bottom of its row.
 const INSET: u64 = 2;
 
 /// Adds a row for each bus of an excerpt.
@@ -33,7 +33,7 @@ pub(crate) fn push_buses(
     Ok(())
 }
 
-/// The digits of a row at a place of a picture.
+/// The digits of a row in column `place`.
 fn value_at<'a>(row: &'a ValueRow, layout: &Layout, place: u32) -> &'a [u8] {
     match row
         .values
@@ -105,7 +105,7 @@ fn push_frame(
         (PathKind::UnknownValue, BoxFill::Grey)
     };
     push_path(markup, alloc, kind, points.as_bytes())?;
-    // the value stands on a box of its own, so that the line of an event doesn't go through it
+    // the value is on a box of its own, so that the line of an event doesn't cross it
     let width = (value.len() as u64)
         .saturating_mul(CHARACTER)
         .saturating_add(4);
@@ -126,7 +126,7 @@ fn push_frame(
     push_text_at(markup, alloc, at, TextStyle::Middle, value)
 }
 
-/// The point after an edge at this height.
+/// The point after the edge at `x`, at height `y`.
 fn after_edge(x: u64, y: u64) -> Point {
     Point {
         x: x.saturating_add(SLOPE),

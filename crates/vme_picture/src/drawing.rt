@@ -16,7 +16,7 @@ pub(crate) struct Point {
 pub(crate) enum TextStyle {
     /// It begins at its point.
     Plain,
-    /// The same, in bold.
+    /// It begins at its point, in bold.
     Bold,
     /// It is centred on its point.
     Middle,
@@ -24,10 +24,10 @@ pub(crate) enum TextStyle {
     Inverse,
 }
 
-/// What a path is.
+/// What a path shows.
 #[derive(Clone, Copy)]
 pub(crate) enum PathKind {
-    /// The lines at which the columns begin.
+    /// The lines at the starts of the columns.
     Grid,
     /// The marker of an event other than the break.
     EventMarker,
@@ -39,7 +39,7 @@ pub(crate) enum PathKind {
     HighlightedWave,
     /// The value of several bus lines.
     Value,
-    /// The same, where not all of it is known.
+    /// The value of several bus lines, some of which are unknown.
     UnknownValue,
 }
 
@@ -75,11 +75,11 @@ fn style_of(kind: PathKind) -> PathStyle {
 pub(crate) enum BoxFill {
     /// White.
     White,
-    /// The grey of a value of which not all is known.
+    /// The grey of a value that is partly unknown.
     Grey,
     /// Black.
     Black,
-    /// Hatched, with lines around it: a level that isn't known.
+    /// Hatched, with lines around it, for an unknown level.
     Hatched,
 }
 
@@ -144,7 +144,7 @@ pub(crate) fn push_number(
     push_text_at(markup, alloc, at, TextStyle::Middle, digits.as_bytes())
 }
 
-/// Adds a path through these points, if it has some.
+/// Adds a path through these points, if there are any.
 pub(crate) fn push_path(
     markup: &mut Markup,
     alloc: Global,
@@ -195,7 +195,7 @@ pub(crate) fn push_box(
     push_element_line(markup, alloc, Tag::Rect, &attributes, &Markup::new(alloc))
 }
 
-/// Appends what a path does, and to where: `M` goes to a point, and `L` draws to it.
+/// Appends a command of a path and its point: `M` moves to the point, and `L` draws a line to it.
 pub(crate) fn push_point(
     points: &mut Text,
     alloc: Global,
@@ -208,7 +208,7 @@ pub(crate) fn push_point(
     points.push_decimal(alloc, to.y)
 }
 
-/// Appends a line that is drawn to this height, `V`, or this far to the right, `H`.
+/// Appends a command of a path that draws a vertical line to height `to` (`V`), or a horizontal one to `to` (`H`).
 pub(crate) fn push_axis_line(
     points: &mut Text,
     alloc: Global,

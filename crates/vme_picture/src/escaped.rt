@@ -6,7 +6,7 @@ ghost use Rattle.vme_picture.specs.Markup.{escaped, escaped_byte};
 use std::alloc::{AllocError, Global};
 use vme_text::{Text, push_escaped};
 
-/// Some bytes as characters of markup: `&`, `<`, `>` and `"` as entities, and any other as it is shown to people.
+/// Bytes as characters of markup: `&`, `<`, `>` and `"` as entities, and any other as it is shown to people.
 pub(crate) fn escaped(alloc: Global, bytes: &[u8]) -> Result<Text, AllocError>
     ensures { IfOk result (λ text. text ≡ escaped bytes.now) }
 {

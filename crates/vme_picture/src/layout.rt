@@ -1,31 +1,31 @@
-//! Where the columns and the rows of a picture stand, in its units: a quarter of a millimetre each.
+//! The positions of the columns and the rows of a picture, in units of a quarter of a millimetre.
 
 use std::alloc::{AllocError, Global};
 use vme_explain::{Excerpt, Subject, push_label, shown_time, time_name};
 use vme_text::Text;
 
-/// How wide a picture is: 160 mm.
+/// The width of a picture: 160 mm.
 pub(crate) const WIDTH: u64 = 640;
 
-/// How much is left free around it.
+/// The width of the margin around it.
 pub(crate) const MARGIN: u64 = 12;
 
-/// How wide a character is. The font is 10 units high.
+/// The width of a character. The font is 10 units high.
 pub(crate) const CHARACTER: u64 = 6;
 
-/// How high a row of levels is.
+/// The height of a row of levels.
 pub(crate) const ROW: u64 = 16;
 
-/// How far a line of words is from the next one.
+/// The distance between lines of text.
 pub(crate) const LINE: u64 = 13;
 
-/// How far an edge goes to the right.
+/// The width of an edge.
 pub(crate) const SLOPE: u64 = 4;
 
-/// Where the first row begins.
+/// The top of the first row.
 pub(crate) const TOP: u64 = 84;
 
-/// The widest column.
+/// The greatest width of a column.
 const WIDEST: u64 = 120;
 
 /// The columns of a picture: each begins at an instant, with the edges there, and shows the levels after them.
@@ -33,20 +33,20 @@ const WIDEST: u64 = 120;
 pub(crate) struct Layout {
     /// The first instant that is shown.
     pub first: u32,
-    /// How many of the instants of the excerpt stand before it.
+    /// The number of instants of the excerpt before it.
     pub left_out: u32,
-    /// How many are shown.
+    /// The number of columns.
     pub columns: u32,
-    /// Where the first column begins.
+    /// The start of the first column.
     pub left: u64,
-    /// How wide each is.
+    /// The width of each column.
     pub column: u64,
-    /// How many rows there are.
+    /// The number of rows.
     pub rows: u64,
 }
 
 impl Layout {
-    /// The layout of an excerpt, in which the break has this place, if there is one.
+    /// The layout of an excerpt. `broken` is the index of the break among its instants, if there is a break.
     pub(crate) fn of(
         alloc: Global,
         subject: &Subject<'_>,
@@ -55,7 +55,7 @@ impl Layout {
     ) -> Result<Layout, AllocError> {
         let time = digits_of(alloc, shown_time(subject.account, excerpt.last))?;
         let names = names_width(alloc, subject, excerpt)?;
-        // a time stands in the middle of where its column begins
+        // a time is centred on the start of its column
         let left = MARGIN
             .saturating_add(names.saturating_mul(CHARACTER))
             .saturating_add(time.saturating_mul(CHARACTER / 2))
@@ -66,7 +66,7 @@ impl Layout {
         let most = fitting.min(u64::from(count)).max(1) as u32;
         let spare = count.saturating_sub(most);
         let left_out = match broken {
-            // the break stands after two thirds of the columns, or before
+            // the break is after two thirds of the columns, earlier at a recording's start, and later at its end
             Some(place) => spare.min(place.saturating_sub(most.saturating_mul(2) / 3)),
             None => spare,
         };
@@ -82,17 +82,17 @@ impl Layout {
         })
     }
 
-    /// Where a column begins.
+    /// The start of a column.
     pub(crate) fn edge(&self, place: u64) -> u64 {
         self.left.saturating_add(self.column.saturating_mul(place))
     }
 
-    /// Where a row begins.
+    /// The top of a row.
     pub(crate) fn row(&self, place: u64) -> u64 {
         TOP.saturating_add(ROW.saturating_mul(place))
     }
 
-    /// Where the last row ends.
+    /// The bottom of the last row.
     pub(crate) fn bottom(&self) -> u64 {
         self.row(self.rows)
     }
@@ -103,7 +103,7 @@ impl Layout {
     }
 }
 
-/// How wide a column has to be for the longest value, and for a time of so many digits.
+/// The width that a column needs for the longest value, and for a time of `time` digits.
 fn needed(time: u64, excerpt: &Excerpt) -> u64 {
     let mut longest = time.saturating_add(1);
     for row in &excerpt.values {
@@ -112,14 +112,14 @@ fn needed(time: u64, excerpt: &Excerpt) -> u64 {
     longest.saturating_mul(CHARACTER).saturating_add(8)
 }
 
-/// How many digits a number has.
+/// The number of decimal digits of a number.
 fn digits_of(alloc: Global, number: u64) -> Result<u64, AllocError> {
     let mut digits = Text::new(alloc);
     digits.push_decimal(alloc, number)?;
     Ok(digits.as_bytes().len() as u64)
 }
 
-/// How many characters the longest name of a row has.
+/// The number of characters of the longest name of a row.
 fn names_width(alloc: Global, subject: &Subject<'_>, excerpt: &Excerpt) -> Result<u64, AllocError> {
     let mut width = time_name(subject.time_scale).len();
     for line in &excerpt.lines {

@@ -1,4 +1,4 @@
-//! Elements, attributes and characters, well nested.
+//! Well-nested elements, attributes and characters.
 
 ghost use Rattle.std.specs.Prelude.{◌≡◌, ◌++◌, ◌∷◌, [], IfOk, OnErr, OnOk, decimal};
 ghost use Rattle.vme_picture.specs.Markup.{AreAttributes, IsMarkup, attribute_name, attribute_text, element_text};
@@ -14,17 +14,17 @@ use vme_text::Text;
 pub enum Tag {
     /// The whole picture.
     Svg,
-    /// What it is called.
+    /// The title of the picture.
     Title,
-    /// What others refer to.
+    /// Definitions that other elements refer to.
     Defs,
-    /// What an area is filled with.
+    /// A pattern with which an area is filled.
     Pattern,
     /// Lines, or an area within lines.
     Path,
     /// A box.
     Rect,
-    /// Words.
+    /// A text.
     Text,
 }
 
@@ -48,29 +48,29 @@ impl Tag {
 /// An attribute of an element.
 #[derive(Clone, Copy, Debug, PartialEq, Eq)]
 pub enum Attribute {
-    /// Which language of markup the element is of.
+    /// The namespace of the element.
     Xmlns,
-    /// What others refer to it by.
+    /// The name by which other elements refer to the element.
     Id,
-    /// How far from the left.
+    /// The distance from the left.
     X,
-    /// How far from the top.
+    /// The distance from the top.
     Y,
-    /// How wide.
+    /// The width.
     Width,
-    /// How high.
+    /// The height.
     Height,
     /// The units of a picture.
     ViewBox,
     /// The units of a pattern.
     PatternUnits,
-    /// The fonts, the first that is there.
+    /// The fonts, of which the first available one is used.
     FontFamily,
-    /// How high the characters are.
+    /// The height of the characters.
     FontSize,
-    /// How thick the characters are.
+    /// The thickness of the characters.
     FontWeight,
-    /// Where words stand beside their place.
+    /// The part of a text that is at its point: its start, or its middle.
     TextAnchor,
     /// The points of a path.
     D,
@@ -78,7 +78,7 @@ pub enum Attribute {
     Fill,
     /// The colour of a line.
     Stroke,
-    /// How thick a line is.
+    /// The thickness of a line.
     StrokeWidth,
     /// The dashes of a line.
     StrokeDasharray,
@@ -111,7 +111,7 @@ impl Attribute {
     }
 }
 
-/// Attributes of an element, as they are written.
+/// Attributes of an element, as their text.
 #[derive(Drop)]
 pub struct Attributes {
     text: Text,
@@ -139,7 +139,7 @@ impl Attributes {
         }
     }
 
-    /// How they are written.
+    /// The text of the attributes.
     pub fn as_bytes(&self) -> &[u8]
         ensures bytes { result.now ≡ self.now }
         ensures written { AreAttributes self.now }
@@ -147,7 +147,7 @@ impl Attributes {
         self.text.as_bytes()
     }
 
-    /// Adds one with this value, whose bytes are escaped. Without memory they are as before.
+    /// Adds an attribute with this value, whose bytes are escaped. An error leaves the attributes as they were.
     pub fn push(&mut self, alloc: Global, name: Attribute, value: &[u8]) -> Result<(), AllocError>
         ensures ok { OnOk result (self.new ≡ self.old ++ attribute_text (name, value.now)) }
         ensures err { OnErr result (self.new ≡ self.old) }
@@ -157,7 +157,7 @@ impl Attributes {
         Ok(())
     }
 
-    /// Adds one whose value is a number. Without memory they are as before.
+    /// Adds an attribute whose value is a number. An error leaves the attributes as they were.
     pub fn push_number(
         &mut self,
         alloc: Global,
@@ -172,7 +172,7 @@ impl Attributes {
     }
 }
 
-/// An attribute as it is written.
+/// The text of an attribute.
 fn attribute_text(alloc: Global, name: Attribute, value: &[u8]) -> Result<Text, AllocError>
     ensures { IfOk result (λ text. text ≡ attribute_text (name, value.now)) }
 {
@@ -186,7 +186,7 @@ fn attribute_text(alloc: Global, name: Attribute, value: &[u8]) -> Result<Text, 
     Ok(text)
 }
 
-/// Elements, characters and ends of lines, one after the other, well nested.
+/// Well-nested elements, characters and ends of lines, one after the other.
 #[derive(Drop)]
 pub struct Markup {
     text: Text,
@@ -204,7 +204,7 @@ impl Model for Markup {
 }
 
 impl Markup {
-    /// Nothing.
+    /// Empty markup.
     #[tactic(auto, using(crate::proofs::MarkupLemmas::no_markup))]
     pub fn new(alloc: Global) -> Markup
         ensures { result ≡ [] }
@@ -214,7 +214,7 @@ impl Markup {
         }
     }
 
-    /// How it is written.
+    /// The text of the markup.
     pub fn as_bytes(&self) -> &[u8]
         ensures bytes { result.now ≡ self.now }
         ensures nested { IsMarkup self.now }
@@ -222,7 +222,7 @@ impl Markup {
         self.text.as_bytes()
     }
 
-    /// Adds some bytes as characters, escaped. Without memory it is as before.
+    /// Adds some bytes as characters, escaped. An error leaves the markup as it was.
     pub fn push_characters(&mut self, alloc: Global, bytes: &[u8]) -> Result<(), AllocError>
         ensures ok { OnOk result (self.new ≡ self.old ++ escaped bytes.now) }
         ensures err { OnErr result (self.new ≡ self.old) }
@@ -232,7 +232,7 @@ impl Markup {
         Ok(())
     }
 
-    /// Adds the end of a line. Without memory it is as before.
+    /// Adds the end of a line. An error leaves the markup as it was.
     pub fn push_end_of_line(&mut self) -> Result<(), AllocError>
         ensures ok { OnOk result (self.new ≡ self.old ++ 10 ∷ []) }
         ensures err { OnErr result (self.new ≡ self.old) }
@@ -241,7 +241,7 @@ impl Markup {
         Ok(())
     }
 
-    /// Adds an element with these attributes, and with what is in it. Without memory it is as before.
+    /// Adds an element with these attributes and the content `inner`. An error leaves the markup as it was.
     pub fn push_element(
         &mut self,
         alloc: Global,
@@ -258,7 +258,7 @@ impl Markup {
     }
 }
 
-/// An element as it is written: opened with its attributes, what is in it, and closed by the same name.
+/// The text of an element: the opening tag with its attributes, the content, and the closing tag.
 pub(crate) fn element_text(
     alloc: Global,
     tag: Tag,

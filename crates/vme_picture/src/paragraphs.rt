@@ -1,4 +1,4 @@
-//! What is said below a picture: the rule, what is open, the line, and the other events.
+//! The text below a picture: the rule, what is open, the line, and the other events.
 
 use crate::axis::letter;
 use crate::drawing::{Point, TextStyle, push_text_at};
@@ -10,7 +10,7 @@ use vme_rules::Guide;
 use vme_text::Text;
 use vme_trace::Break;
 
-/// What is said below a picture, in lines that fit it.
+/// The text below a picture, in lines that fit it.
 pub(crate) fn paragraphs(
     alloc: Global,
     subject: &Subject<'_>,
@@ -39,12 +39,12 @@ pub(crate) fn paragraphs(
     wrapped(alloc, text.as_bytes())
 }
 
-/// How many lines a text has.
+/// The number of lines of a text.
 pub(crate) fn line_count(text: &[u8]) -> usize {
     text.iter().filter(|byte| **byte == b'\n').count()
 }
 
-/// Adds the lines of a text from a height on.
+/// Adds the lines of a text below height `from`.
 pub(crate) fn push_paragraphs(
     markup: &mut Markup,
     alloc: Global,

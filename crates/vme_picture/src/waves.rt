@@ -1,4 +1,4 @@
-//! Lines by their levels: High above, Low below, and hatched where the level isn't known.
+//! Lines by their levels: High above, Low below, and a hatched box if the level is unknown.
 
 use crate::drawing::{
     BoxFill, PathKind, Point, Rectangle, TextStyle, push_axis_line, push_box, push_path,
@@ -11,16 +11,16 @@ use vme_explain::{Excerpt, line_characters, push_label};
 use vme_text::Text;
 use vme_trace::Line;
 
-/// How far below the top of its row a line is that is High; one that is Low is as far above the end of it.
+/// The distance of a High line from the top of its row, and of a Low line from the bottom.
 const INSET: u64 = 3;
 
-/// How far below the top of its row a name stands.
+/// The distance of a name's base line from the top of its row.
 pub(crate) const BASE: u64 = 12;
 
-/// The character of a level that isn't known.
+/// The character of an unknown level.
 const UNKNOWN: u8 = b'x';
 
-/// Adds a row for each line of an excerpt that is shown by itself; that of the break in bold.
+/// Adds a row for each line of an excerpt that is shown by itself. The line of the break is in bold.
 pub(crate) fn push_waves(
     markup: &mut Markup,
     alloc: Global,
@@ -65,7 +65,7 @@ fn push_name(
     push_text_at(markup, alloc, at, style, label.as_bytes())
 }
 
-/// Where a line of this level stands in the row that begins at y, if its level is known.
+/// The height of a line of this level in the row that begins at `y`, if the level is known.
 fn height_of(level: u8, y: u64) -> Option<u64> {
     match level {
         b'1' => Some(y.saturating_add(INSET)),
@@ -74,7 +74,7 @@ fn height_of(level: u8, y: u64) -> Option<u64> {
     }
 }
 
-/// Adds the levels that are known, as one path.
+/// Adds the known levels, as one path.
 fn push_known(
     markup: &mut Markup,
     alloc: Global,
@@ -103,7 +103,7 @@ fn push_known(
     push_path(markup, alloc, kind, points.as_bytes())
 }
 
-/// Appends what a path does at an edge: it ends where the level before was known, and goes on where the next one is.
+/// Appends the path's step at an edge: it ends there if the level before is known, and continues if the next one is.
 fn push_edge(
     points: &mut Text,
     alloc: Global,
@@ -127,7 +127,7 @@ fn push_edge(
     }
 }
 
-/// Whether the level at a place isn't known.
+/// Whether the level at index `place` is unknown.
 fn is_unknown(levels: &[u8], place: usize) -> bool {
     match levels.get(place) {
         Some(level) => *level == UNKNOWN,
@@ -135,7 +135,7 @@ fn is_unknown(levels: &[u8], place: usize) -> bool {
     }
 }
 
-/// Adds a hatched box for each stretch whose level isn't known.
+/// Adds a hatched box for each stretch of unknown levels.
 fn push_unknown(
     markup: &mut Markup,
     alloc: Global,

@@ -25,15 +25,15 @@ fn comment_line() -> &'static [u8]
     b"<!-- written by vmecheck explain -->\n"
 }
 
-/// Whether a file begins as a picture of this program.
+/// Whether a file begins like a picture of this program.
 pub fn is_picture(begin: &[u8]) -> bool
     ensures { result ≡ starts_with nat_eq begin.now picture_first_line }
 {
     begin.starts_with(comment_line())
 }
 
-/// The picture of an explanation, under this title: the levels around the break, or at the end of the recording, where
-/// there is none.
+/// The picture of an explanation, with this title: the levels around the break, or at the end of the recording if there
+/// is no break.
 pub fn picture(alloc: Global, subject: &Subject<'_>, title: &[u8]) -> Result<Text, AllocError>
     ensures whole { IfOk result IsPicture }
     ensures visible { IfOk result (λ text. IsVisible text) }
@@ -60,7 +60,7 @@ fn first_line(text: &[u8]) -> &[u8] {
     }
 }
 
-/// The parts of the element that a picture is.
+/// The attributes and the content of a picture's element.
 #[derive(Drop)]
 struct Parts {
     attributes: Attributes,
@@ -100,7 +100,7 @@ fn parts_of(alloc: Global, subject: &Subject<'_>, title: &[u8]) -> Result<Parts,
     })
 }
 
-/// How high a picture is that has so many lines of words from a height on: whole millimetres.
+/// The height of a picture with `lines` lines of text from height `below` on, rounded up to whole millimetres.
 fn height_of(below: u64, lines: usize) -> u64 {
     let end = below
         .saturating_add(LINE.saturating_mul(lines as u64))
@@ -108,7 +108,7 @@ fn height_of(below: u64, lines: usize) -> u64 {
     (end.saturating_add(3) / 4).saturating_mul(4)
 }
 
-/// The attributes of a picture that is so high.
+/// The attributes of a picture of this height.
 fn whole_attributes(alloc: Global, height: u64) -> Result<Attributes, AllocError> {
     let mut attributes = Attributes::new(alloc);
     attributes.push(alloc, Attribute::Xmlns, b"http://www.w3.org/2000/svg")?;
@@ -137,7 +137,7 @@ fn whole_attributes(alloc: Global, height: u64) -> Result<Attributes, AllocError
     Ok(attributes)
 }
 
-/// So many units, which are whole millimetres.
+/// The length of `units`, which are whole millimetres, as text.
 fn millimetres(alloc: Global, units: u64) -> Result<Text, AllocError> {
     let mut text = Text::new(alloc);
     text.push_decimal(alloc, units / 4)?;
@@ -145,7 +145,7 @@ fn millimetres(alloc: Global, units: u64) -> Result<Text, AllocError> {
     Ok(text)
 }
 
-/// Adds the title, what boxes are hatched with, and the white of the page.
+/// Adds the title, the hatching pattern, and the white background.
 fn push_head(
     markup: &mut Markup,
     alloc: Global,
@@ -169,7 +169,7 @@ fn push_head(
     push_text_at(markup, alloc, at, TextStyle::Bold, title)
 }
 
-/// Adds what the boxes of levels that aren't known are hatched with.
+/// Adds the pattern with which the boxes of unknown levels are hatched.
 fn push_hatching(markup: &mut Markup, alloc: Global) -> Result<(), AllocError> {
     let mut stroke = Attributes::new(alloc);
     stroke.push(alloc, Attribute::D, b"M0 4L4 0")?;

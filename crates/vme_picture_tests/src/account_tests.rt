@@ -10,8 +10,8 @@ use vme_trace::{
     Break, Change, Changes, LINE_COUNT, Level, Line, Lines, Rule, Step, StepVisitor, Verdict,
 };
 
-/// The account of a recording of one slot whose lines are High but for BBSY, and then change one by one, at each
-/// instant one, 10 units of time apart.
+/// The account of a recording of one slot whose opening has all lines High, except BBSY. One line changes at each
+/// instant, 10 time units after the one before.
 fn account_of(alloc: Global, changes: &[(Line, Level)]) -> Result<Option<Account>, Fail> {
     let Some(mut opening) = Lines::new(1) else {
         return Ok(None);
@@ -173,17 +173,17 @@ fn a_break_is_told_with_its_events(rt: HostRuntime) -> Result<(), Fail> {
         let moment = account.moment_of(&RelatedEvent { event, occurrence });
         moment.map(|moment| moment.instant)
     };
-    // the strobe that falls at instant 8 is behind the answer at 7, of the transfer that started at 6
+    // the strobe that falls at instant 8 is after the answer at 7, of the transfer that started at 6
     assert!(rt; instant_of(StepEvent::AnswerFalls, Occurrence::FirstInTransfer) == Some(7));
     assert!(rt; instant_of(StepEvent::TransferStarts, Occurrence::Last) == Some(6));
-    // the first answer of the cycle, and the first by DTACK
+    // the first answer of the cycle, and the first one by DTACK
     assert!(rt; instant_of(StepEvent::AnswerFalls, Occurrence::FirstInCycle) == Some(3));
     assert!(rt; instant_of(StepEvent::Falls(Line::DTACK), Occurrence::FirstInCycle) == Some(3));
     assert!(rt; instant_of(StepEvent::StrobeRises, Occurrence::Last) == Some(4));
     assert!(rt; instant_of(StepEvent::Falls(Line::DS1), Occurrence::Last).is_none());
     assert!(rt; instant_of(StepEvent::Falls(Line::DS1), Occurrence::LastOrNow) == Some(8));
     assert!(rt; instant_of(StepEvent::GrantFalls, Occurrence::Last).is_none());
-    // the levels around it
+    // the levels around the break
     assert!(rt; account.first() == 0 && account.end() == 9);
     let levels = account.levels_from(rt.alloc(), 7, 8)?;
     let strobes = levels.iter().map(|lines| lines.level(Line::DS1));

@@ -7,7 +7,7 @@ use vme_explain::{
 };
 use vme_trace::{Break, Line, Lines, Rule, Verdict};
 
-/// The definitions of a dump whose times are tens of nanoseconds, and of a vector without an index.
+/// The definitions of a dump whose times are in units of 10 ns, with a vector without an index.
 const DEFINITIONS: &str = "$timescale 10 ns $end\n$scope module b $end\n$var wire 1 p AS $end\n\
 $var wire 6 q AM $end\n$upscope $end\n$enddefinitions $end\n";
 

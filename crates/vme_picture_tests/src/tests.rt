@@ -29,13 +29,13 @@ fn names_are_escaped_and_elements_are_closed(rt: HostRuntime) -> Result<(), Fail
     Ok(())
 }
 
-/// The definitions of a dump, one of whose names would be markup.
+/// The definitions of a dump with a name that would be markup if it weren't escaped.
 const DEFINITIONS: &str =
     "$timescale 10 ns $end\n$scope module b $end\n$var wire 1 p <AS>&\"1\" $end\n\
 $upscope $end\n$enddefinitions $end\n";
 
-/// The account of a recording of one slot whose lines of the handshake are High, and then change one by one, at each
-/// instant one.
+/// The account of a recording of one slot whose opening has AS, the strobes and the answers High. One line changes at
+/// each instant.
 fn account_of(alloc: Global, changes: &[(Line, Level)]) -> Result<Option<Account>, Fail> {
     let Some(mut opening) = Lines::new(1) else {
         return Ok(None);
@@ -104,7 +104,7 @@ fn a_break_is_drawn(rt: HostRuntime) -> Result<(), Fail> {
         "<!-- written by vmecheck explain -->\n<svg xmlns=\"http://www.w3.org/2000/svg\" width=\"160mm\" ",
         "<title>broken B3 at instant 2 time 10 line AS</title>\n",
         ">time (10 ns)</text>\n",
-        // the edges of AS, which falls where the third column begins and rises where the fourth does
+        // the edges of AS, which falls at the start of the third column and rises at that of the fourth
         "<path d=\"M102 87H342L346 97H462L466 87H582\" fill=\"none\" stroke=\"#000\" stroke-width=\"1.6\"></path>\n",
         "<text x=\"342\" y=\"45\" text-anchor=\"middle\" font-weight=\"bold\" fill=\"#fff\">B3</text>\n",
         ">B3: AS falls",

@@ -1,4 +1,4 @@
--- How what is read of a recording goes on with its steps.
+-- How far a recording is read as its steps come.
 use Rattle.std.proofs.Common.{◌≡◌, ℕ, zero, suc, ◌+◌, ◌-◌, ◌<◌, ◌≤◌, Bool, true, false, List, [], ◌∷◌, ◌++◌, length}
 use Rattle.std.proofs.Common.{drop}
 use Rattle.std.proofs.Common.{refl, sym, ◌∙◌, ap, subst, arith, append-nil, append_assoc, length-append}
@@ -21,7 +21,7 @@ use Rattle.vme_summary.proofs.Sound.{sound_apart}
 use Rattle.vme_auditor.specs.Growth.{StepBreaks}
 use Rattle.vme_step_auditor.specs.ReadBy.{BreaksGoOn, is_stopped, read_by}
 
--- numbers that tests compare
+-- what a comparison of numbers gives
 pub below : (i j : ℕ) → nat_lt i j ≡ true → i < j
 below i j h = grind (arith, nat_tests)
 
@@ -31,7 +31,7 @@ above i j h = grind (arith, nat_tests)
 pub is_below : (i j : ℕ) → i < j → nat_lt i j ≡ true
 is_below i j h = grind (arith, nat_tests)
 
--- an element of a list and of another behind it
+-- an element of the first, or of the second, of two joined lists
 get_front : {X : Type 0} (xs ys : List X) (i : ℕ) → i < length xs → slice_get (xs ++ ys) i ≡ slice_get xs i
 get_front [] ys i h = absurd (omega arith)
 get_front (x ∷ xs) ys zero h = refl
@@ -46,16 +46,17 @@ get_behind (x ∷ xs) ys i =
     let onward : suc (length xs) + i ≡ suc (length xs + i) = omega arith in
     ap (slice_get (x ∷ xs ++ ys)) onward ∙ get_behind xs ys i
 
--- the laws on which all rests
+-- the laws of breaks that these proofs use
 abbrev pub StepsBreak : Type 0
 StepsBreak = (t : Trace) (s : Step) → malformed_step (with_steps t (s ∷ [])) ≡ None → t.opening.slots ≤ 21
     → StepBreaks t s
 
+-- no break is after the last step
 abbrev pub BreaksWithin : Type 0
 BreaksWithin = (t : Trace) → malformed_step t ≡ None → t.opening.slots ≤ 21
     → All (λ (b : Break). b.instant ≤ length t.steps) (breaks t)
 
--- a recording up to its last step, and one that goes on
+-- a recording cut at or after its end is the whole one
 cut_whole : (t : Trace) (j : ℕ) → length t.steps ≤ j → cut_behind t j ≡ t
 cut_whole t j le = ap (λ (x : List Step). record { opening = t.opening; steps = x }) (take_all j t.steps le)
 
@@ -70,7 +71,7 @@ no_steps t = ap (λ (x : List Step). record { opening = t.opening; steps = x }) 
 pub front_sound : (t : Trace) (steps : List Step) → malformed_step (with_steps t steps) ≡ None → malformed_step t ≡ None
 front_sound t steps ok = (sound_apart t.opening t.steps steps ok).first
 
--- the breaks of a recording that goes on
+-- the breaks of a recording with further steps
 pub record GoesOn (t : Trace) (steps : List Step) : Type 0 where
   pub more : List Break
   pub grown : breaks (with_steps t steps) ≡ breaks t ++ more
@@ -94,7 +95,7 @@ goes_on grow (s ∷ steps) t ok few =
     }
 
 module _ (allowances : List Allowance) where
-  -- until an audit stops all is read
+  -- until an audit stops, everything is read
   pub reads_all : (stop : Option ℕ) (t : Trace) → is_stopped allowances stop t ≡ false
       → read_by allowances stop t ≡ t
   unfolding stopped_at
@@ -103,7 +104,7 @@ module _ (allowances : List Allowance) where
       ap (cut_at allowances t)
       (slice_get_past (faults allowances (breaks t)) (n - 1) (above (n - 1) (length (faults allowances (breaks t))) h))
 
-  -- up to breaks at the last instant the whole recording is read
+  -- cut at breaks that are at its last instant, a recording is whole
   cut_last : (t : Trace) (bs : List Break) (i : ℕ) → All (λ (b : Break). b.instant ≡ length t.steps) bs
       → cut_at allowances t (slice_get bs i) ≡ t
   cut_last t [] i own = refl
@@ -112,7 +113,7 @@ module _ (allowances : List Allowance) where
   cut_last t (b ∷ bs) (suc i) own =
       cut_last t bs i (All-tail (λ (b : Break). b.instant ≡ length t.steps) b bs own)
 
-  -- up to breaks of a recording it is read as if it went on
+  -- cut at one of some breaks that aren't after the end of `t`, `t` with further steps is `t` cut there
   cut_before : (t : Trace) (steps : List Step) (bs : List Break) (i : ℕ)
       → All (λ (b : Break). b.instant ≤ length t.steps) bs → i < length bs
       → cut_at allowances (with_steps t steps) (slice_get bs i) ≡ cut_at allowances t (slice_get bs i)
@@ -129,7 +130,7 @@ module _ (allowances : List Allowance) where
   own_break n m (Some b) e own =
       All-cons (λ (b : Break). b.instant ≡ m) b [] (own ∙ e) (All-nil (λ (b : Break). b.instant ≡ m))
 
-  -- until an audit stops, and at the step by which it does, all is read
+  -- until an audit stops, and at the step at which it stops, everything is read
   pub reads_step : (stop : Option ℕ) (t : Trace) (s : Step) → StepBreaks t s → is_stopped allowances stop t ≡ false
       → read_by allowances stop (with_steps t (s ∷ [])) ≡ with_steps t (s ∷ [])
   unfolding stopped_at
@@ -150,7 +151,7 @@ module _ (allowances : List Allowance) where
       (All-filter (is_fault allowances) (λ (b : Break). b.instant ≡ length next.steps) (option_to_list step.found)
       (own_break (length t.steps) (length next.steps) step.found last step.own))
 
-  -- what follows where an audit stops
+  -- the steps after an audit has stopped
   module _ (grow : StepsBreak) (within : BreaksWithin) (stop : Option ℕ) (t : Trace) (steps : List Step)
       (ok : malformed_step (with_steps t steps) ≡ None) (few : t.opening.slots ≤ 21)
       (h : is_stopped allowances stop t ≡ true) where
@@ -192,7 +193,7 @@ module _ (allowances : List Allowance) where
             (All-filter (is_fault allowances) (λ (b : Break). b.instant ≤ length t.steps) (breaks t)
             (within t (front_sound t steps ok) few)) enough
 
-  -- the breaks of what is read stay
+  -- the breaks of what is read stay when further steps come
   pub breaks_go_on : StepsBreak → BreaksWithin → (stop : Option ℕ) (steps : List Step) (t : Trace)
       → malformed_step (with_steps t steps) ≡ None → t.opening.slots ≤ 21
       → BreaksGoOn allowances stop t (with_steps t steps)
@@ -234,7 +235,7 @@ module _ (allowances : List Allowance) where
                 ∙ append_assoc (breaks (read_by allowances stop t)) (option_to_list first.found) rest.more;
           }
 
-  -- before the first break all is read
+  -- as long as there is no break, everything is read
   pub reads_unbroken : (stop : Option ℕ) (t : Trace) → breaks t ≡ [] → read_by allowances stop t ≡ t
   unfolding stopped_at
   reads_unbroken None t e = refl

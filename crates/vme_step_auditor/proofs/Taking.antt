@@ -1,4 +1,4 @@
--- What was audited, one step later.
+-- What was audited, after one more step.
 use Rattle.std.proofs.Common.{◌≡◌, ℕ, ◌+◌, ◌-◌, ◌^◌, ◌≤◌, true, false, List, [], ◌∷◌, ◌++◌, length, sym, ◌∙◌}
 use Rattle.std.proofs.Common.{ap, subst, arith, append-nil, length-append, Option, None}
 use Rattle.std.specs.Option.{option_to_list}
@@ -38,14 +38,14 @@ takes_none allowances stop o audited c none same broken unreadable allowed =
       stopped = λ ok. ap (stops_by stop) (faults_are allowances c given counted);
     }
 
--- one step more
+-- one more step `s`
 module _ (grow : StepsBreak) (within : BreaksWithin) (allowances : List Allowance) (stop : Option ℕ)
     (given audited : Trace) (c : BreakCounts) (taken : HasAuditedSteps allowances stop given audited c) (s : Step)
     (slots : given.opening.slots ≤ 21) where
   abbrev next : Trace
   next = with_steps given (s ∷ [])
 
-  -- once the audit is stopped
+  -- after the audit has stopped
   module _ (h : stops_by stop (faults_counted c) ≡ true) where
     is_over : malformed_step next ≡ None → is_stopped allowances stop given ≡ true
     is_over ok = sym (taken.stopped (front_sound given (s ∷ []) ok)) ∙ h
@@ -71,7 +71,7 @@ module _ (grow : StepsBreak) (within : BreaksWithin) (allowances : List Allowanc
         ap (λ (t : Trace). breaks t) (reads_no_more allowances grow within stop given (s ∷ []) ok slots (is_over ok))
         ∙ sym (append-nil (breaks (read_by allowances stop given)))
 
-  -- until then
+  -- as long as the audit hasn't stopped
   module _ (h : stops_by stop (faults_counted c) ≡ false) (later : Trace) (on : later ≡ with_steps audited (s ∷ []))
     where
       goes : malformed_step next ≡ None → is_stopped allowances stop given ≡ false

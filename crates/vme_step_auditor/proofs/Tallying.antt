@@ -17,7 +17,7 @@ use Rattle.vme_auditor.specs.declared.findings.BreakCounts.{BreakCounts}
 use Rattle.vme_step_auditor.specs.Counting.{all_counted, as_allowed, as_broken, as_unreadable, faults_counted}
 use Rattle.vme_step_auditor.specs.Counting.{with_category}
 
--- what is kept of some breaks and of others behind them
+-- the number of breaks that `kept` selects of two lists is the sum of the numbers of each
 longer : (kept : List Break → List Break) → ((xs ys : List Break) → kept (xs ++ ys) ≡ kept xs ++ kept ys)
     → (bs cs ds : List Break) → ds ≡ bs ++ cs → (n k : ℕ) → n ≡ length (kept bs) → length (kept cs) ≡ k
     → n + k ≡ length (kept ds)
@@ -44,7 +44,7 @@ module _ (allowances : List Allowance) where
       ap (filter cannot_be_read) (filter-append (is_fault allowances) xs ys)
       ∙ filter-append cannot_be_read (faults allowances xs) (faults allowances ys)
 
-  -- one break counts as its category says
+  -- a break adds to the counts by its category
   record CountsOnce (b : Break) : Type 0 where
     broken : length (wrongs allowances (b ∷ [])) ≡ as_broken (category_of allowances b)
     unreadable : length (unreadables allowances (b ∷ [])) ≡ as_unreadable (category_of allowances b)
@@ -76,7 +76,7 @@ module _ (allowances : List Allowance) where
             (breaks u) e c.allowed (as_allowed (category_of allowances b)) counted.allowed once.allowed;
       }
 
-  -- none more
+  -- if no break is added, the counts stay
   pub counted_still : (c : BreakCounts) (t u : Trace) → AreBreakCountsOf c allowances t → breaks u ≡ breaks t
       → AreBreakCountsOf c allowances u
   counted_still c t u counted e =
@@ -86,7 +86,7 @@ module _ (allowances : List Allowance) where
         allowed = counted.allowed ∙ ap (λ (bs : List Break). length (filter (is_allowed allowances) bs)) (sym e);
       }
 
-  -- of no breaks
+  -- the counts of a recording without breaks are 0
   pub counted_none : (c : BreakCounts) (t : Trace) → c.broken ≡ 0 → c.unreadable ≡ 0 → c.allowed ≡ 0 → breaks t ≡ []
       → AreBreakCountsOf c allowances t
   counted_none c t broken unreadable allowed e =
@@ -96,14 +96,14 @@ module _ (allowances : List Allowance) where
         allowed = allowed ∙ ap (λ (bs : List Break). length (filter (is_allowed allowances) bs)) (sym e);
       }
 
-  -- those that aren't allowed
+  -- the counts of the breaks that aren't allowed
   pub faults_are : (c : BreakCounts) (t : Trace) → AreBreakCountsOf c allowances t
       → faults_counted c ≡ length (faults allowances (breaks t))
   faults_are c t counted =
       let both = length-filter_both cannot_be_read is_wrong (λ b. refl) (faults allowances (breaks t)) in
       omega (arith, both, counted.broken, counted.unreadable)
 
--- a break counts once
+-- a break is counted once
 pub counts_one : (c : BreakCounts) (s : BreakCategory) → all_counted (with_category c s) ≡ all_counted c + 1
 counts_one c category.Broken = omega arith
 counts_one c category.Unreadable = omega arith

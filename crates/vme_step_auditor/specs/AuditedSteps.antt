@@ -1,4 +1,4 @@
--- What was audited of the steps that were given.
+-- What was audited of the given steps.
 use Rattle.std.specs.Prelude.{◌≡◌, ℕ, ◌-◌, ◌^◌, ◌≤◌, false, List, length, Option, None}
 use Rattle.vme_trace.specs.Trace.{Trace}
 use Rattle.vme_trace.specs.WellFormed.{malformed_step}
@@ -8,9 +8,9 @@ use Rattle.vme_auditor.specs.declared.findings.BreakCounts.{BreakCounts}
 use Rattle.vme_step_auditor.specs.ReadBy.{is_stopped, read_by, stops_by}
 use Rattle.vme_step_auditor.specs.Counting.{all_counted, faults_counted}
 
--- of a recording that was given, another was audited, and so many breaks of it were counted. A step has one break at
--- most, and all is audited until the counts end the audit. Where the recording is well formed, what is read of it was
--- audited, its breaks were counted, and the counts end the audit exactly where the breaks do
+-- Of the recording `given` only `audited` was audited, and its breaks are counted in `c`. A step has at most one break,
+-- and all steps are audited until the counts end the audit. If `given` is well formed, `audited` is what is read of it,
+-- `c` are the numbers of breaks of `audited`, and the counts end the audit exactly where the breaks do.
 pub record HasAuditedSteps (allowances : List Allowance) (stop : Option ℕ) (given audited : Trace) (c : BreakCounts)
     : Type 0 where
   pub few : all_counted c ≤ length audited.steps

@@ -1,4 +1,4 @@
--- Breaks that are told, and how many of them count as what.
+-- Breaks with their categories, and the counts of breaks by category.
 use Rattle.std.specs.Prelude.{ℕ, ◌+◌}
 use Rattle.vme_trace.specs.declared.verdict.Break.{Break}
 use Rattle.vme_auditor.specs.Breaks.{as_break}
@@ -7,11 +7,11 @@ use Rattle.vme_audit_lines.specs.declared.category.BreakCategory.{BreakCategory}
 use Rattle.vme_audit_lines.specs.declared.category.BreakCategory.TheVariants as category
 use Rattle.vme_step_auditor.specs.declared.categorized_break.CategorizedBreak.{CategorizedBreak}
 
--- a break that is told
+-- a break without its category
 abbrev pub told_break : CategorizedBreak → Break
 told_break s = as_break s.found
 
--- one break more, by its category
+-- what one more break adds to each count, by its category
 abbrev pub as_broken : BreakCategory → ℕ
 as_broken category.Broken = 1
 as_broken category.Unreadable = 0
@@ -35,7 +35,7 @@ with_category c s =
       allowed = c.allowed + as_allowed s;
     }
 
--- how many breaks were counted, and how many of them aren't allowed
+-- the number of all counted breaks, and of those that aren't allowed
 abbrev pub all_counted : BreakCounts → ℕ
 all_counted c = c.broken + c.unreadable + c.allowed
 

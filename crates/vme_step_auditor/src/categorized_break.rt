@@ -1,4 +1,4 @@
-//! A break that is told, and how many count as what.
+//! A break with its category, and the counts of breaks by category.
 
 ghost use Rattle.std.specs.Prelude.{◌≡◌, ◌-◌, ◌^◌, ◌<◌};
 ghost use Rattle.vme_step_auditor.specs.Counting.{all_counted, with_category};
@@ -13,7 +13,7 @@ pub struct CategorizedBreak {
     pub found: AuditBreak,
 }
 
-/// Counts one break more, by its category.
+/// Counts one more break, by its category.
 pub(crate) fn count(counts: &mut BreakCounts, category: BreakCategory)
     requires { all_counted counts.old < 2 ^ 64 - 1 }
     ensures { counts.new ≡ with_category counts.old category }

@@ -1,4 +1,4 @@
-//! How what is read of a recording goes on with its steps.
+//! How far a recording is read as its steps come.
 
 ghost use Rattle.std.specs.Prelude.{◌≡◌, ℕ, ◌≤◌, true, false, List, Option, None};
 ghost use Rattle.vme_trace.specs.Followed.{with_steps};
@@ -10,7 +10,7 @@ ghost use Rattle.vme_step_auditor.specs.ReadBy.{BreaksGoOn, HoldsOnceStopped, is
 
 use vme_auditor::breaks_grow;
 
-/// What follows where an audit stops changes nothing of what is read.
+/// Once an audit stops, further steps don't change what is read.
 pub fn stop_is_final()
     ensures stays { (allowances : List Allowance) (stop : Option ℕ) → HoldsOnceStopped allowances stop
         (λ t longer. is_stopped allowances stop longer ≡ true) }
@@ -20,7 +20,8 @@ pub fn stop_is_final()
     breaks_grow();
 }
 
-/// Until an audit stops all is read. Whatever follows, the breaks of what is read stay, and others may come.
+/// Until an audit stops, everything is read. When further steps come, the breaks of what is read stay, and others may
+/// be added.
 pub fn reading_goes_on()
     ensures all { (allowances : List Allowance) (stop : Option ℕ) (t : Trace)
         → is_stopped allowances stop t ≡ false → read_by allowances stop t ≡ t }

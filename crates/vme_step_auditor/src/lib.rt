@@ -1,24 +1,24 @@
-//! Audits the steps of a recording one by one: with deviations that are allowed, and up to a number
-//! of breaks that aren't.
+//! Audits the steps of a recording one by one, with allowed deviations, and up to a number of breaks
+//! that aren't allowed. A *break* is a violation of a rule.
 //!
 //! # Parts
 //!
-//! - `step_auditor`: [`StepAuditor`] takes one step after the other, returns the break that a step
-//!   makes and how it counts, and looks at nothing after the break at which it stops.
+//! - `step_auditor`: [`StepAuditor`] takes one step after the other, and returns the break that a
+//!   step makes and how it counts. It ignores all steps after the break at which it stops.
 //! - `categorized_break`: a break that is returned ([`CategorizedBreak`]), and counts of breaks.
-//! - `laws`: how what is read of a recording goes on with its steps.
+//! - `laws`: how far a recording is read as its steps come.
 //!
 //! # What is proved
 //!
 //! - [`StepAuditor::take`]: the breaks that are returned are exactly those of the recording so far,
-//!   as far as it is read, each with its own step (`told`) and by how it counts (`category`).
-//! - [`StepAuditor::is_stopped`]: it is stopped exactly where there are as many breaks that aren't
-//!   allowed.
-//! - [`StepAuditor::break_counts`], [`StepAuditor::audited`] and [`StepAuditor::outcome`] are what
-//!   vme_audit says of the recording so far, as far as it is read.
-//! - [`stop_is_final`]: what follows where an audit stops changes nothing of what is read.
-//!   [`reading_goes_on`]: until then all is read, and whatever follows, the breaks of what is read
-//!   stay.
+//!   as far as it is read, each with its own step (`told`) and with how it counts (`category`).
+//! - [`StepAuditor::is_stopped`]: the audit is stopped exactly where the recording has as many breaks
+//!   that aren't allowed as end it.
+//! - [`StepAuditor::break_counts`], [`StepAuditor::audited`] and [`StepAuditor::outcome`] are those
+//!   of vme_audit for the recording so far, as far as it is read.
+//! - [`stop_is_final`]: once an audit stops, further steps don't change what is read.
+//!   [`reading_goes_on`]: until then everything is read, and the breaks of what is read stay when
+//!   further steps come.
 //!
 //! # What isn't proved
 //!

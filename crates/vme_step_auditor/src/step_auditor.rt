@@ -21,16 +21,17 @@ use vme_auditor::{AuditFindings, Auditor, BreakCounts, TooManySteps, breaks_grow
 use vme_summary::GhostSteps;
 use vme_trace::{Lines, Step};
 
-/// How the breaks of a recording count, and how far it is read.
+/// How the breaks of a recording count, and how far the recording is read.
 #[derive(Clone, Copy, Debug)]
 pub struct AuditRules<'a> {
-    /// The deviations that are allowed.
+    /// The allowed deviations.
     pub allowances: &'a [Allowance],
-    /// After how many breaks that aren't allowed nothing more is read; all is, where this is `None`. 0 is as 1.
+    /// The number of breaks that aren't allowed after which nothing more is read, or `None` to read everything. 0 has
+    /// the effect of 1.
     pub stop: Option<u64>,
 }
 
-/// Finds the breaks of a recording as its steps come, and how they count. Of the steps nothing is kept.
+/// Finds the breaks of a recording as its steps come, and how they count. No step is kept.
 #[derive(Drop)]
 pub struct StepAuditor<'a> {
     rules: AuditRules<'a>,
@@ -56,7 +57,7 @@ impl<'a> Model for StepAuditor<'a> {
         (record { opening = a.opening; steps = a.given.items }) a.auditor a.counts };
 }
 
-/// Whether an audit stops by so many breaks.
+/// Whether an audit stops after these breaks.
 fn stops(stop: Option<u64>, counts: BreakCounts) -> bool
     requires { faults_counted counts ≤ 2 ^ 64 - 1 }
     ensures { result ≡ stops_by stop (faults_counted counts) }
@@ -68,7 +69,7 @@ fn stops(stop: Option<u64>, counts: BreakCounts) -> bool
 }
 
 impl<'a> StepAuditor<'a> {
-    /// Before the first step.
+    /// The auditor before the first step.
     pub fn new(opening: &Lines, rules: AuditRules<'a>) -> StepAuditor<'a>
         ensures given { result ≡ record {
           allowances = rules.entry.allowances.now;
@@ -88,7 +89,8 @@ impl<'a> StepAuditor<'a> {
         }
     }
 
-    /// Takes the step that follows, and finds whether it breaks a rule. Once the audit is stopped nothing is found.
+    /// Takes the next step, and returns the break that it makes, if any. Once the audit is stopped, it returns no
+    /// break.
     pub fn take(&mut self, step: &Step) -> Result<Option<CategorizedBreak>, TooManySteps>
         ensures given { OnOk result (self.new
             ≡ record self.old { recording = with_steps self.old.recording (step.now ∷ []) }) }
@@ -119,14 +121,14 @@ impl<'a> StepAuditor<'a> {
         }
     }
 
-    /// Whether as many breaks were found as end the audit: no step that follows is looked at.
+    /// Whether so many breaks were found that the audit has ended. Then it ignores further steps.
     pub fn is_stopped(&self) -> bool
         ensures { malformed_step self.now.recording ≡ None → result ≡ has_stopped self.now }
     {
         stops(self.rules.stop, self.counts)
     }
 
-    /// How many breaks there are, of what is read.
+    /// The numbers of breaks of what is read.
     pub fn break_counts(&self) -> BreakCounts
         ensures { malformed_step self.now.recording ≡ None
             → AreBreakCountsOf result self.now.allowances (read_of self.now) }
@@ -141,7 +143,7 @@ impl<'a> StepAuditor<'a> {
         self.auditor.audited()
     }
 
-    /// What the audit comes to, where so many answered transfers are wanted.
+    /// The outcome of the audit, where at least `wanted` answered transfers are required.
     pub fn outcome(&self, wanted: u64) -> Outcome
         ensures { malformed_step self.now.recording ≡ None
             → result ≡ outcome_of self.now.allowances wanted (read_of self.now) }

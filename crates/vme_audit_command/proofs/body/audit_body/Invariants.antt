@@ -1,4 +1,4 @@
--- The body is audited as far as it is read, by any skew.
+-- The audit of the body is under way, for any skew.
 use Rattle.std.proofs.Common.{ℕ, Option}
 use Rattle.vme_audit_command.specs.Bodies.{HasGiven}
 use Rattle.vme_audit_command.proofs.BodyPieces.{IsUnderway}

@@ -1,4 +1,4 @@
--- The dumps so far are told.
+-- The dumps so far were audited and written, and the others are untouched.
 use Rattle.std.proofs.Common.{◌≡◌, drop, map, take}
 use Rattle.vme_audit_command.specs.SeveralDumps.{TellsDumps}
 use Rattle.vme_audit_command.proofs.AnswerLemmas.{options_by}

@@ -1,4 +1,4 @@
--- All that was read is held.
+-- All bytes that were read are held.
 use Rattle.std.specs.Io.KnownBytes.{Consumes}
 use Rattle.vme_audit_command.proofs.definitions.read_definitions.Given as goal
 

@@ -1,4 +1,4 @@
--- The steps so far were audited, and the lines of their breaks told.
+-- The steps so far were audited, and the lines of their breaks were written.
 use Rattle.std.proofs.Common.{◌≡◌, ◌≤◌, ℕ, List, ◌++◌, None, take}
 use Rattle.vme_trace.specs.Followed.{with_steps}
 use Rattle.vme_trace.specs.WellFormed.{malformed_step}

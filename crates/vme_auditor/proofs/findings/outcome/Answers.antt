@@ -1,4 +1,4 @@
--- The outcome by what was found is that of the definitions.
+-- The outcome by the findings is that of the definitions.
 use Rattle.std.proofs.Common.{◌-◌, ◌^◌, ◌≤◌, ◌∙◌, arith, None, Some}
 use Rattle.vme_auditor.proofs.Outcomes.{by_broken, by_gap, by_unreadable, outcome_is}
 use Rattle.vme_auditor.proofs.findings.outcome.Goals as goal

@@ -1,4 +1,4 @@
--- The breaks grow as those do that an audit tells.
+-- The breaks of a recording grow as those that an audit returns.
 use Rattle.vme_auditor.proofs.GrowingBreaks.{breaks_within, none_before, step_breaks}
 use Rattle.vme_auditor.proofs.growth.breaks_grow.Goals as goal
 

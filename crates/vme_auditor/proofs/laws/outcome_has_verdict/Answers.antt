@@ -1,4 +1,4 @@
--- Where nothing is broken the verdict is by what is judged.
+-- Where nothing is broken, the verdict depends on whether anything is judged.
 use Rattle.vme_auditor.proofs.SaidVerdicts.{conforming_is, never_idle_is, never_idle_told}
 use Rattle.vme_auditor.proofs.laws.outcome_has_verdict.Goals as goal
 

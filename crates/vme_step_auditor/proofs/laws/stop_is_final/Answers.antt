@@ -1,4 +1,4 @@
--- Behind the break at which an audit stops breaks come, and change nothing of those before.
+-- Breaks after the one at which an audit stops leave those before it as they are.
 use Rattle.vme_step_auditor.proofs.ReadOn.{reads_no_more, stays_stopped}
 use Rattle.vme_step_auditor.proofs.laws.stop_is_final.Goals as goal
 

@@ -1,4 +1,4 @@
--- The changes that are left make of the falls what all of them do.
+-- Noting the remaining changes from here gives the falls that noting all changes from the start gives.
 use Rattle.std.proofs.Common.{◌≡◌, drop}
 use Rattle.vme_account.specs.LastEvents.{noted}
 use Rattle.vme_account.specs.RelatedEvents.{falls_shown}

@@ -1,4 +1,4 @@
--- The changes that are left make of the rises what all of them do.
+-- Noting the remaining changes from here gives the rises that noting all changes from the start gives.
 use Rattle.std.proofs.Common.{◌≡◌, drop}
 use Rattle.vme_account.specs.LastEvents.{noted}
 use Rattle.vme_account.specs.RelatedEvents.{rises_shown}

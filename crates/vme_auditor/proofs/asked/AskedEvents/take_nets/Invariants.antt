@@ -1,4 +1,4 @@
--- The changes that are left make of the events what all of them do.
+-- Taking the remaining changes from here gives the events that taking all changes from the start gives.
 use Rattle.std.proofs.Common.{◌≡◌, drop}
 use Rattle.vme_auditor.specs.Events.{nets_taken}
 use Rattle.vme_auditor.proofs.asked.AskedEvents.take_nets.Given as goal

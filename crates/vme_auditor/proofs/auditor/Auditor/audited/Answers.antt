@@ -1,4 +1,4 @@
--- What an audit has found is what the definitions say.
+-- The findings of an audit are those of the definitions.
 use Rattle.std.proofs.Common.{◌≡◌, ℕ, ◌-◌, ◌^◌, ◌≤◌, ◌∙◌, ap, subst, arith, None}
 use Rattle.std.specs.Option.{option_map}
 use Rattle.vme_trace.specs.Trace.{Trace}

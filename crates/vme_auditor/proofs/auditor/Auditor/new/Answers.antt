@@ -1,4 +1,4 @@
--- Before the first step nothing was told.
+-- The auditor's fields before the first step.
 use Rattle.vme_auditor.proofs.Folds.{keeps_first}
 use Rattle.vme_auditor.proofs.auditor.Auditor.new.Goals as goal
 

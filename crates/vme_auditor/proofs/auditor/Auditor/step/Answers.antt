@@ -1,4 +1,4 @@
--- An audit keeps up with one step more, and tells its break.
+-- The auditor's fields after one more step, and the break that it returns.
 use Rattle.std.proofs.Common.{◌≡◌, ◌+◌, ◌≤◌, List, ◌++◌, sym, ◌∙◌, ap, subst, arith, None}
 use Rattle.std.specs.Option.{option_map, option_to_list}
 use Rattle.vme_trace.specs.Trace.{Trace}

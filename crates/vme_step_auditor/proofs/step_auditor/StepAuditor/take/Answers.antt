@@ -1,4 +1,4 @@
--- A step is audited, or, once the audit is stopped, changes nothing.
+-- A step is audited, or it changes nothing if the audit has stopped.
 use Rattle.std.proofs.Common.{◌≡◌, ◌≤◌, ◌∙◌, List, [], ◌∷◌, ◌++◌, Option, None, Some, ap, arith, subst, sym}
 use Rattle.std.specs.Option.{option_map, option_to_list}
 use Rattle.vme_trace.specs.Trace.{Trace}
