@@ -1,4 +1,4 @@
--- Which rules may be broken on a line, and what follows where none is.
+-- Which rules may be broken on a line, and where no rule is broken at an instant.
 use Rattle.std.proofs.Common.{◌≡◌, ℕ, suc, ◌<◌, Bool, true, false, ◌||◌, not, List, [], ◌∷◌, get_or, length, refl, sym}
 use Rattle.std.proofs.Common.{◌∙◌, arith, ◌+◌, ◌-◌, ◌≤◌, ◌&&◌, ap, subst}
 use Rattle.std.specs.Prelude.{◌==◌, nat_le, nat_lt, if◌then◌else◌, None, Some}
@@ -48,7 +48,7 @@ listed-speaks l k below within =
     same : (n : ℕ) → (n == n) ≡ true
     same n = grind (arith, nat_tests)
 
--- and each rule that speaks of a line is on its row
+-- each rule that speaks of a line is on the line's row
 pub speaks-listed : (l : ℕ) (r : Rule) → l < line_count → speaks_of r l ≡ true
     → (k : ℕ) × (k < length (rules_on l)) × (get_or (rules_on l) k U1 ≡ r)
 speaks-listed l r below spoken = found (rules_on l) (listed-is l r below ∙ spoken)
@@ -66,7 +66,7 @@ speaks-listed l r below spoken = found (rules_on l) (listed-is l r below ∙ spo
         by_test true e h later = (0, omega arith, same-rule x r (eqb-true (rule_number x) (rule_number r) e))
         by_test false e h later = let (k, below, at) = later h in (suc k, omega arith, at)
 
--- ---- The lines of which a rule speaks: on others it isn't broken. And the table of rules by line says the same.
+-- ---- A rule isn't broken on a line of which it doesn't speak.
 
 highest_31 : (code : ℕ) → highest_address code ≤ 31
 unfolding highest_address
@@ -88,21 +88,23 @@ needs_31 v = by_class (class_of v) refl
     by_class class.I e = rw e (omega arith)
     by_class class.F e = rw e (omega arith)
 
+-- a cycle needs no line outside of 5 to 44, as tests on numbers
 outside : (l k : ℕ) (m : Bool) → k ≤ 31 → (nat_le 5 l && nat_le l 44) ≡ false
     → ((l == 5) || (m && ((nat_le 6 l && nat_le l 11) || (l == 12))) || (nat_le 14 l && nat_le l (13 + k))) ≡ false
 outside l k m most h = grind (arith, nat_tests)
 
--- no cycle needs other lines
+-- a cycle needs only lines 5 to 44: IACK*, the modifier, LWORD* and the address
 not_needed : (v : Levels) (l : ℕ) → (nat_le 5 l && nat_le l 44) ≡ false → is_needed v l ≡ false
 unfolding is_needed
 not_needed v l h = outside l (needs_of v).highest (needs_of v).modifier (needs_31 v) h
 
+-- a transfer moves no line outside of 159 to 190, as tests on numbers
 apart : (l : ℕ) (w x y u v : Bool) → (nat_le 159 l && nat_le l 190) ≡ false
     → ((w && ((x && (nat_le 159 l && nat_le l 166)) || (y && (nat_le 167 l && nat_le l 174)))) || (u && v && x && y
     && (nat_le 159 l && nat_le l 190))) ≡ false
 apart l w x y u v h = grind (arith, nat_tests)
 
--- a transfer moves no other lines than those of data
+-- a transfer moves only data lines, 159 to 190
 not_selected : (v : Levels) (l : ℕ) → (nat_le 159 l && nat_le l 190) ≡ false → is_selected v l ≡ false
 unfolding is_selected
 not_selected v l h =
@@ -113,7 +115,7 @@ abbrev holds : Trace → Stretch → ℕ → ℕ → ℕ → Bool
 holds t span j l i = cycle_starts t span i && cycle_runs t span i j && none (is_answer t span) i (j + 1) && is_needed
     (levels_at t i) l
 
--- the rule isn't broken elsewhere
+-- a rule isn't broken on a line of which it doesn't speak
 module _ (t : Trace) (span : Stretch) (j l : ℕ) where
   pub unspoken : (r : Rule) → is_judged span j ≡ true → speaks_of r l ≡ false → is_broken t span r j l ≡ false
   unfolding is_broken
@@ -129,10 +131,10 @@ module _ (t : Trace) (span : Stretch) (j l : ℕ) where
   unspoken S3 n h = rw (not_selected (levels_at t (j - 1)) l h) refl
   unspoken r n h = rw h refl
 
--- ---- Where a rule isn't broken: on a line that doesn't change, where it asks for an edge; and what follows where none
--- is.
+-- ---- A rule that asks for an edge isn't broken on a line that doesn't change. And what follows where no rule is
+-- broken.
 
--- ---- a line that stays
+-- ---- a line whose level is that of the instant before
 
 one_level : (x : Level) → ((is_high x && is_low x) ≡ false) × ((is_low x && is_high x) ≡ false)
     × (not (same_level x x) ≡ false)
@@ -171,14 +173,14 @@ stays t bus cs l at lead h =
     sym (ap (λ v. level_at v l) at.levels)
     ∙ (ap (λ v. level_at v l) lead.made ∙ (level-kept bus.before cs l h ∙ ap (λ v. level_at v l) at.before))
 
--- ---- a rule that is asked as something starts
+-- ---- `is_broken` against `breaks`, and the rules that are asked as a transfer or a cycle starts
 
 module _ (t : Trace) (span : Stretch) (j l : ℕ) where
   pub breaks-off : (r : Rule) → is_broken t span r j l ≡ false → breaks t span r j l ≡ false
   unfolding breaks
   breaks-off r h = rw h (and_off _)
 
-  -- where it is asked at all
+  -- at a judged instant, on a line that the backplane has, `breaks` is `is_broken`
   pub breaks-is : (r : Rule) → is_judged span j ≡ true → has_line t.opening.slots l ≡ true
       → is_broken t span r j l ≡ breaks t span r j l
   unfolding breaks
@@ -199,11 +201,13 @@ module _ (t : Trace) (span : Stretch) (j l : ℕ) where
   pub breaks-unspoken : (r : Rule) → is_judged span j ≡ true → speaks_of r l ≡ false → false ≡ breaks t span r j l
   breaks-unspoken r judged h = sym (breaks-off r (unspoken t span j l r judged h))
 
+  -- U3 is broken on no line if it isn't broken on WRITE*
   pub direction-only : is_judged span j ≡ true → is_broken t span U3 j WRITE ≡ false → is_broken t span U3 j l ≡ false
   direction-only judged h = decide (l == WRITE)
       (λ e. subst (λ k. is_broken t span U3 j k ≡ false) (sym (eqb-true l WRITE e)) h)
       (λ e. unspoken t span j l U3 judged e)
 
+  -- H1 is broken on no line if it isn't broken on DTACK* and BERR*
   pub answers-only : is_judged span j ≡ true → is_broken t span H1 j DTACK ≡ false
       → is_broken t span H1 j BERR ≡ false → is_broken t span H1 j l ≡ false
   answers-only judged h k = decide (l == DTACK)
@@ -219,7 +223,7 @@ module _ (t : Trace) (span : Stretch) (j l : ℕ) where
   unfolding is_broken
   unstarted-answers h = rw (h, and_off) refl
 
--- what is known of each line of a range, from its first to its last
+-- if all lines from `first` to `last` are known, so is line `l` of these
 pub known-within : (t : Trace) (j first last l : ℕ) → every (is_known_on (levels_at t j)) first (last + 1) ≡ true
     → (nat_le first l && nat_le l last) ≡ true → known t l j ≡ true
 unfolding known
@@ -253,7 +257,7 @@ module _ (t : Trace) (span : Stretch) where
       break_at-next r rs j (least-none (breaks t span r j) 0 line_count
       (fails-any (breaks t span r j) 0 line_count (λ l a b. none r l b))) ∙ break_at-none j none rs
 
--- each rule and each line, as break_at asks
+-- no rule is broken on any line, if none is on the changed lines, and U2, U3, H1 and U4 aren't on any line
 module _ (t : Trace) (span : Stretch) (bus : Bus) (state : State) (cs : List Change) (h : IsStateOf t span bus state)
     (lead : LeadToInstant bus cs) where
   j : ℕ
@@ -292,10 +296,10 @@ pub has-is : (t : Trace) (bus : Bus) (l : ℕ) → IsBusOf t bus → has_line bu
 has-is t bus l at = ap (λ (v : Levels). has_line v.slots l) at.levels
     ∙ ap (λ slots. has_line slots l) (slots_at t bus.instant)
 
--- for what is asked of a rule and a line
+-- for the goals of `breaks`
 pub ruleset asked_breaks = (breaks-absent, breaks-is, breaks-unspoken, has-is)
 
--- where a transfer starts
+-- for the goals of `is_transfer_start_broken`
 pub ruleset started = (answers-only, direction-only, unstarted-answers, unstarted-direction, starts-is, or_false)
 
 pub ruleset within = (known-within, any-first, any-fails)

@@ -48,7 +48,7 @@ use Rattle.vme_cert.proofs.Following.{open-last, transfer-last}
 -- ---- The listing of a recording, stretch by stretch.
 
 module _ (t : Trace) where
-  -- a stretch is listed whole, up to an instant, or not at all
+  -- a stretch is listed whole, up to `limit`, or not at all
   whole : (span : Stretch) (limit : ℕ) → span.start < span.end → span.end ≤ limit → nat_lt span.end limit
       ≡ nat_lt span.end (last_instant t + 1) → rows_of_span t limit span ≡ rows_to t span span.end ++ reset_at t
       span.end
@@ -84,11 +84,12 @@ module _ (t : Trace) where
       ∙ past_all next spans limit order.3
       (omega (arith, h, order.2, starts_before_end t next (is_first next spans order.3)))
 
-  -- the least break of some stretches comes after the start of the first
+  -- the least break of a stretch comes after its start, and at its end at the latest
   broken_later : (span : Stretch) (b : Break) → IsSpanOf t span → least_break t span all_rules ≡ Some b
       → (span.start < b.instant) × (b.instant ≤ span.end)
   broken_later span b is e = least_break-judged t span all_rules b (starts_before_end t span is) e
 
+  -- the listing ends after the start of the first of the stretches
   ends_later : (span : Stretch) (spans : List Stretch) → AreInOrder t (span ∷ spans) → span.start < listed_end t
       (least_of all_rules t (span ∷ spans))
   ends_later span [] is = case_of (least_break t span all_rules) (λ e. rw e (omega (arith, is.within)))
@@ -155,11 +156,11 @@ module _ (t : Trace) where
       by_spans [] order = refl
       by_spans (span ∷ spans) order = listed NeverIdle span spans order
 
--- ---- The first break of a stretch: none before its start and past its end, at a reset none, and where a line is lost
--- U1.
+-- ---- The first break of a stretch: there is none before its start, after its end or at a reset, and where a line is
+-- lost it is U1.
 
 module _ (t : Trace) (span : Stretch) where
-  -- the instant of a break
+  -- a break that is found at instant `j` has that instant
   pub break-instant : (rules : List Rule) (j : ℕ) (b : Break) → break_at t span rules j ≡ Some b → b.instant ≡ j
   unfolding break_at rule_break
   break-instant [] j b e = absurd (cc)
@@ -173,7 +174,7 @@ module _ (t : Trace) (span : Stretch) where
           let same : record { instant = j; time = time_at t j; rule = r; line = l } ≡ b = cc in
           sym (ap (λ (x : Break). x.instant) same)
 
-  -- none is broken at an instant that isn't judged, if no line is lost there
+  -- no rule is broken at an instant that isn't judged, if no line is lost there
   unbroken : (j : ℕ) → is_judged span j ≡ false → ((l : ℕ) → l < line_count → breaks t span U1 j l ≡ false) → (r : Rule)
       (l : ℕ) → l < line_count → breaks t span r j l ≡ false
   unfolding breaks
@@ -184,7 +185,7 @@ module _ (t : Trace) (span : Stretch) where
       → (rules : List Rule) → break_at t span rules j ≡ None
   quiet j out still rules = break_at-none t span j (λ r l below. unbroken j out still r l below) rules
 
-  -- the first break goes on from instant to instant
+  -- without a break before `j` or at `j` there is none before `j + 1`
   pub none-on : (rules : List Rule) (j : ℕ) → break_before t span rules j ≡ None → break_at t span rules j ≡ None
       → break_before t span rules (j + 1) ≡ None
   unfolding break_before
@@ -214,14 +215,14 @@ module _ (t : Trace) (span : Stretch) where
   unfolding breaks is_broken
   held j l other = rw other (second_fails (has_line t.opening.slots l) false refl)
 
-  -- none is broken up to its start
+  -- no rule is broken up to the start of the stretch
   pub none-first : (j : ℕ) → j ≤ span.start + 1 → span.start < span.end → break_before t span all_rules j ≡ None
   unfolding break_before
   none-first j upto order = none-after all_rules 0 j (omega arith) refl
       (λ i a b. quiet i (unjudged span i (omega arith)) (λ l below. held i l (eq_fails i span.end (omega arith)))
       all_rules)
 
--- the next instant of a stretch, at n
+-- the instant after `j` of the stretch that starts at `s`: it ends there, or continues
 module _ (t : Trace) (s j : ℕ) (is : IsSpanOf t (span_from t s)) (from : s ≤ j) (before : j < span_end t s)
     (within : suc j ≤ last_instant t) where
   ran : any (stops_at t) (s + 1) (j + 1) ≡ false
@@ -253,7 +254,7 @@ module _ (t : Trace) (s : ℕ) (is : IsSpanOf t (span_from t s)) where
   at-reset (suc j) after upto within reset =
       ends-here t s j is (omega arith) (omega arith) within (rw reset refl)
 
-  -- of the changes that lead there the first lost control line is the least
+  -- of the changes that lead to an instant the first lost control line is the least one
   module _ (cs : List Change) where
     lost-is : (j : ℕ) → s ≤ j → j < stretch.end → (levels_at t j).slots ≤ 21
         → levels_at t (suc j) ≡ changed (levels_at t j) cs
@@ -295,7 +296,7 @@ module _ (t : Trace) (s : ℕ) (is : IsSpanOf t (span_from t s)) where
         goes-on t s j is (omega arith) (omega arith) within unreset (least-none-any _ _ _
         (sym (lost-is j (omega arith) (omega arith) (rw back at few) (rw back at made) (rw back at sound)) ∙ lost))
 
--- where no instant is left no stretch is, and one that isn't idle starts none
+-- after the last instant no stretch starts, and none does at an instant that isn't idle
 no_spans : (t : Trace) (n : ℕ) → last_instant t + 1 ≤ n → spans_after t n ≡ []
 no_spans t n past = ap (map (span_from t)) (those-none (span_starts t) n (last_instant t + 1)
     (fails-any (span_starts t) n (last_instant t + 1) (λ i a b. absurd (omega arith))))
@@ -310,7 +311,7 @@ next_spans t n within busy =
 
 module _ {Whole Source : Type 0} {gave : Whole → Source → List Row → Type 0} {is_over : Source → Type 0} {whole : Whole}
     {v : Version} {t : Trace} where
-  -- what is open has no edges where the listing ends
+  -- open rows have no last edge where the listing ends
   pub follows-close : {done : List Row} {span : Stretch} {n : ℕ} {rows : OpenRows Source}
       → Follows gave is_over whole v done t span n rows → n ≤ span.end
       → CanClose gave is_over whole v (done ++ rows_to t span n) rows
@@ -328,7 +329,7 @@ module _ {Whole Source : Type 0} {gave : Whole → Source → List Row → Type 
         transfer = transfer-last t span v done a.given taken n rows.transfer a.placed.transfer h.transfer within;
       }
 
-  -- at the opening
+  -- at the opening the first stretch is awaited
   pub waits-first : {rows : OpenRows Source} → CanClose gave is_over whole v [] rows
       → IsWaiting gave is_over whole v t 0 NeverIdle rows
   waits-first h = record {
@@ -339,7 +340,7 @@ module _ {Whole Source : Type 0} {gave : Whole → Source → List Row → Type 
   }
 
   module _ {n : ℕ} (within : n ≤ last_instant t) {outcome : ListedVerdict} {rows : OpenRows Source} where
-    -- an instant that isn't idle
+    -- at an instant that isn't idle no stretch starts
     pub waits-on : IsWaiting gave is_over whole v t n outcome rows → is_idle_at t n ≡ false
         → IsWaiting gave is_over whole v t (n + 1) outcome rows
     waits-on h busy = record {
@@ -350,7 +351,7 @@ module _ {Whole Source : Type 0} {gave : Whole → Source → List Row → Type 
       rows_are = h.rows_are;
     }
 
-    -- and one that is
+    -- at an idle instant a stretch starts
     pub starts : (h : IsWaiting gave is_over whole v t n outcome rows) → is_idle_at t n ≡ true → {state : State}
         → Holds t (span_from t n) (n + 1) (n + 1) state → {later : OpenRows Source}
         → Follows gave is_over whole v h.done t (span_from t n) (n + 1) later
@@ -382,7 +383,7 @@ module _ {Whole Source : Type 0} {gave : Whole → Source → List Row → Type 
       abbrev so_far : List Row
       so_far = h.done ++ rows_to t span n
 
-      -- a reset
+      -- a reset ends the stretch, and the next one is awaited
       pub resets : span_end t h.start ≡ n → is_reset_at t n ≡ true → {new : OpenRows Source}
           → CanClose gave is_over whole v (h.done ++ rows_to t span n ++ Reset n ∷ []) new
           → IsWaiting gave is_over whole v t (n + 1) outcome new
@@ -426,7 +427,7 @@ module _ {Whole Source : Type 0} {gave : Whole → Source → List Row → Type 
               ++ (Reset n ∷ [] ++ rows_from t Conforming (spans_after t (n + 1)))
           whole_span = rw (none, ends, reset, lt-ltb n (last_instant t + 1) (omega arith)) refl
 
-      -- a break
+      -- a break ends judging
       pub breaks-off : (b : Break) → break_at t span all_rules n ≡ Some b
           → IsEnded gave is_over whole v t (outcome_of (Some b)) rows
       breaks-off b here =
@@ -441,7 +442,7 @@ module _ {Whole Source : Type 0} {gave : Whole → Source → List Row → Type 
             rows_are = follows-close h.rows_are h.upto;
           }
 
-      -- or none
+      -- without a break the stretch continues
       pub goes-later : n < span_end t h.start → break_at t span all_rules n ≡ None → {new : State}
           → Holds t span (n + 1) (n + 1) new → {taken : OpenRows Source}
           → Follows gave is_over whole v h.done t span (n + 1) taken
@@ -459,7 +460,7 @@ module _ {Whole Source : Type 0} {gave : Whole → Source → List Row → Type 
         rows_are = follows;
       }
 
--- what an instant shows by its levels
+-- whether an instant is idle, and whether it is a reset, by its levels
 pub idle-is : (t : Trace) (levels : Levels) (n : ℕ) → levels ≡ levels_at t n → is_idle_at t n ≡ is_idle levels
 unfolding is_idle_at
 idle-is t levels n e = ap is_idle (sym e)
@@ -468,7 +469,7 @@ pub reset-is : (t : Trace) (levels : Levels) (n : ℕ) → levels ≡ levels_at 
 unfolding is_reset_at
 reset-is t levels n e = ap is_reset (sym e)
 
--- a break by its rule and line
+-- if `named` gives a rule and a line, there is a break with them
 pub named-break : (o : Option Break) (rule : Rule) (line : ℕ) → Some (rule, line) ≡ named o
     → (b : Break) × (o ≡ Some b) × (b.rule ≡ rule) × (b.line ≡ line)
 named-break None rule line e = absurd (cc)
@@ -483,7 +484,7 @@ pub named-none : (o : Option Break) → None ≡ named o → o ≡ None
 named-none None e = refl
 named-none (Some b) e = absurd (cc)
 
--- where a break ends all
+-- the checker after a break: judging has ended
 module _ {Whole Source : Type 0} {gave : Whole → Source → List Row → Type 0} {is_over : Source → Type 0} {whole : Whole}
     {v : Version} {t : Trace} {bus : Bus} {rows : OpenRows Source} {outcome : ListedVerdict}
     (new : Checker Source) where
@@ -497,7 +498,8 @@ module _ {Whole Source : Type 0} {gave : Whole → Source → List Row → Type 
         (subst (λ (r : OpenRows Source). IsEnded gave is_over whole v t outcome r) (sym same_rows) h));
   }
 
--- an instant of a stretch, or its end, by the levels and the changes
+-- an instant of a stretch, or its end, by the levels and the changes: a reset, a lost line, or a break; without a reset
+-- and a lost line the instant is within the stretch
 module _ {Whole Source : Type 0} {gave : Whole → Source → List Row → Type 0} {is_over : Source → Type 0} {whole : Whole}
     {v : Version} {t : Trace} {bus : Bus} {cs : List Change} {outcome : ListedVerdict} {rows : OpenRows Source}
     {state : State} (at : IsBusOf t bus) (lead : LeadToInstant bus cs) (few : bus.before.slots ≤ 21)
@@ -546,7 +548,7 @@ module _ {Whole Source : Type 0} {gave : Whole → Source → List Row → Type 
   judge-within unreset e = at-rest t h.start h.is cs bus.instant h.after h.upto within few_slots made sound
       (reset-is t bus.levels bus.instant at.levels ∙ unreset) (lost_is None e)
 
--- the state with what starts at the instant
+-- the state with the cycle and the transfer that start at the instant
 pub judge-state : {Whole Source : Type 0} {gave : Whole → Source → List Row → Type 0} {is_over : Source → Type 0}
     {whole : Whole} {v : Version} {t : Trace} {bus : Bus} {outcome : ListedVerdict} {rows : OpenRows Source}
     {state opened : State} → IsBusOf t bus → (h : IsInStretch gave is_over whole v t bus.instant outcome rows state)
@@ -558,7 +560,7 @@ judge-state {t = t} {bus = bus} at h before holds =
     let judged = is_judged-holds (span_from t h.start) bus.instant h.after before in
     record { at = at; is = h.is; judged = judged; holds = holds judged }
 
--- the levels one instant later
+-- a bus that the changes of a step advance has the levels of the recording one instant later
 advanced : (t : Trace) (old new : Bus) (cs : List Change) → IsBusOf t old → new.instant ≡ old.instant + 1
     → new.before ≡ old.levels → new.levels ≡ changed old.levels cs
     → levels_at t (old.instant + 1) ≡ changed (levels_at t old.instant) cs → IsBusOf t new
@@ -569,15 +571,15 @@ advanced t old new cs at instant before levels made =
       levels = levels ∙ (ap (λ (w : Levels). changed w cs) at.levels ∙ (sym made ∙ ap (levels_at t) (sym instant)));
     }
 
--- ---- What the step before an instant does.
+-- ---- The step that leads from an instant to the next.
 
 module _ (t : Trace) (i : ℕ) (step : Step) (found : slice_get t.steps i ≡ Some step) where
-  -- its changes make the levels
+  -- its changes make the levels of instant `i + 1`
   pub levels-made : levels_at t (i + 1) ≡ changed (levels_at t i) step.changes
   unfolding levels_at
   levels-made = rw (add-one, found) refl
 
-  -- and are sound where no step is malformed
+  -- its changes are sound if no step is malformed
   pub sound-step : malformed_step t ≡ None → are_changes (levels_at t i) 0 step.changes ≡ true
   unfolding malformed_step is_step
   sound-step well =
@@ -585,7 +587,7 @@ module _ (t : Trace) (i : ℕ) (step : Step) (found : slice_get t.steps i ≡ So
       (least-none-any _ _ _ well) (omega arith) (slice_get_within t.steps i step found)) in
       (and_parts _ _ (rw found at fits)).1
 
--- the step that was read at a place
+-- a step that was read from the steps at place `i` is step `i` of the recording
 pub step_at : (t : Trace) (steps : List Step) (i : ℕ) (step : Step) → steps ≡ t.steps → i < length steps
     → step ≡ get_or steps i step → slice_get t.steps i ≡ Some step
 step_at t steps i step e below is = ap (λ (xs : List Step). slice_get xs i) (sym e) ∙ slice_get_read steps
@@ -605,7 +607,7 @@ next-is recorded step more =
     refl (omega (arith, length-append recorded.steps (step ∷ more)))
     (sym (get_or-append_seam recorded.steps step more step))
 
--- the levels behind a step more
+-- the last levels with one more step
 pub levels-next : (recorded : Trace) (step : Step) (levels : Levels) (changes : List Change)
     → levels ≡ last_levels recorded → changes ≡ step.changes
     → changed levels changes ≡ last_levels (with_steps recorded (step ∷ []))
@@ -617,7 +619,7 @@ pub all-taken : (recorded : Trace) → with_steps recorded [] ≡ recorded
 all-taken recorded =
     ap (λ (steps : List Step). record recorded { steps = steps }) (append-nil recorded.steps)
 
--- of a step that is taken
+-- a checker that takes `step` has followed the recording with that step
 pub has-taken : {Source : Type 0} {recorded : Trace} {old : Checker Source} {bus : Bus} {cs : List Change} (step : Step)
     → HasFollowed recorded old → bus.instant ≡ old.bus.instant + 1 → bus.levels ≡ changed old.bus.levels cs
     → cs ≡ step.changes → (new : Checker Source) → new.bus ≡ bus → new.rows.compared.taken ≤ 4 * bus.instant + 4
@@ -631,7 +633,7 @@ has-taken {recorded = recorded} {old = old} {cs = cs} step taken instant levels 
       few = omega (arith, at, few);
     }
 
--- what was so of the next instant is so there
+-- what the phase says of the next instant holds there once the step is taken
 pub arrives : {Whole Source : Type 0} {gave : Whole → Source → List Row → Type 0} {is_over : Source → Type 0}
     {whole : Whole} {v : Version} {recorded : Trace} {old : Checker Source} {bus : Bus} {cs : List Change}
     (step : Step) → HasFollowed recorded old → bus.instant ≡ old.bus.instant + 1 → bus.before ≡ old.bus.levels
@@ -656,7 +658,7 @@ arrives {gave = gave} {is_over = is_over} {whole = whole} {v = v} {recorded = re
           (subst (IsPhase gave is_over whole v t (old.bus.instant + 1) old.outcome old.rows) is h.phase_is),
     )
 
--- a recording up to an instant
+-- a recording up to instant `n`: its first `n` steps
 abbrev pub recorded_to : Trace → ℕ → Trace
 recorded_to t n = record t { steps = take n t.steps }
 
@@ -682,7 +684,7 @@ module _ (t : Trace) (n : ℕ) where
 
 module _ {Whole Source : Type 0} (gave : Whole → Source → List Row → Type 0) (is_over : Source → Type 0) (whole : Whole)
     (v : Version) (t : Trace) where
-  -- at the last instant
+  -- after the last instant, whatever the phase is, judging has ended
   ended : (outcome : ListedVerdict) (rows : OpenRows Source) (phase : CheckPhase)
       → IsPhase gave is_over whole v t (last_instant t + 1) outcome rows phase
       → IsEnded gave is_over whole v t outcome rows

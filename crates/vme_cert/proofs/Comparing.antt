@@ -1,4 +1,4 @@
--- The least that differs, once one more was taken or compared, and at the end.
+-- The least row that differs, after one more row was taken or compared, and at the end.
 use Rattle.std.proofs.Common.{◌≡◌, ℕ, zero, suc, ◌+◌, ◌-◌, ◌<◌, ◌≤◌, Bool, true, false, ◌&&◌, not, List, [], ◌∷◌, ◌++◌}
 use Rattle.std.proofs.Common.{length, take, refl, sym, ◌∙◌, ap, subst, arith, inl, inr, ◌⊎◌, length-append}
 use Rattle.std.specs.Prelude.{◌==◌, Option, None, Some, slice_get, MatchOption}
@@ -57,7 +57,7 @@ spared still row n off = decide (n == row.place) (λ f. inl (eqb-true n row.plac
     (λ e. let h : (true && not false) ≡ false = rw (e, f) at off in absurd (cc)) (λ e. inr e))
 
 module _ (given right : List Row) (taken : ℕ) (still : ℕ → Bool) (row : OpenRow) where
-  -- of an open one it was seen that it isn't the same
+  -- an open row that differs is the least that does, if the least so far doesn't come before it
   pub compare_row-other : (wrong : Option ℕ) → IsCompared given right taken still wrong → row.place < taken
       → row.place ≤ same_to taken wrong → (IsSame given right row.place → ⊥)
       → IsCompared given right taken (spares still (Some row)) (Some (row.place + 1))
@@ -71,6 +71,7 @@ module _ (given right : List Row) (taken : ℕ) (still : ℕ → Bool) (row : Op
         differs = (omega arith, omega arith, rw back other);
       }
 
+  -- an open row that doesn't come before the least that differs leaves it as it is
   pub compare_row-later : (wrong : Option ℕ) → IsCompared given right taken still wrong
       → same_to taken wrong ≤ row.place → IsCompared given right taken (spares still (Some row)) wrong
   compare_row-later wrong h later = record {
@@ -81,7 +82,7 @@ module _ (given right : List Row) (taken : ℕ) (still : ℕ → Bool) (row : Op
     differs = h.differs;
   }
 
--- more were taken, which are open, or fewer are open that are so still
+-- `IsCompared` stays if more rows are given and taken, each of them open, and each open row stays open
 pub compared-on : (given more right rights : List Row) (taken next : ℕ) (still now : ℕ → Bool) (wrong : Option ℕ)
     → taken ≤ next → Extends given more taken → Extends right rights taken
     → ((n : ℕ) → n < next → now n ≡ false → (n < taken) × (still n ≡ false))
@@ -105,7 +106,7 @@ compared-on given more right rights taken next still now (Some row) order extend
       );
     }
 
--- by fewer that are open
+-- `IsCompared` stays if each open row stays open, and others may be open
 pub compared-fewer : {given right : List Row} {taken : ℕ} {still : ℕ → Bool} {wrong : Option ℕ} (now : ℕ → Bool)
     → IsCompared given right taken still wrong → ((n : ℕ) → now n ≡ false → still n ≡ false)
     → IsCompared given right taken now wrong
@@ -114,7 +115,7 @@ compared-fewer now h kept = record {
   differs = h.differs;
 }
 
--- one is compared
+-- after one row was compared
 module _ {Source : Type 0} {o : Option OpenRow} {edge : Option ℕ} {old new : Comparison Source}
     (s : HasComparedRow o edge old new) where
   pub compare_row-compared : {given right : List Row} {still : ℕ → Bool}
@@ -130,7 +131,7 @@ module _ {Source : Type 0} {o : Option OpenRow} {edge : Option ℕ} {old new : C
       subst (IsGiven gave is_over whole given new.source) (sym s.taken)
       (subst (λ (c : Source). IsGiven gave is_over whole given c old.taken) (sym s.source) h)
 
--- one more is taken
+-- after one more row was taken
 module _ {Whole Source : Type 0} {gave : Whole → Source → List Row → Type 0} {is_over : Source → Type 0} {right : Row}
     {old new : Comparison Source} {row : OpenRow} (b : IsBegun gave is_over right old new row) where
   pub begun-compared : {given rights : List Row} {still : ℕ → Bool} (more all : List Row) (now : ℕ → Bool)
@@ -149,7 +150,7 @@ module _ {Whole Source : Type 0} {gave : Whole → Source → List Row → Type 
 
 module _ {Whole Source : Type 0} {gave : Whole → Source → List Row → Type 0} {is_over : Source → Type 0}
     {whole : Whole} where
-  -- one more was asked for
+  -- after the source was asked for one more row
   pub given-next : {given : List Row} {old : Source} {taken : ℕ} (row : Option Row) (new : Source)
       → IsGiven gave is_over whole given old taken
       → MatchOption row (gave whole new given) (λ row. gave whole new (given ++ row ∷ []))
@@ -178,10 +179,10 @@ module _ {Whole Source : Type 0} {gave : Whole → Source → List Row → Type 
       whole_taken (inl e) = e
       whole_taken (inr short) = absurd (none_some row (sym (stays short.0)))
 
--- at the end none is open
+-- at the end no row is open
 module _ {Source : Type 0} (is_over : Source → Type 0) (given right : List Row) (taken : ℕ)
     (all : taken ≡ length right) where
-  -- one that was compared differs
+  -- a row that was compared differs
   pub finish-other : (source : Source) (row : ℕ) → IsCompared given right taken (λ n. false) (Some row)
       → (length given ≡ taken) ⊎ (is_over source × (length given ≤ taken)) → Decides is_over given right source (No row)
   finish-other source row h count =
@@ -192,7 +193,7 @@ module _ {Source : Type 0} (is_over : Source → Type 0) (given right : List Row
 
   module _ (more : List Row) (extends : Extends given more taken)
       (h : IsCompared given right taken (λ n. false) None) where
-    -- one more is given
+    -- the source gives one more row
     pub finish-longer : (source : Source) (row : Row) → Some row ≡ slice_get more taken
         → Decides is_over more right source (No (taken + 1))
     finish-longer source row is =
@@ -207,7 +208,7 @@ module _ {Source : Type 0} (is_over : Source → Type 0) (given right : List Row
           inl (omega arith),
         )
 
-    -- or none
+    -- the source gives no more row
     pub finish-same : (source : Source) → None ≡ slice_get more taken → is_over source
         → Decides is_over more right source
         Yes

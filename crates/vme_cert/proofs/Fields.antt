@@ -1,4 +1,4 @@
--- The fields of the state as a cycle or a transfer starts, and one instant later; and what rules ask of them.
+-- The fields of the state as a cycle or a transfer starts, and one instant later. And what rules ask of them.
 use Rattle.std.proofs.Common.{◌≡◌, ℕ, ◌+◌, ◌-◌, ◌≤◌, ◌<◌, ◌&&◌, ◌||◌, Bool, true, false, refl, sym, ◌∙◌, ap, arith, inl}
 use Rattle.std.proofs.Common.{inr, ◌⊎◌, ◌∷◌, ◌++◌, [], not, add-one, List, subst, zero, suc, cond}
 use Rattle.std.specs.Prelude.{Some, nat_le, if◌then◌else◌, nat_lt, unwrap_or, None}
@@ -39,7 +39,7 @@ high-and-low Low y h k = cc
 high-and-low Unknown y h k = cc
 
 module _ (t : Trace) (span : Stretch) where
-  -- one that starts later finds both strobes high before it
+  -- between the starts of two transfers both strobes are high
   pub high-between : (i k : ℕ) → i < k → transfer_starts t span i ≡ true → transfer_starts t span k ≡ true
       → any (strobes_high t) (i + 1) k ≡ true
   unfolding transfer_starts low high
@@ -66,7 +66,7 @@ module _ (t : Trace) (span : Stretch) where
     unfolding lasts
     lasts-on i order h = rw (le-leb i j order, judged, h) refl
 
-    -- each has closed
+    -- if each transfer has closed, none is open at the instant
     pub in-none : (p : ℕ → Bool) → ((i : ℕ) → i < j + 1 → transfer_starts t span i ≡ true
         → any (strobes_high t) (i + 1) j ≡ true) → in_transfer t span p j ≡ false
     unfolding in_transfer
@@ -77,7 +77,7 @@ module _ (t : Trace) (span : Stretch) where
       found : IsGreatest (transfer_starts t span) (span.start + 1) (j + 1) i
       found = greatest-found (transfer_starts t span) (span.start + 1) (j + 1) i last
 
-      -- the last one runs: what is asked of the transfer at the instant is asked of it
+      -- if the last transfer is open, a condition on the transfer of the instant is one on it
       pub in-last : (p : ℕ → Bool) → none (strobes_high t) (i + 1) j ≡ true → in_transfer t span p j ≡ p i
       in-last p still =
           let from = found.from in
@@ -95,7 +95,7 @@ module _ (t : Trace) (span : Stretch) (j i : ℕ) (judged : is_judged span j ≡
   here : lasts t span i j ≡ true
   here = lasts-on t span j judged i within still
 
-  -- the field one instant later, and as rules ask for it there
+  -- whether the transfer is answered before `j + 1`, by whether it is before `j`
   pub answered-step : is_answered t span i (j + 1) ≡ (is_answered t span i j || answer_falls t j)
   unfolding is_answered
   answered-step = any-step (λ r. lasts t span i r && answer_falls t r) i j ∙ rw (le-leb i j within, here) refl
@@ -108,13 +108,13 @@ module _ (t : Trace) (span : Stretch) (j i : ℕ) (judged : is_judged span j ≡
   unfolding is_answer
   is_answer-is = in-last t span j judged i last (λ k. answers t span k j) still ∙ answers-is
 
--- the answers of a cycle that started by then
+-- the answers before `j + 1` of a cycle that started at `j` or before: those before `j`, and that at `j`, if any
 pub answers-step : (t : Trace) (span : Stretch) (i j : ℕ) → i ≤ j → answers_of t span i (j + 1)
     ≡ answers_of t span i j ++ (if is_answer t span j then j ∷ [] else [])
 unfolding answers_of those
 answers-step t span i j order = rw (add-one, le-leb i j order) refl
 
--- ---- The answers of a cycle, with one more or none, and what rules ask of them.
+-- ---- The answers of a cycle, with at most one more, and what rules ask of them.
 
 pub later-with : (rs : List ℕ) (r : ℕ) (b : Bool) → has_earlier_answer (rs ++ (if b then r ∷ [] else []))
     ≡ (has_earlier_answer rs || b)
@@ -142,7 +142,7 @@ module _ (t : Trace) (span : Stretch) where
       stays false true w = refl
       stays false false w = refl
 
-  -- the pair of a single cycle, and the direction of a block cycle
+  -- what rules C1 and C2 ask of the answers of a cycle, by the fields of the state
   pub breaks_read_modify_write-is : (rs : List ℕ) (r : ℕ)
       → (has_earlier_answer rs && (is_many rs || writes_first t span rs || not (answers_write t span r)))
       ≡ breaks_read_modify_write t span rs r
@@ -175,7 +175,7 @@ module _ (t : Trace) (span : Stretch) (j : ℕ) (judged : is_judged span j ≡ t
   unfolding transfer_starts
   starts-is = rw judged refl
 
-  -- one starts
+  -- a transfer starts
   pub open-here : starts_transfer t j ≡ true → (w : Bool) → w ≡ low t WRITE j → IsTransfer t span (j + 1) j (record {
     is_open = true;
     start = j;
@@ -195,7 +195,7 @@ module _ (t : Trace) (span : Stretch) (j : ℕ) (judged : is_judged span j ≡ t
     absent = λ e. absurd (cc);
   }
 
-  -- none starts
+  -- no transfer starts
   pub open-not : starts_transfer t j ≡ false → (c : Transfer) → IsTransfer t span j j c → IsTransfer t span (j + 1) j c
   open-not here c is = record {
     here = λ e. let w = is.here e in record {
@@ -289,7 +289,7 @@ module _ (t : Trace) (span : Stretch) (j : ℕ) (judged : is_judged span j ≡ t
         absent = λ k. absurd (cc);
       }
 
--- behind the start of a stretch none has started
+-- no transfer starts up to the start of a stretch
 pub none-started : (t : Trace) (span : Stretch) → AreClosed t span (span.start + 1) (span.start + 1)
 unfolding transfer_starts
 none-started t span i before start =
@@ -298,7 +298,7 @@ none-started t span i before start =
     let after = after_start span i judged in
     absurd (omega arith)
 
--- for the open transfer as it starts, and one instant later
+-- for the goals of the open transfer as it starts, and one instant later
 pub ruleset transfers = (open-here, open-not, transfer-later, rose-on)
 
 -- ---- The field that says which cycle is the last, as one starts, and one instant later.
@@ -351,7 +351,7 @@ starts-low : (t : Trace) (span : Stretch) (i : ℕ) → cycle_starts t span i �
 unfolding cycle_starts
 starts-low t span i h = fall-low t AS i (and_parts (is_judged span i) (falls t AS i) h).1
 
--- where AS* falls each cycle has ended
+-- where AS* falls each earlier cycle has ended
 all-ended : (t : Trace) (span : Stretch) (j : ℕ) (c : Cycle) → IsCycle t span j j c → falls t AS j ≡ true → (i : ℕ)
     → cycle_starts t span i ≡ true → i < j → none (rises t AS) (i + 1) j ≡ false
 all-ended t span j c is here i start before = decide c.has_started (λ e. by_last (is.here e))
@@ -375,7 +375,7 @@ module _ (t : Trace) (span : Stretch) (j : ℕ) (judged : is_judged span j ≡ t
   unfolding cycle_starts
   cycle-starts-is = rw judged refl
 
-  -- one starts
+  -- a cycle starts
   pub cycle-here : (o : Cycle) → IsCycle t span j j o → falls t AS j ≡ true → (c : Cycle) → c.start ≡ j
       → c.class ≡ class_at t span j → c.needs ≡ needs_of (levels_at t j) → c.runs ≡ true → c.answered ≡ false
       → c.first_writes ≡ false → c.answered_again ≡ false → c.acknowledged ≡ false → IsLastCycle t span (j + 1) j c
@@ -398,7 +398,7 @@ module _ (t : Trace) (span : Stretch) (j : ℕ) (judged : is_judged span j ≡ t
             ∙ any-start (λ r. is_answer t span r && falls t DTACK r) j j (omega arith));
       }
 
-  -- none starts
+  -- no cycle starts
   pub cycle-not : falls t AS j ≡ false → (c : Cycle) → IsCycle t span j j c → IsCycle t span (j + 1) j c
   cycle-not here c is =
       let same = greatest-not (cycle_starts t span) (span.start + 1) j (cycle-starts-is ∙ here) in
@@ -496,10 +496,10 @@ module _ (t : Trace) (span : Stretch) (j : ℕ) (judged : is_judged span j ≡ t
   cycle-later knows c is ri an wr fa r a w f =
       rw (r, a, w, f) (record { here = λ e. later-last c (is.here e) knows; absent = λ e. is.absent e })
 
--- for the last cycle as it starts, and one instant later
+-- for the goals of the last cycle as it starts, and one instant later
 pub ruleset cycles = (cycle-here, cycle-not, cycle-later, address-known)
 
--- ---- What happened since the last time that something else did: the fields that rules H6, G5 and B2 ask for.
+-- ---- Whether `q` held since `p` last did: the fields that rules H6, G5 and B2 ask for.
 
 module _ (t : Trace) (span : Stretch) (p q : ℕ → Bool) (j : ℕ) (judged : is_judged span j ≡ true) where
   last-here : p j ≡ true → last_before t span p (j + 1) ≡ j
@@ -511,13 +511,13 @@ module _ (t : Trace) (span : Stretch) (p q : ℕ → Bool) (j : ℕ) (judged : i
   unfolding last_before
   last-not here = ap (λ o. unwrap_or o span.start) (greatest-not p (span.start + 1) j here)
 
-  -- it is no later than the instant
+  -- the last instant with `p`, or else the start of the stretch, is before `j`
   last-within : last_before t span p j + 1 ≤ j
   unfolding last_before
   last-within = case_of (greatest p (span.start + 1) j) (λ e. rw e (after_start span j judged))
       (λ i e. let found = (greatest-found p (span.start + 1) j i e).before in rw e (omega arith))
 
-  -- what a rule asks at an instant of what happened up to there
+  -- what a rule asks up to `j`, by the field and by what happens at `j`
   pub since-asks : any q (last_before t span p j) (j + 1) ≡ (any q (last_before t span p j) j || q j)
   since-asks = any-step q (last_before t span p j) j
       ∙ rw (le-leb (last_before t span p j) j (omega (arith, last-within))) refl
@@ -541,7 +541,7 @@ module _ (t : Trace) (span : Stretch) (p q : ℕ → Bool) (j : ℕ) (judged : i
       (λ e. rw (last-here e, e, and_off) (sym (any-start q (j + 1) (j + 1) (omega arith))))
       (λ e. rw (last-not e, e, and_on) (sym since-later-asks)))
 
--- the fields behind the start of a stretch
+-- the fields after the start of a stretch
 module _ (t : Trace) (span : Stretch) (p q : ℕ → Bool) where
   last-start : last_before t span p (span.start + 1) ≡ span.start
   unfolding last_before
@@ -558,7 +558,8 @@ module _ (t : Trace) (span : Stretch) (p q : ℕ → Bool) where
 
 module _ (t : Trace) (span : Stretch) (j : ℕ) (judged : is_judged span j ≡ true) where
   module _ (c : Transfer) (is : IsTransfer t span (j + 1) j c) where
-    -- what is asked of an open transfer, and isn't so where none is open
+    -- a condition on the open transfer, which is false if none is open, is that condition on the transfer of the
+    -- instant
     ask : (x : Bool) (p : ℕ → Bool) → (IsOpenTransfer t span (j + 1) j c → x ≡ p c.start)
         → (c.is_open && x) ≡ in_transfer t span p j
     ask x p here = decide c.is_open
@@ -627,7 +628,7 @@ module _ (t : Trace) (span : Stretch) (j : ℕ) (judged : is_judged span j ≡ t
         (λ w. rw (w.direction, answered-by w, rose w) refl)
 
   module _ (c : Cycle) (is : IsCycle t span (j + 1) j c) where
-    -- what is asked of the last cycle, and isn't so where none has started
+    -- a condition on the last cycle, which is false if none has started, is that condition on the cycle of the instant
     ask-cycle : (x : Bool) (p : ℕ → Bool) → (IsLastCycle t span (j + 1) j c → x ≡ p c.start)
         → (c.has_started && x) ≡ in_cycle t span p j
     unfolding in_cycle cycle_of
@@ -661,7 +662,7 @@ module _ (t : Trace) (span : Stretch) (j : ℕ) (judged : is_judged span j ≡ t
         ≡ in_cycle t span (λ i. is_interrupt (class_at t span i) && has_earlier_answer (answers_of t span i j)) j
     answered-interrupt-is = ask-cycle (is_interrupt c.class && c.answered) _ (λ k. rw (k.class, k.answered) refl)
 
-    -- of the cycle of the instant before, where none starts here
+    -- the cycle of the instant is that of the instant before, if none starts here
     before-is : falls t AS j ≡ false → (p : ℕ → Bool) → in_cycle t span p j ≡ in_cycle t span p (j - 1)
     unfolding in_cycle cycle_of
     before-is still p =
@@ -677,13 +678,13 @@ module _ (t : Trace) (span : Stretch) (j : ℕ) (judged : is_judged span j ≡ t
         ask-cycle c.acknowledged (λ i. is_acknowledged t span i j) (λ k. k.acknowledged)
         ∙ before-is still (λ i. is_acknowledged t span i j)
 
--- for what the state answers
+-- for the goals of the questions that the state answers
 pub ruleset questions = (answer-is, write-is, unanswered-is, data-is)
 
--- ---- What is held while something lasts: a needed line of a cycle, and the direction of a transfer. Of all cycles,
--- and of all transfers, only the last may hold it.
+-- ---- What a cycle or a transfer holds while it lasts: the lines that the cycle needs, and the direction of the
+-- transfer. Of all cycles, and of all transfers, only the last may hold them.
 
--- whether one of a range holds is whether there are such
+-- some number of a range meets `p` exactly if the list of those that do isn't empty
 any-later : (p : ℕ → Bool) (f n : ℕ) → any p f n ≡ has_earlier_answer (those p f n)
 unfolding any those
 any-later p f zero = refl
@@ -709,7 +710,7 @@ stays-along t l i (suc k) starts order knows still =
           (knows (suc k) before (omega arith))
     ]
 
--- the needs of a cycle are those of the levels at its start
+-- the lines that a cycle needs are those that the levels at its start need
 module _ (t : Trace) (start : ℕ) where
   pub needed-at : (needs : Needs) (l : ℕ) → needs ≡ needs_of (levels_at t start) → is_within needs l
       ≡ is_needed (levels_at t start) l
@@ -757,7 +758,7 @@ module _ (t : Trace) (span : Stretch) (is : IsSpanOf t span) where
     abbrev directs : ℕ → Bool
     directs i = transfer_starts t span i && none (strobe_rises t) (i + 1) (j + 1)
 
-    -- where both strobes were high since, none does
+    -- a transfer doesn't hold the direction if both strobes were high since its start
     closed-not : (i : ℕ) → any (strobes_high t) (i + 1) j ≡ true → transfer_starts t span i ≡ true → directs i ≡ false
     closed-not i closed start =
         let some = any-least (strobes_high t) (i + 1) j closed in
@@ -862,7 +863,7 @@ module _ (t : Trace) (span : Stretch) (is : IsSpanOf t span) where
           rw (e, w.answered, needed-at t c.start c.needs l w.needs) (sym (held-last c w)))
           (λ e. rw e (sym (held-none (is.absent e)))))
 
--- ---- The parts of a rule, as they are asked and as they are defined.
+-- ---- The parts of a rule, as the code tests them and as they are defined.
 
 module _ {s : Bool} (spoken : s ≡ true) {a b x y : Bool} (first : a ≡ x) (second : b ≡ y) where
   pub two : (a && b) ≡ (s && x && y)
@@ -878,7 +879,7 @@ pub turned : (a b : Bool) → a ≡ not b → b ≡ not a
 turned a true h = rw h refl
 turned a false h = rw h refl
 
--- for the arms
+-- for the arms of `is_broken`
 pub ruleset asked = (
   was-answered-is,
   interrupt-is,

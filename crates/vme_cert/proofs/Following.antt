@@ -1,4 +1,4 @@
--- The open rows as one more starts, as one ends, and from an instant to the next.
+-- The open rows as a row starts, as one ends, and from an instant to the next.
 use Rattle.std.proofs.Common.{◌≡◌, ℕ, ◌+◌, ◌-◌, ◌≤◌, Bool, true, false, ◌&&◌, ◌||◌, not, List, [], ◌∷◌, ◌++◌, length}
 use Rattle.std.proofs.Common.{refl, sym, ◌∙◌, ap, subst, arith, length-append, ◌<◌, inl, inr, ◌⊎◌, zero, suc}
 use Rattle.std.proofs.Common.{append_assoc}
@@ -39,7 +39,7 @@ use Rattle.vme_cert.proofs.Ranges.{greatest-here, greatest-not, below_or_from, f
 use Rattle.vme_cert.proofs.Ranges.{case_of, unjudged}
 use Rattle.vme_cert.proofs.Instant.{address-known, control-known}
 
--- a row's edge, and its version
+-- the last edge of a row may be set before or after the row is put in a version
 ended-without : (row : Row) (edge : Option ℕ) → ended (without_data row) edge ≡ without_data (ended row edge)
 ended-without (Start i) edge = refl
 ended-without row edge = refl
@@ -65,7 +65,7 @@ pub spares-off : (x a : Bool) → (a ≡ false → x ≡ false) → (x && not a)
 spares-off x true h = second_fails x false refl
 spares-off x false h = rw (h refl) refl
 
--- when more was given, and more were taken
+-- a row that was taken stays so when more rows are given and taken
 taken-more : (given more : List Row) (taken many : ℕ) → taken ≤ many → Extends given more taken → (o : Option OpenRow)
     → IsTakenAt given taken o → IsTakenAt more many o
 taken-more given more taken many grows extends None h = tt
@@ -99,7 +99,7 @@ module _ (v : Version) (done : List Row) (t : Trace) (span : Stretch) (l j : ℕ
         right = h.right;
       }
 
-  -- where it rises its end is known
+  -- where the line rises the row's end is known
   pub open-due : (given : List Row) (taken : ℕ) (o : Option OpenRow) → rises t l j ≡ true → IsTakenAt given taken o
       → EdgeAt j o → (end : ℕ) → j + 1 ≤ end → end ≤ span.end
       → IsDue given (right_to v done t span end) taken (Some j) o
@@ -111,7 +111,7 @@ module _ (v : Version) (done : List Row) (t : Trace) (span : Stretch) (l j : ℕ
         (least-is (rises t l) (h.start + 1) end j (omega (arith, h.before)) (omega arith) here h.still),
   )
 
-  -- at the end it has none
+  -- where the listing ends the row has no end
   pub open-last : (given : List Row) (taken : ℕ) (o : Option OpenRow) → IsTakenAt given taken o → EdgeAt j o
       → j ≤ span.end → IsDue given (right_to v done t span j) taken None o
   open-last given taken None placed h within = tt
@@ -122,12 +122,12 @@ module _ (v : Version) (done : List Row) (t : Trace) (span : Stretch) (l j : ℕ
         (least-none (rises t l) (h.start + 1) j h.still),
   )
 
-  -- where it falls none is open
+  -- where the line falls no row is open
   pub open-none : (o : Option OpenRow) → falls t l j ≡ true → EdgeAt j o → o ≡ None
   open-none None here h = refl
   open-none (Some row) here h = absurd (clash (falls t l j) here (low-no_fall t l j h.is_low))
 
-  -- one that starts
+  -- a row that starts where the line is low is open
   pub open-new : (row : OpenRow) (right : Row) → low t l j ≡ true → row.right ≡ row_in v right
       → ((end : ℕ) → j + 1 ≤ end → end ≤ span.end → slice_get (right_to v done t span end) row.place
       ≡ Some (row_in v (ended right (least (rises t l) (j + 1) end)))) → EdgeAt (j + 1) (Some row)
@@ -143,7 +143,7 @@ module _ (v : Version) (done : List Row) (t : Trace) (span : Stretch) (l j : ℕ
             ∙ ended-in v right (least (rises t l) (j + 1) end)));
       }
 
--- what is open closes, and one more row comes, which has no edge
+-- the open rows are compared without a last edge, and then one more row, which has no last edge
 module _ {Whole Source : Type 0} {gave : Whole → Source → List Row → Type 0} {is_over : Source → Type 0} {whole : Whole}
     {v : Version} {rights : List Row} {old : OpenRows Source} (h : CanClose gave is_over whole v rights old)
     {c1 c2 c3 c4 c5 : Comparison Source} {row : OpenRow} {right : Row} (edge : ended right None ≡ right)
@@ -202,7 +202,7 @@ module _ {Whole Source : Type 0} {gave : Whole → Source → List Row → Type 
 
 -- ---- The row of the last transfer to start: as it starts, is answered, and closes.
 
--- none that comes later is the least
+-- the least of a range stays so in a longer one, if none of the added numbers meets `p`
 least-longer : (p : ℕ → Bool) (f m n : ℕ) → m ≤ n → ((r : ℕ) → m ≤ r → r < n → p r ≡ false) → least p f n ≡ least p f m
 least-longer p f m n order later = case_of (least p f m)
     (λ e. rw e (least-none p f n (fails-any p f n (λ r a b. elim (below_or_from r m) [
@@ -213,7 +213,7 @@ least-longer p f m n order later = case_of (least p f m)
     rw e (least-is p f n i found.first (omega (arith, found.below)) found.holds found.least))
 
 module _ (t : Trace) (span : Stretch) where
-  -- its answer by an instant, and by the next
+  -- a transfer that is answered at `j` wasn't answered before
   answers-once : (i j : ℕ) → answers t span i j ≡ true → any (answers t span i) i j ≡ false
   unfolding answers is_answered
   answers-once i j h =
@@ -227,7 +227,7 @@ module _ (t : Trace) (span : Stretch) where
   answer-not i j h = least-longer (answers t span i) i j (j + 1) (omega arith)
       (λ r from below. let here : r ≡ j = omega arith in rw here h)
 
-  -- none comes once it has closed
+  -- a transfer doesn't last after both strobes were high, so no answer comes
   lasts-no_more : (i j r : ℕ) → i < j → j < r → strobes_high t j ≡ true → lasts t span i r ≡ false
   unfolding lasts
   lasts-no_more i j r order later high =
@@ -242,7 +242,7 @@ module _ (t : Trace) (span : Stretch) where
       first_fails (lasts t span i r && answer_falls t r) (not (is_answered t span i r))
       (first_fails (lasts t span i r) (answer_falls t r) (lasts-no_more i j r order (omega arith) high)))
 
-  -- its row has the edge that its end gives it
+  -- the row of a transfer already has its close as its last edge
   edge-own : (end i : ℕ) (answer : Option ℕ) → ended (transfer_row t span end i answer)
       (least (strobes_high t) (i + 1) end) ≡ transfer_row t span end i answer
   edge-own end i None = refl
@@ -259,7 +259,7 @@ module _ (t : Trace) (span : Stretch) where
       sym (ended-in v (transfer_row t span end i answer) edge ∙ ap (row_in v)
       (ap (ended (transfer_row t span end i answer)) (sym e) ∙ edge-own end i answer))
 
-  -- at the end the row has no close
+  -- where the listing ends the row has no close
   pub transfer-last : (v : Version) (done given : List Row) (taken j : ℕ) (o : Option OpenRow)
       → IsTakenAt given taken o → IsTransferAt v done t span j j j o → j ≤ span.end
       → IsDue given (right_to v done t span j) taken None o
@@ -277,7 +277,7 @@ module _ (t : Trace) (span : Stretch) where
     abbrev At : ℕ → ℕ → ℕ → Option OpenRow → Type 0
     At i k c o = IsTransferAt v done t span i k c o
 
-    -- where one starts none is open
+    -- where a transfer starts no transfer is open
     pub transfer-none : (o : Option OpenRow) → starts_transfer t j ≡ true → At j j j o → o ≡ None
     transfer-none None here h = refl
     transfer-none (Some row) here h =
@@ -309,7 +309,7 @@ module _ (t : Trace) (span : Stretch) where
       known = h.known;
     }
 
-    -- whether it is answered
+    -- whether the last transfer is answered at the instant
     asked : (i : ℕ) → greatest (transfer_starts t span) (span.start + 1) (j + 1) ≡ Some i
         → any (strobes_high t) (i + 1) j ≡ false → answers t span i j ≡ is_answer t span j
     asked i last still = answers-is t span j i judged last (ap not still)
@@ -326,13 +326,13 @@ module _ (t : Trace) (span : Stretch) where
       known = λ end edge. rw (answer-not is.start j (asked is.start is.last is.still ∙ h)) (is.known end edge);
     }
 
-    -- the state has it
+    -- a transfer that is answered is the open one of the state
     pub is-opened : (c : Transfer) → IsTransfer t span (j + 1) j c → is_answer t span j ≡ true
         → IsOpenTransfer t span (j + 1) j c
     is-opened c is here = decide c.is_open is.here (λ e. absurd (clash (is_answer t span j) here
         (sym (answer-is t span j judged c is) ∙ ap (λ b. b && (answer_falls t j && not c.answered)) e)))
 
-    -- outside of every cycle its answer isn't listed
+    -- if no cycle has started, the answer isn't listed
     pub transfer-outside : (o : Option OpenRow) → is_answer t span j ≡ true
         → greatest (cycle_starts t span) (span.start + 1) (j + 1) ≡ None → At (j + 1) j j o → At (j + 1) (j + 1) j o
     unfolding cycle_of
@@ -371,7 +371,7 @@ module _ (t : Trace) (span : Stretch) where
               edge) (same_value c.start h.start (sym opened.last ∙ h.last)));
         }
 
-    -- where both strobes are high its close is known
+    -- where both strobes are high the close of the transfer is known
     pub transfer-due : (given : List Row) (taken : ℕ) (o : Option OpenRow) → strobes_high t j ≡ true
         → IsTakenAt given taken o → At (j + 1) (j + 1) j o → (end : ℕ) → j + 1 ≤ end → end ≤ span.end
         → IsDue given (right_to v done t span end) taken (Some j) o
@@ -416,7 +416,7 @@ module _ (t : Trace) (span : Stretch) where
       known = h.known;
     }
 
-  -- what its answer says
+  -- the data that the answer at `j` of the open transfer gives
   module _ (j : ℕ) (c : Transfer) (is : IsOpenTransfer t span (j + 1) j c) (end : ℕ) where
     pub data-here : c.is_write ≡ true → c.start ≡ j → Some (lanes_at (levels_at t j)) ≡ data_of t span end c.start j
     unfolding data_at
@@ -472,7 +472,7 @@ put k rows compared o = record {
 }
 
 module _ {Source : Type 0} (rows : OpenRows Source) (compared : Comparison Source) (o : Option OpenRow) where
-  -- a place that isn't open then isn't that of the new one, nor of the others
+  -- a place that isn't open after `put` isn't that of the new row, nor of the others
   put-off : (k : OpenRowKind) (n : ℕ) → is_open (put k rows compared o) n ≡ false
       → (is_at o n ≡ false) × (is_at (at k rows) n ≡ false → is_open rows n ≡ false)
   put-off Tenures n off = let each = each-off (is_at o n) (is_at rows.cycle n) (is_at rows.transfer n) off in (
@@ -500,7 +500,7 @@ at-place Tenures p = p.tenure
 at-place Cycles p = p.cycle
 at-place Transfers p = p.transfer
 
--- one row of a kind is compared, starts, or is known better, and the others stay as they are
+-- one row of a kind is compared, starts, or gets its answer, and the others stay as they are
 module _ {Whole Source : Type 0} {gave : Whole → Source → List Row → Type 0} {is_over : Source → Type 0} {whole : Whole}
     {v : Version} {done : List Row} {t : Trace} {span : Stretch} {first taken : ℕ} {old : OpenRows Source}
     (h : AreTaken gave is_over whole v done t span first taken old) (next : ℕ) (order : first ≤ next) where
@@ -617,7 +617,7 @@ cycle-ended i v edge c = refl
 same-length : {xs ys : List Row} → xs ≡ ys → length xs ≡ length ys
 same-length e = ap (λ (rows : List Row). length rows) e
 
--- the same rows are open, by other instants
+-- the open rows stay, where the instants up to which they are described change
 are-still : {Whole Source : Type 0} {gave : Whole → Source → List Row → Type 0} {is_over : Source → Type 0}
     {whole : Whole} {v : Version} {done : List Row} {t : Trace} {span : Stretch} {rows : OpenRows Source}
     {first next taken many a b i k c a' b' i' k' c' : ℕ}
@@ -651,7 +651,7 @@ module _ {Whole Source : Type 0} {gave : Whole → Source → List Row → Type 
         (λ end from. tenure-place t span v done end j from _ (starts end)) in
         record { are_taken = taken; tenure = opened; cycle = h.cycle; transfer = h.transfer }
 
-    -- one has no grant
+    -- a tenure without a grant isn't listed
     unlisted : falls t BBSY j ≡ true → tenure_row j (tenure_level t j) (tenure_slot t j)
         (least (rises t BBSY) (j + 1) j) ≡ [] → WithTenure gave is_over whole v done t span j old
     unlisted here none = are-still h (omega arith)
@@ -751,12 +751,12 @@ module _ {Whole Source : Type 0} {gave : Whole → Source → List Row → Type 
         (transfer-kept t span v done j judged old.transfer not_here h.transfer)
 
   module _ (h : WithTransfer gave is_over whole v done t span j old) where
-    -- it isn't answered, or not in a cycle
+    -- no answer is listed at the instant
     pub transfer-rests : IsTransferAt v done t span (j + 1) (j + 1) j old.transfer
         → WithAnswer gave is_over whole v done t span j old
     transfer-rests known = are-still h (omega arith) refl h.tenure h.cycle known
 
-    -- or it is, which gives it another row at its place
+    -- an answer gives the transfer another row at its place
     pub transfer-replies : (first later : OpenRow) → old.transfer ≡ Some first → later.place ≡ first.place
         → later.given ≡ first.given → IsTransferAt v done t span (j + 1) (j + 1) j (Some later)
         → WithAnswer gave is_over whole v done t span j (put Transfers old old.compared (Some later))
@@ -784,7 +784,7 @@ module _ {Whole Source : Type 0} {gave : Whole → Source → List Row → Type 
           transfer = known;
         }
 
-  -- and closes, if it does
+  -- where both strobes are high the transfer closes, elsewhere it stays open
   module _ (h : WithAnswer gave is_over whole v done t span j old) where
     pub transfer-closes : strobes_high t j ≡ true → {new : Comparison Source}
         → HasComparedRow old.transfer (Some j) old.compared new
@@ -802,13 +802,13 @@ module _ {Whole Source : Type 0} {gave : Whole → Source → List Row → Type 
     transfer-lasts not_here = are-still h (omega arith) refl h.tenure h.cycle
         (transfer-open t span v done j judged old.transfer not_here h.transfer)
 
--- for the goals of an instant
+-- for the goals of a tenure, a cycle or a transfer that ends
 pub ruleset ends = (tenure-ends, cycle-ends, transfer-closes)
 
 -- ---- The open rows as a stretch starts.
 
 module _ (t : Trace) (span : Stretch) where
-  -- no row starts before, and none but a tenure there
+  -- no row starts before the stretch, and at its start only a tenure
   cycles-none : (end i : ℕ) → i ≤ span.start → cycle_rows t span end i ≡ []
   unfolding cycle_rows cycle_starts
   cycles-none end i h = rw (unjudged span i h) refl
@@ -864,7 +864,7 @@ module _ {Whole Source : Type 0} {gave : Whole → Source → List Row → Type 
   abbrev front : List Row
   front = done ++ Start span.start ∷ []
 
-  -- the right rows go on behind the start
+  -- the row of the start was taken: the rows of the stretch follow it
   start_taken : AreTaken gave is_over whole v done t span (span.start + 1) (length done + 1) old
   start_taken = record {
     version_is = h.version_is;

@@ -11,7 +11,7 @@ use Rattle.vme_cert.specs.Words.{is_reset_at, known, least, levels_at, line_coun
 use Rattle.vme_cert.specs.Words.{near, rises, taken_grant, tenure_level, tenure_slot}
 use Rattle.vme_cert.proofs.Ranges.{or_on, any-first, greatest-is, any-start, decide}
 
--- for what a line shows by the levels that are kept: to open this is to open each of these
+-- for what a line shows by the levels that a `Bus` keeps: to unfold this is to unfold each of these names
 unfoldable pub shown : Trace → ℕ → ℕ → Bool
 unfolding falls has_edge high known low rises
 shown t l i = falls t l i
@@ -30,7 +30,7 @@ pub taken-before : (t : Trace) (j : ℕ) → is_granting t j ≡ false → taken
 unfolding taken_grant
 taken-before t j e = rw e refl
 
--- a tenure has a level where one is granted
+-- a tenure has a level exactly if one is granted at the instant or at the one before
 pub granted-near : (t : Trace) (j : ℕ) → is_some (tenure_level t j) ≡ near (is_granting t) j
 unfolding tenure_level
 granted-near t j = any-first (λ n. low t (grant n 0) (taken_grant t j)) 0 4
@@ -42,10 +42,10 @@ granted-near t j = any-first (λ n. low t (grant n 0) (taken_grant t j)) 0 4
     or_off true = refl
     or_off false = refl
 
--- for the grant that a tenure takes
+-- for the goals of the grant that a tenure takes
 pub ruleset grants = (taken-now, taken-before)
 
--- ---- Requests and nets of a grant chain that a backplane has, and how far a grant has come.
+-- ---- The request lines and the nets of a grant chain that a backplane has, and how far a grant has come.
 
 back : (k : ℕ) → 0 < k → k - 1 + 1 ≡ k
 back k h = omega arith

@@ -1,4 +1,4 @@
--- The row of a cycle, and where a right row stands among the others.
+-- The row of a cycle, and the place of a right row among the others.
 use Rattle.std.proofs.Common.{◌≡◌, ℕ, zero, suc, ◌+◌, ◌*◌, ◌%◌, ◌^◌, ◌<◌, ◌≤◌, Bool, true, false, refl, ap, arith}
 use Rattle.std.proofs.Common.{add-one, add-zero, lit<, ◌&&◌, ◌==◌, List, [], ◌∷◌, ◌++◌, length, cond, sym, ◌∙◌, inl}
 use Rattle.std.proofs.Common.{inr, length-append, append_assoc}
@@ -21,7 +21,7 @@ use Rattle.vme_cert.proofs.Ranges.{last_or_before}
 pub next-weight : (n : ℕ) → 2 ^ (n + 1) ≡ 2 * 2 ^ n
 next-weight n = rw add-one (pow-succ' 2 n)
 
--- the weight of a line above the lowest n fits
+-- the weight of address line `n + 1` is at most 2^31
 pub weight_below : (n : ℕ) → n < 31 → 2 * 2 ^ n ≤ 2147483648
 weight_below n h = let e = pow-succ' 2 n in let up : 2 ^ suc n ≤ 2 ^ 31 = pow-le-pow_right {n = 2} (lit< tt) {i = suc n}
     {j = 31} (omega arith) in omega (arith, e, up)
@@ -39,7 +39,7 @@ address-below v (suc n) = by_test (is_high (level_at v (A (suc n)))) (next-weigh
     by_test true e f g below = omega arith
     by_test false e f g below = omega arith
 
--- whether an address line is needed
+-- an address line that is needed is at most the highest one
 pub address_line : (needs : Needs) (n : ℕ) → n < 31 → is_within needs (A (n + 1)) ≡ true → n + 1 ≤ needs.highest
 address_line needs n h e = by_highest needs.modifier needs.highest e
   where
@@ -79,7 +79,7 @@ pub interrupt-highest : (v : Levels) → class_of v ≡ class.I → (needs_of v)
 unfolding needs_of
 interrupt-highest v e = rw e refl
 
--- ---- Where a right row stands: as many rows start before an instant whatever the end is, and they are the first.
+-- ---- The place of a right row: how many rows start before an instant doesn't depend on the end, and they come first.
 
 -- the right rows in the version of a listing
 pub rows_in-append : (v : Version) (xs ys : List Row) → rows_in v (xs ++ ys) ≡ rows_in v xs ++ rows_in v ys
@@ -100,7 +100,7 @@ rows_in-length One xs = length-map xs without_data
 rows_in-length Two xs = refl
 rows_in-length Three xs = refl
 
--- the row behind some of them
+-- the row after the rows `xs`
 pub row_behind : (v : Version) (xs ys : List Row) (row : Row) → slice_get (rows_in v (xs ++ row ∷ ys)) (length xs)
     ≡ Some (row_in v row)
 row_behind v xs ys row =
@@ -143,7 +143,7 @@ module _ (t : Trace) (span : Stretch) where
     unfolding transfer_rows
     transfer-count i = alike (transfer_starts t span i) _ _
 
-    -- as many rows start before an instant, whatever the end
+    -- how many rows start before an instant doesn't depend on the end
     pub rows-count : (j : ℕ) → length (rows_before t span e j) ≡ length (rows_before t span f j)
     unfolding rows_before
     rows-count zero = refl
@@ -154,7 +154,7 @@ module _ (t : Trace) (span : Stretch) where
   unfolding rows_before
   rows-next end j = rw add-one refl
 
-  -- and they are the first
+  -- the rows that start before `j` are the first of those that start before `n`
   front : (end j n : ℕ) → j ≤ n → (rest : List Row) × (rows_before t span end n ≡ rows_before t span end j ++ rest)
   unfolding rows_before
   front end j zero h = let e : j ≡ 0 = omega arith in ([], rw e refl)
@@ -167,7 +167,7 @@ module _ (t : Trace) (span : Stretch) where
             (rest ++ new, simp (is, append_assoc))
       ]
 
-  -- those of an instant behind the earlier ones, and more
+  -- the rows are those that start before `j`, those that start at `j`, and then the rest
   all_rows : (end j : ℕ) → j + 1 ≤ end → (rest : List Row) × (rows_before t span end end ≡ rows_before t span end j
       ++ (tenure_rows t span end j ++ (cycle_rows t span end j ++ (transfer_rows t span end j ++ rest))))
   all_rows end j h =
@@ -179,6 +179,7 @@ module _ (t : Trace) (span : Stretch) where
       )
 
   module _ (v : Version) (done : List Row) where
+    -- a row of the stretch after the rows `xs` is the right row at `place`, which counts all rows before it
     placed : (end : ℕ) (xs ys : List Row) (row : Row) (place : ℕ) → rows_before t span end end ≡ xs ++ row ∷ ys
         → length done + 1 + length xs ≡ place → slice_get (right_to v done t span end) place ≡ Some (row_in v row)
     placed end xs ys row place is at =
@@ -195,7 +196,7 @@ module _ (t : Trace) (span : Stretch) where
         counted = omega (arith, at)
 
     module _ (end j : ℕ) (h : j + 1 ≤ end) (row : Row) where
-      -- the row that starts at an instant is behind those that start before it
+      -- the place of a row that starts at `j` is the number of the right rows before it
       pub tenure-place : tenure_rows t span end j ≡ row ∷ []
           → slice_get (right_to v done t span end) (count_before v done t span j) ≡ Some (row_in v row)
       tenure-place is =
@@ -232,7 +233,7 @@ module _ (t : Trace) (span : Stretch) where
             cycle-count end j j,
           ))
 
-    -- those of the instant, and the next
+    -- the rows that start before `j + 1` are those before `j` and those at `j`
     pub next-count : (j : ℕ) → count_before v done t span (j + 1) ≡ count_with_cycle v done t span j + length
         (transfer_rows t span j j)
     next-count j = simp (

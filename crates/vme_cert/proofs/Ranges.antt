@@ -1,4 +1,4 @@
--- What tests say, and searches over a range of numbers.
+-- Tests on numbers, and searches over a range of numbers.
 use Rattle.std.proofs.Common.{◌≡◌, ℕ, ◌+◌, ◌<◌, ◌≤◌, Bool, true, false, ◌&&◌, ◌||◌, not, refl, arith, ◌⊎◌, zero, suc}
 use Rattle.std.proofs.Common.{[], ◌∷◌, get_or, sym, ◌∙◌, ap, inl, inr, cond, add-one}
 use Rattle.std.specs.Prelude.{◌==◌, nat_le, nat_lt, Option, None, Some, is_some}
@@ -8,7 +8,7 @@ use Rattle.vme_trace.proofs.Ranges.{any-fails, fails-any, clash, searches, any-h
 use Rattle.vme_trace.proofs.Ranges.{least-none-any, those-none}
 use Rattle.vme_cert.specs.Words.{Stretch, any, greatest, is_judged, least, none, those}
 
--- ---- What tests on numbers say, and two tests together.
+-- ---- Tests on numbers, and two tests together.
 
 pub eq_fails : (i j : ℕ) → i < j → (i == j) ≡ false
 eq_fails i j h = grind (arith, nat_tests)
@@ -79,7 +79,7 @@ pub or_false : (a b : Bool) → (a || b) ≡ false → (a ≡ false) × (b ≡ f
 or_false true b h = absurd (cc)
 or_false false b h = (refl, h)
 
--- ---- What is asked of the four levels.
+-- ---- A condition on each of the four request levels.
 
 pub each-of : (q : ℕ → Bool) (a b c d : Bool) → a ≡ q 0 → b ≡ q 1 → c ≡ q 2 → d ≡ q 3 → (n : ℕ) → n < 4
     → get_or (a ∷ b ∷ c ∷ d ∷ []) n false ≡ q n
@@ -91,7 +91,7 @@ each-of q a b c d e f g h (suc (suc (suc (suc n)))) below = absurd (omega arith)
 
 -- ---- What the greatest of a range is.
 
--- none holds in a shorter range either
+-- if no number of a range meets `p`, no number of a shorter range does
 pub none-shorter : (p : ℕ → Bool) (f m n : ℕ) → m ≤ n → any p f n ≡ false → any p f m ≡ false
 none-shorter p f m n h none = fails-any p f m (λ i a b. any-fails p f n i none a (omega arith))
 
@@ -115,14 +115,14 @@ greatest-none-any p f (suc n) e =
     some_is_none : (n : ℕ) → Some n ≡ None → ⊥
     some_is_none n h = cc
 
--- what it is to be the greatest
+-- `i` is the greatest number from `f` to `n - 1` that meets `p`
 pub record IsGreatest (p : ℕ → Bool) (f n i : ℕ) : Type 0 where
   pub from : f ≤ i
   pub before : i < n
   pub holds : p i ≡ true
   pub last : any p (i + 1) n ≡ false
 
--- the greatest that was found is the greatest
+-- what `greatest` finds is the greatest
 pub greatest-found : (p : ℕ → Bool) (f n i : ℕ) → greatest p f n ≡ Some i → IsGreatest p f n i
 unfolding greatest any
 greatest-found p f zero i e = absurd (cc)
@@ -153,7 +153,7 @@ greatest-found p f (suc n) i e =
           }
     ]
 
--- the greatest is found where none after it holds
+-- `greatest` finds `i` if `p` holds at `i` and at no later number before `n`
 pub greatest-is : (p : ℕ → Bool) (f n i : ℕ) → f ≤ i → i < n → p i ≡ true → any p (i + 1) n ≡ false → greatest p f n
     ≡ Some i
 greatest-is p f n i from before holds last = case_of (greatest p f n)
@@ -164,7 +164,8 @@ greatest-is p f n i from before holds last = case_of (greatest p f n)
       | inr (inr more) ↦ absurd (clash (p k) found.holds (any-fails p (i + 1) n k last (omega arith) found.before))
     ])
 
--- of those that start only the last decides, where no earlier one holds and none does that doesn't start
+-- if `p` holds only where `s` does, and not before `i`, the greatest up to `j` with `s`, then `p` holds before `j`
+-- exactly if `i` is before `j` and `p` holds at `i`
 pub only-last : (s p : ℕ → Bool) (f j i : ℕ) → IsGreatest s f (j + 1) i → ((k : ℕ) → s k ≡ false → p k ≡ false)
     → ((k : ℕ) → k < i → s k ≡ true → p k ≡ false) → any p f j ≡ (nat_lt i j && p i)
 only-last s p f j i found off earlier = by_order (last_or_before i j found.before)
@@ -207,7 +208,7 @@ greatest-none p f (suc n) h = chosen_below f n (p n) (greatest p f n) (omega ari
 pub those-empty : (p : ℕ → Bool) (f n : ℕ) → n ≤ f → those p f n ≡ []
 those-empty p f n h = those-none p f n (any-start p f n h)
 
--- one of a range holds where there is a least
+-- there is a least number that meets `p` exactly if some number does
 pub any-first : (p : ℕ → Bool) (f n : ℕ) → is_some (least p f n) ≡ any p f n
 any-first p f n = case_of (least p f n) (λ e. rw e (sym (least-none-any p f n e)))
     (λ i e. let found = least-found p f n i e in rw e (sym (any-holds p f n i found.first found.below found.holds)))

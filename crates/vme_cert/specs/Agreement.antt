@@ -9,18 +9,18 @@ use Rattle.vme_listing.specs.declared.row.Row.{Row}
 use Rattle.vme_cert.specs.declared.compare.Answer.{Answer}
 use Rattle.vme_cert.specs.declared.compare.Answer.TheVariants.{Yes, No}
 
--- the rows before this one, counted from 1, are the same, and this one isn't, or only one of the two lists has it
+-- the rows before `row`, counted from 1, are equal, and `row` isn't, or only one of the two lists has it
 pub record DiffersAt (candidate right : List Row) (row : ℕ) : Type 0 where
   pub first : 1 ≤ row
   pub before : take (row - 1) candidate ≡ take (row - 1) right
   pub here : slice_get candidate (row - 1) ≡ slice_get right (row - 1) → ⊥
 
--- the given rows are the right ones, or this is the first that differs
+-- the answer is yes and `candidate` is `right`, or it names the first row that differs
 abbrev pub DecidesListing : List Row → List Row → Answer → Type 0
 DecidesListing candidate right Yes = candidate ≡ right
 DecidesListing candidate right (No row) = DiffersAt candidate right row
 
--- the text is that of a listing, and this is the answer to its rows, where the right ones are those of a recording
+-- the text is that of a listing, and `answer` is right for its rows, compared with those of the recording `t`
 abbrev pub DecidesText : List ℕ → Trace → Answer → Type 0
 DecidesText text t answer =
     (candidate : Listed) × (is_well_placed candidate ≡ true) × (text_of candidate ≡ text)

@@ -1,4 +1,4 @@
--- The rows of a recording, stretch by stretch, and how far they are followed behind an instant.
+-- The rows of a recording, stretch by stretch, and how far a checker has followed them after an instant.
 use Rattle.std.specs.Prelude.{◌≡◌, ℕ, ◌+◌, ◌*◌, ◌<◌, ◌≤◌, ◌&&◌, true, List, [], ◌∷◌, ◌++◌, Option, None, Some, nat_lt}
 use Rattle.std.specs.Prelude.{if◌then◌else◌}
 use Rattle.vme_cert.specs.Words.{Awaits, Break, Conforming, IsSpanOf, Levels, ListedVerdict, Reset, Row, Step, Stretch}
@@ -21,30 +21,30 @@ module _ (t : Trace) where
   abbrev pub reset_at : ℕ → List Row
   reset_at i = if is_reset_at t i && nat_lt i (last_instant t + 1) then Reset i ∷ [] else []
 
-  -- the rows from a stretch on, where this is its least break
+  -- the rows from `span` on, by its least break: without one `later` follows, with one the verdict
   abbrev pub rows_by : Stretch → Option Break → List Row → List Row
   rows_by span None later = rows_to t span span.end ++ (reset_at span.end ++ later)
   rows_by span (Some b) later = rows_to t span b.instant ++ Verdict (outcome_of (Some b)) ∷ []
 
-  -- the rows of stretches that follow one another, or else the verdict
+  -- the rows of the stretches in order, up to the verdict: it is `outcome` if there is no stretch
   abbrev pub rows_from : ListedVerdict → List Stretch → List Row
   rows_from outcome [] = Verdict outcome ∷ []
   rows_from outcome (span ∷ spans) = rows_by span (least_break t span all_rules) (rows_from Conforming spans)
 
-  -- these are the rows of the recording behind those that are done
+  -- `rows` are the rows of the recording after `done`
   abbrev pub AreRemainingRows : List Row → List Row → Type 0
   AreRemainingRows done rows = done ++ rows ≡ recorded_rows t
 
 module _ {Whole Source : Type 0} (gave : Whole → Source → List Row → Type 0) (is_over : Source → Type 0) (whole : Whole)
     (version : Version) (t : Trace) where
-  -- at an instant the next stretch is awaited
+  -- from instant `n` on the next stretch is awaited; `done` are the rows before it
   pub record IsWaiting (n : ℕ) (outcome : ListedVerdict) (rows : OpenRows Source) : Type 0 where
     pub awaits : Awaits t n
     pub done : List Row
     pub all : AreRemainingRows t done (rows_from t outcome (spans_after t n))
     pub rows_are : CanClose gave is_over whole version done rows
 
-  -- it may go on with a stretch of which no rule was broken so far
+  -- instant `n` is in the stretch from `start`, or is its end, and no rule was broken in it before `n`
   pub record IsInStretch (n : ℕ) (outcome : ListedVerdict) (rows : OpenRows Source) (state : State) : Type 0 where
     pub start : ℕ
     pub is : IsSpanOf t (span_from t start)
@@ -58,7 +58,7 @@ module _ {Whole Source : Type 0} (gave : Whole → Source → List Row → Type 
         (rows_from t Conforming (spans_after t (span_end t start + 1))))
     pub rows_are : Follows gave is_over whole version done t (span_from t start) n rows
 
-  -- all rows were started, but for the verdict
+  -- judging has ended: all rows but the verdict have started
   pub record IsEnded (outcome : ListedVerdict) (rows : OpenRows Source) : Type 0 where
     pub done : List Row
     pub all : AreRemainingRows t done (Verdict outcome ∷ [])
@@ -69,18 +69,18 @@ module _ {Whole Source : Type 0} (gave : Whole → Source → List Row → Type 
   IsPhase n outcome rows (InStretch state) = IsInStretch n outcome rows state
   IsPhase n outcome rows Ended = IsEnded outcome rows
 
-  -- the recording is followed up to an instant
+  -- the recording is followed up to the instant of the checker's bus
   pub record Checks (checker : Checker Source) : Type 0 where
     pub at : IsBusOf t checker.bus
     pub phase_is : IsPhase (checker.bus.instant + 1) checker.outcome checker.rows checker.phase
 
--- ---- what a check says of itself to those who make it step by step
+-- ---- what holds of a checker for its callers, who give it the steps one by one
 
 -- a recording before its first step
 abbrev pub at_opening : Levels → Trace
 at_opening levels = record { opening = levels; steps = [] }
 
--- the levels behind a recording
+-- the levels after the last step of a recording
 abbrev pub last_levels : Trace → Levels
 last_levels t = levels_after t.opening t.steps
 
@@ -89,20 +89,20 @@ pub record MayGoOn (recorded : Trace) (step : Step) : Type 0 where
   pub within : last_instant recorded < capture_limit
   pub sound : are_changes (last_levels recorded) 0 step.changes ≡ true
 
--- the steps of this recording were taken
+-- the checker has taken the steps of `recorded`
 pub record HasFollowed {Source : Type 0} (recorded : Trace) (checker : Checker Source) : Type 0 where
   pub instant : checker.bus.instant ≡ last_instant recorded
   pub levels : checker.bus.levels ≡ last_levels recorded
   -- at most four rows start at an instant: a stretch, a tenure, a cycle and a transfer
   pub few : checker.rows.compared.taken ≤ 4 * checker.bus.instant + 4
 
--- and the rows that were given are compared with those of the recording, however it goes on
+-- the checker has compared the given rows with those of each recording that continues `recorded`
 abbrev pub HasCompared : {Whole Source : Type 0} → (Whole → Source → List Row → Type 0) → (Source → Type 0) → Whole
     → Version → Trace → Checker Source → Type 0
 HasCompared gave is_over whole version recorded checker =
     (more : List Step) → Checks gave is_over whole version (with_steps recorded more) checker
 
--- the rows of a whole that a source gave, and what it says of others, decide of the rows of a recording
+-- `answer` is right for the rows that the source gave of `whole`, compared with those of `recorded`
 abbrev pub HasDecided : {Whole Source : Type 0} → (Whole → Source → List Row → Type 0) → (Source → Type 0) → Whole
     → Version → Trace → Source → Answer → Type 0
 HasDecided gave is_over whole version recorded source answer =

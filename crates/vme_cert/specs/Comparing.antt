@@ -9,16 +9,16 @@ use Rattle.vme_cert.specs.declared.compare.Answer.TheVariants.{Yes, No}
 use Rattle.vme_cert.specs.declared.comparison.Comparison.{Comparison}
 use Rattle.vme_cert.specs.declared.comparison.OpenRow.{OpenRow}
 
--- the place is that of a row, if there is one
+-- `n` is the place of the open row, if there is one
 abbrev pub is_at : Option OpenRow → ℕ → Bool
 is_at None n = false
 is_at (Some row) n = n == row.place
 
--- the open ones without one of them, if there is one
+-- the places that are in `still` without that of `row`, if there is one
 abbrev pub spares : (ℕ → Bool) → Option OpenRow → ℕ → Bool
 spares still row n = still n && not (is_at row n)
 
--- how far nothing differs, where this is the least that does, from 1
+-- how many rows come before the least that differs, which is counted from 1: all `taken` if none differs
 abbrev pub same_to : ℕ → Option ℕ → ℕ
 same_to taken None = taken
 same_to taken (Some row) = row - 1
@@ -31,29 +31,30 @@ module _ (given right : List Row) where
   Differs taken None = Unit {0}
   Differs taken (Some row) = (1 ≤ row) × (row ≤ taken) × (IsSame (row - 1) → ⊥)
 
-  -- of those that were taken, all but the open ones were compared, and this is the least that differs
+  -- of the first `taken` rows all but those at the places in `still` were compared, and `wrong` is the least that
+  -- differs, counted from 1
   pub record IsCompared (taken : ℕ) (still : ℕ → Bool) (wrong : Option ℕ) : Type 0 where
     pub same : (n : ℕ) → n < same_to taken wrong → still n ≡ false → IsSame n
     pub differs : Differs taken wrong
 
-  -- one that was taken, and with this edge is the right one at its place
+  -- the open row was taken, and with `edge` it is the right one at its place
   abbrev pub IsDue : ℕ → Option ℕ → Option OpenRow → Type 0
   IsDue taken edge None = Unit {0}
   IsDue taken edge (Some row) = (row.place < taken) × (row.given ≡ slice_get given row.place)
       × (slice_get right row.place ≡ Some (ended row.right edge))
 
--- what more was given stands behind
+-- `more` has the same first `taken` rows as `given`
 abbrev pub Extends : List Row → List Row → ℕ → Type 0
 Extends given more taken = (n : ℕ) → n < taken → slice_get more n ≡ slice_get given n
 
 module _ {Whole Source : Type 0} (gave : Whole → Source → List Row → Type 0) (is_over : Source → Type 0)
     (whole : Whole) where
-  -- these were given, and as many as were taken, or no more are given
+  -- the source gave the rows in `given`: `taken` rows, or, if it is over, at most `taken`
   pub record IsGiven (given : List Row) (source : Source) (taken : ℕ) : Type 0 where
     pub gave_is : gave whole source given
     pub count : (length given ≡ taken) ⊎ (is_over source × (length given ≤ taken))
 
-  -- and one more, if there is one
+  -- the source was asked once more: `row` is what it gave at place `taken`, if it gave a row
   pub record IsGivenNext (given : List Row) (row : Option Row) (source : Source) (taken : ℕ) : Type 0 where
     pub more : List Row
     pub is_given : IsGiven more source (taken + 1)
@@ -61,7 +62,7 @@ module _ {Whole Source : Type 0} (gave : Whole → Source → List Row → Type 
     pub given_is : row ≡ slice_get more taken
 
 module _ {Whole Source : Type 0} (gave : Whole → Source → List Row → Type 0) (is_over : Source → Type 0) where
-  -- the next right row has started, and the next given one was taken
+  -- `right` has started as the open row `row`, and the next given row was taken
   pub record IsBegun (right : Row) (old new : Comparison Source) (row : OpenRow) : Type 0 where
     pub version : new.version ≡ old.version
     pub wrong : new.wrong ≡ old.wrong
@@ -71,7 +72,7 @@ module _ {Whole Source : Type 0} (gave : Whole → Source → List Row → Type 
     pub given : (whole : Whole) (given : List Row) → IsGiven gave is_over whole given old.source old.taken
         → IsGivenNext gave is_over whole given row.given new.source old.taken
 
--- a row was compared, if there was one
+-- `row`, if there is one, was compared with `edge` as its last edge
 pub record HasComparedRow {Source : Type 0} (row : Option OpenRow) (edge : Option ℕ) (old new : Comparison Source)
     : Type 0 where
   pub source : new.source ≡ old.source
@@ -81,7 +82,7 @@ pub record HasComparedRow {Source : Type 0} (row : Option OpenRow) (edge : Optio
       → IsDue given right old.taken edge row → IsCompared given right old.taken (spares still row) new.wrong
 
 module _ {Source : Type 0} (is_over : Source → Type 0) where
-  -- the answer to the rows that were given, whatever is given behind them
+  -- `answer` is right for the rows in `given` and all that the source gives after them
   abbrev pub Decides : List Row → List Row → Source → Answer → Type 0
   Decides given right source Yes = (given ≡ right) × is_over source
   Decides given right source (No row) = DiffersAt given right row × ((row ≤ length given) ⊎ is_over source)

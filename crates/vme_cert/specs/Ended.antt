@@ -1,8 +1,8 @@
--- A row but for its last edge.
+-- A row with another last edge.
 use Rattle.std.specs.Prelude.{ℕ, Option}
 use Rattle.vme_cert.specs.Words.{AddressedCycle, FreeCycle, InterruptCycle, OpenTenure, Row, Tenure, Transfer}
 
--- a row with its end or its close
+-- the row with `edge` as its end or its close; a row of another kind stays as it is
 abbrev pub ended : Row → Option ℕ → Row
 ended (OpenTenure start end) edge = OpenTenure start edge
 ended (Tenure start level slot end) edge = Tenure start level slot edge

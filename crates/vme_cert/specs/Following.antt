@@ -1,4 +1,4 @@
--- The rows of a stretch that have started, and those of them whose edge is to come.
+-- The rows of a stretch that have started, and those of them that are open: their last edge is to come.
 use Rattle.std.specs.Prelude.{◌≡◌, ℕ, ◌+◌, ◌-◌, ◌<◌, ◌≤◌, ◌||◌, Bool, true, false, List, ◌∷◌, ◌++◌, length, slice_get}
 use Rattle.std.specs.Prelude.{Option, None, Some}
 use Rattle.vme_cert.specs.Words.{AS, BBSY, IsSpanOf, Row, Start, Stretch, Trace, Version, answers, any, cycle_rows}
@@ -11,7 +11,7 @@ use Rattle.vme_cert.specs.declared.bus.Bus.{Bus}
 use Rattle.vme_cert.specs.declared.comparison.OpenRow.{OpenRow}
 use Rattle.vme_cert.specs.declared.open_rows.OpenRows.{OpenRows}
 
--- the rows of a stretch up to an end
+-- the rows of a stretch, where `end` is the first instant that isn't listed
 abbrev pub rows_to : Trace → Stretch → ℕ → List Row
 rows_to t span end = Start span.start ∷ rows_before t span end end
 
@@ -21,6 +21,7 @@ pub record IsInStretch (t : Trace) (span : Stretch) (bus : Bus) : Type 0 where
   pub is : IsSpanOf t span
   pub judged : is_judged span bus.instant ≡ true
 
+-- place `n` is that of an open row
 abbrev pub is_open : {Source : Type 0} → OpenRows Source → ℕ → Bool
 is_open rows n = is_at rows.tenure n || is_at rows.cycle n || is_at rows.transfer n
 
@@ -30,7 +31,7 @@ pub record NoneIsOpen {Source : Type 0} (rows : OpenRows Source) : Type 0 where
   pub cycle : rows.cycle ≡ None
   pub transfer : rows.transfer ≡ None
 
--- it was taken when these were given and as many were taken
+-- the open row is one of the first `taken` rows, and has what `given` has at its place
 pub record IsTaken (given : List Row) (taken : ℕ) (row : OpenRow) : Type 0 where
   pub below : row.place < taken
   pub given_is : row.given ≡ slice_get given row.place
@@ -39,34 +40,35 @@ abbrev pub IsTakenAt : List Row → ℕ → Option OpenRow → Type 0
 IsTakenAt given taken None = Unit {0}
 IsTakenAt given taken (Some row) = IsTaken given taken row
 
--- each open one was
+-- each open row is one of the first `taken` rows, and has what `given` has at its place
 pub record AreAtPlaces {Source : Type 0} (given : List Row) (taken : ℕ) (rows : OpenRows Source) : Type 0 where
   pub tenure : IsTakenAt given taken rows.tenure
   pub cycle : IsTakenAt given taken rows.cycle
   pub transfer : IsTakenAt given taken rows.transfer
 
--- the rows that are given in a version, where the right ones of earlier stretches are done, and those of a stretch
--- follow
+-- the right rows in a version: `done`, those of earlier stretches, and then those of `span`
 module _ (version : Version) (done : List Row) (t : Trace) (span : Stretch) where
-  -- the right ones, where end is the first instant that isn't listed
+  -- the right rows, where `end` is the first instant that isn't listed
   abbrev pub right_to : ℕ → List Row
   right_to end = rows_in version (done ++ rows_to t span end)
 
-  -- how many of them start before an instant; with its tenure; and with its cycle
+  -- how many right rows start before instant `j`
   abbrev pub count_before : ℕ → ℕ
   count_before j = length done + 1 + length (rows_before t span j j)
 
+  -- how many right rows start before instant `j`, and with them the tenure that starts at `j`
   abbrev pub count_with_tenure : ℕ → ℕ
   count_with_tenure j = count_before j + length (tenure_rows t span j j)
 
+  -- how many right rows start before instant `j`, and with them the tenure and the cycle that start at `j`
   abbrev pub count_with_cycle : ℕ → ℕ
   count_with_cycle j = count_with_tenure j + length (cycle_rows t span j j)
 
-  -- the right row at a place, by the end, from a first one on
+  -- for each end from `first` on, the right row at `place` is `row end`
   abbrev pub IsRight : ℕ → ℕ → (ℕ → Row) → Type 0
   IsRight first place row = (end : ℕ) → first ≤ end → end ≤ span.end → slice_get (right_to end) place ≡ Some (row end)
 
-  -- a row that ends where a line rises, which it doesn't before an instant
+  -- an open row that ends where line `l` rises, which it hasn't done before instant `j`
   pub record IsOpen (l j : ℕ) (row : OpenRow) : Type 0 where
     pub start : ℕ
     pub before : start < j
@@ -78,8 +80,9 @@ module _ (version : Version) (done : List Row) (t : Trace) (span : Stretch) wher
   IsOpenAt l j None = Unit {0}
   IsOpenAt l j (Some row) = IsOpen l j row
 
-  -- the row of the last transfer to start before one instant, with its answer before a second, which isn't closed
-  -- before a third: what it is by the end, and what is known of it so far, but for its close
+  -- the open row of the last transfer to start before `opened`, which hasn't closed before `closed`: `right` is its
+  -- right row for each end; `known` is the row so far, but for its close, with the answer if that came before
+  -- `answered`
   pub record IsTransferRow (opened answered closed : ℕ) (row : OpenRow) : Type 0 where
     pub start : ℕ
     pub last : greatest (transfer_starts t span) (span.start + 1) opened ≡ Some start
@@ -95,7 +98,8 @@ module _ (version : Version) (done : List Row) (t : Trace) (span : Stretch) wher
 
 module _ {Whole Source : Type 0} (gave : Whole → Source → List Row → Type 0) (is_over : Source → Type 0) (whole : Whole)
     (version : Version) where
-  -- as many were taken as these right rows are, and all but the open ones were compared, which have no edges any more
+  -- as many rows were taken as `rights` has, all but the open ones were compared, and these are right without a last
+  -- edge
   pub record CanClose (rights : List Row) (rows : OpenRows Source) : Type 0 where
     pub version_is : rows.compared.version ≡ version
     pub taken_is : rows.compared.taken ≡ length rights
@@ -107,7 +111,7 @@ module _ {Whole Source : Type 0} (gave : Whole → Source → List Row → Type 
     pub transfer : IsDue given (rows_in version rights) rows.compared.taken None rows.transfer
 
   module _ (done : List Row) (t : Trace) (span : Stretch) where
-    -- so many were taken, and all but the open ones were compared, whatever the end is from a first one on
+    -- `taken` rows were taken, and all but the open ones were compared, for each end from `first` on
     pub record AreTaken (first taken : ℕ) (rows : OpenRows Source) : Type 0 where
       pub version_is : rows.compared.version ≡ version
       pub taken_is : rows.compared.taken ≡ taken
@@ -117,34 +121,38 @@ module _ {Whole Source : Type 0} (gave : Whole → Source → List Row → Type 
           → IsCompared given (right_to version done t span end) rows.compared.taken (is_open rows) rows.compared.wrong
       pub placed : AreAtPlaces given rows.compared.taken rows
 
-    -- and these are open: by instants before which a tenure and a cycle haven't ended, and a transfer has started, is
-    -- answered, and hasn't closed
+    -- `AreTaken`, and what is open: a tenure that hasn't ended before `tenures`, a cycle that hasn't before `cycles`,
+    -- and a transfer that started before `opened`, with its answer before `answered`, and hasn't closed before `closed`
     pub record AreOpen (first taken tenures cycles opened answered closed : ℕ) (rows : OpenRows Source) : Type 0 where
       pub are_taken : AreTaken first taken rows
       pub tenure : IsOpenAt version done t span BBSY tenures rows.tenure
       pub cycle : IsOpenAt version done t span AS cycles rows.cycle
       pub transfer : IsTransferAt version done t span opened answered closed rows.transfer
 
-    -- the rows that start before an instant
+    -- the rows are followed that start before instant `j`
     abbrev pub Follows : ℕ → OpenRows Source → Type 0
     Follows j rows = AreOpen j (count_before version done t span j) j j j j j rows
 
-    -- with those that start there, and those that end: step by step
+    -- a tenure that starts or ends at `j` is followed too
     abbrev pub WithTenure : ℕ → OpenRows Source → Type 0
     WithTenure j rows = AreOpen (j + 1) (count_with_tenure version done t span j) (j + 1) j j j j rows
 
+    -- a cycle that starts or ends at `j` is followed too
     abbrev pub WithCycle : ℕ → OpenRows Source → Type 0
     WithCycle j rows = AreOpen (j + 1) (count_with_cycle version done t span j) (j + 1) (j + 1) j j j rows
 
+    -- a transfer that starts at `j` is followed too
     abbrev pub WithTransfer : ℕ → OpenRows Source → Type 0
     WithTransfer j rows =
         AreOpen (j + 1) (count_before version done t span (j + 1)) (j + 1) (j + 1) (j + 1) j j rows
 
+    -- an answer at `j` is followed too
     abbrev pub WithAnswer : ℕ → OpenRows Source → Type 0
     WithAnswer j rows =
         AreOpen (j + 1) (count_before version done t span (j + 1)) (j + 1) (j + 1) (j + 1) (j + 1) j rows
 
--- at an instant of a stretch the open rows come from one of these to the next, whatever was recorded, done and given
+-- at a judged instant of a stretch, if `Before` holds of `old` then `After` holds of `new`, whatever was recorded,
+-- done and given
 abbrev pub LeadsOn : {Whole Source : Type 0} → Bus → OpenRows Source → OpenRows Source
     → (Whole → Version → List Row → Trace → Stretch → ℕ → OpenRows Source → Type 0)
     → (Whole → Version → List Row → Trace → Stretch → ℕ → OpenRows Source → Type 0) → Type 0

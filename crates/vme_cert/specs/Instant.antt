@@ -1,11 +1,11 @@
--- The levels that are kept of a recording, and what is seen by them at an instant: whether a transfer starts, the
--- changes that lead there, and a break by its rule and line.
+-- The levels that a `Bus` keeps of a recording: whether a transfer starts by them, and the changes that lead to them.
+-- Also a break by its rule and line.
 use Rattle.std.specs.Prelude.{◌≡◌, ℕ, Bool, ◌-◌, ◌&&◌, ◌||◌, true, List, Option, option_map}
 use Rattle.vme_cert.specs.Words.{Break, Change, DS0, DS1, Rule, Trace, are_changes, changed, levels_at, low}
 use Rattle.vme_cert.specs.Words.{strobes_high}
 use Rattle.vme_cert.specs.declared.bus.Bus.{Bus}
 
--- they are those of the recording at the instant and at the one before
+-- the levels of the bus are those of the recording at its instant and at the one before
 pub record IsBusOf (t : Trace) (bus : Bus) : Type 0 where
   pub before : bus.before ≡ levels_at t (bus.instant - 1)
   pub levels : bus.levels ≡ levels_at t bus.instant

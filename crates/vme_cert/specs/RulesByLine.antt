@@ -1,4 +1,4 @@
--- Which rules a line may break.
+-- Which rules may be broken on a line.
 use Rattle.std.specs.Prelude.{ℕ, Bool, true, false, ◌==◌, ◌&&◌, nat_le, nat_lt, List, [], ◌∷◌, if◌then◌else◌}
 use Rattle.vme_cert.specs.Words.{A, AS, B1, B2, B3, B4, BBSY, BERR, C1, C2, D, DS1, G1, G2, G3, G4, G5, H1, H2, H3, H4}
 use Rattle.vme_cert.specs.Words.{H5, H6, H7, H8, I1, I2, I3, I4, I5, IACK, Rule, S1, S2, S3, U1, U2, U3, U4, WRITE}
@@ -19,7 +19,7 @@ rules_on l =
     else if nat_le l (D 31) then U4 ∷ S3 ∷ []
     else []
 
--- the same by the rule, and the lines by their kinds
+-- the rule may be broken on the line at a judged instant: as `rules_on`, but by the rule, and the lines by their kinds
 abbrev pub speaks_of : Rule → ℕ → Bool
 speaks_of U1 l = false
 speaks_of U2 l = nat_le IACK l && nat_le l (A 31)

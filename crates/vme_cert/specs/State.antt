@@ -1,5 +1,5 @@
--- What the state of a stretch says: of the cycles and transfers that started before one instant, and of what happened
--- before another, which is the same or the one before it.
+-- What the state of a stretch says: of the cycles and transfers that started before instant `opened`, and of what
+-- happened before instant `j`, which is `opened` or the one before it.
 use Rattle.std.specs.Prelude.{◌≡◌, ℕ, ◌+◌, ◌-◌, ◌<◌, ◌&&◌, Bool, true, false, get_or, List, [], ◌∷◌, None, Some, not}
 use Rattle.std.specs.Prelude.{nat_lt}
 use Rattle.vme_cert.specs.Words.{AS, BBSY, BERR, BR, DTACK, IsSpanOf, Stretch, Trace, answers_of, answers_write, any}
@@ -29,7 +29,7 @@ module _ (t : Trace) (span : Stretch) where
   abbrev pub is_acknowledged : ℕ → ℕ → Bool
   is_acknowledged i j = any (λ r. is_answer t span r && falls t DTACK r) i j
 
-  -- the last cycle to start
+  -- `c` is the last cycle to start before `opened`, as it is before `j`
   pub record IsLastCycle (opened j : ℕ) (c : Cycle) : Type 0 where
     pub last : greatest (cycle_starts t span) (span.start + 1) opened ≡ Some c.start
     pub class : c.class ≡ class_at t span c.start
@@ -38,18 +38,18 @@ module _ (t : Trace) (span : Stretch) where
     -- while it runs AS* is low, so none starts; and each earlier one has ended
     pub is_low : c.runs ≡ true → c.start < j → low t AS (j - 1) ≡ true
     pub others : (i : ℕ) → cycle_starts t span i ≡ true → i < c.start → none (rises t AS) (i + 1) j ≡ false
-    -- of its answers there is one, by which another would come later; what the first is; and there are more
+    -- its answers before `j`: there is one, the first is that of a write, there are two or more, one is by DTACK*
     pub answered : c.answered ≡ has_earlier_answer (answers_of t span c.start j)
     pub first_writes : c.first_writes ≡ writes_first (answers_of t span c.start j)
     pub answered_again : c.answered_again ≡ is_many (answers_of t span c.start j)
     pub acknowledged : c.acknowledged ≡ is_acknowledged c.start j
 
-  -- it is the last, or none has started
+  -- `c` is the last cycle to start, or none has started
   pub record IsCycle (opened j : ℕ) (c : Cycle) : Type 0 where
     pub here : c.has_started ≡ true → IsLastCycle opened j c
     pub absent : c.has_started ≡ false → greatest (cycle_starts t span) (span.start + 1) opened ≡ None
 
-  -- the last transfer to start, which hasn't closed
+  -- `c` is the last transfer to start before `opened`, as it is before `j`, where it hasn't closed
   pub record IsOpenTransfer (opened j : ℕ) (c : Transfer) : Type 0 where
     pub last : greatest (transfer_starts t span) (span.start + 1) opened ≡ Some c.start
     pub still : none (strobes_high t) (c.start + 1) j ≡ true
@@ -57,26 +57,27 @@ module _ (t : Trace) (span : Stretch) where
     pub answered : c.answered ≡ is_answered t span c.start j
     pub rose : c.rose ≡ any (strobe_rises t) (c.start + 1) j
 
+  -- each transfer that starts before `opened` has closed before `j`
   abbrev pub AreClosed : ℕ → ℕ → Type 0
   AreClosed opened j = (i : ℕ) → i < opened → transfer_starts t span i ≡ true → any (strobes_high t) (i + 1) j ≡ true
 
-  -- it is open, or each of them has closed
+  -- `c` is the open transfer, or each transfer has closed
   pub record IsTransfer (opened j : ℕ) (c : Transfer) : Type 0 where
     pub here : c.is_open ≡ true → IsOpenTransfer opened j c
     pub absent : c.is_open ≡ false → AreClosed opened j
 
-  -- a strobe rose since the line fell
+  -- before `j` a strobe rose since line `l` last fell, or since the start of the stretch if it hasn't fallen
   abbrev pub is_freed : ℕ → ℕ → Bool
   is_freed l j = any (strobe_rises t) (last_before t span (falls t l) j) j
 
-  -- the level was requested since the last grant
+  -- before `j` level `n` was requested since the last grant, or since the start of the stretch if there was none
   abbrev pub is_requested : ℕ → ℕ → Bool
   is_requested n j = any (low t (BR n)) (last_before t span (grant_falls t) j) j
 
   abbrev pub AreRequested : ℕ → List Bool → Type 0
   AreRequested j levels = (n : ℕ) → n < 4 → get_or levels n false ≡ is_requested n j
 
-  -- a grant came since the bus became busy
+  -- before `j` a grant came after the bus last became busy, or after the start of the stretch if it hasn't
   abbrev pub is_granted : ℕ → Bool
   is_granted j = any (grant_falls t) (last_before t span (falls t BBSY) j + 1) j
 
@@ -88,8 +89,8 @@ module _ (t : Trace) (span : Stretch) where
     pub requested : AreRequested j state.requested
     pub granted : state.granted ≡ is_granted j
 
--- the bus is at a judged instant of a stretch, and the state is that of the instants before it, but for the cycle and
--- the transfer that start there
+-- the bus is at a judged instant of a stretch, and the state is that of the instants before it, with the cycle and the
+-- transfer that start there
 pub record IsStateOf (t : Trace) (span : Stretch) (bus : Bus) (state : State) : Type 0 where
   pub at : IsBusOf t bus
   pub is : IsSpanOf t span
@@ -98,17 +99,17 @@ pub record IsStateOf (t : Trace) (span : Stretch) (bus : Bus) (state : State) : 
 
 -- ---- What rules ask of the transfer of an instant.
 
--- this is the answer, of whatever recording and stretch the levels and the state are
+-- `answer` is the condition at the instant, for each recording and stretch that the levels and the state are of
 abbrev pub DecidesCondition : Bus → State → Bool → (Trace → Stretch → ℕ → Bool) → Type 0
 DecidesCondition bus state answer condition = (t : Trace) (span : Stretch) → IsStateOf t span bus state
     → answer ≡ condition t span bus.instant
 
 module _ (t : Trace) (span : Stretch) where
-  -- it started before, and isn't answered by then
+  -- the transfer of instant `j` started before it, and isn't answered up to it
   abbrev pub is_unanswered : ℕ → Bool
   is_unanswered j = in_transfer t span (λ i. nat_lt i j && not (is_answered t span i (j + 1))) j
 
-  -- it is a write that started before, isn't answered by then, and no strobe rose since
+  -- the transfer of instant `j` is a write that started before it, isn't answered up to it, and no strobe rose since
   abbrev pub is_data_held : ℕ → Bool
   is_data_held j =
       in_transfer t span (λ i. nat_lt i j && is_write t span i && not (is_answered t span i (j + 1))

@@ -1,5 +1,5 @@
--- The words of recordings and of listings, by the modules that define them. What is unfoldable is a name that a proof
--- opens where it says so; each other one stands for what it means.
+-- The words of recordings and of listings, by the modules that define them. A proof unfolds an unfoldable name only
+-- where it says so; each other name is the same as its definition.
 
 pub use Rattle.vme_trace.specs.Changes.{is_changed, lost_among}
 unfoldable pub use Rattle.vme_trace.specs.Cycle.{class_of, highest_address, is_needed, modifier_of, needs_of}

@@ -1,5 +1,5 @@
 //! The levels at an instant and at the one before.
-// `shown` stands for what a line shows: to open it is to open `low`, `falls` and the like.
+// `shown` is one name for all that a line shows: to unfold it is to unfold `low`, `falls` and the like.
 #![tactic(auto, unfolding(crate::proofs::Instant::shown))]
 
 ghost use Rattle.std.specs.Prelude.{◌≡◌, ◌+◌, ◌-◌, ◌<◌, ◌≤◌, not, IsTrue, IfSome, unwrap_or};
@@ -25,7 +25,7 @@ pub(crate) struct Bus {
 impl Bus {
     ghost use Rattle.vme_cert.specs.Instant.{IsBusOf};
 
-    /// At the opening of a recording.
+    /// The bus at the opening of a recording, whose levels are `lines`.
     #[tactic(auto, unfolding(vme_trace::specs::Trace::levels_at))]
     pub(crate) fn opening(lines: &Lines) -> Bus
         ensures at { (t : Trace) → t.opening ≡ lines.now → IsBusOf t result }
@@ -38,7 +38,7 @@ impl Bus {
         }
     }
 
-    /// Goes on to the next instant.
+    /// Advances to the next instant.
     pub(crate) fn advance(&mut self, changes: &[Change])
         requires { self.old.instant < capture_limit }
         ensures instant { self.new.instant ≡ self.old.instant + 1 }
@@ -173,8 +173,8 @@ impl Bus {
             | self.low(Line::grant(3, 0))
     }
 
-    /// The levels as the arbiter grants, or else those of the instant before: whose grant a tenure takes that starts
-    /// here.
+    /// The levels with the grant that is taken by a tenure that starts here: those of the instant if the arbiter grants
+    /// there, else those of the instant before.
     #[tactic(auto, using(crate::proofs::Instant::grants))]
     fn granted(&self) -> &Lines
         ensures { (t : Trace) → IsBusOf t self.now → result.now ≡ levels_at t (taken_grant t self.now.instant) }
@@ -186,7 +186,7 @@ impl Bus {
         }
     }
 
-    /// The level by which a tenure that starts here has its grant, 0 to 3.
+    /// The level, 0 to 3, of the grant that is taken by a tenure that starts here. `None` if no level is granted.
     pub(crate) fn tenure_level(&self) -> Option<u8>
         ensures level { (t : Trace) → IsBusOf t self.now → result ≡ tenure_level t self.now.instant }
         ensures below { IfSome result (λ level. level < 4) }
@@ -194,7 +194,8 @@ impl Bus {
         granted_level(self.granted())
     }
 
-    /// The slot that takes its grant, counted from 1: the chain is low up to that slot's input.
+    /// The slot, counted from 1, that takes the grant of a tenure that starts here: the chain is low up to that slot's
+    /// input.
     pub(crate) fn tenure_slot(&self) -> Option<u8>
         ensures { (t : Trace) → IsBusOf t self.now → result ≡ tenure_slot t self.now.instant }
     {
@@ -203,7 +204,7 @@ impl Bus {
     }
 }
 
-/// The least level that the arbiter grants at these levels of the lines.
+/// The least of the four request levels that the arbiter grants in `lines`.
 fn granted_level(lines: &Lines) -> Option<u8>
     ensures level { result ≡ least (λ n. is_low (level_at lines.now (grant n 0))) 0 4 }
     ensures below { IfSome result (λ level. level < 4) }
@@ -216,7 +217,8 @@ fn granted_level(lines: &Lines) -> Option<u8>
     Some(level as u8)
 }
 
-/// The slot that drives the first net of the chain of a level that isn't low, or the one behind the last.
+/// The slot that drives the first net that isn't low in the grant chain of `level`. If all nets are low, the number
+/// of slots plus 1.
 fn granted_slot(lines: &Lines, level: u8) -> u8
     requires { level < 4 }
     ensures { result ≡ unwrap_or (least (λ k. not (is_low (level_at lines.now (grant level k)))) 0

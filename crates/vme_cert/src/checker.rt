@@ -1,4 +1,5 @@
-//! The stretches of a recording, step by step: from an idle instant to a reset, a lost line or a break.
+//! The stretches of a recording, step by step: from an idle instant to a reset, a lost line or a break (a violation of
+//! a rule).
 
 ghost use Rattle.std.specs.Prelude.{◌≡◌, ◌+◌, ◌*◌, ◌<◌, ◌≤◌, List, [], ◌∷◌, true, if◌then◌else◌};
 ghost use Rattle.vme_cert.specs.Words.{Broken, Row, Trace, Unreadable, Version, is_unreadable, last_instant};
@@ -16,16 +17,16 @@ use vme_trace::{Change, Line, Lines, Rule, Step};
 /// What is judged at an instant.
 #[derive(Clone, Copy)]
 enum CheckPhase {
-    /// Nothing so far since the opening or the last reset.
+    /// No stretch has started since the opening or the last reset.
     Waiting,
-    /// A stretch, of which the state is known.
+    /// A stretch, with its state so far.
     InStretch(State),
-    /// Nothing any more: a rule was broken.
+    /// Judging has ended: a rule was broken.
     Ended,
 }
 
-/// A check of the rows of a listing against a recording, whose steps are taken one by one. What it has come to is
-/// `HasFollowed` and `HasCompared`, in `specs/Checking.antt`.
+/// A check of the rows of a listing against a recording, whose steps are taken one by one. What it has done so far
+/// is said by `HasFollowed` and `HasCompared`, in `specs/Checking.antt`.
 #[derive(Drop)]
 pub struct Checker<S: RowSource> {
     bus: Bus,
@@ -42,7 +43,7 @@ impl<S: RowSource> Checker<S> {
     ghost use Rattle.vme_cert.specs.Checking.{at_opening};
     ghost use Rattle.vme_cert.specs.declared.checker.CheckPhase.TheVariants.{Ended, Waiting};
 
-    /// At the opening: of the rows none was given, and they are to be in this version.
+    /// The checker at the opening of a recording. No row of `source` was taken. The rows are expected in `version`.
     pub fn new(opening: &Lines, version: Version, source: S) -> Checker<S>
         ensures taken { HasFollowed (at_opening opening.now) result }
         ensures compared { (whole : S.Whole) → S.gave whole source []
@@ -58,7 +59,7 @@ impl<S: RowSource> Checker<S> {
         checker
     }
 
-    /// Begins a stretch, where the bus is idle.
+    /// Begins a stretch, if the bus is idle.
     fn begin_where_idle(&mut self)
         requires waits { self.old.phase ≡ Waiting }
         requires few { self.old.rows.compared.taken ≤ 4 * self.old.bus.instant }
@@ -77,7 +78,7 @@ impl<S: RowSource> Checker<S> {
         self.outcome = ListedVerdict::Conforming;
     }
 
-    /// Ends with a break: what is open has no edges any more.
+    /// Ends judging, as `rule` is broken on `line`. Open rows get no last edge.
     fn end(&mut self, rule: Rule, line: Line)
         ensures bus { self.new.bus ≡ self.old.bus }
         ensures rows { self.new.rows ≡ self.old.rows }
@@ -143,7 +144,7 @@ impl<S: RowSource> Checker<S> {
         }
     }
 
-    /// What the rows say, where the recording is whole; and what they come from.
+    /// The answer, once all steps of the recording were taken; and the source of the rows.
     pub fn finish(self) -> (Answer, S)
         requires { (recorded : Trace) × HasFollowed recorded self }
         ensures { (whole : S.Whole) (version : Version) (recorded : Trace) → HasFollowed recorded self
@@ -155,7 +156,7 @@ impl<S: RowSource> Checker<S> {
         rows.compared.finish()
     }
 
-    /// What the rows come from, where nothing is to be said of them.
+    /// The source of the rows, where no answer is needed.
     pub fn into_source(self) -> S
         ensures { (whole : S.Whole) (version : Version) (recorded : Trace) → HasFollowed recorded self
             → HasCompared S.gave S.is_over whole version recorded self

@@ -20,12 +20,13 @@ pub enum Answer {
     Yes,
     /// It isn't.
     No {
-        /// The first row that differs, from 1; one past the shorter where one of the two is a front of the other.
+        /// The first row that differs, counted from 1. If one of the two lists is a prefix of the other, its length
+        /// plus 1.
         row: usize,
     },
 }
 
-/// Whether rows that are given one by one are those of the listing of a capture in a version; and what they come from.
+/// Whether the rows that `source` gives are those of the listing of `capture` in `version`; and the source.
 fn check<S: RowSource>(capture: &Capture, version: Version, source: S) -> (Answer, S)
     ensures { (whole : S.Whole) → S.gave whole source [] → (more : List Row) × S.gave whole result.1 more
         × Decides S.is_over more (rows_in version (recorded_rows capture.now)) result.1 result.0 }
@@ -37,8 +38,8 @@ fn check<S: RowSource>(capture: &Capture, version: Version, source: S) -> (Answe
     checker.finish()
 }
 
-/// Whether a listing is the one of a capture in its version, by the definitions alone. If not, the first row that
-/// differs. The only error of the type is want of memory, and nothing takes memory.
+/// Whether `listing` is that of `capture` in the listing's version, by the definitions alone. If not, the first row
+/// that differs. The only error of the type is want of memory, and nothing takes memory.
 pub fn confirm(alloc: Global, capture: &Capture, listing: &Listing) -> Result<Answer, AllocError>
     ensures { IfOk result (λ answer. DecidesListing listing.now.rows
         (rows_in listing.now.version (recorded_rows capture.now)) answer) }
@@ -51,8 +52,8 @@ pub fn confirm(alloc: Global, capture: &Capture, listing: &Listing) -> Result<An
     Ok(answer)
 }
 
-/// Whether a text is the one of the listing of a capture in its version. If not, the first row that differs, or the
-/// first fault of the text, which is read row by row.
+/// Whether `text` is that of the listing of `capture` in the text's version. If not, the first row that differs. The
+/// error is the first fault of the text, wherever it is. The text is read row by row.
 pub fn confirm_text(alloc: Global, capture: &Capture, text: &[u8]) -> Result<Answer, ListFault>
     ensures answer { IfOk result (λ answer. DecidesText text.now capture.now answer) }
     ensures first { IfErr result (λ fault. IsFirstFault text.now fault) }

@@ -1,4 +1,4 @@
-//! The given rows, taken one by one as the right ones start, and the least that differs.
+//! The given rows, taken one by one as the right ones start, and the least row that differs.
 
 ghost use Rattle.std.specs.Prelude.{◌≡◌, ◌<◌, ◌^◌, true, false, List, length, Some, None};
 ghost use Rattle.vme_cert.specs.Words.{Row};
@@ -8,7 +8,8 @@ use crate::compare::Answer;
 use crate::source::RowSource;
 use vme_listing::{Row, Version};
 
-/// A row that has started: its place, what is given there, and what it is but for the edge that is to come.
+/// A right row that has started: its place, counted from 0, the given row at that place, and the right row but for its
+/// last edge.
 #[derive(Clone, Copy)]
 pub(crate) struct OpenRow {
     pub(crate) place: usize,
@@ -17,19 +18,19 @@ pub(crate) struct OpenRow {
     ghost within: { place < 2 ^ 62 },
 }
 
-/// The rows that were taken of those that are given.
+/// The given rows, and what comparing those that were taken has shown.
 #[derive(Drop)]
 pub(crate) struct Comparison<S: RowSource> {
     pub(crate) source: S,
-    /// The version in which they are given.
+    /// The version in which the rows are given.
     pub(crate) version: Version,
     /// How many right rows have started.
     pub(crate) taken: usize,
-    /// The least of those that were compared and differ, from 1.
+    /// The least row that was compared and differs, counted from 1.
     pub(crate) wrong: Option<usize>,
 }
 
-/// A row with its end or its close.
+/// `row` with `edge` as its end or its close. A row of another kind stays as it is.
 fn ended(row: Row, edge: Option<u32>) -> Row
     ensures { result ≡ ended row edge }
 {
@@ -46,7 +47,7 @@ fn ended(row: Row, edge: Option<u32>) -> Row
     row
 }
 
-/// Whether two rows are one.
+/// Whether two rows are equal.
 fn is_same(given: &Row, row: &Row) -> bool
     ensures same { result ≡ true → given.now ≡ row.now }
     ensures other { result ≡ false → given.now ≡ row.now → ⊥ }
@@ -54,7 +55,7 @@ fn is_same(given: &Row, row: &Row) -> bool
     *given == *row
 }
 
-/// Whether what is given is a row.
+/// Whether `given` is `row`.
 fn is_given(given: Option<Row>, row: Row) -> bool
     ensures same { result ≡ true → given ≡ Some row }
     ensures other { result ≡ false → given ≡ Some row → ⊥ }
@@ -82,7 +83,7 @@ impl<S: RowSource> Comparison<S> {
         }
     }
 
-    /// Compares a row, if there is one, whose edge is here, or which has none.
+    /// Compares `row`, if there is one, with `edge` as its last edge.
     pub(crate) fn compare_row(&mut self, row: Option<OpenRow>, edge: Option<u32>)
         ensures { HasComparedRow row edge self.old self.new }
     {
@@ -98,7 +99,7 @@ impl<S: RowSource> Comparison<S> {
         };
     }
 
-    /// What the rows say, where no right one follows; and what they come from.
+    /// The answer, where no right row follows; and the source of the rows.
     pub(crate) fn finish(self) -> (Answer, S)
         requires { self.taken < 2 ^ 63 }
         ensures { (whole : S.Whole) (given rights : List Row)

@@ -1,14 +1,14 @@
-//! Checks that a listing is that of a recording, by the definitions alone, in one pass and with
-//! nothing kept.
+//! Checks that a listing is that of a recording, by the definitions alone, in one pass that keeps
+//! neither steps nor compared rows.
 //!
 //! # What is claimed
 //!
-//! [`confirm`] says yes exactly where the rows, the verdict's included, are those of the recording
-//! (`listing_of`), and else names the first row that differs: its contract is `DecidesListing`, in
-//! `specs/Agreement.antt`. [`confirm_text`] says the same of a text (`DecidesText`), or names its
-//! first fault. No monitor and no summary has a part in them. Both stand on [`Checker`], which takes
-//! a recording step by step and the rows from any [`RowSource`], such as a text that is read in
-//! pieces.
+//! [`confirm`] answers yes exactly where the rows, the verdict's included, are those of the
+//! recording (`listing_of`), and else names the first row that differs: its contract is
+//! `DecidesListing`, in `specs/Agreement.antt`. [`confirm_text`] does the same for a text
+//! (`DecidesText`), or names its first fault. Neither uses a monitor or a summary. Both use
+//! [`Checker`], which takes a recording step by step and the rows from any [`RowSource`], such as a
+//! text that is read in pieces.
 //!
 //! # What has to be trusted
 //!
@@ -18,23 +18,25 @@
 //! `Places.antt`, `RowText.antt` and `Reading.antt`: which text is that of a listing, and what the
 //! first fault of another one is). docs/PROTOCOL.md says the same in words.
 //!
-//! Stop here if you trust the prover: nothing in this crate is to be trusted, and its own `specs/`
+//! Stop here if you trust the prover: nothing in this crate needs your trust, and its own `specs/`
 //! and `proofs/` only lead from its code to those definitions.
 //!
 //! # How it works
 //!
-//! As a row starts, the next given row is taken and kept beside the right one, of which all is known
-//! but its last edge. As that edge comes, or can come no more, the two are compared whole. At most
-//! one tenure, one cycle and one transfer are open. Nothing stops at the first difference: the least
-//! row that differs is kept, and the pass goes on to the end or to the first break.
+//! A *right* row is one of the recording's own listing. As it starts, the next given row is taken
+//! and kept beside it. All of the right row is then known but its last edge, and a transfer's
+//! answer. When that edge comes, or can no longer come, the two rows are compared. At most one
+//! tenure, one cycle and one transfer are open. Nothing stops at the first difference: the least
+//! row that differs is kept, and the pass continues to the end or to the first break (the first
+//! violation of a rule).
 //!
 //! # In which order to read
 //!
 //! 1. The definitions named above, and `specs/Agreement.antt`. `specs/Words.antt` lists the words of
 //!    both crates that are used here.
 //! 2. `bus`: the levels at an instant and at the one before; `search`: the loop that it uses.
-//! 3. `state`: what has to be known of the instants before, each field by its definition
-//!    (`specs/State.antt`), and what is asked of it.
+//! 3. `state`: what the rules need of earlier instants, each field by its definition
+//!    (`specs/State.antt`), and the questions that it answers.
 //! 4. `rules`: each rule beside its definition, in the order of docs/PROTOCOL.md; which rules a line
 //!    may break; and the first that is broken.
 //! 5. `comparison` and `open_rows`: the given rows as they are taken, those that are open, and the
@@ -43,7 +45,7 @@
 //! 7. `checker`: stretches, from an idle instant to a reset, a lost line or a break.
 //! 8. `source` and `compare`: where the given rows come from, a listing or a text.
 //!
-//! The lemmas of `proofs/` stand in the same order: `Ranges` and `Instant` for the levels, `Fields`
+//! The modules of `proofs/` have the same order: `Ranges` and `Instant` for the levels, `Fields`
 //! for the state and what rules ask of it, `Breaks` for the rules, `Comparing`, `Placing` and
 //! `Following` for the rows, `Checking` for the stretches.
 //!

@@ -7,7 +7,7 @@ use crate::comparison::{Comparison, OpenRow};
 use crate::source::RowSource;
 use vme_listing::{Row, Version};
 
-/// The rows of a stretch that have started, and those of them whose edge is to come.
+/// The comparison of all rows so far, and the rows that are open: their last edge is to come.
 #[derive(Drop)]
 pub(crate) struct OpenRows<S: RowSource> {
     pub(crate) compared: Comparison<S>,
@@ -20,7 +20,7 @@ impl<S: RowSource> OpenRows<S> {
     ghost use Rattle.vme_cert.specs.Ended.{ended};
     ghost use Rattle.vme_cert.specs.Following.{CanClose, NoneIsOpen};
 
-    /// None has started.
+    /// The rows before any has started.
     pub(crate) fn new(version: Version, source: S) -> OpenRows<S>
         ensures rows { (whole : S.Whole) → S.gave whole source []
             → CanClose S.gave S.is_over whole version [] result }
@@ -39,8 +39,8 @@ impl<S: RowSource> OpenRows<S> {
         }
     }
 
-    /// Compares what is open, which has no edges any more, and then the next right row, which has none: the start of a
-    /// stretch, a reset, or the verdict.
+    /// Compares the open rows, without a last edge, and then `row`, the next right row, which has no edge: the start of
+    /// a stretch, a reset, or the verdict.
     pub(crate) fn close_before(&mut self, row: Row)
         requires { self.old.compared.taken < 2 ^ 62 }
         ensures rows { (whole : S.Whole) (version : Version) (rights : List Row) → ended row None ≡ row

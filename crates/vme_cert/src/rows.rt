@@ -17,8 +17,8 @@ use crate::state::{Cycle, State, Transfer};
 use vme_listing::{AnswerLine, Direction, Row};
 use vme_trace::{Class, Lanes, Line, Lines, NeededLines, am_class, am_code, moved_data, needed};
 
-/// The address on the address lines that a cycle needs which starts at these levels, a high line being 1 and any other
-/// 0.
+/// The address on the address lines in `needs`, those of a cycle that starts with the levels `lines`. A high line is 1,
+/// any other is 0.
 fn address_on(lines: &Lines, needs: NeededLines) -> u32
     requires { needs ≡ needs_of lines.now }
     ensures { result ≡ address_to lines.now (needs_of lines.now).highest }
@@ -36,7 +36,7 @@ fn address_on(lines: &Lines, needs: NeededLines) -> u32
     address
 }
 
-/// The row of a cycle that starts at these levels, but for its end.
+/// The row of a cycle that starts at instant `start` with the levels `lines`, but for its end.
 fn cycle_row(start: u32, lines: &Lines) -> Row
     ensures { result ≡ cycle_row start lines.now None (class_of lines.now) }
 {
@@ -77,7 +77,7 @@ fn direction(is_write: bool) -> Direction
     }
 }
 
-/// The answer line that falls at the instant, DTACK* before BERR*.
+/// The answer line: DTACK* if it falls at the instant, else BERR*.
 fn answer_line(bus: &Bus) -> AnswerLine
     ensures { (t : Trace) → IsBusOf t bus.now
         → result ≡ (if falls t DTACK bus.now.instant then Dtack else Berr) }
@@ -89,8 +89,8 @@ fn answer_line(bus: &Bus) -> AnswerLine
     }
 }
 
-/// The data that an answer at the instant takes, if it is that of a write: what the lines say before it, or there
-/// where the transfer starts there.
+/// The data of a write that is answered at the instant: by the levels of the instant before, or by those of the
+/// instant if the transfer starts there. `None` for a read.
 fn answer_data(bus: &Bus, transfer: &Transfer) -> Option<Lanes>
     ensures { (t : Trace) (span : Stretch) (end : ℕ) → IsBusOf t bus.now
         → IsOpenTransfer t span (bus.now.instant + 1) bus.now.instant transfer.now
@@ -124,7 +124,7 @@ fn answered_row(bus: &Bus, transfer: &Transfer, cycle: &Cycle) -> Row
 }
 
 impl<S: RowSource> OpenRows<S> {
-    /// A stretch starts, with the tenure that is open there.
+    /// Starts a stretch, and the tenure that is open there, if the bus is busy.
     pub(crate) fn start(&mut self, bus: &Bus)
         requires { self.old.compared.taken < 2 ^ 61 }
         ensures rows { (whole : S.Whole) (version : Version) (done : List Row) (t : Trace) (span : Stretch)
@@ -191,7 +191,7 @@ impl<S: RowSource> OpenRows<S> {
         self.cycle = Some(self.compared.begin(row));
     }
 
-    /// A transfer starts, and isn't answered yet.
+    /// Starts a transfer, not yet answered, if one starts at the instant.
     fn begin_transfer(&mut self, bus: &Bus)
         requires { self.old.compared.taken < 2 ^ 62 }
         ensures rows { LeadsOn bus.now self.old self.new (WithCycle S.gave S.is_over) (WithTransfer S.gave S.is_over) }
@@ -208,7 +208,7 @@ impl<S: RowSource> OpenRows<S> {
         );
     }
 
-    /// The last transfer is answered.
+    /// Puts the answer in the row of the open transfer, if it is answered at the instant and a cycle has started.
     fn answer_transfer(&mut self, bus: &Bus, state: &State)
         ensures rows { (whole : S.Whole) (version : Version) (done : List Row) (t : Trace) (span : Stretch)
             → IsStateOf t span bus.now state.now
@@ -234,7 +234,7 @@ impl<S: RowSource> OpenRows<S> {
         });
     }
 
-    /// The last transfer closes where both strobes are high.
+    /// Closes the open transfer, if both strobes are high.
     #[tactic(auto, using(crate::proofs::Following::ends))]
     fn close_transfer(&mut self, bus: &Bus)
         ensures rows { (whole : S.Whole) (version : Version) (done : List Row) (t : Trace) (span : Stretch)
@@ -250,7 +250,7 @@ impl<S: RowSource> OpenRows<S> {
         self.transfer = None;
     }
 
-    /// What starts and what ends at a judged instant without a break.
+    /// Starts and ends the rows that do so at a judged instant without a break.
     pub(crate) fn follow_instant(&mut self, bus: &Bus, state: &State)
         requires { self.old.compared.taken < 2 ^ 61 }
         ensures rows { (whole : S.Whole) (version : Version) (done : List Row) (t : Trace) (span : Stretch)

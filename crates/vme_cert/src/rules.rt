@@ -46,7 +46,7 @@ fn is_listed(rules: &[Rule], number: u8) -> bool
     rules.iter().any(|rule| rule.number() == number)
 }
 
-/// Whether a rule speaks of a line.
+/// Whether a rule speaks of a line, i.e. may be broken on it at a judged instant.
 fn speaks_of(rule: Rule, line: Line) -> bool
     ensures { result ≡ speaks_of rule line }
 {
@@ -60,7 +60,7 @@ fn nth_line(number: u8) -> Line
     Line::from_number(number).unwrap()
 }
 
-/// The net at the input of the slot that drives a net.
+/// The net at the input of the slot that drives `line`.
 fn input_of(line: Line) -> Line
     requires { IsTrue (is_slot_grant line || is_slot_iack line) }
     ensures { result ≡ input_net line }
@@ -87,7 +87,7 @@ fn is_first(line: Line) -> bool
     line.grant_place().unwrap_or((0, 0)).1 == 0
 }
 
-/// Whether a slot drives it.
+/// Whether a slot drives a grant net.
 fn is_passed_on(line: Line) -> bool
     requires { IsTrue (is_grant line) }
     ensures { result ≡ is_slot_grant line }
@@ -116,7 +116,7 @@ fn is_interrupt(class: Class) -> bool
 impl Bus {
     ghost use Rattle.vme_cert.specs.Instant.{IsBusOf};
 
-    /// Whether the arbiter grants a level other than by this net.
+    /// Whether the arbiter grants `level`, by a net other than `line`.
     fn grants_besides(&self, level: u8, line: Line) -> bool
         requires { level < 4 }
         ensures { (t : Trace) → IsBusOf t self.now
@@ -126,7 +126,7 @@ impl Bus {
         (net.number() != line.number()) & self.low(net)
     }
 
-    /// Whether the arbiter grants another level than that of a net.
+    /// Whether the arbiter grants some level by a net other than `line`.
     #[tactic(auto, unfolding(vme_trace::specs::Instants::any))]
     fn grants_other(&self, line: Line) -> bool
         ensures { (t : Trace) → IsBusOf t self.now
@@ -138,7 +138,7 @@ impl Bus {
             | self.grants_besides(3, line)
     }
 
-    /// Whether the bus was granted to no slot, as the grant went past the last.
+    /// Whether the grant that a tenure takes here went past the last slot, so that no slot took it.
     #[tactic(auto, using(vme_trace::proofs::SpanEnds::slots_at))]
     fn is_past_last(&self) -> bool
         ensures { (t : Trace) → IsBusOf t self.now
@@ -252,7 +252,8 @@ impl State {
         }
     }
 
-    /// Whether a rule is broken on a line of which it may not speak, or that the backplane may not have.
+    /// Whether `rule` is broken on `line`. It isn't if the rule doesn't speak of the line, or the backplane lacks the
+    /// line.
     #[tactic(auto, using(crate::proofs::Breaks::asked_breaks))]
     fn breaks(&self, bus: &Bus, rule: Rule, line: Line) -> bool
         ensures { (t : Trace) (span : Stretch) → IsStateOf t span bus.now self.now
@@ -267,7 +268,7 @@ impl State {
         self.is_broken(bus, rule, line)
     }
 
-    /// The least line on which a rule is broken, by their numbers the first one included and the end not.
+    /// The least line on which `rule` is broken, of the line numbers from `first` to `end - 1`.
     #[tactic(auto, using(crate::proofs::Ranges::steps))]
     fn least_line(&self, bus: &Bus, rule: Rule, first: u8, end: u8) -> Option<Line>
         requires { end ≤ line_count }
@@ -329,7 +330,8 @@ impl State {
         direction | acknowledge | error
     }
 
-    /// Whether a rule is broken on one of some lines, where it is asked at all. On a known line it isn't.
+    /// Whether `rule` is broken on one of the lines from `first` to `last`. False at once if `asked` is false, or if
+    /// all these lines are known: the caller knows that the rule isn't broken there.
     #[tactic(auto, using(crate::proofs::Breaks::within))]
     fn is_broken_within(&self, bus: &Bus, asked: bool, rule: Rule, first: Line, last: Line) -> bool
         requires { first ≤ last }
@@ -349,8 +351,8 @@ impl State {
         self.least_line(bus, rule, first.number(), end).is_some()
     }
 
-    /// The first rule that is broken at the instant to which changes lead, and the least line on which it is. All are
-    /// asked in order only where one is broken.
+    /// The first rule that is broken at the instant to which `changes` lead, and the least line on which it is broken.
+    /// All rules are asked in order only where one is broken.
     pub(crate) fn break_at(&self, bus: &Bus, changes: &[Change]) -> Option<(Rule, Line)>
         requires { LeadToInstant bus.now changes.now }
         ensures { (t : Trace) (span : Stretch) → IsStateOf t span bus.now self.now

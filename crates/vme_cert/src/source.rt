@@ -5,15 +5,15 @@ ghost use Rattle.vme_cert.specs.Words.{HasRead, IsFaultOfText, IsTextOfListing, 
 
 use vme_listing::{ListFault, Row, RowReader};
 
-/// What gives rows, one by one.
+/// A source that gives rows, one by one.
 pub trait RowSource: Drop {
-    /// What all of them are of.
+    /// What the rows are read from, as a whole.
     ghost Whole: { Type 0 };
 
-    /// These were given so far, from the first on.
+    /// Of the whole these rows were given so far, from the first on.
     ghost gave: { Self.Whole → Self → List Row → Type 0 };
 
-    /// No more are given.
+    /// No more rows are given.
     ghost is_over: { Self → Type 0 };
 
     /// The next row, if there is one.
@@ -55,7 +55,7 @@ pub(crate) struct TextRows<'a> {
 }
 
 impl TextRows<'_> {
-    /// The first fault of the text, of which what is left is read.
+    /// The first fault of the text. What is left of the text is read for it.
     pub(crate) fn fault(mut self) -> Option<ListFault>
         ensures whole { (text : List ℕ) (rows : List Row) → HasRead text rows self.entry.reader → result ≡ None
             → (more : List Row) × IsTextOfListing text (listed self.entry.reader.version (rows ++ more))

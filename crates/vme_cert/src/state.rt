@@ -1,4 +1,4 @@
-//! What has to be known at an instant of the instants of the stretch before it, each field by its definition:
+//! What has to be known at an instant of the earlier instants of its stretch, each field by its definition:
 //! `specs/State.antt`.
 
 ghost use Rattle.std.specs.Prelude.{◌≡◌, ℕ, ◌+◌, ◌<◌, IsTrue, get_or, false, true};
@@ -13,23 +13,26 @@ ghost use Rattle.vme_cert.specs.declared.state.State.{State};
 use crate::bus::Bus;
 use vme_trace::{Class, Line, NeededLines, am_class, needed};
 
-/// The last cycle to start, where one has.
+/// The last cycle to start, if `has_started`.
 #[derive(Clone, Copy)]
 pub(crate) struct Cycle {
     pub(crate) has_started: bool,
     pub(crate) start: u32,
     pub(crate) class: Class,
     pub(crate) needs: NeededLines,
-    /// AS* hasn't risen since.
+    /// AS* hasn't risen since its start.
     pub(crate) runs: bool,
-    /// It was answered; the first answer was that of a write; it was answered again; and by DTACK*.
+    /// It was answered.
     pub(crate) answered: bool,
+    /// The first of its answers was that of a write.
     pub(crate) first_writes: bool,
+    /// It was answered twice or more.
     pub(crate) answered_again: bool,
+    /// One of its answers was by DTACK*.
     pub(crate) acknowledged: bool,
 }
 
-/// The last transfer to start, where it hasn't closed.
+/// The last transfer to start, if `is_open`: it hasn't closed.
 #[derive(Clone, Copy)]
 pub(crate) struct Transfer {
     pub(crate) is_open: bool,
@@ -45,10 +48,11 @@ pub(crate) struct Transfer {
 pub(crate) struct State {
     pub(crate) cycle: Cycle,
     pub(crate) transfer: Transfer,
-    /// A strobe rose since DTACK* fell, and since BERR* did.
+    /// A strobe rose since DTACK* last fell.
     pub(crate) acknowledge_freed: bool,
+    /// A strobe rose since BERR* last fell.
     pub(crate) error_freed: bool,
-    /// A level was requested since the last grant.
+    /// Of each level: it was requested since the last grant.
     pub(crate) requested: [bool; 4],
     /// A grant came since the bus became busy.
     pub(crate) granted: bool,
@@ -56,7 +60,7 @@ pub(crate) struct State {
 
 #[tactic(auto, using(crate::proofs::Fields::cycles))]
 impl Cycle {
-    /// That which starts at the instant, or else this one.
+    /// The cycle that starts at the instant, or else this one.
     fn opened(self, bus: &Bus) -> Cycle
         ensures { (t : Trace) (span : Stretch) → IsBusOf t bus.now → is_judged span bus.now.instant ≡ true
             → IsCycle t span bus.now.instant bus.now.instant self
@@ -78,7 +82,7 @@ impl Cycle {
         }
     }
 
-    /// One instant later, where there is an answer or not, and that of a write or not.
+    /// The cycle one instant later. `answers`: a transfer is answered at the instant; `writes`: it is a write, too.
     fn later(self, bus: &Bus, answers: bool, writes: bool) -> Cycle
         ensures { (t : Trace) (span : Stretch) (state : State) → IsStateOf t span bus.now state → self ≡ state.cycle
             → answers ≡ is_answer t span bus.now.instant → writes ≡ answers_write t span bus.now.instant
@@ -99,7 +103,7 @@ impl Cycle {
 
 #[tactic(auto, using(crate::proofs::Fields::transfers))]
 impl Transfer {
-    /// That which starts at the instant, or else this one.
+    /// The transfer that starts at the instant, or else this one.
     fn opened(self, bus: &Bus) -> Transfer
         ensures { (t : Trace) (span : Stretch) → IsBusOf t bus.now → is_judged span bus.now.instant ≡ true
             → IsTransfer t span bus.now.instant bus.now.instant self
@@ -117,7 +121,7 @@ impl Transfer {
         }
     }
 
-    /// One instant later.
+    /// The transfer one instant later.
     fn later(self, bus: &Bus) -> Transfer
         ensures { (t : Trace) (span : Stretch) → IsBusOf t bus.now → is_judged span bus.now.instant ≡ true
             → IsTransfer t span (bus.now.instant + 1) bus.now.instant self
@@ -134,7 +138,7 @@ impl Transfer {
         }
     }
 
-    /// Whether a strobe rose since its start, up to the instant.
+    /// Whether a strobe rose after the transfer's start, up to the instant.
     pub(crate) fn rose_by(&self, bus: &Bus) -> bool
         ensures { (t : Trace) (span : Stretch) → IsBusOf t bus.now → is_judged span bus.now.instant ≡ true
             → IsOpenTransfer t span (bus.now.instant + 1) bus.now.instant self.now
@@ -145,7 +149,7 @@ impl Transfer {
 }
 
 impl State {
-    /// Behind the start of a stretch.
+    /// The state after the start of a stretch.
     pub(crate) fn starting(bus: &Bus) -> State
         ensures { (t : Trace) (span : Stretch) → IsBusOf t bus.now → bus.now.instant ≡ span.start
             → Holds t span (span.start + 1) (span.start + 1) result }
@@ -182,7 +186,7 @@ impl State {
         }
     }
 
-    /// With the cycle and the transfer that start at the instant.
+    /// The state with the cycle and the transfer that start at the instant.
     pub(crate) fn opened(&self, bus: &Bus) -> State
         ensures { (t : Trace) (span : Stretch) → IsBusOf t bus.now → is_judged span bus.now.instant ≡ true
             → Holds t span bus.now.instant bus.now.instant self.now
@@ -210,7 +214,7 @@ impl State {
         ]
     }
 
-    /// One instant later.
+    /// The state one instant later.
     pub(crate) fn later(&self, bus: &Bus) -> State
         ensures { (t : Trace) (span : Stretch) → IsStateOf t span bus.now self.now
             → Holds t span (bus.now.instant + 1) (bus.now.instant + 1) result }
@@ -242,14 +246,14 @@ impl State {
         self.transfer.is_open & (bus.answer_falls() & !self.transfer.answered)
     }
 
-    /// Whether it is, and is a write.
+    /// Whether the transfer is answered at the instant, and is a write.
     pub(crate) fn answers_write(&self, bus: &Bus) -> bool
         ensures { DecidesCondition bus.now self.now result answers_write }
     {
         self.is_answer(bus) & self.transfer.is_write
     }
 
-    /// Whether it started before, and isn't answered by then.
+    /// Whether the transfer started before the instant, and isn't answered up to it.
     pub(crate) fn is_unanswered(&self, bus: &Bus) -> bool
         ensures { DecidesCondition bus.now self.now result is_unanswered }
     {
@@ -257,7 +261,8 @@ impl State {
         self.transfer.is_open & ((self.transfer.start < bus.instant) & !answered)
     }
 
-    /// Whether it is a write that started before, isn't answered by then, and no strobe has risen in it.
+    /// Whether the transfer is a write that started before the instant, isn't answered up to it, and no strobe has
+    /// risen in it.
     pub(crate) fn is_data_held(&self, bus: &Bus) -> bool
         ensures { DecidesCondition bus.now self.now result is_data_held }
     {
@@ -267,7 +272,7 @@ impl State {
         self.transfer.is_open & held
     }
 
-    /// Whether a strobe rose since an answer line fell.
+    /// Whether a strobe rose since the answer line `line` last fell.
     pub(crate) fn is_freed(&self, line: Line) -> bool
         requires { IsTrue (is_answer_line line) }
         ensures { (t : Trace) (span : Stretch) (opened j : ℕ) → Holds t span opened j self.now

@@ -7,8 +7,8 @@ use vme_listing::{Direction, ListFault, ListedVerdict, Listing, Row, Version, re
 use vme_trace::{Capture, Change, Changes, LINE_COUNT, Level, Line, Lines, Step};
 
 /// How a recording starts: its slots, the levels of its opening, and its first steps. A step is the lines that change,
-/// with their new levels, and they stand ten units apart. `high` is every line high, and `quiet` every line but A24 to
-/// A31.
+/// with their new levels; the steps are ten units of time apart. `high` is every line high, and `quiet` every line high
+/// but A24 to A31.
 #[derive(Clone, Copy)]
 struct Start {
     slots: u8,
@@ -16,7 +16,7 @@ struct Start {
     steps: &'static str,
 }
 
-/// Six lines are unknown, and all others as in an idle bus that is busy.
+/// Six lines are unknown, the modifier is 3D, the bus is busy, and all other lines are high.
 const DUMPED: Start = Start {
     slots: 1,
     opening: "high AM1=0 BBSY=0 AS=x DS0=x DS1=x DTACK=x BERR=x IACK=x",
@@ -30,14 +30,14 @@ const GRANTED: Start = Start {
     steps: "quiet;BR3=0;BG3.0=0;BG3.1=0;BBSY=0 BR3=1;BG3.0=1;BG3.1=1",
 };
 
-/// The same on a bus that is quiet from the opening on.
+/// The bus is quiet from the opening on, and a requester in slot 2 takes it by level 3.
 const GRANTED_FROM_IDLE: Start = Start {
     slots: 3,
     opening: "quiet",
     steps: "BR3=0;BG3.0=0;BG3.1=0;BBSY=0 BR3=1;BG3.0=1;BG3.1=1",
 };
 
-/// The bus gets quiet, and a grant goes on to slot 3.
+/// The bus gets quiet, and a grant is passed on to slot 3.
 const PASSED_ON: Start = Start {
     slots: 3,
     opening: "",
@@ -169,7 +169,7 @@ const LISTINGS: [(Start, &'static str, &'static str); 20] = [
     ),
 ];
 
-/// What follows that start, with the data lines of a transfer, and the rows of its listing.
+/// What follows `GRANTED`, with the data lines of a transfer, and the rows of the listing.
 const DATA: [(&'static str, &'static str); 7] = [
     // a line that DS0* moves is unknown as both strobes fall, or as the later one does
     (
@@ -232,14 +232,14 @@ const RESETS: [(Start, &'static str, &'static str); 10] = [
         "start 1\ntenure 5 level 3 slot 2 end -\ncycle 9 S 39 FFFFDE end -\ntransfer 10 read pending\nreset 11\n\
          start 13\ntenure 13 open end -\nverdict conforming\n",
     ),
-    // the read isn't answered after it
+    // the read may not be answered after the reset
     (
         GRANTED,
         "AM1=0 AM2=0 A05=0;AS=0;DS0=0 DS1=0;SYSRESET=0;AS=1 DS0=1 DS1=1 BBSY=1;SYSRESET=1;DTACK=0",
         "start 1\ntenure 5 level 3 slot 2 end -\ncycle 9 S 39 FFFFDE end -\ntransfer 10 read pending\nreset 11\n\
          start 13\nverdict broken H4 14 DTACK\n",
     ),
-    // a line may be unknown there, but not the reset itself
+    // a line may become unknown as the reset comes, but not the reset line itself
     (
         GRANTED,
         "AM1=0 AM2=0 A05=0;AS=0;DS0=0 DS1=0;AS=x SYSRESET=0;AS=1 DS0=1 DS1=1 BBSY=1;SYSRESET=1",
@@ -274,7 +274,7 @@ const RESETS: [(Start, &'static str, &'static str); 10] = [
          transfer 9 of 8 read DTACK 10 close 11\nreset 14\nstart 16\ntenure 20 level 3 slot 2 end -\nreset 21\n\
          start 24\nverdict broken H4 25 DTACK\n",
     ),
-    // one that a reset ends at the last instant
+    // a stretch that a reset ends at the last instant
     (
         GRANTED_FROM_IDLE,
         "SYSRESET=0;BBSY=1 SYSRESET=1;SYSRESET=0",
@@ -296,7 +296,7 @@ fn change_of(word: &str) -> Option<Change> {
     })
 }
 
-/// Adds that each line gets high, but those of some numbers.
+/// Adds a change to high for each line of the backplane, but for those with the numbers `first` to `last`.
 fn push_high(changes: &mut Vec<Change>, lines: &Lines, first: u8, last: u8) -> Result<(), Fail> {
     for number in 0..LINE_COUNT {
         let line = Line::from_number(number).ok_or("no such line")?;
@@ -363,7 +363,7 @@ fn rows_of(alloc: Global, text: &[u8]) -> Result<Vec<Row>, Fail> {
     Ok(Vec::from_slice(alloc, listing.ok().ok_or("no listing")?.rows())?)
 }
 
-/// What is said of a text. Where memory is short once, it is compared again.
+/// The answer to a text. If memory is short once, the text is compared again.
 fn text_answer(alloc: Global, capture: &Capture, text: &[u8]) -> Result<Answer, ListFault> {
     match confirm_text(alloc, capture, text) {
         Err(ListFault::Memory) => confirm_text(alloc, capture, text),
@@ -371,8 +371,8 @@ fn text_answer(alloc: Global, capture: &Capture, text: &[u8]) -> Result<Answer, 
     }
 }
 
-/// What is said of some rows: those at the front, some more, and those at the back. Where memory is short once, they
-/// are compared again.
+/// The answer to the rows of `front`, `more` and `back`, in this order. If memory is short once, they are compared
+/// again.
 fn answer(
     alloc: Global,
     capture: &Capture,
@@ -390,7 +390,7 @@ fn answer(
     }
 }
 
-/// Another end.
+/// An end other than `end`.
 fn other_end(end: Option<u32>) -> Option<u32> {
     match end {
         Some(end) => Some(end ^ 1),
@@ -398,7 +398,7 @@ fn other_end(end: Option<u32>) -> Option<u32> {
     }
 }
 
-/// The row, but for one word.
+/// The row with one word changed.
 fn changed(row: Row) -> Row {
     match row {
         Row::Start { instant } => Row::Start {
@@ -481,7 +481,7 @@ const STRANGE: Row = Row::PendingTransfer {
     direction: Direction::Write,
 };
 
-/// The first row that differs is named, whichever it is that is left out, changed or added.
+/// The first row that differs is named, whichever row is left out, changed or added.
 fn assert_each_row_counts(
     rt: &impl Abort,
     alloc: Global,
@@ -593,7 +593,7 @@ fn older_listings_lack_resets(rt: HostRuntime) -> Result<(), Fail> {
     Ok(())
 }
 
-/// A text that is no listing's has its first fault, whether the rows before are the recording's or not.
+/// The first fault of a text that is no listing is named, whether the rows before it are the recording's or not.
 #[test]
 fn texts_that_are_no_listings(rt: HostRuntime) -> Result<(), Fail> {
     let (start, steps, _) = RESETS[0];
@@ -603,7 +603,7 @@ fn texts_that_are_no_listings(rt: HostRuntime) -> Result<(), Fail> {
             "vmecheck listing 4\nstart 1\nverdict conforming\n",
             ListFault::BadHeader,
         ),
-        // only version 3 tells resets
+        // only version 3 has resets
         (
             "vmecheck listing 2\nstart 1\ntenure 5 level 3 slot 2 end -\ncycle 9 S 39 FFFFDE end -\n\
              transfer 10 read pending\nreset 11\nstart 13\nverdict conforming\n",

@@ -43,7 +43,7 @@ module _ (bound : BoundLines) (old now : Reading) (input : InputSoFar) (r : Step
         ∙ append_assoc (take n input.held) (drop n input.held) rest)
         ∙ taken (drop n input.held ++ rest)
 
-    -- is taken
+    -- the first `n` held bytes are taken
     pub body-taken : IsAtBody bound old now (record input { held = drop n input.held }) next
     body-taken = record {
       done = at.done ++ take n input.held;
@@ -53,7 +53,7 @@ module _ (bound : BoundLines) (old now : Reading) (input : InputSoFar) (r : Step
           ∙ ap (λ (x : TextReading). Ok x) (goes rest);
     }
 
-  -- has a fault
+  -- the held bytes have a fault
   pub body-stops : (line : ℕ) (kind : FaultKind) (t : Trace) (time : ℕ)
       → ((rest : List ℕ) → StopsAs line kind t time (whole_reading r (input.held ++ rest)))
       → HasFaultBefore at.done input (record { line = line; kind = kind })
@@ -79,7 +79,7 @@ module _ (bound : BoundLines) (old now : Reading) (input : InputSoFar) (r : Step
       ends_not true e h = absurd (cc)
       ends_not false e h = absurd (cc)
 
-  -- none do
+  -- no more bytes follow
   pub body-ends : input.is_whole ≡ true → input.limit ≡ longest_input → IsAtEnd bound old now input.held r
   body-ends whole limit = record {
     text = at.done ++ input.held;
@@ -88,7 +88,7 @@ module _ (bound : BoundLines) (old now : Reading) (input : InputSoFar) (r : Step
         ∙ at.body [] (λ _. refl) ∙ ap (λ l. Ok (whole_reading r l)) (append-nil input.held);
   }
 
--- what is read goes on as a recording
+-- after a piece the reader is still sound
 pub sound-next : (r next : StepReading) (steps : List Step) (piece : List ℕ) → IsSound r
     → ((rest : List ℕ) → whole_reading r (piece ++ rest) ≡ whole_reading next rest)
     → next.given ≡ with_steps r.given steps → IsSound next

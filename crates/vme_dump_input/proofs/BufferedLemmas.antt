@@ -17,7 +17,7 @@ use Rattle.vme_dump_input.specs.BufferedInputs.{FailsAs, InputSoFar, IsAllOf, Is
 use Rattle.vme_dump_input.specs.BufferedInputs.{IsToldWhole, MayLimit, not_read}
 
 module _ (old now : Reading) (done : List ℕ) (input : InputSoFar) (h : IsReadTo old now done input) where
-  -- some of what is held is taken
+  -- the first `n` held bytes are taken
   pub taken-first : (n : ℕ) → n ≤ length input.held
       → IsReadTo old now (done ++ take n input.held) (record input { held = drop n input.held })
   taken-first n within =
@@ -42,13 +42,13 @@ module _ (old now : Reading) (done : List ℕ) (input : InputSoFar) (h : IsReadT
   in-time : input.reads < most_reads → IsInTime old now
   in-time less = record { failures = h.failures; reads = omega (arith, h.reads, less) }
 
-  -- where all is read
+  -- an input that is read to its end
   pub all-read : input.is_whole ≡ true → IsAllOf old now (done ++ input.held) input.limit
   all-read ends =
       let told = subst (λ (b : Bool). IsToldWhole b old (done ++ input.held) input.read input.limit) ends h.whole in
       ((in-time (h.in_time ends), told.0), omega (arith, h.read, told.1))
 
-  -- where reading is given up
+  -- at most 65,537 reads are full, within the limit and one read more
   few_full : (full room read limit : ℕ) → full * room ≤ read → read ≤ limit + room → MayLimit limit room
       → full ≤ 65537
   few_full full room read limit most within may = by_order (cases_lt full 65538)
@@ -72,7 +72,7 @@ module _ (old now : Reading) (done : List ℕ) (input : InputSoFar) (h : IsReadT
   pub reading-so-far : input.reads < most_reads → (bytes : Option (List ℕ)) × IsReading old now bytes
   reading-so-far less = in_time old now (in-time less)
 
-  -- it may be left at any time
+  -- an input that isn't read on has some reading
   pub some-reading : (bytes : Option (List ℕ)) × IsReading old now bytes
   some-reading = by_reads (cases_lt input.reads most_reads)
     where
@@ -92,7 +92,7 @@ module _ (old now : Reading) (done : List ℕ) (input : InputSoFar) (h : IsReadT
     fails-by limit failed.Memory less same fails =
         in_time old later (record { failures = fails ∙ h.failures; reads = omega (arith, same, h.reads, less) })
 
-    -- the end is read
+    -- the next read finds the end
     pub read-end : Consumes now.left later.left [] → IsAtEnd later.left → later.failures ≡ now.failures
         → later.reads ≡ now.reads → later.short_reads ≡ now.short_reads → input.reads < most_reads
         → input.read ≤ input.limit → IsReadTo old later done (record input { is_whole = true })
@@ -200,7 +200,7 @@ first-read here limit room may = record {
     nothing None = tt
     nothing (Some bytes) = refl
 
--- what is known of an input, by its parts
+-- two inputs with the same fields are equal
 pub same-input : (a b : InputSoFar) → a.held ≡ b.held → a.limit ≡ b.limit → a.room ≡ b.room → a.read ≡ b.read
     → a.reads ≡ b.reads → a.is_whole ≡ b.is_whole → a ≡ b
 same-input a b held limit room read reads whole =
@@ -211,11 +211,11 @@ same-input a b held limit room read reads whole =
     ∙ (ap (λ (x : ℕ). record a { held = b.held; limit = b.limit; room = b.room; read = b.read; reads = x }) reads
     ∙ ap (λ (x : Bool). record b { is_whole = x }) whole))))
 
--- a read more, by the parts of what is known then
+-- one more read, by the fields of the input after it
 module _ (old now later : Reading) (done : List ℕ) (before after : InputSoFar) (h : IsReadTo old now done before)
     (more : List ℕ) (count : ℕ) (long : length more ≡ count) (held : after.held ≡ before.held ++ more)
     (limit : after.limit ≡ before.limit) (room : after.room ≡ before.room) where
-  -- that gave bytes
+  -- a read that gave bytes
   pub read-some : 0 < count → after.read ≡ before.read + count → after.reads ≡ before.reads + 1
       → after.is_whole ≡ before.is_whole → Consumes now.left later.left more → later.failures ≡ now.failures
       → later.reads ≡ suc now.reads
@@ -230,7 +230,7 @@ module _ (old now later : Reading) (done : List ℕ) (before after : InputSoFar)
       (read-on old now done before h later more (omega (arith, some, long)) consumed same reads_are less going
       (omega (arith, long, within)) (λ l. short (omega (arith, l, long))) (λ l. full (omega (arith, l, long))))
 
-  -- that gave none
+  -- a read that gave none: the end
   pub read-none : count ≡ 0 → after.read ≡ before.read → after.reads ≡ before.reads → after.is_whole ≡ true
       → Consumes now.left later.left more → IsAtEnd later.left → later.failures ≡ now.failures
       → later.reads ≡ now.reads → later.short_reads ≡ now.short_reads → before.reads < most_reads
@@ -258,7 +258,7 @@ rest-same first gone more held grown next n same is =
     ∙ ap (λ (l : List ℕ). l ++ grown) (take-append-drop n held))
     ∙ sym (append_assoc gone held grown) ∙ ap (λ (l : List ℕ). l ++ grown) same ∙ append_assoc first more grown
 
--- ---- a front of what is held is taken
+-- ---- a prefix of what is held is taken
 
 module _ (done held : List ℕ) (n : ℕ) where
   pub split-at : (future : List ℕ) → (done ++ take n held) ++ (drop n held ++ future) ≡ done ++ (held ++ future)

@@ -38,7 +38,7 @@ pub faulty-before : (bound : BoundLines) (input : InputSoFar) (fault : VcdFault)
 faulty-before bound input fault fails rest ends =
     capture_fault bound (input.held ++ rest) fault.line fault.kind (fails rest ends)
 
--- where nothing follows
+-- if nothing follows, a fault of the held bytes is that of the text
 pub fails-last : (bound : BoundLines) (input : InputSoFar) (fault : CaptureFault) → input.is_whole ≡ true
     → CaptureFailsBy fault (reading_of_text bound input.held) → (rest : List ℕ) → IsFollowedBy input.is_whole rest
     → CaptureFailsBy fault (reading_of_text bound (input.held ++ rest))
@@ -77,7 +77,7 @@ module _ (bound : BoundLines) (old now : Reading) (input : InputSoFar) (r : Step
   }
 
   module _ (after : InputSoFar) (on : IsReadOn input after) where
-    -- more is read behind them
+    -- more is read after them
     pub held-on : n ≤ length after.held
     held-on = omega (arith, at.within, ap (λ (l : List ℕ). length l) on.held, length-append input.held on.more)
 

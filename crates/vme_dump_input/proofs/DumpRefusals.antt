@@ -34,7 +34,7 @@ unfolding dump_read
 dump-is text short r is =
     ap read_or (whole_is Dump text short) ∙ ap (λ (w : Result Contents VcdFault). or_bad_dump w) is
 
--- it can't be had
+-- a dump that can't be had
 pub unread-is : (old now : Reading) (fault : InFault) → FailsAs longest_input old now fault
     → IsDumpRefused old now (refused Dump fault)
 unfolding dump_read
@@ -43,7 +43,7 @@ unread-is old now read.TooLong fails =
     (Some fails.0, fails.2, ap read_or (too_long_is Dump fails.0 fails.1))
 unread-is old now read.Memory fails = fails
 
--- it has a fault
+-- a dump that has a fault
 pub faulty-is : (old now : Reading) (text : List ℕ) → IsAllOf old now text longest_input → (line : ℕ)
     (kind : FaultKind) → HasFault text line kind
     → IsDumpRefused old now (dump_refusal (record { line = line; kind = kind }))
@@ -51,7 +51,7 @@ faulty-is old now text all line vcd.Memory has = (Some text, all.0)
 faulty-is old now text all line kind has =
     (Some text, all.0, dump-is text all.1 (Err (record { line = line; kind = kind })) has)
 
--- some reading of it is there
+-- a dump that is refused has some reading
 pub some-read : (old now : Reading) (refusal : Refusal) → IsDumpRefused old now refusal
     → (bytes : Option (List ℕ)) × IsReading old now bytes
 some-read old now Memory is = is

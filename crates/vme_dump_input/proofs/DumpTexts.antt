@@ -1,4 +1,4 @@
--- What reading the text of a dump comes to is what the dump says.
+-- The result of reading the text of a dump agrees with the contents of the dump: see `Agrees`.
 use Rattle.std.proofs.Common.{◌≡◌, ℕ, List, [], length, Option, None, Some, refl, sym, ap, subst, ◌∙◌}
 use Rattle.std.specs.Prelude.{Result, Ok, Err}
 use Rattle.vcd_read.specs.Contents.{Contents}

@@ -1,4 +1,4 @@
--- The steps that a reader of a dump gives go on with those before.
+-- The steps that a reader of a dump returns may follow those before.
 use Rattle.std.proofs.Common.{◌≡◌, ◌≤◌, ℕ, List, [], ◌∷◌, ◌++◌, Option, None, Some, sym, ap, subst, ◌∙◌, append_assoc}
 use Rattle.std.proofs.Common.{refl, length}
 use Rattle.std.specs.Prelude.{All}
@@ -32,7 +32,7 @@ StepsWithin = (r : StepReading) (rest : List ℕ) (steps : List Step)
 abbrev pub TimeGoesOn : Type 0
 TimeGoesOn = (r : StepReading) (rest : List ℕ) → (whole_reading r []).time ≤ (whole_reading r rest).time
 
--- what is given is a front of what is recorded, whatever follows
+-- what was returned is a prefix of what is recorded, whatever follows
 abbrev pub GivenIsPrefix : Type 0
 GivenIsPrefix = (r : StepReading) (rest : List ℕ)
     → (more : List Step) × ((whole_reading r rest).recorded ≡ with_steps r.given more)
@@ -78,7 +78,7 @@ stopped-parts line kind t time reading stops other = (
 
 module _ (follows : StepsFollow) (r : StepReading) (whole : length r.given.opening.levels ≡ line_count)
     (few : r.given.opening.slots ≤ 21) where
-  -- at the end
+  -- the steps at the end
   pub steps-from : ((rest : List ℕ) → malformed_step (whole_reading r rest).recorded ≡ None) → (bytes : List ℕ)
       (steps : List Step) → (whole_reading r bytes).recorded ≡ with_steps r.given steps
       → GoOnFrom r.given (whole_reading r []).time steps
@@ -106,7 +106,7 @@ module _ (follows : StepsFollow) (within : StepsWithin) (on : TimeGoesOn) (front
   time-is : (whole_reading r (piece ++ [])).time ≡ (whole_reading next []).time
   time-is = ap (λ (x : TextReading). x.time) (taken [])
 
-  -- with a piece
+  -- the steps of a piece
   pub steps-to : malformed_step next.given ≡ None
       → GoOnTo r.given (whole_reading r []).time steps (whole_reading next []).time
   steps-to formed =

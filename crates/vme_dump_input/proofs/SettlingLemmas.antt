@@ -28,7 +28,7 @@ and-true : (b : Bool) → b ≡ (b && true)
 and-true true = refl
 and-true false = refl
 
--- before the first step
+-- taking no steps
 pub all-none : (s : Settling) → s ≡ all_taken s [] []
 unfolding reached_at are_in_order
 all-none s =
@@ -51,7 +51,7 @@ order-more reached (x ∷ xs) step =
     (nat_le (reached_at (max reached x.time) xs) step.time)
     ∙ ap (λ (b : Bool). nat_le reached x.time && b) (order-more (max reached x.time) xs step)
 
--- one step more is taken
+-- taking one step more
 all-more : (first now : Settling) (steps out : List Step) (step : Step) (made : Option Step)
     → now ≡ all_taken first steps out
     → taken now step made ≡ all_taken first (steps ++ step ∷ []) (out ++ option_to_list made)
@@ -82,7 +82,7 @@ all-next first now later steps out outs i step made is next grown lt at =
     (ap (λ (d : Step). take i steps ++ d ∷ []) at ∙ sym (take_more steps i step lt))
     ∙ ap (λ (l : List Step). all_taken first (take (i + 1) steps) l) (sym grown)
 
--- and then a time is reached, or the recording ends
+-- after the steps at most one more step comes out: a time is reached, or the recording ends
 pub out-more : (first now : Settling) (steps out outs : List Step) (made : Option Step)
     → now ≡ all_taken first steps out → outs ≡ out ++ option_to_list made
     → now.out ++ option_to_list made ≡ first.out ++ outs
@@ -115,7 +115,7 @@ both : (a b : Bool) → a ≡ true → b ≡ true → (a && b) ≡ true
 both true b e f = f
 both false b e f = absurd cc
 
--- steps that may stand behind one another are in order
+-- steps that may follow one another are in order
 order-behind : (reached now : ℕ) (v : Levels) (steps : List Step) → reached ≤ now → MayStand v (Some now) steps
     → are_in_order reached steps ≡ true
 unfolding are_in_order

@@ -1,4 +1,4 @@
--- How far an input is read, of which some bytes were taken.
+-- How far an input is read, and which of its bytes are held.
 use Rattle.std.specs.Prelude.{◌≡◌, ℕ, suc, ◌+◌, ◌-◌, ◌*◌, ◌≤◌, ◌<◌, if◌then◌else◌, Bool, true, false, List, [], ◌++◌}
 use Rattle.std.specs.Prelude.{length, Option, None, Some, IfSome}
 use Rattle.std.specs.Io.KnownBytes.{Consumes}
@@ -18,7 +18,7 @@ pub record InputSoFar : Type 0 where
   pub reads : ℕ
   pub is_whole : Bool
 
--- where each read has room for so many bytes, few of them can be full before the limit is passed
+-- each read has room for 1 to 4,194,304 bytes, and the limit is at most what 65,536 full reads give
 pub record MayLimit (limit room : ℕ) : Type 0 where
   pub some : 0 < room
   pub few : limit ≤ 65536 * room
@@ -28,17 +28,17 @@ abbrev pub not_read : ℕ → ℕ → InputSoFar
 not_read limit room =
     record { held = []; limit = limit; room = room; read = 0; reads = 0; is_whole = false }
 
--- so many of some reads were full, and gave as many bytes as they had room for
+-- `full` of the `reads` reads that gave `bytes` bytes were full: they gave as many bytes as they had room for
 pub record HasFull (old now : Reading) (reads room bytes full : ℕ) : Type 0 where
   pub counted : old.short_reads + reads ≡ now.short_reads + full
   pub enough : full * room ≤ bytes
 
--- Where it is whole, these are all bytes that its source told.
+-- If the input is whole, `bytes` are all bytes of its source, where these are known, and at most `limit`.
 abbrev pub IsToldWhole : Bool → Reading → List ℕ → ℕ → ℕ → Type 0
 IsToldWhole true old bytes read limit = IfSome old.left (λ told. bytes ≡ told) × (read ≤ limit)
 IsToldWhole false old bytes read limit = Unit {0}
 
--- a source was read on from one state to another, and of its bytes these were taken and the others are held
+-- a source was read from state `old` to state `now`: of its bytes `done` were taken, and the others are held
 pub record IsReadTo (old now : Reading) (done : List ℕ) (input : InputSoFar) : Type 0 where
   pub consumed : Consumes old.left now.left (done ++ input.held)
   pub read : length (done ++ input.held) ≡ input.read
@@ -53,22 +53,22 @@ pub record IsReadTo (old now : Reading) (done : List ℕ) (input : InputSoFar) :
   pub whole : IsToldWhole input.is_whole old (done ++ input.held) input.read input.limit
   pub in_time : input.is_whole ≡ true → input.reads < most_reads
 
--- more bytes are held, or there are no more
+-- the held bytes were kept, and perhaps more were added
 pub record IsGrown (before after : InputSoFar) : Type 0 where
   pub more : List ℕ
   pub held : after.held ≡ before.held ++ more
 
--- more bytes are held, and none where nothing followed
+-- the held bytes were kept, and perhaps more were added, but none if the input was whole
 pub record IsReadOn (before after : InputSoFar) : Type 0 where
   pub more : List ℕ
   pub held : after.held ≡ before.held ++ more
   pub follows : (rest : List ℕ) → IsFollowedBy after.is_whole rest → IsFollowedBy before.is_whole (more ++ rest)
 
--- so many reads may follow
+-- a measure that each read lowers: 0 at the end, else one more than the reads that may still give bytes
 abbrev pub reads_left : InputSoFar → ℕ
 reads_left input = if input.is_whole then 0 else suc (most_reads - input.reads)
 
--- these are all bytes of an input, and not too many
+-- `bytes` are all bytes of an input, at most `limit`
 abbrev pub IsAllOf : Reading → Reading → List ℕ → ℕ → Type 0
 IsAllOf old now bytes limit = IsReading old now (Some bytes) × (length bytes ≤ limit)
 

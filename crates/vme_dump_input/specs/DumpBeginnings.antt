@@ -1,4 +1,4 @@
--- What reading a dump piece by piece comes to.
+-- The result of reading a dump piece by piece.
 use Rattle.std.specs.Prelude.{◌≡◌, ℕ, ◌≤◌, List, [], ◌++◌, drop, length, Option, None, Some, Result, Ok, Err}
 use Rattle.vcd_read.specs.Contents.{Contents}
 use Rattle.vcd_read.specs.Meaning.{dump_of}
@@ -37,20 +37,20 @@ abbrev pub HasFault : List ℕ → ℕ → FaultKind → Type 0
 HasFault text line vcd.Memory = Unit {0}
 HasFault text line kind = dump_of text ≡ Err (record { line = line; kind = kind })
 
--- so has each text that begins with what was taken and is held
+-- each text that begins with the bytes that were taken and those that are held has this fault
 abbrev pub HasFaultBefore : List ℕ → InputSoFar → VcdFault → Type 0
 HasFaultBefore done input fault = (rest : List ℕ) → IsFollowedBy input.is_whole rest
     → HasFault (done ++ (input.held ++ rest)) fault.line fault.kind
 
--- the body of a dump is read as far as this reader is, and what is held goes on with it
+-- the body of a dump was read up to the bytes that are held, and `r` reads on with these
 pub record IsAtBody (bound : BoundLines) (old now : Reading) (input : InputSoFar) (r : StepReading) : Type 0 where
   pub done : List ℕ
   pub read : IsReadTo old now done input
   pub body : (rest : List ℕ) → IsFollowedBy input.is_whole rest
       → reading_of_text bound (done ++ (input.held ++ rest)) ≡ Ok (whole_reading r (input.held ++ rest))
 
--- nothing of a dump was taken: its definitions have so many bytes of those that are held, and behind them this reader
--- goes on
+-- no byte of a dump was taken: its definitions are the first `count` bytes of those that are held, and `r` reads on
+-- after them
 pub record IsAtDefinitions (bound : BoundLines) (old now : Reading) (input : InputSoFar) (r : StepReading) (count : ℕ)
     : Type 0 where
   pub read : IsReadTo old now [] input
@@ -58,13 +58,13 @@ pub record IsAtDefinitions (bound : BoundLines) (old now : Reading) (input : Inp
   pub body : (rest : List ℕ) → IsFollowedBy input.is_whole rest
       → reading_of_text bound (input.held ++ rest) ≡ Ok (whole_reading r (drop count input.held ++ rest))
 
--- what is read goes on with a recording as one is made
+-- whatever follows, all that is recorded is a well-formed recording of a backplane with at most 21 slots
 pub record IsSound (r : StepReading) : Type 0 where
   pub few : r.given.opening.slots ≤ 21
   pub whole : length r.given.opening.levels ≡ line_count
   pub formed : (rest : List ℕ) → malformed_step (whole_reading r rest).recorded ≡ None
 
--- nothing of a body was given, and all that is read of it is a recording
+-- no step of a body was returned, and whatever follows, all that is recorded is well formed
 pub record IsBodyUnread (r : StepReading) : Type 0 where
   pub none : r.given.steps ≡ []
   pub formed : (rest : List ℕ) → malformed_step (whole_reading r rest).recorded ≡ None
@@ -77,7 +77,7 @@ abbrev pub MayBeReadIf : Option Begun → Type 0
 MayBeReadIf None = Unit {0}
 MayBeReadIf (Some begun) = MayBeRead begun
 
--- so many bytes of the definitions are held
+-- the bytes of the definitions are held
 abbrev pub HoldsDefinitions : InputSoFar → Begun → Type 0
 HoldsDefinitions input (Body r count) = count ≤ length input.held
 HoldsDefinitions input (Unusable fault) = Unit {0}
@@ -93,7 +93,7 @@ BeginsDump bound old now input (Ok (Unusable fault)) =
     (contents : Contents) × IsReadDump old now contents × (capture_of bound contents ≡ Err fault)
 BeginsDump bound old now input (Err refusal) = IsDumpRefused old now refusal
 
--- the same, unless the definitions don't end in what is held
+-- as `BeginsDump`, or the definitions don't end in what is held, and nothing was read or taken
 abbrev pub MayBegin : BoundLines → Reading → Reading → InputSoFar → InputSoFar → Result (Option Begun) Refusal → Type 0
 MayBegin bound old now held input (Ok (Some begun)) = BeginsDump bound old now input (Ok begun)
 MayBegin bound old now held input (Ok None) = (input ≡ held) × IsReadTo old now [] input

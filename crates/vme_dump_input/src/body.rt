@@ -25,7 +25,7 @@ pub fn fault_of(stopped: StoppedSteps) -> VcdFault
     fault
 }
 
-/// Why a body isn't read on: for a fault of the dump, or for want of memory.
+/// The refusal where a body isn't read on: for `fault` of the dump, or, without one, for want of memory.
 pub fn refused_in_body<D: Source>(
     dump: &mut D,
     input: &mut BufferedInput,

@@ -15,7 +15,7 @@ use std::marker::Model;
 use vme_stream::InFault;
 use vme_trace::Source;
 
-/// After so many reads that gave bytes and didn't reach the end reading is given up.
+/// After how many reads that gave bytes, and didn't reach the end, reading is given up.
 const MOST_READS: u32 = 16_777_216;
 
 /// An input as it is read: the bytes that were read and not taken, and how much was read.
@@ -31,7 +31,7 @@ pub struct BufferedInput {
     /// How many bytes were read, and how many reads gave some.
     read: u64,
     reads: u32,
-    /// There are no more.
+    /// The end was reached: there are no more bytes.
     is_whole: bool,
 }
 
@@ -55,7 +55,7 @@ impl Model for BufferedInput {
         × (a.read ≤ a.limit + vec_len a.room) × (a.reads ≤ most_reads) };
 }
 
-/// Moves the bytes behind the first ones to the front.
+/// Removes the first `count` bytes.
 fn forget_first(held: &mut Vec<u8>, count: usize)
     requires { count ≤ vec_len held.old }
     ensures { held.new.items ≡ drop count held.old.items }
@@ -65,7 +65,7 @@ fn forget_first(held: &mut Vec<u8>, count: usize)
     held.truncate(len - count);
 }
 
-/// Reads the next bytes behind those that are held, and says how many: none only at the end.
+/// Reads the next bytes after those that are held, and returns how many: 0 only at the end.
 fn read_behind<R: Source>(
     source: &mut R,
     held: &mut Vec<u8>,
@@ -94,7 +94,7 @@ fn read_behind<R: Source>(
 }
 
 impl BufferedInput {
-    /// Before the first read, each of which has room for so many bytes.
+    /// The input before the first read. Each read has room for `room` bytes.
     pub fn new(alloc: Global, limit: u64, room: usize) -> Result<BufferedInput, AllocError>
         requires { MayLimit limit room }
         ensures { IfOk result (λ input. input ≡ not_read limit room) }
@@ -119,14 +119,14 @@ impl BufferedInput {
         &self.held[self.start..]
     }
 
-    /// Whether nothing follows these.
+    /// Whether no bytes follow those that are held.
     pub fn is_whole(&self) -> bool
         ensures { result ≡ self.now.is_whole }
     {
         self.is_whole
     }
 
-    /// Takes the first bytes away.
+    /// Takes the first `count` of the held bytes.
     pub fn take_first(&mut self, count: usize)
         requires { count ≤ length self.old.held }
         ensures { self.new ≡ record self.old { held = drop count self.old.held } }
@@ -134,7 +134,7 @@ impl BufferedInput {
         self.start += count;
     }
 
-    /// Waits for more bytes, of which there are none at the end.
+    /// Reads more bytes. At the end there are none, and the input is whole.
     pub fn read<R: Source>(&mut self, source: &mut R) -> Result<(), InFault>
         requires { self.old.is_whole ≡ false }
         ensures read { (old : Reading) (done : List ℕ) → IsReadTo old (R.reading source.old) done self.old

@@ -30,30 +30,30 @@ const LONGEST_DUMP: u64 = 268_435_456;
 /// How much room each read of a dump has.
 const DUMP_ROOM: usize = 65_536;
 
-/// What a dump is read to.
+/// A buffered input for a dump.
 pub fn dump_input(alloc: Global) -> Result<BufferedInput, AllocError>
     ensures { IfOk result (λ input. input ≡ not_read longest_input DUMP_ROOM) }
 {
     BufferedInput::new(alloc, LONGEST_DUMP, DUMP_ROOM)
 }
 
-/// The definitions of a dump were read, of which nothing is taken.
+/// The definitions of a dump were read, and none of their bytes taken.
 #[derive(Drop)]
 pub enum Begun {
-    /// What reads its body, and how many bytes its definitions have.
+    /// The reader of its body, and how many bytes its definitions have.
     Body(StepReader, usize),
     /// The binding can't be used on it.
     Unusable(BindFault),
 }
 
-/// Why a dump can't be had.
+/// The refusal for a dump that can't be had.
 pub fn unread(fault: InFault) -> Refusal
     ensures { result ≡ refused Dump fault }
 {
     Refusal::of_input(Input::Dump, fault)
 }
 
-/// What a fault of a dump is to the answer: that it can't be had at all comes before.
+/// The refusal for a fault of a dump. The rest of the dump is read first: if it can't be had, that is the refusal.
 pub fn refused_for<D: Source>(dump: &mut D, input: &mut BufferedInput, fault: VcdFault) -> Refusal
     ensures refused { (old : Reading) (done : List ℕ) → IsReadTo old (D.reading dump.old) done input.old
         → input.old.limit ≡ longest_input → HasFaultBefore done input.old fault
@@ -66,8 +66,8 @@ pub fn refused_for<D: Source>(dump: &mut D, input: &mut BufferedInput, fault: Vc
     }
 }
 
-/// What a dump is of whose definitions nothing is begun: the rest of it is read for its own faults before one of the
-/// binding.
+/// The result where the binding can't be used on the dump. The rest of the dump is read first, since a fault of its own
+/// comes before one of the binding.
 fn unusable<D: Source>(
     alloc: Global,
     bound: &Binding,
@@ -92,7 +92,7 @@ fn unusable<D: Source>(
     }
 }
 
-/// What a fault that is met before the body is.
+/// The result for a fault that is found before the body.
 fn not_begun<D: Source>(
     alloc: Global,
     bound: &Binding,
@@ -134,7 +134,7 @@ fn begin_last<D: Source>(
     }
 }
 
-/// The body begins behind so many bytes.
+/// The reader of the body, and after how many bytes the body begins.
 fn body_behind(found: (StepReader, usize)) -> Begun
     ensures { result ≡ Body found.0 found.1 }
 {
@@ -166,7 +166,7 @@ fn begin<D: Source>(
     }
 }
 
-/// Reads the definitions of a dump, of which nothing is taken: they are held yet.
+/// Reads the definitions of a dump, and takes none of their bytes: they are still held.
 pub fn read_definitions<D: Source>(
     alloc: Global,
     bound: &Binding,

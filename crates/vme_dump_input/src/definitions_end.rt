@@ -5,7 +5,7 @@ use memchr::memmem;
 /// What ends the definitions of a dump.
 const END_OF_DEFINITIONS: &[u8] = b"$enddefinitions";
 
-/// How often the definitions may seem to end where they don't, before that costs time.
+/// How often the definitions may seem to end where they don't, before the search waits for twice the bytes.
 const MOST_TRIES: u32 = 64;
 
 /// Looks for where the definitions of a dump may end, in bytes that grow at their end.
@@ -13,15 +13,15 @@ const MOST_TRIES: u32 = 64;
 pub struct DefinitionsEnd {
     /// No end is looked for before this place.
     searched: usize,
-    /// How often there seemed to be one.
+    /// How often there seemed to be an end.
     tries: u32,
-    /// Where there are fewer bytes, none is looked for once that was often: so that all searches together take time in
-    /// proportion to the bytes.
+    /// If there are fewer bytes, no end is looked for once there seemed to be one `MOST_TRIES` times: so all searches
+    /// together take time in proportion to the bytes.
     least: usize,
 }
 
 impl DefinitionsEnd {
-    /// Nothing was looked at.
+    /// The search before any bytes.
     pub fn new() -> DefinitionsEnd {
         DefinitionsEnd {
             searched: 0,
@@ -30,7 +30,7 @@ impl DefinitionsEnd {
         }
     }
 
-    /// Whether the definitions may end in these bytes, and no earlier than it was asked before.
+    /// Whether the definitions may end in `bytes`, after the place where an earlier call said that they may.
     pub fn may_end(&mut self, bytes: &[u8]) -> bool {
         let from = self.searched.min(bytes.len());
         let Some(at) = memmem::find(&bytes[from..], END_OF_DEFINITIONS) else {

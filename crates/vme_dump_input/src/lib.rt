@@ -6,19 +6,19 @@
 //! - `buffered_input`: [`BufferedInput`], the bytes of an input that were read and not taken, up to
 //!   a limit.
 //! - `definitions`: [`read_definitions`] reads the definitions of a dump, up to its body, and takes
-//!   none of their bytes. [`refused_for`] says what a fault of the dump is.
+//!   none of their bytes. [`refused_for`] is the refusal for a fault of the dump.
 //! - `definitions_end`: [`DefinitionsEnd`] looks for where the definitions of a dump may end, in
 //!   time in proportion to the bytes.
-//! - `body`: what a fault is that is met in the body.
+//! - `body`: the refusal for a fault in the body.
 //! - `settling`: [`settler_for`], [`settled_steps`] and [`last_steps`] settle the steps that come
 //!   with each piece of a dump.
 //!
 //! # What is proved
 //!
 //! - The bytes that are held and those that were taken are what was read (`IsReadTo`). At the end
-//!   they are all of the input (`IsAllOf`), and an input that can't be had, or is too long, is told
-//!   so (`FailsAs`).
-//! - Behind the definitions the body goes on with what is held (`BeginsDump`, `IsAtDefinitions`,
+//!   they are all of the input (`IsAllOf`), and an input that can't be had, or is too long, is
+//!   reported so (`FailsAs`).
+//! - After the definitions the body continues with what is held (`BeginsDump`, `IsAtDefinitions`,
 //!   `IsAtBody`), or the binding can't be used on the dump, all of which was read; or the dump is
 //!   refused for its first reason (`IsDumpRefused`): one that can't be had has no fault.
 //! - The steps that come out, piece by piece, are those that the recording settles to as far as it is
@@ -28,7 +28,7 @@
 //! # What isn't proved
 //!
 //! When a byte is read, and that memory suffices: what the definitions and the longest token take.
-//! Where a [`DefinitionsEnd`] says that definitions may end: whoever asks finds out for certain. Where
+//! Where a [`DefinitionsEnd`] says that definitions may end: its caller finds out for certain. If
 //! the binding can't be used on the dump, all of the dump is held.
 //!
 //! # Limits

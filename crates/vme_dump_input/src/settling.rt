@@ -15,7 +15,7 @@ use std::alloc::{AllocError, Global};
 use vme_skew::StepSettler;
 use vme_trace::{Lines, Step};
 
-/// What settles the steps of a dump, if there is a skew.
+/// The settler of a dump's steps. `None` if the skew is 0.
 pub fn settler_for(alloc: Global, opening: &Lines, skew: u64) -> Option<StepSettler>
     ensures { IsSettlerFor skew opening.now result }
 {
@@ -36,7 +36,7 @@ fn keep(settled: &mut Vec<Step>, made: Option<Step>) -> Result<(), AllocError>
     Ok(())
 }
 
-/// Takes the steps that follow. The answer is the steps that come out.
+/// Gives the settler the steps that follow, and returns the steps that come out.
 fn take_all(
     alloc: Global,
     settler: &mut StepSettler,
@@ -52,7 +52,7 @@ fn take_all(
     Ok(settled)
 }
 
-/// Settles the steps that follow, and ends the group at hand where a time that the dump has told is past it.
+/// Settles the steps that follow, and ends the current group if `time`, which was read in the dump, is past it.
 fn settle(
     alloc: Global,
     settler: &mut StepSettler,
@@ -68,7 +68,7 @@ fn settle(
     Ok(settled)
 }
 
-/// The same at the end of the dump, where all groups end.
+/// Settles the last steps of the dump, at whose end all groups end.
 fn settle_last(alloc: Global, settler: StepSettler, steps: &[Step]) -> Result<Vec<Step>, AllocError>
     ensures { IfOk result (λ made. malformed_step (with_steps settler.given steps.now) ≡ None
         → (settler.in_order && are_in_order settler.reached steps.now) ≡ true
@@ -81,7 +81,7 @@ fn settle_last(alloc: Global, settler: StepSettler, steps: &[Step]) -> Result<Ve
     Ok(settled)
 }
 
-/// The steps that are to be audited once these follow and the dump has told this time.
+/// The steps that come out once `steps` follow and `time` is read. Without a settler they are `steps`.
 pub fn settled_steps(
     alloc: Global,
     settler: &mut Option<StepSettler>,
@@ -102,7 +102,7 @@ pub fn settled_steps(
     }
 }
 
-/// The same at the end of the dump.
+/// The steps that come out at the end of the dump, where `steps` are its last.
 pub fn last_steps(
     alloc: Global,
     settler: &mut Option<StepSettler>,

@@ -94,7 +94,7 @@ acknowledge_before_the_cycle = record {
       ∷ codes "verdict broken I2 10 IA.1" ∷ [];
 }
 
--- the strobe that is low is the other one
+-- an acknowledge is passed on while only the second strobe is low
 unfoldable pub acknowledge_by_the_second_strobe : Recording
 acknowledge_by_the_second_strobe = record {
   trace =
@@ -116,7 +116,7 @@ acknowledge_as_the_strobe_rises = record {
       ∷ codes "cycle 10 I 5 end -" ∷ codes "verdict conforming" ∷ [];
 }
 
--- the same with the other strobe
+-- the second strobe rises as the address strobe falls and the acknowledge is passed on
 unfoldable pub acknowledge_as_the_second_strobe_rises : Recording
 acknowledge_as_the_second_strobe_rises = record {
   trace = once_granted (acknowledging ∷ (low DS1 ∷ []) ∷ (low AS ∷ high DS1 ∷ low DTACK ∷ low (iack 1) ∷ []) ∷ []);
@@ -138,7 +138,7 @@ acknowledge_as_the_second_strobe_falls = record {
       ∷ codes "transfer 10 of 9 read DTACK 11 close 12" ∷ codes "verdict conforming" ∷ [];
 }
 
--- the address strobe is low before, and a strobe is low after
+-- an acknowledge is passed on as the address strobe rises and a strobe falls
 unfoldable pub acknowledge_near_a_strobe_and_near_the_cycle : Recording
 acknowledge_near_a_strobe_and_near_the_cycle = record {
   trace =
@@ -161,7 +161,7 @@ acknowledge_after_answer = record {
       ∷ codes "transfer 10 of 9 read DTACK 11 close -" ∷ codes "verdict broken I3 12 IA.1" ∷ [];
 }
 
--- the same after an answer that falls with the address strobe
+-- an acknowledge is passed on after an answer that falls with the address strobe
 unfoldable pub acknowledge_after_an_answer_at_the_start : Recording
 acknowledge_after_an_answer_at_the_start = record {
   trace = once_granted (acknowledging ∷ (low DS0 ∷ []) ∷ (low AS ∷ low DTACK ∷ []) ∷ (low (iack 1) ∷ []) ∷ []);
@@ -171,7 +171,7 @@ acknowledge_after_an_answer_at_the_start = record {
       ∷ codes "cycle 10 I 5 end -" ∷ codes "verdict broken I3 11 IA.1" ∷ [];
 }
 
--- the same after the answer of a cycle that isn't an acknowledge
+-- an acknowledge is passed on after the answer of a cycle that isn't an acknowledge
 unfoldable pub acknowledge_after_the_answer_of_a_data_cycle : Recording
 acknowledge_after_the_answer_of_a_data_cycle = record {
   trace =
@@ -268,7 +268,7 @@ acknowledged_twice = record {
       ∷ codes "verdict broken I5 15 DTACK" ∷ [];
 }
 
--- all of them
+-- all recordings of this module
 abbrev pub acknowledges : List Recording
 acknowledges = acknowledge_cycle ∷ acknowledge_of_level_3 ∷ acknowledge_skips_slot
     ∷ acknowledge_outside_an_acknowledge_cycle ∷ acknowledge_with_its_input ∷ acknowledge_as_its_input_rises

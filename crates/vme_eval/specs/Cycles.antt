@@ -6,7 +6,7 @@ use Rattle.vme_trace.specs.declared.verdict.Verdict.TheVariants.{Conforming, Bro
 use Rattle.vme_eval.specs.Recording.{Recording}
 use Rattle.vme_eval.specs.Steps.{low, high, once_granted}
 
--- two transfers of one cycle, by modifier 3D
+-- a read and then a write of one cycle, by modifier 3D
 unfoldable pub read_modify_write : Recording
 read_modify_write = record {
   trace =
@@ -20,7 +20,7 @@ read_modify_write = record {
       ∷ codes "verdict conforming" ∷ [];
 }
 
--- the same in the other order
+-- a write and then a read of one cycle
 unfoldable pub write_then_read : Recording
 write_then_read = record {
   trace =
@@ -181,7 +181,7 @@ acknowledge_line_rises_as_the_cycle_starts = record {
       ∷ codes "verdict conforming" ∷ [];
 }
 
--- all of them
+-- all recordings of this module
 abbrev pub cycles : List Recording
 cycles = read_modify_write ∷ write_then_read ∷ two_writes ∷ read_write_write ∷ answer_as_the_cycle_starts_counts
     ∷ block_read ∷ block_turns ∷ block_turns_from_write_to_read ∷ free_cycle ∷ free_cycle_reads_writes_and_reads

@@ -96,7 +96,7 @@ earlier_break_of_a_later_rule = record {
       ∷ codes "verdict broken S1 10 A05" ∷ [];
 }
 
--- all of them
+-- all recordings of this module
 abbrev pub dumps : List Recording
 dumps = dumped_read ∷ dumped_nothing ∷ dumped_stray_answer ∷ dumped_unknown_strobe ∷ dumped_gap ∷ strobe_lost_at_once
     ∷ answer_low_before_judging ∷ address_lost_between_cycles ∷ earlier_break_of_a_later_rule ∷ []

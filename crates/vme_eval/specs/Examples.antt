@@ -139,7 +139,7 @@ named_rule NeverIdle = None
 named_rule (Broken b) = Some b.rule
 named_rule (Unreadable b) = Some b.rule
 
--- a verdict that the recording can't be read on
+-- the verdict is that the recording is unreadable
 abbrev pub says_unreadable : Verdict → Bool
 says_unreadable Conforming = false
 says_unreadable NeverIdle = false
@@ -149,7 +149,8 @@ says_unreadable (Unreadable b) = true
 abbrev pub Conforms : Trace → Type 0
 Conforms t = verdict t ≡ Conforming
 
--- the example is judged by that rule, unreadable if the rule says so and else broken; the recordings near it conform
+-- the verdict on the example names the rule, unreadable if the rule says so and else broken; the recordings nearest to
+-- it conform
 pub record IsShown (r : Rule) : Type 0 where
   pub rule : named_rule (verdict (example r)) ≡ Some r
   pub unreadable : says_unreadable (verdict (example r)) ≡ is_unreadable r

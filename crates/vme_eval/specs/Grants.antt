@@ -64,7 +64,7 @@ second_level_granted = record {
   rows = codes "start 1" ∷ codes "verdict broken G3 4 BG2.0" ∷ [];
 }
 
--- the same with the higher level second
+-- a second level is granted, which is the higher one
 unfoldable pub higher_level_granted_second : Recording
 higher_level_granted_second = record {
   trace = from_idle ((low (BR 2) ∷ low (BR 3) ∷ []) ∷ (low (grant 2 0) ∷ []) ∷ (low (grant 3 0) ∷ []) ∷ []);
@@ -138,7 +138,7 @@ request_with_the_grant = record {
   rows = codes "start 1" ∷ codes "tenure 3 level 3 slot 1 end 5" ∷ codes "verdict conforming" ∷ [];
 }
 
--- the request was low where judging started, and no more
+-- the request was low only where judging started
 unfoldable pub request_low_at_the_start : Recording
 request_low_at_the_start = record {
   trace = from_idle_but (BR 3) ((high (BR 3) ∷ []) ∷ (low (grant 3 0) ∷ []) ∷ (high (grant 3 0) ∷ []) ∷ []);
@@ -187,7 +187,7 @@ grant_withdrawn = record {
   rows = codes "start 1" ∷ codes "verdict conforming" ∷ [];
 }
 
--- all of them
+-- all recordings of this module
 abbrev pub grants : List Recording
 grants = slot_grants_ungranted ∷ slot_grants_with_its_input ∷ slot_grants_as_its_input_rises
     ∷ slot_ends_its_grant_early ∷ slot_ends_its_grant_as_its_input_falls ∷ second_level_granted

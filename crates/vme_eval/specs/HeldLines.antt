@@ -253,7 +253,7 @@ highest_modifier_line_changes = record {
       ∷ codes "verdict broken S1 3 AM5" ∷ [];
 }
 
--- its lowest line changes
+-- the lowest line of the modifier changes before the answer
 unfoldable pub lowest_modifier_line_changes : Recording
 lowest_modifier_line_changes = record {
   trace = from_idle_but BBSY ((low AS ∷ []) ∷ (low (AM 0) ∷ []) ∷ []);
@@ -283,7 +283,7 @@ lowest_address_line_changes = record {
       ∷ codes "verdict broken S1 3 A01" ∷ [];
 }
 
--- all of them
+-- all recordings of this module
 abbrev pub held_lines : List Recording
 held_lines = short_address ∷ address_changes_early ∷ address_changes_with_answer ∷ unneeded_line_changes
     ∷ address_lost_in_the_cycle ∷ highest_address_line_changes ∷ address_changes_as_the_cycle_ends

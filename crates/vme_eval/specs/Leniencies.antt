@@ -100,7 +100,7 @@ modifier_changes_in_a_block = record {
       ∷ codes "verdict conforming" ∷ [];
 }
 
--- a read-modify-write goes on after a bus error answered its read
+-- a read-modify-write continues after a bus error answered its read
 unfoldable pub write_after_the_bus_error_of_the_read : Recording
 write_after_the_bus_error_of_the_read = record {
   trace =
@@ -160,7 +160,7 @@ answer_and_direction_after_one_strobe = record {
       ∷ codes "transfer 3 of 2 read DTACK 4 close 7" ∷ codes "verdict conforming" ∷ [];
 }
 
--- all of them
+-- all recordings of this module
 abbrev pub leniencies : List Recording
 leniencies = chain_net_left_low ∷ acknowledge_net_left_low ∷ acknowledge_passed_on_twice
     ∷ read_modify_write_at_two_addresses ∷ read_modify_write_of_two_sizes

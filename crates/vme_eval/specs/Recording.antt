@@ -22,13 +22,13 @@ pub record Recording : Type 0 where
   pub verdict : Verdict
   pub rows : List (List ℕ)
 
--- each step may stand where it stands, and the definitions give the verdict and the rows
+-- no step is malformed, and the definitions give the verdict and the rows
 pub record Agrees (r : Recording) : Type 0 where
   pub well_formed : malformed_step r.trace ≡ None
   pub verdict : verdict r.trace ≡ r.verdict
   pub rows : told r.trace ≡ r.rows
 
--- so it is with each of these
+-- each of the recordings agrees
 abbrev pub AllAgree : List Recording → Type 0
 AllAgree [] = Unit {0}
 AllAgree (r ∷ rs) = Agrees r × AllAgree rs

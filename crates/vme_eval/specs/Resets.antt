@@ -77,7 +77,7 @@ reset_forgets_a_request = record {
       codes "start 1" ∷ codes "reset 3" ∷ codes "start 4" ∷ codes "verdict broken G5 5 BG3.0" ∷ [];
 }
 
--- the same without the reset
+-- a request that ended serves a grant, where there is no reset between them
 unfoldable pub request_without_a_reset : Recording
 request_without_a_reset = record {
   trace = from_idle ((low (BR 3) ∷ []) ∷ (high (BR 3) ∷ []) ∷ (low (grant 3 0) ∷ []) ∷ []);
@@ -150,7 +150,7 @@ strobe_unknown_after_the_reset = record {
   rows = codes "start 1" ∷ codes "reset 2" ∷ codes "start 5" ∷ codes "verdict conforming" ∷ [];
 }
 
--- it becomes unknown once the bus was idle again
+-- the address strobe becomes unknown once the bus was idle again
 unfoldable pub strobe_lost_after_the_reset : Recording
 strobe_lost_after_the_reset = record {
   trace = from_idle ((low SYSRESET ∷ []) ∷ (high SYSRESET ∷ []) ∷ (unknown AS ∷ []) ∷ (high AS ∷ []) ∷ []);
@@ -181,7 +181,8 @@ address_changes_after_the_reset = record {
       ∷ codes "transfer 10 read pending" ∷ codes "reset 11" ∷ codes "start 13" ∷ codes "verdict conforming" ∷ [];
 }
 
--- the same, where the address strobe becomes unknown in the reset, and high from there, so that it never rises
+-- the cycle that the reset ended needs its address no more, though the address strobe never rises: it becomes unknown
+-- in the reset, and then high
 unfoldable pub address_changes_after_a_lost_strobe : Recording
 address_changes_after_a_lost_strobe = record {
   trace =
@@ -206,7 +207,8 @@ direction_changes_after_the_reset = record {
       ∷ codes "transfer 10 read pending" ∷ codes "reset 11" ∷ codes "start 13" ∷ codes "verdict conforming" ∷ [];
 }
 
--- the same, where the data strobes become unknown in the reset, and high from there, so that none ever rises
+-- the read that the reset ended holds its direction no more, though no data strobe ever rises: they become unknown in
+-- the reset, and then high
 unfoldable pub direction_changes_after_lost_strobes : Recording
 direction_changes_after_lost_strobes = record {
   trace =
@@ -231,7 +233,8 @@ data_changes_after_the_reset = record {
       ∷ codes "transfer 10 write pending" ∷ codes "reset 11" ∷ codes "start 13" ∷ codes "verdict conforming" ∷ [];
 }
 
--- the strobes of the write never rise, and a data line that it moved is unknown as a read starts, and changes in it
+-- the strobes of the write that the reset ended never rise. A data line that it moved is unknown as a read starts, and
+-- changes in the read
 unfoldable pub read_after_the_reset_of_a_write : Recording
 read_after_the_reset_of_a_write = record {
   trace =
@@ -248,7 +251,8 @@ read_after_the_reset_of_a_write = record {
 }
 
 -- the answer of a read is withdrawn in the reset before a strobe rises, and the next cycle is a read too. No recording
--- tells whether H6 looks for the fall of an answer before a start: each is high there, so one that rises fell after it
+-- shows whether H6 looks for the fall of an answer before a start: each answer line is high there, so one that rises
+-- fell after it
 unfoldable pub answer_withdrawn_in_the_reset : Recording
 answer_withdrawn_in_the_reset = record {
   trace =
@@ -264,7 +268,7 @@ answer_withdrawn_in_the_reset = record {
       ∷ codes "transfer 16 of 16 read DTACK 17 close 18" ∷ codes "verdict conforming" ∷ [];
 }
 
--- the answer after the reset is withdrawn before a strobe rises: the one that rose in the reset counts no more
+-- the answer after the reset is withdrawn before a strobe rises: the strobe that rose in the reset counts no more
 unfoldable pub answer_withdrawn_early_after_the_reset : Recording
 answer_withdrawn_early_after_the_reset = record {
   trace =
@@ -333,8 +337,8 @@ grant_taken_twice_after_the_reset = record {
       ∷ codes "tenure 10 level 3 slot 1 end 11" ∷ codes "verdict broken B2 12 BBSY" ∷ [];
 }
 
--- a grant that came before the reset is taken after it, which breaks B1. So it is wherever no grant fell after a start,
--- since each is high there. So no recording tells whether B2 counts a grant before it
+-- a grant that came before the reset is taken after it, which breaks B1. B1 is broken wherever no grant fell after a
+-- start, since each grant net is high there. So no recording shows whether B2 counts a grant before the start
 unfoldable pub grant_before_the_reset_taken : Recording
 grant_before_the_reset_taken = record {
   trace =
@@ -364,7 +368,7 @@ open_tenure_ends_in_the_reset = record {
       ∷ codes "verdict conforming" ∷ [];
 }
 
--- an open tenure, a cycle and a transfer end at the instant of the reset, which is not listed of them
+-- an open tenure, a cycle and a transfer end at the instant of the reset: their ends aren't listed
 unfoldable pub everything_ends_at_the_reset : Recording
 everything_ends_at_the_reset = record {
   trace =
@@ -376,7 +380,7 @@ everything_ends_at_the_reset = record {
       ∷ codes "transfer 2 of 2 read DTACK 2 close -" ∷ codes "reset 3" ∷ codes "verdict conforming" ∷ [];
 }
 
--- so does a tenure that a grant began
+-- a tenure that a grant began ends at the instant of the reset: its end isn't listed
 unfoldable pub tenure_ends_at_the_reset : Recording
 tenure_ends_at_the_reset = record {
   trace =
@@ -396,7 +400,7 @@ unreadable_after_a_break_before_the_reset = record {
   rows = codes "start 1" ∷ codes "verdict broken H4 2 BERR" ∷ [];
 }
 
--- all of them
+-- all recordings of this module
 abbrev pub resets : List Recording
 resets = reset_in_a_read ∷ busy_after_the_reset ∷ answer_after_the_reset ∷ strobe_lost_with_the_reset
     ∷ reset_line_lost ∷ reset_forgets_a_request ∷ request_without_a_reset ∷ reset_for_good ∷ reset_before_judging

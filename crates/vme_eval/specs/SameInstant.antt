@@ -1,4 +1,5 @@
--- Recordings that break two rules at one instant, of which the one that stands first is named.
+-- Recordings that break two rules at one instant: the break of the rule that comes first is named. Each comment says
+-- what the two breaks are of, that one first.
 use Rattle.std.specs.Prelude.{List, [], ◌∷◌, codes}
 use Rattle.vme_trace.specs.LineNumbers.{AS, DS0, DS1, DTACK, BERR, WRITE, AM, A, BBSY, BR, D, grant, iack}
 use Rattle.vme_trace.specs.declared.rule.Rule.TheVariants.{U2, U3, U4, H5, S1, S2, C2, G1, G2, G3, G4, B4, I1, I2, I3}
@@ -199,7 +200,7 @@ address_and_data_unknown = record {
   rows = codes "start 1" ∷ codes "tenure 1 open end -" ∷ codes "verdict unreadable U2 2 A05" ∷ [];
 }
 
--- all of them
+-- all recordings of this module
 abbrev pub same_instant : List Recording
 same_instant = modifier_and_direction_unknown ∷ direction_unknown_as_the_answer_is_low
     ∷ data_unknown_as_the_answer_is_low ∷ answered_again_as_the_answer_is_withdrawn ∷ address_and_direction_change

@@ -29,22 +29,22 @@ abbrev pub steps_from : ℕ → List (List Change) → List Step
 steps_from time [] = []
 steps_from time (changes ∷ later) = at time changes ∷ steps_from (time + 10) later
 
--- a run of lines, high
+-- `n` lines from line `l` on become high
 abbrev pub high_from : ℕ → ℕ → List Change
 high_from l zero = []
 high_from l (suc n) = high l ∷ high_from (l + 1) n
 
--- three slots, of which nothing is known
+-- a backplane of three slots, with every line unknown
 abbrev pub unknown_lines : Levels
 unknown_lines = record { slots = 3; levels = replicate line_count Unknown }
 
--- every line of three slots high, but for address lines 24 to 31, of which nothing is known
+-- every line of three slots becomes high, but for address lines 24 to 31, which stay unknown
 abbrev pub idle_changes : List Change
 idle_changes =
     high_from 0 37 ++ high_from BBSY 5 ++ high_from (grant 0 0) 4 ++ high_from (grant 1 0) 4 ++ high_from (grant 2 0) 4
     ++ high_from (grant 3 0) 4 ++ high_from (iack 1) 3 ++ high_from (D 0) 32 ++ (high SYSRESET ∷ [])
 
--- the same, with one line low
+-- `idle_changes`, with line `l` low
 abbrev pub idle_changes_but : ℕ → List Change
 idle_changes_but l = map (λ c. if c.line == l then low l else c) idle_changes
 
@@ -58,23 +58,23 @@ granted =
     (low (BR 3) ∷ []) ∷ (low (grant 3 0) ∷ []) ∷ (low (grant 3 1) ∷ []) ∷ (low BBSY ∷ high (BR 3) ∷ [])
     ∷ (high (grant 3 0) ∷ []) ∷ (high (grant 3 1) ∷ []) ∷ []
 
--- an idle bus, and these steps
+-- an idle bus, and then the steps `later`
 abbrev pub from_idle : List (List Change) → Trace
 from_idle later = record { opening = unknown_lines; steps = at 0 idle_changes ∷ steps_from 10 later }
 
--- the same with one line low from the first step on
+-- a bus that is idle but for line `l`, which is low from the first step on, and then the steps `later`
 abbrev pub from_idle_but : ℕ → List (List Change) → Trace
 from_idle_but l later = record { opening = unknown_lines; steps = at 0 (idle_changes_but l) ∷ steps_from 10 later }
 
--- an idle bus, the bus granted to slot 2, and these steps
+-- an idle bus, the bus granted to slot 2, and then the steps `later`
 abbrev pub once_granted : List (List Change) → Trace
 once_granted later = from_idle (granted ++ later)
 
--- the same on a bus that is idle from the opening on
+-- a bus that is idle from the opening on, granted to slot 2, and then the steps `later`
 abbrev pub granted_from_idle : List (List Change) → Trace
 granted_from_idle later = record { opening = idle_lines; steps = steps_from 10 (granted ++ later) }
 
--- an idle bus, a grant of level 3 that is passed on to slot 3, and these steps
+-- an idle bus, a grant of level 3 that is passed on to slot 3, and then the steps `later`
 abbrev pub passed_on : List (List Change) → Trace
 passed_on later =
     from_idle
@@ -90,7 +90,7 @@ dump_lines = record {
       ++ (Low ∷ []) ++ replicate 146 High;
 }
 
--- that opening, and these steps
+-- the opening `dump_lines`, and then `steps`
 abbrev pub dumped_at : List Step → Trace
 dumped_at steps = record { opening = dump_lines; steps = steps }
 

@@ -8,7 +8,7 @@ use Rattle.vme_trace.specs.Rules.{is_single, is_block_class}
 use Rattle.vme_trace.specs.declared.level.Level.{Level}
 use Rattle.vme_trace.specs.declared.level.Level.TheVariants.{Low, High, Unknown}
 
--- the level of a modifier line, by the number that its bit and those above make
+-- the level of the modifier line whose bit is the lowest of `b`
 abbrev pub bit : ℕ → Level
 bit b = if b % 2 == 1 then High else Low
 
@@ -22,7 +22,7 @@ lines_of_code c = record {
       ++ replicate 180 High;
 }
 
--- what a cycle is that starts with these lines, and the highest address line that it asks
+-- a cycle that starts with the levels `v` is a single transfer, a block transfer, or needs address lines 1 to `n`
 abbrev pub is_single_transfer : Levels → Bool
 is_single_transfer v = is_single (class_of v)
 
@@ -36,19 +36,19 @@ asks_up_to n v = (needs_of v).highest == n
 abbrev pub codes_that : (Levels → Bool) → List ℕ
 codes_that p = those (λ c. p (lines_of_code c)) 0 64
 
--- three slots, all high but a line
+-- three slots, all lines high but line `l`, which has level `x`
 abbrev pub high_but : ℕ → Level → Levels
 high_but l x = set_level (record { slots = 3; levels = replicate line_count High }) l x
 
--- the lines that keep the bus from being idle by a level of theirs
+-- the lines that alone keep the bus from being idle by level `x`
 abbrev pub not_idle_with : Level → List ℕ
 not_idle_with x = those (λ l. not (is_idle (high_but l x))) 0 line_count
 
--- the lines of which nothing may be unknown
+-- the lines by which control of the bus is lost while one of them is unknown
 abbrev pub lost_lines : List ℕ
 lost_lines = those (λ l. loses_control (high_but l Unknown)) 0 line_count
 
--- the nets of three slots
+-- the nets of the grant chains and of the IACK* chain of three slots
 abbrev pub nets : List ℕ
 nets =
     50 ∷ 51 ∷ 52 ∷ 53 ∷ 72 ∷ 73 ∷ 74 ∷ 75 ∷ 94 ∷ 95 ∷ 96 ∷ 97 ∷ 116 ∷ 117 ∷ 118 ∷ 119
@@ -58,7 +58,7 @@ nets =
 abbrev pub high_lines : List ℕ
 high_lines = 0 ∷ 1 ∷ 2 ∷ 3 ∷ 4 ∷ nets ++ 191 ∷ []
 
--- these, and those of the interrupt acknowledge, of the busy bus and of its requests
+-- `high_lines`, the interrupt acknowledge, the busy line and the bus requests
 abbrev pub control_lines : List ℕ
 control_lines = 0 ∷ 1 ∷ 2 ∷ 3 ∷ 4 ∷ 5 ∷ 45 ∷ 46 ∷ 47 ∷ 48 ∷ 49 ∷ nets ++ 191 ∷ []
 

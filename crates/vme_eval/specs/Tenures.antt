@@ -55,7 +55,7 @@ open_tenure_ends = record {
   rows = codes "start 1" ∷ codes "tenure 1 open end 2" ∷ codes "verdict conforming" ∷ [];
 }
 
--- the same, and the bus gets busy and free again
+-- the bus is busy where judging starts, gets free, and then busy by a grant and free again
 unfoldable pub tenure_after_an_open_one : Recording
 tenure_after_an_open_one = record {
   trace =
@@ -234,7 +234,7 @@ everything_starts_at_one_instant = record {
       ∷ codes "transfer 4 of 4 read DTACK 6 close 7" ∷ codes "verdict conforming" ∷ [];
 }
 
--- the bus is taken behind the last slot
+-- the bus is taken by a grant that went past the last slot
 unfoldable pub grant_past_last_slot : Recording
 grant_past_last_slot = record {
   trace = passed_on ((low (grant 3 3) ∷ []) ∷ (low BBSY ∷ []) ∷ []);
@@ -242,7 +242,7 @@ grant_past_last_slot = record {
   rows = codes "start 1" ∷ codes "verdict broken B4 7 BBSY" ∷ [];
 }
 
--- the same as the grant ends
+-- the bus is taken as a grant ends that went past the last slot
 unfoldable pub past_the_last_slot_as_the_grant_ends : Recording
 past_the_last_slot_as_the_grant_ends = record {
   trace = passed_on ((low (grant 3 3) ∷ []) ∷ (low BBSY ∷ high (grant 3 0) ∷ []) ∷ []);
@@ -250,7 +250,7 @@ past_the_last_slot_as_the_grant_ends = record {
   rows = codes "start 1" ∷ codes "verdict broken B4 7 BBSY" ∷ [];
 }
 
--- all of them
+-- all recordings of this module
 abbrev pub tenures : List Recording
 tenures = tenure_on_level_0 ∷ tenure_on_level_1 ∷ tenure_on_level_2 ∷ taken_by_the_last_slot ∷ open_tenure_ends
     ∷ tenure_after_an_open_one ∷ two_tenures ∷ grant_read_at_the_instant_before ∷ slot_read_as_the_bus_is_taken

@@ -18,7 +18,7 @@ read_cycle = record {
       ∷ codes "transfer 10 of 9 read DTACK 11 close 12" ∷ codes "verdict conforming" ∷ [];
 }
 
--- the same from an idle opening on, without the step that makes the bus idle
+-- a read from an idle opening on, without the step that makes the bus idle
 unfoldable pub read_cycle_from_idle : Recording
 read_cycle_from_idle = record {
   trace =
@@ -224,7 +224,7 @@ answer_withdrawn_early = record {
       ∷ codes "transfer 10 of 9 read BERR 11 close -" ∷ codes "verdict broken H6 12 BERR" ∷ [];
 }
 
--- the second answer rises early; a strobe rose after the first alone
+-- the second answer rises early: a strobe rose only after the first answer
 unfoldable pub second_answer_withdrawn_early : Recording
 second_answer_withdrawn_early = record {
   trace =
@@ -292,7 +292,7 @@ answer_without_a_cycle = record {
       ∷ codes "verdict broken H8 9 DTACK" ∷ [];
 }
 
--- the strobe falls before the address strobe: the row of the transfer stands before that of its cycle
+-- the strobe falls before the address strobe: the row of the transfer comes before that of its cycle
 unfoldable pub strobe_before_the_cycle : Recording
 strobe_before_the_cycle = record {
   trace =
@@ -318,7 +318,7 @@ transfer_between_two_cycles = record {
       ∷ codes "cycle 15 S 39 FFFFDE end 17" ∷ codes "verdict conforming" ∷ [];
 }
 
--- all of them
+-- all recordings of this module
 abbrev pub transfers : List Recording
 transfers = read_cycle ∷ read_cycle_from_idle ∷ pipelined_cycles ∷ bus_error ∷ starts_before_the_answer_rose
     ∷ answer_rises_as_the_next_transfer_starts ∷ strobes_rise_early ∷ strobes_rise_with_answer

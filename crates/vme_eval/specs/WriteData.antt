@@ -420,7 +420,7 @@ data_lost_with_a_bus_error = record {
       ∷ codes "transfer 2 of 2 write BERR 3 close - data ------FF" ∷ codes "verdict conforming" ∷ [];
 }
 
--- all of them
+-- all recordings of this module
 abbrev pub write_data : List Recording
 write_data = data_unknown ∷ unmoved_data_unknown ∷ data_change_with_the_answer ∷ data_change ∷ unmoved_data_change
     ∷ data_of_a_read ∷ second_byte_unknown ∷ second_byte_unknown_with_the_answer

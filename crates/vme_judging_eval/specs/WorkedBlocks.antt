@@ -16,25 +16,26 @@ block number opening steps = record { number = number; opening = opening; steps 
 abbrev pub first : Block
 first = block 0 unknown_lines (at 0 (high AS ∷ []) ∷ at 10 (high DS0 ∷ []) ∷ [])
 
--- the lines that it leaves
+-- the levels after the first block
 abbrev pub left : Levels
 left = left_by first
 
--- a block that goes on at some time
+-- a block after the first one, with a step at `time`
 abbrev pub next : ℕ → Block
 next time = block 1 left (at time (high DS1 ∷ []) ∷ [])
 
--- a block without steps, and one that goes on behind it at some time
+-- a block without steps after the first one
 abbrev pub empty : Block
 empty = block 1 left []
 
+-- a block after the empty one, with a step at `time`
 abbrev pub after_empty : ℕ → Block
 after_empty time = block 2 left (at time (high DS1 ∷ []) ∷ [])
 
--- a block that goes on at time 20 with the same levels, on a backplane of that many slots
+-- a block after the first one, with the same levels and a step at time 20, on a backplane of `slots` slots
 abbrev pub on_slots : ℕ → Block
 on_slots slots = block 1 (record left { slots = slots }) (at 20 (high DS1 ∷ []) ∷ [])
 
--- a block that opens with other lines: a strobe isn't high
+-- a block that opens with other levels: a strobe isn't high
 abbrev pub on_other_lines : Block
 on_other_lines = block 1 (changed unknown_lines (high AS ∷ [])) (at 20 (high DS1 ∷ []) ∷ [])

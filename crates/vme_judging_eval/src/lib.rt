@@ -1,12 +1,12 @@
-//! What the definitions say of where judging starts and ends, of which break is named, and of which
-//! blocks join, on worked recordings and blocks, by computing them.
+//! What the definitions say of where judging starts and ends, of which break (violation of a rule)
+//! is named, and of which blocks join, on worked recordings and blocks, by computing them.
 //!
-//! Each function is a law: its contract is what it says, and the prover computes it. The recordings
-//! stand in vme_eval, with the verdict and the listing that each should get, and the blocks in
+//! Each function is a law: its contract states it, and the prover computes it. The recordings are in
+//! vme_eval, with the verdict and the listing that each should get, and the blocks in
 //! `specs/WorkedBlocks`.
 //!
-//! - [`malformed_steps`]: steps that may not stand where they stand.
-//! - [`least_of_two`]: the lesser of two levels, and of two malformed steps.
+//! - [`malformed_steps`]: steps that may not follow what precedes them.
+//! - [`least_of_two`]: the lesser of two levels, and the first of two malformed steps.
 //! - [`judged_stretches`]: what is judged.
 //! - [`dumps`]: recordings as from a dump, and where judging starts and ends (U1).
 //! - [`resets`]: resets of the bus, and the starts after them.
@@ -17,8 +17,8 @@
 //!   across a block without steps too.
 //!
 //! By their contracts, `join` and `append` of vme_summary answer that spans are torn exactly where
-//! their blocks don't join; vme_summary_tests asks them about spans. Nothing is said of recordings
-//! and blocks that don't stand there. Start reading at the law of interest.
+//! their blocks don't join; vme_summary_tests asks them about spans. Nothing is said of other
+//! recordings and blocks. Start reading at the law of interest.
 #![tactic(auto)]
 
 ghost use Rattle.std.specs.Prelude.{◌≡◌, ◌∷◌, [], Some};
@@ -35,8 +35,9 @@ ghost use Rattle.vme_eval.specs.Leniencies.{leniencies};
 ghost use Rattle.vme_summary.specs.Joins.{BlocksJoin};
 ghost use Rattle.vme_judging_eval.specs.WorkedBlocks.{first, next, empty, after_empty, on_slots, on_other_lines};
 
-/// Steps that may not stand where they stand: one that changes nothing, one that is no later than the one before, and
-/// ones that change a line that one slot doesn't have, a line to the level that it has, and lines out of order.
+/// Steps that may not follow what precedes them: one that changes nothing, one that is no later than the step before,
+/// and ones that change a line that a backplane of one slot doesn't have, a line to the level that it has, and lines
+/// out of order.
 pub fn malformed_steps()
     ensures no_change { malformed_step (dumped_at (at 5 [] ∷ [])) ≡ Some 0 }
     ensures no_later { malformed_step (dumped_at (at 5 (low AS ∷ []) ∷ at 5 (low DS0 ∷ []) ∷ [])) ≡ Some 1 }
@@ -47,14 +48,14 @@ pub fn malformed_steps()
 {}
 
 /// Of two levels that are granted the lesser one is a tenure's, and of two malformed steps the first is named. No
-/// verdict and no listing shows the one, since two such levels break a rule, and none speaks of the other.
+/// verdict or listing shows the former, since two granted levels break a rule, or says anything of the latter.
 pub fn least_of_two()
     ensures level { tenure_level two_levels_granted_at_once.trace 3 ≡ Some 2 }
     ensures step { malformed_step (dumped_at (at 5 [] ∷ at 3 [] ∷ [])) ≡ Some 0 }
 {}
 
-/// What is judged: up to each reset and from the next idle instant on, and nothing more once a line was lost. The last
-/// no verdict and no listing shows, since the loss is the least break.
+/// What is judged: up to each reset and from the next idle instant on, and nothing more once a line was lost. No
+/// verdict or listing shows that nothing more is judged, since the loss is the least break.
 pub fn judged_stretches()
     ensures after_resets { judged two_resets.trace ≡ (1, 2) ∷ (3, 4) ∷ (5, 6) ∷ [] }
     ensures after_a_loss { judged reset_after_a_lost_strobe.trace ≡ (1, 2) ∷ [] }
@@ -70,7 +71,7 @@ pub fn resets()
     ensures { AllAgree resets }
 {}
 
-/// Recordings that break two rules at one instant: the one that stands first is named.
+/// Recordings that break two rules at one instant: the rule that comes first is named.
 pub fn same_instant()
     ensures { AllAgree same_instant }
 {}
@@ -88,7 +89,7 @@ pub fn blocks_that_join()
 {}
 
 /// Blocks are torn where a number is left out, where the lines or the slots differ, and where the time isn't later than
-/// that of the last step so far, across an empty block too: of these three each two that stand side by side join.
+/// that of the last step so far, across an empty block too: there each two adjacent blocks join.
 pub fn blocks_that_are_torn()
     ensures by_number { ¬ BlocksJoin (first ∷ after_empty 11 ∷ []) }
     ensures by_lines { ¬ BlocksJoin (first ∷ on_other_lines ∷ []) }

@@ -1,4 +1,4 @@
--- Each rule is shown by the recordings that stand for it.
+-- Each rule is shown by its example and the recordings nearest to that.
 use Rattle.std.proofs.Common.{ap, arith}
 use Rattle.std.specs.Prelude.{[], ◌∷◌, List, All}
 use Rattle.std.proofs.lemmas.List.Elements.{All-nil, All-cons}

@@ -1,7 +1,7 @@
 //! Each rule has an example that breaks it, and recordings nearest to that which conform.
 //!
-//! The examples stand in `specs/Examples` of vme_eval. What the definitions say of them is computed
-//! in the crates of laws below; the one law here, [`every_rule`], puts it together, rule by rule.
+//! The examples are in `specs/Examples` of vme_eval. What the definitions say of them is computed
+//! in the crates of laws below. The one law here, [`every_rule`], puts it together, rule by rule.
 //! Nothing is said of other recordings. Start reading at `IsShown` of `specs/Examples`.
 #![tactic(auto)]
 

@@ -1,4 +1,4 @@
--- The step from some levels to others.
+-- The step from one set of levels to another.
 use Rattle.std.proofs.Common.{◌≡◌, ◌≢◌, ℕ, zero, suc, ◌+◌, ◌<◌, ◌≤◌, Bool, true, false, cond, not, ◌&&◌, ◌||◌, List, []}
 use Rattle.std.proofs.Common.{◌∷◌, ◌++◌, length, map, refl, sym, ap, ◌∙◌, arith, inl, inr, ◌⊎◌}
 use Rattle.std.specs.Prelude.{nat_le, nat_lt, ◌==◌}
@@ -21,7 +21,7 @@ use Rattle.vme_bind.proofs.RecorderLemmas.{alike, alike_differs, same_levels, se
 use Rattle.vme_bind.proofs.CaptureLemmas.{changed-those, length-changed, is_below}
 use Rattle.vme_bind.proofs.StepsLemmas.{some_of}
 
--- ---- from levels to the same
+-- ---- from levels to the same levels
 
 same_not : (v : Levels) (l : ℕ) → differs v v l ≡ false
 same_not v l = alike_differs v v l refl
@@ -46,13 +46,13 @@ pub record AreOfOne (v w : Levels) : Type 0 where
   pub first : length v.levels ≡ line_count
   pub second : length w.levels ≡ line_count
 
--- what no line distinguishes is the same
+-- levels that differ on no line are equal
 pub all_alike : (v w : Levels) → AreOfOne v w → any (differs v w) 0 line_count ≡ false → v ≡ w
 all_alike v w one none =
     same_levels v w one.slots one.first one.second
     (λ l lt. alike v w l (any-fails (differs v w) 0 line_count l none (omega arith) lt))
 
--- the changes from some levels to others lead there
+-- the changes between `v` and `w` lead from `v` to `w`
 pub changes-lead : (v w : Levels) → AreOfOne v w → changed v (changes_between v w) ≡ w
 changes-lead v w one =
     same_levels (changed v (changes_between v w)) w (slots-kept v (changes_between v w) ∙ one.slots)
@@ -75,7 +75,7 @@ step-leads time v w one = by_test (any (differs v w) 0 line_count) refl
     by_test true e = changes-lead v w one
     by_test false e = all_alike v w one e
 
--- ---- changes that lead from levels to others
+-- ---- changes that lead from some levels to others
 
 four_parts : (a b c d : Bool) → (a && b && c && d) ≡ true → (a ≡ true) × (b ≡ true) × (c ≡ true) × (d ≡ true)
 four_parts true true true true h = (refl, refl, refl, refl)
@@ -105,7 +105,7 @@ other_number m l lt = grind (arith, nat_tests)
 same_number : (m l : ℕ) → (m == l) ≡ true → m ≡ l
 same_number m l h = grind (arith, nat_tests)
 
--- what is said of the first of some changes, and the changes behind it
+-- what holds of the first of some changes, and of those after it
 pub record FirstIs (v : Levels) (k : ℕ) (c : Change) (cs : List Change) : Type 0 where
   pub from : k ≤ c.line
   pub exists : has_line v.slots c.line ≡ true
@@ -125,7 +125,7 @@ first_is v k c cs h =
       rest = parts.3;
     }
 
--- no line below the lowest changes
+-- no line below `k` changes
 pub lines_below : (v : Levels) (k : ℕ) (cs : List Change) (l : ℕ) → are_changes v k cs ≡ true → l < k → is_changed cs l
     ≡ false
 lines_below v k [] l h lt = refl
@@ -165,8 +165,8 @@ exists_below slots l h = by_tests (nat_lt l (grant 0 0)) (is_grant l) (is_slot_i
         (arith, less_than l (D 0) (second_of (nat_le (iack 1) l) (nat_lt l (D 0)) is_iack))
     by_tests false false false is_low is_grant_net is_iack h = less_than l line_count h
 
--- The changes from levels to those that they lead to are these: seen from levels that are the same on the lines at
--- hand.
+-- The changes `cs` from `v` are the changes between `v` and the levels to which they lead. These are made from `u`,
+-- which is `v` on the lines from `k` on.
 changes_again : (u v : Levels) (k : ℕ) (cs : List Change) → length u.levels ≡ line_count
     → ((l : ℕ) → k ≤ l → level_at u l ≡ level_at v l)
     → are_changes v k cs ≡ true → map (change_to (changed u cs)) (those (differs v (changed u cs)) k line_count) ≡ cs
@@ -204,7 +204,7 @@ changes_again u v k (c ∷ cs) whole same h =
         ≡ line_count
     length-set_level v l x e = set_all v l x e
 
--- a step that may follow is what lies between the levels on both sides
+-- a step that may follow is the step between the levels before it and those after it
 pub step-between : (time : ℕ) (v : Levels) (cs : List Change) → length v.levels ≡ line_count → are_changes v 0 cs ≡ true
     → is_empty cs ≡ false
     → step_between time v (changed v cs) ≡ made_step time cs
@@ -224,9 +224,9 @@ step-between time v cs whole h some = by_test (any (differs v (changed v cs)) 0 
         line_count e) in
         absurd (false≢true (sym some ∙ empty cs none))
 
--- ---- the step that lies between levels may follow
+-- ---- the step between two sets of levels may follow the first
 
--- levels that one leads to: the lines on which they differ exist
+-- a step can lead from `v` to `w`: the lines on which they differ exist
 pub record Leads (v w : Levels) : Type 0 where
   pub one : AreOfOne v w
   pub exist : (l : ℕ) → differs v w l ≡ true → has_line v.slots l ≡ true
@@ -245,7 +245,7 @@ four_again a b c d e f g h = rw (e, f, g, h) refl
 at_least : (a b : ℕ) → a ≤ b → nat_le a b ≡ true
 at_least a b h = grind (arith, nat_tests)
 
--- a lower lowest line will do
+-- changes of lines from `k + 1` on are changes of lines from `k` on
 lower : (v : Levels) (k : ℕ) (cs : List Change) → are_changes v (k + 1) cs ≡ true → are_changes v k cs ≡ true
 unfolding are_changes
 lower v k [] h = refl
@@ -255,7 +255,7 @@ lower v k (c ∷ cs) h =
     (are_changes v (c.line + 1) cs)
     (at_least k c.line (omega (arith, is.from))) is.exists is.other is.rest
 
--- the changes between levels are changes, from a line on
+-- the changes between `v` and `w`, on the lines from `k` on, may be made
 are_between : (v w : Levels) → Leads v w → (d k : ℕ) → k + d ≡ line_count → are_changes v k
     (map (change_to w) (those (differs v w) k line_count)) ≡ true
 unfolding are_changes

@@ -1,4 +1,4 @@
--- What a binding makes of a dump is a recording, and settled by 0 it stays.
+-- A binding makes a recording of a dump, and a skew of 0 leaves it as it is.
 use Rattle.std.proofs.Common.{◌≡◌, ℕ, Bool, true, false, List, length, refl, ap, ◌∙◌}
 use Rattle.std.specs.Prelude.{Result, Ok, Err, nat_lt, if◌then◌else◌}
 use Rattle.vcd_read.specs.Contents.{Contents}
@@ -34,7 +34,7 @@ module _ {W : Type 0} (made : W → Trace) where
   abbrev or_made : W → Result Trace BindFault
   or_made w = Ok (made w)
 
-  -- what is made of some bound groups, if there are any and it isn't too long, where all that is made is a recording
+  -- a skew of 0 leaves what is made of some bound groups, or the fault, as it is, if all that is made is a recording
   made-stays : (r : Result W BindFault) → ((w : W) → r ≡ Ok w → IsRecording (made w))
       → settled_or 0 (r >>= or_limited) ≡ (r >>= or_limited)
   made-stays (Err fault) is = refl

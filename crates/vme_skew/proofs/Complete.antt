@@ -44,7 +44,7 @@ not-less a b h = grind (arith, nat_tests)
 abbrev made_step : ℕ → List Change → List Step
 made_step time changes = record { time = time; changes = changes } ∷ []
 
--- a step between levels is at its time
+-- the step between two sets of levels has the time that it is given
 step-times : (time : ℕ) (v w : Levels) → All (λ (s : Step). s.time ≡ time) (step_between time v w)
 step-times time v w = by_test (any (differs v w) 0 line_count)
   where
@@ -63,7 +63,7 @@ module _ (skew : ℕ) (t : Trace) where
   nothing_first : (i : ℕ) → i ≡ 0 → length (steps_before skew t i ++ step_to skew t i) ≡ 0
   nothing_first i e = omega (arith, (few skew t i).1, e)
 
-  -- the steps of the groups before that of an instant come more than the skew before it begins
+  -- the steps of the groups before that of an instant are more than the skew earlier than its beginning
   before-earlier : (n : ℕ) → All (λ (s : Step). s.time + skew < start_time n) (steps_before skew t n)
   unfolding group_start steps_before
   before-earlier zero = All-nil (λ (s : Step). s.time + skew < start_time zero)
@@ -87,7 +87,7 @@ module _ (skew : ℕ) (t : Trace) where
             (step-times (start_time i) (levels_at t (group_start skew t i - 1)) (levels_at t i)))
       ]
 
-  -- they are complete at each time from there on
+  -- the steps of the groups before that of an instant are complete at each time from its beginning on
   before-complete : (n time : ℕ) → start_time n ≤ time → filter (is_complete skew time) (steps_before skew t n)
       ≡ steps_before skew t n
   before-complete n time le =
@@ -95,7 +95,7 @@ module _ (skew : ℕ) (t : Trace) where
       (All-weaker (λ (s : Step). s.time + skew < start_time n) (λ (s : Step). is_complete skew time s ≡ true)
       (λ s lt. less-test (s.time + skew) time (omega (arith, lt, le))) (steps_before skew t n) (before-earlier n))
 
-  -- the step of the group of an instant is complete if that is more than the skew behind its beginning
+  -- the step of the group of an instant is complete at a time that is more than the skew after its beginning
   pub group-complete : (n time : ℕ) → filter (is_complete skew time) (step_to skew t n)
       ≡ cond (nat_lt (start_time n + skew) time) (step_to skew t n) []
   group-complete n time = by_test (any (differs v w) 0 line_count) (nat_lt (start_time n + skew) time) refl
@@ -150,7 +150,7 @@ module _ (skew : ℕ) (t : Trace) where
       (before-complete n time (omega (arith, le, start-no_later formed n (omega arith))))
       ∙ ap (λ (xs : List Step). steps_before skew t n ++ xs) (group-complete n time)
 
--- ---- what is complete is a front
+-- ---- what is complete is a prefix
 
 abbrev pub IsPrefix : List Step → List Step → Type 0
 IsPrefix xs ys = (rest : List Step) × (ys ≡ xs ++ rest)
@@ -212,7 +212,7 @@ module _ (skew time : ℕ) (t : Trace) where
       of_these : List Step → Trace
       of_these xs = record { opening = t.opening; steps = xs }
 
--- ---- settled by nothing
+-- ---- a skew of 0
 
 pub until-by_zero : (time : ℕ) (t : Trace) → IsRecording t → All (λ (s : Step). s.time < time) t.steps
     → settled_until 0 time t ≡ t

@@ -1,4 +1,4 @@
--- What is given on, step by step.
+-- What a settling visitor passes on, step by step.
 use Rattle.std.proofs.Common.{◌≡◌, ℕ, suc, ◌+◌, ◌<◌, Bool, true, ◌&&◌, List, ◌++◌, length}
 use Rattle.std.proofs.Common.{refl, sym, ap, ◌∙◌, subst, arith, inl, inr}
 use Rattle.std.specs.Prelude.{Option, None, max, min, nat_le, nat_lt, ◌==◌, ◌||◌}
@@ -56,13 +56,13 @@ given-more s recorded h step out = record {
     in_order : malformed_step (more s.given step) ≡ None → (s.in_order && nat_le s.reached step.time) ≡ true
     in_order formed = rw (h.in_order (formed-before s.given step formed), late formed) refl
 
--- ---- what calls leave
+-- ---- the invariant after each call
 
 counted-more : (n count next : ℕ) → count ≡ min n (capture_limit + 1) → next ≡ min (count + 1) (capture_limit + 1)
     → next ≡ min (suc n) (capture_limit + 1)
 counted-more n count next is next_is = grind (arith, nat_tests)
 
--- a step more was taken
+-- one more step was taken
 pub keeps-more : (skew own count now : ℕ) (is_whole : Bool) (s next : Settling) (recorded made : Trace) (step : Step)
     (out : Option Step) → KeepsSettled skew own count is_whole s recorded → next ≡ taken s step out
     → now ≡ min (count + 1) (capture_limit + 1) → made ≡ with_steps recorded (option_to_list out)
@@ -78,7 +78,7 @@ keeps-more skew own count now is_whole s next recorded made step out h is now_is
           (given-more s recorded (h.given_on whole) step out);
     })
 
--- where the recording ends, all was given on
+-- where the recording ends, all steps were passed on
 module _ (skew own count : ℕ) (is_whole : Bool) (s : Settling) (recorded : Trace)
     (h : KeepsSettled skew own count is_whole s recorded) (whole : is_whole ≡ true) (last : Option Step) (made : Trace)
     (ends : malformed_step s.given ≡ None → s.in_order ≡ true

@@ -18,7 +18,7 @@ use Rattle.vme_bind.proofs.RecorderLemmas.{set_all, set_other}
 use Rattle.vme_skew.specs.Group.{GroupLevels, KeepsTouchedLines, ListsTouchedLines}
 use Rattle.vme_skew.proofs.TouchedLines.{touched-more, touched-none}
 
--- the time of a step comes more than the skew behind a beginning
+-- a time is more than the skew after the beginning: as the code tests it, and as it is defined
 pub over_is : (start skew time : ℕ) → nat_lt skew (time - start) ≡ nat_lt (start + skew) time
 over_is start skew time = grind (arith, nat_tests)
 
@@ -70,13 +70,13 @@ keeps-again before now touched marks m x h here = record {
   marked = h.marked;
 }
 
--- the lines come in another order
+-- marked lines stay listed if the list is permuted
 pub marked-permuted : (touched others : List ℕ) (marks : List Bool) → IsPermutation touched others
     → ((l : ℕ) → get_or marks l false ≡ true → Contains touched l)
     → (l : ℕ) → get_or marks l false ≡ true → Contains others l
 marked-permuted touched others marks p h l k = Contains-permutation touched others l p (h l k)
 
--- one change more is made
+-- one more change is made
 changed-more : (v : Levels) (cs : List Change) (c : Change) → changed v (cs ++ c ∷ [])
     ≡ set_level (changed v cs) c.line c.level
 unfolding changed

@@ -1,4 +1,4 @@
--- What a recording with one step more is settled to.
+-- The recording to which one with one more step settles.
 use Rattle.std.proofs.Common.{◌≡◌, ℕ, zero, suc, ◌+◌, ◌-◌, ◌<◌, ◌≤◌, Bool, true, false, cond, List, [], ◌∷◌, ◌++◌}
 use Rattle.std.proofs.Common.{length, refl, ap, ◌∙◌, arith}
 use Rattle.std.specs.Prelude.{Some, slice_get, ◌==◌, ◌||◌, nat_lt}
@@ -18,7 +18,7 @@ get_last : (xs : List Step) (step : Step) → slice_get (xs ++ step ∷ []) (len
 get_last [] step = refl
 get_last (x ∷ xs) step = get_last xs step
 
--- the beginning of a group is no later
+-- the group of an instant begins no later than the instant
 pub start-le : (skew : ℕ) (t : Trace) (i : ℕ) → group_start skew t i ≤ i
 unfolding group_start
 start-le skew t zero = omega arith

@@ -1,4 +1,4 @@
--- What is complete of a settled recording stays so, and comes first, while the recording goes on.
+-- What is complete of a settled recording stays so, and stays a prefix, as more steps come.
 use Rattle.std.proofs.Common.{◌≡◌, ℕ, suc, ◌+◌, ◌≤◌, Bool, true, false, cond, ◌||◌, List, [], ◌∷◌, ◌++◌, length, refl}
 use Rattle.std.proofs.Common.{sym, ap, ◌∙◌, arith, append_assoc}
 use Rattle.std.specs.Prelude.{All, filter, nat_lt, ◌==◌}
@@ -82,7 +82,7 @@ module _ (skew time : ℕ) (t : Trace) (step : Step) (late : time ≤ step.time)
       (length_more t.steps step)
       ∙ ap (of_parts t) (core (begins skew t step) refl)
 
--- nor do several
+-- several steps that aren't earlier complete nothing
 pub until-kept : (skew time : ℕ) (t : Trace) (more_steps : List Step)
     → All (λ (step : Step). time ≤ step.time) more_steps
     → settled_until skew time (with_steps t more_steps) ≡ settled_until skew time t
@@ -92,7 +92,7 @@ until-kept skew time t (s ∷ ss) late =
     ∙ until-kept skew time (more t s) ss (All-tail (λ (step : Step). time ≤ step.time) s ss late)
     ∙ kept-one skew time t s (All-head (λ (step : Step). time ≤ step.time) s ss late)
 
--- ---- fronts
+-- ---- prefixes
 
 fewer : (p q : Step → Bool) → ((s : Step) → p s ≡ true → q s ≡ true) → (xs : List Step)
     → length (filter p xs) ≤ length (filter q xs)
@@ -106,7 +106,7 @@ fewer p q h (x ∷ xs) = by_tests (p x) (q x) (h x) (fewer p q h xs)
     by_tests false true k so_far = omega (arith, so_far)
     by_tests false false k so_far = so_far
 
--- of two fronts the shorter one is a front of the other
+-- of two prefixes of a list the shorter one is a prefix of the other
 shorter-first : (xs ys more_xs more_ys : List Step) → xs ++ more_xs ≡ ys ++ more_ys → length xs ≤ length ys
     → IsPrefix xs ys
 shorter-first [] ys more_xs more_ys e le = (ys, refl)
@@ -124,7 +124,7 @@ still-complete : (skew time later : ℕ) → time ≤ later → (s : Step) → i
 still-complete skew time later le s h =
     less-test (s.time + skew) later (omega (arith, not-less (s.time + skew) time h, le))
 
--- what is complete at a time is a front of what is complete at a later one
+-- what is complete at a time is a prefix of what is complete at a later one
 pub until-later : (skew time later : ℕ) (t : Trace) → time ≤ later
     → (rest : List Step) × (settled_until skew later t ≡ with_steps (settled_until skew time t) rest)
 unfolding settled_until settled

@@ -1,4 +1,4 @@
--- The laws of what a recording is settled to.
+-- The laws of settled recordings.
 use Rattle.std.proofs.Common.{◌≡◌, ℕ, zero, suc, ◌+◌, ◌-◌, ◌<◌, ◌≤◌, Bool, true, false, cond, not, ◌&&◌, ◌||◌, List, []}
 use Rattle.std.proofs.Common.{◌∷◌, ◌++◌, length, take, refl, sym, ap, ◌∙◌, subst, arith, inl, inr, ◌⊎◌}
 use Rattle.std.specs.Prelude.{Option, None, Some, slice_get, nat_lt, ◌==◌}
@@ -42,7 +42,7 @@ not_true : (b : Bool) → not b ≡ true → b ≡ false
 not_true false h = refl
 not_true true h = absurd cc
 
--- what is known of the step that stands behind n others
+-- `step` may follow `n` others, after which the levels are `v` and the time is `clock`
 pub record Stands (v : Levels) (n clock : ℕ) (step : Step) : Type 0 where
   pub later : ((n == 0) || nat_lt clock step.time) ≡ true
   pub some : is_empty step.changes ≡ false
@@ -126,7 +126,7 @@ leads t is i j = record {
   ];
 }
 
--- ---- the levels behind the groups
+-- ---- the levels after the groups
 
 step_to-leads : (skew : ℕ) (t : Trace) → length t.opening.levels ≡ line_count → (n : ℕ)
     → levels_after (levels_at t (group_start skew t n - 1)) (step_to skew t n) ≡ levels_at t n
@@ -214,7 +214,7 @@ pub no_longer : (skew : ℕ) (t : Trace) → length (settled skew t).steps ≤ l
 unfolding settled
 no_longer skew t = (few skew t (length t.steps)).1
 
--- ---- settled by nothing
+-- ---- a skew of 0
 
 later_than : (a b : ℕ) → nat_lt a b ≡ true → nat_lt (a + 0) b ≡ true
 later_than a b h = grind (arith, nat_tests)
@@ -226,7 +226,7 @@ first_or n b c h more = by_test (n == 0) h
     by_test true e = refl
     by_test false e = more e
 
--- each instant but the opening begins a group
+-- with a skew of 0 each instant begins its own group
 alone : (t : Trace) → malformed_step t ≡ None → (n : ℕ) → n ≤ length t.steps → group_start 0 t n ≡ n
 unfolding group_start
 alone t formed zero le = refl
@@ -253,7 +253,7 @@ begins-alone t formed i le = by_test (begins_behind 0 t (group_start 0 t i) i) (
     by_test true e = refl
     by_test false e = absurd (omega (arith, e, start-le 0 t i))
 
--- the group of an instant makes its very step
+-- with a skew of 0 the group of an instant makes the step of that instant
 own-step : (t : Trace) → IsRecording t → (i : ℕ) (step : Step) → i < length t.steps → slice_get t.steps i ≡ Some step
     → step_to 0 t (suc i) ≡ step ∷ []
 unfolding levels_at
@@ -290,12 +290,12 @@ by_zero t is = ap of_these (all-alone t is (length t.steps) (omega arith) ∙ ta
     of_these : List Step → Trace
     of_these xs = record { opening = t.opening; steps = xs }
 
--- ---- what is settled is well formed
+-- ---- a settled recording is well formed
 
 abbrev of_steps : Levels → List Step → Trace
 of_steps o xs = record { opening = o; steps = xs }
 
--- some steps are well formed, and leave these levels and this time
+-- the steps `xs` after the opening `o` are well formed, and lead to the levels `v` and the time `clock`
 record AreFormed (o : Levels) (xs : List Step) (v : Levels) (clock : ℕ) : Type 0 where
   sound : any (λ i. not (is_step (of_steps o xs) i)) 0 (length xs) ≡ false
   left : levels_at (of_steps o xs) (length xs) ≡ v
@@ -370,13 +370,14 @@ first_or_later : (n clock time : ℕ) → (n ≡ 0) ⊎ (clock < time) → ((n =
 first_or_later n clock time (inl e) = grind (arith, nat_tests)
 first_or_later n clock time (inr lt) = grind (arith, nat_tests)
 
--- some steps are well formed and leave these levels, and a time of which this is so, if there are any
+-- the steps `xs` after the opening `o` are well formed and lead to the levels `v`, and to a time that meets `IsBefore`,
+-- if there are any steps
 record AreSettled (o : Levels) (xs : List Step) (v : Levels) (IsBefore : ℕ → Type 0) : Type 0 where
   clock : ℕ
   formed : AreFormed o xs v clock
   earlier : (length xs ≡ 0) ⊎ IsBefore clock
 
--- one step more, from the levels that are left to others, at a later time
+-- one more step, from the levels `v` to `w`, at a later time
 one-more : (o : Levels) (xs : List Step) (v w : Levels) (time : ℕ) → Leads v w → AreSettled o xs v
     (λ clock. clock < time) → AreSettled o (xs ++ step_between time v w) w (λ clock. clock ≤ time)
 one-more o xs v w time leads h = by_test (any (differs v w) 0 line_count) refl

@@ -1,4 +1,4 @@
--- What a settler has come to, step by step.
+-- The state of a settler, step by step.
 use Rattle.std.proofs.Common.{◌≡◌, ℕ, suc, ◌+◌, ◌-◌, ◌<◌, ◌≤◌, Bool, true, false, cond, not, ◌&&◌, ◌||◌, List, []}
 use Rattle.std.proofs.Common.{◌∷◌, ◌++◌, length, refl, sym, ap, ◌∙◌, subst, arith, inl, inr, ◌⊎◌, append_assoc}
 use Rattle.std.specs.Prelude.{Option, None, Some, slice_get, max, nat_le, nat_lt, ◌==◌}
@@ -29,7 +29,7 @@ pub in-list : (o : Option Step) → step_in o ≡ option_to_list o
 in-list None = refl
 in-list (Some step) = refl
 
--- ---- a recording with a step more
+-- ---- a recording with one more step
 
 abbrev pub more : Trace → Step → Trace
 more t step = with_steps t (step ∷ [])
@@ -43,7 +43,7 @@ formed-before t step formed =
     (λ i low lt. ap not (sym (still_step t.opening t.steps step i lt)) ∙ any-fails (λ i. not (is_step u i)) 0
     (length u.steps) i all (omega arith) (omega (arith, lt, length_more t.steps step))))
 
--- a front of what is well formed is
+-- a prefix of a well-formed recording is well formed
 formed-front : (t : Trace) (rest : List Step) → malformed_step (with_steps t rest) ≡ None → malformed_step t ≡ None
 formed-front t [] formed =
     ap (λ (xs : List Step). malformed_step (record { opening = t.opening; steps = xs })) (sym (append-nil t.steps))
@@ -98,7 +98,7 @@ module _ (skew : ℕ) (t : Trace) (step : Step) where
   found : slice_get (more t step).steps last ≡ Some step
   found = get_last t.steps step
 
-  -- what was settled is settled with a step more
+  -- what was settled of a recording is settled of it with one more step
   settled-kept : (group : GroupLevels) (out : List Step) → AreSettledTo skew t last group out
       → AreSettledTo skew (more t step) last group out
   settled-kept group out h =
@@ -112,7 +112,7 @@ module _ (skew : ℕ) (t : Trace) (step : Step) where
         made = h.made ∙ sym (before-kept skew t step last (omega arith));
       }
 
-  -- The group is ready for the step: it begins with it, or it was within the skew.
+  -- The group is ready for the step: it begins with the step, or the step is within the skew of its beginning.
   pub record IsReady (group : GroupLevels) (out : List Step) : Type 0 where
     pub ready : AreReadyFor skew (more t step) last group out
     pub within : nat_lt (group.start + skew) step.time ≡ false
@@ -126,7 +126,7 @@ module _ (skew : ℕ) (t : Trace) (step : Step) where
     made = h.made;
   }
 
-  -- the step comes too late for the group at hand
+  -- the step is too late for the current group
   ready-next : (group : GroupLevels) (out : List Step) (reached : ℕ) → IsInGroup skew t out reached group
       → nat_lt (group.start + skew) step.time ≡ true
       → IsReady (begun step.time group.now) (out ++ step_between group.start group.before group.now)
@@ -136,7 +136,7 @@ module _ (skew : ℕ) (t : Trace) (step : Step) where
     within = not_itself step.time skew;
   }
 
-  -- it belongs to the group at hand
+  -- the step belongs to the current group
   ready-same : (group : GroupLevels) (out : List Step) (reached : ℕ) → IsInGroup skew t out reached group
       → nat_lt (group.start + skew) step.time ≡ false → IsReady group (out ++ [])
   ready-same group out reached h within = record {
@@ -146,7 +146,7 @@ module _ (skew : ℕ) (t : Trace) (step : Step) where
     within = within;
   }
 
-  -- it begins a group where none is at hand
+  -- the step begins a group where there is no current one
   ready-first : (group : GroupLevels) (out : List Step) (reached : ℕ) → IsBetweenGroups skew t out reached group
       → reached ≤ step.time
       → IsReady (begun step.time group.now) (out ++ step_between group.start group.before group.now)
@@ -172,7 +172,7 @@ module _ (skew : ℕ) (t : Trace) (step : Step) where
         within = not_itself step.time skew;
       }
 
-  -- the group at hand is ended where it is over, or where none is at hand
+  -- the group is ended if it is over, or if no step has come that belongs to it
   pub ended-ready : (is_begun is_over ends : Bool) (group next : GroupLevels) (out made : List Step) (reached : ℕ)
       → IsAtGroup skew t out reached is_begun group → reached ≤ step.time
       → is_over ≡ nat_lt (group.start + skew) step.time → ends ≡ (is_over || not is_begun)
@@ -221,12 +221,13 @@ module _ (skew : ℕ) (t : Trace) (step : Step) where
             ∙ ap (nat_lt (group.start + skew)) top ∙ h.within;
       }
 
--- ---- a time that is known
+-- ---- a time that is reached
 
 module _ (skew : ℕ) (t : Trace) where
   abbrev end_of : ℕ
   end_of = length t.steps
 
+  -- a time that is more than the skew after the beginning ends the group
   ends : (group : GroupLevels) (out : List Step) (reached time : ℕ) → IsInGroup skew t out reached group
       → nat_lt (group.start + skew) time ≡ true
       → IsBetweenGroups skew t (out ++ step_between group.start group.before group.now) (max reached time)
@@ -242,6 +243,7 @@ module _ (skew : ℕ) (t : Trace) where
         (ap (λ (start : ℕ). nat_lt (start + skew) time) (sym h.start) ∙ over) (max-right reached time));
   }
 
+  -- any other time leaves the group as it is
   goes-on : (group : GroupLevels) (out : List Step) (reached time : ℕ) → IsInGroup skew t out reached group
       → nat_lt (group.start + skew) time ≡ false → IsInGroup skew t (out ++ []) (max reached time) group
   goes-on group out reached time h within = record {
@@ -255,6 +257,7 @@ module _ (skew : ℕ) (t : Trace) where
         (ap (λ (start : ℕ). nat_lt (start + skew) time) (sym h.start) ∙ within);
   }
 
+  -- between groups a time changes nothing
   stays : (group : GroupLevels) (out : List Step) (reached time : ℕ) → IsBetweenGroups skew t out reached group
       → IsBetweenGroups skew t (out ++ []) (max reached time) group
   stays group out reached time h = record {
@@ -284,7 +287,7 @@ module _ (skew : ℕ) (t : Trace) where
   reached-at false false is_last still group next out made reached time h over last_so still_so is made_so =
       rw (is, made_so, last_so, still_so) (stays group out reached time h)
 
-  -- ---- what came out
+  -- ---- the steps that came out
 
   made-rest : (reached : ℕ) → (end_of ≡ 0) ⊎ (time_at t (group_start skew t end_of) + skew < reached)
       → cond (nat_lt (time_at t (group_start skew t end_of) + skew) reached) (step_to skew t end_of) []
@@ -320,7 +323,7 @@ module _ (skew : ℕ) (t : Trace) where
       ap (λ (v : Levels). out ++ step_between group.start v group.now) (h.before ∙ sym h.now)
       ∙ ap (λ (xs : List Step). out ++ xs) (nothing-between group.start group.now) ∙ append-nil out ∙ h.made
 
--- nothing was taken yet
+-- no step was taken yet
 pub unsettled-at : (skew : ℕ) (opening : Levels) (group : GroupLevels) → group ≡ begun 0 opening
     → IsBetweenGroups skew (record { opening = opening; steps = [] }) [] 0 group
 unfolding steps_before levels_at
@@ -332,7 +335,7 @@ unsettled-at skew opening group e = record {
   over = refl;
 }
 
--- ---- what calls leave
+-- ---- the invariant after each call
 
 both-true : (a b : Bool) → (a && b) ≡ true → (a ≡ true) × (b ≡ true)
 both-true true b h = (refl, h)
@@ -341,7 +344,7 @@ both-true false b h = absurd (false≢true h)
 from-test : (a b : ℕ) → nat_le a b ≡ true → a ≤ b
 from-test a b h = grind (arith, nat_tests)
 
--- what came out is what is complete
+-- the steps that came out are those that are complete
 pub settled-so_far : (s : Settling) (is_begun : Bool) (group : GroupLevels) → KeepsGroup s is_begun group
     → IsSettledSoFar s
 settled-so_far s is_begun group h = λ formed ok. so_far s.skew s.given formed s.out s.reached is_begun group

@@ -1,4 +1,4 @@
--- What is settled, step by step.
+-- Settling a recording, step by step.
 use Rattle.std.proofs.Common.{◌≡◌, ℕ, suc, ◌+◌, ◌-◌, ◌<◌, Bool, true, false, cond, List, [], ◌∷◌, ◌++◌}
 use Rattle.std.proofs.Common.{length, refl, sym, ap, ◌∙◌, subst, arith}
 use Rattle.std.specs.Prelude.{Option, None, Some, nat_lt, slice_get, ◌==◌, ◌||◌}
@@ -69,7 +69,7 @@ module _ (skew : ℕ) (t : Trace) where
     made = none;
   }
 
-  -- The group to which the step behind an instant belongs, as far as that instant, and the steps of the groups before
+  -- The group to which the step after instant `i` belongs, as far as that instant, and the steps of the groups before
   -- it.
   pub record AreReadyFor (i : ℕ) (group : GroupLevels) (steps : List Step) : Type 0 where
     pub start : group.start ≡ time_at t (group_start skew t (suc i))
@@ -77,7 +77,7 @@ module _ (skew : ℕ) (t : Trace) where
     pub now : group.now ≡ levels_at t i
     pub made : steps ≡ steps_before skew t (suc i)
 
-  -- the lines of that step exist
+  -- the lines of the step after instant `i` exist
   pub ready-lines : malformed_step t ≡ None → (i : ℕ) (group : GroupLevels) (steps : List Step) (step : Step)
       → AreReadyFor i group steps → slice_get t.steps i ≡ Some step → i < length t.steps
       → ChangeLines group.now.slots step.changes
@@ -98,7 +98,7 @@ module _ (skew : ℕ) (t : Trace) where
       ∙ ap (λ (v : Levels). steps_before skew t i ++ step_between (time_at t (group_start skew t i))
       (levels_at t (group_start skew t i - 1)) v) h.now
 
-  -- the step belongs to the group at hand
+  -- the step belongs to the current group
   ready-same : (i : ℕ) (group : GroupLevels) (steps : List Step) → AreSettledTo i group steps
       → begins_behind skew t (group_start skew t i) i ≡ false → AreReadyFor i group steps
   unfolding group_start steps_before
@@ -111,7 +111,7 @@ module _ (skew : ℕ) (t : Trace) where
         (steps_before skew t i)) (sym b);
   }
 
-  -- it begins another group
+  -- the step begins another group
   ready-next : (i : ℕ) (group : GroupLevels) (steps : List Step) (step : Step) → AreSettledTo i group steps
       → slice_get t.steps i ≡ Some step → begins_behind skew t (group_start skew t i) i ≡ true
       → AreReadyFor i (begun step.time group.now) (steps ++ step_between group.start group.before group.now)
@@ -144,7 +144,7 @@ module _ (skew : ℕ) (t : Trace) where
       ready-next i group steps step h found (begins_is i group steps step h found
       ∙ is_first i (nat_lt (group.start + skew) step.time) first)
 
-  -- so does one that comes too late for the group at hand
+  -- a step that is too late for the current group begins another
   pub ready-over : (i : ℕ) (group : GroupLevels) (steps : List Step) (step : Step) → AreSettledTo i group steps
       → slice_get t.steps i ≡ Some step → nat_lt (group.start + skew) step.time ≡ true
       → AreReadyFor i (begun step.time group.now) (steps ++ step_between group.start group.before group.now)
@@ -152,7 +152,7 @@ module _ (skew : ℕ) (t : Trace) where
       ready-next i group steps step h found (begins_is i group steps step h found
       ∙ is_over i (nat_lt (group.start + skew) step.time) over)
 
-  -- any other belongs to the group at hand
+  -- any other step belongs to the current group
   pub ready-within : (i : ℕ) (group : GroupLevels) (steps : List Step) (step : Step) → AreSettledTo i group steps
       → slice_get t.steps i ≡ Some step → (i ≡ 0 → ⊥) → nat_lt (group.start + skew) step.time ≡ false
       → AreReadyFor i group steps
@@ -188,7 +188,7 @@ module _ (skew : ℕ) (t : Trace) where
   unfolding settled
   settled-is opening steps first e = ap (λ (v : Levels). of_parts v steps) first ∙ ap (of_parts t.opening) e
 
-  -- what is settled may be a capture
+  -- a settled recording is well formed
   pub settled-formed : length t.opening.levels ≡ line_count → malformed_step t ≡ None → (opening : Levels)
       (steps : List Step) → opening ≡ t.opening → steps ≡ (settled skew t).steps
       → malformed_step (of_parts opening steps) ≡ None

@@ -1,4 +1,4 @@
--- The lines that a group touches, and how they are shown in their order.
+-- The lines that a group touches, and showing them in the order of their numbers.
 use Rattle.std.proofs.Common.{◌≡◌, ◌≢◌, ℕ, zero, suc, ◌+◌, ◌<◌, ◌≤◌, Bool, true, false, not, List, [], ◌∷◌, ◌++◌}
 use Rattle.std.proofs.Common.{length, map, get_or, refl, sym, ap, ◌∙◌, subst, arith, inl, inr, ◌⊎◌}
 use Rattle.std.specs.Prelude.{All, Contains}
@@ -45,7 +45,7 @@ touched-permuted before now touched others h p = record {
   listed = λ l d. Contains-permutation touched others l p (h.listed l d);
 }
 
--- where nothing has changed, nothing need be listed
+-- where nothing has changed, no line has to be listed
 pub touched-none : (before now : Levels) → before ≡ now
     → length now.levels ≡ line_count → ListsTouchedLines before now []
 touched-none before now e all = record {
@@ -56,14 +56,14 @@ touched-none before now e all = record {
   listed = λ l d. absurd (false≢true (sym (alike_differs before now l (ap (λ (v : Levels). level_at v l) e)) ∙ d));
 }
 
--- ---- showing the touched lines in their order
+-- ---- showing the touched lines in the order of their numbers
 
 -- one past the line before place i
 abbrev pub bound : List ℕ → ℕ → ℕ
 bound touched zero = 0
 bound touched (suc i) = get_or touched i 0 + 1
 
--- the lines below the bound are shown, and these are their changes
+-- the lines below the bound are shown: `shown` has their levels of `now`, and `changes` are their changes
 pub record AreShown (touched : List ℕ) (i : ℕ) (before now shown : Levels) (changes : List Change) : Type 0 where
   pub slots : now.slots ≡ shown.slots
   pub shown_all : length shown.levels ≡ line_count
@@ -109,7 +109,7 @@ bound_low touched (suc i) sorted here = omega (arith, sorted i (suc i) 0 (omega 
 bound_next : (touched : List ℕ) (i : ℕ) → bound touched (i + 1) ≡ get_or touched i 0 + 1
 bound_next touched i = let more : i + 1 ≡ suc i = omega arith in ap (bound touched) more
 
--- behind the last touched line no line differs
+-- after the last touched line no line differs
 quiet_after : (before now : Levels) (touched : List ℕ) (i l : ℕ) → IsNonDecreasing touched → ListsTouchedLines before
     now touched → length touched ≤ i → i ≤ length touched → bound touched i ≤ l → differs before now l ≡ false
 quiet_after before now touched i l sorted h past le low =
@@ -216,7 +216,7 @@ shown-more touched i before now shown changes sorted t here other h =
           set_other shown (get_or touched i 0) l _ ne ∙ h.above l (omega (arith, le, next, low));
     }
 
--- as far as lines are shown, those that differ are still listed
+-- the lines on which `shown` and `now` differ are still listed
 pub shown-touched : (touched : List ℕ) (i : ℕ) (before now shown : Levels) (changes : List Change) → ListsTouchedLines
     before now touched → AreShown touched i before now shown changes → ListsTouchedLines shown now touched
 shown-touched touched i before now shown changes t h = record {
@@ -254,7 +254,7 @@ shown-all touched i before now shown changes sorted t past le h =
       | inr more ↦ h.above l more ∙ alike before now l (quiet_after before now touched i l sorted t past le more)
     ])
 
--- the line at hand, by its own name
+-- the line at place `i`, whatever default it is read with
 
 line_at : (touched : List ℕ) (i x : ℕ) → i < length touched → x ≡ get_or touched i x → x ≡ get_or touched i 0
 line_at touched i x lt e = e ∙ get_or_default touched i x 0 lt

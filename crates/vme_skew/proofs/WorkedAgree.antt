@@ -1,4 +1,4 @@
--- Computed from the definitions.
+-- The worked recordings, computed from the definitions.
 use Rattle.std.proofs.Common.{refl}
 use Rattle.vme_trace.specs.Instants.{any, those}
 use Rattle.vme_trace.specs.Trace.{changed, levels_at}

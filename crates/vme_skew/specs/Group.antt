@@ -1,11 +1,11 @@
--- The group at hand of a recording that is settled step by step.
+-- The current group of a recording that is settled step by step.
 use Rattle.std.specs.Prelude.{◌≡◌, ℕ, Bool, true, false, List, length, get_or, All, Contains}
 use Rattle.vme_trace.specs.Levels.{Levels}
 use Rattle.vme_trace.specs.LineNumbers.{line_count}
 use Rattle.vme_trace.specs.declared.step.Change.{Change}
 use Rattle.vme_bind.specs.Recording.{IsLine, differs}
 
--- when it begins, the levels before it, and those behind its last step
+-- the time at which the group begins, the levels before it, and those after its last step
 pub record GroupLevels : Type 0 where
   pub start : ℕ
   pub before : Levels
@@ -23,11 +23,11 @@ pub record ListsTouchedLines (before now : Levels) (touched : List ℕ) : Type 0
   pub lines : All (IsLine before.slots) touched
   pub listed : (l : ℕ) → differs before now l ≡ true → Contains touched l
 
--- the lines that may have other levels than before the group are listed, and each that is marked is listed
+-- each line on which the levels differ is listed, and each line that is marked is listed
 pub record KeepsTouchedLines (before now : Levels) (touched : List ℕ) (marks : List Bool) : Type 0 where
   pub lists : ListsTouchedLines before now touched
   pub marked : (l : ℕ) → get_or marks l false ≡ true → Contains touched l
 
--- each changes a line that a backplane of so many slots has
+-- each change is of a line that a backplane with `slots` slots has
 abbrev pub ChangeLines : ℕ → List Change → Type 0
 ChangeLines slots = All (λ (change : Change). IsLine slots change.line)

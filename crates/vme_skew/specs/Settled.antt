@@ -1,5 +1,5 @@
--- A recording by probes that tell one moment of the bus at several times, and what it settles to: its instants are
--- taken in groups, of which each makes one step.
+-- A recording by probes that sample one moment of the bus at several times, and the recording to which it settles: its
+-- instants are taken in groups, each of which makes one step.
 use Rattle.std.specs.Prelude.{◌≡◌, ℕ, zero, suc, Bool, ◌+◌, ◌-◌, ◌==◌, ◌||◌, List, [], ◌++◌, length, nat_lt, None}
 use Rattle.std.specs.Prelude.{◌≤◌, All, filter, if◌then◌else◌, Result, Ok, Err}
 use Rattle.vme_trace.specs.Followed.{with_steps}
@@ -9,14 +9,14 @@ use Rattle.vme_trace.specs.WellFormed.{malformed_step}
 use Rattle.vme_trace.specs.declared.step.Step.{Step}
 use Rattle.vme_bind.specs.Recording.{step_between}
 
--- a recording as one is made: each line has a level at its opening, and each step may stand where it stands
+-- a recording as one is made: each line has a level at its opening, and no step is malformed
 pub record IsRecording (t : Trace) : Type 0 where
   pub whole : length t.opening.levels ≡ line_count
   pub formed : malformed_step t ≡ None
 
 module _ (skew : ℕ) (t : Trace) where
-  -- A group begins with the instant behind instant i, whose own group begins with `start`: if i is the opening, or if
-  -- the time of that instant is more than the skew later than that of `start`.
+  -- A group begins with the instant after instant `i`, whose own group begins with `start`: if `i` is the opening, or
+  -- if the time of the instant after it is more than the skew later than that of `start`.
   abbrev pub begins_behind : ℕ → ℕ → Bool
   begins_behind start i = (i == 0) || nat_lt (time_at t start + skew) (time_at t (suc i))
 
@@ -41,7 +41,7 @@ unfoldable pub settled : ℕ → Trace → Trace
 settled skew t =
     record t { steps = steps_before skew t (last_instant t) ++ step_to skew t (last_instant t) }
 
--- the same, or why there is no recording
+-- a recording settled by a skew, or why there is no recording
 abbrev pub settled_or : {E : Type 0} → ℕ → Result Trace E → Result Trace E
 settled_or skew (Ok t) = Ok (settled skew t)
 settled_or skew (Err e) = Err e
@@ -55,10 +55,10 @@ is_complete skew time step = nat_lt (step.time + skew) time
 unfoldable pub settled_until : ℕ → ℕ → Trace → Trace
 settled_until skew time t = record t { steps = filter (is_complete skew time) (settled skew t).steps }
 
--- none of these steps is earlier than a time
+-- no step is earlier than `time`
 abbrev pub AreFrom : ℕ → List Step → Type 0
 AreFrom time steps = All (λ (step : Step). time ≤ step.time) steps
 
--- a recording goes on with some steps, and so becomes another
+-- `longer` is the recording `t` with some steps after it
 abbrev pub GoesOnTo : Trace → Trace → Type 0
 GoesOnTo t longer = (rest : List Step) × (longer ≡ with_steps t rest)

@@ -1,4 +1,4 @@
--- What a settler has come to, and the group of steps at which it is.
+-- The state of a settler, and its current group of steps.
 use Rattle.std.specs.Prelude.{◌≡◌, ℕ, ◌==◌, ◌+◌, ◌-◌, ◌≤◌, Bool, true, false, ◌&&◌, ◌||◌, List, [], ◌∷◌, ◌++◌}
 use Rattle.std.specs.Prelude.{max, nat_le, nat_lt, None, Option}
 use Rattle.std.specs.Option.{option_to_list}
@@ -32,7 +32,7 @@ unsettled skew opening = record {
   in_order = true;
 }
 
--- one step more is taken, and this one comes out, if there is one
+-- one step more is taken, and the step `out` comes out, if there is one
 abbrev pub taken : Settling → Step → Option Step → Settling
 taken s step out = record s {
   given = with_steps s.given (step ∷ []);
@@ -41,22 +41,22 @@ taken s step out = record s {
   in_order = s.in_order && nat_le s.reached step.time;
 }
 
--- a time is known, and this step comes out, if there is one
+-- `time` is known, and the step `out` comes out, if there is one
 abbrev pub reached_by : Settling → ℕ → Option Step → Settling
 reached_by s time out = record s { out = s.out ++ option_to_list out; reached = max s.reached time }
 
--- there was no memory
+-- the settler after memory ran out
 abbrev pub failed : Settling → Settling
 failed s = record s { in_order = false }
 
--- what came out is what is complete of the settled recording at the latest time that is known
+-- the steps that came out are those of the settled recording that are complete at the latest time that is known
 abbrev pub IsSettledSoFar : Settling → Type 0
 IsSettledSoFar s = malformed_step s.given ≡ None → s.in_order ≡ true
     → s.out ≡ (settled_until s.skew s.reached s.given).steps
 
--- ---- the group at hand
+-- ---- the current group
 
--- no step of the group at hand is known to be its last: the steps that came out are those of the groups before it
+-- the current group isn't known to be over: the steps that came out are those of the groups before it
 pub record IsInGroup (skew : ℕ) (t : Trace) (out : List Step) (reached : ℕ) (group : GroupLevels) : Type 0 where
   pub some : (last_instant t == 0) ≡ false
   pub start : group.start ≡ time_at t (group_start skew t (last_instant t))
@@ -78,6 +78,6 @@ abbrev pub IsAtGroup : ℕ → Trace → List Step → ℕ → Bool → GroupLev
 IsAtGroup skew t out reached true group = IsInGroup skew t out reached group
 IsAtGroup skew t out reached false group = IsBetweenGroups skew t out reached group
 
--- the group at hand is that of a settler which has come to this
+-- `group` is the current group of a settler in this state
 pub record KeepsGroup (s : Settling) (is_begun : Bool) (group : GroupLevels) : Type 0 where
   pub at : malformed_step s.given ≡ None → s.in_order ≡ true → IsAtGroup s.skew s.given s.out s.reached is_begun group

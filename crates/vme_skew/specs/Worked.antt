@@ -1,4 +1,4 @@
--- Worked recordings, and what they settle to.
+-- Worked recordings, and the recordings to which they settle.
 use Rattle.std.specs.Prelude.{◌≡◌, ℕ, ◌-◌, ◌^◌, List, [], ◌∷◌, replicate}
 use Rattle.vme_trace.specs.LineNumbers.{line_count, AS, DS0, DTACK, BBSY, SYSRESET}
 use Rattle.vme_trace.specs.Trace.{Trace}
@@ -8,7 +8,7 @@ use Rattle.vme_trace.specs.declared.step.Change.{Change}
 use Rattle.vme_trace.specs.declared.step.Step.{Step}
 use Rattle.vme_skew.specs.Settled.{settled, settled_until}
 
--- the steps behind an opening of which every line is high, a skew, and the steps that they settle to
+-- the steps after an opening with every line high, a skew, and the steps to which they settle
 pub record WorkedGroups : Type 0 where
   pub steps : List Step
   pub skew : ℕ
@@ -17,7 +17,7 @@ pub record WorkedGroups : Type 0 where
 abbrev pub from_high : List Step → Trace
 from_high steps = record { opening = record { slots = 1; levels = replicate line_count High }; steps = steps }
 
--- so does each of these settle
+-- each of these recordings settles to the steps that it names
 abbrev pub AllSettle : List WorkedGroups → Type 0
 AllSettle [] = Unit {0}
 AllSettle (w ∷ ws) = (settled w.skew (from_high w.steps) ≡ from_high w.settled) × AllSettle ws
@@ -56,7 +56,7 @@ just_past = record {
   settled = at 10 (low DTACK ∷ []) ∷ at 13 (low AS ∷ low BBSY ∷ []) ∷ [];
 }
 
--- settled by 0 all stays
+-- a skew of 0 changes nothing
 unfoldable pub by_nothing : WorkedGroups
 by_nothing = record { steps = three_falls; skew = 0; settled = three_falls }
 
@@ -64,7 +64,7 @@ by_nothing = record { steps = three_falls; skew = 0; settled = three_falls }
 unfoldable pub over_all : WorkedGroups
 over_all = record { steps = three_falls; skew = 6; settled = at 10 (low AS ∷ low DTACK ∷ low BBSY ∷ []) ∷ [] }
 
--- so does the greatest skew
+-- the greatest skew makes one step of all
 unfoldable pub greatest : WorkedGroups
 greatest = record {
   steps = three_falls;
@@ -72,7 +72,8 @@ greatest = record {
   settled = at 10 (low AS ∷ low DTACK ∷ low BBSY ∷ []) ∷ [];
 }
 
--- a line that falls and rises in a group doesn't change; at the time of its fall the other one does
+-- a line that falls and rises within a group doesn't change; the other line changes at the time at which the group
+-- begins
 unfoldable pub glitch : WorkedGroups
 glitch = record {
   steps = at 4 (low AS ∷ []) ∷ at 5 (low DS0 ∷ []) ∷ at 6 (high AS ∷ []) ∷ [];
@@ -90,7 +91,7 @@ ends_as_it_began = record {
   settled = at 6 (low DTACK ∷ []) ∷ at 12 (high DTACK ∷ []) ∷ [];
 }
 
--- a reset and an unknown line within a group are gone
+-- a reset and an unknown level that begin and end within a group are gone
 unfoldable pub reset_and_loss_within : WorkedGroups
 reset_and_loss_within = record {
   steps =
@@ -99,7 +100,7 @@ reset_and_loss_within = record {
   settled = at 0 (low AS ∷ low DS0 ∷ []) ∷ [];
 }
 
--- those that last longer than the group aren't
+-- a reset and an unknown level that last longer than the group stay
 unfoldable pub reset_and_loss_last : WorkedGroups
 reset_and_loss_last = record {
   steps =
@@ -109,7 +110,7 @@ reset_and_loss_last = record {
   settled = at 0 (unknown AS ∷ low DS0 ∷ low SYSRESET ∷ []) ∷ at 9 (high AS ∷ high SYSRESET ∷ []) ∷ [];
 }
 
--- nothing settles to nothing
+-- a recording without steps settles to one without steps
 unfoldable pub nothing : WorkedGroups
 nothing = record { steps = []; skew = 3; settled = [] }
 
@@ -120,15 +121,15 @@ worked =
 
 -- ---- what is complete once a time is read
 
--- the steps behind an opening of which every line is high, a skew, a time, and the settled steps that are complete once
--- it is read
+-- the steps after an opening with every line high, a skew, a time, and the settled steps that are complete once that
+-- time is read
 pub record WorkedTime : Type 0 where
   pub steps : List Step
   pub skew : ℕ
   pub time : ℕ
   pub complete : List Step
 
--- so much is complete of each of these
+-- of each of these recordings the steps that it names are complete
 abbrev pub AllComplete : List WorkedTime → Type 0
 AllComplete [] = Unit {0}
 AllComplete (w ∷ ws) =
@@ -144,26 +145,26 @@ both_groups = at 10 (low AS ∷ low DTACK ∷ []) ∷ at 15 (low BBSY ∷ []) �
 unfoldable pub later_by_the_skew : WorkedTime
 later_by_the_skew = record { steps = three_falls; skew = 3; time = 18; complete = first_group }
 
--- one that is later by one more ends it
+-- a time that is later than a group by one more than the skew ends it
 unfoldable pub later_by_more : WorkedTime
 later_by_more = record { steps = three_falls; skew = 3; time = 19; complete = both_groups }
 
--- so it is of the group before
+-- the first group isn't ended by a time that is later by the skew either, but by one more
 unfoldable pub first_by_the_skew : WorkedTime
 first_by_the_skew = record { steps = three_falls; skew = 3; time = 13; complete = [] }
 
 unfoldable pub first_by_more : WorkedTime
 first_by_more = record { steps = three_falls; skew = 3; time = 14; complete = first_group }
 
--- a time that reaches no group
+-- a time before all groups
 unfoldable pub reaches_none : WorkedTime
 reaches_none = record { steps = three_falls; skew = 3; time = 0; complete = [] }
 
--- by the greatest skew no time ends a group
+-- with the greatest skew no time ends a group
 unfoldable pub never_over : WorkedTime
 never_over = record { steps = three_falls; skew = 2 ^ 64 - 1; time = 2 ^ 64 - 1; complete = [] }
 
--- by no skew all is complete that is earlier than the time
+-- with a skew of 0 all is complete that is earlier than the time
 unfoldable pub by_nothing_at_last : WorkedTime
 by_nothing_at_last = record {
   steps = three_falls;

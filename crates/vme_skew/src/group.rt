@@ -1,4 +1,4 @@
-//! The group of steps at hand.
+//! The current group of steps.
 
 ghost use Rattle.std.specs.Prelude.{◌≡◌, ◌+◌, [], IfOk, OnOk, false, true, get_or, length, nat_lt, replicate};
 ghost use Rattle.std.specs.Prelude.{if◌then◌else◌, slice_set};
@@ -15,7 +15,7 @@ use std::alloc::{AllocError, Global};
 use std::marker::Model;
 use vme_trace::{Change, Changes, LINE_COUNT, Line, Lines, Step};
 
-/// Which lines are marked.
+/// A mark for each line: it is set or not.
 #[derive(Drop)]
 struct LineMarks {
     marks: [bool; LINE_COUNT as usize],
@@ -30,7 +30,7 @@ impl Model for LineMarks {
 }
 
 impl LineMarks {
-    /// None is.
+    /// No line is marked.
     fn none() -> LineMarks
         ensures { result ≡ replicate line_count false }
     {
@@ -39,7 +39,7 @@ impl LineMarks {
         }
     }
 
-    /// Whether the line is.
+    /// Whether the line is marked.
     fn has(&self, line: Line) -> bool
         ensures { result ≡ get_or self.now line false }
     {
@@ -61,11 +61,11 @@ pub(crate) struct StepGroup {
     start: u64,
     /// The levels before it.
     before: Lines,
-    /// The levels behind its last step.
+    /// The levels after its last step.
     now: Lines,
-    /// The lines that its steps change, each of them once.
+    /// The lines that its steps change, each line once.
     touched: Vec<Line>,
-    /// Which lines these are.
+    /// The marks of these lines.
     marked: LineMarks,
 }
 
@@ -79,8 +79,8 @@ impl Model for StepGroup {
     ghost invariant = { λ g. KeepsTouchedLines g.before g.now g.touched.items g.marked };
 }
 
-/// The changes from the levels before a group to those behind it, on the lines that were touched, in the order of their
-/// numbers. The levels before it are then those behind it.
+/// The changes from the levels `before` a group to those after it, `now`, on the `touched` lines, in the order of their
+/// numbers. `before` is then set to `now`.
 fn show(
     alloc: Global,
     touched: &[Line],
@@ -119,7 +119,7 @@ impl StepGroup {
         }
     }
 
-    /// Whether a step at this time comes more than the skew behind the beginning of the group.
+    /// Whether a step at `time` comes more than the skew after the beginning of the group.
     #[tactic(auto, using(crate::proofs::Grouping::over_is))]
     pub fn is_over(&self, time: u64, skew: u64) -> bool
         ensures { result ≡ nat_lt (self.entry.now.start + skew) time }
@@ -154,8 +154,8 @@ impl StepGroup {
         Ok(())
     }
 
-    /// Takes the changes of the step that follows, of which nothing is known: those of lines that the backplane hasn't
-    /// are left out.
+    /// Takes the changes of the step that follows, of which nothing is known: changes of lines that the backplane
+    /// doesn't have are left out.
     pub fn take_any(&mut self, changes: &[Change]) -> Result<(), AllocError>
         ensures { ChangeLines self.old.now.slots changes.now
             → OnOk result (self.new ≡ record self.old { now = changed self.old.now changes.now }) }
@@ -168,8 +168,8 @@ impl StepGroup {
         Ok(())
     }
 
-    /// Ends the group, which makes a step if some line has another level behind it than before it. The next one begins
-    /// at this time.
+    /// Ends the group, which makes a step if some line has another level after it than before it. The next group begins
+    /// at time `next`.
     pub fn end(&mut self, alloc: Global, next: u64) -> Result<Option<Step>, AllocError>
         ensures begun { OnOk result (self.new ≡ begun next self.old.now) }
         ensures step { IfOk result (λ step. step_in step
@@ -190,7 +190,7 @@ impl StepGroup {
         }))
     }
 
-    /// Ends the group if it is said to end: then the next one begins at this time.
+    /// Ends the group if `is_last`: then the next one begins at time `next`.
     pub fn end_if(
         &mut self,
         alloc: Global,

@@ -1,5 +1,5 @@
-//! Recordings by probes that sample one moment of the bus at several times, and the recordings that
-//! they settle to.
+//! Recordings by probes that sample one moment of the bus at several times, and *settling* them by
+//! a skew, i.e. deskewing them.
 //!
 //! A logic analyser samples each line a little earlier or later than another. What lies within the
 //! *skew* is taken as one moment: the steps of a recording are taken in groups, and each group
@@ -11,26 +11,27 @@
 //!
 //! - `specs/Settled`: the definition.
 //! - `step_settler`, `group`: [`StepSettler`], which settles steps as they come and keeps none of
-//!   them, and the group at hand; `specs/Settling` has its state.
+//!   them, and the current group; `specs/Settling` has its state.
 //! - `settling_visitor`: [`SettlingVisitor`], which does so for another visitor; `specs/GivenOn`
 //!   says what it has passed on. Its skew is a parameter of its type, [`GhostSkew`].
-//! - The functions of this file: laws of the definition, whose contracts are what they say.
+//! - The functions of this file: laws of the definition. Their contracts state them.
 //!
 //! # What is proved
 //!
-//! With a skew of 0 a recording is itself ([`settled_by_zero`]). What is settled is a recording,
-//! and has no more steps than there were ([`settled_is_recording`]). The levels after each group
-//! are those of the recording ([`levels_are_kept`]). [`worked_recordings`] computes recordings at
-//! the bounds of groups.
+//! A skew of 0 leaves a recording as it is ([`settled_by_zero`]). A settled recording is a
+//! recording, and has no more steps than before ([`settled_is_recording`]). The levels after each
+//! group are those of the recording ([`levels_are_kept`]). [`worked_recordings`] computes
+//! recordings at the bounds of groups.
 //!
 //! A group is complete once a time is read that is more than the skew later than its beginning
-//! (`settled_until`). That much is a prefix of the settled recording ([`settled_until_is_prefix`]),
-//! and a recording ([`settled_until_is_recording`]); it stays so as the recording goes on
-//! ([`settled_until_grows`]); with a skew of 0 it is all that is earlier
-//! ([`settled_until_by_zero`]). What comes out of a [`StepSettler`] is at any time exactly what is
-//! complete (`settled`), and all once it ends, for steps of a recording that come no earlier than a
-//! time that is known. What a [`SettlingVisitor`] passes on is the whole settled recording once it
-//! ends (`settled`), which is a recording (`formed`), whatever recording it takes.
+//! (`settled_until`). The complete groups make a prefix of the settled recording
+//! ([`settled_until_is_prefix`]), which is a recording ([`settled_until_is_recording`]) and stays
+//! so as more steps come ([`settled_until_grows`]). With a skew of 0 it is all that is earlier
+//! ([`settled_until_by_zero`]). The steps that come out of a [`StepSettler`] are at any time
+//! exactly the complete ones (`settled`), and all once it ends, for steps of a recording that come
+//! no earlier than a time that is known. What a [`SettlingVisitor`] passes on is the whole settled
+//! recording once it ends (`settled`), which is a recording (`formed`), whatever recording it
+//! takes.
 //!
 //! # What isn't proved
 //!
@@ -57,36 +58,36 @@ mod step_settler;
 pub use settling_visitor::{GhostSkew, SettlingVisitor};
 pub use step_settler::StepSettler;
 
-/// Settled by 0 a recording is itself.
+/// A recording settled by a skew of 0 is itself.
 pub fn settled_by_zero()
     ensures { (t : Trace) → IsRecording t → settled 0 t ≡ t }
 {}
 
-/// What is settled is a recording, and has no more steps than there were.
+/// A settled recording is a recording, and has no more steps than the one that is settled.
 pub fn settled_is_recording()
     ensures recording { (skew : ℕ) (t : Trace) → IsRecording t → IsRecording (settled skew t) }
     ensures no_longer { (skew : ℕ) (t : Trace) → length (settled skew t).steps ≤ length t.steps }
 {}
 
-/// The steps that the groups up to an instant make, that of the instant as far as the instant itself, leave the levels
-/// of that instant: so settling keeps the levels behind each group.
+/// The steps that the groups up to instant `n` make, the instant's own group as far as `n`, lead to the levels of that
+/// instant: so settling keeps the levels after each group.
 pub fn levels_are_kept()
     ensures { (skew n : ℕ) (t : Trace) → IsRecording t
         → levels_after t.opening (steps_before skew t n ++ step_to skew t n) ≡ levels_at t n }
 {}
 
-/// What is complete once a time is read is a front of the settled recording.
+/// What is complete once a time is read is a prefix of the settled recording.
 pub fn settled_until_is_prefix()
     ensures { (skew time : ℕ) (t : Trace) → GoesOnTo (settled_until skew time t) (settled skew t) }
 {}
 
-/// It is a recording.
+/// What is complete once a time is read is a recording.
 pub fn settled_until_is_recording()
     ensures { (skew time : ℕ) (t : Trace) → IsRecording t → IsRecording (settled_until skew time t) }
 {}
 
-/// What is complete stays so and comes first while the recording goes on with steps that aren't earlier, at any later
-/// time, and once the recording ends.
+/// What is complete at `time` stays so, if steps follow that aren't earlier. It is a prefix of what is complete at a
+/// later time, and of the whole settled recording.
 pub fn settled_until_grows()
     ensures kept { (skew time : ℕ) (t : Trace) (more : List Step) → AreFrom time more
         → settled_until skew time (with_steps t more) ≡ settled_until skew time t }
@@ -96,7 +97,7 @@ pub fn settled_until_grows()
         → GoesOnTo (settled_until skew time t) (settled skew (with_steps t more)) }
 {}
 
-/// Without a skew all is complete that is earlier than the time.
+/// With a skew of 0 a recording is complete, and stays as it is, if all its steps are earlier than the time.
 pub fn settled_until_by_zero()
     ensures { (time : ℕ) (t : Trace) → IsRecording t → All (λ (step : Step). step.time < time) t.steps
         → settled_until 0 time t ≡ t }

@@ -1,4 +1,4 @@
-//! What takes a recording, and gives on what it settles to.
+//! A visitor that takes a recording, and passes on the settled recording.
 
 ghost use Rattle.std.specs.Prelude.{◌≡◌, ◌+◌, ℕ, [], IfOk, None, OnOk, length, min, nat_lt};
 ghost use Rattle.std.specs.Option.{option_to_list};
@@ -14,7 +14,7 @@ use vme_trace::{Lines, Step, StepVisitor};
 /// How many steps a recording has at most.
 const MOST_STEPS: u32 = 268435456;
 
-/// A skew that is a parameter of a type. Clauses read it.
+/// A skew that is a parameter of a type. Only clauses read it.
 pub trait GhostSkew {
     ghost skew: { ℕ };
 }
@@ -23,16 +23,16 @@ impl GhostSkew for Brand {
     ghost skew = { 0 };
 }
 
-/// Takes the steps of a recording as they come, and gives on those that it settles to by a skew, in time units of the
-/// dump, as far as they are complete. Of the steps nothing is kept but the changes of the group at hand.
+/// Takes the steps of a recording as they come, and passes on the steps of the settled recording, as far as they are
+/// complete. The skew is in time units of the dump. Of the steps only the changes of the current group are kept.
 #[derive(Drop)]
 pub struct SettlingVisitor<K: GhostSkew, F: StepVisitor> {
     alloc: Global,
     skew: u64,
     settler: StepSettler,
-    /// What takes the settled recording.
+    /// The visitor of the settled recording.
     taker: F,
-    /// How many steps came, or one over the most.
+    /// How many steps came, but at most `MOST_STEPS + 1`.
     count: u32,
     /// Whether there was memory for all.
     is_whole: bool,
@@ -50,7 +50,7 @@ impl<K: GhostSkew, F: StepVisitor> Model for SettlingVisitor<K, F> {
     ghost invariant = { λ v. KeepsSettled K.skew v.skew v.count v.is_whole v.settler (F.recorded v.taker) };
 }
 
-/// One step more, where no more are counted than one over the most.
+/// The count with one step more, but at most `MOST_STEPS + 1`.
 fn with_one(count: u32) -> u32
     ensures { result ≡ min (count + 1) (capture_limit + 1) }
 {
@@ -61,7 +61,7 @@ fn with_one(count: u32) -> u32
     }
 }
 
-/// Gives on a step, if there is one.
+/// Passes on a step, if there is one.
 fn give_on<F: StepVisitor>(
     taker: &mut F,
     alloc: Global,
@@ -76,7 +76,7 @@ fn give_on<F: StepVisitor>(
 }
 
 impl<K: GhostSkew, F: StepVisitor> SettlingVisitor<K, F> {
-    /// Before the first step, in front of what takes the settled recording.
+    /// The visitor before the first step. `taker` is to take the settled recording.
     pub fn new(alloc: Global, opening: &Lines, skew: u64, taker: F) -> SettlingVisitor<K, F>
         requires { skew ≡ K.skew }
         ensures { result ≡ record { opening = opening.now; steps = [] } }
@@ -101,8 +101,8 @@ impl<K: GhostSkew, F: StepVisitor> SettlingVisitor<K, F> {
         self.count > MOST_STEPS
     }
 
-    /// Ends the last group, where the recording ends. The answer is what took the settled one; the only error is want
-    /// of memory.
+    /// Ends the last group, where the recording ends. Returns the visitor that took the settled recording. The only
+    /// error is want of memory.
     pub fn finish(self, alloc: Global) -> Result<F, AllocError>
         ensures settled { malformed_step self ≡ None
             → IfOk result (λ taker. F.recorded taker ≡ settled K.skew self) }

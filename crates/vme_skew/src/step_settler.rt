@@ -12,11 +12,12 @@ use std::marker::Model;
 use vme_summary::GhostSteps;
 use vme_trace::{Lines, Step};
 
-/// Settles the steps of a recording by a skew as they come, in time units of the dump. Of the steps nothing is kept but
-/// the changes of the group at hand.
+/// Settles the steps of a recording as they come, by a skew in time units of the dump. Of the steps only the changes of
+/// the current group are kept.
 ///
-/// What comes out is what the recording settles to, as long as no step is earlier than a time that was known before it:
-/// the time of another step, or one that was reached. A call that fails for want of memory is the last one that tells.
+/// The steps that come out are those of the settled recording, as long as no step is earlier than a time that was known
+/// before it: the time of another step, or one that was reached. After a call that fails for want of memory nothing is
+/// said of the steps that come out.
 #[derive(Drop)]
 pub struct StepSettler {
     skew: u64,
@@ -56,7 +57,7 @@ impl Model for StepSettler {
         s.is_begun s.group };
 }
 
-/// These steps came out, and then this one, if there is one.
+/// The steps of `out`, and then that of `settled`, if there is one.
 fn with_settled(out: &GhostSteps, settled: &Option<Step>) -> GhostSteps
     ensures { result.items ≡ out.now.items ++ option_to_list settled.now }
 {
@@ -67,7 +68,7 @@ fn with_settled(out: &GhostSteps, settled: &Option<Step>) -> GhostSteps
 }
 
 impl StepSettler {
-    /// Before the first step.
+    /// The settler before the first step.
     pub fn new(alloc: Global, opening: Lines, skew: u64) -> StepSettler
         ensures { result ≡ unsettled skew opening }
     {
@@ -83,8 +84,8 @@ impl StepSettler {
         }
     }
 
-    /// Takes the step that follows. The answer is the step of the group before it, where it begins another and that
-    /// one makes a step.
+    /// Takes the step that follows. If it begins another group, the result is the step of the group before, if that
+    /// makes one.
     pub fn take(&mut self, alloc: Global, step: &Step) -> Result<Option<Step>, AllocError>
         ensures taken { IfOk result (λ made. self.new ≡ taken self.old step.now made) }
         ensures settled { IsSettledSoFar self.new }
@@ -105,8 +106,8 @@ impl StepSettler {
         Ok(settled)
     }
 
-    /// Ends the group at hand, if a step at this time or a later one doesn't belong to it. The answer is its step, if
-    /// it makes one.
+    /// Ends the current group, if a step at `time` or later doesn't belong to it. The result is then its step, if it
+    /// makes one.
     pub fn reach(&mut self, alloc: Global, time: u64) -> Result<Option<Step>, AllocError>
         ensures reached { IfOk result (λ made. self.new ≡ reached_by self.old time made) }
         ensures settled { IsSettledSoFar self.new }
@@ -123,7 +124,7 @@ impl StepSettler {
         Ok(settled)
     }
 
-    /// Ends the last group, where the recording ends. The answer is its step, if it makes one.
+    /// Ends the last group, where the recording ends. The result is its step, if it makes one.
     pub fn end(self, alloc: Global) -> Result<Option<Step>, AllocError>
         ensures { IfOk result (λ made. malformed_step self.given ≡ None → self.in_order ≡ true
             → self.out ++ option_to_list made ≡ (settled self.skew self.given).steps) }

@@ -7,7 +7,7 @@ use vme_bind::StepCollector;
 use vme_skew::{GhostSkew, SettlingVisitor, StepSettler};
 use vme_trace::{Change, Changes, LINE_COUNT, Level, Line, Lines, Step, StepVisitor};
 
-/// The numbers of the lines that change at a time, with their new levels.
+/// A time, and the numbers of the lines that change then, with their new levels.
 type Row = (u64, &'static [(u8, Level)]);
 
 const AS: u8 = 0;
@@ -87,7 +87,7 @@ const MANY_AT_ONCE: [Row; 3] = [
     (14, &[(AS, HIGH)]),
 ];
 
-/// Steps behind an opening at which each line is high, a skew, and the steps that they settle to.
+/// Steps after an opening with each line high, a skew, and the steps to which they settle.
 static WORKED: [(&[Row], u64, &[Row]); 17] = [
     // a step at just the skew belongs to the group, whose lines come in their order
     (
@@ -95,13 +95,13 @@ static WORKED: [(&[Row], u64, &[Row]); 17] = [
         3,
         &[(10, &[(AS, LOW), (DTACK, LOW)]), (15, &[(BBSY, LOW)])],
     ),
-    // one that is later begins another, from which the skew is counted anew
+    // a later step begins another group, from which the skew is counted anew
     (
         &THREE_FALLS,
         2,
         &[(10, &[(DTACK, LOW)]), (13, &[(AS, LOW), (BBSY, LOW)])],
     ),
-    // settled by 0 all stays
+    // a skew of 0 changes nothing
     (&THREE_FALLS, 0, &THREE_FALLS),
     (&MANY, 0, &MANY),
     // the skew is as long as the recording, longer, and as long as can be
@@ -131,9 +131,9 @@ static WORKED: [(&[Row], u64, &[Row]); 17] = [
         5,
         &[(6, &[(DTACK, LOW)]), (12, &[(DTACK, HIGH)])],
     ),
-    // what ends as it began may leave nothing
+    // a recording that ends as it began may settle to no steps
     (&[(7, &[(AS, LOW)]), (8, &[(AS, HIGH)])], 1, &[]),
-    // a reset and an unknown line within a group are gone
+    // a reset and an unknown level that begin and end within a group are gone
     (
         &[
             (0, &[(AS, UNKNOWN), (SYSRESET, LOW)]),
@@ -144,7 +144,7 @@ static WORKED: [(&[Row], u64, &[Row]); 17] = [
         3,
         &[(0, &[(AS, LOW), (DS0, LOW)])],
     ),
-    // those that last longer than the group aren't
+    // a reset and an unknown level that last longer than the group stay
     (
         &[
             (0, &[(DS0, LOW)]),
@@ -158,7 +158,7 @@ static WORKED: [(&[Row], u64, &[Row]); 17] = [
             (9, &[(AS, HIGH), (SYSRESET, HIGH)]),
         ],
     ),
-    // nothing settles to nothing
+    // no steps settle to no steps
     (&[], 3, &[]),
     // at the last times that there are
     (&LATEST, 0, &LATEST),
@@ -167,14 +167,14 @@ static WORKED: [(&[Row], u64, &[Row]); 17] = [
     (&MANY, 4, &MANY_AT_ONCE),
 ];
 
-/// More lines than a step keeps without memory of its own, and what they settle to by 4.
+/// More lines than a step keeps without memory of its own, and the steps to which they settle by a skew of 4.
 static LARGE: [(&[Row], &[Row]); 1] = [(&MANY, &MANY_AT_ONCE)];
 
 /// A skew and a time, and what is complete of the three falls once that time is reached.
 static TIMES: [(u64, u64, &[Row]); 6] = [
     // a time that is later than a group by just the skew doesn't end it
     (3, 18, &[(10, &[(AS, LOW), (DTACK, LOW)])]),
-    // one that is later by one more does
+    // a time that is later by one more ends it
     (
         3,
         19,
@@ -182,9 +182,9 @@ static TIMES: [(u64, u64, &[Row]); 6] = [
     ),
     (5, 15, &[]),
     (5, 16, &ALL_AT_ONCE),
-    // by no skew all is complete that is earlier
+    // with a skew of 0 all is complete that is earlier
     (0, 16, &THREE_FALLS),
-    // by the greatest nothing is
+    // with the greatest skew nothing is complete
     (u64::MAX, u64::MAX, &[]),
 ];
 
@@ -279,7 +279,7 @@ fn settled_as_they_come(
     Ok(out)
 }
 
-/// What has come out of it once a time is reached.
+/// What has come out of a settler that takes these steps, once a time is reached.
 fn complete_at(
     alloc: Global,
     opening: Lines,
@@ -294,8 +294,8 @@ fn complete_at(
     Ok(out)
 }
 
-/// What is given on of these steps by a skew that types name, and whether there are too many. Others come first, which
-/// an opening ends.
+/// What a visitor passes on of these steps, by a skew that is a type's parameter, and whether there are too many. A
+/// step of another recording comes first, which the opening ends.
 fn given_on_by<K: GhostSkew>(
     alloc: Global,
     opening: &Lines,
@@ -325,7 +325,7 @@ fn given_on_by<K: GhostSkew>(
     Ok((visitor.finish(alloc)?, is_too_long))
 }
 
-/// The same by any skew.
+/// As `given_on_by`, by any skew.
 fn given_on(
     alloc: Global,
     opening: &Lines,
@@ -335,7 +335,7 @@ fn given_on(
     given_on_by::<Brand>(alloc, opening, rows, skew)
 }
 
-/// Whether these steps settle so as they come.
+/// Whether these steps settle to `settled` as they come.
 fn settles_as_they_come(alloc: Global, rows: &[Row], skew: u64, settled: &[Row]) -> Option<bool> {
     let out = settled_as_they_come(alloc, high_lines()?, rows, skew).ok()?;
     Some(are_steps(&out, settled))
@@ -349,7 +349,7 @@ fn steps_settle_as_they_come(rt: HostRuntime) {
     }
 }
 
-/// Whether these steps are given on so, and aren't too many.
+/// Whether a visitor passes on `settled` of these steps, and they aren't too many.
 fn gives_on(alloc: Global, rows: &[Row], skew: u64, settled: &[Row]) -> Option<bool> {
     let opening = high_lines()?;
     let (taken, is_too_long) = given_on(alloc, &opening, rows, skew).ok()?;
@@ -364,7 +364,7 @@ fn settled_steps_are_given_on(rt: HostRuntime) {
     }
 }
 
-/// Whether this is complete of the three falls once a time is reached.
+/// Whether `complete` is what is complete of the three falls once `time` is reached.
 fn is_complete(alloc: Global, skew: u64, time: u64, complete: &[Row]) -> Option<bool> {
     let out = complete_at(alloc, high_lines()?, &THREE_FALLS, skew, time).ok()?;
     Some(are_steps(&out, complete))
@@ -378,7 +378,7 @@ fn times_end_groups(rt: HostRuntime) {
     }
 }
 
-/// What is settled settles to itself where its steps lie more than the skew apart.
+/// Settled steps that are more than the skew apart settle to themselves.
 #[test]
 fn what_is_settled_stays(rt: HostRuntime) {
     for (rows, settled) in LARGE.iter() {
@@ -387,7 +387,8 @@ fn what_is_settled_stays(rt: HostRuntime) {
     }
 }
 
-/// Whether these steps settle so by 4 as they come, and as they are given on, or memory is refused.
+/// Whether these steps settle to `settled` by a skew of 4 as they come, and as they are passed on, or memory is
+/// refused.
 fn comes_if_at_all(alloc: Global, rows: &[Row], settled: &[Row]) -> bool {
     let Some(opening) = high_lines() else {
         return true;

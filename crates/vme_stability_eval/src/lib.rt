@@ -1,14 +1,14 @@
 //! What the definitions say of worked recordings of lines that are known and held, by computing
 //! them.
 //!
-//! Each function is a law: its contract is what it says, and the prover computes it. The recordings
-//! stand in vme_eval, in the module of the law's name, with the verdict and the listing that each
-//! should get.
+//! Each function is a law: its contract states it, and the prover computes it. The recordings are
+//! in vme_eval, in the module of the law's name, with the verdict and the listing that each should
+//! get.
 //!
 //! - [`held_lines`]: the address, its modifier and the direction (U2, U3, S1, S2).
-//! - [`write_data`]: the data of a write (U4, S3), and what a listing tells of it.
+//! - [`write_data`]: the data of a write (U4, S3), and what a listing says of it.
 //!
-//! Nothing is said of recordings that don't stand there. Start reading at the law of interest.
+//! Nothing is said of other recordings. Start reading at the law of interest.
 #![tactic(auto)]
 
 ghost use Rattle.vme_eval.specs.Recording.{AllAgree};

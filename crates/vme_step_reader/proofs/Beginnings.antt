@@ -56,7 +56,8 @@ pub never-both : {X : Type 0} (fault : VcdFault) (x : X) (r : Result X CaptureFa
     → ⊥
 never-both fault x r e h = cc
 
--- what fails by a fault of the definitions, fails so
+-- if two results have the same fault of the dump, an error that reports the fault of the first reports that of the
+-- second
 pub fails_alike : {X Y : Type 0} (own : CaptureFault) (fault : VcdFault) (a : Result X CaptureFault)
     (b : Result Y CaptureFault) → a ≡ Err (Dump fault) → b ≡ Err (Dump fault) → CaptureFailsBy own a
     → CaptureFailsBy own b
@@ -73,12 +74,12 @@ fails_alike (Binding own) fault a b ea eb fails = by_kind own.line own.kind fail
 
 -- ---- a body that begins in the front of a text
 
--- no token goes on behind the first k bytes
+-- the first `k` bytes of `front` end at a token boundary, whatever follows them
 abbrev pub IsApart : List ℕ → ℕ → Type 0
 IsApart front k = (line : ℕ) (rest : List ℕ) → tokens_from line (take k front ++ rest)
     ≡ tokens_from line (take k front) ++ tokens_from (line_behind line (take k front)) rest
 
--- which is so since they end behind a space
+-- the bytes end with a space, if there are any
 abbrev pub EndsBehindSpace : List ℕ → Type 0
 EndsBehindSpace cut = 0 < length cut → is_space (get_or cut (length cut - 1) 0) ≡ true
 
@@ -102,7 +103,7 @@ module _ (b : BoundLines) (front : List ℕ) (k : ℕ) (apart : IsApart front k)
   abbrev cut : List ℕ
   cut = take k front
 
-  -- what comes of each text that begins so, whose body begins behind n bytes
+  -- each text that begins with the tokens of `cut` is read on by `r`, from byte `n` on
   abbrev BeginsAt : StepReading → ℕ → Type 0
   BeginsAt r n = (whole : List ℕ) (more : List Token) → tokens whole ≡ tokens cut ++ more
       → reading_of_text b whole ≡ Ok (reading_ahead (with_recording r.given r.speculative)
@@ -126,7 +127,7 @@ module _ (b : BoundLines) (front : List ℕ) (k : ℕ) (apart : IsApart front k)
       ∙ sym (pieces-joined reached first (drop n cut) more (left_behind cut more n first space))
       ∙ ap (whole_reading r) (goes_on n rest long))
 
-  -- the same of what is found
+  -- a beginning of each text that begins with the tokens of `cut` is one of `front` with any bytes after it
   pub begins-each : (result : Result (Option (StepReading × ℕ)) CaptureFault) → EndsBehindSpace cut
       → IfOk result (λ found. IfSome found (λ begun. begun.1 ≤ length cut))
       → IfOk result (λ found. IfSome found (λ begun.
@@ -138,7 +139,7 @@ module _ (b : BoundLines) (front : List ℕ) (k : ℕ) (apart : IsApart front k)
   begins-each (Ok None) space long line begins = tt
   begins-each (Err fault) space long line begins = tt
 
-  -- and of a fault
+  -- a fault of each text that begins with the tokens of `cut` is one of `front` with any bytes after it
   pub fails-each : (result : Result (Option (StepReading × ℕ)) CaptureFault)
       → IfErr result (λ fault. (whole : List ℕ) (more : List Token) → tokens whole ≡ tokens cut ++ more
       → CaptureFailsBy fault (reading_of_text b whole))

@@ -25,7 +25,7 @@ use Rattle.vme_bind.proofs.TextReadingLemmas.{none_ahead}
 use Rattle.vme_summary.proofs.Sound.{sound_apart}
 use Rattle.vme_step_reader.specs.StepReading.{StepReading, whole_reading}
 
--- what was recorded before is only the front
+-- the recording `t` that was made before is only a prefix of the reading, and changes nothing else of it
 abbrev pub IsPrefix : Type 0
 IsPrefix = (w : SpeculativeReached) (t : Trace) (opening : Levels) (ts more : List Token)
     → reading_ahead (with_recording t w) ts more
@@ -39,6 +39,7 @@ following-twice given r x = ap (λ (steps : List Step). record x { recorded = re
 -- ---- a piece that is read for its steps alone
 
 module _ (is_front : IsPrefix) (w : SpeculativeReached) (none : Trace) (empty : none.steps ≡ []) where
+  -- reading after a recording `given` is reading after none, with `given` before the result
   alone : (given : Trace) (ts more : List Token) → reading_ahead (with_recording given w) ts more
       ≡ following given (reading_ahead (with_recording none w) ts more)
   alone given ts more =
@@ -46,7 +47,7 @@ module _ (is_front : IsPrefix) (w : SpeculativeReached) (none : Trace) (empty : 
       ∙ ap (λ (steps : List Step). following given (reading_ahead
       (with_recording (record { opening = none.opening; steps = steps }) w) ts more)) (sym empty)
 
-  -- it leaves its steps behind whatever was recorded
+  -- the steps of the piece come after any recording `given`
   pub piece-leaves : (w2 : SpeculativeReached) (r : Trace) (ts : List Token)
       → ((more : List Token) → reading_ahead (with_recording none w) ts more
       ≡ reading_ahead (with_recording r w2) [] more)
@@ -59,14 +60,14 @@ module _ (is_front : IsPrefix) (w : SpeculativeReached) (none : Trace) (empty : 
       more)
       ∙ sym (is_front w2 (with_steps given r.steps) none.opening [] more)
 
-  -- where it stops, it stops behind whatever was recorded
+  -- a piece that stops at a fault stops so after any recording `given`
   pub piece-stops : (line : ℕ) (kind : FaultKind) (r : Trace) (time : ℕ) (ts : List Token) (given : Trace)
       (more : List Token) → StopsAs line kind r time (reading_ahead (with_recording none w) ts more)
       → StopsAs line kind (with_steps given r.steps) time (reading_ahead (with_recording given w) ts more)
   piece-stops line Memory r time ts given more stops = stops
   piece-stops line kind r time ts given more stops = alone given ts more ∙ ap (following given) stops
 
-  -- and so does its end
+  -- a piece that ends the text ends it so after any recording `given`
   pub piece-ends : (r : Trace) (time : ℕ) (ts more : List Token) → reading_ahead (with_recording none w) ts more
       ≡ record { recorded = r; fault = None; time = time }
       → (given : Trace) → reading_ahead (with_recording given w) ts more
@@ -79,7 +80,7 @@ abbrev ahead_of : TextReached → List Token → TextReading
 ahead_of t ts = reading_until_fault (until_fault builder_change builder_instant t.body.nets
     (state_at t.body.progress t.body.dump_section) (body_from t.body.place ts))
 
--- a piece that no token goes on behind, and the rest
+-- a piece that ends at a token boundary, and the rest after it
 pub pieces-joined : (t : TextReached) (line : ℕ) (piece rest : List ℕ)
     → tokens_from line (piece ++ rest) ≡ tokens_from line piece ++ tokens_from (line_behind line piece) rest
     → reading_ahead t (tokens_from line (piece ++ rest)) []
@@ -87,11 +88,11 @@ pub pieces-joined : (t : TextReached) (line : ℕ) (piece rest : List ℕ)
 pieces-joined t line piece rest apart =
     ap (ahead_of t) (append-nil (tokens_from line (piece ++ rest)) ∙ apart)
 
--- the rest alone
+-- tokens that are still to come may be read at once
 pub rest-alone : (t : TextReached) (ts : List Token) → reading_ahead t [] ts ≡ reading_ahead t ts []
 rest-alone t ts = ap (ahead_of t) (sym (append-nil ts))
 
--- the first n of some bytes, behind which no token goes on
+-- the first `n` of `bytes`, which end at a token boundary
 module _ (given : Trace) (w : SpeculativeReached) (bytes : List ℕ) (n : ℕ)
     (apart : (line : ℕ) (rest : List ℕ) → tokens_from line (take n bytes ++ rest)
     ≡ tokens_from line (take n bytes) ++ tokens_from (line_behind line (take n bytes)) rest) where
@@ -103,7 +104,7 @@ module _ (given : Trace) (w : SpeculativeReached) (bytes : List ℕ) (n : ℕ)
       (tokens_from (line_behind w.body.line (take n bytes)) rest)
   first-joined rest = pieces-joined (with_recording given w) w.body.line (take n bytes) rest (apart w.body.line rest)
 
-  -- they leave what the whole text comes to
+  -- after them the result of reading the whole text is the same
   pub first-taken : (w2 : SpeculativeReached) (steps : List Step) → w2.body.line
       ≡ line_behind w.body.line (take n bytes)
       → ((more : List Token) → reading_ahead (with_recording given w) (tokens_from w.body.line (take n bytes)) more
@@ -118,7 +119,7 @@ module _ (given : Trace) (w : SpeculativeReached) (bytes : List ℕ) (n : ℕ)
       ∙ ap (λ (line : ℕ). reading_ahead (with_recording (with_steps given steps) w2) (tokens_from line rest) [])
       (sym line)
 
-  -- and so does what was given stay well formed, whatever follows
+  -- after them the recording stays well formed, whatever follows
   pub next-formed : (w2 : SpeculativeReached) (steps items : List Step)
       → w2.body.line ≡ line_behind w.body.line (take n bytes)
       → ((more : List Token) → reading_ahead (with_recording given w) (tokens_from w.body.line (take n bytes)) more
@@ -137,7 +138,7 @@ module _ (given : Trace) (w : SpeculativeReached) (bytes : List ℕ) (n : ℕ)
       (subst (λ (x : TextReading). malformed_step x.recorded ≡ None) (first-taken w2 steps line leaves rest)
       (formed (take n bytes ++ rest)))
 
-  -- what is so of them and of whatever follows, is so of all bytes
+  -- what holds of them and whatever follows, holds of all bytes and whatever follows
   pub first-stops : (P : TextReading → Type 0)
       → ((more : List Token) → P (reading_ahead (with_recording given w) (tokens_from w.body.line (take n bytes)) more))
       → (rest : List ℕ) → P (whole_reading so_far (bytes ++ rest))
@@ -148,14 +149,14 @@ module _ (given : Trace) (w : SpeculativeReached) (bytes : List ℕ) (n : ℕ)
       ∙ first-joined (drop n bytes ++ rest)))
       (stops (tokens_from (line_behind w.body.line (take n bytes)) (drop n bytes ++ rest)))
 
--- ---- what is said of a text that ends here
+-- ---- a text that ends after what was read
 
 made-time : (complete : Trace) (time : ℕ) (made : Result BuilderState VcdFault) → (reading_made complete time made).time
     ≡ time
 made-time complete time (Ok made) = refl
 made-time complete time (Err fault) = refl
 
--- its last time is that so far
+-- the last time of the text is the last that was read
 pub time-here : (r : StepReading) → (whole_reading r []).time ≡ r.speculative.body.progress.time
 unfolding cut_from
 time-here r =
@@ -164,7 +165,7 @@ time-here r =
     r.speculative.body.dump_section
     r.speculative.body.place)
 
--- what was given is the front of what is recorded, so it is well formed where that is
+-- what was given is a prefix of what is recorded, so it is well formed if that is
 pub given-formed : IsPrefix → (r : StepReading) (rest : List ℕ) → malformed_step (whole_reading r rest).recorded ≡ None
     → malformed_step r.given ≡ None
 given-formed is_front r rest formed =
@@ -176,7 +177,7 @@ given-formed is_front r rest formed =
     (sym (ap (λ (x : TextReading). malformed_step x.recorded) (is_front r.speculative r.given r.given.opening ts []))
     ∙ formed)).first
 
--- steps before a fault
+-- the steps before a fault are well formed if the recording is
 pub stopped-formed : (line : ℕ) (kind : FaultKind) (t : Trace) (time : ℕ) (reading : TextReading)
     → StopsAs line kind t time reading → malformed_step reading.recorded ≡ None → (kind ≡ Memory → ⊥)
     → malformed_step t ≡ None
@@ -184,13 +185,13 @@ stopped-formed line Memory t time reading stops formed other = absurd (other ref
 stopped-formed line kind t time reading stops formed other =
     sym (ap (λ (x : TextReading). malformed_step x.recorded) stops) ∙ formed
 
--- before the first step
+-- a recording without steps is well formed
 pub none-formed : (opening : Levels) (steps : List Step) → steps ≡ [] → malformed_step
     (record { opening = opening; steps = steps }) ≡ None
 unfolding malformed_step least
 none-formed opening steps e = ap (λ (steps : List Step). malformed_step (record { opening = opening; steps = steps })) e
 
--- whatever follows it
+-- the reader after the definitions: the recording is well formed, whatever follows
 pub begun-sound : (t : TextReached) (w : SpeculativeReached) (opening : Levels) (made steps : List Step)
     → with_recording (record { opening = opening; steps = made }) w ≡ t → t.body.progress.accumulator.recorded.steps
     ≡ []
@@ -209,7 +210,7 @@ begun-sound t w opening made steps is none empty formed rest =
     (subst (λ (t : TextReached). malformed_step (reading_ahead t (tokens_from w.body.line rest) []).recorded ≡ None)
     (sym is) (formed (tokens_from w.body.line rest) []))
 
--- what was given is a front of what is recorded
+-- what was given is a prefix of what is recorded
 pub given-front : IsPrefix → (r : StepReading) (rest : List ℕ) → (steps : List Step)
     × ((whole_reading r rest).recorded ≡ with_steps r.given steps)
 given-front is_front r rest =

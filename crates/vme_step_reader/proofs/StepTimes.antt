@@ -25,7 +25,7 @@ use Rattle.vme_bind.specs.TextReading.{TextReading, following, reading_ahead, re
 use Rattle.vme_step_reader.specs.StepReading.{StepReading, whole_reading}
 use Rattle.vme_step_reader.proofs.PieceSteps.{IsPrefix, time-here}
 
--- ---- the time behind an item
+-- ---- the time after an item
 
 bind_ok : {A B E : Type 0} (r : Result A E) (f : A → Result B E) (y : B) → (r >>= f) ≡ Ok y → (x : A) × (r ≡ Ok x)
     × (f x ≡ Ok y)
@@ -36,7 +36,7 @@ at_line_ok : {A : Type 0} (line : ℕ) (r : Result A FaultKind) (x : A) → at_l
 at_line_ok line (Ok a) x h = cc
 at_line_ok line (Err kind) x h = absurd cc
 
--- what one of two tests lets through
+-- a result that passes both tests is `x`
 passed : {A E : Type 0} (p q : Bool) (x y : A) (e f : E) → cond p (cond q (Ok x) (Err e)) (Err f) ≡ Ok y → x ≡ y
 passed true true x y e f h = cc
 passed true false x y e f h = absurd cc
@@ -73,7 +73,7 @@ is-later false t now le e = absurd cc
 -- ---- steps from one time on
 
 module _ (from : ℕ) where
-  -- no earlier than that time, and earlier than another
+  -- all steps are at time `from` or later, and before time `to`
   abbrev AreBefore : ℕ → List Step → Type 0
   AreBefore to ss = All (λ (step : Step). (from ≤ step.time) × (step.time < to)) ss
 
@@ -103,13 +103,13 @@ module _ (from : ℕ) where
       (All-nil (λ (s : Step). (from ≤ s.time) × (s.time ≤ step.time)))
   one-up-to false step late = All-nil (λ (s : Step). (from ≤ s.time) × (s.time ≤ step.time))
 
-  -- ---- what is made so far
+  -- ---- the steps that are made so far: all from `from` on, and before the current time
 
   record IsMade (p : BodyFold BuilderState) : Type 0 where
     late : from ≤ p.time
     before : AreBefore p.time p.accumulator.recorded.steps
 
-  -- another time is told
+  -- another time is read
   at-next : (test : Bool) (p : BodyFold BuilderState) (t : ℕ) → IsMade p → p.time ≤ t → (test ≡ true → p.time < t)
       → IsMade (cond test (record { accumulator = builder_instant p.accumulator p.time; time = t; has_instant = true })
       (record p { time = t; has_instant = true }))
@@ -228,7 +228,7 @@ module _ (from : ℕ) where
     reached-whole s end (item ∷ items) whole = step-whole s end item items (context_after nets s.context item) whole
         (λ next all. reached-whole next end items all)
 
-  -- ---- what reading comes to
+  -- ---- the result of reading
 
   pub record TimesOf (reading : TextReading) : Type 0 where
     pub late : from ≤ reading.time
@@ -243,7 +243,7 @@ module _ (from : ℕ) where
     before = λ f is. h.before;
   }
 
-  -- the instant at hand is the last
+  -- the current instant is the last
   ended-up-to : (has_instant : Bool) (p : BodyFold BuilderState) → IsMade p
       → AreUpTo p.time (cond has_instant (builder_instant p.accumulator p.time) p.accumulator).recorded.steps
   ended-up-to true p h =
@@ -283,7 +283,7 @@ module _ (from : ℕ) where
 
 -- ---- the steps that follow what was given
 
--- what is recorded behind it
+-- what is recorded after what was given
 abbrev behind : StepReading → List ℕ → TextReading
 behind r rest = reading_ahead (with_recording (record { opening = r.given.opening; steps = [] }) r.speculative)
     (tokens_from r.speculative.body.line rest) []

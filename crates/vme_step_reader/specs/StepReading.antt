@@ -1,4 +1,4 @@
--- How far the text of a dump is read whose steps come out as they become complete.
+-- How far the text of a dump is read, whose steps are returned as they become complete.
 use Rattle.std.specs.Prelude.{◌≡◌, ℕ, List, []}
 use Rattle.vme_trace.specs.Followed.{with_steps}
 use Rattle.vme_trace.specs.Trace.{Trace}
@@ -12,11 +12,11 @@ pub record StepReading : Type 0 where
   pub given : Trace
   pub speculative : SpeculativeReached
 
--- what the whole text comes to where these bytes follow
+-- the result of reading the whole text, if `bytes` follow
 abbrev pub whole_reading : StepReading → List ℕ → TextReading
 whole_reading r bytes = reading_ahead (with_recording r.given r.speculative)
     (tokens_from r.speculative.body.line bytes) []
 
--- the steps that are still to come where these bytes follow
+-- `steps` are still to come, if `bytes` follow
 abbrev pub AreToCome : StepReading → List ℕ → List Step → Type 0
 AreToCome r bytes steps = (whole_reading r bytes).recorded ≡ with_steps r.given steps

@@ -1,4 +1,4 @@
-//! The definitions of a dump, behind which steps come.
+//! The definitions of a dump, after which steps come.
 
 ghost use Rattle.std.specs.Prelude.{◌≡◌, ◌≤◌, ◌++◌, ℕ, List, [], IfErr, IfNone, IfOk, IfSome, None, Ok, Err, drop};
 ghost use Rattle.std.specs.Prelude.{length};
@@ -20,7 +20,7 @@ use vcd_read::whole_tokens;
 use vme_bind::{Binding, CaptureFault, StepCollector, TextPieces};
 use vme_summary::GhostSteps;
 
-/// Behind the definitions, where nothing of the body is read yet. A fault of the binding is met here.
+/// The reader after the definitions, where nothing of the body is read yet. A fault of the binding is found here.
 fn before_steps(text: TextPieces<StepCollector>) -> Result<StepReader, CaptureFault>
     requires none { (text_reached text).body.progress.accumulator.recorded.steps ≡ [] }
     requires formed { (ts more : List Token)
@@ -45,7 +45,8 @@ fn before_steps(text: TextPieces<StepCollector>) -> Result<StepReader, CaptureFa
     })
 }
 
-/// Begins with the definitions that end in a front of a text, behind which no token of the front goes on.
+/// Begins with the definitions in `front`, a prefix of a text that ends at a token boundary. Returns the reader and how
+/// many bytes the definitions take, or `None` if they don't end in `front`.
 fn begin_at(
     alloc: Global,
     bound: &Binding,
@@ -77,9 +78,9 @@ fn begin_at(
     }
 }
 
-/// Begins with the definitions of a text, by the first of its bytes, and says how many of these they take. Where they
-/// don't end in the whole tokens of these bytes, nothing is begun. A fault of theirs, and one of the binding, is that
-/// of every text that goes on so.
+/// Begins with the definitions of a text whose first bytes are `front`. Returns the reader and how many of these bytes
+/// the definitions take, or `None` if they don't end within the whole tokens of `front`. A fault of the definitions, or
+/// of the binding, is that of every text with these first bytes.
 pub fn begin_steps(
     alloc: Global,
     bound: &Binding,
@@ -100,7 +101,7 @@ pub fn begin_steps(
     begin_at(alloc, bound, &front[..count])
 }
 
-/// The same of a whole text, behind which nothing follows: definitions that don't end are a fault.
+/// As `begin_steps`, of a whole text: definitions that don't end are a fault.
 pub fn begin_last_steps(
     alloc: Global,
     bound: &Binding,

@@ -8,7 +8,7 @@ ghost use Rattle.vme_step_reader.specs.StepReading.{AreToCome, StepReading, whol
 
 use vme_bind::recorded_before_is_a_prefix;
 
-/// What was given is the front of what is recorded, whatever follows.
+/// The steps that were returned are a prefix of those that are recorded, whatever bytes follow.
 pub fn given_is_a_prefix()
     ensures { (r : StepReading) (rest : List ℕ) → (steps : List Step)
         × ((whole_reading r rest).recorded ≡ with_steps r.given steps) }
@@ -16,8 +16,8 @@ pub fn given_is_a_prefix()
     recorded_before_is_a_prefix();
 }
 
-/// The steps that are still to come are no earlier than the last time that was read, and no later than that of the
-/// whole text, which they are all before where it has a fault.
+/// The steps that are still to come are no earlier than the last time that was read, and no later than the last time of
+/// the whole text. If the text has a fault, they are all earlier than that time.
 pub fn times_go_on()
     ensures follows { (r : StepReading) (rest : List ℕ) (steps : List Step)
         → AreToCome r rest steps

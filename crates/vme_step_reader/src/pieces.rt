@@ -33,7 +33,7 @@ fn steps_before(stopped: Stopped<StepCollector>) -> StoppedSteps
     }
 }
 
-/// What takes steps, and has taken none.
+/// A collector of steps that has none.
 pub(crate) fn none_taken(alloc: Global, opening: &Lines) -> StepCollector
     ensures opening { result.opening ≡ opening.now }
     ensures none { result.steps.items ≡ [] }
@@ -44,7 +44,7 @@ pub(crate) fn none_taken(alloc: Global, opening: &Lines) -> StepCollector
     }
 }
 
-/// Reads a piece that ends behind a space, and the steps that become complete by it.
+/// Reads a piece that ends after a space. Returns the next reader, and the steps that become complete by the piece.
 pub(crate) fn read_piece(
     alloc: Global,
     speculative: SpeculativeReader,
@@ -69,7 +69,7 @@ pub(crate) fn read_piece(
     }
 }
 
-/// Reads the last piece, and the steps that become complete by it and by the end.
+/// Reads the last piece, and returns the steps that become complete by it and by the end.
 pub(crate) fn read_last_piece(
     alloc: Global,
     speculative: SpeculativeReader,

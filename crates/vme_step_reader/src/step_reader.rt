@@ -16,7 +16,7 @@ use vme_bind::{SpeculativeReader, recorded_before_is_a_prefix};
 use vme_summary::GhostSteps;
 use vme_trace::{Lines, Step};
 
-/// The body of a dump, as far as it is read. The steps that are complete were given away: none is kept.
+/// The body of a dump, as far as it is read. The steps that are complete were returned: none is kept.
 #[derive(Drop)]
 pub struct StepReader {
     pub(crate) speculative: SpeculativeReader,
@@ -58,8 +58,8 @@ impl StepReader {
         self.speculative.time()
     }
 
-    /// Takes some of the first of these bytes, and says how many, with the steps that became complete. With the first
-    /// fault come the steps that are complete before it.
+    /// Takes a prefix of `bytes`. Returns the next reader, the steps that became complete, and the prefix's length.
+    /// With the first fault come the steps that are complete before it.
     pub fn take(
         self,
         alloc: Global,
@@ -96,8 +96,8 @@ impl StepReader {
         }
     }
 
-    /// Takes the last bytes, with the steps that became complete by them and by the end. With a fault come the steps
-    /// that are complete before it.
+    /// Takes the last bytes, and returns the steps that became complete by them and by the end. With a fault come the
+    /// steps that are complete before it.
     pub fn finish(self, alloc: Global, rest: &[u8]) -> Result<Vec<Step>, StoppedSteps>
         ensures recorded { IfOk result (λ steps.
             (whole_reading self rest.now).recorded ≡ with_steps self.given steps.items) }

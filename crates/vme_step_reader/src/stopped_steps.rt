@@ -3,8 +3,8 @@
 use vcd_read::VcdFault;
 use vme_trace::Step;
 
-/// The first fault of a body, the steps before it that weren't given yet, and the last time that stands before it, or
-/// 0. Of the steps and the time nothing is said where memory ran out.
+/// The first fault of a body, the steps before it that weren't returned yet, and the last time before it, or 0. If
+/// memory ran out, nothing is said of the steps and the time.
 #[derive(Drop)]
 pub struct StoppedSteps {
     pub fault: VcdFault,

@@ -41,7 +41,7 @@ const BODY: &str =
 
 const STEPS: &str = "#0 AS=1 DTACK=1\n#10 AS=0\n#30 DTACK=0\n#40 AS=1\n#50 DTACK=1\n";
 
-/// A body behind the definitions.
+/// The definitions, and a body after them.
 fn behind_definitions(alloc: Global, body: &str) -> Result<Vec<u8>, AllocError> {
     let mut text = Vec::from_slice(alloc, DEFINITIONS.as_bytes())?;
     text.extend_from_slice(body.as_bytes())?;
@@ -96,12 +96,12 @@ fn write_stopped(alloc: Global, text: &mut Vec<u8>, stopped: &StoppedSteps) -> S
     }
 }
 
-/// How many bytes were taken up to an end, where so many of the last ones were.
+/// How many bytes of a dump were taken, if the first `count` of the `length` bytes before `end` were.
 fn taken_up_to(end: usize, length: usize, count: usize) -> usize {
     end.saturating_sub(length.saturating_sub(count))
 }
 
-/// Reads more bytes, and adds their steps. The number is how many were taken.
+/// Reads more bytes, and adds their steps. Returns the next reader, and how many bytes were taken.
 fn read_more(
     alloc: Global,
     reader: StepReader,
@@ -117,7 +117,7 @@ fn read_more(
     }
 }
 
-/// Reads the last bytes.
+/// Reads the last bytes, and adds their steps.
 fn read_last(
     alloc: Global,
     reader: StepReader,
@@ -133,8 +133,8 @@ fn read_last(
     }
 }
 
-/// Reads the rest of a dump of which so many bytes were taken, up to each of these ends. Those that aren't taken come
-/// again, with more.
+/// Reads the rest of a dump, of which `begun` has taken some bytes, up to each of `ends`. Bytes that aren't taken come
+/// again, with more after them.
 fn read_on(
     alloc: Global,
     begun: (StepReader, usize),
@@ -165,7 +165,7 @@ fn read_whole(
     }
 }
 
-/// Reads a dump up to each of these ends, and adds its steps.
+/// Reads a dump up to each of `ends`, and adds its steps.
 fn read_up_to(
     alloc: Global,
     binding: &Binding,
@@ -186,7 +186,7 @@ fn read_up_to(
     read_whole(alloc, binding, dump, text)
 }
 
-/// Whether reading a dump up to each of these ends tells these steps, and this fault.
+/// Whether reading a dump up to each of `ends` gives the steps `wanted`, and this fault.
 fn tells_up_to(
     alloc: Global,
     binding: &Binding,
@@ -203,7 +203,7 @@ fn tells_up_to(
     is_end && text.as_slice() == wanted.as_bytes()
 }
 
-/// Whether it does where so many bytes more come at once.
+/// As `tells_up_to`, where `size` bytes more come at once.
 fn tells(
     alloc: Global,
     binding: &Binding,
@@ -218,7 +218,7 @@ fn tells(
     }
 }
 
-/// Whether it does by each size.
+/// As `tells`, for each of `SIZES`.
 fn tells_by_each_size(
     alloc: Global,
     binding: &Binding,
@@ -233,7 +233,7 @@ fn tells_by_each_size(
     same
 }
 
-/// The same by the binding.
+/// As `tells_by_each_size`, by the binding `LINES`.
 fn tells_always(alloc: Global, dump: &[u8], wanted: &str, fault: StopFault) -> bool {
     match bound(alloc) {
         Some(binding) => tells_by_each_size(alloc, &binding, dump, wanted, fault),
@@ -241,7 +241,7 @@ fn tells_always(alloc: Global, dump: &[u8], wanted: &str, fault: StopFault) -> b
     }
 }
 
-/// The same of a body behind the definitions.
+/// As `tells_always`, of a body after the definitions.
 fn body_tells(alloc: Global, body: &str, wanted: &str, fault: StopFault) -> bool {
     match behind_definitions(alloc, body) {
         Ok(dump) => tells_always(alloc, &dump, wanted, fault),
@@ -249,7 +249,7 @@ fn body_tells(alloc: Global, body: &str, wanted: &str, fault: StopFault) -> bool
     }
 }
 
-/// How many bytes of a text have come, where so many more come at once.
+/// How many bytes of a text have come after each piece, where `size` bytes come at once.
 fn ends_of(alloc: Global, length: usize, size: usize) -> Result<Vec<usize>, AllocError> {
     let mut ends = Vec::new(alloc);
     for end in 1..=length {
@@ -309,7 +309,7 @@ fn a_fault_comes_behind_the_steps_before_it(rt: HostRuntime) {
     }
 }
 
-/// Why no step of a dump is told that is read up to each of these ends.
+/// Why a dump that is read up to each of `ends` has no steps.
 fn refused_up_to(
     alloc: Global,
     binding: &Binding,
@@ -326,7 +326,7 @@ fn refused_up_to(
     begin_last_steps(alloc, binding, dump).err()
 }
 
-/// Why none is where so many bytes more come at once.
+/// As `refused_up_to`, where `size` bytes more come at once.
 fn refused(alloc: Global, binding: &Binding, dump: &str, size: usize) -> Option<CaptureFault> {
     match ends_of(alloc, dump.len(), size) {
         Ok(ends) => refused_up_to(alloc, binding, dump.as_bytes(), &ends),
@@ -353,11 +353,11 @@ static REFUSED: [(&str, u64, FaultKind); 3] = [
     ),
 ];
 
-/// One of which the binding makes no recording, whatever the body has.
+/// A dump of which the binding makes no recording, whatever its body has.
 const UNBOUND: &str =
     "$scope module bus $end\n$var wire 1 p AS $end\n$enddefinitions $end\n#0 2p\n";
 
-/// Whether no step of a dump is told by any size, for a fault of the dump.
+/// Whether a dump has no steps by any of `SIZES`, for the fault `wanted` of the dump.
 fn is_dump_refused(alloc: Global, binding: &Binding, dump: &str, wanted: VcdFault) -> bool {
     let mut same = true;
     for size in SIZES.iter() {
@@ -369,7 +369,7 @@ fn is_dump_refused(alloc: Global, binding: &Binding, dump: &str, wanted: VcdFaul
     same
 }
 
-/// Whether none of the unbound one is, for a fault of the binding.
+/// Whether `UNBOUND` has no steps by any of `SIZES`, for a fault of the binding.
 fn is_binding_refused(alloc: Global, binding: &Binding) -> bool {
     let mut same = true;
     for size in SIZES.iter() {
@@ -383,7 +383,7 @@ fn is_binding_refused(alloc: Global, binding: &Binding) -> bool {
     same
 }
 
-/// Whether each is refused so.
+/// Whether `UNBOUND` and each of `REFUSED` are refused so.
 fn are_refused(alloc: Global, binding: &Binding) -> bool {
     let mut same = is_binding_refused(alloc, binding);
     for (dump, line, kind) in REFUSED.iter() {
@@ -393,7 +393,7 @@ fn are_refused(alloc: Global, binding: &Binding) -> bool {
     same
 }
 
-/// The same by the binding.
+/// As `are_refused`, by the binding `LINES`.
 fn are_all_refused(alloc: Global) -> bool {
     match bound(alloc) {
         Some(binding) => are_refused(alloc, &binding),
@@ -406,7 +406,7 @@ fn a_text_may_have_no_steps(rt: HostRuntime) {
     assert!(rt; are_all_refused(rt.alloc()));
 }
 
-/// Whether definitions are known to end only where something follows them.
+/// Whether it isn't known yet that the definitions end.
 fn is_unknown(alloc: Global, dump: &[u8]) -> bool {
     match bound(alloc) {
         Some(binding) => matches!(begin_steps(alloc, &binding, dump), Ok(None)),
@@ -414,7 +414,7 @@ fn is_unknown(alloc: Global, dump: &[u8]) -> bool {
     }
 }
 
-/// The last word of the definitions may be the last of the text: only then it is known to end there.
+/// The last word of the definitions may be the last of the text: it is known to end there only at the text's end.
 #[test]
 fn definitions_may_end_as_the_text_does(rt: HostRuntime) {
     let dump = DEFINITIONS.as_bytes().strip_suffix(b"\n").unwrap_or(&[]);
@@ -422,7 +422,7 @@ fn definitions_may_end_as_the_text_does(rt: HostRuntime) {
     assert!(rt; tells_always(rt.alloc(), dump, "", None));
 }
 
-/// Pieces of a body, and the last time behind each.
+/// Pieces of a body, and the last time after each.
 static TIMES: [(&str, u64); 3] = [
     ("#10 0p\n", 10),
     ("#20 $comment #30\n", 20),
@@ -440,7 +440,7 @@ fn begun(alloc: Global) -> Option<StepReader> {
     }
 }
 
-/// The reader behind a piece, all of which it takes.
+/// The reader after a piece, if it takes all of the piece.
 fn behind(alloc: Global, reader: StepReader, piece: &str) -> Option<StepReader> {
     let (next, _, count) = reader.take(alloc, piece.as_bytes()).ok()?;
     if count == piece.len() {
@@ -450,8 +450,8 @@ fn behind(alloc: Global, reader: StepReader, piece: &str) -> Option<StepReader> 
     }
 }
 
-/// The first piece behind which another time is the last, or an empty one. None is a text that isn't read, or another
-/// opening.
+/// The first piece after which the last time is wrong, or an empty text. `None` if a text isn't read, or the opening is
+/// wrong.
 fn first_wrong_time(alloc: Global) -> Option<&'static str> {
     let mut reader = begun(alloc)?;
     for (piece, time) in TIMES.iter() {
@@ -473,7 +473,7 @@ fn the_opening_and_the_last_time_are_known(rt: HostRuntime) {
     assert!(rt; wrong.is_empty(), "{wrong}");
 }
 
-/// Whether five steps are told in all, or memory is refused.
+/// Whether there are five steps in all, with the `count` before, or memory is refused.
 fn are_five_or_refused(alloc: Global, reader: StepReader, count: usize) -> bool {
     match reader.finish(alloc, &[]) {
         Ok(last) => last.len().checked_add(count) == Some(5),
@@ -481,7 +481,7 @@ fn are_five_or_refused(alloc: Global, reader: StepReader, count: usize) -> bool 
     }
 }
 
-/// The same where the body is yet to be taken.
+/// As `are_five_or_refused`, where the body is still to be taken.
 fn is_taken_or_refused(alloc: Global, reader: StepReader, body: &[u8]) -> bool {
     match reader.take(alloc, body) {
         Ok((reader, steps, _)) => are_five_or_refused(alloc, reader, steps.len()),
@@ -497,7 +497,7 @@ fn is_refusal(fault: CaptureFault) -> bool {
     }
 }
 
-/// Whether five steps are told of a dump, or memory is refused.
+/// Whether a dump has five steps, or memory is refused.
 fn is_told_or_refused(alloc: Global, binding: &Binding, dump: &[u8]) -> bool {
     match begin_last_steps(alloc, binding, dump) {
         Ok((reader, count)) => {
@@ -507,7 +507,7 @@ fn is_told_or_refused(alloc: Global, binding: &Binding, dump: &[u8]) -> bool {
     }
 }
 
-/// The same by the binding, where there is memory for it.
+/// As `is_told_or_refused`, by the binding `LINES`, if there is memory for it.
 fn is_bound_or_refused(alloc: Global, dump: &[u8]) -> bool {
     match read_binding(alloc, LINES.as_bytes()) {
         Ok(binding) => is_told_or_refused(alloc, &binding, dump),
@@ -515,7 +515,7 @@ fn is_bound_or_refused(alloc: Global, dump: &[u8]) -> bool {
     }
 }
 
-/// The same of the body, where there is memory for the text.
+/// As `is_bound_or_refused`, of `BODY`, if there is memory for the text.
 fn is_want_told(alloc: Global) -> bool {
     match behind_definitions(alloc, BODY) {
         Ok(dump) => is_bound_or_refused(alloc, &dump),

@@ -44,7 +44,7 @@ pub too_long_is : (input : Input) (text : List ℕ) → longest_input < length t
     ≡ Err (TooLong input)
 too_long_is input text long = rw (lt-leb (length text) longest_input long) refl
 
--- ---- what functions give of the faults that they meet
+-- ---- the refusals for faults, against the specified results
 
 pub or_bad_binding-gives : {Y : Type 0} (line : ℕ) (kind : BindFaultKind) (answer : Result Y BindFault)
     → BindFailsAs line kind answer
@@ -52,7 +52,7 @@ pub or_bad_binding-gives : {Y : Type 0} (line : ℕ) (kind : BindFaultKind) (ans
 or_bad_binding-gives line bind.Memory answer is = tt
 or_bad_binding-gives {Y} line kind answer is = ap (λ (r : Result Y BindFault). or_bad_binding r) is
 
--- what a recording of a text, or its first fault, is to the program
+-- the result of `recorded_by` for the recording of a text, or for its first fault
 abbrev by_either : {A : Type 0} → Result A CaptureFault → Result (Result A BindFault) Refusal
 by_either (Ok x) = Ok (Ok x)
 by_either (Err (capture.Dump fault)) = Err (BadDump fault)
@@ -72,12 +72,12 @@ text_recorded : (bound : BoundLines) (bytes : List ℕ) → recorded_by bound (o
 unfolding text.capture_of_text
 text_recorded bound bytes = by_dump bound (dump_of bytes)
 
--- the recording of a text
+-- a text that has a recording
 pub text_recorded-ok : (bound : BoundLines) (bytes : List ℕ) (t : Trace) → text.capture_of_text bound bytes ≡ Ok t
     → recorded_by bound (or_bad_dump (dump_of bytes)) ≡ Ok (Ok t)
 text_recorded-ok bound bytes t e = text_recorded bound bytes ∙ ap by_either e
 
--- a refusal, where one of the binding is why it makes no recording
+-- `recorded` agrees with the refusal: a bad binding is the fault of the inner result, any other the error of the outer
 abbrev IsRefused : {A : Type 0} → Refusal → Result (Result A BindFault) Refusal → Type 0
 IsRefused (BadBinding fault) recorded = recorded ≡ Ok (Err fault)
 IsRefused {A} refusal recorded = AnswerGives (λ (r : Result A BindFault). r) (Err refusal) recorded
@@ -105,7 +105,7 @@ text_refusal : (bound : BoundLines) (bytes : List ℕ) (fault : CaptureFault) �
 text_refusal bound bytes fault h = subst (λ (w : Result (Result Trace BindFault) Refusal). IsRefused
     (capture_refusal fault) w) (sym (text_recorded bound bytes)) (refused_by fault (text.capture_of_text bound bytes) h)
 
--- a fault of the binding
+-- a text that has no recording by a fault of the binding
 pub text_recorded-kept : (bound : BoundLines) (bytes : List ℕ) (fault : CaptureFault) (kept : BindFault)
     → text.CaptureFailsBy fault (text.capture_of_text bound bytes)
     → capture_refusal fault ≡ BadBinding kept → recorded_by bound (or_bad_dump (dump_of bytes)) ≡ Ok (Err kept)
@@ -119,7 +119,7 @@ told_at_once : {A : Type 0} (r : Refusal) (recorded : Result (Result A BindFault
 told_at_once (BadBinding fault) recorded other is = absurd (other fault refl)
 told_at_once r recorded other is = is
 
--- a fault of the text, or want of memory
+-- a text that has no recording by a fault of the dump, or by want of memory
 pub text_recorded-refused : (bound : BoundLines) (bytes : List ℕ) (fault : CaptureFault) → text.CaptureFailsBy fault
     (text.capture_of_text bound bytes)
     → ((kept : BindFault) → capture_refusal fault ≡ BadBinding kept → ⊥)
@@ -214,9 +214,9 @@ capture_by-refused bound dump r is =
     subst (AnswerGives (λ (t : Trace). t) (Err r)) (sym (capture_by-is bound dump))
     (passes_through r (recorded_by bound dump) or_kept is)
 
--- ---- the recording, however long it is
+-- ---- the recording, of any length
 
--- a recording of a text, or its first fault
+-- the recording of a text, or the refusal for its first fault
 abbrev or_refused : {A : Type 0} → Result A CaptureFault → Result A Refusal
 or_refused (Ok x) = Ok x
 or_refused (Err (capture.Dump fault)) = Err (BadDump fault)
@@ -278,7 +278,7 @@ pub recording_read-bound : (binding dump : Option (List ℕ)) (b : BoundLines) �
 unfolding recording_read
 recording_read-bound binding dump b is = ap (λ (r : Result BoundLines Refusal). r >>= recorded_of dump) is
 
--- a recording that isn't too long
+-- a recording, or the refusal if it is too long
 abbrev or_too_long : Trace → Result Trace Refusal
 or_too_long t = or_bad_binding (limited t)
 
@@ -311,13 +311,13 @@ capture_read-short binding dump = by_binding_read (binding_read binding)
     by_binding_read (Ok bound) = capture_by-short bound (dump_read dump)
     by_binding_read (Err r) = refl
 
--- the recording that there is, however long it is, is the one that is judged where it isn't too long
+-- if there is a recording `t`, of any length, it is the one that is judged, unless it is too long
 pub capture_read-recorded : (binding dump : Option (List ℕ)) (t : Trace) → recording_read binding dump ≡ Ok t
     → capture_read binding dump ≡ or_bad_binding (limited t)
 capture_read-recorded binding dump t is = capture_read-short binding dump
     ∙ ap (λ (r : Result Trace Refusal). r >>= or_too_long) is
 
--- and where there is none, this is why
+-- a refusal by which there is no recording of any length is one by which there is none to judge
 pub capture_read-unrecorded : (binding dump : Option (List ℕ)) (r : Refusal) → AnswerGives (λ (t : Trace). t) (Err r)
     (recording_read binding dump)
     → AnswerGives (λ (t : Trace). t) (Err r) (capture_read binding dump)

@@ -47,7 +47,7 @@ told_alike (Some y) bytes x is same =
     let alike : y ≡ bytes = cc is in
     same ∙ alike
 
--- what is read of a source that tells its bytes whole
+-- the bytes that are read of a source, if it is read whole, are its own
 pub read_is : (old new : Reading) (bytes : Option (List ℕ)) (told : List ℕ) → IsReading old new bytes
     → TellsWhole old new told → bytes ≡ Some told
 read_is old new (Some x) told reading whole = ap (λ (l : List ℕ). Some l) (told_alike old.left told x whole.told
@@ -86,8 +86,8 @@ module _ {A : Type 0} (answer : A → CommandAnswer) (small : (found : A) → (a
         let (binding_bytes, dump_bytes, found, binding_read, dump_read, may, end) = does in
         unwritten_by found out err status end
 
-    -- inputs that are told whole, and no failure, give this answer, if all that may be found of them has it but for a
-    -- status of 4
+    -- if the inputs are read whole, no write fails and the status isn't 4, the answer is `said`, provided that all that
+    -- may be found of their bytes has the answer `said` or the status 4
     pub Does-exact : Does answer MayFind binding dump out err status → (b d : List ℕ) (said : CommandAnswer)
         → ((found : A) → MayFind (Some b) (Some d) found → ((answer found).status ≡ 4 → ⊥) → answer found ≡ said)
         → TellsWhole binding.0 binding.1 b → TellsWhole dump.0 dump.1 d → out.1.failures ≡ out.0.failures
@@ -103,7 +103,7 @@ module _ {A : Type 0} (answer : A → CommandAnswer) (small : (found : A) → (a
         with_b in
         exact_by said found out err status end (is found with_d) same memory
 
--- what is given is answered as what is said, but for want of memory
+-- a result `found` that agrees with `said` has the same answer, unless the status is 4
 pub given_is : {A : Type 0} (answer : Result A Refusal → CommandAnswer) → (answer (Err Memory)).status ≡ 4
     → (found said : Result A Refusal) → AnswerGives (λ (x : A). x) found said → ((answer found).status ≡ 4 → ⊥)
     → answer found ≡ answer said

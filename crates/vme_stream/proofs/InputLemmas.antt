@@ -10,7 +10,7 @@ use Rattle.vme_stream.specs.Inputs.{IsInTime, IsReading, fewest_short_reads, lea
 use Rattle.vme_stream.specs.Inputs.{most_reads}
 use Rattle.vme_trace.specs.Streams.{Reading}
 
--- the front of a list was read, and n bytes more behind it
+-- the first `f` bytes of a list were read, and then the next `n`: together the first `f + n`
 pub Consumes-grown : (a b c : Option (List ℕ)) (xs ys : List ℕ) (f n : ℕ) → take f ys ≡ take f xs
     → Consumes a b (take f xs) → Consumes b c (take n (drop f ys)) → Consumes a c (take (f + n) ys)
 Consumes-grown a b c xs ys f n front before read =
@@ -23,7 +23,7 @@ told_at_end None b bs read end = tt
 told_at_end (Some x) None bs read end = absurd read
 told_at_end (Some x) (Some y) bs read end = sym (read ∙ ap (λ l. bs ++ l) end ∙ append-nil bs)
 
--- what was read up to the end is what was told
+-- the bytes that were read up to the end are those of the source
 pub read_to_end : (old new : Reading) (bs : List ℕ) → Consumes old.left new.left bs → IsAtEnd new.left
     → IsInTime old new
     → IsReading old new (Some bs)
@@ -38,7 +38,7 @@ more_than None b bs k read long = (bs, long, tt)
 more_than (Some x) None bs k read long = absurd read
 more_than (Some x) (Some y) bs k read long = (x, longer x y bs k read long, refl)
 
--- so many bytes were read, so there are as many
+-- if more than `k` bytes were read, the source has more than `k` bytes
 pub reads_more : (old new : Reading) (bs : List ℕ) (k : ℕ) → Consumes old.left new.left bs → k < length bs
     → IsInTime old new
     → (bytes : List ℕ) × (k < length bytes) × IsReading old new (Some bytes)
@@ -58,12 +58,12 @@ reads_at_least None b bs k read long = tt
 reads_at_least (Some x) None bs k read long = absurd read
 reads_at_least (Some x) (Some y) bs k read long = at_least x y bs k read long
 
--- So many reads gave so many bytes: each of them that was full gave 4,096 bytes at least, and few were full.
+-- `reads` reads gave `bytes` bytes: each full one gave at least 4,096, and at most `most_full_reads` were full.
 pub record IsRoomy (old now : Reading) (reads bytes : ℕ) : Type 0 where
   pub rooms : 4096 * (old.short_reads + reads) ≤ 4096 * now.short_reads + bytes
   pub few : old.short_reads + reads ≤ now.short_reads + most_full_reads
 
--- one more read gave bytes: it was short, or there weren't too many bytes before it
+-- one more read gave `n` bytes, short or full, where there were at most `longest_input` bytes before it
 roomy-by : (old now later : Reading) (reads bytes n room : ℕ) → IsRoomy old now reads bytes → bytes ≤ longest_input
     → least_room ≤ room → (n < room → later.short_reads ≡ suc now.short_reads)
     → (room ≤ n → later.short_reads ≡ now.short_reads) → (n < room) ⊎ (room ≤ n)
@@ -88,7 +88,8 @@ roomy-on old now later reads bytes n room is limit some enough counts =
     let (none, short, full) = counts in
     roomy-by old now later reads bytes n room is limit enough (short some) full (cases_lt n room)
 
--- so many bytes were read by so many reads, of which so many were short
+-- at least `most_reads` bytes were read by `most_reads` reads, at least `fewest_short_reads` of them short: reading is
+-- given up
 pub gives_more : (old new : Reading) (bytes : List ℕ) → Consumes old.left new.left bytes → most_reads ≤ length bytes
     → new.reads ≡ old.reads + most_reads → old.short_reads + fewest_short_reads ≤ new.short_reads
     → new.failures ≡ old.failures → IsReading old new None
@@ -100,7 +101,7 @@ gives_more old new bytes read long reads short failures =
       told = reads_at_least old.left new.left bytes most_reads read long;
     })
 
--- so many reads gave bytes, the first of a buffer
+-- `most_reads` reads gave bytes, the first `filled` ones of a buffer: reading is given up
 pub gives_up : (old new : Reading) (bytes : List ℕ) (filled reads : ℕ) → Consumes old.left new.left (take filled bytes)
     → filled ≤ length bytes → reads ≤ filled → IsRoomy old new reads filled → most_reads ≤ reads
     → new.reads ≡ old.reads + most_reads → new.failures ≡ old.failures → IsReading old new None
@@ -115,12 +116,12 @@ told_unread : (told : Option (List ℕ)) → (bytes : List ℕ) × IfSome told (
 told_unread None = ([], tt)
 told_unread (Some x) = (x, refl)
 
--- a source of which no read failed, in time, may be read
+-- a source that was read in time, without a failure, has some reading
 pub in_time : (old new : Reading) → IsInTime old new → (bytes : Option (List ℕ)) × IsReading old new bytes
 in_time old new time =
     let (bytes, told) = told_unread old.left in
     (Some bytes, (time, told))
 
--- a source that isn't read stays to be read
+-- a source that isn't read at all has some reading
 pub unread : (here : Reading) → (bytes : Option (List ℕ)) × IsReading here here bytes
 unread here = in_time here here (record { failures = refl; reads = still here.reads })

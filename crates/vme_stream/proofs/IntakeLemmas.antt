@@ -1,4 +1,4 @@
--- Reading a source by what takes its bytes.
+-- Reading a source by a consumer of its bytes.
 use Rattle.std.proofs.Common.{◌≡◌, ℕ, suc, ◌+◌, ◌-◌, ◌≤◌, ◌<◌, List, ◌++◌, length, take, drop, Some, None, sym, ap}
 use Rattle.std.proofs.Common.{subst, ◌∙◌, append_assoc, append-nil, length-append, length-take-le, arith}
 use Rattle.std.specs.List.{copy_within}
@@ -13,7 +13,8 @@ use Rattle.vcd_read.specs.ByteConsumers.{ContinuesAs}
 use Rattle.vme_stream.proofs.InputLemmas.{IsRoomy, gives_more, reads_more, read_to_end, roomy-on}
 use Rattle.vme_trace.specs.Streams.{Reading}
 
--- So many reads gave bytes: those that were taken, which are done, and those that are held, the first of a buffer.
+-- `reads` reads gave bytes: `done`, the `taken` ones that the consumer took, and the `filled` ones that are held, at
+-- the front of `buffer`.
 pub record IsUnderway {O : Type 0} (old now : Reading) (first here : List ℕ → O) (buffer done : List ℕ)
     (taken filled reads : ℕ) : Type 0 where
   pub within : filled ≤ length buffer
@@ -32,7 +33,7 @@ passes-on first here next xs ys one two rest = ap first (append_assoc xs ys rest
 
 module _ {O : Type 0} (old now : Reading) (first here : List ℕ → O) (buffer done : List ℕ) (taken filled reads : ℕ)
     (u : IsUnderway old now first here buffer done taken filled reads) where
-  -- what is read so far
+  -- all bytes that were read so far
   abbrev pub all_read : List ℕ
   all_read = done ++ take filled buffer
 
@@ -42,7 +43,7 @@ module _ {O : Type 0} (old now : Reading) (first here : List ℕ → O) (buffer 
   pub read-length : length all_read ≡ taken + filled
   read-length = length-append done (take filled buffer) ∙ omega (arith, held, u.done_is)
 
-  -- some of what is held is taken
+  -- `count` of the held bytes are taken
   module _ (limit : taken + filled ≤ longest_input) (next : List ℕ → O) (after : List ℕ) (count : ℕ)
       (within : count ≤ filled) (room : (filled - count) + least_room ≤ length after)
       (left : take (filled - count) after ≡ drop count (take filled buffer))
@@ -114,14 +115,14 @@ module _ {O : Type 0} (old now : Reading) (first here : List ℕ → O) (buffer 
       (Consumes-trans old.left now.left later.left _ _ u.read read)) end
       (record { failures = failures ∙ u.failures; reads = omega (arith, reads_are, u.reads_are, few) })
 
-  -- there are too many bytes
+  -- there are too many bytes: the input is too long
   pub read-long : longest_input < taken + filled → reads < most_reads → (bytes : List ℕ)
       × (longest_input < length bytes) × IsReading old now (Some bytes)
   read-long long few =
       reads_more old now all_read longest_input u.read (omega (arith, long, read-length))
       (record { failures = u.failures; reads = omega (arith, u.reads_are, few) })
 
-  -- so many reads gave bytes that no more are made
+  -- `most_reads` reads gave bytes: reading is given up
   pub read-up : most_reads ≤ reads → now.reads ≡ old.reads + most_reads → IsReading old now None
   read-up many reads_are = gives_more old now all_read u.read (omega (arith, many, u.counted, read-length)) reads_are
       (omega (arith, many, u.roomy.few)) u.failures
@@ -135,7 +136,7 @@ moved_in xs from le =
     subst (λ (j : ℕ). take j (paste xs 0 (drop from xs) k) ≡ drop from xs) (zero-add k)
     (take-paste xs 0 (drop from xs) k (omega arith) (omega (arith, length-drop from xs)) ∙ take_rest xs from)
 
--- of the first bytes of a buffer some were taken, and those behind them stand at the front
+-- of the first `filled` bytes of a buffer `count` were taken, and those after them are then at the front
 pub left_behind : (before moved after : List ℕ) (len filled count : ℕ) → filled ≤ len → count ≤ filled
     → take (len - count) moved ≡ drop count before → take (filled - count) after ≡ take (filled - count) moved
     → take (filled - count) after ≡ drop count (take filled before)
@@ -145,7 +146,7 @@ left_behind before moved after len filled count within some left front =
     front ∙ sym (take-take (filled - count) (len - count) moved less) ∙ ap (take (filled - count)) left
     ∙ sym (drop-take count (filled - count) before) ∙ ap (λ (n : ℕ). drop count (take n before)) all
 
--- what is written back to a buffer as long as this one
+-- bytes that are written over the start of a buffer are its first ones
 pub written_back : (xs given : List ℕ) (n : ℕ) → n ≡ length given → take n (given ++ drop (length given) xs) ≡ given
 written_back xs given n e = ap (λ (k : ℕ). take k (given ++ drop (length given) xs)) e ∙ take-append_seam given
     (drop (length given) xs)

@@ -12,7 +12,7 @@ length-decimal-20 n fits =
     let small : n < 10 ^ 20 = omega arith in
     length-decimal-le 20 n (omega arith) small fits
 
--- one digit more behind a text
+-- one more digit after a text that ends in the decimal of `n / 10` makes it end in that of `n`
 pub appends_digit : (text front whole : List ℕ) (n : ℕ) → 10 ≤ n → n < 2 ^ 64 → front ≡ text ++ decimal (n / 10)
     → whole ≡ front ++ (48 + n % 10) ∷ [] → whole ≡ text ++ decimal n
 appends_digit text front whole n more fits before is =

@@ -1,9 +1,9 @@
--- What writing in pieces comes to.
+-- Writing a text in pieces.
 use Rattle.std.proofs.Common.{◌≡◌, ◌-◌, ℕ, List, ◌++◌, length, take, drop, sym, ap, ◌∙◌, append_assoc, take-append-drop}
 use Rattle.std.proofs.Math.Seq.{take-append_seam}
 use Rattle.std.proofs.lemmas.List.{take_rest}
 
--- the next bytes of what is left went out
+-- the next `n` bytes of `rest` were written, after `done`
 pub splits_later : (all done rest : List ℕ) (n : ℕ) → all ≡ done ++ rest → all ≡ (done ++ take n rest)
     ++ take (length rest - n) (drop n rest)
 splits_later all done rest n split =

@@ -1,4 +1,4 @@
--- What the program answers, by what its inputs say.
+-- What the program answers, by the bytes of its inputs.
 use Rattle.std.specs.Prelude.{◌≡◌, ℕ, [], List, length, nat_le, nat_lt, if◌then◌else◌, Option, None, Some, Result, Ok}
 use Rattle.std.specs.Prelude.{Err}
 use Rattle.vcd_read.specs.Contents.{Contents}
@@ -35,50 +35,50 @@ abbrev pub or_bad_dump : {A : Type 0} → Result A VcdFault → Result A Refusal
 or_bad_dump (Ok x) = Ok x
 or_bad_dump (Err fault) = Err (BadDump fault)
 
--- the binding that an input is, or why it is none
+-- the binding in an input, or why there is none
 unfoldable pub binding_read : Option (List ℕ) → Result BoundLines Refusal
 binding_read input = do
   text ← whole Binding input
   or_bad_binding (binding_of text)
 
--- the dump that an input is, or why it is none
+-- the dump in an input, or why there is none
 unfoldable pub dump_read : Option (List ℕ) → Result Contents Refusal
 dump_read input = do
   text ← whole Dump input
   or_bad_dump (dump_of text)
 
--- the recording that a binding makes of what reading the dump gave, however long it is
+-- the recording, of any length, that `bound` makes of a dump, or why there is none
 abbrev pub recording_by : BoundLines → Result Contents Refusal → Result Trace Refusal
 recording_by bound dump = do
   contents ← dump
   or_bad_binding (recording_of bound contents)
 
--- the recording that a binding makes of what reading the dump gave
+-- the recording that `bound` makes of a dump, or why there is none; one that is too long is refused
 abbrev pub capture_by : BoundLines → Result Contents Refusal → Result Trace Refusal
 capture_by bound dump = do
   contents ← dump
   or_bad_binding (capture_of bound contents)
 
--- the recording that a binding makes of the dump that there is, or why it makes none of it
+-- as `capture_by`, but a fault of the binding is in the inner result, and only a refusal of the dump in the outer one
 abbrev pub recorded_by : BoundLines → Result Contents Refusal → Result (Result Trace BindFault) Refusal
 recorded_by bound dump = do
   contents ← dump
   Ok (capture_of bound contents)
 
--- the recording that a binding makes of a dump, however long it is, or the first reason that there is none: the binding
--- is read first
+-- the recording, of any length, that a binding makes of a dump, or the first reason that there is none: the binding is
+-- read first
 unfoldable pub recording_read : Option (List ℕ) → Option (List ℕ) → Result Trace Refusal
 recording_read binding dump = do
   bound ← binding_read binding
   recording_by bound (dump_read dump)
 
--- the same, where it isn't too long
+-- as `recording_read`, but a recording that is too long is refused
 unfoldable pub capture_read : Option (List ℕ) → Option (List ℕ) → Result Trace Refusal
 capture_read binding dump = do
   bound ← binding_read binding
   capture_by bound (dump_read dump)
 
--- the verdict on a recording that is cut into blocks of so many steps
+-- the verdict on a recording that is cut into blocks of `block` steps; more than 4,096 blocks are refused
 abbrev pub verdict_in_blocks : ℕ → Trace → Result Verdict Refusal
 verdict_in_blocks block t = if nat_lt 4096 (block_count block t) then Err TooManyBlocks else Ok
     (verdict_by rules_in_force t)
@@ -89,7 +89,8 @@ judgement_of binding dump block = do
   t ← capture_read binding dump
   verdict_in_blocks block t
 
--- What a function gives is what is to be read there, unless there was no memory.
+-- A function's result agrees with the specified result `read`: the value, by `view`, or the same refusal. Nothing is
+-- said where memory ran out.
 abbrev pub AnswerGives : {X Y : Type 0} → (X → Y) → Result X Refusal → Result Y Refusal → Type 0
 AnswerGives view (Ok x) read = read ≡ Ok (view x)
 AnswerGives view (Err Memory) read = Unit {0}

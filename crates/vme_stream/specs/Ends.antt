@@ -6,15 +6,16 @@ use Rattle.vme_stream.specs.Inputs.{IsReading, TellsWhole}
 use Rattle.vme_stream.specs.Outputs.{Writes, FailsToWrite, TriesToWrite}
 use Rattle.vme_stream.specs.Texts.{cannot_write_text, line_of}
 
--- An input is what its source tells before and after, and an output what its sink tells before and after.
+-- An input is a pair: the state of its source before and after. An output is such a pair of its sink.
 
--- the answer was told
+-- the answer was written, and its status returned
 pub record Tells (answer : CommandAnswer) (out err : Writing × Writing) (status : ℕ) : Type 0 where
   pub out_is : Writes out.0 out.1 answer.out
   pub err_is : TriesToWrite err.0 err.1 answer.error
   pub status_is : status ≡ answer.status
 
--- inputs that are told whole, no failure of the output, and memory give exactly this answer to them
+-- if the inputs are read whole, no write on the output fails and memory suffices, exactly `answer` of their bytes is
+-- written
 abbrev pub TellsExactly : (List ℕ → List ℕ → CommandAnswer) → Reading × Reading → Reading × Reading
     → Writing × Writing → Writing × Writing → ℕ → Type 0
 TellsExactly answer binding dump out err status =
@@ -30,8 +31,8 @@ pub record FailsToTell (answer : CommandAnswer) (out err : Writing × Writing) (
 abbrev pub Ends : CommandAnswer → Writing × Writing → Writing × Writing → ℕ → Type 0
 Ends answer out err status = Tells answer out err status ⊎ FailsToTell answer out err status
 
--- Each input is read, or can't be; something is found that may be found of what they say; and its answer is told,
--- unless a write of it fails.
+-- Each input is read, or can't be. Something is found that may be found of their bytes. Its answer is written, unless a
+-- write of it fails.
 abbrev pub Does : {A : Type 0} → (A → CommandAnswer) → (Option (List ℕ) → Option (List ℕ) → A → Type 0)
     → Reading × Reading → Reading × Reading → Writing × Writing → Writing × Writing → ℕ → Type 0
 Does {A} answer MayFind binding dump out err status =
@@ -41,7 +42,7 @@ Does {A} answer MayFind binding dump out err status =
     × MayFind binding_bytes dump_bytes found
     × Ends (answer found) out err status
 
--- what the inputs say is judged, unless there was no memory
+-- the inputs are judged, unless memory ran out
 abbrev pub Checks : Reading × Reading → Reading × Reading → ℕ → Writing × Writing → Writing × Writing → ℕ → Type 0
 Checks binding dump block out err status =
     Does answer_by (λ b d judged. AnswerGives (λ v. v) judged (judgement_of b d block)) binding dump out err status

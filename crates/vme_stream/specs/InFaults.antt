@@ -1,10 +1,10 @@
--- What one more read leaves of the counts, where it gave no bytes for a fault.
+-- What becomes of the count of failures where a read ends in a fault.
 use Rattle.std.specs.Prelude.{◌≡◌, suc}
 use Rattle.vme_trace.specs.Streams.{Reading}
 use Rattle.vme_stream.specs.declared.input.InFault.{InFault}
 use Rattle.vme_stream.specs.declared.input.InFault.TheVariants.{Read, TooLong, Memory}
 
--- it failed, or there was no memory for it
+-- the read failed, or there was no memory for it
 abbrev pub InputFailsBy : Reading → Reading → InFault → Type 0
 InputFailsBy old new Read = new.failures ≡ suc old.failures
 InputFailsBy old new TooLong = ⊥

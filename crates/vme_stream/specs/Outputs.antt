@@ -7,7 +7,7 @@ use Rattle.vme_trace.specs.Streams.{Writing}
 abbrev pub Writes : Writing → Writing → List ℕ → Type 0
 Writes old new text = Appends old.taken new.taken text × (new.failures ≡ old.failures)
 
--- a write failed once the first of a text was taken, and none was made after it
+-- a write failed after a prefix of the text was taken, and none was made after it
 abbrev pub FailsToWrite : Writing → Writing → List ℕ → Type 0
 FailsToWrite old new text = ((n : ℕ) × Appends old.taken new.taken (take n text)) × (new.failures ≡ suc old.failures)
 

@@ -1,4 +1,4 @@
--- What the faults of the inputs come to.
+-- The refusals for the faults of the inputs.
 use Rattle.vcd_read.specs.declared.fault.VcdFault.{VcdFault}
 use Rattle.vcd_read.specs.declared.fault.FaultKind.{FaultKind}
 use Rattle.vcd_read.specs.declared.fault.FaultKind.TheVariants as vcd
@@ -18,13 +18,13 @@ use Rattle.vme_stream.specs.declared.refusal.Refusal.{Refusal}
 use Rattle.vme_stream.specs.declared.refusal.Refusal.TheVariants.{CannotRead, TooLong, BadBinding, BadDump, BadListing}
 use Rattle.vme_stream.specs.declared.refusal.Refusal.TheVariants.{TooManyBlocks, Memory}
 
--- an input can't be had
+-- the refusal for a fault in reading an input
 abbrev pub refused : Input → InFault → Refusal
 refused input read.Read = CannotRead input
 refused input read.TooLong = TooLong input
 refused input read.Memory = Memory
 
--- a kind of fault of the dump, where this is its refusal
+-- `refusal`, or `Memory` if the kind of the dump's fault is want of memory
 abbrev pub dump_refusal_as : FaultKind → Refusal → Refusal
 dump_refusal_as vcd.Memory refusal = Memory
 dump_refusal_as kind refusal = refusal
@@ -32,7 +32,7 @@ dump_refusal_as kind refusal = refusal
 abbrev pub dump_refusal : VcdFault → Refusal
 dump_refusal fault = dump_refusal_as fault.kind (BadDump fault)
 
--- a kind of fault of the binding, where this is its refusal
+-- `refusal`, or `Memory` if the kind of the binding's fault is want of memory
 abbrev pub binding_refusal_as : BindFaultKind → Refusal → Refusal
 binding_refusal_as bind.Memory refusal = Memory
 binding_refusal_as kind refusal = refusal
@@ -40,12 +40,12 @@ binding_refusal_as kind refusal = refusal
 abbrev pub binding_refusal : BindFault → Refusal
 binding_refusal fault = binding_refusal_as fault.kind (BadBinding fault)
 
--- a fault of a dump, or of a binding
+-- the refusal for a fault of a dump or of a binding
 abbrev pub capture_refusal : CaptureFault → Refusal
 capture_refusal (capture.Dump fault) = dump_refusal fault
 capture_refusal (capture.Binding fault) = binding_refusal fault
 
--- a recording isn't judged
+-- the refusal for a recording that isn't judged
 abbrev pub judging_refusal : NoVerdict → Refusal
 judging_refusal judge.TooManySteps = BadBinding (record { line = 0; kind = bind.TooManySteps })
 judging_refusal judge.TooManyBlocks = TooManyBlocks

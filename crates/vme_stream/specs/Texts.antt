@@ -17,7 +17,7 @@ use Rattle.vme_stream.specs.declared.refusal.Refusal.{Refusal}
 use Rattle.vme_stream.specs.declared.refusal.Refusal.TheVariants.{CannotOpen, CannotRead, TooLong, BadBinding, BadDump}
 use Rattle.vme_stream.specs.declared.refusal.Refusal.TheVariants.{BadListing, TooManyBlocks, Memory}
 
--- a line of text
+-- the text with a line feed after it
 abbrev pub line_of : List ℕ → List ℕ
 line_of text = text ++ 10 ∷ []
 
@@ -68,7 +68,7 @@ dump_fault_name vcd.Memory = codes "Memory"
 abbrev pub dump_fault_text : ℕ → FaultKind → List ℕ
 dump_fault_text line kind = codes "vmecheck: dump line " ++ decimal line ++ codes ": " ++ dump_fault_name kind
 
--- a fault of the binding, behind this text
+-- the name of a fault of the binding, after the text `head`
 abbrev pub binding_fault_behind : List ℕ → BindFaultKind → List ℕ
 binding_fault_behind head bind.BadLine = head ++ codes "BadLine"
 binding_fault_behind head bind.SlotsFirst = head ++ codes "SlotsFirst"

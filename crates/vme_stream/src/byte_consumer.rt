@@ -1,4 +1,4 @@
-//! Reading a source to its end, by what takes its bytes as they come.
+//! Reading a source to its end, by a consumer that takes its bytes as they come.
 
 ghost use Rattle.std.specs.Prelude.{◌≡◌, ℕ, ◌+◌, ◌*◌, ◌-◌, ◌≤◌, ◌<◌, List, length, take, drop, Some, None, Ok, Err};
 ghost use Rattle.std.specs.Prelude.{IfOk, vec_len};
@@ -10,14 +10,14 @@ use std::alloc::{AllocError, Global};
 use vcd_read::ByteConsumer;
 use vme_trace::Source;
 
-/// Reads a source to its end, and has its bytes taken, `piece` of them at once, or more where none of so many can be
-/// taken: `taker` takes some of the first of those that it is given, and says how many. The others come again, with
-/// more behind them. The answer is what all of them came to, and the last bytes, which were left. Each read has room
-/// for 4,096 bytes at least.
+/// Reads `source` to its end, and gives its bytes to `consumer` as they come. `taker` is given `piece` bytes at once.
+/// It takes a prefix of them, and returns the next consumer and the prefix's length. The other bytes are given again,
+/// with more after them, and in longer pieces if it takes too few. The result is the last consumer, and the bytes at
+/// the end that weren't taken. Each read has room for at least 4,096 bytes.
 ///
-/// The answer is Read exactly where a read failed, or 16,777,216 gave bytes; else it is TooLong where there are more
-/// than 268,435,456 bytes, unless there is no memory. All but 65,537 of the reads that gave bytes gave fewer than they
-/// had room for.
+/// The error is Read exactly where a read failed, or 16,777,216 reads gave bytes. Else it is TooLong where there are
+/// more than 268,435,456 bytes, unless there is no memory. All but at most 65,537 of the reads that gave bytes gave
+/// fewer than they had room for.
 pub fn read_by<R: Source, T: ByteConsumer, M: Fn(T, &[u8]) -> Result<(T, usize), AllocError>>(
     alloc: Global,
     source: &mut R,
@@ -42,7 +42,7 @@ pub fn read_by<R: Source, T: ByteConsumer, M: Fn(T, &[u8]) -> Result<(T, usize),
 {
     let mut bytes = Vec::from_elem(alloc, 0, piece + LEAST_ROOM)?;
     let mut consumer = consumer;
-    // How many bytes were taken, and how many are held behind them.
+    // How many bytes were taken, and how many are held after them.
     let mut taken = 0;
     let mut filled = 0;
     for _ in 0..MOST_READS {
@@ -66,9 +66,10 @@ pub fn read_by<R: Source, T: ByteConsumer, M: Fn(T, &[u8]) -> Result<(T, usize),
     Err(InFault::Read)
 }
 
-/// Makes room for 4,096 bytes at least behind the first `filled` ones. Where there is less, some of a piece are taken,
-/// which is what stands before the last 4,096 of the buffer. If that is too little, the buffer is made longer, for a
-/// piece of twice the length. Says how many were taken: those behind them stand at the front then.
+/// Makes room for at least 4,096 bytes after the first `filled` ones. If there is less, `taker` takes some of a piece,
+/// which is the buffer without its last 4,096 bytes. If that is too little, the buffer is made longer, for a piece of
+/// twice the length. Returns the next consumer and how many bytes were taken: the bytes after these are then at the
+/// front.
 fn make_room<T: ByteConsumer, M: Fn(T, &[u8]) -> Result<(T, usize), AllocError>>(
     consumer: T,
     bytes: &mut Vec<u8>,
@@ -98,7 +99,7 @@ fn make_room<T: ByteConsumer, M: Fn(T, &[u8]) -> Result<(T, usize), AllocError>>
     Ok((next, count))
 }
 
-/// Has some of the first `piece` bytes taken, and says how many.
+/// Gives the first `piece` bytes to `taker`, and returns how many it took.
 fn take_first<T: ByteConsumer, M: Fn(T, &[u8]) -> Result<(T, usize), AllocError>>(
     consumer: T,
     bytes: &[u8],
@@ -117,7 +118,7 @@ fn take_first<T: ByteConsumer, M: Fn(T, &[u8]) -> Result<(T, usize), AllocError>
     Ok((next, count))
 }
 
-/// Moves the bytes from a place on to the front. What stands behind them then is left open.
+/// Moves the bytes from index `from` on to the front. What comes after them then isn't specified.
 fn move_to_front(bytes: &mut Vec<u8>, from: usize)
     requires { from ≤ vec_len bytes.old }
     ensures left { take (vec_len bytes.old - from) bytes.new.items ≡ drop from bytes.old.items }

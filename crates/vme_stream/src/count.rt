@@ -1,11 +1,11 @@
-//! Counts that proofs alone read.
+//! Counts that only proofs read.
 
 ghost use Rattle.std.specs.Prelude.{◌≡◌, ◌≤◌, ◌<◌, ℕ, suc};
 ghost use Rattle.std.specs.Borrow.{ftrue};
 
 use std::marker::Model;
 
-/// A natural number, as large as it gets. Clauses read it; in the program it is nothing.
+/// A natural number without a bound. Only clauses read it: in the program it is empty.
 #[derive(Drop)]
 pub struct GhostCount {
     pub ghost number: { ℕ },
@@ -16,14 +16,14 @@ impl Model for GhostCount {
 }
 
 impl GhostCount {
-    /// Nothing was counted.
+    /// The count 0.
     pub fn new() -> GhostCount
         ensures { result.number ≡ 0 }
     {
         GhostCount {}
     }
 
-    /// One more was counted.
+    /// The count plus 1.
     pub fn next(&self) -> GhostCount
         ensures { result.number ≡ suc self.now.number }
     {
@@ -31,7 +31,7 @@ impl GhostCount {
     }
 }
 
-/// How many reads gave bytes, and how many of these were short, and gave fewer bytes than they had room for.
+/// How many reads gave bytes, and how many of these were short: they gave fewer bytes than they had room for.
 #[derive(Drop)]
 pub struct ReadCounts {
     pub reads: GhostCount,
@@ -39,7 +39,7 @@ pub struct ReadCounts {
 }
 
 impl ReadCounts {
-    /// No read was made.
+    /// The counts before any read.
     pub fn new() -> ReadCounts
         ensures reads { result.reads.number ≡ 0 }
         ensures short_reads { result.short_reads.number ≡ 0 }
@@ -50,7 +50,7 @@ impl ReadCounts {
         }
     }
 
-    /// A read gave so many bytes, which had so much room.
+    /// Counts a read that gave `count` bytes, and had room for `room`.
     pub fn add(&mut self, count: usize, room: usize)
         ensures none { count ≡ 0 → self.new.reads.number ≡ self.old.reads.number }
         ensures some { 0 < count → self.new.reads.number ≡ suc self.old.reads.number }

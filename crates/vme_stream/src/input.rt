@@ -37,20 +37,20 @@ impl From<AllocError> for InFault {
 /// How many bytes an input has at most.
 pub(crate) const LONGEST: usize = 268_435_456;
 
-/// After so many reads that gave bytes and didn't reach the end reading is given up.
+/// After how many reads that gave bytes, and didn't reach the end, reading is given up.
 pub(crate) const MOST_READS: u32 = 16_777_216;
 
-/// How many bytes each read is offered room for, at least.
+/// For how many bytes each read has room, at least.
 pub(crate) const LEAST_ROOM: usize = 4_096;
 
-/// How much room is made where there is less than that.
+/// How many bytes of room are made where there are fewer than `LEAST_ROOM`.
 const CHUNK: usize = 131_072;
 
 /// Reads a source to its end. At most 16,777,216 reads are made, each with room for 4,096 bytes at least.
 ///
-/// The answer is Read exactly where a read failed, or so many gave bytes; else it is TooLong where there are more than
-/// 268,435,456 bytes, and the bytes where there aren't, unless there is no memory. All but 65,537 of the reads that
-/// gave bytes gave fewer than they had room for.
+/// The error is Read exactly where a read failed, or 16,777,216 reads gave bytes. Else it is TooLong where there are
+/// more than 268,435,456 bytes, unless there is no memory. All but at most 65,537 of the reads that gave bytes gave
+/// fewer than they had room for.
 pub fn read_all<R: Source>(alloc: Global, source: &mut R) -> Result<Vec<u8>, InFault>
     ensures bytes { IfOk result (λ v. IsReading (R.reading source.old) (R.reading source.new) (Some v.items)) }
     ensures short { IfOk result (λ v. vec_len v ≤ longest_input) }
@@ -81,7 +81,7 @@ pub fn read_all<R: Source>(alloc: Global, source: &mut R) -> Result<Vec<u8>, InF
     Err(InFault::Read)
 }
 
-/// Reads the next bytes behind the first `filled` ones, and says how many: none only at the end.
+/// Makes room, reads the next bytes after the first `filled` ones, and returns how many: 0 only at the source's end.
 fn read_chunk<R: Source>(
     source: &mut R,
     bytes: &mut Vec<u8>,
@@ -105,7 +105,7 @@ fn read_chunk<R: Source>(
     read_behind(source, bytes, filled)
 }
 
-/// Reads the next bytes over those behind the first `filled` ones, and says how many: none only at the end.
+/// Reads the next bytes over those after the first `filled` ones, and returns how many: 0 only at the source's end.
 pub(crate) fn read_behind<R: Source>(
     source: &mut R,
     bytes: &mut Vec<u8>,
@@ -127,7 +127,8 @@ pub(crate) fn read_behind<R: Source>(
     read_at(source, bytes.as_mut_slice(), filled).map_err(|_| InFault::Read)
 }
 
-/// Has room for 4,096 bytes at least behind the first `filled` ones. Where there is less, so much is made, by zeros.
+/// Makes sure of room for at least 4,096 bytes after the first `filled` ones. Where there is less, room for `room`
+/// bytes is made, with zeros.
 pub(crate) fn lengthen(bytes: &mut Vec<u8>, filled: usize, room: usize) -> Result<(), AllocError>
     requires within { filled ≤ vec_len bytes.old }
     requires short { filled ≤ longest_input }

@@ -14,7 +14,7 @@ const MOST_TRIES: u32 = 1_000_000;
 /// A reader or a writer of std's, how many of its reads gave bytes, how many of these were short, and how many of its
 /// calls have failed.
 ///
-/// The bytes that it tells are those that the reader or the writer tells.
+/// Its bytes, in contracts, are those of the reader or the writer.
 #[derive(Drop)]
 pub struct Io<T> {
     inner: T,
@@ -23,7 +23,7 @@ pub struct Io<T> {
 }
 
 impl<T> Io<T> {
-    /// A reader or a writer, of which no call was made.
+    /// Wraps a reader or a writer. All counts are 0.
     pub fn new(inner: T) -> Io<T>
         ensures inner { result.inner ≡ inner }
         ensures reads { result.counts.reads.number ≡ 0 }
@@ -39,7 +39,7 @@ impl<T> Io<T> {
 }
 
 impl<T: Read> Io<T> {
-    /// What it reads by.
+    /// The reader that is wrapped.
     pub fn reader(&self) -> &T
         ensures { (⟦<Io<T> as Source>⟧.reading self.now).left ≡ T.remaining result.now }
     {
@@ -132,7 +132,7 @@ pub struct Bytes<'a> {
 }
 
 impl<'a> Bytes<'a> {
-    /// All bytes of the slice.
+    /// A source of all bytes of the slice.
     pub fn new(bytes: &'a [u8]) -> Bytes<'a>
         ensures left { result.left.now ≡ bytes.entry.now }
         ensures reads { result.counts.reads.number ≡ 0 }

@@ -1,16 +1,16 @@
-//! What a command reads and what it answers. Bytes come in and go out: what is read to its end, what
-//! is written whole, and lines of text made without memory. Inputs make a recording, or there is a
-//! reason that there is none; the verdict on it has a line and an exit status.
+//! What a command reads and what it answers: reading a source to its end, writing all of some
+//! bytes, and lines of text that take no memory. A binding and a dump make a recording, or there is
+//! a reason that there is none. The verdict on it has a line and an exit status.
 //!
 //! # Parts
 //!
 //! - `input`: [`read_all`] reads a source to its end.
-//! - `byte_consumer`: [`read_by`] gives the bytes away as they come.
+//! - `byte_consumer`: [`read_by`] gives the bytes to a consumer as they come.
 //! - `output`: [`write_all`] writes until all is taken or a write fails.
 //! - `io`: [`Io`] makes a source or a sink of std's readers and writers; [`Bytes`] is a source of a
 //!   slice.
 //! - `message`: a line of text that takes no memory.
-//! - `count`: a count that proofs alone read.
+//! - `count`: counts that only proofs read.
 //! - `recording`: [`capture_from`] reads a binding and a dump and makes their recording; parts of
 //!   it for callers that have one of the two.
 //! - `refusal`: [`Refusal`] is the first reason that there is no recording, with its status.
@@ -21,9 +21,9 @@
 //!
 //! - [`read_all`]: the bytes are those that the source gave (`bytes`). It answers that an input
 //!   can't be read exactly where a read failed or too many reads gave bytes, and else that it is
-//!   too long exactly where it is, or lack of memory (`IsReading`, `read`, `too_long`). [`read_by`]
-//!   says the same of a consumer of the bytes.
-//! - [`write_all`] writes all of some bytes, or after a failure the first of them.
+//!   too long exactly where it is, or lack of memory (`IsReading`, `read`, `too_long`). The same
+//!   holds of [`read_by`], and the consumer takes the bytes in order.
+//! - [`write_all`] writes all of its `bytes`, or after a failure a prefix of them.
 //! - [`Io`] exposes the bytes of its reader or writer, how many reads gave bytes and how many calls
 //!   failed.
 //! - [`capture_from`] gives exactly the recording that binding and dump make by the bytes of these

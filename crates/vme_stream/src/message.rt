@@ -89,7 +89,7 @@ impl Message {
         self.with_digits(number)
     }
 
-    /// The text with a line feed behind it.
+    /// The text with a line feed after it.
     pub fn with_line_feed(self) -> Message
         requires { length self < 128 }
         ensures { result ≡ self ++ 10 ∷ [] }

@@ -6,7 +6,7 @@ ghost use Rattle.vme_stream.specs.Outputs.{Writes, FailsToWrite, TriesToWrite};
 use crate::message::Message;
 use vme_trace::{Failed, Sink};
 
-/// Writes all of some bytes. After a failure the first of them went out.
+/// Writes all of `bytes`. After a failure a prefix of them was written.
 pub fn write_all<W: Sink>(sink: &mut W, bytes: &[u8]) -> Result<(), Failed>
     ensures { MatchResult result (λ _. Writes (W.writing sink.old) (W.writing sink.new) bytes.now)
         (λ _. FailsToWrite (W.writing sink.old) (W.writing sink.new) bytes.now) }
@@ -21,7 +21,7 @@ pub fn write_all<W: Sink>(sink: &mut W, bytes: &[u8]) -> Result<(), Failed>
     Ok(())
 }
 
-/// Writes all of a message. After a failure the first of its bytes went out.
+/// Writes all of a message. After a failure a prefix of it was written.
 pub fn write_message<W: Sink>(sink: &mut W, message: Message) -> Result<(), Failed>
     ensures { MatchResult result (λ _. Writes (W.writing sink.old) (W.writing sink.new) message)
         (λ _. FailsToWrite (W.writing sink.old) (W.writing sink.new) message) }

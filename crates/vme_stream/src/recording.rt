@@ -32,8 +32,8 @@ pub fn capture_from<B: Source, D: Source>(
     }
 }
 
-/// The recording that a binding makes of a dump that is to be read, or why it makes none of it. Why there is no dump,
-/// or no memory, is a refusal.
+/// Reads a dump. The result is the recording that `bound` makes of it, or the fault by which it makes none. The error
+/// says why there is no dump, or that there is no memory.
 pub fn recorded_from<D: Source>(
     alloc: Global,
     bound: &Binding,
@@ -49,7 +49,7 @@ pub fn recorded_from<D: Source>(
     }
 }
 
-/// The same of the text of a dump, which is read once.
+/// As `recorded_from`, of the text of a dump, which is read once.
 pub fn recorded_in(
     alloc: Global,
     bound: &Binding,
@@ -66,8 +66,8 @@ pub fn recorded_in(
     }
 }
 
-/// The binding that a text is which is to be read, or why there is none: the text can't be read, is too long or isn't a
-/// binding, or there is no memory. What of the input is read then isn't said.
+/// Reads a binding. The error says why there is none: the text can't be read, is too long or isn't a binding, or there
+/// is no memory. How much of the source is read then isn't specified.
 pub fn binding_from<R: Source>(alloc: Global, source: &mut R) -> Result<Binding, Refusal>
     ensures { (bytes : Option (List ℕ))
         × IsReading (R.reading source.old) (R.reading source.new) bytes
@@ -79,7 +79,7 @@ pub fn binding_from<R: Source>(alloc: Global, source: &mut R) -> Result<Binding,
     }
 }
 
-/// The binding that a text is.
+/// The binding in a text.
 pub fn binding_in(alloc: Global, text: &[u8]) -> Result<Binding, Refusal>
     ensures { AnswerGives (λ binding. binding) result (or_bad_binding (binding_of text.now)) }
 {

@@ -19,7 +19,7 @@ pub enum Input {
     Binding,
     /// The recording.
     Dump,
-    /// What is to be confirmed of it.
+    /// The listing that is to be confirmed.
     Listing,
 }
 
@@ -45,7 +45,7 @@ pub enum Refusal {
 }
 
 impl Refusal {
-    /// What a fault in reading an input is.
+    /// The refusal for a fault in reading an input.
     pub fn of_input(input: Input, fault: InFault) -> Refusal
         ensures { result ≡ refused input fault }
     {
@@ -56,7 +56,7 @@ impl Refusal {
         }
     }
 
-    /// What a fault of the dump is.
+    /// The refusal for a fault of the dump.
     pub fn of_dump(fault: VcdFault) -> Refusal
         ensures { result ≡ dump_refusal fault }
     {
@@ -66,7 +66,7 @@ impl Refusal {
         }
     }
 
-    /// What a fault of the binding is.
+    /// The refusal for a fault of the binding.
     pub fn of_binding(fault: BindFault) -> Refusal
         ensures { result ≡ binding_refusal fault }
     {
@@ -76,7 +76,7 @@ impl Refusal {
         }
     }
 
-    /// What a fault of a dump or of a binding is.
+    /// The refusal for a fault of a dump or of a binding.
     pub fn of_capture(fault: CaptureFault) -> Refusal
         ensures { result ≡ capture_refusal fault }
     {
@@ -86,7 +86,7 @@ impl Refusal {
         }
     }
 
-    /// Why a recording isn't judged.
+    /// The refusal for a recording that isn't judged.
     pub fn of_judging(why: NoVerdict) -> Refusal
         ensures { result ≡ judging_refusal why }
     {
@@ -100,7 +100,7 @@ impl Refusal {
         }
     }
 
-    /// What a fault of the listing is.
+    /// The refusal for a fault of the listing.
     pub fn of_listing(fault: ListFault) -> Refusal
         ensures { result ≡ listing_refusal fault }
     {

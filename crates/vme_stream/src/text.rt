@@ -11,7 +11,7 @@ use vme_bind::BindFaultKind;
 use vme_listing::ListFault;
 use vme_trace::{Break, Verdict};
 
-/// The line that tells a verdict.
+/// The line of a verdict.
 pub fn verdict_line(verdict: &Verdict) -> Message
     ensures { result ≡ line_of (verdict_text verdict.now) }
 {
@@ -29,14 +29,14 @@ pub fn verdict_status(verdict: &Verdict) -> u8
     }
 }
 
-/// The line that tells why there is no verdict.
+/// The line that says why there is no verdict.
 pub fn refusal_line(refusal: &Refusal) -> Message
     ensures { result ≡ line_of (refusal_text refusal.now) }
 {
     refusal_message(refusal).with_line_feed()
 }
 
-/// The line that tells that the verdict can't be written.
+/// The line that says that the verdict can't be written.
 pub fn cannot_write_line() -> Message
     ensures { result ≡ line_of cannot_write_text }
 {

@@ -1,4 +1,4 @@
-//! The verdict on a recording, and telling it.
+//! The verdict on a recording, and writing it.
 
 ghost use Rattle.std.specs.Prelude.{◌≡◌, ◌≤◌, Ok};
 ghost use Rattle.vme_stream.specs.Answers.{AnswerGives, answer_by, verdict_in_blocks};
@@ -11,7 +11,7 @@ use std::alloc::Global;
 use vme_summary::verdict_by_blocks;
 use vme_trace::{Capture, CutFault, Sink, Verdict};
 
-/// The verdict on a recording, in blocks of so many steps.
+/// The verdict on a recording, which is judged in blocks of `block` steps.
 pub fn verdict_on(alloc: Global, capture: &Capture, block: u32) -> Result<Verdict, Refusal>
     requires { (1 ≤ block) × (block ≤ 65536) }
     ensures { AnswerGives (λ verdict. verdict) result (verdict_in_blocks block capture.now) }
@@ -23,8 +23,8 @@ pub fn verdict_on(alloc: Global, capture: &Capture, block: u32) -> Result<Verdic
     }
 }
 
-/// Writes a verdict to `out`, or to `err` that it can't be written. The answer is the exit status: that of the verdict,
-/// or 5.
+/// Writes the line of `verdict` to `out`. If that fails, writes to `err` that it can't be written. Returns the exit
+/// status: that of the verdict, or 5.
 pub fn tell_verdict<O: Sink, E: Sink>(verdict: &Verdict, out: &mut O, err: &mut E) -> u8
     ensures { Ends (answer_by (Ok verdict.now))
         (O.writing out.old, O.writing out.new) (E.writing err.old, E.writing err.new) result }

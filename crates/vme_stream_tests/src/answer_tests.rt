@@ -86,7 +86,7 @@ impl Sink for Page {
     }
 }
 
-/// The verdict on what the inputs say, in blocks of so many steps.
+/// The verdict on the recording of a binding and a dump, in blocks of `block` steps.
 fn judged(alloc: Global, binding: &str, dump: &str, block: u32) -> Result<Verdict, Refusal>
     requires { (1 ≤ block) × (block ≤ 65536) }
 {
@@ -98,7 +98,7 @@ fn judged(alloc: Global, binding: &str, dump: &str, block: u32) -> Result<Verdic
     verdict_on(alloc, &capture, block)
 }
 
-/// Whether a verdict is told by this line.
+/// Whether there is a verdict with this line.
 fn has_line(found: Result<Verdict, Refusal>, line: &str) -> bool {
     match found {
         Ok(verdict) => verdict_line(&verdict).as_bytes() == line.as_bytes(),
@@ -113,7 +113,7 @@ fn has_verdict(alloc: Global, dump: &str, line: &str) -> bool {
         && has_line(judged(alloc, BINDING, dump, 16_384), line)
 }
 
-/// Whether the dump of a body has.
+/// Whether the dump with this body has this verdict in blocks of each of these sizes.
 fn body_has_verdict(alloc: Global, body: &str, line: &str) -> bool {
     match dump_of(alloc, body) {
         Ok(dump) => has_verdict(alloc, dump.as_str(), line),
@@ -151,7 +151,7 @@ fn has_verdict_each_way(alloc: Global, dump: &[u8], line: &str) -> bool {
     has_line(judged_in(alloc, dump), line) && has_line(judged_by_and_by(alloc, dump), line)
 }
 
-/// Whether the dump of a body has.
+/// Whether the dump with this body has this verdict in both ways.
 fn body_has_verdict_each_way(alloc: Global, body: &str, line: &str) -> bool {
     match dump_of(alloc, body) {
         Ok(dump) => has_verdict_each_way(alloc, dump.as_bytes(), line),
@@ -166,7 +166,8 @@ fn each_way_to_a_recording_gives_the_same(rt: HostRuntime) {
     }
 }
 
-/// Whether a verdict is told so, with a status, where there is so much room.
+/// Whether the verdict `STRAY`, written to an output with this room, gives `text` there, `told` on the error output,
+/// and this status.
 fn tells(alloc: Global, room: usize, text: &[u8], told: &[u8], status: u8) -> bool {
     let mut out = Page::new(alloc, room);
     let mut err = Page::new(alloc, 100);
@@ -214,12 +215,12 @@ fn the_first_reason_is_answered(rt: HostRuntime) {
     assert!(rt; is_refused(rt.alloc(), BINDING, "$enddefinitions $end\n#0\n", &no_path));
 }
 
-/// Whether a refusal is told by this line, with this status.
+/// Whether a refusal has this line, and this status.
 fn is_told(refusal: Refusal, text: &str, status: u8) -> bool {
     refusal_line(&refusal).as_bytes() == text.as_bytes() && refusal.status() == status
 }
 
-/// Whether inputs that can't be read are.
+/// Whether the refusals of inputs that can't be read have their lines.
 fn are_inputs_told() -> bool {
     is_told(
         Refusal::CannotOpen(Input::Binding),
@@ -236,7 +237,7 @@ fn are_inputs_told() -> bool {
     )
 }
 
-/// Whether faults of inputs are.
+/// Whether the refusals of inputs with faults have their lines.
 fn are_faults_told() -> bool {
     let unbound = BindFault {
         line: 7,
@@ -261,7 +262,7 @@ fn are_faults_told() -> bool {
     )
 }
 
-/// Whether recordings that aren't judged are.
+/// Whether the refusals of recordings that aren't judged have their lines.
 fn are_recordings_told() -> bool {
     is_told(
         Refusal::of_judging(NoVerdict::TooManyBlocks),

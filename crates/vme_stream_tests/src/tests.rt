@@ -10,8 +10,8 @@ use vme_stream::{
 
 const TEXT: &[u8] = b"a line of some bytes\nand another\n";
 
-/// A reader that gives so many bytes a read, is interrupted before each, and ends or fails behind the last; and the
-/// least room that it was offered.
+/// A reader that gives at most `piece` bytes a read, and is interrupted before each read. After the last byte it ends,
+/// or fails if `is_torn`. It notes the least room that it was offered.
 #[derive(Drop)]
 struct Pieces<'a> {
     left: &'a [u8],
@@ -50,7 +50,7 @@ impl Read for Pieces<'_> {
     }
 }
 
-/// A writer that takes so many bytes a write, is interrupted before each, and fails once it has no room.
+/// A writer that takes at most `piece` bytes a write, is interrupted before each write, and fails once it has no room.
 #[derive(Drop)]
 struct Page {
     bytes: Vec<u8>,
@@ -167,7 +167,7 @@ impl Thousands {
     }
 }
 
-/// A source is read in as much room as what is taken at once needs, however long it is.
+/// The room that reading a source takes depends on what is taken at once, and not on the source's length.
 #[test]
 fn a_long_source_is_read_in_little_room(rt: HostRuntime) -> Result<(), Fail> {
     let bytes = Vec::from_elem(rt.alloc(), 7u8, 1_000_000)?;

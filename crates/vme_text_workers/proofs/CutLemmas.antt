@@ -1,4 +1,4 @@
--- A text that is cut into pieces: its tokens are theirs, one piece after the other.
+-- A text that is cut into pieces: its tokens are those of the pieces, one piece after the other.
 use Rattle.std.proofs.Common.{◌≡◌, ℕ, List, [], ◌∷◌, ◌++◌, refl, sym, ap, ◌∙◌, append_assoc, append-nil}
 use Rattle.vcd_read.specs.Reading.{line_behind}
 use Rattle.vcd_read.specs.Tokens.{Token, tokens_from}
@@ -28,7 +28,7 @@ pub cut-none : (text : List ℕ) → IsCutSoFar text [] text
 cut-none text = record { tokens = λ line. refl; lines = λ line. refl }
 
 module _ (text : List ℕ) (pieces : List DumpPiece) (piece : DumpPiece) where
-  -- one piece more
+  -- one more piece is cut off
   pub cut-more : (left rest : List ℕ) → IsCutSoFar text pieces left → IsCutIn left piece.bytes.now rest
       → IsCutSoFar text (pieces ++ piece ∷ []) rest
   cut-more left rest so cut = record {
@@ -46,7 +46,7 @@ module _ (text : List ℕ) (pieces : List DumpPiece) (piece : DumpPiece) where
         (sym (lines_behind-push line pieces piece));
   }
 
-  -- what is left is the last
+  -- the rest of the text is the last piece
   pub cut-last : IsCutSoFar text pieces piece.bytes.now → ArePiecesOf text (pieces ++ piece ∷ [])
   cut-last so = record {
     tokens = λ line. so.tokens line ∙ sym (tokens_of-push line pieces piece);

@@ -1,4 +1,4 @@
--- Pieces that are joined in order, and what comes of the text.
+-- Pieces that are joined in order, and the outcome of the text.
 use Rattle.std.proofs.Common.{◌≡◌, ℕ, suc, ◌+◌, ◌<◌, add-one, drop, List, [], ◌∷◌, ◌++◌, length, get_or, Option, None}
 use Rattle.std.proofs.Common.{Some, ◌⊎◌, inl, inr, refl, sym, ap, subst, ◌∙◌, append_assoc}
 use Rattle.std.specs.Prelude.{IfSome, slice_get}
@@ -23,7 +23,7 @@ use Rattle.vme_text_workers.specs.Cuts.{lines_behind, tokens_of}
 use Rattle.vme_text_workers.specs.SpeculativeChunks.{AreAhead, AreTaken, IsAheadAt, IsJudgedAhead, IsNextOf}
 use Rattle.vme_text_workers.specs.declared.cut.DumpPiece.{DumpPiece}
 
--- ---- what comes of tokens, and of others behind them
+-- ---- the outcome of tokens, and of others after them
 
 pub ahead-append : (t : TextReached) (first then' more : List Token) → outcome_ahead t (first ++ then') more
     ≡ outcome_ahead t first (then' ++ more)
@@ -45,7 +45,7 @@ taken-none pieces t = record { lines = refl; leads = λ more. refl }
 
 module _ (pieces : List DumpPiece) (t u : TextReached) (piece : DumpPiece) (left : List DumpPiece)
     (so : AreTaken pieces t u (piece ∷ left)) where
-  -- what comes of the pieces is what comes of the next one, and of those behind it
+  -- the outcome of the pieces is that of the next one, and of those after it
   next-first : (more : List Token)
       → outcome_ahead t (tokens_of t.body.line pieces) more
       ≡ outcome_ahead u (tokens_from u.body.line piece.bytes.now) (tokens_of (line_behind u.body.line piece.bytes.now)
@@ -101,7 +101,7 @@ module _ (nets : List Net) (line_bits : NetLines) (pieces left : List DumpPiece)
       subst (λ (n : List Net). AreAhead n w.line_bits left rest) (sym same-nets)
       (subst (λ (t : NetLines). AreAhead nets t left rest) (sym same-line_bits) both.1)
 
--- nothing was read
+-- no piece was read
 pub none-ahead : (nets : List Net) (line_bits : NetLines) (pieces : List DumpPiece) → AreAhead nets line_bits pieces []
 none-ahead nets line_bits [] = tt
 none-ahead nets line_bits (piece ∷ pieces) = tt
@@ -152,7 +152,7 @@ same-nets nets nets2 line_bits taps2 pieces all e f are =
 module _ (bytes : List ℕ) (recorded : Trace) (levels : Levels) (w v : SpeculativeReached) (ended : List Step)
     (one : IsJoined bytes recorded levels w v ended)
     (stream_judge passed : Trace) (past : passed ≡ with_steps stream_judge ended) where
-  -- its steps follow those that were passed
+  -- the steps of the piece follow those that were passed
   pub steps-follow : recorded.opening ≡ levels → levels_after stream_judge.opening stream_judge.steps
       ≡ w.body.progress.accumulator.shown
       → recorded.opening ≡ levels_after passed.opening passed.steps

@@ -1,4 +1,4 @@
--- What calls give, put at their places.
+-- The results of calls, put at their places.
 use Rattle.std.proofs.Common.{◌≡◌, ℕ, zero, suc, Bool, true, false, cond, All, List, [], ◌∷◌, ◌++◌, Option, None, Some}
 use Rattle.std.proofs.Common.{set, sym, subst, ◌∙◌}
 use Rattle.std.specs.Prelude.{slice_get}
@@ -6,14 +6,14 @@ use Rattle.std.proofs.lemmas.List.Elements.{All-push, All-same}
 use Rattle.std.proofs.lemmas.Option.{get_or_from_slice_get, none-some, same_Some, slice_get_within}
 use Rattle.vme_text_workers.specs.Calls.{StandAsGiven}
 
--- nothing stands anywhere
+-- all places are empty
 pub placed-none : {X : Type 0} (gives : ℕ → Option X → Type 0) (all : List (Option X))
     → All (λ (one : Option X). one ≡ None) all → StandAsGiven gives all
 placed-none gives all none = λ place x is.
     absurd (none-some x (sym (none place None (slice_get_within all place (Some x) is))
     ∙ get_or_from_slice_get all place (Some x) None is))
 
--- what a call gave is put at its place
+-- the result of a call is put at its place
 pub placed-set : {X : Type 0} (gives : ℕ → Option X → Type 0) (all : List (Option X)) (to : ℕ) (given : X)
     → StandAsGiven gives all → gives to (Some given)
     → (place : ℕ) (x : X) → slice_get (set all to (Some given)) place ≡ Some (Some x) → gives place (Some x)

@@ -1,4 +1,4 @@
--- A piece that is read in two, one after the other; and one of whose parts some were taken.
+-- A piece that is read in two parts, one after the other. And one some of whose parts were taken.
 use Rattle.std.proofs.Common.{◌≡◌, ℕ, List, [], ◌++◌, Result, Ok, Err, sym, ap, ◌∙◌}
 use Rattle.std.specs.Prelude.{IfOk}
 use Rattle.vcd_read.specs.Reading.{line_behind}
@@ -14,7 +14,7 @@ use Rattle.vme_text_workers.proofs.JoinLemmas.{ahead-append}
 module _ (whole front behind : List ℕ) (cut : IsCutIn whole front behind) (t u : TextReached) (line : u.body.line
     ≡ line_behind t.body.line front)
     (read : (more : List Token) → outcome_ahead t (tokens_from t.body.line front) more ≡ outcome_ahead u [] more) where
-  -- the front is read: what comes of the whole is what comes of what stands behind it
+  -- once the front is read, the outcome of the whole is that of the rest
   front-read : (more : List Token) → outcome_ahead t (tokens_from t.body.line whole) more ≡ outcome_ahead u
       (tokens_from u.body.line behind) more
   front-read more =
@@ -24,7 +24,7 @@ module _ (whole front behind : List ℕ) (cut : IsCutIn whole front behind) (t u
       ∙ read (tokens_from at behind ++ more)
       ∙ ap (λ (l : ℕ). outcome_ahead u (tokens_from l behind) more) (sym line)
 
-  -- and so it is what that is read to
+  -- a result that agrees with the outcome of the rest agrees with that of the whole
   pub both-lead : {X : Type 0} (reach : X → TextReached) (r : Result X CaptureFault)
       → TextContinuesAs (λ x. outcome_ahead (reach x) []) r (outcome_ahead u (tokens_from u.body.line behind))
       → TextContinuesAs (λ x. outcome_ahead (reach x) []) r (outcome_ahead t (tokens_from t.body.line whole))
@@ -38,7 +38,7 @@ module _ (whole front behind : List ℕ) (cut : IsCutIn whole front behind) (t u
   both-lines reach (Ok x) h = h ∙ ap (λ (l : ℕ). line_behind l behind) line ∙ sym (cut.lines t.body.line)
   both-lines reach (Err fault) h = h
 
--- what comes of a text whose pieces are taken in part is what comes of those that are left
+-- a result that agrees with the outcome of the pieces in `left` agrees with that of the whole text
 pub rest-lead : {X : Type 0} (reach : X → TextReached) (r : Result X CaptureFault) (text : List ℕ)
     (pieces left : List DumpPiece) (t before after : TextReached) → before ≡ t → ArePiecesOf text pieces
     → AreTaken pieces before after left

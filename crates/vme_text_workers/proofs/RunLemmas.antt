@@ -1,4 +1,4 @@
--- The steps of a piece, some at once.
+-- The steps of a piece, in chunks.
 use Rattle.std.proofs.Common.{◌≡◌, List, [], ◌∷◌, ◌++◌, sym, ap, subst, ◌∙◌, append_assoc, append-nil}
 use Rattle.vme_trace.specs.Followed.{with_steps}
 use Rattle.vme_trace.specs.Levels.{Levels}
@@ -23,7 +23,7 @@ follow-last v (first ∷ chunks) chunk h opens = (
       (steps_in chunks)),
 )
 
--- ---- one run more
+-- ---- one more chunk
 
 module _ (opening left : Levels) (chunks more : List Trace) (chunk : Trace) (steps : List Step)
     (so : AreUnderway opening chunks left)
@@ -44,7 +44,7 @@ module _ (opening left : Levels) (chunks more : List Trace) (chunk : Trace) (ste
         ∙ ap (levels_after opening) (sym steps-more);
   }
 
--- ---- passed in order
+-- ---- chunks that are passed in order
 
 module _ (before after : Trace) (chunks rest : List Trace) (chunk : Trace) (at : chunks ≡ chunk ∷ rest)
     (follow : Follow (levels_after before.opening before.steps) chunks) where

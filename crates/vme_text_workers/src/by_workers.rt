@@ -36,8 +36,8 @@ fn want_of_memory() -> CaptureFault
     })
 }
 
-/// Reads and judges the pieces ahead of one another: from the levels that likely stand before each, or, where the last
-/// assumption was wrong, from those that reading them first leads to. The only error is want of memory.
+/// Reads and judges each piece ahead of those before it: from the levels that likely hold before it, or, if the last
+/// assumption was wrong, from those that a first pass over the pieces finds. The only error is want of memory.
 fn read_each_ahead<R: Threads + Sync, J: ChunkJudge + Send>(
     rt: &R,
     alloc: Global,
@@ -55,9 +55,8 @@ fn read_each_ahead<R: Threads + Sync, J: ChunkJudge + Send>(
     read_each_speculatively(rt, alloc, threads, speculative, pieces)
 }
 
-/// Reads and judges the pieces ahead of one another, those that were read from other levels than really stand before
-/// them again, and joins them in order as far as they fit. How many pieces were taken so is told too. The only error is
-/// want of memory.
+/// Reads and judges each piece ahead of those before it, reads those again that were read from wrong levels, and joins
+/// the pieces in order as far as they fit. Also returns how many pieces were joined. The only error is want of memory.
 fn take_ahead<R: Threads + Sync, J: ChunkJudge + Send>(
     rt: &R,
     alloc: Global,
@@ -85,9 +84,8 @@ fn take_ahead<R: Threads + Sync, J: ChunkJudge + Send>(
     Ok((speculative.with_step_visitor(stream_judge), count))
 }
 
-/// Takes the next piece of the text, which ends behind a space, or where the text does. It is read and judged by so
-/// many threads at most. What doesn't fit behind what stands before it is read in order, and so is what stands behind
-/// that.
+/// Takes the next `piece` of the text, which ends after a space, or where the text does. At most `workers` threads read
+/// and judge its parts. The first part that doesn't fit, and all parts after it, are read in order.
 fn read_body<R: Threads + Sync, J: ChunkJudge + Send>(
     rt: &R,
     alloc: Global,
@@ -119,8 +117,8 @@ fn read_body<R: Threads + Sync, J: ChunkJudge + Send>(
     }
 }
 
-/// The piece cut at its last time. Where an item or a dump section is open before it, no part of it would fit, and it
-/// isn't cut.
+/// `piece` cut at its last time. If an item or a dump section is open before it, no part of it would fit, and it isn't
+/// cut.
 fn cut_to_read_ahead<'a, F: StepVisitor>(
     text: &TextPieces<F>,
     piece: &'a [u8],
@@ -134,7 +132,7 @@ fn cut_to_read_ahead<'a, F: StepVisitor>(
     }
 }
 
-/// The same, but what stands behind the last time is read in order, since it may end within an item.
+/// As `read_body`, but what follows the last time is read in order, since it may end within an item.
 fn read_up_to_last_time<R: Threads + Sync, J: ChunkJudge + Send>(
     rt: &R,
     alloc: Global,
@@ -155,11 +153,11 @@ fn read_up_to_last_time<R: Threads + Sync, J: ChunkJudge + Send>(
     text.read(alloc, behind)
 }
 
-/// Takes the next piece of the text, which ends behind a space, or where the text does. From its first time to its last
-/// it is read and judged by so many workers, each in a thread of its own, as far as it fits behind what stands before;
-/// all else is read in order. The assumption is what the pieces before left of it, or a new one: it changes no answer.
-/// Errors are those of `TextPieces::read`. It is never inlined, so that a caller with one worker, which reads in order
-/// without it, takes no room for it.
+/// Takes the next `piece` of the text, which ends after a space, or where the text does. From its first time to its
+/// last it is read and judged by `workers` workers, each in a thread of its own, as far as its parts fit together. All
+/// else is read in order. `speculation` is the one that the pieces before were read with, or a new one: it changes no
+/// answer. Errors are those of `TextPieces::read`. It is never inlined, so that a caller with one worker, which reads
+/// in order without it, takes no room for it.
 #[inline(never)]
 pub fn read_by_workers<R: Threads + Sync, J: ChunkJudge + Send>(
     rt: &R,

@@ -1,4 +1,4 @@
-//! A part of a recording that is judged some steps at once.
+//! A part of a recording that is judged in chunks of steps.
 
 ghost use Rattle.std.specs.Prelude.{◌≡◌, [], IfOk, OnOk};
 ghost use Rattle.vme_trace.specs.Followed.{with_steps};
@@ -14,8 +14,8 @@ use vme_trace::{Lines, Step, StepVisitor};
 /// How many steps are judged at once.
 const AT_ONCE: usize = 16_384;
 
-/// The steps of a part, which were judged some at once: of the steps themselves nothing is kept. Contracts see the
-/// lines before them and the steps, as the recording that they are.
+/// The steps of a part, judged in chunks. The steps themselves aren't kept. Contracts see a recording: the levels
+/// before the steps, and the steps.
 #[derive(Drop)]
 pub(crate) struct JudgedChunks<J: ChunkJudge> {
     opening: Lines,
@@ -33,14 +33,14 @@ impl<J: ChunkJudge> Model for JudgedChunks<J> {
     ghost invariant = { λ r. Follow r.opening r.chunks.items };
 }
 
-/// The same as the steps come.
+/// The steps of a part as they come: the chunks that were judged, and the steps after them. Contracts see a recording.
 #[derive(Drop)]
 pub(crate) struct ChunkBuffer<J: ChunkJudge> {
     opening: Lines,
     chunks: Vec<JudgedChunk<J>>,
-    /// The levels behind the runs.
+    /// The levels after the chunks.
     left: Lines,
-    /// The steps that came since.
+    /// The steps after the chunks, which aren't judged yet.
     waiting: Vec<Step>,
 }
 
@@ -57,7 +57,7 @@ impl<J: ChunkJudge> Model for ChunkBuffer<J> {
 }
 
 impl<J: ChunkJudge> ChunkBuffer<J> {
-    /// Before the first step, which follows these lines.
+    /// The buffer before the first step, where the levels are `opening`.
     pub fn new(alloc: Global, opening: &Lines) -> ChunkBuffer<J>
         ensures { result ≡ record { opening = opening.now; steps = [] } }
     {
@@ -69,7 +69,7 @@ impl<J: ChunkJudge> ChunkBuffer<J> {
         }
     }
 
-    /// Judges the steps that wait. Few steps come to this. The only error is want of memory.
+    /// Judges the waiting steps as one chunk. Few steps lead to this call. The only error is want of memory.
     #[cold]
     #[inline(never)]
     fn judge(&mut self, alloc: Global) -> Result<(), AllocError>
@@ -83,7 +83,7 @@ impl<J: ChunkJudge> ChunkBuffer<J> {
         Ok(())
     }
 
-    /// All steps came. The only error is want of memory.
+    /// Judges the waiting steps, once all steps came. The only error is want of memory.
     #[inline(never)]
     pub fn finish(self, alloc: Global) -> Result<JudgedChunks<J>, AllocError>
         ensures { IfOk result (λ judged. judged ≡ self) }
@@ -123,7 +123,7 @@ impl<J: ChunkJudge> StepVisitor for ChunkBuffer<J> {
 }
 
 impl<J: ChunkJudge> JudgedChunks<J> {
-    /// Passes the steps behind those that came. The only error is want of memory.
+    /// Passes the judged steps to `stream_judge`, after those that it has. The only error is want of memory.
     pub fn pass(
         self,
         alloc: Global,

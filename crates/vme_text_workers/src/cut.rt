@@ -17,7 +17,7 @@ pub(crate) struct DumpPiece<'t> {
     pub line: u64,
 }
 
-/// The first place from here on at which a line begins with a time, behind another line.
+/// The first index after `from` at which a line begins with a time, directly after a line feed.
 fn time_from(text: &[u8], from: usize) -> Option<usize>
     ensures { IfSome result (λ place. place < length text.now) }
 {
@@ -31,7 +31,7 @@ fn time_from(text: &[u8], from: usize) -> Option<usize>
     None
 }
 
-/// The last such place.
+/// The last index at which a line begins with a time, directly after a line feed.
 fn last_time(text: &[u8]) -> Option<usize>
     ensures { IfSome result (λ place. place < length text.now) }
 {
@@ -45,7 +45,7 @@ fn last_time(text: &[u8]) -> Option<usize>
     None
 }
 
-/// A text cut in two behind the last space before this place.
+/// `text` cut in two after the last space before `place`.
 fn cut_before(text: &[u8], place: usize) -> (&[u8], &[u8])
     requires { place ≤ length text.now }
     ensures { IsCutIn text.now result.0.now result.1.now }
@@ -53,7 +53,7 @@ fn cut_before(text: &[u8], place: usize) -> (&[u8], &[u8])
     text.split_at(whole_tokens(&text[..place]))
 }
 
-/// A text cut in two where a line begins with a time, so far from its beginning or later.
+/// `text` cut in two before the first line, after index `from`, that begins with a time.
 pub(crate) fn cut_at_time(text: &[u8], from: usize) -> Option<(&[u8], &[u8])>
     ensures { IfSome result (λ cut. IsCutIn text.now cut.0.now cut.1.now) }
 {
@@ -61,7 +61,7 @@ pub(crate) fn cut_at_time(text: &[u8], from: usize) -> Option<(&[u8], &[u8])>
     Some(cut_before(text, place))
 }
 
-/// A text cut in two where the last line begins that begins with a time.
+/// `text` cut in two before the last line that begins with a time.
 pub(crate) fn cut_at_last_time(text: &[u8]) -> Option<(&[u8], &[u8])>
     ensures { IfSome result (λ cut. IsCutIn text.now cut.0.now cut.1.now) }
 {
@@ -69,9 +69,9 @@ pub(crate) fn cut_at_last_time(text: &[u8]) -> Option<(&[u8], &[u8])>
     Some(cut_before(text, place))
 }
 
-/// How long the next piece is to be, behind so many that were cut off, where each worker's share is so long: half of it
-/// for each worker's first, a quarter for its second, and an eighth for the others. So all begin with long pieces, and
-/// end with short ones.
+/// How long the next piece is to be, after the `before` pieces that were cut off. `share` is each worker's share of the
+/// text: its first piece is half of it, its second a quarter, and the others an eighth. So all workers begin with long
+/// pieces, and end with short ones.
 fn piece_size(share: usize, workers: usize, before: usize) -> usize {
     if before < workers {
         share / 2
@@ -82,8 +82,8 @@ fn piece_size(share: usize, workers: usize, before: usize) -> usize {
     }
 }
 
-/// A text that begins on this line, cut into pieces for so many workers, the longest first. Each but the first begins
-/// with a time.
+/// `text`, which begins on line `line`, cut into pieces for `workers` workers, the longest first. Each but the first
+/// begins with a time.
 pub(crate) fn cut<'t>(
     alloc: Global,
     text: &'t [u8],

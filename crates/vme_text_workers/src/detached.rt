@@ -1,4 +1,4 @@
-//! Calls that are made side by side.
+//! Calls that are made in parallel, by threads.
 
 ghost use Rattle.std.specs.Prelude.{◌≡◌, ◌<◌, ℕ, All, length, IfOk, IfSome, vec_len};
 ghost use Rattle.std.specs.Fork.{GivesEach};
@@ -9,8 +9,8 @@ use std::alloc::{AllocError, Global};
 use std::sync::atomic::{AtomicUsize, Ordering};
 use std::thread::{Threads, join_mut};
 
-/// Calls `f` at this place, and keeps what it returns. It is a function of its own, so that `call_both` takes no room
-/// for it.
+/// Calls `f` with `place`, and puts what it returns in `given`. It is a function of its own, so that `call_both` takes
+/// no room for it.
 #[inline(never)]
 fn call_at<X: Drop, F: Fn(usize) -> Option<X>>(f: &F, place: usize, given: &mut Option<X>)
     requires { F.pre f.now place }
@@ -19,7 +19,7 @@ fn call_at<X: Drop, F: Fn(usize) -> Option<X>>(f: &F, place: usize, given: &mut 
     *given = f(place);
 }
 
-/// Calls `f` at the last place by a thread of its own, where one can be made, and at each place before it.
+/// Calls `f` with `place`, the last one, in a thread of its own, where one can be made, and with each place before it.
 #[cycle(apart)]
 fn call_both<R: Threads + Sync, X: Send + Drop, F: Fn(usize) -> Option<X> + Sync>(
     rt: &R,
@@ -46,7 +46,7 @@ fn call_both<R: Threads + Sync, X: Send + Drop, F: Fn(usize) -> Option<X> + Sync
     join_mut(rt, &mut apart, &mut here);
 }
 
-/// Calls `f` at each of these places, and keeps what it returns there.
+/// Calls `f` with each index of `all`, and puts what it returns there.
 #[cycle(apart)]
 fn call_each<R: Threads + Sync, X: Send + Drop, F: Fn(usize) -> Option<X> + Sync>(
     rt: &R,
@@ -64,10 +64,10 @@ fn call_each<R: Threads + Sync, X: Send + Drop, F: Fn(usize) -> Option<X> + Sync
     call_both(rt, f, place, last, before);
 }
 
-/// Calls `f` at each place below this count, and gives what it returns, in order. Each place has a thread of its own,
-/// where one can be made. The calling thread starts all of them and waits, so that each finds a processor: the system
-/// is late to spread threads that start one another, or of which one works where it started the others. There is room
-/// for what is given before a thread is started. The only error is want of memory.
+/// Calls `f` with each place below `count`, and returns the results in order. Each place has a thread of its own, where
+/// one can be made. The calling thread starts all of them and waits, so that each finds a processor: the system is slow
+/// to spread threads that start one another, or one of which works after it started the others. The room for the
+/// results is made before a thread is started. The only error is want of memory.
 fn map_threads<R: Threads + Sync, X: Send + Drop, F: Fn(usize) -> Option<X> + Sync>(
     rt: &R,
     alloc: Global,
@@ -84,7 +84,8 @@ fn map_threads<R: Threads + Sync, X: Send + Drop, F: Fn(usize) -> Option<X> + Sy
     Ok(all)
 }
 
-/// Calls `f` at this place, and keeps what it gives beside the place. For want of memory it isn't kept.
+/// Calls `f` with `place`, and adds the place and the result, if there is one, to `taken`. For want of memory it isn't
+/// kept.
 fn take_place<X: Drop, F: Fn(usize) -> Option<X>>(f: &F, place: usize, taken: &mut Vec<(usize, X)>)
     requires place { F.pre f.now place }
     requires taken { AreOfPlaces (F.post f.now) taken.old.items }
@@ -96,7 +97,8 @@ fn take_place<X: Drop, F: Fn(usize) -> Option<X>>(f: &F, place: usize, taken: &m
     let _ = taken.push((place, given));
 }
 
-/// Calls `f` at each place that the counter hands out, as long as these are below this count, and keeps what it gives.
+/// Calls `f` with each place that the counter `next` gives, as long as these are below `count`, and returns the places
+/// with the results.
 fn take_places<X: Drop, F: Fn(usize) -> Option<X>>(
     alloc: Global,
     next: &AtomicUsize,
@@ -117,7 +119,7 @@ fn take_places<X: Drop, F: Fn(usize) -> Option<X>>(
     taken
 }
 
-/// So many places at which nothing stands. The only error is want of memory.
+/// `count` empty places. The only error is want of memory.
 fn empty_places<X: Drop>(alloc: Global, count: usize) -> Result<Vec<Option<X>>, AllocError>
     ensures { IfOk result (λ all. All (λ one. one ≡ None) all.items) }
 {
@@ -128,7 +130,7 @@ fn empty_places<X: Drop>(alloc: Global, count: usize) -> Result<Vec<Option<X>>, 
     Ok(all)
 }
 
-/// Puts what a call gave at its place, if there is such a place.
+/// Puts `given`, which the call with `place` returned, at that place of `all`, if there is such a place.
 fn put<X: Drop, F: Fn(usize) -> Option<X>>(_f: &F, all: &mut [Option<X>], place: usize, given: X)
     requires given { F.post _f.now place (Some given) }
     requires all { StandAsGiven (F.post _f.now) all.old }
@@ -140,7 +142,7 @@ fn put<X: Drop, F: Fn(usize) -> Option<X>>(_f: &F, all: &mut [Option<X>], place:
     all[place] = Some(given);
 }
 
-/// Puts what a thread took at its places.
+/// Puts the results of a thread at their places.
 fn put_taken<X: Drop, F: Fn(usize) -> Option<X>>(
     _f: &F,
     all: &mut [Option<X>],
@@ -156,7 +158,7 @@ fn put_taken<X: Drop, F: Fn(usize) -> Option<X>>(
     }
 }
 
-/// The same, if the thread took anything.
+/// As `put_taken`, if the thread has results.
 fn put_if_taken<X: Drop, F: Fn(usize) -> Option<X>>(
     _f: &F,
     all: &mut [Option<X>],
@@ -172,7 +174,7 @@ fn put_if_taken<X: Drop, F: Fn(usize) -> Option<X>>(
     put_taken(_f, all, ones);
 }
 
-/// Puts what each of several threads took at its places.
+/// Puts the results of several threads at their places.
 fn put_each<X: Drop, F: Fn(usize) -> Option<X>>(
     _f: &F,
     all: &mut [Option<X>],
@@ -188,8 +190,8 @@ fn put_each<X: Drop, F: Fn(usize) -> Option<X>>(
     }
 }
 
-/// What several threads took, each at its place among so many. The only error is want of memory. It stands apart, so
-/// that the threads are started where the stack has no room for it yet.
+/// The results of several threads, each at its place of `count`. The only error is want of memory. It is a function of
+/// its own, so that the threads are started where the stack has no room for it yet.
 #[inline(never)]
 fn in_places<X: Drop, F: Fn(usize) -> Option<X>>(
     alloc: Global,
@@ -205,9 +207,9 @@ fn in_places<X: Drop, F: Fn(usize) -> Option<X>>(
     Ok(all)
 }
 
-/// Calls `f` at places below this count, and gives what it returns, each at its place. So many threads, as far as they
-/// can be made, take the places in order, each the next one as soon as it is done with one: so one on a processor that
-/// is slower takes fewer. For want of memory nothing stands at some places. The only error is want of memory.
+/// Calls `f` with the places below `count`, and returns the results, each at its place. `threads` threads, as far as
+/// they can be made, take the places in order, each the next one as soon as it is done with one: a thread on a slower
+/// processor takes fewer. For want of memory some places may stay empty. The only error is want of memory.
 pub(crate) fn map_places<R: Threads + Sync, X: Send + Drop, F: Fn(usize) -> Option<X> + Sync>(
     rt: &R,
     alloc: Global,

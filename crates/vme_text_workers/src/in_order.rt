@@ -9,7 +9,8 @@ use std::alloc::Global;
 use vme_bind::{CaptureFault, TextPieces};
 use vme_trace::StepVisitor;
 
-/// Takes the next pieces of the text, one after the other. It is a function of its own, as `join_in_order` does.
+/// Takes the next pieces of the text, one after the other. It is a function of its own for the same reason as
+/// `join_in_order`.
 #[inline(never)]
 pub(crate) fn read_in_order<F: StepVisitor>(
     alloc: Global,

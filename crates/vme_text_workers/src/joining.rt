@@ -16,18 +16,18 @@ use vme_summary::chunk_judge::ChunkJudge;
 use vme_summary::stream_judge::StreamJudge;
 use vme_trace::{Step, StepVisitor};
 
-/// What some pieces lead to, of which the first were joined.
+/// The result of joining the first `count` of some pieces.
 #[derive(Drop)]
 pub(crate) struct JoinedPieces<J: ChunkJudge> {
-    /// How far the recording is made behind those.
+    /// The reader after those pieces.
     pub speculative: SpeculativeReader,
-    /// What judged it.
+    /// The judge of the steps up to there.
     pub stream_judge: StreamJudge<J>,
-    /// How many were joined.
+    /// How many pieces were joined.
     pub count: usize,
 }
 
-/// A piece, if it was read and fits.
+/// `ahead`, if the piece was read and fits `speculative`.
 fn if_fits<J: ChunkJudge>(
     speculative: &SpeculativeReader,
     ahead: Option<(SpeculativeChunk, JudgedChunks<J>)>,
@@ -43,7 +43,7 @@ fn if_fits<J: ChunkJudge>(
     }
 }
 
-/// The piece as it was read ahead, or again, if it fits so.
+/// The piece as it was read ahead, if it fits so, else as it was read again, if it fits so.
 fn fitting<J: ChunkJudge>(
     speculative: &SpeculativeReader,
     ahead: Option<(SpeculativeChunk, JudgedChunks<J>)>,
@@ -58,7 +58,7 @@ fn fitting<J: ChunkJudge>(
     if_fits(speculative, again)
 }
 
-/// Goes past a step, if there is one. The only error is want of memory.
+/// Gives `step` to the judge, if there is one. The only error is want of memory.
 fn past_step<J: ChunkJudge>(
     alloc: Global,
     stream_judge: StreamJudge<J>,
@@ -83,9 +83,9 @@ fn next_of<X: Drop>(pieces: &mut IntoIter<Option<X>>) -> Option<X>
     }
 }
 
-/// Joins the pieces in order, up to the first that doesn't fit, and judges their steps. Some were read again. The only
-/// error is want of memory. It is a function of its own, so that the threads are started where the stack has no room
-/// for it yet.
+/// Joins the pieces in order, up to the first that doesn't fit, and passes their steps to the judge. `all` are the
+/// pieces as they were read ahead, `again` those that were read again. The only error is want of memory. It is a
+/// function of its own, so that the threads are started where the stack has no room for it yet.
 #[inline(never)]
 pub(crate) fn join_in_order<J: ChunkJudge>(
     alloc: Global,

@@ -6,15 +6,15 @@
 //!   What precedes its first time and follows its last is read in order.
 //! - `cut`: the rest is cut where times begin.
 //! - `speculative`, `chunks`: each part is read ahead of those before it, from the levels that
-//!   likely stand there, and judged as it is read.
-//! - `speculation`: whether the assumed levels were wrong. What the parts do to the lines is then
-//!   read first.
-//! - `detached`: calls that are made side by side, by as many threads as there are workers, where
-//!   these can be made. There are four parts for each, the longest first, and a thread that is done
-//!   with one takes the next.
-//! - `joining`: the parts joined in order. One that was read from other levels than really stand
-//!   before it is read again, from those.
-//! - `in_order`: from the first part that doesn't fit on, they are read in order.
+//!   likely hold there, and judged as it is read.
+//! - `speculation`: whether the assumed levels were wrong. If so, a first pass over the parts reads
+//!   what they do to the lines.
+//! - `detached`: calls that are made in parallel, by one thread for each worker, where it can be
+//!   made. There are four parts for each worker, the longest first, and a thread that is done with
+//!   one takes the next.
+//! - `joining`: the parts joined in order. A part that was read from wrong levels is read again,
+//!   from the right ones.
+//! - `in_order`: the first part that doesn't fit, and all parts after it, are read in order.
 //!
 //! # What is proved
 //!
@@ -30,8 +30,8 @@
 //!
 //! # Limits
 //!
-//! The levels before a part are assumed by the 16,384 bytes before it. Steps are judged 16,384 at a
-//! time. Start reading at `by_workers`; docs/ARCHITECTURE.md has the picture.
+//! The levels before a part are guessed from the 16,384 bytes before it. Steps are judged 16,384 at
+//! a time. Start reading at `by_workers`; docs/ARCHITECTURE.md has the picture.
 #![tactic(auto)]
 
 mod by_workers;

@@ -27,8 +27,8 @@ fn last_lines(bytes: &[u8]) -> Option<&[u8]> {
     Some(last)
 }
 
-/// What a piece does to the levels, where it is read from those before all pieces. None is given where
-/// `SpeculativeReader::read_ahead` gives none.
+/// What a piece does to the levels, read from the levels before all pieces. `None` where
+/// `SpeculativeReader::read_ahead` gives `None`.
 fn read_levels(
     alloc: Global,
     speculative: &SpeculativeReader,
@@ -40,8 +40,8 @@ fn read_levels(
     Some(ahead)
 }
 
-/// The levels that likely stand behind a piece: those that its last lines lead to, from the levels before all pieces. A
-/// line that changed earlier than in those is taken to have its first level still.
+/// The levels that likely hold after a piece: those to which its last lines of text lead, from the levels before all
+/// pieces. A bus line that doesn't change in that text is assumed to have its level before all pieces.
 fn likely_behind(alloc: Global, speculative: &SpeculativeReader, piece: DumpPiece<'_>) -> Lines
     ensures { length result.levels ≡ line_count }
 {
@@ -55,8 +55,8 @@ fn likely_behind(alloc: Global, speculative: &SpeculativeReader, piece: DumpPiec
     }
 }
 
-/// Reads a piece ahead, from these levels, and judges it. None is given where `SpeculativeReader::read_ahead` gives
-/// none.
+/// Reads a piece ahead, from `levels`, and judges it. `None` where `SpeculativeReader::read_ahead` gives `None`, and
+/// for want of memory.
 fn read_ahead<J: ChunkJudge>(
     alloc: Global,
     speculative: &SpeculativeReader,
@@ -75,7 +75,7 @@ fn read_ahead<J: ChunkJudge>(
     }
 }
 
-/// Reads each piece ahead from the levels that likely stand before it, by so many threads.
+/// Reads each piece ahead from the levels that likely hold before it, by `threads` threads.
 pub(crate) fn read_each_speculatively<R: Threads + Sync, J: ChunkJudge + Send>(
     rt: &R,
     alloc: Global,
@@ -105,7 +105,8 @@ pub(crate) fn read_each_speculatively<R: Threads + Sync, J: ChunkJudge + Send>(
     Ok(all)
 }
 
-/// The levels behind a piece that was read ahead, where these stand before it. There are none of another backplane.
+/// The levels after a piece that was read ahead, if `before` are the levels before it. `None` if they are of a
+/// backplane with another number of slots.
 fn behind(ahead: &SpeculativeChunk, before: &Lines) -> Option<Lines>
     requires { length before.now.levels ≡ line_count }
     ensures { IfSome result (λ levels. length levels.levels ≡ line_count) }
@@ -116,9 +117,9 @@ fn behind(ahead: &SpeculativeChunk, before: &Lines) -> Option<Lines>
     Some(ahead.levels_behind(before))
 }
 
-/// The levels before each piece: what the pieces before it do to the lines is read first, by so many threads.
-/// They aren't known behind a piece that can't be read ahead. Whether an assumption would have been wrong is noted. The
-/// only error is want of memory.
+/// The levels before each piece, by a first pass of `threads` threads, which reads what the pieces do to the lines.
+/// They end with the first piece that can't be read ahead: the levels after it aren't known. Whether an assumption
+/// would have been wrong is noted. The only error is want of memory.
 pub(crate) fn levels_before_each<R: Threads + Sync>(
     rt: &R,
     alloc: Global,
@@ -161,8 +162,8 @@ pub(crate) fn levels_before_each<R: Threads + Sync>(
     Ok(levels)
 }
 
-/// The levels from which each piece is to be read again: those that really stand before it, if it was read from others.
-/// They aren't known behind a piece that wasn't read ahead. The only error is want of memory.
+/// The levels from which each piece is to be read again: the right ones before it, if it was read from others. They end
+/// before the first piece that wasn't read ahead. The only error is want of memory.
 pub(crate) fn levels_to_read_again<J: ChunkJudge>(
     alloc: Global,
     speculative: &SpeculativeReader,
@@ -189,7 +190,7 @@ pub(crate) fn levels_to_read_again<J: ChunkJudge>(
     Ok(again)
 }
 
-/// Reads each piece from its levels, if there are any, by so many threads. Where there are none, nothing is read.
+/// Reads each piece from its levels, by `threads` threads. A piece without levels isn't read.
 pub(crate) fn read_from<R: Threads + Sync, J: ChunkJudge + Send>(
     rt: &R,
     alloc: Global,

@@ -1,14 +1,14 @@
 //! What the definitions say of worked recordings of transfers and cycles, by computing them.
 //!
-//! Each function is a law: its contract is what it says, and the prover computes it. The recordings
-//! stand in vme_eval, in the module of the law's name, with the verdict and the listing that each
-//! should get.
+//! Each function is a law: its contract states it, and the prover computes it. The recordings are
+//! in vme_eval, in the module of the law's name, with the verdict and the listing that each should
+//! get.
 //!
 //! - [`tables`]: which modifier codes, control lines and needed lines the definitions single out.
 //! - [`transfers`]: transfers, answers and the address strobe (H1 to H8).
 //! - [`cycles`]: classes of cycles, and cycles of several transfers (C1, C2).
 //!
-//! Nothing is said of recordings that don't stand there. Start reading at the law of interest.
+//! Nothing is said of other recordings. Start reading at the law of interest.
 #![tactic(auto)]
 
 ghost use Rattle.std.specs.Prelude.{◌≡◌, ◌∷◌, []};

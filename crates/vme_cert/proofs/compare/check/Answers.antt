@@ -1,4 +1,4 @@
--- Each step makes the next levels, and the checker follows.
+-- The checker follows each step of the capture, as the step makes the levels of the next instant.
 use Rattle.std.proofs.Common.{length, ap, subst, arith}
 use Rattle.vme_cert.specs.Words.{Trace}
 use Rattle.vme_cert.specs.Checking.{HasCompared, HasFollowed, at_opening}

@@ -1,4 +1,4 @@
--- All rows that are given are those of the listing.
+-- The rows that the source gives are all rows of the listing.
 use Rattle.std.proofs.Common.{List, subst}
 use Rattle.vme_cert.specs.Words.{Row, Version, recorded_rows, rows_in}
 use Rattle.vme_cert.specs.Agreement.{DecidesListing}

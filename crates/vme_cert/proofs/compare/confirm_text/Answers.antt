@@ -1,4 +1,4 @@
--- The rows that were asked for, and those that are left.
+-- The rows of the text are those that the check asked for, and those that `fault` reads after them.
 use Rattle.std.proofs.Common.{◌≡◌, ◌++◌, inl, inr, sym, subst}
 use Rattle.std.specs.Prelude.{IsSome, None, Option, Some}
 use Rattle.vme_cert.specs.Words.{IsTextOfListing, ListFault, Version, listed, recorded_rows, rows_in}

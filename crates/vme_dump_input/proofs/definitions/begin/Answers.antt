@@ -1,4 +1,4 @@
--- The body begins behind the definitions, if they end here.
+-- The body begins after the definitions, if they end in the held bytes.
 use Rattle.std.proofs.Common.{◌≡◌, ◌≤◌, ◌++◌, ℕ, List, Option, Some, drop, length, refl, subst, sym}
 use Rattle.std.specs.Prelude.{IfSome, Ok}
 use Rattle.vme_bind.specs.TextCapture.{CaptureFailsBy}

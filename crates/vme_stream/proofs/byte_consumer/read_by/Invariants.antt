@@ -1,4 +1,4 @@
--- What was taken and what is held is what was read.
+-- The bytes that were taken and those that are held are all that were read.
 use Rattle.std.proofs.Common.{ℕ, List}
 use Rattle.vme_stream.proofs.IntakeLemmas.{IsUnderway}
 use Rattle.vme_stream.proofs.byte_consumer.read_by.Given as goal

@@ -1,4 +1,4 @@
--- What is filled is what was read, a byte at least for each read, and each read gave some; few reads were full.
+-- The first `filled` bytes are those that were read, at least one by each read. Few reads were full.
 use Rattle.std.proofs.Common.{◌≡◌, ◌+◌, ◌≤◌, take, vec_len}
 use Rattle.std.specs.Io.KnownBytes.{Consumes}
 use Rattle.vme_stream.proofs.InputLemmas.{IsRoomy}

@@ -1,4 +1,4 @@
--- What is gone from the rest was taken.
+-- The bytes before `rest` were taken.
 use Rattle.std.proofs.Common.{◌≡◌, ℕ, List, ◌++◌, length}
 use Rattle.std.specs.Io.KnownBytes.{Appends}
 use Rattle.vme_stream.proofs.output.write_all.Given as goal

@@ -1,4 +1,4 @@
--- The chain is low as far as the net before the first that isn't.
+-- The grant chain is low up to the net before the first that isn't low.
 use Rattle.std.proofs.Common.{◌+◌, ◌∙◌, ap, not, refl, sym}
 use Rattle.std.specs.Prelude.{Some, unwrap_or}
 use Rattle.vme_trace.proofs.SpanEnds.{slots_at}

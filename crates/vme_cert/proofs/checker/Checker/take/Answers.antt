@@ -1,4 +1,4 @@
--- The step makes the levels of the next instant, where what was so of it is so.
+-- The step makes the levels of the next instant, and there holds what the phase says of that instant.
 use Rattle.std.proofs.Common.{◌∙◌, refl, sym, ap, arith}
 use Rattle.vme_cert.specs.Words.{Levels, are_changes, changed}
 use Rattle.vme_cert.specs.Checking.{last_levels}

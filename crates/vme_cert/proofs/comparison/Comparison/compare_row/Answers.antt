@@ -1,4 +1,4 @@
--- It is compared with the least that differs so far.
+-- The place of the row is compared with the least row that differs so far.
 use Rattle.std.proofs.Common.{◌≡◌, ℕ, List, refl, sym, ◌∙◌, ap, subst, arith}
 use Rattle.std.specs.Prelude.{None, Option, Some}
 use Rattle.vme_cert.specs.Words.{Row}
@@ -11,7 +11,7 @@ use Rattle.vme_cert.proofs.comparison.Comparison.compare_row.Goals.{in_default-w
 use Rattle.vme_cert.proofs.comparison.Comparison.compare_row.Goals.{in_default-wrong-via-in_default-wrong}
 use Rattle.vme_cert.proofs.comparison.Comparison.compare_row.Goals as goal
 
--- what is due differs, if the given row is another
+-- the given row differs from the right one, if it isn't the open row with its last edge
 differs : (given right : List Row) (taken : ℕ) (edge : Option ℕ) (row : OpenRow) (shown : Row)
     → IsDue given right taken edge (Some row) → shown ≡ ended row.right edge → (row.given ≡ Some shown → ⊥)
     → IsSame given right row.place → ⊥

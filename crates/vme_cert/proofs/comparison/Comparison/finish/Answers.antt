@@ -1,4 +1,4 @@
--- One differs, one more is given, or neither.
+-- A row differs, the source gives one more row, or neither.
 use Rattle.std.proofs.Common.{ℕ, ◌∙◌, false, sym, subst}
 use Rattle.std.specs.Prelude.{Option}
 use Rattle.vme_cert.specs.Comparing.{IsCompared}

@@ -1,4 +1,4 @@
--- What is left of the text is read, row by row.
+-- The rest of the text is read, row by row.
 use Rattle.std.proofs.Common.{◌≡◌, ◌∙◌, ◌++◌, ◌∷◌, ℕ, true, List, [], append_assoc, sym, ap, subst}
 use Rattle.std.specs.Prelude.{IfSome, None, Ok, Option, Result, Some}
 use Rattle.vme_cert.specs.Words.{HasRead, IsTextOfListing, ListFault, Row, Unread, Version, ends_listing, listed}

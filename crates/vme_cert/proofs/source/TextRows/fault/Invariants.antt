@@ -1,4 +1,4 @@
--- More rows were read, unless the listing was whole.
+-- Rows after those of the start were read, unless the listing was complete at the start.
 use Rattle.std.proofs.Common.{◌≡◌, ◌++◌, ℕ, List, true, [], length}
 use Rattle.vme_cert.specs.Words.{HasRead, Row, ends_listing}
 use Rattle.vme_cert.proofs.source.TextRows.fault.Given as goal

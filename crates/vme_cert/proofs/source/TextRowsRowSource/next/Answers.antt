@@ -1,4 +1,4 @@
--- A row was read, the listing is whole, or there is a fault.
+-- A row was read, the listing is complete, or there is a fault.
 use Rattle.std.proofs.Common.{◌≡◌, ℕ, ◌∙◌, List, [], ◌∷◌, ◌++◌, refl, sym, ap, subst}
 use Rattle.std.specs.Prelude.{IfSome, MatchOption, None, Ok, Option, Some}
 use Rattle.vme_cert.specs.Words.{HasRead, IsFaultOfText, ListFault, Row, Unread, Version}

@@ -1,4 +1,5 @@
--- The rules up to the one at hand aren't broken; and none is where nothing that may break one does.
+-- The rules before the current one aren't broken. No rule is, if no changed line, transfer start, cycle start or
+-- strobe breaks one.
 use Rattle.std.proofs.Common.{◌≡◌, ◌<◌, ◌&&◌, ◌||◌, List, false, drop, refl, sym, ◌∙◌, ap, arith, add-one, drop-cons}
 use Rattle.std.specs.Prelude.{nat_le}
 use Rattle.vme_cert.specs.Words.{Rule, U1, U2, U4, all_rules, break_at, cycle_starts, is_broken, rule_count}

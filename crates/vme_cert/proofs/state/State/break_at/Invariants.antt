@@ -1,4 +1,4 @@
--- None of the rules so far is broken.
+-- None of the rules before the current one is broken.
 use Rattle.std.proofs.Common.{◌≡◌, drop}
 use Rattle.vme_cert.specs.Words.{Stretch, Trace, all_rules, break_at}
 use Rattle.vme_cert.specs.State.{IsStateOf}

@@ -1,4 +1,4 @@
--- A line is outside of those, or known, or asked with them all.
+-- Each line is outside the range, or known, or among those on which the rule is asked.
 use Rattle.std.proofs.Common.{◌≡◌, ◌+◌, ◌&&◌, ◌∙◌, ap, false, sym}
 use Rattle.std.specs.Prelude.{is_some, nat_le}
 use Rattle.vme_trace.proofs.Ranges.{any-fails}

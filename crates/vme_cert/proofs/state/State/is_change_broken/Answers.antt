@@ -15,7 +15,7 @@ either : (a b : Bool) → (a || b) ≡ true → (a ≡ true) ⊎ (b ≡ true)
 either true b h = inl refl
 either false b h = inr h
 
--- one more change changes its line alone
+-- one more change adds only its own line to those that are changed
 changed-last : (cs : List Change) (c : Change) (n : ℕ) → is_changed (cs ++ c ∷ []) n ≡ true
     → (is_changed cs n ≡ true) ⊎ (c.line ≡ n)
 changed-last [] c n h = elim (either (c.line == n) false h) [

@@ -1,4 +1,4 @@
--- Of the rules so far none is broken.
+-- None of the rules before the current one is broken.
 use Rattle.std.proofs.Common.{◌≡◌, ℕ, ◌<◌, false, get_or}
 use Rattle.vme_cert.specs.Words.{Stretch, Trace, U1, is_broken}
 use Rattle.vme_cert.specs.RulesByLine.{rules_on}

@@ -1,4 +1,4 @@
--- The rule isn't broken on the lines up to the one at hand.
+-- The rule isn't broken on the lines before the current one.
 use Rattle.std.proofs.Common.{◌≡◌, false}
 use Rattle.vme_cert.specs.Words.{Stretch, Trace, any, breaks}
 use Rattle.vme_cert.specs.State.{IsStateOf}

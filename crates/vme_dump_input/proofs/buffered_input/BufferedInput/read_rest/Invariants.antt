@@ -1,4 +1,4 @@
--- What was held, and what was read behind it, is gone.
+-- What was held at the start, and what was read after it, was taken or is held.
 use Rattle.std.proofs.Common.{◌≡◌, ℕ, List, [], ◌++◌, true}
 use Rattle.vme_trace.specs.Streams.{Reading}
 use Rattle.vme_dump_input.specs.BufferedInputs.{IsReadTo, reads_left}

@@ -7,7 +7,7 @@ use Rattle.vme_skew.specs.Group.{GroupLevels}
 use Rattle.vme_skew.proofs.Grouping.{changed-next}
 use Rattle.vme_skew.proofs.group.StepGroup.take.Goals as goal
 
--- the line of the change at hand is the backplane's
+-- the backplane has the line of the current change
 pub set_line-requires : goal.set_line-requires
 set_line-requires c =
     let change = c.change-item.result in

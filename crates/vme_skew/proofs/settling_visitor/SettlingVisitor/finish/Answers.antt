@@ -1,4 +1,4 @@
--- The last group is given on, too.
+-- The step of the last group is passed on, too.
 use Rattle.std.proofs.Common.{◌≡◌, subst}
 use Rattle.std.specs.Prelude.{None}
 use Rattle.vme_trace.specs.Trace.{Trace}

@@ -1,4 +1,4 @@
--- A step more is taken, and what settles by it is given on.
+-- One more step is taken, and the step that comes out by it is passed on.
 use Rattle.vme_skew.proofs.GivenOnLemmas.{keeps-more}
 use Rattle.vme_skew.proofs.settling_visitor.SettlingVisitorStepVisitor.step.Goals as goal
 

@@ -1,4 +1,4 @@
--- Before the first step no group is at hand.
+-- Before the first step there is no current group.
 use Rattle.vme_skew.proofs.SettlerSteps.{keeps-first}
 use Rattle.vme_skew.proofs.step_settler.StepSettler.new.Goals as goal
 

@@ -1,4 +1,4 @@
--- A time ends the group at hand if that is over.
+-- A time ends the current group if that is over.
 use Rattle.std.proofs.Common.{◌≡◌, Bool, not, ◌&&◌, refl, sym, ap, ◌∙◌}
 use Rattle.std.specs.Option.{option_to_list}
 use Rattle.vme_skew.proofs.SettlerSteps.{keeps-reached, settled-so_far, settling}

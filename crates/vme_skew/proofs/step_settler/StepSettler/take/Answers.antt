@@ -1,4 +1,4 @@
--- A step is taken into the group at hand, or it begins another.
+-- A step is taken into the current group, or begins another.
 use Rattle.std.proofs.Common.{◌≡◌, Bool, true, false, not, ◌&&◌, ◌||◌, sym, ap, ◌∙◌}
 use Rattle.std.specs.Prelude.{nat_le}
 use Rattle.std.specs.Option.{option_to_list}
