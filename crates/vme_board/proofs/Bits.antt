@@ -1,4 +1,4 @@
--- A bit of a row of words, after one of them was or-ed with a mask of one bit.
+-- The bits of the rows, after one word was or-ed with a mask of one bit.
 use Rattle.std.proofs.Common.{◌≡◌, ℕ, zero, suc, ◌+◌, ◌*◌, ◌/◌, ◌%◌, ◌<◌, ◌≤◌, ◌≢◌, List, length, get_or, set, sym}
 use Rattle.std.proofs.Common.{refl, ap, ◌∙◌, subst, arith, bit_or, w64, get_or-set_other, get_or-set_same, replicate}
 use mathlib.Core.Logic.{dite}
@@ -13,7 +13,7 @@ low n = omega arith
 pub bit_small : (k : ℕ) (ws : List ℕ) (n : ℕ) → bit_of k ws n ≤ 1
 bit_small k ws n = omega arith
 
--- a word and a mask name one number
+-- a word and a mask belong to one number
 pub one_number : (k n m : ℕ) → 4 * (n / 64) + k ≡ 4 * (m / 64) + k → mask_of n ≡ mask_of m → n ≡ m
 one_number k n m a b = dite (ℕ_discrete (m % 64) (n % 64)) (λ e. omega (arith, a, e))
     (λ ne. let z : bit_at (bit_or 0 (mask_of n)) (m % 64) ≡ 0 = bit_at_set_other w64 0 (n % 64) (low n) (m % 64) ne
@@ -22,6 +22,7 @@ one_number k n m a b = dite (ℕ_discrete (m % 64) (n % 64)) (λ e. omega (arith
     let c : bit_at (bit_or 0 (mask_of n)) (m % 64) ≡ bit_at (bit_or 0 (mask_of m)) (m % 64) = ap
     (λ (y : ℕ). bit_at (bit_or 0 y) (m % 64)) b in absurd (omega (arith, z, o, c)))
 
+-- the words after the bit of n in the row k is set
 abbrev pub marked : ℕ → List ℕ → ℕ → List ℕ
 marked k ws n = set ws (4 * (n / 64) + k) (bit_or (get_or ws (4 * (n / 64) + k) 0) (mask_of n))
 
@@ -31,12 +32,12 @@ module _ (k : ℕ) (ws : List ℕ) (n : ℕ) (within : 4 * (n / 64) + k < length
       (bit_or (get_or ws (4 * (n / 64) + k) 0) (mask_of n)) 0 within) ∙ bit_at_set_same w64
       (get_or ws (4 * (n / 64) + k) 0) (n % 64) (low n)
 
-  -- a bit of another word
+  -- a bit of another word doesn't change
   pub bit_apart : (k' m : ℕ) → 4 * (m / 64) + k' ≢ 4 * (n / 64) + k → bit_of k' (marked k ws n) m ≡ bit_of k' ws m
   bit_apart k' m ne = ap (λ (y : ℕ). bit_at y (m % 64)) (get_or-set_other ws (4 * (n / 64) + k) (4 * (m / 64) + k')
       (bit_or (get_or ws (4 * (n / 64) + k) 0) (mask_of n)) 0 ne)
 
-  -- another row
+  -- the bits of another row don't change
   pub bit_row : (k' : ℕ) → k < 4 → k' < 4 → k' ≢ k → (m : ℕ) → bit_of k' (marked k ws n) m ≡ bit_of k' ws m
   bit_row k' a b ne m = bit_apart k' m (λ e. ne (omega (arith, e)))
 
@@ -50,7 +51,7 @@ module _ (k : ℕ) (ws : List ℕ) (n : ℕ) (within : 4 * (n / 64) + k < length
       ∙ ap (λ (y : ℕ). bit_at (get_or ws y 0) (m % 64)) (sym same))))
       (λ e. bit_apart k m (λ f. e (omega (arith, f))))
 
-  -- nothing changed where the bit was there
+  -- no bit of the row k changes if the bit of n was 1 before
   pub bit_again : bit_of k ws n ≡ 1 → (m : ℕ) → bit_of k (marked k ws n) m ≡ bit_of k ws m
   bit_again is m = dite (ℕ_discrete m n) (λ e. subst (λ (y : ℕ). bit_of k (marked k ws n) y ≡ bit_of k ws y) (sym e)
       (bit_here ∙ sym is)) (λ ne. bit_else m ne)
@@ -66,11 +67,11 @@ get_zeros (suc n) (suc i) = get_zeros n i
 pub no_bit : (k n m : ℕ) → bit_of k (zeros n) m ≡ 0
 no_bit k n m = ap (λ (y : ℕ). bit_at y (m % 64)) (get_zeros n (4 * (m / 64) + k)) ∙ bit_at-zero (m % 64)
 
--- the word of a number below the limit, where the words have a bit in each row for each of these
+-- the index of the word of a number below `limit` is below `width`, if `width` words suffice (`IsWideFor`)
 pub word_within : (width limit n k : ℕ) → n < limit → limit ≤ 16 * width → width ≡ 4 * (width / 4) → k < 4
     → 4 * (n / 64) + k < width
 word_within width limit n k low wide whole small = omega (arith, low, wide, whole, small)
 
--- a bit that isn't 1
+-- a bit that isn't 1 is 0
 pub bit_0 : (word place bit : ℕ) → bit ≡ bit_at word place → bit ≢ 1 → bit_at word place ≡ 0
 bit_0 word place bit is ne = omega (arith, is, ne)

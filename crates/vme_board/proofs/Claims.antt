@@ -1,4 +1,4 @@
--- What a seat has after a delivery was claimed, put and filed, and after a block was taken and lifted.
+-- The state of a seat after a block was claimed, put and filed, and after one was taken and lifted.
 use Rattle.std.proofs.Common.{◌≡◌, ℕ, ◌+◌, ◌*◌, ◌/◌, ◌%◌, ◌<◌, List, [], ◌∷◌, length, ◌∙◌, refl, sym, ap, subst, arith}
 use Rattle.std.proofs.Common.{Option, Some, None}
 use Rattle.std.specs.Int.{bit_at}
@@ -11,14 +11,14 @@ use Rattle.vme_board.specs.Views.{SameBlocks}
 use Rattle.vme_board.specs.Words.{mask_of}
 use Rattle.vme_board.specs.Tells.{SeatState, IsAtBit, ClaimTells, FileTells}
 
--- a number was claimed and filed
+-- the number n was claimed and filed, with the block b, between the seat states `before` and `last`
 pub record IsFiled (slots n : ℕ) (b : Block) (before last : SeatState) : Type 0 where
   pub new : occurrences n (numbers before.0.list) ≡ 0
   pub seat : last ≡ (after_filing (after_claim before.0 n) n b, [])
   pub few : length before.0.list < slots
   pub same_blocks : SameBlocks last.0
 
--- the seat after the claim was won and the block put
+-- the seat's state after the claim succeeded and the block was put
 pub put_seat : (before won put : SeatState) (n : ℕ) (b : Block) → before.1 ≡ [] → won
     ≡ (after_claim before.0 n, (n, None) ∷ before.1) → put ≡ (won.0, (n, Some b) ∷ rest won.1) → put
     ≡ (after_claim before.0 n, (n, Some b) ∷ [])
@@ -26,7 +26,7 @@ put_seat before won put n b none_out a e = e ∙ ap (λ (m : SeatState). let x :
     in x) a ∙ ap (λ (cs : List (ℕ × Option Block)). let x : SeatState = (after_claim before.0 n, (n, Some b) ∷ cs) in
     x) none_out
 
--- the word and the mask of a number are those of another that is equal
+-- the word and the mask of n are those of j if n ≡ j
 pub at_equal : (slots k i m n j : ℕ) → i ≡ 4 * (n / 64) + k → m ≡ mask_of n → n ≡ j → IsAtBit (step slots i m 0 none) k
     j
 at_equal slots k i m n j is same e = record {
@@ -53,7 +53,7 @@ module _ (slots n i m i' m' : ℕ) (b : Block) (before won put last : SeatState)
         same_blocks = told.3;
       }
 
--- a block was taken, and its slot given back
+-- the block b of n was taken, and its slot returned, between the seat states `before` and `last`
 pub record IsTaken (slots n : ℕ) (b : Block) (before last : SeatState) : Type 0 where
   pub own : b.number ≡ n
   pub new : occurrences n (numbers before.0.takes) ≡ 0
@@ -61,12 +61,12 @@ pub record IsTaken (slots n : ℕ) (b : Block) (before last : SeatState) : Type 
   pub few : length before.0.takes < slots
   pub same_blocks : SameBlocks last.0
 
--- what is in the slot that was taken last
+-- the value of the slot that was checked out last
 abbrev top : List (ℕ × Option Block) → Option Block
 top [] = None
 top (x ∷ xs) = x.1
 
--- the seat after the take was won
+-- the seat's state after the take succeeded
 pub won_seat : (before won : SeatState) (n : ℕ) (b : Block) → before.1 ≡ [] → won
     ≡ (after_take before.0 n b, (n, Some b) ∷ before.1) → won ≡ (after_take before.0 n b, (n, Some b) ∷ [])
 won_seat before won n b none_out e = e ∙ ap (λ (cs : List (ℕ × Option Block)). let x : SeatState
@@ -77,12 +77,12 @@ pub has_slot : (before won : SeatState) (n : ℕ) (b : Block) → won ≡ (after
 has_slot before won n b e = subst (λ (cs : List (ℕ × Option Block)). cs ≡ (n, Some b) ∷ rest cs)
     (sym (ap (λ (m : SeatState). m.1) e)) refl
 
--- what the exchange gave
+-- the exchange returned the block b
 pub lifted : (before won : SeatState) (n : ℕ) (b : Block) (x : Option Block) → won
     ≡ (after_take before.0 n b, (n, Some b) ∷ []) → won.1 ≡ (n, x) ∷ rest won.1 → x ≡ Some b
 lifted before won n b x e f = ap top (sym f ∙ ap (λ (m : SeatState). m.1) e)
 
--- and what the seat has after it
+-- the seat's state after the exchange: its slot is empty
 pub emptied_seat : (before won put : SeatState) (n : ℕ) (b : Block) → won ≡ (after_take before.0 n b, (n, Some b) ∷ [])
     → put ≡ (won.0, (n, None) ∷ rest won.1) → put ≡ (after_take before.0 n b, (n, None) ∷ [])
 emptied_seat before won put n b e f = f ∙ ap (λ (m : SeatState). let x : SeatState = (m.0, (n, None) ∷ rest m.1) in x) e

@@ -1,4 +1,4 @@
--- What the last state says of the slots.
+-- The contents of a closed board, by the invariant of its last state.
 use Rattle.std.proofs.Common.{◌≡◌, ℕ, zero, suc, ◌+◌, ◌*◌, ◌/◌, ◌%◌, ◌<◌, ◌≤◌, ◌==◌, ◌⊎◌, cond, Bool, true, false, List}
 use Rattle.std.proofs.Common.{[], ◌∷◌, ◌++◌, length, length-append, get_or, slice_get, sym, refl, ap, ◌∙◌, subst, arith}
 use Rattle.std.proofs.Common.{inl, inr, Option, Some, None}
@@ -36,7 +36,7 @@ at_or [] i a d e = absurd (some-ne-none a (sym e))
 at_or (x ∷ xs) zero a d e = some-injective x a e
 at_or (x ∷ xs) (suc i) a d e = at_or xs i a d e
 
--- one more was pushed
+-- if the first n items are those of F, and F n is pushed, the first n + 1 items are
 pub pushed : {A : Type 0} (xs items : List A) (x : A) (n : ℕ) (F : ℕ → A) → items ≡ xs ++ x ∷ [] → length xs ≡ n → x
     ≡ F n → ((k : ℕ) → k < n → slice_get xs k ≡ Some (F k)) → (k : ℕ) → k < n + 1 → slice_get items k ≡ Some (F k)
 pushed {A} xs items x n F is long here old k l =
@@ -49,12 +49,12 @@ pushed {A} xs items x n F is long here old k l =
     ∙ (ap (λ (y : A). Some y) (get_or-append xs (x ∷ []) x k (omega (arith, long, l, ne)))
     ∙ (sym (slice_get-get_or xs k x (omega (arith, long, l, ne))) ∙ old k (omega (arith, l, ne)))))
 
--- a word that was read has the bit of n in its row
+-- the bit of n that was read in a word is its bit in the row
 pub bit_read : (k : ℕ) (ws : List ℕ) (n word b : ℕ) → get_elem? ws (4 * (n / 64) + k) ≡ some word → b
     ≡ bit_at word (n % 64) → b ≡ bit_of k ws n
 bit_read k ws n word b e is = is ∙ sym (ap (λ (y : ℕ). bit_at y (n % 64)) (at_or ws (4 * (n / 64) + k) word 0 e))
 
--- what is kept of a slot is what its bits say
+-- the value that `pick` keeps of a slot is `kept`
 pub picked : (ws : List ℕ) (xs : List (Option Block)) (n f t : ℕ) (x o : Option Block) → f ≡ bit_of 1 ws n → t
     ≡ bit_of 2 ws n → get_elem? xs n ≡ some x → o ≡ cond (f == 1) (cond (t == 1) None x) None → o ≡ kept (bit_of 1 ws n)
     (bit_of 2 ws n) xs n
@@ -102,6 +102,7 @@ module _ (width id : ℕ) (v : View) (ws : List ℕ) (xs items : List (Option Bl
   at_view : get_elem? fin.0.views id ≡ some v
   at_view = fin.1.1
 
+  -- the place of a number that is filed and not taken has its content; any other place has no block (`bare`)
   full : (n : ℕ) (b : Block) → n < total → F n ≡ 1 → T n ≡ 0 → K n ≡ Some b → slice_get items n ≡ Some (Some b)
   full n b low f t k =
       let w = r.contents.filed_is_home n f t in let same : w.0 ≡ b = one_content (K n) w.0 b w.1 k in
@@ -143,7 +144,7 @@ module _ (width id : ℕ) (v : View) (ws : List ℕ) (xs items : List (Option Bl
   taken_sum = few_taken total (bit_of 3 ws) (bit_of 0 ws) F T K (IsEmpty homes) (IsFilled homes) fin.0.views r id v
       at_view
 
-  -- who has the whole share did all
+  -- the case that the bench has the whole share: it did all that was done
   module _ (all : IsWholeShare v.share) where
     pub whole_filed : sum_below F total ≡ length v.list
     whole_filed = whole_listed total (bit_of 3 ws) (bit_of 0 ws) F T K (IsEmpty homes) (IsFilled homes) fin.0.views r id
@@ -191,7 +192,7 @@ module _ (width id : ℕ) (v : View) (ws : List ℕ) (xs items : List (Option Bl
   close_outside n all low none = bare n low (inl (all_listed total (bit_of 3 ws) (bit_of 0 ws) F T K (IsEmpty homes)
       (IsFilled homes) fin.0.views r id v at_view all n low ∙ none))
 
-  -- a place that is filled has the content of its number
+  -- the block at a place is the content of its number
   content_at : (n : ℕ) (b : Block) → n < total → HasBlock items n b → K n ≡ Some b
   content_at n b low has = let o = r.stages.taken_is_filed n in let f = bit_small 1 ws n in
       dite (ℕ_discrete (F n) 0) (λ z. absurd (some_none (sym (bare n low (inl z)) ∙ has)))

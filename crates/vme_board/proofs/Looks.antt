@@ -1,4 +1,4 @@
--- What a look at a word shows of one number.
+-- What a load of a word shows of one number.
 use Rattle.std.proofs.Common.{◌≡◌, ℕ, ◌+◌, ◌*◌, ◌/◌, ◌%◌, ◌<◌, ◌≢◌, List, ◌++◌, ◌∙◌, Bool, true, false, sym, refl, ap}
 use Rattle.std.proofs.Common.{arith, subst, le_refl}
 use mathlib.Core.Logic.{dite}
@@ -18,7 +18,7 @@ use Rattle.vme_core.proofs.Sums.{occurrences-append}
 use Rattle.vme_core.proofs.SetBits.{set_bits_true, set_bits_all}
 use Rattle.vme_board.specs.Tells.{SeatState, ClaimedLookTells, FiledLookTells, TakenLookTells}
 
--- what follows from a bit that is 1, or isn't, as a test of it says
+-- if P follows from a ≡ 1, it holds where the test for a ≡ 1 is true; below, the same for a ≢ 1 and false
 pub on_one : (a : ℕ) (P : Type 0) → (a ≡ 1 → P) → OnTrue (nat_eq a 1) P
 on_one a P h = by_test (nat_eq a 1) refl
   where
@@ -49,7 +49,8 @@ module _ (i n k found : ℕ) (is : i ≡ 4 * (n / 64) + k) (small : k < 4) where
       let a = t.2 in let same : t.0 ≡ n % 64 = omega (arith, is, small, l, a) in let one : bit_at found (n % 64)
       ≡ 1 = ap (bit_at found) (sym same) ∙ t.3 in absurd (omega (arith, one, zero_bit)))
 
-  -- where what was seen before would be shown
+  -- if n has the bit 1 whenever it is in xs, and its bit is 0, then n is neither in xs nor among the numbers added to
+  -- xs
   is_absent : (xs : List ℕ) → (0 < occurrences n xs → bit_at found (n % 64) ≡ 1) → bit_at found (n % 64) ≡ 0
       → (occurrences n xs ≡ 0) × (occurrences n (shown ++ xs) ≡ 0)
   is_absent xs there zero_bit = dite (ℕ_discrete (occurrences n xs) 0)
@@ -57,7 +58,7 @@ module _ (i n k found : ℕ) (is : i ≡ 4 * (n / 64) + k) (small : k < 4) where
       (λ ne. absurd (omega (arith, there (omega (arith, ne)), zero_bit)))
 
 module _ (slots i n : ℕ) (before : SeatState) (found : ℕ) (after : SeatState) where
-  -- a look at the taken bits
+  -- a load of the taken bits
   module _ (told : TakenLookTells (step slots i 0 0 none) before found after) (is : i ≡ 4 * (n / 64) + 2) where
     pub taken_shown : bit_at found (n % 64) ≡ 1 → 0 < occurrences n after.0.taken
     taken_shown one = subst (λ (m : SeatState). 0 < occurrences n m.0.taken) (sym told.0)
@@ -67,7 +68,7 @@ module _ (slots i n : ℕ) (before : SeatState) (found : ℕ) (after : SeatState
     taken_absent none_set = subst (λ (m : SeatState). occurrences n m.0.taken ≡ 0) (sym told.0)
         (is_absent i n 2 found is (omega arith) before.0.taken (told.1 n is) none_set).1
 
-  -- a look at the filed bits
+  -- a load of the filed bits
   module _ (told : FiledLookTells (step slots i 0 0 none) before found after) (is : i ≡ 4 * (n / 64) + 1) where
     pub filed_shown : bit_at found (n % 64) ≡ 1 → 0 < occurrences n after.0.filed
     filed_shown one = subst (λ (m : SeatState). 0 < occurrences n m.0.filed) (sym told.0)
@@ -77,7 +78,7 @@ module _ (slots i n : ℕ) (before : SeatState) (found : ℕ) (after : SeatState
     filed_absent none_set = subst (λ (m : SeatState). occurrences n m.0.filed ≡ 0) (sym told.0)
         (is_absent i n 1 found is (omega arith) before.0.filed (told.1 n is) none_set).1
 
-    -- neither was it seen before
+    -- if its bit is 0, the number was seen neither filed nor taken before
     pub filed_never : bit_at found (n % 64) ≡ 0 → (occurrences n before.0.filed ≡ 0)
         × (occurrences n before.0.taken ≡ 0)
     filed_never none_set = (
@@ -85,7 +86,7 @@ module _ (slots i n : ℕ) (before : SeatState) (found : ℕ) (after : SeatState
       (is_absent i n 1 found is (omega arith) before.0.taken (told.2 n is) none_set).0,
     )
 
-  -- a look at the claimed bits
+  -- a load of the claimed bits
   module _ (told : ClaimedLookTells (step slots i 0 0 none) before found after) (is : i ≡ 4 * (n / 64) + 0) where
     pub claimed_shown : bit_at found (n % 64) ≡ 1 → 0 < occurrences n after.0.claimed
     claimed_shown one = subst (λ (m : SeatState). 0 < occurrences n m.0.claimed) (sym told.0)
@@ -95,7 +96,7 @@ module _ (slots i n : ℕ) (before : SeatState) (found : ℕ) (after : SeatState
     claimed_absent none_set = subst (λ (m : SeatState). occurrences n m.0.claimed ≡ 0) (sym told.0)
         (is_absent i n 0 found is (omega arith) before.0.claimed (told.1 n is) none_set).1
 
--- what a bench saw, it goes on seeing
+-- a load adds to what the bench has seen
 pub grows_claimed : (a b : SeatState) (ns : List ℕ) → b ≡ (with_claimed a.0 ns, a.1) → SeesMore a.0 b.0
 grows_claimed a b ns e = subst (λ (m : SeatState). SeesMore a.0 m.0) (sym e)
     (record {

@@ -1,4 +1,4 @@
--- Each step keeps the rule, and tells what its play says.
+-- Each step keeps the invariant, and satisfies its postcondition (`specs/Tells`).
 use Rattle.std.proofs.Common.{◌≡◌, ℕ, zero, suc, ◌+◌, ◌*◌, ◌/◌, ◌%◌, ◌<◌, ◌≢◌, List, [], ◌∷◌, ◌++◌, length, get_or, set}
 use Rattle.std.proofs.Common.{sym, refl, ap, ◌∙◌, subst, arith, bit_or, length-set, Option, Some, None, replicate, map}
 use mathlib.Core.Option as maybe
@@ -38,12 +38,12 @@ Contents_of = ℕ → Option Block
 has_any : {es : List ℕ} → 0 < length es → es ≢ []
 has_any h z = omega (arith, h, ap length z)
 
--- the rule with as many slots
+-- the invariant with the limit a holds with the limit b if b ≡ a
 resized : (K : Contents_of) (a b : ℕ) (D C F T : ℕ → ℕ) (E : ℕ → Type 0) (H : ℕ → Block → Type 0) (vs : List View) → b
     ≡ a → StepRule a D C F T K E H vs → StepRule b D C F T K E H vs
 resized K a b D C F T E H vs is r = subst (λ (y : ℕ). StepRule y D C F T K E H vs) (sym is) r
 
--- a bit was set that was set before
+-- setting a bit that is 1 changes no bit of any row
 again : (k : ℕ) (ws : List ℕ) (n : ℕ) → k < 4 → 4 * (n / 64) + k < length ws → bit_of k ws n ≡ 1 → (k' : ℕ) → k' < 4
     → (m : ℕ) → bit_of k' (marked k ws n) m ≡ bit_of k' ws m
 again k ws n small near is k' small' m = dite (ℕ_discrete k' k)
@@ -55,7 +55,7 @@ at_within [] i a e = absurd (some-ne-none a (sym e))
 at_within (x ∷ xs) zero a e = omega arith
 at_within (x ∷ xs) (suc i) a e = omega (arith, at_within xs i a e)
 
--- two values at one place
+-- a slot has one block
 one_block : (x b : Block) → some (some (Some x)) ≡ some (some (Some b)) → x ≡ b
 one_block x b e = cc
 
@@ -99,7 +99,8 @@ module _ (width : ℕ) (s : St) (h : Holds width s) (id : ℕ) (seat : SeatState
     inside : (i : ℕ) → i < width → i < length s.words
     inside i small = let same = h.0 in omega (arith, same, small)
 
-    -- a step that sets a bit again, and sees more
+    -- a step that sets a bit that is 1, and by which the view of the seat becomes w, keeps the invariant if the words
+    -- and slots before it satisfy the invariant with this view
     stands : (k n : ℕ) → k < 4 → 4 * (n / 64) + k < length s.words → bit_of k s.words n ≡ 1 → (w : View)
         → Reads K s.words
         s.homes (set s.views id w)
@@ -116,6 +117,8 @@ module _ (width : ℕ) (s : St) (h : Holds width s) (id : ℕ) (seat : SeatState
       ),
     )
 
+    -- the invariant holds if the seat has seen the draws fo and the numbers cl, fi and ta, whose bits are 1, and
+    -- nothing else changed
     saw : (fo cl fi ta : List ℕ) → ((d : ℕ) → 0 < occurrences d fo → D d ≡ 1) → ((n : ℕ) → 0 < occurrences n cl → C n
         ≡ 1)
         → ((n : ℕ) → 0 < occurrences n fi → F n ≡ 1) → ((n : ℕ) → 0 < occurrences n ta → T n ≡ 1)
@@ -140,7 +143,7 @@ module _ (width : ℕ) (s : St) (h : Holds width s) (id : ℕ) (seat : SeatState
     taken_filed : (n : ℕ) → T n ≡ 1 → F n ≡ 1
     taken_filed n t = omega (arith, t, r.stages.taken_is_filed n, r.stages.pending_once n, r.stages.bit n)
 
-    -- these numbers are seen
+    -- the invariant holds after the seat saw the numbers ns claimed
     sees_1 : (ns : List ℕ) → ((n : ℕ) → 0 < occurrences n ns → C n ≡ 1) → Reads K s.words s.homes
         (set s.views id (with_claimed seat.0 ns))
     sees_1 ns c = saw seat.0.found (ns ++ seat.0.claimed) seat.0.filed seat.0.taken found
@@ -161,7 +164,7 @@ module _ (width : ℕ) (s : St) (h : Holds width s) (id : ℕ) (seat : SeatState
     only_here : (c : ℕ → ℕ) (n m : ℕ) → c n ≡ 1 → 0 < occurrences m (n ∷ []) → c m ≡ 1
     only_here c n m is = saw_one c n [] is (λ k z. absurd (omega (arith, z))) m
 
-    -- where the view is w
+    -- the view of the seat is w after it was set to w
     there : (w : View) → get_elem? (set s.views id w) id ≡ some w
     there w = set_here s.views id w (at_within s.views id seat.0 e)
 
@@ -370,7 +373,7 @@ module _ (width : ℕ) (s : St) (h : Holds width s) (id : ℕ) (seat : SeatState
         )
     take_by rich n low small saw_it (suc (suc k)) is = absurd (omega (arith, is, bit_small 2 s.words n))
 
--- a word and a mask that were computed
+-- a word and a mask may be replaced by equal ones
 pub at_word : (Tells : TableStep → SeatState → ℕ → SeatState → Type 0) (width slots id : ℕ) (seat : SeatState)
     (i j m k : ℕ) → i ≡ j → m ≡ k
     → Allows (Holds width) slots id seat j (λ x. bit_or x k) (Tells (step slots j k 0 none) seat) → Allows (Holds width)
@@ -379,7 +382,7 @@ at_word Tells width slots id seat i j m k is same allowed =
     subst (λ (z : ℕ × ℕ). Allows (Holds width) slots id seat z.0 (λ x. bit_or x z.1) (Tells (step slots z.0 z.1 0 none)
     seat)) (λ t. (sym is t, sym same t)) allowed
 
--- at the number that the step names, whatever a caller reads off it
+-- what holds of d holds of each number that the step on the bit of d is at, which is d
 told : (slots k d : ℕ) (F : ℕ → Type 0) → F d → (n : ℕ) → IsAtBit (step slots (4 * (d / 64) + k) (mask_of d) 0 none) k n
     → F n
 told slots k d F f n a = subst F (one_number k d n a.word a.mask) f
@@ -478,7 +481,7 @@ get_any [] i a b h = absurd (omega arith)
 get_any (x ∷ xs) zero a b h = refl
 get_any (x ∷ xs) (suc i) a b h = get_any xs i a b (omega arith)
 
--- a load leaves the words
+-- a load doesn't change the words
 module _ (width : ℕ) (s : St) (h : Holds width s) (id : ℕ) (seat : SeatState) (e : get_elem? s.views id ≡ some seat.0)
     (i : ℕ) (near : i < width) where
   words_same : set s.words i (get_or s.words i 0) ≡ s.words
@@ -491,7 +494,7 @@ module _ (width : ℕ) (s : St) (h : Holds width s) (id : ℕ) (seat : SeatState
   loads w q = subst (λ (ws : List ℕ). Holds width (record { words = ws; homes = s.homes; views = set s.views id w }))
       (sym words_same) (h.0, (h.1.0, q, h.1.2))
 
--- what the word i, of the row k, shows is so
+-- each number whose bit is 1 in the word i, which is one of the row k, has the bit 1 in the row k
 shown_at : (k g i : ℕ) (ws : List ℕ) → i ≡ 4 * g + k → k < 4 → (m : ℕ) → 0 < occurrences m
     (set_bits (64 * (i / 4)) (bit_at (get_or ws i 0)) 64) → bit_of k ws m ≡ 1
 shown_at k g i ws is small m h =
@@ -578,7 +581,7 @@ counts width slots id seat near s h wide e fits =
       ),
     )
 
--- the emptied slot of a number that the seat took goes home
+-- returning the emptied slot of a number that the seat took keeps the invariant
 pub gives_allowed : (width slots id : ℕ) (seat : SeatState) (n : ℕ) → 0 < width → n < slots → 0 < occurrences n
     (numbers seat.0.takes) → seat.1 ≡ (n, None) ∷ [] → Allows (Holds width) slots id seat 0 (λ x. x)
     (GiveTells (step slots 0 0 0 none) seat)

@@ -8,7 +8,7 @@ use Rattle.vme_board.specs.declared.board.Board.{Board}
 abbrev pub view_of : Bench → View
 view_of bench = bench.seat.me.0
 
--- the bench is one of the board's
+-- the bench is one of the benches of the board
 abbrev pub IsOf : Bench → Board → Type 0
 IsOf bench board = bench.seat.table_id ≡ board.table.shared.table_id
 

@@ -1,4 +1,5 @@
--- What each atomic step tells the bench that takes it: of the seat before, the word found, and the seat after.
+-- The postcondition of each atomic step, for the bench that takes it. `seat` is the state of its seat before, `found`
+-- the value of the word before, and `after` the state of its seat after.
 use Rattle.std.specs.Prelude.{◌≡◌, ℕ, ◌+◌, ◌*◌, ◌/◌, ◌%◌, ◌<◌, ◌≤◌, List, [], ◌∷◌, length, Option, Some, None}
 use Rattle.std.specs.Int.{bit_at}
 use Rattle.atomic_table.specs.Table.{Me, Step, rest}
@@ -10,40 +11,42 @@ use Rattle.vme_core.specs.Views.{after_draw, after_claim, after_filing, after_ta
 use Rattle.vme_board.specs.Views.{SameBlocks}
 use Rattle.vme_board.specs.Words.{mask_of}
 
--- what a seat knows: its view, and the slots that it has out
+-- the state of a seat, i.e. of a bench's handle to the table: the view of the bench, and the slots that it has checked
+-- out
 abbrev pub SeatState : Type 0
 SeatState = Me (Option Block) View
 
 abbrev pub TableStep : Type 0
 TableStep = Step (Option Block)
 
--- the step is on the bit of n in the row k
+-- the step is on the bit of n in the row k: its word and its mask are those of this bit
 pub record IsAtBit (s : TableStep) (k n : ℕ) : Type 0 where
   pub word : s.word ≡ 4 * (n / 64) + k
   pub mask : s.first ≡ mask_of n
 
--- the draw d was not won before, and is the seat's now; or the seat finds it won
+-- either the draw d was not won before, and the seat won it; or the seat finds it won
 abbrev pub DrawTells : TableStep → SeatState → ℕ → SeatState → Type 0
 DrawTells s seat found after = (d : ℕ) → IsAtBit s 3 d
     → (bit_at found (d % 64) ≡ 0
     → (occurrences d seat.0.draws ≡ 0) × (occurrences d seat.0.found ≡ 0) × (after ≡ (after_draw seat.0 d, seat.1)))
     × (bit_at found (d % 64) ≡ 1 → after ≡ (with_found seat.0 d, seat.1))
 
--- the number n was free, and the seat has its slot, which is empty; or the seat sees it claimed
+-- either the number n was not claimed before, and the seat claimed it and has its empty slot; or the seat sees it
+-- claimed
 abbrev pub ClaimTells : TableStep → SeatState → ℕ → SeatState → Type 0
 ClaimTells s seat found after = (n : ℕ) → IsAtBit s 0 n
     → (bit_at found (n % 64) ≡ 0
     → (occurrences n (numbers seat.0.list) ≡ 0) × (after ≡ (after_claim seat.0 n, (n, None) ∷ seat.1)))
     × (bit_at found (n % 64) ≡ 1 → after ≡ (with_claimed seat.0 (n ∷ []), seat.1))
 
--- the seat files what it put into the slot of n; before, it had filed fewer than there are slots
+-- the seat files the block b that it put into the slot of n; before, it had filed fewer numbers than there are slots
 abbrev pub FileTells : TableStep → SeatState → ℕ → SeatState → Type 0
 FileTells s seat found after = (n : ℕ) → IsAtBit s 1 n → (b : Block) → seat.1 ≡ (n, Some b) ∷ []
     → (occurrences n (numbers seat.0.list) ≡ 0) × (after ≡ (after_filing seat.0 n b, []))
     × (length seat.0.list < s.slots) × SameBlocks after.0
 
--- the number n, which the seat saw filed, was not taken, and the seat has its slot, with its block; or the seat sees
--- it taken
+-- either the number n was not taken before, and the seat took it and has its slot with its block; or the seat sees it
+-- taken
 abbrev pub TakeTells : TableStep → SeatState → ℕ → SeatState → Type 0
 TakeTells s seat found after = (n : ℕ) → IsAtBit s 2 n
     → (bit_at found (n % 64) ≡ 0
@@ -51,35 +54,38 @@ TakeTells s seat found after = (n : ℕ) → IsAtBit s 2 n
     × (after ≡ (after_take seat.0 n b, (n, Some b) ∷ seat.1)) × (length seat.0.takes < s.slots) × SameBlocks after.0)
     × (bit_at found (n % 64) ≡ 1 → after ≡ (with_taken seat.0 (n ∷ []), seat.1))
 
--- the slot that the seat took last goes home
+-- the slot that the seat checked out last is returned to the table
 abbrev pub GiveTells : TableStep → SeatState → ℕ → SeatState → Type 0
 GiveTells s seat found after = after ≡ (seat.0, rest seat.1)
 
--- the numbers whose bit the word has
+-- the numbers whose bit is 1 in the word `found`
 abbrev pub shown_in : TableStep → ℕ → List ℕ
 shown_in s found = set_bits (64 * (s.word / 4)) (bit_at found) 64
 
--- the seat sees claimed what the word of claimed bits shows, and what it saw claimed before is there
+-- the seat sees claimed the numbers whose bit is 1 in a word of the row 0; among them are those of the word that it saw
+-- claimed before
 abbrev pub ClaimedLookTells : TableStep → SeatState → ℕ → SeatState → Type 0
 ClaimedLookTells s seat found after =
     (after ≡ (with_claimed seat.0 (shown_in s found), seat.1))
     × ((n : ℕ) → s.word ≡ 4 * (n / 64) + 0 → 0 < occurrences n seat.0.claimed → bit_at found (n % 64) ≡ 1)
 
--- the seat sees filed what the word of filed bits shows, and what it saw filed or taken before is there
+-- the seat sees filed the numbers whose bit is 1 in a word of the row 1; among them are those of the word that it saw
+-- filed or taken before
 abbrev pub FiledLookTells : TableStep → SeatState → ℕ → SeatState → Type 0
 FiledLookTells s seat found after =
     (after ≡ (with_filed seat.0 (shown_in s found), seat.1))
     × ((n : ℕ) → s.word ≡ 4 * (n / 64) + 1 → 0 < occurrences n seat.0.filed → bit_at found (n % 64) ≡ 1)
     × ((n : ℕ) → s.word ≡ 4 * (n / 64) + 1 → 0 < occurrences n seat.0.taken → bit_at found (n % 64) ≡ 1)
 
--- the seat sees taken what the word of taken bits shows, and what it saw taken before is there
+-- the seat sees taken the numbers whose bit is 1 in a word of the row 2; among them are those of the word that it saw
+-- taken before
 abbrev pub TakenLookTells : TableStep → SeatState → ℕ → SeatState → Type 0
 TakenLookTells s seat found after =
     (after ≡ (with_taken seat.0 (shown_in s found), seat.1))
     × ((n : ℕ) → s.word ≡ 4 * (n / 64) + 2 → 0 < occurrences n seat.0.taken → bit_at found (n % 64) ≡ 1)
 
--- the seat is as it was; each draw, each number of its list and each of its takes stands there once, no more of them
--- than slots
+-- the seat doesn't change; its draws, its list and its takes have no duplicates, and its list and its takes are at most
+-- as long as there are slots
 abbrev pub CountTells : TableStep → SeatState → ℕ → SeatState → Type 0
 CountTells s seat found after =
     (after ≡ seat) × ((d : ℕ) → occurrences d seat.0.draws ≤ 1) × ((n : ℕ) → occurrences n (numbers seat.0.list) ≤ 1)

@@ -1,4 +1,4 @@
--- What a call of a bench leaves of its view, and what it has found.
+-- Relations between a bench's view before and after a call.
 use Rattle.std.specs.Prelude.{◌≡◌, ◌⊎◌, ℕ, ◌<◌, max}
 use Rattle.vme_trace.specs.declared.block.Block.{Block}
 use Rattle.vme_core.specs.declared.view.View.{View}
@@ -6,13 +6,13 @@ use Rattle.vme_core.specs.declared.stage.Stage.TheVariants.{Filed, Taken}
 use Rattle.vme_core.specs.Counting.{occurrences, HasPair}
 use Rattle.vme_core.specs.Stages.{rank, seen}
 
--- the draws are as they were, and so are the draws found and the share
+-- the draws won, the draws found won and the share don't change
 pub record SameDraws (old new : View) : Type 0 where
   pub draws : new.draws ≡ old.draws
   pub found : new.found ≡ old.found
   pub share : new.share ≡ old.share
 
--- what the bench filed, took, won and found won is as it was
+-- what the bench filed, took, won and found won doesn't change, nor does its share
 pub record SameWork (old new : View) : Type 0 where
   pub list : new.list ≡ old.list
   pub takes : new.takes ≡ old.takes
@@ -20,7 +20,7 @@ pub record SameWork (old new : View) : Type 0 where
   pub found : new.found ≡ old.found
   pub share : new.share ≡ old.share
 
--- all but the draws is as it was
+-- nothing but the draws won and the draws found won changes
 pub record SameNumbers (old new : View) : Type 0 where
   pub list : new.list ≡ old.list
   pub takes : new.takes ≡ old.takes
@@ -34,7 +34,7 @@ pub record SameNumbers (old new : View) : Type 0 where
 abbrev pub AllFound : View → ℕ → Type 0
 AllFound v k = (d : ℕ) → d < k → 0 < occurrences d v.found
 
--- of each number the third view has seen the greater of what the others have
+-- the view u has seen each number at the later of the stages at which v and w have seen it
 abbrev pub SeesGreater : View → View → View → Type 0
 SeesGreater v w u = (n : ℕ) → rank (seen u n) ≡ max (rank (seen v n)) (rank (seen w n))
 
@@ -46,6 +46,6 @@ HasNothingToTake old new n = (rank (seen old n) < rank Filed) ⊎ (seen new n �
 abbrev pub IsNewDraw : View → ℕ → Type 0
 IsNewDraw v d = (occurrences d v.draws ≡ 0) × (occurrences d v.found ≡ 0)
 
--- a number that stands in the list and in the takes has the same block in both
+-- a number that is in the list and in the takes has the same block in both
 abbrev pub SameBlocks : View → Type 0
 SameBlocks v = (n : ℕ) (b c : Block) → HasPair v.list n b → HasPair v.takes n c → b ≡ c

@@ -1,4 +1,4 @@
-//! What a worker steps with.
+//! The bench: a worker's handle to a board.
 
 ghost use Rattle.std.specs.Prelude.{◌≡◌, ◌⊎◌, ℕ, ◌+◌, ◌<◌, ◌≤◌, [], ◌∷◌, length, IfSome, IfNone, IfOk, IfErr};
 ghost use Rattle.std.specs.Bool.{OnTrue, OnFalse};
@@ -92,7 +92,7 @@ impl Join<View> for Fold {
     ghost spent = { empty_view };
 }
 
-/// A seat at a board. The draws below `next` were found won.
+/// A worker's handle to a board. `seat` is its handle to the board's table. It has found each draw below `next` won.
 #[derive(Drop)]
 pub struct Bench {
     pub(crate) seat: BoardSeat,
@@ -124,7 +124,7 @@ impl Bench {
         }
     }
 
-    /// Wins a draw, the least that this bench hasn't found won. None says that it has found every one won.
+    /// Wins the least draw that no bench has won yet. None if each draw was found won.
     pub fn draw(&mut self, board: &Board) -> Option<u32>
         requires { IsOf self.old board.now }
         ensures board { IsOf self.new board.now }
@@ -152,7 +152,7 @@ impl Bench {
     }
 
     /// A bench for another worker. It has seen what this one has, and has filed, taken and drawn nothing. It gets half
-    /// of the first part of this one's share. Where it is dropped and not folded in, its share is gone with it.
+    /// of the first part of this one's share. If it is dropped and not folded in, its share is lost.
     pub fn split(&mut self, board: &Board) -> Bench
         requires { IsOf self.old board.now }
         ensures board { IsOf self.new board.now × IsOf result board.now }
@@ -168,7 +168,7 @@ impl Bench {
         }
     }
 
-    /// One bench for both. It has filed, taken, drawn and seen what either has.
+    /// Joins two benches into one. It has filed, taken, drawn and seen what either has.
     pub fn fold(self, other: Bench, board: &Board) -> Bench
         requires this { IsOf self board.now }
         requires other { IsOf other board.now }
@@ -203,7 +203,8 @@ impl Bench {
         }
     }
 
-    /// How far the number has come. The answer is never less than this bench has seen, and it has seen the answer then.
+    /// The stage of `number`. It isn't earlier than the one that this bench had seen, and this bench has seen it after
+    /// the call.
     pub fn look(&mut self, board: &Board, number: u32) -> Stage
         requires bench { IsOf self.old board.now }
         requires number { number < total_of board.now }
@@ -224,7 +225,7 @@ impl Bench {
         }
     }
 
-    // Looks whether the number is claimed, or more.
+    // Looks, by a load, whether the number is at the stage Claimed or a later one.
     fn sees_claimed(&mut self, board: &Board, number: u32) -> bool
         requires bench { IsOf self.old board.now }
         requires number { number < total_of board.now }
@@ -243,7 +244,7 @@ impl Bench {
         bit(found, number) == 1
     }
 
-    // Looks whether the number is filed, or more.
+    // Looks, by a load, whether the number is at the stage Filed or Taken.
     fn sees_filed(&mut self, board: &Board, number: u32) -> bool
         requires bench { IsOf self.old board.now }
         requires number { number < total_of board.now }
@@ -262,7 +263,7 @@ impl Bench {
         bit(found, number) == 1
     }
 
-    // Looks whether the number is taken.
+    // Looks, by a load, whether the number is at the stage Taken.
     fn sees_taken(&mut self, board: &Board, number: u32) -> bool
         requires bench { IsOf self.old board.now }
         requires number { number < total_of board.now }
@@ -279,8 +280,8 @@ impl Bench {
         bit(found, number) == 1
     }
 
-    // Claims the block's number, puts the block into its slot and files it; or hands it back, where the number was
-    // claimed.
+    // Claims the block's number, puts the block into its slot and files it. Hands the block back if the number was
+    // claimed before.
     fn try_claim(&mut self, board: &Board, judged: Judged) -> Result<Filed, Judged>
         requires bench { IsOf self.old board.now }
         requires number { judged.number < total_of board.now }
@@ -383,7 +384,8 @@ impl Bench {
         }
     }
 
-    /// Takes a filed block out of the board, if no bench has. None says that the number isn't filed yet, or is taken.
+    /// Takes the filed block of `number` out of the board, if no bench has. None if the number isn't filed yet, or is
+    /// taken.
     pub fn take(&mut self, board: &Board, number: u32) -> Option<Judged>
         requires bench { IsOf self.old board.now }
         requires number { number < total_of board.now }

@@ -1,4 +1,4 @@
-//! What benches share, and what is left of it at the end.
+//! The board, which benches share, and its contents when it is closed.
 
 ghost use Rattle.std.specs.Prelude.{◌≡◌, ◌==◌, ◌↔◌, ◌⊎◌, ℕ, cond, ◌+◌, ◌*◌, ◌/◌, ◌<◌, ◌≤◌, [], length};
 ghost use Rattle.std.specs.Prelude.{IfOk, IfErr, Err, Some, None, slice_get, vec_capacity};
@@ -21,7 +21,7 @@ use vme_summary::Judged;
 
 pub(crate) type BoardSeat = Seat<Option<Judged>, View>;
 
-// The table is told how many words it has.
+// The rule of the table. Its key is the number of words.
 pub(crate) struct BoardRule;
 
 impl TableRule<Option<Judged>, View, usize> for BoardRule {
@@ -30,7 +30,7 @@ impl TableRule<Option<Judged>, View, usize> for BoardRule {
     ghost first = { λ _. first_view };
 }
 
-/// A place for each number below a total, and draws to hand out. Its memory is in proportion to both.
+/// A table with a slot for each number below `total`, and `draws` draws. Its memory is in proportion to both.
 #[derive(Drop)]
 pub struct Board {
     pub(crate) table: Table<Option<Judged>, View, usize, BoardRule, Global>,
@@ -53,14 +53,14 @@ pub enum BoardFault {
     Memory,
 }
 
-/// What is left of a closed board.
+/// The contents of a closed board.
 #[derive(Drop)]
 pub struct Closed {
-    /// For each number below the total its block with its span, where the number was filed and not taken.
+    /// For each number below the total, its block with its span if the number was filed and not taken.
     pub contents: Vec<Option<Judged>>,
-    /// How many numbers were filed, taken ones included, that the list of the closing bench lacks.
+    /// How many numbers were filed, taken ones included, that aren't in the closing bench's list.
     pub others: u32,
-    /// How many numbers were taken that the takes of the closing bench lack.
+    /// How many numbers were taken that aren't in the closing bench's takes.
     pub taken: u32,
 }
 
@@ -106,7 +106,7 @@ impl Board {
         ))
     }
 
-    /// Takes everything out of the board. Err is want of memory; board and bench are then as they were.
+    /// Takes everything out of the board. Err is want of memory, and returns the board and the bench unchanged.
     pub fn close(self, alloc: Global, bench: Bench) -> Result<Closed, (Board, Bench)>
         requires { IsOf bench self }
         ensures err { IfErr result (λ r. (r.0 ≡ self) × (r.1 ≡ bench)) }
@@ -119,11 +119,11 @@ impl Board {
         ensures kept { IfOk result (λ c. c.taken ≡ 0 → HasUntaken (view_of bench) c.contents.items) }
         ensures gone { IfOk result (λ c. LacksTakes (view_of bench) c.contents.items) }
 
-        // What it didn't file is there only if there are others.
+        // A block that it didn't file is there only if `others` isn't 0.
         ensures only { IfOk result (λ c. c.others ≡ 0 → HasOnlyList (view_of bench) c.contents.items) }
         ensures outside { IfOk result (λ c. c.others ≡ 0 → LacksOthers (view_of bench) c.contents.items) }
 
-        // The bench that has the whole share filed, took and drew all that was filed, taken and drawn.
+        // If the bench has the whole share, it filed, took and drew all that was filed, taken and drawn.
         ensures no_others { IfOk result (λ c. IsWholeShare (view_of bench).share → c.others ≡ 0) }
         ensures no_taken { IfOk result (λ c. IsWholeShare (view_of bench).share → c.taken ≡ 0) }
         ensures did_all { IfOk result (λ c. IsWholeShare (view_of bench).share → DidAll (view_of bench)) }
@@ -156,7 +156,7 @@ impl Board {
     }
 }
 
-// A slot's value, where its number is filed and not taken.
+// A slot's value, if its number is filed and not taken.
 fn pick(found: Option<Judged>, filed: u64, taken: u64) -> Option<Judged>
     ensures { result ≡ cond (filed == 1) (cond (taken == 1) None found) None }
 {
@@ -169,7 +169,8 @@ fn pick(found: Option<Judged>, filed: u64, taken: u64) -> Option<Judged>
     found
 }
 
-// Takes each slot, in order, and keeps it where its number is filed and not taken. Counts the filed and the taken ones.
+// Takes each slot's value, in order, and keeps it if the number is filed and not taken. Counts the filed and the taken
+// numbers.
 fn emptied(
     closed: ClosedTable<Option<Judged>, Global>,
     contents: Vec<Option<Judged>>,

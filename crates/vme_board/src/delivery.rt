@@ -7,9 +7,9 @@ pub enum DeliveryRefusal {
     Stranger,
     /// The block has more than 65,536 steps.
     TooLong,
-    /// A step of the block may not stand where it stands.
+    /// A step of the block may not be where it is.
     Malformed {
-        /// The number of the first such step, from 0.
+        /// The index of the first such step, from 0.
         step: usize,
     },
     /// The block's number was claimed before.

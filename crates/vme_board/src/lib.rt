@@ -2,31 +2,31 @@
 //!
 //! # Parts
 //!
-//! - `board`: a [`Board`] has a place for each number below its total. [`Board::close`] gives what
-//!   was filed.
-//! - `bench`: a [`Bench`] makes the steps of one worker. It delivers blocks in any order
-//!   ([`Bench::deliver`]), hands out draws ([`Bench::draw`]), looks up the stage of a number
-//!   ([`Bench::look`]) and takes filed blocks out ([`Bench::take`]). Benches are split off and
-//!   folded together.
-//! - `delivery`: what a delivery is answered.
-//! - `words`: where the bits of a number stand among the words of the table.
+//! - `board`: a [`Board`] is a table with a slot for each number below its total. [`Board::close`]
+//!   returns the blocks that were filed and not taken.
+//! - `bench`: a [`Bench`] is a worker's handle to the board, and makes its steps. It delivers blocks
+//!   in any order ([`Bench::deliver`]), wins draws ([`Bench::draw`]), looks up the stage of a number
+//!   ([`Bench::look`]) and takes filed blocks out ([`Bench::take`]). A draw is one of a fixed count of
+//!   work items, which a bench wins by an atomic test-and-set. Benches are split off and folded
+//!   together.
+//! - `delivery`: the result of a delivery.
+//! - `words`: the index of a number's word and bit in the table.
 //!
-//! What a bench has filed, taken, drawn and seen is its view, which contracts alone see: `view_of`
+//! What a bench has filed, taken, drawn and seen is its view, which is only in contracts: `view_of`
 //! in `specs/Benches.antt`, with the fields of [`vme_core::View`]. `specs/Words.antt` says how the
-//! words and slots of the table are read; the rule that they keep is that of vme_core.
-//! `specs/Tells.antt` has what each atomic step returns, and `proofs/Steps.antt` shows that each
-//! keeps the rule.
+//! words and slots of the table are read; their invariant is that of vme_core. `specs/Tells.antt` has
+//! the postcondition of each atomic step, and `proofs/Steps.antt` shows that each step keeps the
+//! invariant.
 //!
 //! # What is proved
 //!
 //! - [`Bench::deliver`] files a block once for its number (`new`, `listed`), or refuses it for a
 //!   reason that holds (`why`) and hands it back (`handed_back`).
-//! - [`Bench::draw`] wins a draw that nobody else has. [`Bench::take`] gives a filed block once.
-//!   [`Bench::look`] answers no less than the bench has seen (`at_least`).
-//! - [`Bench::fold`] shows that two benches filed, took and drew nothing twice (`lists`, `takes`,
-//!   `draws`).
-//! - [`Board::close`] gives each block that the bench filed and nobody took. For the bench that has
-//!   the whole share nothing was filed or taken by others, and what it has seen done it did
+//! - [`Bench::draw`] wins a draw that no other bench has won. [`Bench::take`] gives a filed block
+//!   once. [`Bench::look`] answers no earlier stage than the bench has seen (`at_least`).
+//! - [`Bench::fold`]: two benches filed, took and drew nothing twice (`lists`, `takes`, `draws`).
+//! - [`Board::close`] gives each block that the bench filed and no bench took. If the bench has the
+//!   whole share, nothing was filed or taken by others, and what it has seen done it did
 //!   (`no_others`, `no_taken`, `did_all`).
 //! - No call takes a lock or waits for another bench: none is given the handle that waiting needs.
 //!   Each returns, whatever other threads do.

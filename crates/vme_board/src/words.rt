@@ -1,10 +1,10 @@
-//! Where the bits of a number stand among the words of a board.
+//! The index of a number's word and bit in the words of a board.
 
 ghost use Rattle.std.specs.Int.{bit_at};
 ghost use Rattle.std.specs.Prelude.{◌≡◌, ◌+◌, ◌*◌, ◌/◌, ◌%◌, ◌<◌};
 ghost use Rattle.vme_board.specs.Words.{mask_of};
 
-// The rows: word 4 g + k has in the row k the bits of the 64 numbers, or draws, from 64 g on.
+// The rows k. Word 4 g + k has the bits, of the row k, of the 64 numbers or draws from 64 g on.
 pub(crate) const CLAIMED: usize = 0;
 
 pub(crate) const FILED: usize = 1;
@@ -13,7 +13,7 @@ pub(crate) const TAKEN: usize = 2;
 
 pub(crate) const DRAWN: usize = 3;
 
-/// The word that has the bit of a number in a row.
+/// The index of the word that has the bit of a number in a row.
 pub(crate) fn word_of(number: u32, row: usize) -> usize
     requires { row < 4 }
     ensures { result ≡ 4 * (number / 64) + row }

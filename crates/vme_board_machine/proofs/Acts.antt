@@ -1,4 +1,4 @@
--- What an act leaves of the slots at home, by the slots that a seat has out before and after it.
+-- The table's slots after an act, by the slots that a seat has checked out before and after it.
 use Rattle.std.proofs.Common.{◌≡◌, ℕ, zero, suc, ◌<◌, ◌≢◌, List, [], ◌∷◌, length, set, sym, refl, ap, ◌∙◌, subst, arith}
 use Rattle.std.proofs.Common.{length-set}
 use mathlib.Core.Option as maybe
@@ -25,7 +25,7 @@ module _ {S : Type 0} where
   none_there : (x : S) → ◌≡◌ {A = maybe.Option (maybe.Option S)} (some none) (some (some x)) → ⊥
   none_there x e = some-ne-none x (sym (some-injective none (some x) e))
 
-  -- the slots at home once all that are out are put back
+  -- the table's slots after all slots that are checked out are put back
   abbrev returned : Homes S → List (ℕ × S) → Homes S
   returned hs [] = hs
   returned hs (x ∷ xs) = returned (set hs x.0 (some x.1)) xs
@@ -44,7 +44,7 @@ module _ {S : Type 0} where
   IsFresh k [] = Unit {0}
   IsFresh k (x ∷ xs) = (k ≢ x.0) × IsFresh k xs
 
-  -- each slot that is out is not at home, and is out once
+  -- each slot that is checked out is not in the table, and is checked out once
   abbrev AreOut : Homes S → List (ℕ × S) → Type 0
   AreOut hs [] = Unit {0}
   AreOut hs (x ∷ xs) = (get_elem? hs x.0 ≡ some none) × IsFresh x.0 xs × AreOut hs xs
@@ -75,16 +75,16 @@ module _ {S : Type 0} where
   out_after hs (x ∷ xs) gives (here, fresh, more) v = out_less hs xs x.0 x.1 fresh more
   out_after hs c (chain a b) o v = out_after (homes_after hs c a) (carried_after c a) b (out_after hs c a o v.0) v.1
 
-  -- a seat that has no slot out before and after leaves the slots
+  -- if a seat has no slot checked out before and after, the table's slots don't change
   pub leaves_homes : (hs : Homes S) (a : Act S) → Valid hs [] a → [] ≡ carried_after [] a → homes_after hs [] a ≡ hs
   leaves_homes hs a v e = ap (returned (homes_after hs [] a)) e ∙ same_returned hs [] a v
 
-  -- a seat that had this slot out and has none gave it back
+  -- if a seat had the slot n checked out before and has none after, it put the slot back
   pub gives_home : (hs : Homes S) (a : Act S) (n : ℕ) (x : S) → Valid hs ((n, x) ∷ []) a → []
       ≡ carried_after ((n, x) ∷ []) a → homes_after hs ((n, x) ∷ []) a ≡ set hs n (some x)
   gives_home hs a n x v e = ap (returned (homes_after hs ((n, x) ∷ []) a)) e ∙ same_returned hs ((n, x) ∷ []) a v
 
-  -- a seat that had none out and has this one took it
+  -- the slot n with the value x was in the table before, and is checked out after
   pub record TookHome (hs after : Homes S) (n : ℕ) (x : S) : Type 0 where
     pub was : get_elem? hs n ≡ some (some x)
     pub out : get_elem? after n ≡ some none

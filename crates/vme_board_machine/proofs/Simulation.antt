@@ -38,7 +38,7 @@ use Rattle.vme_board_machine.proofs.Acts.{at_within, leaves_homes, gives_home, t
 abbrev Homes : Type 0
 Homes = List (maybe.Option (Option Block))
 
--- a load leaves the words
+-- a load doesn't change the words
 loaded : (l : List ℕ) (j : ℕ) → set l j (get_or l j 0) ≡ l
 loaded [] j = refl
 loaded (x ∷ xs) zero = refl
@@ -115,7 +115,7 @@ module _ (total draws : ℕ) (s : BoardState) (m : Core) (sh : ReadsAs total dra
       (λ (q : (j ≢ i) × (get_elem? V j ≡ some u)). subst (IsViewAt u) (sym (others j q.0)) (sh.calls j u q.1))
       (at_set V i j w u f)
 
-  -- what is left to show where the bench i, of the view v, gets the view w
+  -- `ReadsAs` holds after a step by which the view of the bench i becomes w, if the other fields do
   build : (t : BoardState) (i : ℕ) (v w : View) (ws : List ℕ) (hs : Homes) (stage : ℕ → Stage)
       (content : ℕ → Option Block) (home : ℕ → Slot) (drawn : ℕ → ℕ) (pg : ℕ → BenchProgress)
       → get_elem? V i ≡ some v → t.table ≡ record { words = ws; homes = hs; views = set V i w } → length ws ≡ length W
@@ -155,7 +155,8 @@ module _ (total draws : ℕ) (s : BoardState) (m : Core) (sh : ReadsAs total dra
             ∙ sh.unmade j (omega (arith, far, longer));
       }
 
-  -- the view of one bench changes, and nothing else that is shown
+  -- `ReadsAs` holds after a step that changes one view, but not its pending number or its takes, and no bit, slot or
+  -- progress
   seen : (t : BoardState) (i : ℕ) (v w : View) (ws : List ℕ) → get_elem? V i ≡ some v → t.table
       ≡ record { words = ws; homes = H; views = set V i w } → length ws ≡ length W
       → ((k n : ℕ) → k < 4 → bit_of k ws n ≡ bit_of k W n) → ((j : ℕ) → t.progress j ≡ s.progress j) → w.pending
@@ -168,7 +169,7 @@ module _ (total draws : ℕ) (s : BoardState) (m : Core) (sh : ReadsAs total dra
       sh.homes (λ j. sh.progress j ∙ sym (same j)) (subst (IsViewAt w) (sym (same i))
       (same_view w v (s.progress i) a b (sh.calls i v e))) (λ j ne. same j)
 
-  -- a bit is set that was set
+  -- setting a bit that is 1 changes no bit of any row
   all_again : (k n : ℕ) → k < 4 → 4 * (n / 64) + k < length W → bit_of k W n ≡ 1 → (k' j : ℕ) → k' < 4
       → bit_of k' (marked k W n) j ≡ bit_of k' W j
   all_again k n small near is k' j small' = dite (ℕ_discrete k' k)
@@ -183,6 +184,7 @@ module _ (total draws : ℕ) (s : BoardState) (m : Core) (sh : ReadsAs total dra
       (ap f (update_here m.stage n new) ∙ (same ∙ (was n ∙ sym (bits n))))
       (λ j ne. ap f (update_else m.stage n new j ne) ∙ (was j ∙ sym (bits j)))
 
+  -- the bits of a row are those of the stages, after the stage of n changed and its bit was set
   turns : (f : Stage → ℕ) (k : ℕ) (n : ℕ) (new : Stage) → f new ≡ 1 → 4 * (n / 64) + k < length W
       → ((j : ℕ) → f (m.stage j) ≡ bit_of k W j) → (j : ℕ) → f (update m.stage n new j) ≡ bit_of k (marked k W n) j
   turns f k n new one near was = each n (λ j. f (update m.stage n new j) ≡ bit_of k (marked k W n) j)
@@ -199,7 +201,7 @@ module _ (total draws : ℕ) (s : BoardState) (m : Core) (sh : ReadsAs total dra
   near_draw : (d : ℕ) → d < draws → 4 * (d / 64) + 3 < length W
   near_draw d low = word_within (length W) draws d 3 low sh.draws_fit.0 sh.draws_fit.1 (omega arith)
 
-  -- the seat after a step that leaves the slots, as it was told
+  -- the table after a step, by the slots hs after its act and by the seat's new view w
   at_view : (tb : TableState) (j x i : ℕ) (c c' : List (ℕ × Option Block)) (after : SeatState) (a : Act (Option Block))
       (w : View) (hs : Homes) → tb ≡ stepped s.table j x i c after.0 a → after ≡ (w, c') → homes_after H c a ≡ hs
       → tb ≡ record { words = set W j x; homes = hs; views = set V i w }
@@ -209,7 +211,7 @@ module _ (total draws : ℕ) (s : BoardState) (m : Core) (sh : ReadsAs total dra
   pending_none : (i : ℕ) (v : View) → IsAt s i v idle → v.pending ≡ []
   pending_none i v (e, p) = (subst (IsViewAt v) p (sh.calls i v e)).0
 
-  -- a claim
+  -- `ReadsAs` holds after a claim
   claim_shown : (t : BoardState) (i n : ℕ) (b : Block) (v : View) (after : SeatState) → n < total → IsAt s i v idle
       → Sets ClaimTells s i v idle 0 n after t.table → (x : ℕ) → claimed_bit (m.stage n) ≡ x
       → t.progress ≡ update s.progress i (after_claiming n b x) → ReadsAs total draws t (after_claim_step m i n b v x)
@@ -253,7 +255,7 @@ module _ (total draws : ℕ) (s : BoardState) (m : Core) (sh : ReadsAs total dra
       ∙ update_else s.progress i idle j ne)) refl refl
   claim_shown t i n b v after low at st (suc (suc x)) is pg = absurd (omega (arith, is, sh.claimed n, bit_small 0 W n))
 
-  -- a draw
+  -- `ReadsAs` holds after a draw
   draw_shown : (t : BoardState) (i d : ℕ) (v : View) (after : SeatState) → d < draws → IsAt s i v idle
       → Sets DrawTells s i v idle 3 d after t.table → (x : ℕ) → m.drawn d ≡ x → t.progress ≡ s.progress
       → ReadsAs total draws t (after_draw_step m i d v x)
@@ -287,7 +289,7 @@ module _ (total draws : ℕ) (s : BoardState) (m : Core) (sh : ReadsAs total dra
       (λ j. ap (λ (f : ℕ → BenchProgress). f j) pg) refl refl
   draw_shown t i d v after low at st (suc (suc x)) is pg = absurd (omega (arith, is, sh.drawn d, bit_small 3 W d))
 
-  -- what a look at a row shows is what the stages say
+  -- the numbers whose bit is 1 in a word are those of which the stages say so
   shown_alike : (f : Stage → ℕ) (k g : ℕ) → k < 4 → ((j : ℕ) → f (m.stage j) ≡ bit_of k W j)
       → set_bits (64 * ((4 * g + k) / 4)) (bit_at (get_or W (4 * g + k) 0)) 64 ≡ set_bits (64 * g)
       (λ j. f (m.stage (64 * g + j))) 64
@@ -298,7 +300,7 @@ module _ (total draws : ℕ) (s : BoardState) (m : Core) (sh : ReadsAs total dra
       sym (was (64 * g + j) ∙ (ap (λ (y : ℕ). bit_at (get_or W (4 * y + k) 0) ((64 * g + j) % 64)) at
       ∙ ap (λ (y : ℕ). bit_at (get_or W (4 * g + k) 0) y) place)))
 
-  -- a load after which the bench has seen more
+  -- `ReadsAs` holds after a load by which the bench has seen more
   load_shown : (t : BoardState) (i j : ℕ) (v w : View) (after : SeatState) (a : Act (Option Block)) → IsAt s i v idle
       → after ≡ (w, []) → homes_after H [] a ≡ H → t.table ≡ stepped s.table j (get_or W j 0) i [] after.0 a
       → t.progress ≡ s.progress → w.pending ≡ v.pending → w.takes ≡ v.takes → ReadsAs total draws t
@@ -351,7 +353,7 @@ module _ (total draws : ℕ) (s : BoardState) (m : Core) (sh : ReadsAs total dra
       refl (λ k n small. refl) (λ k. ap (λ (f : ℕ → BenchProgress). f k) pg) refl refl)
 
   module _ (r : Invariant total m) where
-    -- a filing
+    -- `ReadsAs` holds after a filing
     file_shown : (t : BoardState) (i n : ℕ) (b : Block) (v : View) (after : SeatState) → IsAt s i v (has_put n b)
         → Sets FileTells s i v (has_put n b) 1 n after t.table → t.progress ≡ update s.progress i idle
         → ReadsAs total draws t (after_file_step m i n b v)
@@ -389,7 +391,7 @@ module _ (total draws : ℕ) (s : BoardState) (m : Core) (sh : ReadsAs total dra
         pt (subst (IsViewAt (after_filing v n b)) (sym (update_here m.progress i idle) ∙ pt i) (refl, tt))
         (λ j ne. ap (λ (f : ℕ → BenchProgress). f j) pg ∙ update_else s.progress i idle j ne)
 
-    -- a take
+    -- `ReadsAs` holds after a take
     take_shown : (t : BoardState) (i n : ℕ) (v : View) (after : SeatState) → n < total → IsAt s i v idle
         → 0 < occurrences n v.filed → Sets TakeTells s i v idle 2 n after t.table → t.progress ≡ update s.progress i
         (after_taking n after.1)
@@ -449,7 +451,7 @@ module _ (total draws : ℕ) (s : BoardState) (m : Core) (sh : ReadsAs total dra
     take_shown t i n v after low at saw st pg (suc (suc x)) c is has = absurd
         (omega (arith, is, sh.taken n, bit_small 2 W n))
 
-  -- one bench goes on in its call, and nothing else changes
+  -- `ReadsAs` holds after one bench continues in its call, and nothing else changes
   goes_on : (i : ℕ) (v : View) (p : BenchProgress) → get_elem? V i ≡ some v → IsViewAt v p → ReadsAs total draws
       (record s { progress = update s.progress i p }) (record m { progress = update m.progress i p })
   goes_on i v p e own = record {
@@ -472,7 +474,7 @@ module _ (total draws : ℕ) (s : BoardState) (m : Core) (sh : ReadsAs total dra
         ∙ sh.unmade j far;
   }
 
-  -- the slot goes home
+  -- `ReadsAs` holds after a slot is returned to the table
   give_shown : (t : BoardState) (i n : ℕ) (b : Block) (v : View) (after : SeatState) → IsAt s i v (has_lifted n b)
       → Loads GiveTells s i v (has_lifted n b) 0 after t.table → t.progress ≡ update s.progress i idle
       → ReadsAs total draws t (record m { home = update m.home n empty; progress = update m.progress i idle })
@@ -501,7 +503,7 @@ module _ (total draws : ℕ) (s : BoardState) (m : Core) (sh : ReadsAs total dra
       pt (subst (IsViewAt v) (sym (update_here m.progress i idle) ∙ pt i) (one.0, tt))
       (λ j ne. ap (λ (f : ℕ → BenchProgress). f j) pg ∙ update_else s.progress i idle j ne))
 
-  -- the views of all benches change, and nothing else
+  -- `ReadsAs` holds after the views change, and nothing else
   with_all : (vs : List View) → ((j : ℕ) (u : View) → get_elem? vs j ≡ some u → IsViewAt u (s.progress j))
       → length V ≤ length vs
       → ReadsAs total draws (record s { table = record s.table { views = vs } }) (with_views m vs)

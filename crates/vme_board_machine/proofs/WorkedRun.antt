@@ -21,7 +21,7 @@ use Rattle.vme_board.proofs.Bits.{one_number}
 use Rattle.vme_board_machine.specs.Steps.{BoardState, Takes}
 use Rattle.vme_board_machine.specs.Worked.{IsWorked}
 
--- a half and a quarter are not the whole
+-- a half and a quarter together are not the whole share
 not_whole : IsWholeShare (1 ∷ 2 ∷ []) → ⊥
 not_whole (k, f, is) =
     let j : ℕ = k - 2 in let half : k - 1 ≡ suc j = omega (arith, f.1.0) in
@@ -31,7 +31,7 @@ not_whole (k, f, is) =
     let p = pow-suc 2 j in let q = pow-suc 2 (suc j) in let some_part = pow_pos j in
     let sum : 2 ^ (k - 1) + (2 ^ j + 0) ≡ 2 ^ k = is in omega (arith, sum, a, b, p, q, some_part)
 
--- whatever is said of the number of a step
+-- what holds of the number 0 holds of each number that the step on the bit of 0 is at, which is 0
 named : (k n : ℕ) (F : ℕ → Type 0) → F 0 → IsAtBit (step 1 (4 * (0 / 64) + k) (mask_of 0) 0 none) k n → F n
 named k n F f at = subst F (one_number k 0 n at.word at.mask) f
 
@@ -48,6 +48,7 @@ state words homes views progress = record {
 }
 
 module _ (b c : Block) (own : b.number ≡ 0) where
+  -- the views of the three benches after both splits; then those of the benches 0 and 1 after their later steps
   abbrev first : View
   first = kept_view first_view
 
@@ -75,6 +76,7 @@ module _ (b c : Block) (own : b.number ≡ 0) where
   abbrev slot : Option Block → List (maybe.Option (Option Block))
   slot x = some x ∷ []
 
+  -- where each bench is in its call, after each step that changes it
   abbrev calls_1 : ℕ → BenchProgress
   calls_1 = update (λ _. idle) 0 (has_claimed 0 b)
 
@@ -96,6 +98,7 @@ module _ (b c : Block) (own : b.number ≡ 0) where
   abbrev calls_7 : ℕ → BenchProgress
   calls_7 = update calls_6 1 idle
 
+  -- the states of the run, one after the other
   abbrev split_once : BoardState
   split_once = state (0 ∷ 0 ∷ 0 ∷ 0 ∷ []) (slot None) (first ∷ split_view first_view ∷ []) (λ _. idle)
 

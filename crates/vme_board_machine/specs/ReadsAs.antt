@@ -1,4 +1,4 @@
--- How the state of a board is read as one of the machine.
+-- When the state of a board corresponds to one of the machine.
 use Rattle.std.specs.Prelude.{◌≡◌, ℕ, ◌<◌, ◌≤◌, List, [], ◌∷◌, length, Option, Some, None}
 use mathlib.Core.Option.{none, some}
 use mathlib.Core.Option as maybe
@@ -12,13 +12,13 @@ use Rattle.vme_core.specs.Machine.{BenchProgress, idle, has_claimed, has_put, ha
 use Rattle.vme_board.specs.Words.{bit_of, IsWideFor}
 use Rattle.vme_board_machine.specs.Steps.{BoardState, Takes}
 
--- what the table has of a slot
+-- the item of the table's slots that corresponds to a slot of the machine
 abbrev pub home_of : Slot → maybe.Option (Option Block)
 home_of empty = some None
 home_of away = none
 home_of (filled b) = some (Some b)
 
--- the numbers that a bench has claimed and not filed yet, so far in its call
+-- the numbers that a bench has claimed and not filed yet, at a point of its call
 abbrev pub unfiled : BenchProgress → List ℕ
 unfiled idle = []
 unfiled (has_claimed n b) = n ∷ []
@@ -26,7 +26,7 @@ unfiled (has_put n b) = n ∷ []
 unfiled (has_taken n b) = []
 unfiled (has_lifted n b) = []
 
--- the number whose block a bench lifts, it has taken
+-- if a bench is between the take of a number and the return of its slot, the number is in its takes
 abbrev pub HasTaken : View → BenchProgress → Type 0
 HasTaken v idle = Unit {0}
 HasTaken v (has_claimed n b) = Unit {0}
@@ -34,12 +34,12 @@ HasTaken v (has_put n b) = Unit {0}
 HasTaken v (has_taken n b) = 0 < occurrences n (numbers v.takes)
 HasTaken v (has_lifted n b) = 0 < occurrences n (numbers v.takes)
 
--- the view of a bench so far in its call
+-- v may be the view of a bench at the point p of its call
 abbrev pub IsViewAt : View → BenchProgress → Type 0
 IsViewAt v p = (v.pending ≡ unfiled p) × HasTaken v p
 
--- The words and the slots of a board for so many numbers and draws are those of the machine's state m: each bit of a
--- row, each slot at home, the views of the benches and how far each is.
+-- The state s of a board of `total` numbers and `draws` draws corresponds to the machine's state m: each bit of a row,
+-- each slot, and the view and the progress of each bench.
 pub record ReadsAs (total draws : ℕ) (s : BoardState) (m : Core) : Type 0 where
   pub slots : length s.table.homes ≡ total
   pub numbers_fit : IsWideFor (length s.table.words) total
@@ -55,13 +55,13 @@ pub record ReadsAs (total draws : ℕ) (s : BoardState) (m : Core) : Type 0 wher
   pub unmade : (i : ℕ) → length s.table.views ≤ i → s.progress i ≡ idle
 
 module _ (total draws : ℕ) where
-  -- each step of the benches from a state is the event of the machine, and leads to a state that reads as what comes of
-  -- it
+  -- each step of the benches from s is the event of the machine from m, and leads to a state that corresponds to the
+  -- one after the event
   abbrev pub StepsAs : BoardState → Core → Type 0
   StepsAs s m =
       (t : BoardState) (e : BoardEvent) → Takes total draws s e t
       → (n : Core) × Happens total draws m e n × ReadsAs total draws t n
 
-  -- a state reads as what a run of the machine comes to
+  -- t corresponds to the state after a run of the machine from m
   abbrev pub RunsAs : Core → List BoardEvent → BoardState → Type 0
   RunsAs m events t = (n : Core) × IsRun total draws m events n × ReadsAs total draws t n

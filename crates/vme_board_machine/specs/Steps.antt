@@ -1,4 +1,4 @@
--- The steps that benches take on a board, as the calls of vme_board make them on its table.
+-- The steps of benches on a board, as the calls of vme_board make them on its table.
 use Rattle.std.specs.Prelude.{◌≡◌, ◌≢◌, ℕ, zero, suc, ◌+◌, ◌*◌, ◌/◌, ◌<◌, List, [], ◌∷◌, ◌++◌, length}
 use Rattle.std.specs.Prelude.{slice_index_or, slice_set, map, replicate, bit_or, Option, Some, None}
 use mathlib.Core.Option.{none, some}
@@ -18,19 +18,19 @@ use Rattle.vme_board.specs.Tells.{ClaimedLookTells, FiledLookTells, TakenLookTel
 abbrev pub TableState : Type 0
 TableState = State (Option Block) View
 
--- the table of a board, and how far each bench is in its call
+-- the table of a board, and where each bench is in its call
 pub record BoardState : Type 0 where
   pub table : TableState
   pub progress : ℕ → BenchProgress
 
--- a board as it is made: no bit is set, each slot is at home and empty, and there is one bench
+-- a new board: no bit is set, each slot is in the table and empty, and there is one bench
 abbrev pub opened : ℕ → ℕ → BoardState
 opened width total = record {
   table = record { words = replicate width 0; homes = map some (replicate total None); views = first_view ∷ [] };
   progress = λ _. idle;
 }
 
--- the slots that a bench has out, so far in its call
+-- the slots that a bench has checked out, at a point of its call
 abbrev pub held : BenchProgress → List (ℕ × Option Block)
 held idle = []
 held (has_claimed n b) = (n, None) ∷ []
@@ -38,16 +38,16 @@ held (has_put n b) = (n, Some b) ∷ []
 held (has_taken n b) = (n, Some b) ∷ []
 held (has_lifted n b) = (n, None) ∷ []
 
--- the bench i has the view v, and is so far in its call
+-- the bench i has the view v, and is at the point p of its call
 abbrev pub IsAt : BoardState → ℕ → View → BenchProgress → Type 0
 IsAt s i v p = (get_elem? s.table.views i ≡ some v) × (s.progress i ≡ p)
 
--- what a step tells: of the seat before, the word found, and the seat after
+-- a step's postcondition: over the step, the seat's state before, the word's value before, and the seat's state after
 abbrev pub StepTells : Type 1
 StepTells = TableStep → SeatState → ℕ → SeatState → Type 0
 
--- The bench i makes one atomic step on the word j, which becomes `change` of what it was: whatever new view and act the
--- table then has for it, if they are as the step tells.
+-- The bench i makes one atomic step on the word j, which becomes `change` of its value. The bench gets any new view,
+-- and its slots change by any valid act, if the postcondition `Tells` holds.
 pub record IsStep (Tells : StepTells) (change : ℕ → ℕ) (s : TableState) (i : ℕ) (seat : SeatState) (j mask : ℕ)
     (after : SeatState) (t : TableState) : Type 0 where
   pub act : Act (Option Block)
@@ -56,27 +56,27 @@ pub record IsStep (Tells : StepTells) (change : ℕ → ℕ) (s : TableState) (i
   pub table : t ≡ stepped s j (change (slice_index_or s.words j 0)) i seat.1 after.0 act
   pub tells : Tells (step (length s.homes) j mask 0 none) seat (slice_index_or s.words j 0) after
 
--- it sets the bit of n in the row k
+-- the bench i sets the bit of n in the row k
 abbrev pub Sets : StepTells → BoardState → ℕ → View → BenchProgress → ℕ → ℕ → SeatState → TableState → Type 0
 Sets Tells s i v p k n after t =
     IsStep Tells (λ x. bit_or x (mask_of n)) s.table i (v, held p) (4 * (n / 64) + k) (mask_of n) after t
 
--- it loads the word j
+-- the bench i loads the word j
 abbrev pub Loads : StepTells → BoardState → ℕ → View → BenchProgress → ℕ → SeatState → TableState → Type 0
 Loads Tells s i v p j after t = IsStep Tells (λ x. x) s.table i (v, held p) j 0 after t
 
--- where a bench is after it tried to claim n for b, and found this bit
+-- where a bench is in its call after it tried to claim n for b; the last argument is the bit that it found
 abbrev pub after_claiming : ℕ → Block → ℕ → BenchProgress
 after_claiming n b zero = has_claimed n b
 after_claiming n b (suc found) = idle
 
--- where it is after it tried to take n, and has these slots out
+-- where a bench is in its call after it tried to take n; the last argument is the slots that it has checked out
 abbrev pub after_taking : ℕ → List (ℕ × Option Block) → BenchProgress
 after_taking n [] = idle
 after_taking n ((k, None) ∷ out) = idle
 after_taking n ((k, Some b) ∷ out) = has_taken n b
 
--- the row of a word, and what a look at it tells
+-- the number of a row, and the postcondition of a load of its word
 abbrev pub number_of : WordRow → ℕ
 number_of claimed_row = 0
 number_of filed_row = 1
@@ -88,9 +88,9 @@ LookTells filed_row = FiledLookTells
 LookTells taken_row = TakenLookTells
 
 module _ (total draws : ℕ) where
-  -- Benches of a board of so many numbers and draws take the step of this event, which leads from s to t. A call begins
-  -- where its bench is in no other. The bench has a share: it was not folded into another. All benches but the first
-  -- are split off.
+  -- Benches of a board of `total` numbers and `draws` draws take the step of this event, which leads from s to t. A
+  -- call begins while its bench is in no other call. A bench that claims, draws or takes has a share, i.e. it was not
+  -- folded into another. All benches but the first are made by `split`.
   abbrev pub Takes : BoardState → BoardEvent → BoardState → Type 0
   Takes s make t = ⊥
   Takes s (split i) t =

@@ -10,8 +10,8 @@ use vme_trace::{
     Block, Capture, Change, Changes, LINE_COUNT, Level, Line, Lines, Step, Steps, Verdict,
 };
 
-/// A read by modifier 39 after a grant to slot 2, from the instant on at which every line but A24 to A31 gets high.
-/// The steps stand ten units apart.
+/// A read by modifier 39 after a grant to slot 2, after the step in which every line except A24 to A31 goes high.
+/// The steps are ten units apart.
 static READ: [&str; 13] = [
     "BR3=0",
     "BG3.0=0",
@@ -28,7 +28,7 @@ static READ: [&str; 13] = [
     "BBSY=1",
 ];
 
-/// The change that a word says, as BR3=0.
+/// The change in a word, for example `BR3=0`.
 fn change_of(word: &str) -> Option<Change> {
     let (name, level) = word.split_once('=')?;
     Some(Change {
@@ -49,7 +49,7 @@ fn step_of(alloc: Global, time: u64, changes: &[Change]) -> Option<Step> {
     })
 }
 
-/// Every line of three slots but A24 to A31 gets high.
+/// The changes by which every line of three slots except A24 to A31 goes high.
 fn all_high(alloc: Global, lines: &Lines) -> Option<Vec<Change>> {
     let mut changes = Vec::new(alloc);
     for number in 0..LINE_COUNT {
@@ -62,7 +62,7 @@ fn all_high(alloc: Global, lines: &Lines) -> Option<Vec<Change>> {
     Some(changes)
 }
 
-/// The changes that a text says.
+/// The changes in `text`.
 fn changes_of(alloc: Global, text: &str) -> Option<Vec<Change>> {
     let mut changes = Vec::new(alloc);
     for word in text.split_whitespace() {
@@ -95,7 +95,7 @@ pub(crate) fn blocks_of_read(alloc: Global) -> Option<Vec<Block>> {
     Capture::new(opening, steps).ok()?.cut(alloc, 1).ok()
 }
 
-/// A block of so many steps, at each of which AS changes. None is want of memory.
+/// A block of `count` steps, in each of which AS changes. None is want of memory.
 pub(crate) fn block_of(alloc: Global, number: u32, first: u64, count: u32) -> Option<Block> {
     let line = Line::from_name(b"AS")?;
     let mut steps = Vec::new(alloc);
@@ -111,7 +111,7 @@ pub(crate) fn block_of(alloc: Global, number: u32, first: u64, count: u32) -> Op
     })
 }
 
-/// A block whose first step has no change, and after it so many that have. None is want of memory.
+/// A block whose first step has no change, and then `count` steps that have one. None is want of memory.
 pub(crate) fn malformed_block(alloc: Global, number: u32, count: u32) -> Option<Block> {
     let block = block_of(alloc, number, 1, count)?;
     let mut steps = block.steps.into_inner();
@@ -141,7 +141,7 @@ pub(crate) fn is_filed(answer: &Result<Filed, Refused>, number: u32) -> bool {
     }
 }
 
-/// Whether the delivery was refused for this reason, and the block handed back.
+/// Whether the delivery was refused for the reason `why`, and the block handed back.
 pub(crate) fn is_refused(
     answer: &Result<Filed, Refused>,
     why: DeliveryRefusal,
@@ -153,7 +153,7 @@ pub(crate) fn is_refused(
     }
 }
 
-/// A span behind those so far, if any.
+/// `span` joined to the span of the blocks before it, if there is one.
 fn added(alloc: Global, all: Option<Span>, span: Span) -> Option<Span> {
     match all {
         None => Some(span),
@@ -167,7 +167,7 @@ fn added(alloc: Global, all: Option<Span>, span: Span) -> Option<Span> {
     }
 }
 
-/// The span of all that a board has, if no place is empty.
+/// The span of all blocks of a board, if each place has one.
 fn whole_of(alloc: Global, contents: Vec<Option<Judged>>) -> Option<Span> {
     let mut all = None;
     for place in contents {
@@ -177,7 +177,7 @@ fn whole_of(alloc: Global, contents: Vec<Option<Judged>>) -> Option<Span> {
     all
 }
 
-/// Whether this is what is left of the worked recording's board: fourteen blocks, of which the joined recording
+/// Whether `closed` is the contents of the worked recording's board: fourteen blocks, whose joined recording
 /// conforms.
 pub(crate) fn is_worked(alloc: Global, closed: Closed, others: u32) -> bool {
     let is_so = closed.others == others && closed.taken == 0 && closed.contents.len() == 14;
@@ -192,7 +192,7 @@ pub(crate) fn is_worked(alloc: Global, closed: Closed, others: u32) -> bool {
     }
 }
 
-/// Closes a board, where memory is refused once at most.
+/// Closes a board. If memory is refused once, it tries again.
 pub(crate) fn closed_by(alloc: Global, board: Board, bench: Bench) -> Option<Closed>
     requires { IsOf bench board }
 {
@@ -202,7 +202,7 @@ pub(crate) fn closed_by(alloc: Global, board: Board, bench: Bench) -> Option<Clo
     }
 }
 
-/// Whether what the bench leaves of the board is the worked recording.
+/// Whether the board, closed by the bench, has the worked recording.
 pub(crate) fn leaves_worked(alloc: Global, board: Board, bench: Bench, others: u32) -> bool
     requires { IsOf bench board }
 {
@@ -212,7 +212,7 @@ pub(crate) fn leaves_worked(alloc: Global, board: Board, bench: Bench, others: u
     }
 }
 
-/// Delivers the blocks, from the last, by the two benches in turn.
+/// Delivers the blocks, from the last to the first, by the two benches in turn.
 fn deliver_in_turn(
     rt: &impl Abort,
     alloc: Global,
@@ -259,7 +259,7 @@ fn a_dropped_bench_leaves_others(rt: HostRuntime) {
     assert!(rt; leaves_worked(alloc, board, first, 7));
 }
 
-/// Whether no board is made for this reason.
+/// Whether no board is made, for the reason `fault`.
 fn is_no_board(alloc: Global, total: u32, draws: u32, fault: BoardFault) -> bool {
     match Board::new(alloc, total, draws) {
         Ok(_) => false,
@@ -267,7 +267,7 @@ fn is_no_board(alloc: Global, total: u32, draws: u32, fault: BoardFault) -> bool
     }
 }
 
-/// Whether the bench draws these, and then nothing.
+/// Whether the bench wins the draws 0, 1 and 2, and then none.
 fn draws_three(board: &Board, bench: &mut Bench) -> bool
     requires { IsOf bench.old board.now }
 {
@@ -290,7 +290,7 @@ fn totals_and_draws(rt: HostRuntime) {
     assert!(rt; draws_three(&board, &mut bench));
 }
 
-/// Whether two benches draw in turn, each what the other didn't.
+/// Whether two benches draw in turn, and each wins the draws that the other doesn't.
 fn draw_in_turn(board: &Board, first: &mut Bench, second: &mut Bench) -> bool
     requires { IsOf first.old board.now × IsOf second.old board.now }
     ensures { IsOf first.new board.now × IsOf second.new board.now }
@@ -311,7 +311,7 @@ fn draws_of_two_benches(rt: HostRuntime) {
     assert!(rt; bench.draw(&board) == Some(4));
 }
 
-/// Whether a block is refused for this reason, and handed back as the same.
+/// Whether a block is refused for the reason `why`, and handed back unchanged (`same`).
 fn refuses(
     alloc: Global,
     board: &Board,
@@ -329,7 +329,7 @@ fn refuses(
     }
 }
 
-/// Whether a block is filed by its number.
+/// Whether a block is filed under `number`.
 fn files(alloc: Global, board: &Board, bench: &mut Bench, number: u32, block: Option<Block>) -> bool
     requires { IsOf bench.old board.now }
     ensures { IsOf bench.new board.now }
@@ -361,7 +361,7 @@ fn refusals_in_order(rt: HostRuntime) {
     assert!(rt; refuses(alloc, &board, &mut bench, why, malformed, same));
 }
 
-/// Whether block 5 is filed, and refused when it comes again.
+/// Whether block 5 is filed, and refused when it is delivered again.
 fn files_five(alloc: Global, board: &Board, bench: &mut Bench) -> bool
     requires { IsOf bench.old board.now }
     ensures { IsOf bench.new board.now }
@@ -383,7 +383,7 @@ fn take_five(board: &Board, first: &mut Bench, second: &mut Bench) -> Option<Jud
     if is_filed && is_taken { taken } else { None }
 }
 
-/// Whether this is the block 5 that was filed.
+/// Whether `judged` is the block 5 that was filed.
 pub(crate) fn is_five(alloc: Global, judged: Option<Judged>) -> bool {
     match (judged, block_of(alloc, 5, 0, 2)) {
         (Some(judged), Some(given)) => is_equal(judged.block(), &given),
@@ -391,7 +391,7 @@ pub(crate) fn is_five(alloc: Global, judged: Option<Judged>) -> bool {
     }
 }
 
-/// Whether one number was taken of the board that the bench closes, and nothing is left.
+/// Whether one number was taken by another bench than the one that closes the board, and no block is left.
 fn leaves_nothing(alloc: Global, board: Board, bench: Bench) -> bool
     requires { IsOf bench board }
 {
@@ -420,7 +420,7 @@ fn a_block_is_filed_once_and_taken_once(rt: HostRuntime) {
     assert!(rt; leaves_nothing(alloc, board, bench));
 }
 
-/// A board, where memory is refused once at most.
+/// Makes a board. If memory is refused once, it tries again.
 pub(crate) fn board_of(alloc: Global) -> Option<(Board, Bench)>
     ensures { IfSome result (λ made. IsOf made.1 made.0 × (total_of made.0 ≡ 14)) }
 {
@@ -430,8 +430,8 @@ pub(crate) fn board_of(alloc: Global) -> Option<(Board, Bench)>
     }
 }
 
-/// Whether a block is filed. Where memory is refused once, it comes back as it was and nothing is claimed, and it is
-/// delivered again.
+/// Whether a block is filed. If memory is refused once, the block is handed back unchanged and nothing is claimed, and
+/// it is delivered again.
 fn is_filed_at_last(
     board: &Board,
     bench: &mut Bench,
@@ -457,7 +457,7 @@ fn is_filed_at_last(
     }
 }
 
-/// Whether a board has this block 5 alone.
+/// Whether a board has the block 5, `same`, and no other.
 fn has_five(closed: &Closed, same: &Block) -> bool {
     for (number, place) in closed.contents.iter().enumerate() {
         let is_so = match place {
@@ -471,7 +471,7 @@ fn has_five(closed: &Closed, same: &Block) -> bool {
     closed.others == 0 && closed.taken == 0 && closed.contents.len() == 14
 }
 
-/// A block 5 of twelve steps, where memory is refused once at most.
+/// Makes a block 5 of twelve steps. If memory is refused once, it tries again.
 fn long_five(alloc: Global) -> Option<Block> {
     match block_of(alloc, 5, 0, 12) {
         Some(block) => Some(block),

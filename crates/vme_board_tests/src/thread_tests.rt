@@ -15,7 +15,7 @@ use vme_board::{Bench, Board, Closed, DeliveryRefusal, Filed, Refused, Stage};
 use vme_summary::Judged;
 use vme_trace::{Block, Lines, Steps};
 
-/// Delivers every second block, from the last.
+/// Delivers `blocks`, half of the worked recording's, from the last to the first. The flag says whether all were filed.
 fn deliver_half(alloc: Global, board: &Board, bench: Bench, blocks: Vec<Block>) -> (Bench, bool)
     requires { IsOf bench board.now }
     ensures { IsOf result.0 board.now }
@@ -172,7 +172,7 @@ fn draw_apart(rt: &impl Threads, board: &Board, bench: Bench) -> (Bench, Option<
     done
 }
 
-/// Whether benches draw on threads of their own, each what none did before, and then nothing.
+/// Whether benches draw on threads of their own, and each wins a draw that none won before, and then none.
 fn draw_by_threads(rt: &impl Threads, board: &Board, first: Bench, second: Bench) -> bool
     requires { IsOf first board.now × IsOf second board.now }
 {
@@ -192,7 +192,7 @@ fn draws_by_threads(rt: HostRuntime) {
     assert!(rt; draw_by_threads(&rt, &board, first, second));
 }
 
-/// The bench, if on a thread of its own a block is refused for this reason, and handed back as the same.
+/// The bench, if on a thread of its own a block is refused for the reason `why`, and handed back unchanged (`same`).
 fn refused_apart(
     rt: &impl Threads,
     alloc: Global,
@@ -216,7 +216,7 @@ fn refused_apart(
     }
 }
 
-/// The bench, if a stranger is refused, and a block that is too long.
+/// The bench, if a block whose number isn't on the board is refused, and a block that is too long.
 fn refuses_apart(rt: &impl Threads, alloc: Global, board: &Board, bench: Bench) -> Option<Bench>
     requires { IsOf bench board.now }
     ensures { IfSome result (λ bench. IsOf bench board.now) }
@@ -250,7 +250,7 @@ fn refusals_by_threads(rt: HostRuntime) {
     assert!(rt; refused_apart(&rt, alloc, &board, bench, why, malformed, same).is_some());
 }
 
-/// The bench, if it files a block by its number on a thread of its own.
+/// The bench, if it files a block under `number` on a thread of its own.
 fn filed_apart(
     rt: &impl Threads,
     alloc: Global,
@@ -270,7 +270,7 @@ fn filed_apart(
     }
 }
 
-/// Whether block 5 is filed, and refused when it comes again.
+/// Whether block 5 is filed, and refused when it is delivered again.
 fn files_five(rt: &impl Threads, alloc: Global, board: &Board, bench: Bench) -> bool
     requires { IsOf bench board.now }
 {
@@ -318,22 +318,22 @@ fn filed_once_and_taken_once_by_threads(rt: HostRuntime) {
     assert!(rt; is_five(alloc, taken));
 }
 
-/// What one thread did.
+/// The work of one thread.
 #[derive(Drop)]
 struct Work {
     bench: Bench,
     filed: u32,
     doubled: u32,
-    /// How many blocks were refused that no bench files.
+    /// How many blocks were refused that may not be filed at all.
     hostile: u32,
 }
 
-/// What each thread delivers.
+/// The blocks that a thread delivers.
 #[derive(Clone, Copy)]
 enum Share {
     /// Blocks that another thread delivers too.
     Range,
-    /// Strangers and malformed blocks, and between them blocks that all threads deliver.
+    /// Blocks out of range and malformed blocks, and between them blocks that all threads deliver.
     Hostile,
 }
 
@@ -353,7 +353,7 @@ fn empty_block(alloc: Global, number: u32, thread: u8) -> Option<Block> {
     })
 }
 
-/// Delivers 1,024 blocks from a number on, round the board's 4,096, and counts the answers.
+/// Delivers 1,024 blocks from a number on, modulo the board's 4,096, and counts the answers.
 fn deliver_range(alloc: Global, board: &Board, bench: Bench, thread: u8) -> Work
     requires { IsOf bench board.now }
     ensures { IsOf result.bench board.now }
@@ -389,7 +389,7 @@ fn is_refused_for(answer: &Result<Filed, Refused>, why: DeliveryRefusal) -> bool
     }
 }
 
-/// Delivers a stranger, a malformed block and a block of each number below 14, and counts the answers.
+/// Delivers a block out of range, a malformed block and a block of each number below 14, and counts the answers.
 fn deliver_hostile(alloc: Global, board: &Board, bench: Bench, thread: u8) -> Work
     requires { IsOf bench board.now }
     ensures { IsOf result.bench board.now }
@@ -483,7 +483,7 @@ fn deliver_by_eight<R: Threads + Wait>(
     )
 }
 
-/// Whether each of so many numbers of a board has its block.
+/// Whether the board has the block of each of `count` numbers.
 fn has_all(closed: &Closed, count: usize) -> bool {
     for (number, place) in closed.contents.iter().enumerate() {
         match place {
@@ -498,8 +498,8 @@ fn has_all(closed: &Closed, count: usize) -> bool {
     closed.contents.len() == count
 }
 
-/// Whether this was filed, doubled and hostile, and each number of the board has its block: nothing was taken, and no
-/// bench beside these filed.
+/// Whether `counts` deliveries were filed, doubled and hostile, and each number of the board has its block: nothing was
+/// taken, and no other bench filed.
 fn leaves_all(
     alloc: Global,
     board: Board,
@@ -525,7 +525,7 @@ fn file_by_eight<R: Threads + Wait>(rt: &R, alloc: Global) -> Result<bool, Fail>
     Ok(leaves_all(alloc, board, work, 4096, (4096, 4096, 0)))
 }
 
-/// The same five times.
+/// `file_by_eight`, five times.
 fn file_in_rounds<R: Threads + Wait + Abort>(rt: &R, alloc: Global) -> Result<(), Fail> {
     for round in 0..5 {
         assert!(rt; file_by_eight(rt, alloc)?, "in round {round}");
@@ -553,7 +553,7 @@ fn eight_benches_file_once_in_rounds_16_to_20(rt: HostRuntime) -> Result<(), Fai
     file_in_rounds(&rt, rt.alloc())
 }
 
-/// Whether each number is filed once among strangers and malformed blocks of all threads.
+/// Whether each number is filed once if all threads also deliver blocks out of range and malformed ones.
 fn file_among_hostile<R: Threads + Wait>(rt: &R, alloc: Global) -> Result<bool, Fail> {
     let Some((board, bench)) = board_of(alloc) else {
         return Ok(false);

@@ -1,4 +1,4 @@
--- What the invariant says of a state, and that no event takes anything back.
+-- The invariant implies the law of a state, and no event takes anything back.
 use Rattle.std.proofs.Common.{◌≡◌, ℕ, zero, suc, ◌≤◌, List, [], ◌∷◌, ◌++◌, set, sym, refl, ap, ◌∙◌, arith, subst}
 use Rattle.std.proofs.Common.{le_refl, Option, Some, None}
 use Rattle.vme_trace.specs.declared.block.Block.{Block}
@@ -50,7 +50,7 @@ lawful limit s r = let C : ℕ → ℕ = λ n. claimed_bit (s.stage n) in let F 
       found_is_drawn = r.draws.found;
     }
 
--- the stages, the contents and the drawn bits are as they were
+-- `OnlyGrows` holds if the stages, the contents and the drawn bits don't change
 unchanged : (s t : Core) → s.stage ≡ t.stage → s.content ≡ t.content → s.drawn ≡ t.drawn → OnlyGrows s t
 unchanged s t a b d = record {
   stages = λ n. omega (arith, ap (λ (f : ℕ → Stage). rank (f n)) a);
@@ -58,7 +58,7 @@ unchanged s t a b d = record {
   draws = λ n. omega (arith, ap (λ (f : ℕ → ℕ). f n) d);
 }
 
--- the stage of one number goes on
+-- `OnlyGrows` holds if the stage of n becomes x, which isn't earlier, and no other stage, content or drawn bit changes
 advanced : (s t : Core) (n : ℕ) (x : Stage) → t.stage ≡ update s.stage n x → rank (s.stage n) ≤ rank x
     → ((m : ℕ) (b : Block) → s.content m ≡ Some b → t.content m ≡ Some b) → s.drawn ≡ t.drawn → OnlyGrows s t
 advanced s t n x is up stay d = record {

@@ -15,14 +15,14 @@ use Rattle.vme_core.specs.Rule.{Invariant}
 use Rattle.vme_core.specs.Law.{IsFiledByOwner, IsTakenWhenFiled, IsRightStep}
 use Rattle.vme_core.proofs.Sums.{occurrences_here, update_here, update_else, each, set_here}
 
--- the stages are as they were
+-- `IsRightStep` holds if the stages don't change
 quiet : (s t : Core) → s.stage ≡ t.stage → IsRightStep s t
 quiet s t e = record {
   files = λ n more. absurd (let same = ap (λ (f : ℕ → Stage). filed_bit (f n)) e in omega (arith, more, same));
   takes = λ n more. absurd (let same = ap (λ (f : ℕ → Stage). taken_bit (f n)) e in omega (arith, more, same));
 }
 
--- the stage of n alone changes, to x
+-- the case that only the stage of n changes, to x
 module _ (s t : Core) (n : ℕ) (x : Stage) (is : t.stage ≡ update s.stage n x) where
   here : (g : Stage → ℕ) → g (t.stage n) ≡ g x
   here g = ap (λ (f : ℕ → Stage). g (f n)) is ∙ ap g (update_here s.stage n x)
@@ -30,6 +30,8 @@ module _ (s t : Core) (n : ℕ) (x : Stage) (is : t.stage ≡ update s.stage n x
   else_same : (g : Stage → ℕ) (m : ℕ) → m ≢ n → g (t.stage m) ≡ g (s.stage m)
   else_same g m ne = ap (λ (f : ℕ → Stage). g (f m)) is ∙ ap g (update_else s.stage n x m ne)
 
+  -- `IsRightStep` holds if n is filed by its owner where the change to x files it, and taken when it is filed where the
+  -- change takes it
   changed : (filed_bit (s.stage n) < filed_bit x → IsFiledByOwner s t n) → (taken_bit (s.stage n) < taken_bit x
       → IsTakenWhenFiled s t n) → IsRightStep s t
   changed files takes = record {

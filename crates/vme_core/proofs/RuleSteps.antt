@@ -1,4 +1,4 @@
--- The moves of one seat keep the rule, whatever the words and the places are read from.
+-- Each step of one bench preserves the invariant (`StepRule`), for any source of the bits and the slots.
 use Rattle.std.proofs.Common.{◌≡◌, ℕ, ◌+◌, ◌<◌, ◌≤◌, ◌≢◌, List, [], ◌∷◌, ◌++◌, length, set, sym, refl, ap, ◌∙◌, arith}
 use Rattle.std.proofs.Common.{subst, ⊎_elim, le_refl, Option, Some, None}
 use mathlib.Core.Option.{some}
@@ -20,7 +20,7 @@ use Rattle.vme_core.proofs.ViewChanges.{Holding, holding, contents_set, contents
 use Rattle.vme_core.proofs.ViewChanges.{saw_one, saw_both}
 use Rattle.vme_core.proofs.SumsBelow.{pigeonhole, length-numbers, none_else, sum_below_agree, length_sum_below}
 
--- the rule reads the words by their bits alone
+-- the invariant depends only on the values of D, C, F and T at each number
 pub rule_alike : (limit : ℕ) (D D' C C' F F' T T' : ℕ → ℕ) (K : ℕ → Option Block) (E : ℕ → Type 0)
     (H : ℕ → Block → Type 0) (vs : List View) → ((n : ℕ) → D' n ≡ D n) → ((n : ℕ) → C' n ≡ C n) → ((n : ℕ) → F' n ≡ F n)
     → ((n : ℕ) → T' n ≡ T n)
@@ -32,16 +32,18 @@ rule_alike limit D D' C C' F F' T T' K E H vs d c f t r =
 both_none : {A : Type 0} {xs ys : List A} → xs ≡ [] → ys ≡ [] → xs ++ ys ≡ []
 both_none a b i = a i ++ b i
 
--- two contents of one number are one
+-- a number has one content
 pub one_content : (k : Option Block) (b c : Block) → k ≡ Some b → k ≡ Some c → b ≡ c
 one_content k b c p q = cc
 
 pub none_some : (b : Block) → ◌≡◌ {A = Option Block} None (Some b) → ⊥
 none_some b e = cc
 
+-- D, C, F and T are the bits `drawn`, `claimed`, `filed` and `taken`, K is `content`, E is `IsEmpty`, H is `IsFilled`,
+-- and vs are the views of the benches
 module _ (limit : ℕ) (D C F T : ℕ → ℕ) (K : ℕ → Option Block) (E : ℕ → Type 0) (H : ℕ → Block → Type 0) (vs : List View)
     (r : StepRule limit D C F T K E H vs) where
-  -- an emptied slot of a taken number goes home
+  -- returning the emptied slot of a taken number keeps the invariant (`give`)
   pub rule_gives : (E' : ℕ → Type 0) (H' : ℕ → Block → Type 0) (n : ℕ) → T n ≡ 1 → ((m : ℕ) → m ≢ n → E m → E' m)
       → ((m : ℕ) (x : Block) → m ≢ n → H m x → H' m x) → ((m : ℕ) (x : Block) → m ≢ n → H' m x → H m x)
       → ((x : Block) → H' n x → ⊥)
@@ -72,7 +74,8 @@ module _ (limit : ℕ) (D C F T : ℕ → ℕ) (K : ℕ → Option Block) (E : �
     abbrev held : Holding K v
     held = holding C F T K E H vs r.contents i v e
 
-    -- the seat saw more, and nothing else happened
+    -- the invariant holds if the bench saw the draws fo and the numbers cl, fi and ta, whose bits are 1, and nothing
+    -- else changed
     pub rule_saw : (fo cl fi ta : List ℕ) → ((d : ℕ) → 0 < occurrences d fo → D d ≡ 1)
         → ((n : ℕ) → 0 < occurrences n cl → C n ≡ 1) → ((n : ℕ) → 0 < occurrences n fi → F n ≡ 1)
         → ((n : ℕ) → 0 < occurrences n ta → T n ≡ 1)
@@ -87,6 +90,7 @@ module _ (limit : ℕ) (D C F T : ℕ → ℕ) (K : ℕ → Option Block) (E : �
           contents = contents_look C F T K E H vs r.contents i w (record { listed = held.listed; took = held.took });
         }
 
+    -- winning the draw d keeps the invariant (`draw`)
     pub rule_gets : v.share ≢ [] → (D' : ℕ → ℕ) (d : ℕ) → D d ≡ 0 → D' d ≡ 1 → ((m : ℕ) → m ≢ d → D' m ≡ D m)
         → StepRule limit D' C F T K E H (set vs i (after_draw v d))
     rule_gets rich D' d d0 d1 d_else =
@@ -105,11 +109,11 @@ module _ (limit : ℕ) (D C F T : ℕ → ℕ) (K : ℕ → Option Block) (E : �
           contents = contents_look C F T K E H vs r.contents i w (record { listed = held.listed; took = held.took });
         }
 
-    -- none has drawn what is not drawn
+    -- the bench hasn't won a draw that isn't drawn
     pub undrawn : (d : ℕ) → D d ≡ 0 → occurrences d v.draws ≡ 0
     undrawn d is = omega (arith, at_most_sum (λ (u : View). occurrences d u.draws) vs i v e, r.draws.won_once d, is)
 
-    -- and none has filed or taken what is not
+    -- a number that isn't filed isn't in the bench's list, and one that isn't taken isn't in its takes
     pub unlisted : (n : ℕ) → F n ≡ 0 → occurrences n (numbers v.list) ≡ 0
     unlisted n is = omega (
       arith,
@@ -126,7 +130,7 @@ module _ (limit : ℕ) (D C F T : ℕ → ℕ) (K : ℕ → Option Block) (E : �
       is,
     )
 
-    -- what it took is taken
+    -- a number in the bench's takes is taken
     pub is_taken : (n : ℕ) → 0 < occurrences n (numbers v.takes) → T n ≡ 1
     is_taken n is = omega (
       arith,
@@ -138,6 +142,7 @@ module _ (limit : ℕ) (D C F T : ℕ → ℕ) (K : ℕ → Option Block) (E : �
       is,
     )
 
+    -- claiming the number n keeps the invariant (`claim`)
     pub rule_wins : v.share ≢ [] → (C' : ℕ → ℕ) (E' : ℕ → Type 0) (H' : ℕ → Block → Type 0) (n : ℕ) → v.pending ≡ []
         → n < limit → C n ≡ 0 → C' n ≡ 1 → ((m : ℕ) → m ≢ n → C' m ≡ C m) → ((m : ℕ) → m ≢ n → E m → E' m)
         → ((m : ℕ) (x : Block) → m ≢ n → H m x → H' m x) → ((m : ℕ) (x : Block) → m ≢ n → H' m x → H m x)
@@ -175,7 +180,7 @@ module _ (limit : ℕ) (D C F T : ℕ → ℕ) (K : ℕ → Option Block) (E : �
           }) (λ _ _ h. h) (record { listed = held.listed; took = held.took });
         }
 
-    -- what the seat has pending is claimed and not filed
+    -- a number that is pending with the bench is claimed and not filed
     pub is_pending : (n : ℕ) → v.pending ≡ n ∷ [] → (C n ≡ 1) × (F n ≡ 0)
     is_pending n one = let p1 : occurrences n v.pending ≡ 1 = ap (occurrences n) one ∙ occurrences_here n [] in
         let owned = at_most_sum (λ (u : View). occurrences n u.pending) vs i v e in
@@ -347,7 +352,7 @@ module _ (limit : ℕ) (D C F T : ℕ → ℕ) (K : ℕ → Option Block) (E : �
               (record { listed = λ _ _ h. absurd h; took = λ _ _ h. absurd h });
         }
 
-    -- what the seat has is once there
+    -- the draws, the list and the takes of a view have no duplicates
     pub rule_once : ((d : ℕ) → occurrences d v.draws ≤ 1) × ((n : ℕ) → occurrences n (numbers v.list) ≤ 1)
         × ((n : ℕ) → occurrences n (numbers v.takes) ≤ 1)
     rule_once = (
@@ -374,11 +379,12 @@ module _ (limit : ℕ) (D C F T : ℕ → ℕ) (K : ℕ → Option Block) (E : �
       ),
     )
 
-    -- a number that it filed and took has one content
+    -- if the bench filed and took a number, it took the block that it filed
     pub rule_agrees : (n : ℕ) (b c : Block) → HasPair v.list n b → HasPair v.takes n c → b ≡ c
     rule_agrees n b c h t = one_content (K n) b c (held.listed n b h) (held.took n c t)
 
-    -- and there are no more of them than numbers that are filed, and taken
+    -- a view lists at most as many numbers as are filed, and takes at most as many as are taken (`few_listed`,
+    -- `few_taken`, which also count the numbers that it saw filed or taken and doesn't have)
     file_within : (n : ℕ) → 0 < F n → n < limit
     file_within n h = r.stages.in_range n (omega (arith, h, r.stages.pending_once n))
 
@@ -414,7 +420,7 @@ module _ (limit : ℕ) (D C F T : ℕ → ℕ) (K : ℕ → Option Block) (E : �
       length-numbers v.takes,
     )
 
-    -- where there are as many, there are no others
+    -- if a view lists at least as many numbers as are filed, every filed number is in its list; the same for taken ones
     pub all_listed : sum_below F limit ≤ length v.list → (n : ℕ) → n < limit → F n ≡ occurrences n (numbers v.list)
     all_listed full = none_else F limit (numbers v.list) file_within list_few
         (omega (arith, full, length-numbers v.list))
@@ -423,8 +429,8 @@ module _ (limit : ℕ) (D C F T : ℕ → ℕ) (K : ℕ → Option Block) (E : �
     all_taken full = none_else T limit (numbers v.takes) take_within takes_few
         (omega (arith, full, length-numbers v.takes))
 
-    -- who has the whole share has done all that was done: each draw won, each number filed or taken is its own, and no
-    -- other has a number pending
+    -- the bench that has the whole share won each draw that was won, filed each number that was filed, and took each
+    -- that was taken, and no other bench has a number pending
     module _ (all : IsWholeShare v.share) where
       own : (g : View → ℕ) → ((u : View) → u.list ≡ [] → u.takes ≡ [] → u.draws ≡ [] → u.pending ≡ [] → g u ≡ 0)
           → sum_by g vs ≡ g v

@@ -61,7 +61,7 @@ module _ (limit : ℕ) (s : Core) (r : Invariant limit s) where
     abbrev saw : Sighted C F T v
     saw = sighted limit C F T s.views r.stages i v e
 
-    -- of the numbers ns, seen at one of three places
+    -- the invariant holds after the bench saw the numbers ns claimed; below, filed and taken
     sees_1 : (ns : List ℕ) → ((n : ℕ) → 0 < occurrences n ns → C n ≡ 1) → Invariant limit
         (with_views s (set s.views i (with_claimed v ns)))
     sees_1 ns c = rule_saw limit s.drawn C F T s.content E H s.views r i v e v.found (ns ++ v.claimed) v.filed v.taken

@@ -1,4 +1,4 @@
--- The numbers at whose place a bit is 1.
+-- The numbers whose bit is 1 (`set_bits`).
 use Rattle.std.proofs.Common.{◌≡◌, ◌==◌, ℕ, zero, suc, ◌+◌, ◌*◌, ◌<◌, Bool, true, false, cond, ◌∷◌, sym, refl, ap, ◌∙◌}
 use Rattle.std.proofs.Common.{subst, arith}
 use Rattle.std.proofs.lemmas.Bool.Decides.{nat_tests}
@@ -40,6 +40,6 @@ set_bits_all first bits zero i l one = absurd (omega arith)
 set_bits_all first bits (suc c) i l one = all_step first bits c i (bits c == 1) refl one l
     (λ h. set_bits_all first bits c i h one)
 
--- what is marked of the values of f from 64 g on is so
+-- if m is among those of the 64 numbers from 64 g on whose value of f is 1, then f m is 1
 pub set_bits_are : (f : ℕ → ℕ) (g m : ℕ) → 0 < occurrences m (set_bits (64 * g) (λ k. f (64 * g + k)) 64) → f m ≡ 1
 set_bits_are f g m h = let t = set_bits_true (64 * g) (λ k. f (64 * g + k)) 64 m h in ap f t.2 ∙ t.3

@@ -1,4 +1,4 @@
--- Shares: doubled scales, splits and folds, and that the one who has the whole is the only one to have any.
+-- Shares: finer parts, splits and joins. If one bench has the whole share, no other has any.
 use Rattle.std.proofs.Common.{◌≡◌, ℕ, zero, suc, ◌+◌, ◌-◌, ◌^◌, ◌≤◌, List, [], ◌∷◌, ◌++◌, sym, refl, ap, arith, subst}
 use Rattle.std.proofs.Common.{pow-suc, pow_pos}
 use mathlib.Core.Option.{some, some-injective, some-ne-none}
@@ -28,7 +28,7 @@ pub weight-append : (k : ℕ) (xs ys : List ℕ) → weight k (xs ++ ys) ≡ wei
 weight-append k [] ys = omega arith
 weight-append k (x ∷ xs) ys = omega (arith, weight-append k xs ys)
 
--- a share that weighs nothing has no part
+-- a share of weight 0 has no part
 pub no_weight : (k : ℕ) (es : List ℕ) → weight k es ≡ 0 → es ≡ []
 no_weight k [] is = refl
 no_weight k (e ∷ es) is = let p = pow_pos (k - e) in absurd (omega (arith, is, p))
@@ -41,7 +41,7 @@ pub fits_split : (k : ℕ) (es : List ℕ) → FitsIn k es → FitsIn (suc k) (s
 fits_split k [] f = tt
 fits_split k (e ∷ es) f = (let a = f.0 in omega (arith, a), tt)
 
--- the halves are what was there
+-- the weights of the two shares after a split add up to the weight before it
 pub halves : (k : ℕ) (es : List ℕ) → FitsIn k es → weight (suc k) (kept_share es) + weight (suc k) (split_share es)
     ≡ weight (suc k) es
 halves k [] f = refl
@@ -84,7 +84,7 @@ module _ {V : Type 0} (share : V → List ℕ) where
   whole_by (suc j) k vs w = subst (λ (y : ℕ). AllWhole y vs) (let e : suc (j + k) ≡ suc j + k = omega arith in
       e) (whole_more (j + k) vs (whole_by j k vs w))
 
-  -- nobody else has a part
+  -- if the sum of f is 0, and g is 0 wherever f is, then the sum of g is 0
   sum_none : (f g : V → ℕ) (vs : List V) → sum_by f vs ≡ 0 → ((i : ℕ) (u : V) → get_elem? vs i ≡ some u → f u ≡ 0 → g u
       ≡ 0) → sum_by g vs ≡ 0
   sum_none f g [] is none = refl
@@ -124,7 +124,7 @@ module _ {V : Type 0} (share : V → List ℕ) where
   one_whole : (k : ℕ) (v : V) → FitsIn k (share v) → weight k (share v) ≡ 2 ^ k → AllWhole k (v ∷ [])
   one_whole k v f is = (one_fits k v f, omega (arith, is, sum_by-cons (λ u. weight k (share u)) v []))
 
-  -- where one has the whole, a sum over all is its own, if those without a part have nothing
+  -- if v has the whole share, and g is 0 for each without a share, then the sum of g over all is g v
   pub alone : (k : ℕ) (vs : List V) → AllWhole k vs → (i : ℕ) (v : V) → get_elem? vs i ≡ some v → IsWholeShare (share v)
       → (g : V → ℕ) → ((j : ℕ) (u : V) → get_elem? vs j ≡ some u → share u ≡ [] → g u ≡ 0) → sum_by g vs ≡ g v
   alone k vs w i v e (m, f, is) g none =

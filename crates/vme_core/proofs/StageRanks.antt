@@ -21,7 +21,7 @@ bits_of Claimed = record { sum = omega arith; filed = omega arith; taken = omega
 bits_of Filed = record { sum = omega arith; filed = omega arith; taken = omega arith; claimed = omega arith }
 bits_of Taken = record { sum = omega arith; filed = omega arith; taken = omega arith; claimed = omega arith }
 
--- what was seen is no more than there is, where each of the three was seen truly
+-- the stage that was seen isn't after the stage x, if each of the three was seen truly
 pub seen_below : (t f c : ℕ) (x : Stage) → (0 < c → claimed_bit x ≡ 1) → (0 < f → filed_bit x ≡ 1)
     → (0 < t → taken_bit x ≡ 1) → rank (stage_of t f c) ≤ rank x
 seen_below (suc t) f c x h_claimed h_filed h_taken = let b = bits_of x in
@@ -89,7 +89,7 @@ seen_filed_or_more v n = rank_filed (occurrences n v.taken) (occurrences n v.fil
 pub seen_claimed_or_more : (v : View) (n : ℕ) → 0 < occurrences n v.claimed → 1 ≤ rank (seen v n)
 seen_claimed_or_more v n = rank_claimed (occurrences n v.taken) (occurrences n v.filed) (occurrences n v.claimed)
 
--- what was seen neither filed nor taken
+-- a number that was seen neither filed nor taken was seen at a stage before Filed
 pub seen_less_than_filed : (v : View) (n : ℕ) → occurrences n v.filed ≡ 0 → occurrences n v.taken ≡ 0 → rank (seen v n)
     < 2
 seen_less_than_filed v n = by_none (occurrences n v.taken) (occurrences n v.filed) (occurrences n v.claimed)
@@ -100,7 +100,7 @@ seen_less_than_filed v n = by_none (occurrences n v.taken) (occurrences n v.file
     by_none zero zero zero e g = omega arith
     by_none zero zero (suc c) e g = omega arith
 
--- who sees more of a number, sees a stage at least as far
+-- a bench that has seen a number at least as often taken, filed and claimed has seen it at a stage that isn't earlier
 stage_grows : (t f c t' f' c' : ℕ) → t ≤ t' → f ≤ f' → c ≤ c' → rank (stage_of t f c) ≤ rank (stage_of t' f' c')
 stage_grows (suc t) f c t' f' c' a b d = rank_taken t' f' c' (omega arith)
 stage_grows zero (suc f) c t' f' c' a b d = rank_filed t' f' c' (omega arith)
@@ -122,7 +122,7 @@ one_of : (a b sum : ℕ) → sum ≡ a + b → 0 < sum → (0 < a) ⊎ (0 < b)
 one_of zero b sum is some = inr (omega (arith, is, some))
 one_of (suc a) b sum is some = inl (omega arith)
 
--- one bench for two sees the greater of what they saw
+-- after a join, a number was seen at the later of the stages at which the two benches saw it
 pub seen-joint_view : (v w : View) (n : ℕ) → rank (seen (joint_view v w) n) ≡ max (rank (seen v n)) (rank (seen w n))
 seen-joint_view v w n =
     let left : SeesMore v (joint_view v w) = record {

@@ -1,4 +1,4 @@
--- Sums over the views after one or two of them changed, and how often a number stands in a list.
+-- Sums over the views after one or two of them changed, and how often a number occurs in a list.
 use Rattle.std.proofs.Common.{◌≡◌, ℕ, zero, suc, ◌+◌, ◌<◌, ◌≤◌, ◌≢◌, ◌⊎◌, List, [], ◌∷◌, ◌++◌, cond, set, sym, refl, ap}
 use Rattle.std.proofs.Common.{◌∙◌, arith, subst, inl, inr, eq-eqb, ne_eqb, ⊎_elim}
 use mathlib.Core.Option.{some, some-injective, some-ne-none}
@@ -58,14 +58,14 @@ HasPair-append [] ys n b h = inr h
 HasPair-append (x ∷ xs) ys n b (inl e) = inl (inl e)
 HasPair-append (x ∷ xs) ys n b (inr h) = ⊎_elim (λ a. inl (inr a)) (λ a. inr a) (HasPair-append xs ys n b h)
 
--- a pair that stands in a list has its number there
+-- the number of a pair in a list occurs among the list's numbers
 pub occurs_of_pair : (xs : List (ℕ × Block)) (n : ℕ) (b : Block) → HasPair xs n b → 0 < occurrences n (numbers xs)
 occurs_of_pair [] n b h = absurd h
 occurs_of_pair (x ∷ xs) n b (inl e) = let z : occurrences n (x.0 ∷ numbers xs) ≡ 1 + occurrences n (numbers xs) = ap
     (λ (y : ℕ). occurrences n (y ∷ numbers xs)) e.0 ∙ occurrences_here n (numbers xs) in omega (arith, z)
 occurs_of_pair (x ∷ xs) n b (inr h) = let r = occurs_of_pair xs n b h in omega (arith, r)
 
--- and a number that occurs there has a pair
+-- a number that occurs among a list's numbers has a pair in the list
 pub pair_of_occurs : (xs : List (ℕ × Block)) (n : ℕ) → 0 < occurrences n (numbers xs) → (b : Block) × HasPair xs n b
 pair_of_occurs [] n h = absurd (omega arith)
 pair_of_occurs (x ∷ xs) n h = dite (ℕ_discrete n x.0) (λ e. (x.1, inl (sym e, refl))) (λ ne. let p = pair_of_occurs xs n
@@ -78,11 +78,11 @@ module _ {X : Type 0} (f : ℕ → X) (n : ℕ) (x : X) where
   pub update_else : (m : ℕ) → m ≢ n → update f n x m ≡ f m
   update_else m ne = ap (λ b. cond b x (f m)) (ne_eqb m n ne)
 
--- a fact of each number, by whether it is n
+-- a fact holds of each number if it holds of n and of every other number
 pub each : (n : ℕ) (F : ℕ → Type 0) → F n → ((m : ℕ) → m ≢ n → F m) → (m : ℕ) → F m
 each n F here else m = dite (ℕ_discrete m n) (λ e. subst F (sym e) here) (λ ne. else m ne)
 
--- what stands in a list after one place changed, or after one came
+-- the items of a list after the one with index i changed, or after one was added
 module _ {A : Type 0} where
   pub at_set : (l : List A) (i j : ℕ) (a b : A) → get_elem? (set l i a) j ≡ some b → ((j ≡ i) × (a ≡ b)) ⊎
       ((j ≢ i) × (get_elem? l j ≡ some b))

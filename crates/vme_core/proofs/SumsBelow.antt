@@ -1,4 +1,4 @@
--- A list of numbers below a limit, each as often as a function allows, is no longer than the function's sum.
+-- A list of numbers below a limit, in which each n occurs at most f n times, is at most as long as the sum of f.
 use Rattle.std.proofs.Common.{◌≡◌, ℕ, zero, suc, ◌+◌, ◌<◌, ◌≤◌, List, [], ◌∷◌, length, sym, refl, ap, arith, subst}
 use mathlib.Core.Logic.{dite}
 use native.Mathlib.Decide.{ℕ_discrete}
@@ -41,7 +41,7 @@ sum_below_same f g limit h = ap (λ (k : ℕ → ℕ). sum_below k limit) (λ i 
 occurrences_split : (n x : ℕ) (xs : List ℕ) → occurrences n (x ∷ xs) ≡ occurrences n (x ∷ []) + occurrences n xs
 occurrences_split n x xs = omega arith
 
--- each number of the list is below the limit
+-- if each number of a list is below `limit`, the list's length is the sum of the occurrences
 pub length_sum_below : (xs : List ℕ) (limit : ℕ) → ((n : ℕ) → 0 < occurrences n xs → n < limit) → length xs
     ≡ sum_below (λ n. occurrences n xs) limit
 length_sum_below [] zero h = refl
@@ -68,7 +68,7 @@ pub sum_below_agree : (f g : ℕ → ℕ) (limit : ℕ) → ((n : ℕ) → n < l
 sum_below_agree f g zero h = refl
 sum_below_agree f g (suc k) h = omega (arith, h k (omega arith), sum_below_agree f g k (λ n l. h n (omega (arith, l))))
 
--- where f is no more than 1, and 1 only below the limit
+-- the case that f is positive only below `limit`, and each n occurs in xs at most f n times
 module _ (f : ℕ → ℕ) (limit : ℕ) (within : (n : ℕ) → 0 < f n → n < limit) (xs : List ℕ)
     (few : (n : ℕ) → occurrences n xs ≤ f n) where
   pub pigeons : length xs ≤ sum_below f limit
@@ -84,6 +84,8 @@ module _ (f : ℕ → ℕ) (limit : ℕ) (within : (n : ℕ) → 0 < f n → n <
   missed (suc saw) zero one a b = omega (arith, b (omega arith))
   missed (suc saw) (suc had) one a b = omega arith
 
+  -- if f is 1 at each number of `saw`, the numbers of `saw` that aren't in xs, and those of xs, are together at most as
+  -- many as the sum of f
   pub pigeonhole : (saw : List ℕ) → ((n : ℕ) → 0 < occurrences n saw → f n ≡ 1) → sum_below (missing_at saw xs) limit +
       length xs ≤ sum_below f limit
   pigeonhole saw so = omega (
@@ -98,6 +100,7 @@ pub sum_below_limit : (f : ℕ → ℕ) (limit : ℕ) → ((n : ℕ) → f n ≤
 sum_below_limit f zero h = omega arith
 sum_below_limit f (suc n) h = omega (arith, sum_below_limit f n h, h n)
 
+-- if g is at most f everywhere, and the sum of f is at most that of g, then f and g are equal below `limit`
 squeeze : (f g : ℕ → ℕ) (limit : ℕ) → ((n : ℕ) → g n ≤ f n) → sum_below f limit ≤ sum_below g limit → (n : ℕ)
     → n < limit → f n ≡ g n
 squeeze f g zero less full n low = absurd (omega arith)
@@ -105,7 +108,8 @@ squeeze f g (suc k) less full n low = dite (ℕ_discrete n k)
     (λ e. subst (λ (y : ℕ). f y ≡ g y) (sym e) (omega (arith, full, less k, sum_below_monotone g f k less)))
     (λ ne. squeeze f g k less (omega (arith, full, less k)) n (omega (arith, low, ne)))
 
--- a sum that is no more than what stands in the list leaves nothing else
+-- if each n occurs in xs at most f n times, and the sum of f is at most the length of xs, then each n below `limit`
+-- occurs in xs exactly f n times
 pub none_else : (f : ℕ → ℕ) (limit : ℕ) (xs : List ℕ) → ((n : ℕ) → 0 < f n → n < limit)
     → ((n : ℕ) → occurrences n xs ≤ f n) → sum_below f limit ≤ length xs → (n : ℕ) → n < limit → f n ≡ occurrences n xs
 none_else f limit xs within few full n low = squeeze f (λ m. occurrences m xs) limit few

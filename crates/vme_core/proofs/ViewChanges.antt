@@ -1,4 +1,4 @@
--- Each part of the rule is kept where one view changes, one comes, or two are joined.
+-- Each part of the invariant is preserved if one view changes, one is added, or two are joined.
 use Rattle.std.proofs.Common.{◌≡◌, ℕ, zero, suc, ◌+◌, ◌<◌, ◌≤◌, ◌≢◌, List, [], ◌∷◌, ◌++◌, length, set, sym, refl, ap}
 use Rattle.std.proofs.Common.{◌∙◌, arith, subst, ⊎_elim, le_refl, Option, Some, None}
 use mathlib.Core.Option.{some, some-injective, some-ne-none}
@@ -19,7 +19,7 @@ use Rattle.vme_core.proofs.Sums.{sum_by_set, at_set, at_snoc, set_else, occurren
 pub cons_none : {x : ℕ} {xs : List ℕ} → x ∷ xs ≡ [] → ⊥
 cons_none z = omega (arith, ap length z)
 
--- F holds of each view after one changed
+-- F holds of each view after the view i became w
 pub after_set : (F : View → Type 0) (vs : List View) (i : ℕ) (w : View) → F w → ((j : ℕ) (u : View) → get_elem? vs j
     ≡ some u → F u) → (j : ℕ) (u : View) → get_elem? (set vs i w) j ≡ some u → F u
 after_set F vs i w new old j u e = ⊎_elim (λ t. subst F t.1 new) (λ t. old j u t.1) (at_set vs i j w u e)
@@ -28,13 +28,13 @@ pub after_append : (F : View → Type 0) (vs : List View) (w : View) → F w →
     → F u) → (j : ℕ) (u : View) → get_elem? (vs ++ w ∷ []) j ≡ some u → F u
 after_append F vs w new old j u e = ⊎_elim (λ a. old j u a) (λ a. subst F a new) (at_snoc vs w u j e)
 
--- where two views changed
+-- F holds of each view after the views i and j became b and s
 after_two : (F : View → Type 0) (vs : List View) (i j : ℕ) (b s : View) → F b → F s
     → ((k : ℕ) (u : View) → get_elem? vs k ≡ some u → F u) → (k : ℕ) (u : View) → get_elem? (set (set vs i b) j s) k
     ≡ some u → F u
 after_two F vs i j b s mine spent old = after_set F (set vs i b) j s spent (after_set F vs i b mine old)
 
--- and what they had together is what they have
+-- the sum of g doesn't change if the views i and j change and the sum over these two doesn't
 pub sum_by_two : (g : View → ℕ) (vs : List View) (i j : ℕ) (v w b s : View) → get_elem? vs i ≡ some v → j ≢ i
     → get_elem? vs j ≡ some w → g b + g s ≡ g v + g w → sum_by g (set (set vs i b) j s) ≡ sum_by g vs
 sum_by_two g vs i j v w b s e ne f same = omega (
@@ -45,7 +45,7 @@ sum_by_two g vs i j v w b s e ne f same = omega (
   same,
 )
 
--- who keeps no share had none
+-- a share that is empty after a split was empty before
 none_kept : (es : List ℕ) → kept_share es ≡ [] → es ≡ []
 none_kept [] z = refl
 none_kept (e ∷ es) z = absurd (cons_none z)
@@ -89,7 +89,7 @@ module _ (drawn : ℕ → ℕ) (vs : List View) (r : DrawRule drawn vs) where
   }
 
 module _ (vs : List View) (r : ShareRule vs) where
-  -- one view changed, and not its share
+  -- `ShareRule` holds if one view changes to w, but not its share, and w satisfies `HasNothing` if the share is empty
   pub shares_set : (i : ℕ) (v w : View) → get_elem? vs i ≡ some v → w.share ≡ v.share → (v.share ≡ [] → HasNothing w)
       → ShareRule (set vs i w)
   shares_set i v w e same none = record {
@@ -107,7 +107,7 @@ module _ (vs : List View) (r : ShareRule vs) where
     poor = after_append (λ u. u.share ≡ [] → HasNothing u) vs w (λ _. none) r.poor;
   }
 
-  -- one view is cut in two
+  -- `ShareRule` holds after a split
   pub shares_split : (i : ℕ) (v : View) → get_elem? vs i ≡ some v → ShareRule (set vs i (kept_view v) ++ split_view v
       ∷ [])
   shares_split i v e = let f = r.fit i v e in let more = whole_more (λ (u : View). u.share) r.k vs (r.fit, r.whole) in
@@ -129,7 +129,7 @@ module _ (vs : List View) (r : ShareRule vs) where
             record { list = h.list; takes = h.takes; draws = h.draws; pending = h.pending }) r.poor);
       }
 
-  -- two views are made one, with both shares, and the other has none
+  -- `ShareRule` holds after a join: b has both shares, and s has none
   pub shares_two : (i j : ℕ) (v w b s : View) → get_elem? vs i ≡ some v → j ≢ i → get_elem? vs j ≡ some w → b.share
       ≡ v.share ++ w.share → s.share ≡ [] → HasNothing s → (v.share ≡ [] → w.share ≡ [] → HasNothing b)
       → ShareRule (set (set vs i b) j s)
@@ -148,12 +148,13 @@ module _ (vs : List View) (r : ShareRule vs) where
         (sym both ∙ z) in none parts.0 parts.1) (λ _. spent) r.poor;
   }
 
--- what a view says that it saw is so
+-- what the view w has seen is so
 pub record Sighted (c f t : ℕ → ℕ) (w : View) : Type 0 where
   pub claimed : (n : ℕ) → 0 < occurrences n w.claimed → c n ≡ 1
   pub filed : (n : ℕ) → 0 < occurrences n w.filed → f n ≡ 1
   pub taken : (n : ℕ) → 0 < occurrences n w.taken → t n ≡ 1
 
+-- c, f and t are the bits `claimed`, `filed` and `taken`
 module _ (limit : ℕ) (c f t : ℕ → ℕ) (vs : List View) (r : StageRule limit c f t vs) where
   pub sighted : (i : ℕ) (v : View) → get_elem? vs i ≡ some v → Sighted c f t v
   sighted i v e = record { claimed = r.saw_claimed i v e; filed = r.saw_filed i v e; taken = r.saw_taken i v e }
@@ -192,7 +193,7 @@ module _ (limit : ℕ) (c f t : ℕ → ℕ) (vs : List View) (r : StageRule lim
             (λ j u there n s. omega (arith, r.saw_taken j u there n s, bit n, mt n, order n, pends n));
       }
 
-  -- one view saw more, and nothing else changed
+  -- `StageRule` holds if one view saw other numbers, which satisfy `Sighted`, and nothing else changed
   pub stages_saw : (i : ℕ) (v w : View) → get_elem? vs i ≡ some v → ((n : ℕ) → occurrences n w.pending
       ≡ occurrences n v.pending) → ((n : ℕ) → occurrences n (numbers w.list) ≡ occurrences n (numbers v.list))
       → ((n : ℕ) → occurrences n (numbers w.takes) ≡ occurrences n (numbers v.takes))
@@ -262,18 +263,19 @@ module _ (limit : ℕ) (c f t : ℕ → ℕ) (vs : List View) (r : StageRule lim
         r.saw_taken;
   }
 
--- what a view filed and took are contents
+-- each block that the view w filed or took is the content of its number
 pub record Holding (content : ℕ → Option Block) (w : View) : Type 0 where
   pub listed : (n : ℕ) (b : Block) → HasPair w.list n b → content n ≡ Some b
   pub took : (n : ℕ) (b : Block) → HasPair w.takes n b → content n ≡ Some b
 
--- what the words, the contents and the places say of each other
+-- the part of `ContentRule` that isn't about views: how the bits, the contents and the slots agree
 pub record Placed (c f t : ℕ → ℕ) (K : ℕ → Option Block) (E : ℕ → Type 0) (H : ℕ → Block → Type 0) : Type 0 where
   pub free_is_empty : (n : ℕ) → c n ≡ 0 → E n
   pub unfiled_is_none : (n : ℕ) → f n ≡ 0 → K n ≡ None
   pub filed_is_home : (n : ℕ) → f n ≡ 1 → t n ≡ 0 → (b : Block) × (K n ≡ Some b) × H n b
   pub home_is_filed : (n : ℕ) (b : Block) → H n b → (f n ≡ 1) × (t n ≡ 0) × (K n ≡ Some b)
 
+-- c, f and t are the bits `claimed`, `filed` and `taken`, K is `content`, E is `IsEmpty`, and H is `IsFilled`
 module _ (c f t : ℕ → ℕ) (K : ℕ → Option Block) (E : ℕ → Type 0) (H : ℕ → Block → Type 0) (vs : List View)
     (r : ContentRule c f t K E H vs) where
   pub placed : Placed c f t K E H
@@ -302,7 +304,7 @@ module _ (c f t : ℕ → ℕ) (K : ℕ → Option Block) (E : ℕ → Type 0) (
         (λ j u there n b has. stays n b (r.took j u there n b has));
   }
 
-  -- the words and the places are as they were
+  -- `ContentRule` holds if one view changes to w, which satisfies `Holding`, and no bit, content or slot changes
   pub contents_look : (i : ℕ) (w : View) → Holding K w → ContentRule c f t K E H (set vs i w)
   contents_look i w mine = contents_set c f t K E H i w placed (λ _ _ h. h) mine
 
@@ -342,7 +344,7 @@ only_one : {A : Type 0} (a b : A) (i : ℕ) → get_elem? (a ∷ []) i ≡ some 
 only_one a b zero e = some-injective a b e
 only_one a b (suc i) e = absurd (some-ne-none b (sym e))
 
--- what holds of the only view, as it is first_view
+-- what holds of `first_view` holds of each view of a board with that view alone
 pub from_fresh : (F : View → Type 0) → F first_view → (i : ℕ) (v : View) → get_elem? (first_view ∷ []) i ≡ some v → F v
 from_fresh F f i v e = subst F (only_one first_view v i e) f
 

@@ -1,4 +1,4 @@
--- The machine: its states, its events, and what each event does. An event is one atomic step of one bench.
+-- The state machine: its states, its events, and what each event does. An event is one atomic step of one bench.
 use Rattle.std.specs.Prelude.{◌≡◌, ◌≢◌, ℕ, zero, suc, ◌+◌, ◌*◌, ◌<◌, List, [], ◌∷◌, ◌++◌, slice_set, Option, Some, None}
 use mathlib.Core.Option.{some}
 use lib.ListN.{get_elem?}
@@ -12,13 +12,13 @@ use Rattle.vme_core.specs.Views.{empty_view, first_view, kept_view, split_view, 
 use Rattle.vme_core.specs.Views.{with_claimed, with_filed, with_taken, with_found}
 use Rattle.vme_core.specs.Views.{after_draw, after_claim, after_filing, after_take}
 
--- the slot of a number: at home and empty, out with a bench, or at home with a block
+-- the slot of a number: in the table and empty, checked out by a bench, or in the table with a block
 pub data Slot : Type 0 where
   empty : Slot
   away : Slot
   filled : Block → Slot
 
--- how far a bench is between a claim and its filing, or between a take and the return of the slot
+-- where a bench is between a claim and its filing, or between a take and the return of the slot
 pub data BenchProgress : Type 0 where
   idle : BenchProgress
   has_claimed : ℕ → Block → BenchProgress
@@ -26,7 +26,8 @@ pub data BenchProgress : Type 0 where
   has_taken : ℕ → Block → BenchProgress
   has_lifted : ℕ → Block → BenchProgress
 
--- Benches are numbered in the order in which they were made, and so are their views.
+-- A state. For each number: its stage, its content, i.e. the block that was filed for it, and its slot (`home`). For
+-- each draw: 1 if it was won, else 0. For each bench, in the order in which they were made: its progress and its view.
 pub record Core : Type 0 where
   pub stage : ℕ → Stage
   pub content : ℕ → Option Block
@@ -35,13 +36,15 @@ pub record Core : Type 0 where
   pub progress : ℕ → BenchProgress
   pub views : List View
 
--- which bits of 64 numbers a word has
+-- a word has one bit for each of 64 numbers: whether it is claimed, filed or taken
 pub data WordRow : Type 0 where
   claimed_row : WordRow
   filed_row : WordRow
   taken_row : WordRow
 
--- The first number of an event is the bench that takes the step.
+-- The first number of an event is the bench that takes the step. A bench makes another with `split`, and `join` merges
+-- another into it. The second number of `draw` is a draw, and that of the events from `claim` to `file` and from `take`
+-- to `give` is the number that it works on.
 pub data BoardEvent : Type 0 where
   make : BoardEvent
   split : ℕ → BoardEvent
@@ -49,12 +52,12 @@ pub data BoardEvent : Type 0 where
   claim : ℕ → ℕ → Block → BoardEvent
   put : ℕ → ℕ → Block → BoardEvent
   file : ℕ → ℕ → Block → BoardEvent
-  -- the word of a row that has the bits of 64 numbers from 64 times the last number on
+  -- a load of the word with the last number as its index: it has the bits of the 64 numbers from 64 times the index on
   look : ℕ → WordRow → ℕ → BoardEvent
   draw : ℕ → ℕ → BoardEvent
   take : ℕ → ℕ → BoardEvent
   lift : ℕ → ℕ → BoardEvent
-  -- a load by which an emptied slot goes home
+  -- a load by which an emptied slot is returned to the table
   give : ℕ → ℕ → BoardEvent
   -- a load that changes nothing
   load : ℕ → BoardEvent
@@ -76,7 +79,7 @@ HasView s i v = get_elem? s.views i ≡ some v
 abbrev pub with_views : Core → List View → Core
 with_views s vs = record s { views = vs }
 
--- the bench i, of the view v, tries to claim n, whose claimed bit is the last argument
+-- the state after the bench i, with the view v, tries to claim n; the last argument is the claimed bit of n
 abbrev pub after_claim_step : Core → ℕ → ℕ → Block → View → ℕ → Core
 after_claim_step s i n b v zero = record {
   stage = update s.stage n Claimed;
@@ -88,7 +91,7 @@ after_claim_step s i n b v zero = record {
 }
 after_claim_step s i n b v (suc k) = with_views s (slice_set s.views i (with_claimed v (n ∷ [])))
 
--- the bench files what it put
+-- the state after the bench i, with the view v, files n with the block b
 abbrev pub after_file_step : Core → ℕ → ℕ → Block → View → Core
 after_file_step s i n b v = record {
   stage = update s.stage n Filed;
@@ -99,7 +102,7 @@ after_file_step s i n b v = record {
   views = slice_set s.views i (after_filing v n b);
 }
 
--- the bench tries the draw d, whose drawn bit is the last argument
+-- the state after the bench i, with the view v, tries the draw d; the last argument is the drawn bit of d
 abbrev pub after_draw_step : Core → ℕ → ℕ → View → ℕ → Core
 after_draw_step s i d v zero = record {
   stage = s.stage;
@@ -111,7 +114,7 @@ after_draw_step s i d v zero = record {
 }
 after_draw_step s i d v (suc k) = with_views s (slice_set s.views i (with_found v d))
 
--- the bench tries to take n, whose taken bit and content are the last arguments
+-- the state after the bench i, with the view v, tries to take n; the last arguments are the taken bit and content of n
 abbrev pub after_take_step : Core → ℕ → ℕ → View → ℕ → Option Block → Core
 after_take_step s i n v zero (Some b) = record {
   stage = update s.stage n Taken;
@@ -124,14 +127,14 @@ after_take_step s i n v zero (Some b) = record {
 after_take_step s i n v zero None = s
 after_take_step s i n v (suc k) c = with_views s (slice_set s.views i (with_taken v (n ∷ [])))
 
--- what a bench has seen after it looked at the word g of a row
+-- the view of a bench after it looked at the word g of a row
 abbrev pub after_look : Core → View → WordRow → ℕ → View
 after_look s v claimed_row g = with_claimed v (set_bits (64 * g) (λ k. claimed_bit (s.stage (64 * g + k))) 64)
 after_look s v filed_row g = with_filed v (set_bits (64 * g) (λ k. filed_bit (s.stage (64 * g + k))) 64)
 after_look s v taken_row g = with_taken v (set_bits (64 * g) (λ k. taken_bit (s.stage (64 * g + k))) 64)
 
 module _ (total draws : ℕ) where
-  -- the event may happen in s, and leads to t
+  -- the event may happen in s, and leads to t, on a board of `total` numbers and `draws` draws
   abbrev pub Happens : Core → BoardEvent → Core → Type 0
   Happens s make t = t ≡ with_views s (s.views ++ empty_view ∷ [])
   Happens s (split i) t =
@@ -164,7 +167,7 @@ module _ (total draws : ℕ) where
       × (t ≡ record s { home = update s.home n empty; progress = update s.progress i idle })
   Happens s (load i) t = (v : View) × HasView s i v × (t ≡ s)
 
-  -- the events may happen one after the other from s on, and lead to t
+  -- the events may happen one after the other, beginning in s, and lead to t
   abbrev pub IsRun : Core → List BoardEvent → Core → Type 0
   IsRun s [] t = t ≡ s
   IsRun s (e ∷ es) t = (u : Core) × Happens s e u × IsRun u es t

@@ -1,7 +1,7 @@
--- The invariant of the board. It is stated over functions, so that it can be read off a state of the machine and off
--- the words and slots of a shared table: for each number whether it is claimed, filed, taken, for each draw whether
--- it is drawn (0 or 1), the content of each number, and whether its slot is at home and empty, or at home with a
--- block.
+-- The invariant of the board. It is stated over functions, so that it applies to a state of the machine and to the
+-- words and slots of a shared table. For each number, `claimed`, `filed` and `taken` are 0 or 1, and for each draw so
+-- is `drawn`. `content` is the block that was filed for a number. `IsEmpty` says that a number's slot is in the table
+-- and empty, and `IsFilled` that it is in the table with a block.
 use Rattle.std.specs.Prelude.{◌≡◌, ℕ, ◌+◌, ◌^◌, ◌<◌, ◌≤◌, List, [], Option, Some, None, sum_by}
 use mathlib.Core.Option.{some}
 use lib.ListN.{get_elem?}
@@ -12,14 +12,14 @@ use Rattle.vme_core.specs.Shares.{weight, FitsIn}
 use Rattle.vme_core.specs.Stages.{claimed_bit, filed_bit, taken_bit}
 use Rattle.vme_core.specs.Machine.{Core, empty, filled}
 
--- each draw that is drawn was won once, and no other; a draw that a bench has seen won is drawn
+-- each draw that is drawn was won once, and no other was won; a draw that a bench has seen won is drawn
 pub record DrawRule (drawn : ℕ → ℕ) (views : List View) : Type 0 where
   pub bit : (d : ℕ) → drawn d ≤ 1
   pub won_once : (d : ℕ) → sum_by (λ v. occurrences d v.draws) views ≡ drawn d
   pub found : (i : ℕ) (v : View) → get_elem? views i ≡ some v → (d : ℕ) → 0 < occurrences d v.found → drawn d ≡ 1
 
--- A number is pending with one bench if it is claimed and not filed, and else with none; it was filed by one bench if
--- it is filed, and taken by one if it is taken. What a bench has seen is so.
+-- A number is pending with one bench if it is claimed and not filed, and else with none. A filed number was filed by
+-- one bench, and a taken number was taken by one. What a bench has seen is so. Each claimed number is below `limit`.
 pub record StageRule (limit : ℕ) (claimed filed taken : ℕ → ℕ) (views : List View) : Type 0 where
   pub bit : (n : ℕ) → claimed n ≤ 1
   pub in_range : (n : ℕ) → 0 < claimed n → n < limit
@@ -32,8 +32,8 @@ pub record StageRule (limit : ℕ) (claimed filed taken : ℕ → ℕ) (views : 
   pub saw_filed : (i : ℕ) (v : View) → get_elem? views i ≡ some v → (n : ℕ) → 0 < occurrences n v.filed → filed n ≡ 1
   pub saw_taken : (i : ℕ) (v : View) → get_elem? views i ≡ some v → (n : ℕ) → 0 < occurrences n v.taken → taken n ≡ 1
 
--- The slot of a free number is empty, that of a filed one that is not taken has its content, and no other slot at
--- home has a block. What a bench filed or took is the content of its number.
+-- The slot of a number that isn't claimed is empty. That of a filed number that isn't taken has its content, and no
+-- other slot in the table has a block. A block that a bench filed or took is the content of its number.
 pub record ContentRule (claimed filed taken : ℕ → ℕ) (content : ℕ → Option Block)
     (IsEmpty : ℕ → Type 0) (IsFilled : ℕ → Block → Type 0) (views : List View) : Type 0 where
   pub free_is_empty : (n : ℕ) → claimed n ≡ 0 → IsEmpty n
@@ -52,7 +52,7 @@ pub record HasNothing (v : View) : Type 0 where
   pub draws : v.draws ≡ []
   pub pending : v.pending ≡ []
 
--- The shares of all views are the whole, in parts of 2^-k, and a view without a share has nothing.
+-- The shares of all views together are the whole, in parts of 2^-k. A view without a share satisfies `HasNothing`.
 pub record ShareRule (views : List View) : Type 0 where
   pub k : ℕ
   pub fit : (i : ℕ) (v : View) → get_elem? views i ≡ some v → FitsIn k v.share
@@ -66,7 +66,7 @@ pub record StepRule (limit : ℕ) (drawn claimed filed taken : ℕ → ℕ) (con
   pub stages : StageRule limit claimed filed taken views
   pub contents : ContentRule claimed filed taken content IsEmpty IsFilled views
 
--- the rule, read off a state of the machine
+-- the invariant of a state of the machine
 abbrev pub Invariant : ℕ → Core → Type 0
 Invariant limit s =
     StepRule limit s.drawn (λ n. claimed_bit (s.stage n)) (λ n. filed_bit (s.stage n)) (λ n. taken_bit (s.stage n))

@@ -1,13 +1,13 @@
--- The shares of benches. A share is a list of exponents: e stands for a part of 2^-e. The first bench has the whole, a
--- split halves a part, and a fold puts the parts together.
+-- The shares of benches. A share is a list of exponents: e is a part of 2^-e. The first bench has the whole, a split
+-- halves a part, and a join of two benches joins their lists.
 use Rattle.std.specs.Prelude.{◌≡◌, ℕ, suc, ◌+◌, ◌-◌, ◌^◌, ◌≤◌, List, [], ◌∷◌}
 
--- a share in parts of 2^-k
+-- how many parts of 2^-k a share is
 abbrev pub weight : ℕ → List ℕ → ℕ
 weight k [] = 0
 weight k (e ∷ es) = 2 ^ (k - e) + weight k es
 
--- each of its parts is as many parts of 2^-k
+-- each part of the share is a multiple of 2^-k
 abbrev pub FitsIn : ℕ → List ℕ → Type 0
 FitsIn k [] = Unit {0}
 FitsIn k (e ∷ es) = (e ≤ k) × FitsIn k es
@@ -16,12 +16,12 @@ FitsIn k (e ∷ es) = (e ≤ k) × FitsIn k es
 abbrev pub IsWholeShare : List ℕ → Type 0
 IsWholeShare es = (k : ℕ) × FitsIn k es × (weight k es ≡ 2 ^ k)
 
--- what is left of a share after a split: its first part is halved
+-- the share that a bench keeps after a split: its first part is halved
 abbrev pub kept_share : List ℕ → List ℕ
 kept_share [] = []
 kept_share (e ∷ es) = suc e ∷ es
 
--- and what the other bench has
+-- the share of the bench that is split off: the other half of the first part
 abbrev pub split_share : List ℕ → List ℕ
 split_share [] = []
 split_share (e ∷ es) = suc e ∷ []

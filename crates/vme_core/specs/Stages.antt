@@ -32,7 +32,7 @@ taken_bit Claimed = 0
 taken_bit Filed = 0
 taken_bit Taken = 1
 
--- the stage of a number that stands so often among the taken, the filed, and the claimed ones
+-- the stage of a number that was seen taken, filed and claimed as often as the arguments say
 abbrev pub stage_of : ℕ → ℕ → ℕ → Stage
 stage_of (suc t) f c = Taken
 stage_of zero (suc f) c = Filed
@@ -47,7 +47,7 @@ seen v n = stage_of (occurrences n v.taken) (occurrences n v.filed) (occurrences
 abbrev pub HasSeen : View → ℕ → Stage → Type 0
 HasSeen v n s = rank s ≤ rank (seen v n)
 
--- what was seen in the one view is seen in the other
+-- what was seen in the view `old` was seen in `new`
 pub record SeesMore (old new : View) : Type 0 where
   pub found : (d : ℕ) → occurrences d old.found ≤ occurrences d new.found
   pub claimed : (n : ℕ) → occurrences n old.claimed ≤ occurrences n new.claimed

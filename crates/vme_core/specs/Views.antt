@@ -1,4 +1,4 @@
--- What each step does to the view of the bench that takes it.
+-- How each step changes the view of the bench that takes it.
 use Rattle.std.specs.Prelude.{ℕ, List, [], ◌∷◌, ◌++◌}
 use Rattle.vme_trace.specs.declared.block.Block.{Block}
 use Rattle.vme_core.specs.declared.view.View.{View}
@@ -40,7 +40,7 @@ split_view v = record {
   share = split_share v.share;
 }
 
--- the view of one bench for two
+-- the view of a bench with the view v after a bench with the view w was joined to it
 abbrev pub joint_view : View → View → View
 joint_view v w = record {
   list = v.list ++ w.list;
@@ -54,35 +54,35 @@ joint_view v w = record {
   share = v.share ++ w.share;
 }
 
--- the bench sees these numbers claimed
+-- the view of a bench that has seen the numbers ns claimed
 abbrev pub with_claimed : View → List ℕ → View
 with_claimed v ns = record v { claimed = ns ++ v.claimed }
 
--- the bench sees these numbers filed, and so claimed
+-- the view of a bench that has seen the numbers ns filed, and so claimed
 abbrev pub with_filed : View → List ℕ → View
 with_filed v ns = record v { claimed = ns ++ v.claimed; filed = ns ++ v.filed }
 
--- the bench sees these numbers taken, and so filed and claimed
+-- the view of a bench that has seen the numbers ns taken, and so filed and claimed
 abbrev pub with_taken : View → List ℕ → View
 with_taken v ns = record v { claimed = ns ++ v.claimed; filed = ns ++ v.filed; taken = ns ++ v.taken }
 
--- the bench sees this draw won
+-- the view of a bench that has seen the draw d won
 abbrev pub with_found : View → ℕ → View
 with_found v d = record v { found = d ∷ v.found }
 
--- the bench won the draw
+-- the view of a bench after it won the draw d
 abbrev pub after_draw : View → ℕ → View
 after_draw v d = record v { draws = d ∷ v.draws; found = d ∷ v.found }
 
--- the bench claimed the number
+-- the view of a bench after it claimed the number n
 abbrev pub after_claim : View → ℕ → View
 after_claim v n = record v { claimed = n ∷ v.claimed; pending = n ∷ [] }
 
--- the bench filed the number with this block
+-- the view of a bench after it filed the number n with the block b
 abbrev pub after_filing : View → ℕ → Block → View
 after_filing v n b = record v { list = (n, b) ∷ v.list; claimed = n ∷ v.claimed; filed = n ∷ v.filed; pending = [] }
 
--- the bench took the number, whose block is this
+-- the view of a bench after it took the number n, whose block is b
 abbrev pub after_take : View → ℕ → Block → View
 after_take v n b = record v {
   takes = (n, b) ∷ v.takes;

@@ -1,4 +1,4 @@
--- The segment of a file that goes on.
+-- The segment of a file that is given more steps.
 use Rattle.std.proofs.Common.{◌≡◌, ℕ, zero, suc, ◌+◌, ◌<◌, ◌≤◌, ◌^◌, Bool, true, false, List, [], ◌∷◌, ◌++◌, length}
 use Rattle.std.proofs.Common.{Option, None, Some, refl, sym, ap, subst, ◌∙◌, arith, append-nil, length-append, map}
 use Rattle.std.proofs.lemmas.List.{length-map}
@@ -184,7 +184,7 @@ module _ (listing : Bool) (s t r : SegmentValue) (number : ℕ) (o : Levels) (x 
         (file_acknowledge listing s before a) (file_acknowledge listing t behind b));
   }
 
--- steps behind others are well formed behind the levels that these leave
+-- if the steps x and then y are well-formed, so are the steps y from the levels after x
 pub behind-sound : (o v : Levels) (x y : List Step) → v ≡ levels_after o x
     → malformed_step (record { opening = o; steps = x ++ y }) ≡ None
     → malformed_step (record { opening = v; steps = y }) ≡ None
@@ -192,9 +192,9 @@ behind-sound o v x y is sound =
     subst (λ (w : Levels). malformed_step (record { opening = w; steps = y }) ≡ None) (sym is)
     (sound_apart o x y sound).second
 
--- ---- a dump's recording that goes on
+-- ---- a dump's recording with more steps
 
--- the first step alone says whether it is the opening
+-- the opening of the file depends on the first step alone
 pub opening-stays : (number : ℕ) (start : Option ℕ) (o : Levels) (x y : List Step) → 0 < length x
     → opening_of number start o (x ++ y) ≡ opening_of number start o x
 opening-stays number start o [] y some = absurd (omega arith)
@@ -229,7 +229,7 @@ module _ (number : ℕ) (start : Option ℕ) (t : Trace) (y : List Step) (some :
     few = omega (arith, may.few, opened_few number start t.steps);
   }
 
--- no step comes
+-- a recording with no more steps is the same
 pub no-more : (t : Trace) → with_steps t [] ≡ t
 no-more t = ap (λ (l : List Step). record t { steps = l }) (append-nil t.steps)
 
@@ -247,7 +247,7 @@ only-one old (y ∷ ys) x is one =
       length-append ys (x ∷ []),
     ))
 
--- it is of one file alone
+-- a segment of one file has the order 0
 order_of_one : (order : ℕ) → 1 ≡ 2 ^ order → order ≡ 0
 order_of_one zero e = refl
 order_of_one (suc k) e = absurd (omega (arith, e, pow-add 2 k 1, pow_pos k, ap (λ (n : ℕ). 2 ^ n) (next k)))

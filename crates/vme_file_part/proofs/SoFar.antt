@@ -1,4 +1,4 @@
--- What is found of a file so far.
+-- The segment of a file so far.
 use Rattle.std.proofs.Common.{◌≡◌, ℕ, ◌+◌, ◌<◌, Bool, List, [], ◌∷◌, ◌++◌, length, Option, None, Some, sym}
 use Rattle.std.proofs.Common.{ap, subst, ◌∙◌, arith, length-append}
 use Rattle.vme_trace.specs.Followed.{with_steps}
@@ -19,7 +19,7 @@ use Rattle.vme_file_part.proofs.GrownFile.{file-goes_on, file-may-go_on}
 
 module _ (number : ℕ) (listing : Bool) (start : Option ℕ) (opening : Levels) (segment : Option Segment) (t : Trace)
     (h : IsFoundIn number listing start opening segment t) where
-  -- ---- once a step came
+  -- ---- after a step was given
 
   module _ (s : Segment) (is : segment ≡ Some s) where
     found_some : IsFoundOfFile number listing start (Some s) t
@@ -43,7 +43,7 @@ module _ (number : ℕ) (listing : Bool) (start : Option ℕ) (opening : Levels)
       subst (StandsForFile listing (segment_value next)) (sym (file-goes_on number start t y found_some.0)) stands,
     )
 
-  -- ---- before the first
+  -- ---- before the first step
 
   module _ (is : segment ≡ None) where
     none_came : t.steps ≡ []
@@ -76,7 +76,7 @@ module _ (number : ℕ) (listing : Bool) (start : Option ℕ) (opening : Levels)
     pub empty-sound : malformed_step t ≡ None → malformed_step (record { opening = opening; steps = [] }) ≡ None
     empty-sound sound = ap malformed_step whole_is ∙ sound
 
-    -- none came at all
+    -- without any step, a segment of the dump's opening and no steps stands for the file
     pub empty-stands : (s : SegmentValue) → StandsForFile listing s (block_of number opening [])
         → StandsForFile listing s (file_of number start t)
     empty-stands s stands = subst (StandsForFile listing s) (ap (file_of number start) whole_is) stands

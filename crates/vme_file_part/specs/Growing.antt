@@ -1,4 +1,4 @@
--- A file whose steps come one after the other.
+-- A file whose steps are given some at a time.
 use Rattle.std.specs.Prelude.{◌≡◌, ℕ, ◌+◌, ◌<◌, ◌≤◌, Bool, List, [], ◌∷◌, length, Option, None, Some}
 use Rattle.vme_trace.specs.Followed.{with_steps}
 use Rattle.vme_trace.specs.Levels.{Levels}
@@ -14,13 +14,13 @@ use Rattle.vme_file_part.specs.FileOf.{file_of}
 use Rattle.vme_parts.specs.Stands.{SegmentStandsFor}
 use Rattle.vme_file_part.specs.declared.file_so_far.FileSoFar.{FileSoFar}
 
--- a segment stands for one file, whose number it has
+-- the segment s stands for the one file b
 pub record StandsForFile (listing : Bool) (s : SegmentValue) (b : Block) : Type 0 where
   pub first : s.first ≡ b.number
   pub order : s.order ≡ 0
   pub stands : SegmentStandsFor listing s (b ∷ [])
 
--- a segment says what another says and then what a third one says, of the same file
+-- r is s extended by t, which is of later steps of the same file
 pub record IsExtended (s t r : SegmentValue) : Type 0 where
   pub first : r.first ≡ s.first
   pub order : r.order ≡ s.order
@@ -34,25 +34,25 @@ pub record IsExtended (s t r : SegmentValue) : Type 0 where
   pub grant : SaysBoth s.steps s.grant t.grant r.grant
   pub acknowledge : SaysBoth s.steps s.acknowledge t.acknowledge r.acknowledge
 
--- these steps go on with a recording as one is made, and are not too many
+-- the recording t continued with `steps` is well-formed, and not too long
 pub record FileMayGoOn (t : Trace) (steps : List Step) : Type 0 where
   pub formed : malformed_step (with_steps t steps) ≡ None
   pub few : length t.steps + length steps ≤ 268435456
 
--- once a step came, a segment stands for the file of a number that a recording is so far, whose dump has this first
--- time
+-- if t has steps, the segment stands for the file `number` of t so far, whose dump has the first time `start`; if it
+-- has none, there is no segment
 abbrev pub IsFoundOfFile : ℕ → Bool → Option ℕ → Option Segment → Trace → Type 0
 IsFoundOfFile number listing start None t = t.steps ≡ []
 IsFoundOfFile number listing start (Some s) t =
     (0 < length t.steps) × StandsForFile listing (segment_value s) (file_of number start t)
 
--- the same, where these are the levels before its first step
+-- `IsFoundOfFile`, and t has the levels `opening` before its first step
 pub record IsFoundIn (number : ℕ) (listing : Bool) (start : Option ℕ) (opening : Levels) (segment : Option Segment)
     (t : Trace) : Type 0 where
   pub opened : opening ≡ t.opening
   pub found : IsFoundOfFile number listing start segment t
 
--- what is found so far of a file of this number, whose dump has this first time, with marks or without
+-- f is the file `number` with the steps of t so far, with marks or without; its dump has the first time `start`
 pub record IsFileSoFar (number : ℕ) (listing : Bool) (start : Option ℕ) (f : FileSoFar) (t : Trace) : Type 0 where
   pub number_is : f.number ≡ number
   pub listing_is : f.listing ≡ listing

@@ -1,4 +1,4 @@
-//! A file whose steps come one after the other.
+//! A file whose steps are given some at a time.
 
 ghost use Rattle.std.specs.Prelude.{◌≡◌, ◌+◌, ◌<◌, ◌≤◌, ◌++◌, ◌∷◌, ℕ, [], Bool, IfOk, List, None, Option, Some, length};
 ghost use Rattle.vme_trace.specs.Followed.{with_steps};
@@ -20,7 +20,8 @@ use vme_part_format::{Part, Segment};
 use vme_parts::{PartRefusal, steps_of_file};
 use vme_trace::{Lines, Step};
 
-/// A file of a recording as far as its steps came, judged whatever stood before it.
+/// A file of a recording with the steps given so far, judged from each memory (state of a monitor) in which it may
+/// begin.
 #[derive(Drop)]
 pub struct FileSoFar {
     number: u32,
@@ -29,11 +30,11 @@ pub struct FileSoFar {
     start: Option<u64>,
     /// The levels before the first step of the dump.
     opening: Lines,
-    /// What is found, once a step came.
+    /// The segment of the file so far, if a step was given.
     segment: Option<Segment>,
 }
 
-/// One segment of a file's steps and of those behind them.
+/// The segment of the steps of `first` and then those of `second`, which are of one file.
 fn extended(alloc: Global, first: Segment, second: Segment) -> Result<Segment, PartRefusal>
     requires first { HasTables (segment_value first) }
     requires second { HasTables (segment_value second) }
@@ -61,7 +62,7 @@ fn extended(alloc: Global, first: Segment, second: Segment) -> Result<Segment, P
     })
 }
 
-/// The segment of a file that goes on with these steps.
+/// The segment of a file whose steps so far have the segment `segment`, and that continues with `steps`.
 fn with_more(
     alloc: Global,
     listing: bool,
@@ -79,7 +80,7 @@ fn with_more(
     extended(alloc, segment, more)
 }
 
-/// The segment of a file that begins with these steps of its dump.
+/// The segment of a file whose dump begins with `steps`.
 fn begun(
     alloc: Global,
     listing: bool,
@@ -97,7 +98,8 @@ fn begun(
     segment_of(alloc, listing, number, &opening, steps)
 }
 
-/// The segment of a file that goes on with these steps, once a step came; else they are the first.
+/// The segment of a file that continues with `steps` after those of `segment` or, if there is none, begins with
+/// `steps`.
 fn segment_with(
     alloc: Global,
     listing: bool,
@@ -118,7 +120,7 @@ fn segment_with(
     }
 }
 
-/// The segment of a file whose steps all came.
+/// The segment of a file whose steps were all given.
 fn whole_segment(
     alloc: Global,
     listing: bool,
@@ -141,7 +143,7 @@ fn whole_segment(
     }
 }
 
-/// The part of one segment. The backplane has this sum.
+/// The part with the one segment `segment`. `backplane` is the sum of the backplane.
 fn part_with(
     alloc: Global,
     backplane: u64,
@@ -162,7 +164,8 @@ fn part_with(
 }
 
 impl FileSoFar {
-    /// Before the first step of a dump, which has this first time, if it has one, and these levels before any change.
+    /// The file `number`, without steps so far. Its dump has the first time `start`, if it has one, and the levels
+    /// `opening` before any change.
     pub fn new(number: u32, listing: bool, start: Option<u64>, opening: &Lines) -> FileSoFar
         ensures { IsFileSoFar number listing start result (record { opening = opening.now; steps = [] }) }
     {
@@ -203,7 +206,7 @@ impl FileSoFar {
         })
     }
 
-    /// The part of the file, where no more steps follow. The backplane has this sum.
+    /// The part of the file, if no more steps follow. `backplane` is the sum of the backplane.
     pub fn into_part(self, alloc: Global, backplane: u64) -> Result<Part, PartRefusal>
         requires { (number : ℕ) × (listing : Bool) × (start : Option ℕ) × (t : Trace)
             × IsFileSoFar number listing start self t × (malformed_step t ≡ None) }

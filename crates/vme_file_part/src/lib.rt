@@ -1,21 +1,22 @@
-//! The part of one file of a recording, whose steps come one after the other.
+//! The part of one file of a recording, whose steps are given some at a time.
 //!
 //! # Parts
 //!
 //! - `file_so_far`: [`FileSoFar`] judges the steps of a dump that is a file, some at a time, and
 //!   makes the part of the file in the end.
-//! - `segments`: the segment of one file, and the tables of steps and of those behind them.
+//! - `segments`: the segment of one file, and the composition of the tables of steps that follow one
+//!   another.
 //!
 //! # What is proved
 //!
-//! What is found so far stands for the file that the steps are so far, whatever stood before it
-//! (`IsFileSoFar`), and the part is one of the whole file (`into_part`). But for number 0 the
-//! levels behind the dump's first time are the opening of the file (`file_of`).
+//! The segment so far stands for the file that the steps make so far (`IsFileSoFar`), and the part
+//! is one of the whole file (`into_part`). Except for number 0, the levels after the dump's first
+//! time are the opening of the file (`file_of`).
 //!
 //! # What isn't proved
 //!
-//! That memory suffices. The steps aren't kept: without marks what is held is the same however many
-//! come.
+//! That memory suffices. The steps aren't kept: without marks a [`FileSoFar`] has the same size
+//! however many steps it is given.
 //!
 //! Start reading at `specs/FileOf`, then `specs/Growing`.
 #![tactic(auto)]

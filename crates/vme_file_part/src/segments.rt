@@ -1,4 +1,4 @@
-//! Segments of one file, by what vme_parts makes of all of its steps.
+//! Segments of one file. vme_parts makes the part of steps, whose segment is taken.
 
 ghost use Rattle.std.specs.Prelude.{◌≡◌, ◌∷◌, ◌≤◌, [], ℕ, IfOk, None, length};
 ghost use Rattle.vme_trace.specs.WellFormed.{malformed_step};
@@ -31,7 +31,7 @@ fn only_segment(part: Part) -> Segment
     }
 }
 
-/// The segment of one file: of its number, its opening and its steps.
+/// The segment of one file, from its number, its opening and its steps.
 pub(crate) fn segment_of(
     alloc: Global,
     listing: bool,
@@ -47,7 +47,7 @@ pub(crate) fn segment_of(
     Ok(only_segment(part))
 }
 
-/// The table of so many steps and of those behind them.
+/// The composition of two tables. The first is of `steps` steps.
 pub(crate) fn joined_table(
     alloc: Global,
     first: OutcomeTable,
@@ -64,7 +64,7 @@ pub(crate) fn joined_table(
     Ok(table)
 }
 
-/// The times of steps and of those behind them.
+/// The times of the steps of `before` and then those of `after`.
 pub(crate) fn later_times(
     before: Option<SegmentTimes>,
     after: Option<SegmentTimes>,

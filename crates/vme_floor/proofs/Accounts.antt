@@ -1,4 +1,4 @@
--- The claims, from the work of all workers and from what the board gave.
+-- The claims, from the work of all workers and the contents of the closed board.
 use Rattle.std.proofs.Common.{◌≡◌, ℕ, zero, suc, ◌+◌, ◌<◌, ◌≤◌, cond, List, length, map, slice_get, Option, Some, None}
 use Rattle.std.proofs.Common.{sym, refl, ap, ◌∙◌, subst, arith, eq-eqb, ⊎_elim}
 use Rattle.std.proofs.lemmas.Option.{none-some, same_Some, slice_get_within}
@@ -62,11 +62,11 @@ module _ (total : ℕ) (ds : List Block) (v : View) (replies : List Reply) (answ
       let same : reply_of r.delivery a.0 ≡ r = same_reply p.0 k (reply_of r.delivery a.0) r p.1 at refl in
       a.1 ∙ ap (λ (x : Reply). Some x.answer) same
 
-  -- what was filed is in the list
+  -- the block of a delivery that was answered Filed is in the list
   listed_of : (d : ℕ) (b : Block) → FiledAs ds answers d b → HasPair v.list b.number b
   listed_of d b f = (right_at d Filed b f.0 f.1).1
 
-  -- and what is in the list was filed
+  -- each block in the list is that of a delivery that was answered Filed
   filed_of : (n : ℕ) (b : Block) → HasPair v.list n b → (b.number ≡ n) × IsFiled ds answers b
   filed_of n b h =
       let some = weigh_some (files_of ds n) replies (omega (
@@ -97,7 +97,7 @@ module _ (total : ℕ) (ds : List Block) (v : View) (replies : List Reply) (answ
       let z = filing_here (number_at ds e) n (same ∙ sym (ap number_in g.1)) in
       absurd (omega (arith, two, k, a, z, w.filed n, w.files_once n)))
 
-  -- a number that was told filed, was filed
+  -- if a reply says that n is filed, some delivery of n was filed
   told_filed : (n : ℕ) → 0 < filings ds replies n → IsFiledNumber ds answers n
   told_filed n told =
       let some = weigh_some (files_of ds n) replies (omega (arith, weigh_filings ds n replies, told)) in
@@ -114,7 +114,8 @@ module _ (total : ℕ) (ds : List Block) (v : View) (replies : List Reply) (answ
         ),
       )
 
-  -- a number of which a delivery was told Doubled, was filed, where the bench did all that it has seen done
+  -- if a delivery was answered Doubled, and the bench did all that it has seen done, some delivery of its number was
+  -- filed
   doubled_filed : DidAll v → (d : ℕ) (b : Block) → slice_get answers d ≡ Some Doubled → slice_get ds d ≡ Some b
       → IsFiledNumber ds answers b.number
   doubled_filed did d b at there =
@@ -175,7 +176,7 @@ module _ (total : ℕ) (ds : List Block) (v : View) (replies : List Reply) (answ
           { within = torn.within; joins = torn.join; torn = torn.torn };
     }
 
--- what was seen and isn't lacking, is had
+-- if `lack s h` is 0 and s is positive, so is h
 lack_none : (s h : ℕ) → lack s h ≡ 0 → 0 < s → 0 < h
 lack_none zero h e some = absurd (omega (arith, some))
 lack_none (suc s) zero e some = absurd (omega (arith, e))
@@ -190,10 +191,10 @@ none_missing saw had (suc k) none n low some = dite (ℕ_discrete n k)
     (omega (arith, none)) z))
     (λ ne. none_missing saw had k (omega (arith, none)) n (omega (arith, low, ne)) some)
 
--- what was collected, and what the board gave
+-- the blocks that were collected, and the contents of the closed board
 module _ (total : ℕ) (ds : List Block) (v : View) (replies : List Reply) (c : Collection) (closed : Closed)
     (k : IsAccount total ds v replies c closed) where
-  -- nothing that was collected is left on the board
+  -- no block that was collected is left on the board
   pub apart : (n : ℕ) (b d : Block) → HasBlock c.book n b → HasBlock closed.contents.items n d → ⊥
   apart n b d at left =
       let h = occurs_of_pair v.takes n b (k.collected.took n b at) in
@@ -208,7 +209,7 @@ module _ (total : ℕ) (ds : List Block) (v : View) (replies : List Reply) (c : 
     seen_took n low some = let most = k.closing.saw_taken in none_missing v.taken (numbers v.takes) total
         (omega (arith, most, taken)) n low some
 
-    -- what was collected, the bench filed
+    -- each block that was collected was filed by the bench
     collected_listed : (n : ℕ) (b : Block) → HasBlock c.book n b → HasPair v.list n b
     collected_listed n b at =
         let took = k.collected.took n b at in
@@ -217,7 +218,7 @@ module _ (total : ℕ) (ds : List Block) (v : View) (replies : List Reply) (c : 
         let p = pair_of_occurs v.list n (seen_listed n low (k.collected.saw n (occurs_of_pair v.takes n b took))) in
         subst (λ (x : Block). HasPair v.list n x) (k.same n p.0 b p.1 took) p.1
 
-    -- all that the bench filed is collected, or left on the board
+    -- the blocks that were collected and those left on the board are exactly those that the bench filed
     pub closed_all : (all : List (Option Block)) → IsUnion c.book closed.contents.items all → IsClosed total v all
     closed_all all u = record {
       count = u.long ∙ k.collected.long;
@@ -230,7 +231,7 @@ module _ (total : ℕ) (ds : List Block) (v : View) (replies : List Reply) (c : 
       only = λ n b at. ⊎_elim (λ x. collected_listed n b x) (λ x. k.closing.only others n b x.1) (u.only n b at);
     }
 
-    -- a bench that took all that it filed, collected all
+    -- if each number that the bench filed was taken, and each place has a block, all blocks were collected
     pub all_early : (all : List (Option Block)) → IsUnion c.book closed.contents.items all → HasTakenOwn v
         → ((n : ℕ) → n < total → (b : Block) × HasBlock all n b) → c.count ≡ total
     all_early all u own there =

@@ -1,4 +1,4 @@
--- What the calling thread has taken off the board, step by step.
+-- The blocks that the calling thread has taken off the board, step by step.
 use Rattle.std.proofs.Common.{◌≡◌, ◌≢◌, ℕ, zero, suc, ◌+◌, ◌<◌, ◌≤◌, List, [], ◌∷◌, ◌++◌, length, length-set, slice_get}
 use Rattle.std.proofs.Common.{set, replicate, Option, Some, None, sym, refl, ap, ◌∙◌, subst, arith, inl, inr, ⊎_elim}
 use Rattle.std.proofs.lemmas.Option.{none-some, same_Some, slice_get-get_or}
@@ -34,7 +34,7 @@ no_block = None
 some_none : (b : Block) → Some b ≡ no_block → ⊥
 some_none b e = none-some b (sym e)
 
--- how many blocks there are
+-- putting a block at a free place adds one to the count
 count_set : (xs : Places) (n : ℕ) (b : Block) → slice_get xs n ≡ Some no_block → block_count (set xs n (Some b))
     ≡ suc (block_count xs)
 count_set [] n b e = absurd (none-some no_block e)
@@ -48,7 +48,7 @@ count_limit [] = omega arith
 count_limit (None ∷ xs) = omega (arith, count_limit xs)
 count_limit (Some b ∷ xs) = omega (arith, count_limit xs)
 
--- a place is free
+-- if a place is free, there are fewer blocks than places
 count_free : (xs : Places) (n : ℕ) → slice_get xs n ≡ Some no_block → block_count xs + 1 ≤ length xs
 count_free [] n e = absurd (none-some no_block e)
 count_free (None ∷ xs) zero e = omega (arith, count_limit xs)
@@ -66,7 +66,7 @@ count_none : (n : ℕ) → block_count (replicate n no_block) ≡ 0
 count_none zero = refl
 count_none (suc n) = count_none n
 
--- what a book tells of a number is what stands at its place
+-- `stored` of a number is the item at its place
 pub place_of : (xs : Places) (n : ℕ) (x : Option Block) → n < length xs → stored xs n ≡ x → slice_get xs n ≡ Some x
 place_of xs n x low is = slice_get-get_or xs n no_block low ∙ ap (λ (y : Option Block). Some y) is
 
@@ -83,7 +83,7 @@ collected_first total v c t book count none = record {
       absurd (omega (arith, z, some));
 }
 
--- the bench took nothing, and saw as much
+-- `IsCollected` holds if the bench took nothing and saw at least as much
 pub collected_same : (total : ℕ) (v w : View) (c : Collection) → IsCollected total v c → w.takes ≡ v.takes
     → ((n : ℕ) → occurrences n v.filed ≤ occurrences n w.filed) → IsCollected total w c
 collected_same total v w c k same more = record {
@@ -100,7 +100,7 @@ append_none : (xs : List (ℕ × Block)) → xs ++ [] ≡ xs
 append_none [] = refl
 append_none (x ∷ xs) = ap (λ (l : List (ℕ × Block)). x ∷ l) (append_none xs)
 
--- one bench for two, the second of which took nothing
+-- `IsCollected` holds after a bench that took nothing was joined to it
 pub collected_both : (total : ℕ) (v w u : View) (c : Collection) → u ≡ joint_view v w → w.takes ≡ [] → IsCollected total
     v c → IsCollected total u c
 collected_both total v w u c is none k = collected_same total v u c k
@@ -108,7 +108,7 @@ collected_both total v w u c is none k = collected_same total v u c k
     (λ n. let z = ap (λ (x : View). occurrences n x.filed) is in let s = occurrences-append n v.filed w.filed in
     omega (arith, z, s))
 
--- the bench took one more block, which the book got
+-- the case that the bench took one more block, which was put into the book
 module _ (total : ℕ) (v w : View) (c e : Collection) (m n : ℕ) (b : Block) (k : IsCollected total v c)
     (t : e.total ≡ c.total) (book : e.book ≡ set c.book m (Some b)) (count : e.count ≡ c.count + 1)
     (is : m ≡ n) (low : n < total) (took : w.takes ≡ (n, b) ∷ v.takes) (new : occurrences n (numbers v.takes) ≡ 0)
@@ -159,7 +159,7 @@ module _ (total : ℕ) (v w : View) (c e : Collection) (m n : ℕ) (b : Block) (
     saw = λ l some. all_saw l (subst (λ (xs : List (ℕ × Block)). 0 < occurrences l (numbers xs)) took some);
   }
 
--- the book refuses no block that is new to the bench, but for want of memory
+-- the book refuses a block of a number that the bench hasn't taken only for want of memory
 pub never_refused : (total : ℕ) (v : View) (c : Collection) (m n : ℕ) (f : InsertFault) → IsCollected total v c → m ≡ n
     → n < total → occurrences n (numbers v.takes) ≡ 0 → RefusesBlock c.book m f → (f ≡ insert_fault.Memory → ⊥) → ⊥
 never_refused total v c m n insert_fault.Stranger k is low new why other = let l = k.long in
@@ -170,14 +170,14 @@ never_refused total v c m n insert_fault.Doubled k is low new why other =
     let z = ap (λ (y : ℕ). occurrences y (numbers v.takes)) is in absurd (omega (arith, o, z, new))
 never_refused total v c m n insert_fault.Memory k is low new why other = other refl
 
--- one more block than was counted is no more than all
+-- if a place is free, one more than the count is at most `total`
 pub count_fits : (total : ℕ) (v : View) (c : Collection) (m : ℕ) → IsCollected total v c → m < length c.book
     → stored c.book m ≡ no_block → c.count + 1 ≤ total
 count_fits total v c m k low free =
     let s = count_free c.book m (place_of c.book m no_block low free) in let l = k.long in let o = k.counted in
     omega (arith, s, l, o)
 
--- what was seen filed and not taken
+-- a number that was seen at the stage Filed is among those seen filed
 pub filed_of_seen : (v : View) (n : ℕ) → seen v n ≡ stage.Filed → 0 < occurrences n v.filed
 filed_of_seen v n is =
     let r : rank (seen v n) ≡ 2 = ap rank is in
@@ -187,7 +187,7 @@ filed_of_seen v n is =
     (λ ne. let t : rank (seen v n) ≡ 3 = ap rank (seen_taken v n (omega (arith, ne))) in absurd (omega (arith, t, r))))
     (λ ne. omega (arith, ne))
 
--- what is gone stays gone
+-- a number that is taken stays so
 pub gone_on : (v w : View) (n : ℕ) → TakesOnly v w → IsGone v n → IsGone w n
 gone_on v w n more gone = let g : 0 < occurrences n (numbers v.takes) + occurrences n v.taken = gone in
     let a = more.takes n in let b = more.sees.taken n in let on : 0 < occurrences n (numbers w.takes) + occurrences n
@@ -201,7 +201,7 @@ sees_on u v w a b = record {
   taken = λ d. let x = a.taken d in let y = b.taken d in omega (arith, x, y);
 }
 
--- what the bench filed is gone, after one more delivery
+-- after one more delivery each number that the bench filed is taken
 pub own_next : (board : Board) (ds : List Block) (u v w : View) (r : Reply) (n : ℕ) → IsDelivered board ds u v r
     → TakesOnly v w → number_at ds r.delivery ≡ n → (r.answer ≡ Filed → IsGone w n) → HasTakenOwn u → HasTakenOwn w
 own_next board ds u v w r n d more is gone own m some =

@@ -1,4 +1,4 @@
--- What comes of deliveries of a cut: its recording, and no fault but want of memory or of a thread.
+-- The result of deliveries of a cut: its recording, or a fault for want of memory or of a thread.
 use Rattle.std.proofs.Common.{◌≡◌, ℕ, zero, suc, ◌+◌, ◌<◌, ◌≤◌, List, [], ◌∷◌, ◌++◌, append_assoc, length, slice_get}
 use Rattle.std.proofs.Common.{take, drop, Some, Result, Ok, Err, sym, refl, ap, ◌∙◌, subst, arith, ◌⊎◌, inl, inr}
 use Rattle.std.specs.Prelude.{IfErr, IfOk}
@@ -19,7 +19,7 @@ use Rattle.vme_floor.specs.declared.report.RunFault.{RunFault}
 use Rattle.vme_floor.specs.declared.report.RunFault.TheVariants as fault
 use Rattle.vme_floor.proofs.Places.{get_within}
 
--- lists of one length that agree at each place
+-- lists of one length that agree at each index are equal
 pub same_lists : (xs ys : List Block) → length xs ≡ length ys → ((k : ℕ) (x : Block) → slice_get xs k ≡ Some x
     → slice_get ys k ≡ Some x) → xs ≡ ys
 same_lists [] [] e h = refl
@@ -28,7 +28,7 @@ same_lists (x ∷ xs) [] e h = absurd (omega arith)
 same_lists (x ∷ xs) (y ∷ ys) e h = let head : x ≡ y = sym (same_Some y x (h zero x refl)) in
     let tail = same_lists xs ys (omega arith) (λ k z at. h (suc k) z at) in λ i. head i ∷ tail i
 
--- the first of blocks that join, join
+-- if blocks join, the first k of them do
 first_join : (k : ℕ) (xs : List Block) → BlocksJoin xs → BlocksJoin (take k xs)
 first_join k xs j = record {
   follow = λ before after a b is. j.follow before (after ++ drop k xs) a b
@@ -45,7 +45,7 @@ out_of_range n most positive few (inr many) = omega arith
 
 module _ (t : Trace) (total workers : ℕ) (blocks deliveries : List Block) (cut : IsCutOf t total blocks)
     (are : AreDeliveriesOf blocks deliveries) (range : InRange total deliveries workers) where
-  -- what was filed is the blocks
+  -- the filed blocks are the blocks of the cut
   content_is : (answers : List Answer) (content : List Block) → IsContent total deliveries answers content → content
       ≡ blocks
   content_is answers content c = same_lists content blocks (c.count ∙ sym cut.count) (λ n b at.

@@ -1,4 +1,4 @@
--- The blocks that are all the contents.
+-- The list of the blocks, if each place of the contents has one.
 use Rattle.std.proofs.Common.{◌≡◌, ℕ, suc, ◌<◌, List, [], ◌∷◌, length, slice_get, map, Option, Some, sym, refl, ap, ◌∙◌}
 use Rattle.std.proofs.Common.{arith}
 use Rattle.std.proofs.lemmas.Option.{slice_get-map}
@@ -6,7 +6,7 @@ use Rattle.std.specs.Option.{option_map}
 use Rattle.vme_trace.specs.declared.block.Block.{Block}
 use Rattle.vme_floor.proofs.Places.{get_within}
 
--- blocks that are all the contents stand at their places
+-- if the contents are the blocks bs, the block with the index n is at the place n
 pub all_at : (bs : List Block) (contents : List (Option Block)) → map (λ (b : Block). Some b) bs ≡ contents
     → (n : ℕ) (b : Block) → slice_get bs n ≡ Some b → slice_get contents n ≡ Some (Some b)
 all_at bs contents is n b at = ap (λ (xs : List (Option Block)). slice_get xs n) (sym is)

@@ -57,7 +57,7 @@ undrawn [] d none = refl
 undrawn (t ∷ ts) d none = occurrences_else d t.delivery (replied ts) (λ e. none 0 (omega arith) t refl (sym e))
     ∙ undrawn ts d (λ k l u at is. none (suc k) (omega (arith, l)) u at is)
 
--- an answer of the table is pushed
+-- if the first i answers agree with the table, they do so after its item i is pushed
 pub pushes : (table : List O) (answers : List Answer) (i : ℕ) (a : Answer) → length answers ≡ i → slice_get table i
     ≡ Some (Some a)
     → ((d : ℕ) (b : Answer) → slice_get answers d ≡ Some b → slice_get table d ≡ Some (Some b)) → (d : ℕ) (b : Answer)

@@ -4,7 +4,7 @@ use Rattle.std.proofs.Common.{pow-suc}
 use Rattle.vme_core.specs.Shares.{weight, FitsIn, IsWholeShare}
 use Rattle.vme_core.proofs.ShareSums.{fits-append, weight-append}
 
--- the shares of the first t workers beside the calling thread
+-- the shares of the workers 1 to t
 abbrev pub upto : ℕ → List ℕ
 upto zero = []
 upto (suc t) = upto t ++ suc t ∷ []
@@ -25,7 +25,7 @@ weight_upto m (suc t) low =
     let p : 2 ^ suc (m - suc t) ≡ 2 ^ (m - suc t) * 2 = pow-suc 2 (m - suc t) in
     let g : weight m (upto t ++ suc t ∷ []) + 2 ^ (m - suc t) ≡ 2 ^ m = omega (arith, a, b, e, p) in g
 
--- the calling thread halved its share m times, and has all the others'
+-- the share that the calling thread has after m splits, with those of the workers 1 to m, is the whole
 pub whole_upto : (m : ℕ) → IsWholeShare (m ∷ upto m)
 whole_upto m = (
   m,

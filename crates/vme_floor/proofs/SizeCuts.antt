@@ -1,4 +1,4 @@
--- The blocks of so many steps each are a cut of a well-formed recording.
+-- The blocks of `size` steps each are a cut of a well-formed recording.
 use Rattle.std.proofs.Common.{◌≡◌, ℕ, ◌*◌, ◌<◌, ◌≤◌, Bool, true, false, if◌then◌else◌, List, length, slice_get, get_or}
 use Rattle.std.proofs.Common.{take, drop, min, Option, Some, None, sym, refl, ap, ◌∙◌, subst, arith}
 use Rattle.std.specs.Prelude.{nat_lt}
@@ -26,7 +26,7 @@ module _ (t : Trace) (size : ℕ) where
   count_is : length blocks ≡ block_count size t
   count_is = length-map-range_with_len (block_at size t) 0 (block_count size t)
 
-  -- each stands at its number
+  -- the block with the index n is the block n of the cut
   pub block_there : (n : ℕ) (b : Block) → slice_get blocks n ≡ Some b → (n < block_count size t)
       × (b ≡ block_at size t n)
   block_there n b at =
@@ -53,7 +53,7 @@ module _ (t : Trace) (size : ℕ) where
   isnt_below m n h = grind (arith, nat_tests)
 
   module _ (sound : malformed_step t ≡ None) (some : 0 < size) (few : size ≤ 65536) where
-    -- a block is a part of the recording, so its steps are well formed
+    -- a block is a part of the recording, so its steps are well-formed
     block_sound : (k : ℕ) → malformed_step (trace_of (block_at size t k)) ≡ None
     block_sound k =
         let m : ℕ = k * size in

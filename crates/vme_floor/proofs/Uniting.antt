@@ -1,4 +1,4 @@
--- What is left on the board, put into the book place by place.
+-- The blocks that are left on the board, put into the book place by place.
 use Rattle.std.proofs.Common.{◌≡◌, ◌≢◌, ℕ, suc, ◌+◌, ◌<◌, List, ◌∷◌, length, length-set, slice_get, set, Option, Some}
 use Rattle.std.proofs.Common.{None, sym, refl, ap, ◌∙◌, arith, inl, inr, ⊎_elim}
 use Rattle.std.proofs.lemmas.Option.{none-some, same_Some, slice_get_within}
@@ -22,11 +22,11 @@ no_block = None
 some_none : (b : Block) → Some b ≡ no_block → ⊥
 some_none b e = none-some b (sym e)
 
--- the rest is what stands in the list from a place on
+-- `rest` is the list ys from the index i on
 abbrev pub IsRest : Blocks → ℕ → Blocks → Type 0
 IsRest ys i rest = (k : ℕ) → slice_get rest k ≡ slice_get ys (i + k)
 
--- the first i places were put in, and the rest weren't
+-- zs has the blocks of xs and of the first i places of ys, and `rest` is the rest of ys
 pub record IsPart (xs ys : Blocks) (i : ℕ) (zs rest : Blocks) : Type 0 where
   pub union : IsUnionBelow xs ys i zs
   pub rest_is : IsRest ys i rest
@@ -58,7 +58,7 @@ module _ (xs ys : Blocks) (i : ℕ) (zs rest more : Blocks) (x : Option Block) (
   count_more : i + 1 + length more ≡ length ys
   count_more = let c = p.counted in let l = ap (λ (l : Blocks). length l) is in omega (arith, c, l)
 
-  -- an empty place is passed over
+  -- `IsPart` holds after a place without a block
   pub part_skip : x ≡ no_block → IsPart xs ys (i + 1) zs more
   part_skip none = record {
     union = record {
@@ -80,7 +80,7 @@ module _ (xs ys : Blocks) (i : ℕ) (zs rest more : Blocks) (x : Option Block) (
     pub at_i : slice_get ys i ≡ Some (Some b)
     at_i = next_place ∙ ap (λ (y : Option Block). Some y) some
 
-    -- nothing stands there yet
+    -- zs has no block at the place i
     pub is_free : (d : Block) → HasBlock zs i d → ⊥
     is_free d at = ⊎_elim (λ h. apart i d b h at_i) (λ h. let l = h.0 in absurd (omega (arith, l)))
         (p.union.only i d at)
@@ -88,7 +88,7 @@ module _ (xs ys : Blocks) (i : ℕ) (zs rest more : Blocks) (x : Option Block) (
     i_low : i < length ys
     i_low = slice_get_within ys i (Some b) at_i
 
-    -- the book refuses it only for want of memory
+    -- the book refuses the block of the place i only for want of memory
     pub never_refused : length ys ≡ length xs → (m : ℕ) (f : InsertFault) → m ≡ i → RefusesBlock zs m f
         → (f ≡ insert_fault.Memory → ⊥) → ⊥
     never_refused long m insert_fault.Stranger is why other = let l = p.union.long in
@@ -98,7 +98,7 @@ module _ (xs ys : Blocks) (i : ℕ) (zs rest more : Blocks) (x : Option Block) (
         is_free why.0 (ap (slice_get zs) (sym is) ∙ place_of zs m (Some why.0) near why.1)
     never_refused long m insert_fault.Memory is why other = other refl
 
-    -- a block is put at its place
+    -- `IsPart` holds after the block of the place i was put in
     pub part_next : (m : ℕ) (us : Blocks) → m ≡ i → us ≡ set zs m (Some b) → slice_get zs m ≡ Some no_block
         → i < length zs → IsPart xs ys (i + 1) us more
     part_next m us at_m new free low =

@@ -1,4 +1,4 @@
--- Replies counted by a weight, and what stands once in a list.
+-- Replies counted by a weight, and numbers that occur once in a list.
 use Rattle.std.proofs.Common.{◌≡◌, ◌≢◌, ◌==◌, ℕ, zero, suc, ◌+◌, ◌<◌, ◌≤◌, cond, List, [], ◌∷◌, slice_get, Some, sym}
 use Rattle.std.proofs.Common.{refl, ap, ◌∙◌, arith, inl, inr, eq-eqb}
 use Rattle.std.proofs.lemmas.Option.{none-some, same_Some}
@@ -42,7 +42,7 @@ weigh_one f [] k r at = absurd (none-some r at)
 weigh_one f (x ∷ xs) zero r at = omega (arith, ap f (same_Some x r at))
 weigh_one f (x ∷ xs) (suc k) r at = omega (arith, weigh_one f xs k r at)
 
--- two replies at different places weigh no more than all
+-- the weights of two replies at different indices are at most that of all
 pub weigh_two : (f : Reply → ℕ) (replies : List Reply) (k l : ℕ) (r s : Reply) → k ≢ l → slice_get replies k ≡ Some r
     → slice_get replies l ≡ Some s → f r + f s ≤ weigh f replies
 unfolding weigh
@@ -56,7 +56,7 @@ weigh_two f (x ∷ xs) (suc k) (suc l) r s ne at there = omega (
       there,
 )
 
--- where all weigh something, one does
+-- if the weight of all is positive, that of one is
 pub weigh_some : (f : Reply → ℕ) (replies : List Reply) → 0 < weigh f replies → (k : ℕ) × (r : Reply)
     × (slice_get replies k ≡ Some r) × (0 < f r)
 unfolding weigh
@@ -79,7 +79,7 @@ occurrences_first : (n m : ℕ) (b : Block) (xs : List (ℕ × Block)) → m ≡
     ≡ 1 + occurrences n (numbers xs)
 occurrences_first n m b xs e = ap (λ (y : ℕ). occurrences n (y ∷ numbers xs)) e ∙ occurrences_here n (numbers xs)
 
--- a number that stands once in a list has one block
+-- a number that occurs once in a list has one block there
 pub one_block : (xs : List (ℕ × Block)) (n : ℕ) (b c : Block) → occurrences n (numbers xs) ≤ 1 → HasPair xs n b
     → HasPair xs n c → b ≡ c
 one_block [] n b c o h k = absurd h

@@ -29,7 +29,7 @@ low_where : (total n : ℕ) (test : Bool) (rest : Option Answer) → nat_lt n to
 low_where total n true rest e none = grind (arith, nat_tests)
 low_where total n false rest e none = absurd (none-some Stranger (sym none))
 
--- a block that nothing refuses by itself has a place
+-- the number of a block without a refusal of its own is below `total`
 pub unrefused : (total : ℕ) (b : Block) → first_refusal total b ≡ None → b.number < total
 unrefused total b none = low_where total b.number (nat_lt b.number total) _ refl none
 
@@ -58,11 +58,11 @@ has_right : (xs ys : List (ℕ × Block)) (n : ℕ) (b : Block) → HasPair ys n
 has_right [] ys n b h = h
 has_right (x ∷ xs) ys n b h = inr (has_right xs ys n b h)
 
--- what one list has, the other has too
+-- each pair of xs is in ys
 abbrev IsSubset : List (ℕ × Block) → List (ℕ × Block) → Type 0
 IsSubset xs ys = (n : ℕ) (b : Block) → HasPair xs n b → HasPair ys n b
 
--- a reply stays right where the list grows
+-- if `IsListed` holds of xs, it holds of each list ys that has the pairs of xs
 listed_grows : (xs ys : List (ℕ × Block)) → IsSubset xs ys → (a : Answer) (b : Block) → IsListed xs b a
     → IsListed ys b a
 listed_grows xs ys f Filed b r = f b.number b r
@@ -77,7 +77,7 @@ replies_grow : (total : ℕ) (ds : List Block) (xs ys : List (ℕ × Block)) →
 replies_grow total ds xs ys f = each_map (IsReply total ds xs) (IsReply total ds ys)
     (λ t r. (r.0, λ b e. let s = r.1 b e in (s.0, listed_grows xs ys f t.answer b s.1)))
 
--- what was seen, is seen by one who sees more
+-- `IsSeenIf` holds of a bench that has seen more
 seen_if_more : (ds : List Block) (v w : View) → SeesMore v w → (rs : List Reply) → Each (IsSeenIf ds v) rs
     → Each (IsSeenIf ds w) rs
 seen_if_more ds v w more = each_map (IsSeenIf ds v) (IsSeenIf ds w)
@@ -105,7 +105,7 @@ sees_right v w u is = subst (SeesMore w) (sym is)
       taken = λ d. omega (arith, occurrences-append d v.taken w.taken);
     })
 
--- two have found what the first has
+-- after a join, the bench has found each draw that the first has found
 pub found_both : (v w u : View) (k : ℕ) → u ≡ joint_view v w → AllFound v k → AllFound u k
 found_both v w u k is all d low = let a = all d low in let b = (sees_left v w u is).found d in omega (arith, a, b)
 
@@ -119,7 +119,7 @@ no_work total ds v l d = record {
   files_once = λ n. let z = ap (λ (xs : List (ℕ × Block)). occurrences n (numbers xs)) l in omega (arith, z);
 }
 
--- what a delivery does to the list, however it is answered
+-- a delivery adds the number of its block to the list if it is filed, and else nothing
 module _ (old new : List (ℕ × Block)) (b : Block) where
   counted : (a : Answer) → Lists old new b a → (n : ℕ) → occurrences n (numbers new) ≡ filing a b.number n + occurrences
       n (numbers old)
@@ -166,7 +166,7 @@ module _ (old new : List (ℕ × Block)) (b : Block) where
 same_block : (b c : Block) (o : Option Block) → o ≡ Some b → o ≡ Some c → b ≡ c
 same_block b c o e f = cc
 
--- a draw, and its delivery
+-- `IsWork` holds after one more draw and its delivery
 pub works_on : (total : ℕ) (ds : List Block) (u v w : View) (rs : List Reply) (d : ℕ) (b : Block) (a : Answer)
     → IsWork total ds u rs
     → occurrences d u.draws ≡ 0 → v.draws ≡ d ∷ u.draws → v.list ≡ u.list → w.draws ≡ v.draws → Suits total b a
@@ -201,7 +201,7 @@ works_on total ds u v w rs d b a k fresh drew same_list more suits changed near 
       files_once = λ n. once u.list w.list b a lists n (k.files_once n);
     }
 
--- the work of two is that of one
+-- `IsWork` holds after a join of two benches, with the replies of both
 pub works_both : (total : ℕ) (ds : List Block) (v w u : View) (xs ys : List Reply) → u ≡ joint_view v w
     → IsWork total ds v xs → IsWork total ds w ys
     → ((d : ℕ) → occurrences d v.draws + occurrences d w.draws ≤ 1)
@@ -231,7 +231,7 @@ works_both total ds v w u xs ys is a b d n =
       files_once = λ k. let x = filed k in let y = n k in omega (arith, x, y);
     }
 
--- the same work of a bench that has taken or seen more
+-- `IsWork` holds of a bench that has taken or seen more
 pub works_same : (total : ℕ) (ds : List Block) (v w : View) (rs : List Reply) → w.list ≡ v.list → w.draws ≡ v.draws
     → SeesMore v w → IsWork total ds v rs → IsWork total ds w rs
 works_same total ds v w rs list draws sees k = record {
@@ -244,7 +244,7 @@ works_same total ds v w rs list draws sees k = record {
       omega (arith, z, o);
 }
 
--- the numbers of the list after a delivery
+-- each number of the list after a delivery was there before, or is that of the delivery, which was filed
 pub old_or_filed : (ds : List Block) (old new : List (ℕ × Block)) (d : ℕ) (b : Block) (a : Answer) → slice_get ds d
     ≡ Some b → Lists old new b a → (n : ℕ) → 0 < occurrences n (numbers new) → IsOldOrFiled ds old (reply_of d a) n
 old_or_filed ds old new d b a at lists n some = dite (ℕ_discrete (occurrences n (numbers old)) 0)
@@ -252,7 +252,7 @@ old_or_filed ds old new d b a at lists n some = dite (ℕ_discrete (occurrences 
     inr (f.0, ap number_in at ∙ sym f.1))
     (λ ne. inl (omega (arith, ne)))
 
--- 1 where the draw was not found
+-- 1 if `count` is 0, else 0
 abbrev is_none : ℕ → ℕ
 is_none count = cond (count == 0) 1 0
 
@@ -268,7 +268,7 @@ left_least (suc k) f g more = let h = left_least k f g more in let m = more k in
     (λ z. let a = unfound k f (omega (arith, m, z)) in let b = unfound k g z in omega (arith, h, a, b))
     (λ ne. let b = found_once k g ne in omega (arith, h, b))
 
--- one more was found
+-- if one more draw was found, fewer are left
 pub left_less : (k : ℕ) (f g : List ℕ) → ((e : ℕ) → occurrences e f ≤ occurrences e g) → (d : ℕ) → d < k
     → occurrences d f ≡ 0 → 0 < occurrences d g → left k g < left k f
 left_less zero f g more d near none some = absurd (omega arith)

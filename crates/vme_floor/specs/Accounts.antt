@@ -1,4 +1,4 @@
--- From the work of all to the answers and the contents.
+-- From the work of all workers to the answers and the contents.
 use Rattle.std.specs.Prelude.{◌≡◌, ◌⊎◌, ℕ, ◌<◌, ◌≤◌, List, length, slice_get, Option, Some, None}
 use Rattle.vme_trace.specs.declared.block.Block.{Block}
 use Rattle.vme_core.specs.Counting.{occurrences, HasPair}
@@ -16,12 +16,12 @@ use Rattle.vme_floor.specs.declared.collector.Collection.{Collection}
 abbrev pub reply_of : ℕ → Answer → Reply
 reply_of d a = record { delivery = d; answer = a }
 
--- each answer is that of a reply to the delivery at its place
+-- the answer with the index d is that of a reply to the delivery d
 abbrev pub AreReplies : List Reply → List Answer → Type 0
 AreReplies replies answers =
     (d : ℕ) (a : Answer) → slice_get answers d ≡ Some a → (k : ℕ) × (slice_get replies k ≡ Some (reply_of d a))
 
--- the answers by delivery, as far as the first `seen` replies
+-- the answers by delivery, from the first `seen` replies
 pub record IsTable (replies : List Reply) (count seen : ℕ) (table : List (Option Answer)) : Type 0 where
   pub long : length table ≡ count
   pub some :
@@ -30,11 +30,11 @@ pub record IsTable (replies : List Reply) (count seen : ℕ) (table : List (Opti
       (d : ℕ) → slice_get table d ≡ Some None
       → (k : ℕ) → k < seen → (r : Reply) → slice_get replies k ≡ Some r → r.delivery ≡ d → ⊥
 
--- a delivery below the count has no reply
+-- a delivery below `count` has no reply
 abbrev pub LacksReply : List Reply → ℕ → Type 0
 LacksReply replies count = (d : ℕ) × (d < count) × (occurrences d (replied replies) ≡ 0)
 
--- what a board gives at its end, for a bench with this view
+-- the contents of a board of `total` numbers that was closed by a bench with the view v
 pub record IsClosing (total : ℕ) (v : View) (closed : Closed) : Type 0 where
   pub count : length closed.contents.items ≡ total
   pub numbered : AreNumbered closed.contents.items
@@ -44,7 +44,7 @@ pub record IsClosing (total : ℕ) (v : View) (closed : Closed) : Type 0 where
   pub saw_filed : unlisted_count v total ≤ closed.others
   pub saw_taken : untaken_count v total ≤ closed.taken
 
--- what is to be settled: the work of one bench for all workers, the blocks that it took, and what the board gave
+-- the work of the one bench of all workers, the blocks that it took, and the contents of the closed board
 pub record IsAccount
     (total : ℕ) (deliveries : List Block) (v : View) (replies : List Reply) (collection : Collection) (closed : Closed)
     : Type 0 where
@@ -57,28 +57,28 @@ pub record IsAccount
   pub no_taken : closed.taken ≡ 0
   pub did : DidAll v
 
--- where a bench took all that it filed, and the rest is accounted for, all blocks were taken
+-- if `IsAccount` holds, and each number that the bench filed was taken, then all `total` blocks were taken early
 abbrev pub IsOwnEarly : ℕ → List Block → List Reply → Collection → Closed → ℕ → Type 0
 IsOwnEarly total deliveries replies collection closed early =
     (v : View) → IsAccount total deliveries v replies collection closed → HasTakenOwn v → early ≡ total
 
--- the contents are the list of the view
+-- the contents are exactly the blocks of the view's list
 pub record IsClosed (total : ℕ) (v : View) (contents : List (Option Block)) : Type 0 where
   pub count : length contents ≡ total
   pub listed : (n : ℕ) (b : Block) → HasPair v.list n b → HasBlock contents n b
   pub only : HasOnlyList v contents
 
--- no place has a block in both
+-- no number has a block in both lists
 abbrev pub ShareNoNumber : List (Option Block) → List (Option Block) → Type 0
 ShareNoNumber xs ys = (n : ℕ) (b c : Block) → HasBlock xs n b → HasBlock ys n c → ⊥
 
--- the third has the blocks of the first, and those of the second below a limit
+-- zs has exactly the blocks of xs, and those of ys at numbers below `limit`
 pub record IsUnionBelow (xs ys : List (Option Block)) (limit : ℕ) (zs : List (Option Block)) : Type 0 where
   pub long : length zs ≡ length xs
   pub first : (n : ℕ) (b : Block) → HasBlock xs n b → HasBlock zs n b
   pub second : (n : ℕ) (b : Block) → n < limit → HasBlock ys n b → HasBlock zs n b
   pub only : (n : ℕ) (b : Block) → HasBlock zs n b → HasBlock xs n b ⊎ ((n < limit) × HasBlock ys n b)
 
--- the third has the blocks of both
+-- zs has exactly the blocks of xs and ys
 abbrev pub IsUnion : List (Option Block) → List (Option Block) → List (Option Block) → Type 0
 IsUnion xs ys zs = IsUnionBelow xs ys (length ys) zs

@@ -10,14 +10,15 @@ abbrev pub malformed_refusal : Option ℕ → Option Answer
 malformed_refusal None = None
 malformed_refusal (Some step) = Some (Malformed step)
 
--- the first refusal of a block that rests on the block and the total alone, if there is one
+-- the first refusal of a block that depends on the block and `total` alone, if there is one
 abbrev pub first_refusal : ℕ → Block → Option Answer
 first_refusal total b =
     if nat_lt b.number total
     then (if nat_lt 65536 (length b.steps) then Some TooLong else malformed_refusal (malformed_step (trace_of b)))
     else Some Stranger
 
--- the answer suits the block: it is its first refusal, or there is none, or there was no memory for it
+-- when an answer to a block is right: a refusal is the block's first; for any other answer there is none, except that
+-- memory may run out for any block
 abbrev pub Suits : ℕ → Block → Answer → Type 0
 Suits total b Filed = first_refusal total b ≡ None
 Suits total b Stranger = first_refusal total b ≡ Some Stranger
@@ -26,15 +27,15 @@ Suits total b (Malformed step) = first_refusal total b ≡ Some (Malformed step)
 Suits total b Doubled = first_refusal total b ≡ None
 Suits total b Memory = Unit {0}
 
--- the delivery is this block, and it was filed
+-- the delivery with this index is the block b, and it was filed
 abbrev pub FiledAs : List Block → List Answer → ℕ → Block → Type 0
 FiledAs deliveries answers delivery b =
     (slice_get answers delivery ≡ Some Filed) × (slice_get deliveries delivery ≡ Some b)
 
--- some delivery is this block, and it was filed
+-- some delivery is the block b, and it was filed
 abbrev pub IsFiled : List Block → List Answer → Block → Type 0
 IsFiled deliveries answers b = (delivery : ℕ) × FiledAs deliveries answers delivery b
 
--- some delivery of this number was filed
+-- some delivery of the number n was filed
 abbrev pub IsFiledNumber : List Block → List Answer → ℕ → Type 0
 IsFiledNumber deliveries answers n = (b : Block) × (b.number ≡ n) × IsFiled deliveries answers b

@@ -1,4 +1,4 @@
--- What a run promises.
+-- The claims of a run.
 use Rattle.std.specs.Prelude.{◌≡◌, ◌⊎◌, ℕ, ◌<◌, ◌≤◌, List, length, slice_get, Some, Result, Ok, Err}
 use Rattle.vme_trace.specs.declared.block.Block.{Block}
 use Rattle.vme_trace.specs.Trace.{Trace}
@@ -21,8 +21,8 @@ pub record InRange (total : ℕ) (deliveries : List Block) (workers : ℕ) : Typ
   pub workers_from : 0 < workers
   pub workers_to : workers ≤ 64
 
--- one answer for each delivery, each the right one; of no number are two deliveries filed, and of a doubled one
--- another is
+-- there is one answer for each delivery, and it is right; no two deliveries of one number are filed, and for each
+-- doubled delivery another of its number is filed
 pub record HasAnswers (total : ℕ) (deliveries : List Block) (answers : List Answer) : Type 0 where
   pub count : length answers ≡ length deliveries
   pub right :
@@ -42,13 +42,13 @@ AreAnswered total deliveries (Err (fault.Missing n answers)) = HasAnswers total 
 AreAnswered total deliveries (Err (fault.Torn n answers)) = HasAnswers total deliveries answers
 AreAnswered total deliveries (Err f) = Unit {0}
 
--- the blocks are those filed: one for each number below the total, in the order of their numbers
+-- the blocks are the filed ones: one for each number below `total`, in the order of their numbers
 pub record IsContent (total : ℕ) (deliveries : List Block) (answers : List Answer) (blocks : List Block) : Type 0 where
   pub count : length blocks ≡ total
   pub numbered : (n : ℕ) (b : Block) → slice_get blocks n ≡ Some b → b.number ≡ n
   pub filed : (n : ℕ) (b : Block) → slice_get blocks n ≡ Some b → IsFiled deliveries answers b
 
--- the blocks filed join, the recording is the one that they make, and the span stands for them
+-- the filed blocks join, `capture` is the recording that they make, and `span` is their summary
 pub record IsRecorded (total : ℕ) (deliveries : List Block) (answers : List Answer) (capture : Trace) (span : Span)
     : Type 0 where
   pub blocks : List Block
@@ -58,24 +58,24 @@ pub record IsRecorded (total : ℕ) (deliveries : List Block) (answers : List An
   pub stands : SpanStandsFor span blocks
   pub first : first_number span ≡ 0
 
--- no more blocks than there are were taken before the joins, and all of them where the calling thread worked alone
+-- at most `total` blocks were taken before the threads were joined, and all of them if the calling thread worked alone
 pub record IsEarly (total workers early : ℕ) : Type 0 where
   pub within : early ≤ total
   pub alone : workers ≡ 1 → early ≡ total
 
--- no delivery of the number was filed, and of each smaller one some was
+-- n is the least number of which no delivery was filed, and is below `total`
 pub record IsLeastUnfiled (total : ℕ) (deliveries : List Block) (answers : List Answer) (n : ℕ) : Type 0 where
   pub within : n < total
   pub missing : ¬ IsFiledNumber deliveries answers n
   pub least : (k : ℕ) → k < n → IsFiledNumber deliveries answers k
 
--- each number was filed, and the block of this one is the first that doesn't join those before it
+-- each number was filed, and the block of n is the first that doesn't join those before it
 pub record IsTorn (total : ℕ) (deliveries : List Block) (answers : List Answer) (n : ℕ) : Type 0 where
   pub blocks : List Block
   pub content : IsContent total deliveries answers blocks
   pub torn : IsLeastTornBlock blocks n
 
--- the third claim: when each refusal comes. One that is not named before it didn't
+-- the third claim: what holds if a refusal is returned; the reasons that are checked before it don't apply
 abbrev pub IsFault : ℕ → List Block → ℕ → RunFault → Type 0
 IsFault total deliveries workers fault.BadTotal = (total ≡ 0) ⊎ (4096 < total)
 IsFault total deliveries workers fault.BadDraws = (0 < total) × (total ≤ 4096) × (65536 < length deliveries)
@@ -89,7 +89,7 @@ IsFault total deliveries workers (fault.Missing n answers) =
 IsFault total deliveries workers (fault.Torn n answers) =
     InRange total deliveries workers × IsTorn total deliveries answers n
 
--- the same, of what is found once all workers have ended
+-- what holds if a refusal is returned after all workers have ended
 abbrev pub IsLate : ℕ → List Block → RunFault → Type 0
 IsLate total deliveries fault.BadTotal = ⊥
 IsLate total deliveries fault.BadDraws = ⊥

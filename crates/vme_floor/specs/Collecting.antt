@@ -1,4 +1,4 @@
--- What the calling thread has taken off the board.
+-- The blocks that the calling thread has taken off the board.
 use Rattle.std.specs.Prelude.{◌≡◌, ℕ, suc, ◌+◌, ◌<◌, ◌≤◌, List, [], ◌∷◌, length, Option, Some, None}
 use Rattle.vme_trace.specs.declared.block.Block.{Block}
 use Rattle.vme_core.specs.Counting.{occurrences, numbers, HasPair}
@@ -12,13 +12,13 @@ use Rattle.vme_floor.specs.Works.{IsWorkOf}
 use Rattle.vme_floor.specs.declared.collector.Collection.{Collection}
 use Rattle.vme_floor.specs.declared.collector.CollectingWorker.{CollectingWorker}
 
--- how many blocks there are
+-- how many places have a block
 abbrev pub block_count : List (Option Block) → ℕ
 block_count [] = 0
 block_count (None ∷ places) = block_count places
 block_count (Some b ∷ places) = suc (block_count places)
 
--- the book has what the bench took, each number of which it has seen filed
+-- the book of c has exactly the blocks that the bench with the view v took, and the bench has seen each of them filed
 pub record IsCollected (total : ℕ) (v : View) (c : Collection) : Type 0 where
   pub total_is : c.total ≡ total
   pub long : length c.book ≡ total
@@ -27,15 +27,16 @@ pub record IsCollected (total : ℕ) (v : View) (c : Collection) : Type 0 where
   pub kept : (n : ℕ) (b : Block) → HasPair v.takes n b → HasBlock c.book n b
   pub saw : (n : ℕ) → 0 < occurrences n (numbers v.takes) → 0 < occurrences n v.filed
 
--- the bench took the number, or has seen it taken
+-- the bench took the number n, or has seen it taken
 abbrev pub IsGone : View → ℕ → Type 0
 IsGone v n = 0 < occurrences n (numbers v.takes) + occurrences n v.taken
 
--- what the bench filed is gone
+-- each number that the bench filed was taken, by it or another (`IsGone`)
 abbrev pub HasTakenOwn : View → Type 0
 HasTakenOwn v = (n : ℕ) → 0 < occurrences n (numbers v.list) → IsGone v n
 
--- the bench may have taken more and seen more; the rest is as it was
+-- the bench may have taken more and seen more numbers; its list, its draws, the draws found won and its share don't
+-- change
 pub record TakesOnly (old new : View) : Type 0 where
   pub list : new.list ≡ old.list
   pub draws : new.draws ≡ old.draws
@@ -44,7 +45,7 @@ pub record TakesOnly (old new : View) : Type 0 where
   pub takes : (n : ℕ) → occurrences n (numbers old.takes) ≤ occurrences n (numbers new.takes)
   pub sees : SeesMore old new
 
--- the work of a bench of the board that has found each draw won, and the book of what it took
+-- the work of a bench of the board that has found each draw won, and the book of the blocks that it took
 pub record IsCollectedOf (board : Board) (deliveries : List Block) (c : CollectingWorker) : Type 0 where
   pub work : IsWorkOf board deliveries c.work
   pub found : AllFound (view_of c.work.bench) (length deliveries)

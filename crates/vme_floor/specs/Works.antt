@@ -1,4 +1,4 @@
--- What workers did: the view of a bench, and the replies to what was drawn.
+-- The work of workers: the view of a bench, and the replies to the deliveries that it drew.
 use Rattle.std.specs.Prelude.{◌≡◌, ◌⊎◌, ◌==◌, ℕ, zero, suc, ◌+◌, ◌<◌, ◌≤◌, cond}
 use Rattle.std.specs.Prelude.{List, [], ◌∷◌, length, slice_get, Option, Some, None}
 use Rattle.vme_trace.specs.declared.block.Block.{Block}
@@ -20,11 +20,11 @@ abbrev pub number_in : Option Block → ℕ
 number_in None = 0
 number_in (Some b) = b.number
 
--- the number of a delivery
+-- the number of the block with the index d
 abbrev pub number_at : List Block → ℕ → ℕ
 number_at deliveries d = number_in (slice_get deliveries d)
 
--- 1 where an answer to a block of the number m says that n is filed
+-- 1 if an answer to a block of the number m says that n is filed, else 0
 abbrev pub filing : Answer → ℕ → ℕ → ℕ
 filing Filed m n = cond (n == m) 1 0
 filing Stranger m n = 0
@@ -43,12 +43,12 @@ abbrev pub replied : List Reply → List ℕ
 replied [] = []
 replied (r ∷ rs) = r.delivery ∷ replied rs
 
--- the fact holds of each
+-- P holds of each item
 abbrev pub Each : {A : Type 0} → (A → Type 0) → List A → Type 0
 Each P [] = Unit {0}
 Each P (x ∷ xs) = P x × Each P xs
 
--- where the answer is Filed, the list has the block under its number
+-- if the answer is Filed, the list has the block with its number
 abbrev pub IsListed : List (ℕ × Block) → Block → Answer → Type 0
 IsListed list b Filed = HasPair list b.number b
 IsListed list b Stranger = Unit {0}
@@ -57,17 +57,18 @@ IsListed list b (Malformed step) = Unit {0}
 IsListed list b Doubled = Unit {0}
 IsListed list b Memory = Unit {0}
 
--- where the answer is Doubled, the view has seen the number of that delivery claimed
+-- if the answer is Doubled, the bench has seen the delivery's number claimed
 abbrev pub IsSeenIf : List Block → View → Reply → Type 0
 IsSeenIf deliveries v r = r.answer ≡ Doubled → HasSeen v (number_at deliveries r.delivery) stage.Claimed
 
--- the reply is to one of the deliveries, and its answer suits that block; where it is Filed, the list has the block
+-- the reply is to one of the deliveries, and its answer is right for the block; if it is Filed, the list has the block
 abbrev pub IsReply : ℕ → List Block → List (ℕ × Block) → Reply → Type 0
 IsReply total deliveries list r =
     (r.delivery < length deliveries)
     × ((b : Block) → slice_get deliveries r.delivery ≡ Some b → Suits total b r.answer × IsListed list b r.answer)
 
--- a view, and the replies that go with it: the draws are those with a reply, and the list is what was told Filed
+-- a bench's view and its replies: its draws are the deliveries with a reply, and its list has the numbers of those that
+-- were answered Filed
 pub record IsWork (total : ℕ) (deliveries : List Block) (v : View) (replies : List Reply) : Type 0 where
   pub drew : (d : ℕ) → occurrences d v.draws ≡ occurrences d (replied replies)
   pub filed : (n : ℕ) → occurrences n (numbers v.list) ≡ filings deliveries replies n
@@ -94,12 +95,12 @@ pub record IsOtherWorkOf (board : Board) (deliveries : List Block) (work : Work)
   pub is_work : IsWorkOf board deliveries work
   pub takes : (view_of work.bench).takes ≡ []
 
--- the work of the worker of this number: it takes nothing, and it has the share that the worker was given
+-- the work of the worker with the number `worker`: it takes nothing, and has the share that the worker was given
 abbrev pub IsWorkBy : Board → List Block → ℕ → Work → Type 0
 IsWorkBy board deliveries worker work =
     IsOtherWorkOf board deliveries work × ((view_of work.bench).share ≡ worker ∷ [])
 
--- what a delivery with this answer does to the list of the bench
+-- how a delivery of the block b with this answer changes the bench's list
 abbrev pub Lists : List (ℕ × Block) → List (ℕ × Block) → Block → Answer → Type 0
 Lists old new b Filed = (occurrences b.number (numbers old) ≡ 0) × (new ≡ (b.number, b) ∷ old)
 Lists old new b Stranger = new ≡ old
@@ -108,22 +109,22 @@ Lists old new b (Malformed step) = new ≡ old
 Lists old new b Doubled = new ≡ old
 Lists old new b Memory = new ≡ old
 
--- how many draws below k were not found drawn
+-- how many draws below k aren't in `found`
 abbrev pub left : ℕ → List ℕ → ℕ
 left zero found = 0
 left (suc k) found = left k found + cond (occurrences k found == 0) 1 0
 
--- the bench has seen the number filed
+-- the bench has seen the number n filed, or taken
 pub record IsKnownFiled (total : ℕ) (v : View) (n : ℕ) : Type 0 where
   pub within : n < total
   pub sees : HasSeen v n stage.Filed
 
--- the number was in the list, or is the one of this delivery, which was filed
+-- the number n was in the list before, or is that of the delivery of the reply r, which was filed
 abbrev pub IsOldOrFiled : List Block → List (ℕ × Block) → Reply → ℕ → Type 0
 IsOldOrFiled deliveries old r n =
     (0 < occurrences n (numbers old)) ⊎ ((r.answer ≡ Filed) × (number_at deliveries r.delivery ≡ n))
 
--- what a further delivery with this reply does to the view of a bench
+-- how one more delivery, with the reply r, changes the bench's view
 pub record IsDelivered (board : Board) (deliveries : List Block) (old new : View) (r : Reply) : Type 0 where
   pub within : r.delivery < length deliveries
   pub less : left (draws_of board) new.found < left (draws_of board) old.found
@@ -132,7 +133,7 @@ pub record IsDelivered (board : Board) (deliveries : List Block) (old new : View
   pub filed : r.answer ≡ Filed → IsKnownFiled (total_of board) new (number_at deliveries r.delivery)
   pub lists : (n : ℕ) → 0 < occurrences n (numbers new.list) → IsOldOrFiled deliveries old.list r n
 
--- the view after the next delivery, or where none is left
+-- how the view changes by the next delivery, or by finding that none is left
 abbrev pub IsNext : Board → List Block → Work → Work → Option Reply → Type 0
 IsNext board deliveries old new (Some r) = IsDelivered board deliveries (view_of old.bench) (view_of new.bench) r
 IsNext board deliveries old new None = SameNumbers (view_of old.bench) (view_of new.bench)

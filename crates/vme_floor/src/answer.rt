@@ -1,22 +1,22 @@
-//! What is answered to a delivery.
+//! The answer to a delivery.
 
 ghost use Rattle.std.specs.Prelude.{◌≡◌};
 
 use std::marker::Model;
 
 /// The answer to one delivery: filed, or why not. The refusals are those of a board, in the order in which they are
-/// looked for; a number that a board finds claimed only when it claims it is doubled too.
+/// checked. A delivery is also doubled if its number is found claimed only when the board tries to claim it.
 #[derive(Clone, Copy, Debug, PartialEq, Eq)]
 pub enum Answer {
-    /// The block is the one of its number.
+    /// The block is filed for its number.
     Filed,
     /// Its number isn't below the total.
     Stranger,
-    /// It has over 65,536 steps.
+    /// It has more than 65,536 steps.
     TooLong,
-    /// Its steps aren't those of a recording.
+    /// Its steps are malformed.
     Malformed {
-        /// The first step that may not stand where it stands, from 0.
+        /// The index of the first malformed step, from 0.
         step: usize,
     },
     /// Another delivery of its number is filed.
@@ -41,7 +41,7 @@ impl Model for Answers {
 }
 
 impl Answers {
-    /// The answers in a vector.
+    /// Wraps a vector of answers.
     pub fn new(answers: Vec<Answer>) -> Answers
         ensures { result ≡ answers.items }
     {
@@ -64,7 +64,7 @@ impl Answers {
     }
 }
 
-/// The answer to a delivery, which is named by its place among the deliveries.
+/// The answer to the delivery with the index `delivery`.
 #[derive(Clone, Copy)]
 pub(crate) struct Reply {
     pub(crate) delivery: u32,

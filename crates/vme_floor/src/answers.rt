@@ -1,4 +1,4 @@
-//! The replies in the order of the deliveries.
+//! The answers, put in the order of the deliveries.
 
 ghost use Rattle.std.specs.Prelude.{◌≡◌, ◌<◌, length, IfOk, IfErr};
 ghost use Rattle.vme_floor.specs.Works.{Each};
@@ -8,7 +8,7 @@ ghost use Rattle.vme_floor.specs.declared.answers.Unanswered.TheVariants.{Undraw
 use crate::answer::{Answer, Answers, Reply};
 use std::alloc::{AllocError, Global};
 
-/// Why there aren't as many answers as deliveries.
+/// Why there is no list of answers.
 #[derive(Drop)]
 pub(crate) enum Unanswered {
     /// There is no memory.
@@ -43,7 +43,7 @@ pub(crate) fn answers_in_order(
     Ok(Answers::new(answers))
 }
 
-/// At each delivery its answer, if it has one.
+/// For each delivery, by its index, its answer, if it has one.
 fn table_of(
     alloc: Global,
     replies: &[Reply],

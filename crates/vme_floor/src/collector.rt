@@ -1,4 +1,5 @@
-//! What the calling thread does: it delivers as any worker, and takes filed blocks off the board into a book.
+//! The work of the calling thread: it delivers as any worker, and takes filed blocks off the board into a book, which
+//! keeps them by number and joins them.
 
 ghost use Rattle.std.specs.Prelude.{◌≡◌, ◌<◌, [], IfOk, OnOk};
 ghost use Rattle.vme_core.specs.Stages.{HasSeen};
@@ -22,11 +23,11 @@ use vme_trace::Block;
 #[derive(Drop)]
 pub(crate) struct Collection {
     pub(crate) book: Book,
-    /// How many they are.
+    /// How many blocks were taken.
     pub(crate) count: u32,
     /// How many numbers the board has.
     pub(crate) total: u32,
-    /// The numbers below this one were found taken.
+    /// Each number below this one is taken.
     pub(crate) next: u32,
 }
 
@@ -43,8 +44,8 @@ impl Collection {
         })
     }
 
-    /// Looks at a number, and where it is filed takes its block and inserts it. The answer is whether the number is
-    /// filed, or further.
+    /// Looks up the stage of a number and, if it is filed, takes its block and inserts it into the book. The answer is
+    /// whether the number is filed or taken.
     fn collect(
         &mut self,
         alloc: Global,
@@ -79,7 +80,8 @@ impl Collection {
         Ok(true)
     }
 
-    /// After a delivery: collects its number, if it was filed, and then the numbers that follow those found taken.
+    /// After a delivery: collects its number, if it was filed, and then the numbers from `next` on, up to the first
+    /// that isn't filed yet.
     fn collect_after(
         &mut self,
         alloc: Global,
@@ -109,7 +111,7 @@ impl Collection {
     }
 }
 
-/// The calling thread's work, and what it collected.
+/// The calling thread's work, and the blocks that it collected.
 #[derive(Drop)]
 pub(crate) struct CollectingWorker {
     pub(crate) work: Work,

@@ -1,4 +1,4 @@
-//! From what the workers did to a report.
+//! Making a report from the work of all workers.
 
 ghost use Rattle.std.specs.Prelude.{◌≡◌, ◌<◌, ◌≤◌, length, IfOk, IfErr};
 ghost use Rattle.vme_trace.specs.Verdict.{rules_in_force, verdict_by};
@@ -17,8 +17,8 @@ use vme_book::{Book, CloseFault, InsertFault};
 use vme_summary::Judged;
 use vme_trace::Block;
 
-/// The report on all replies, on the blocks that were taken early, and on what the board gave at its end, for the one
-/// bench of all workers.
+/// The report from all replies, the blocks that were taken early (`collection`), and the contents of the closed board.
+/// The board was closed with the one bench of all workers.
 pub(crate) fn finish_run(
     alloc: Global,
     deliveries: &[Block],
@@ -59,7 +59,7 @@ pub(crate) fn finish_run(
     }
 }
 
-/// The book with what was left on the board.
+/// Inserts the blocks that were left on the board into the book.
 fn insert_all(alloc: Global, book: Book, contents: Vec<Option<Judged>>) -> Result<Book, AllocError>
     requires long { length contents.items ≡ length book }
     requires numbered { AreNumbered contents.items }

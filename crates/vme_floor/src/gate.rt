@@ -1,7 +1,7 @@
-//! What a worker passes before it delivers.
+//! Calls that each worker makes before and after it delivers.
 
-/// What the workers of a run pass. Workers are numbered from 0, the calling thread, and deliveries from 0, in their
-/// order. Both calls may wait; a run returns only if they do.
+/// The calls that the workers of a run make. Workers are numbered from 0, the calling thread, and deliveries from 0, in
+/// their order. Both calls may wait; a run returns only if they return.
 pub trait Gate {
     /// The worker has drawn the delivery, and hasn't delivered it yet.
     fn pass(&self, worker: u32, delivery: u32);
@@ -10,7 +10,7 @@ pub trait Gate {
     fn done(&self, worker: u32, delivery: u32);
 }
 
-/// A gate that holds nobody: both calls return at once.
+/// A gate whose calls return at once.
 #[derive(Clone, Copy, Debug, Default, PartialEq, Eq)]
 pub struct Open;
 

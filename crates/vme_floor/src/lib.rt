@@ -1,32 +1,33 @@
-//! Workers that deliver the numbered blocks of a recording to one board, and the verdict on what
-//! they filed.
+//! Workers that deliver the numbered blocks of a recording to one board, and the verdict on the
+//! recording that the filed blocks make. A board is a table in which each number is claimed and
+//! filed at most once.
 //!
 //! # Parts
 //!
-//! - `runner`: [`run`], the whole, and its contract.
-//! - `worker`, `collector`, `threads`: what one worker does; what the calling thread does beside
-//!   that: it takes filed blocks into a book, which joins them; the workers side by side.
-//! - `finish_run`, `answers`: from what the workers did to a report; the replies in the order of
-//!   the deliveries.
-//! - `answer`, `report`: what is answered to a delivery, and what a run gives.
-//! - `gate`: what a worker passes before it delivers.
-//! - `cuts`: what a cut of a recording is ([`every_size_cuts`]).
+//! - `runner`: [`run`], a whole run, and its contract.
+//! - `worker`: the work of one worker. `collector`: the calling thread also takes filed blocks into a
+//!   book, i.e. a reorder buffer, which joins them by number. `threads`: the workers in parallel.
+//! - `finish_run`: makes a report from the work of all workers. `answers`: puts the replies in the
+//!   order of the deliveries.
+//! - `answer`, `report`: the answer to a delivery, and the result of a run.
+//! - `gate`: calls that each worker makes before and after it delivers.
+//! - `cuts`: the blocks of a recording's cut ([`every_size_cuts`]).
 //!
 //! # What is proved
 //!
-//! Whatever the order and the repetition of the deliveries, and however many workers share them:
+//! For any order and repetition of the deliveries, and any number of workers:
 //!
 //! - Each delivery has the right answer (`answers`).
 //! - The recording of a [`Report`] is the joined content of the deliveries answered Filed, one for
 //!   each number (`recorded`). Its verdict is that of the recording by the definitions (`verdict`),
 //!   whose judged edges split into exactly its listing (`split`).
-//! - Each refusal is returned only for its reason (`refusals`), and `Stray` never comes
+//! - Each refusal is returned only for its reason (`refusals`), and `Stray` is never returned
 //!   (`accounted`).
-//! - Of the blocks of a cut of a recording, each as often as may be, a report has that recording
-//!   and its verdict, and there is none only for lack of memory or of a thread (`cut`).
+//! - If the deliveries are the blocks of a cut of a recording, each once or more, a report has that
+//!   recording and its verdict. There is no report only for lack of memory or of a thread (`cut`).
 //!
-//! docs/EVERY_ORDER.md says it in plain words. The claims are defined in `specs/Claims`, on
-//! `specs/Answering`, and what comes of a cut in `specs/Cuts`.
+//! docs/EVERY_ORDER.md says it in plain words. The claims are defined in `specs/Claims`, based on
+//! `specs/Answering`, and those about a cut in `specs/Cuts`.
 //!
 //! # What isn't proved
 //!

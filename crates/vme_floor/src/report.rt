@@ -1,15 +1,15 @@
-//! What a run gives.
+//! The result of a run.
 
 use crate::answer::Answers;
 use vme_summary::Span;
 use vme_trace::{Capture, Verdict};
 
-/// What a run found.
+/// The result of a run with a verdict.
 #[derive(Drop)]
 pub struct Report {
     /// The verdict on the recording.
     pub verdict: Verdict,
-    /// What its blocks say to all monitors; `Span::listing` gives the listing of the recording.
+    /// The summary of its blocks for all monitors; `Span::listing` gives the listing of the recording.
     pub span: Span,
     /// The recording: the blocks that were filed, joined in the order of their numbers.
     pub capture: Capture,
@@ -19,13 +19,13 @@ pub struct Report {
     pub early: u32,
 }
 
-/// Why a run gives no report, in the order in which the reasons are looked for. Memory may also be wanting at the end,
-/// for the joined recording.
+/// Why a run gives no report, in the order in which the reasons are checked. Memory may also run out at the end, for
+/// the joined recording.
 #[derive(Drop)]
 pub enum RunFault {
     /// The total isn't 1 to 4,096.
     BadTotal,
-    /// There are over 65,536 deliveries.
+    /// There are more than 65,536 deliveries.
     BadDraws,
     /// The number of workers isn't 1 to 64.
     BadWorkers,
@@ -33,8 +33,8 @@ pub enum RunFault {
     Memory,
     /// A thread couldn't be started.
     NoWorker,
-    /// The benches of the workers don't account for what the board holds. This never comes: the bench of all workers
-    /// has the whole share, and so has done all that was done on the board.
+    /// The benches of the workers don't account for what the board holds. This is never returned: the bench of all
+    /// workers has the whole share, and so has done all that was done on the board.
     Stray,
     /// No delivery of a number was filed.
     Missing {

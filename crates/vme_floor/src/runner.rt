@@ -1,4 +1,4 @@
-//! The whole: deliveries, workers, and the verdict.
+//! A whole run: deliveries, workers, and the verdict.
 
 ghost use Rattle.std.specs.Prelude.{◌≡◌, ◌≢◌, IfOk, IfErr, OnOk};
 ghost use Rattle.vme_trace.specs.Verdict.{rules_in_force, verdict_by};
@@ -26,16 +26,17 @@ const MOST_DELIVERIES: usize = 65536;
 
 const MOST_WORKERS: u32 = 64;
 
-/// Judges the recording of which these are the numbered blocks, in whatever order, and each as often as may be.
+/// Judges a recording from deliveries of its numbered blocks, in any order, each block once or more.
 ///
 /// The workers share the deliveries: each draws one, passes the gate, and delivers a copy of the block to a board,
 /// which files one block a number. The calling thread is worker 0, each other worker has a thread of its own. After
 /// each of its deliveries worker 0 takes the number just filed, and the next numbers as far as they are filed, off the
-/// board into a book, which joins them; once all have ended, what is left on the board is put into it too.
+/// board into a book, which joins them. After all have ended, the blocks left on the board are put into it too.
 ///
-/// What is filed decides, and nothing else: not the order of the deliveries, not who delivered what, not how many
-/// workers there were. The verdict is that of the recording by the definitions, and the listing of the span is the
-/// listing of that recording. Where two deliveries of a number differ, either may be filed; the answers tell which.
+/// The recording and its verdict depend only on which blocks are filed: not on the order of the deliveries, on who
+/// delivered what, or on the number of workers. The verdict is that of the recording by the definitions, and the
+/// listing of the span is the listing of that recording. Where two deliveries of a number differ, either may be filed;
+/// the answers say which.
 ///
 /// `total`: 1 to 4,096 numbers; at most 65,536 deliveries; `workers`: 1 to 64. The call waits for the threads that it
 /// starts and at the gate, and for nothing else; it returns if these do.
@@ -57,26 +58,26 @@ pub fn run<R: Threads + Wait + Sync, G: Gate + Sync>(
     ensures recorded { IfOk result (λ r. IsRecorded total deliveries.now r.answers r.capture r.span) }
     ensures verdict { IfOk result (λ r. r.verdict ≡ verdict_by rules_in_force r.capture) }
 
-    // The judged edges of the recording split into exactly what its listing tells.
+    // The judged edges of the recording split into exactly the rows of its listing.
     ensures split { IfOk result (λ r. Splits r.capture r.verdict (recorded_rows r.capture)) }
 
     // How many blocks were taken before the threads were joined.
     ensures early { IfOk result (λ r. IsEarly total workers r.early) }
 
-    // When each refusal comes.
+    // When each refusal is returned.
     ensures refusals { IfErr result (λ fault. IsFault total deliveries.now workers fault) }
 
-    // The workers' benches account for all that the board holds.
+    // The workers' benches account for all that the board holds, so `Stray` is never returned.
     ensures accounted { IfErr result (λ fault. fault ≢ Stray) }
 
-    // Of all blocks of a cut of a recording, in any order and each as often as may be, a report has that recording and
-    // its verdict; there is none only for want of memory or of a thread.
+    // If the deliveries are all blocks of a cut of a recording, in any order, each once or more, a report has that
+    // recording and its verdict; there is none only for want of memory or of a thread.
     ensures cut { JudgesCuts total deliveries.now workers result }
 {
     run_deliveries(rt, alloc, deliveries, total, workers, gate)
 }
 
-/// The same, by the claims from which the others follow.
+/// A run with the claims from which all claims of [`run`] follow.
 fn run_deliveries<R: Threads + Wait + Sync, G: Gate + Sync>(
     rt: &R,
     alloc: Global,

@@ -1,4 +1,4 @@
-//! The workers side by side: the calling thread is worker 0, each other one has a scoped thread.
+//! The workers in parallel: the calling thread is worker 0, each other one has a scoped thread.
 
 ghost use Rattle.std.specs.Prelude.{◌≡◌, ◌<◌, ℕ, List, [], ◌∷◌, ◌++◌, IfOk, IfErr};
 ghost use Rattle.vme_core.specs.Shares.{IsWholeShare};
@@ -17,7 +17,7 @@ use std::thread::{Promise, PromisedHandle, Scope, Threads};
 use vme_board::{Bench, Board};
 use vme_trace::Block;
 
-/// Why the workers did not do their work.
+/// Why there is no work of all workers.
 #[derive(Drop)]
 pub(crate) enum ThreadFault {
     /// There is no memory.
@@ -26,7 +26,8 @@ pub(crate) enum ThreadFault {
     NoWorker,
 }
 
-/// What a thread's work is on. Its promise is that what it gives back is work on that.
+/// The board, the deliveries and the number of a thread's worker. The promise is that the thread returns this worker's
+/// work.
 #[derive(Clone, Copy)]
 struct WorkContext<'a> {
     board: &'a Board,
@@ -38,7 +39,7 @@ impl<'a> Promise<Result<Work, AllocError>> for WorkContext<'a> {
     ghost kept_by = { λ p r. IfOk r (IsWorkBy p.board.now p.deliveries.now p.worker) };
 }
 
-/// The work of all workers together, once each has ended.
+/// The work of all workers together, after each has ended.
 pub(crate) fn work_together<R: Threads + Wait + Sync, G: Gate + Sync>(
     rt: &R,
     alloc: Global,
@@ -76,8 +77,8 @@ pub(crate) fn work_together<R: Threads + Wait + Sync, G: Gate + Sync>(
     )
 }
 
-/// Starts the threads, works, and joins them. Where a thread can't be started, those that were do their work before
-/// the fault is answered. It waits for the threads that it joins and at the gate, and for nothing else.
+/// Starts the threads, works, and joins them. If a thread can't be started, those that were started do their work
+/// before the fault is returned. It waits for the threads that it joins and at the gate, and for nothing else.
 fn work_in_scope<'s, E, R: Threads, G: Gate + Sync>(
     rt: &R,
     alloc: Global,
@@ -140,7 +141,7 @@ fn work_in_scope<'s, E, R: Threads, G: Gate + Sync>(
     }
 }
 
-/// The calling thread's work and another worker's together. Err is want of memory, in the work of either or now.
+/// Joins another worker's work to that of the calling thread. Err is want of memory, in the work of either or here.
 fn with_other(
     board: &Board,
     deliveries: &[Block],

@@ -1,4 +1,4 @@
-//! What one worker does.
+//! The work of one worker.
 
 ghost use Rattle.std.specs.Prelude.{◌≡◌, IfOk, OnOk, None};
 ghost use Rattle.vme_core.specs.Stages.{HasSeen, SeesMore};
@@ -15,7 +15,7 @@ use std::alloc::{AllocError, Global};
 use vme_board::{Bench, Board, DeliveryRefusal};
 use vme_trace::Block;
 
-/// What a worker did: its bench, and a reply to each delivery that it drew.
+/// The work that a worker did: its bench, and a reply to each delivery that it drew.
 #[derive(Drop)]
 pub(crate) struct Work {
     pub(crate) bench: Bench,
@@ -43,7 +43,7 @@ pub(crate) fn deliver_drawn<G: Gate>(
     Ok(work)
 }
 
-/// Draws a delivery, and delivers it. None says that no delivery is left.
+/// Draws a delivery, and delivers it. None if no delivery is left.
 pub(crate) fn deliver_next<G: Gate>(
     alloc: Global,
     board: &Board,
@@ -58,7 +58,7 @@ pub(crate) fn deliver_next<G: Gate>(
     ensures share { OnOk result ((view_of work.new.bench).share ≡ (view_of work.old.bench).share) }
     ensures none_left { IfOk result (λ r. r ≡ None → AllFound (view_of work.new.bench) (draws_of board.now)) }
 {
-    // Before the draw, so that no delivery that was drawn goes without a reply.
+    // Before the draw, so that each delivery that is drawn gets a reply.
     work.replies.reserve(1)?;
     let Some(delivery) = work.bench.draw(board) else {
         return Ok(None);

@@ -4,13 +4,13 @@
 //!   out of range, workers that overlap (a gate holds one delivery until another is done), three
 //!   blocks in each of their six orders a hundred times, and cuts of a recording that breaks a rule
 //!   in its middle.
-//! - `early`, `gates`, `hostile`, `short`: blocks that the calling thread takes before the threads
-//!   are joined; gates that hold, wait and listen; deliveries that a careful caller doesn't make;
-//!   runs where memory is refused once (`tests/memory/run`).
+//! - `early`: blocks that the calling thread takes before the threads are joined. `gates`: gates
+//!   that make workers wait, and one that records its calls. `hostile`: invalid deliveries and a
+//!   doubled one. `short`: runs where memory is refused once (`tests/memory/run`).
 //! - `recordings`: the recordings.
 //!
-//! Verdicts, listings and answers are compared with those that stand beside the recordings. Not
-//! tried: every order of the threads' steps, nor that a thread can't be started.
+//! Verdicts, listings and answers are compared with those that are written beside the recordings.
+//! Not tested: every order of the threads' steps, and that a thread can't be started.
 #![tactic(auto)]
 
 #[cfg(test)]

@@ -1,4 +1,4 @@
-//! Runs on real threads, on a worked read over the bus and on recordings that go wrong.
+//! Runs on real threads, on a read over the bus and on recordings that break rules.
 
 ghost use Rattle.std.specs.Prelude.{◌≡◌};
 ghost use Rattle.vme_summary.specs.Stands.{first_number};
@@ -45,7 +45,7 @@ impl Sink for Page {
     }
 }
 
-/// What a run came to: a verdict, or why there is none.
+/// The outcome of a run: a verdict, or why there is none.
 #[derive(Clone, Copy, PartialEq, Eq)]
 enum Outcome {
     Judged(Verdict),
@@ -62,12 +62,12 @@ enum Outcome {
 /// The verdict on the read.
 const CONFORMING: Outcome = Outcome::Judged(Verdict::Conforming);
 
-/// What a run told. It is smaller than its report, and so are the proofs of what owns it.
+/// The result of a run. It is smaller than the report, and so are the proofs of what owns it.
 #[derive(Drop)]
 struct RunOutcome {
     outcome: Outcome,
     answers: Vec<Answer>,
-    /// How many blocks were taken before the joins.
+    /// How many blocks were taken before the threads were joined.
     early: u32,
     /// How many steps the recording has.
     steps: usize,
@@ -75,7 +75,7 @@ struct RunOutcome {
     listing: Vec<u8>,
 }
 
-/// The text of the listing of the recording for whose blocks the span stands.
+/// The text of the listing of the recording whose summary is `span`.
 fn text_of(alloc: Global, span: &Span) -> Option<Vec<u8>>
     requires { first_number span.now ≡ 0 }
 {
@@ -92,7 +92,7 @@ fn text_of(alloc: Global, span: &Span) -> Option<Vec<u8>>
     }
 }
 
-/// What a report tells. Where memory is short once, its listing is made again.
+/// The result of a report. If memory is refused once, its listing is made again.
 fn outcome_of_report(alloc: Global, report: Report) -> Option<RunOutcome>
     requires { first_number report.span ≡ 0 }
 {
@@ -109,7 +109,7 @@ fn outcome_of_report(alloc: Global, report: Report) -> Option<RunOutcome>
     })
 }
 
-/// What a fault tells.
+/// The result of a fault.
 fn outcome_of_fault(alloc: Global, fault: RunFault) -> RunOutcome {
     let (outcome, answers) = match fault {
         RunFault::Missing { number, answers } => (Outcome::Missing(number), answers.into_inner()),
@@ -130,7 +130,7 @@ fn outcome_of_fault(alloc: Global, fault: RunFault) -> RunOutcome {
     }
 }
 
-/// What a run through a gate tells, if its listing can be made.
+/// The result of a run with the gate `gate`, if its listing can be made.
 fn told_through<R: Threads + Wait + Sync, G: Gate + Sync>(
     rt: &R,
     alloc: Global,
@@ -145,7 +145,7 @@ fn told_through<R: Threads + Wait + Sync, G: Gate + Sync>(
     }
 }
 
-/// The same at an open gate.
+/// The result of a run with a gate whose calls return at once.
 fn told_of<R: Threads + Wait + Sync>(
     rt: &R,
     alloc: Global,
@@ -156,7 +156,7 @@ fn told_of<R: Threads + Wait + Sync>(
     told_through(rt, alloc, deliveries, total, workers, &Open)
 }
 
-/// What a run of these deliveries comes to, and its answers.
+/// Asserts the outcome of a run on the deliveries, and its answers.
 fn assert_told<R: Threads + Wait + Abort + Sync>(
     rt: &R,
     alloc: Global,
@@ -172,7 +172,7 @@ fn assert_told<R: Threads + Wait + Abort + Sync>(
     assert!(rt; told.outcome == *outcome && told.answers.as_slice() == answers);
 }
 
-/// How many steps the recording of a run of these deliveries has, and its listing, which ends with the verdict.
+/// Asserts how many steps the recording of a run on the deliveries has, and its listing, which ends with the verdict.
 fn assert_listed<R: Threads + Wait + Abort + Sync>(
     rt: &R,
     alloc: Global,
@@ -225,7 +225,7 @@ fn doubled_torn_and_missing(rt: HostRuntime) -> Result<(), Fail> {
     Ok(())
 }
 
-/// A block of so many steps that change nothing.
+/// A block of `count` steps that change nothing.
 fn still(alloc: Global, number: u32, count: usize) -> Option<Block> {
     let mut steps = Vec::with_capacity(alloc, count).ok()?;
     for time in 0..count {
@@ -280,7 +280,7 @@ fn numbers_out_of_range(rt: HostRuntime) -> Result<(), Fail> {
     Ok(())
 }
 
-/// Delivers two blocks by two workers, where one delivery is held until the other is done.
+/// Delivers two blocks by two workers. The delivery `held` waits until the other is done.
 fn assert_overlap<R: Threads + Wait + Abort + Sync>(
     rt: &R,
     alloc: Global,
@@ -321,8 +321,8 @@ fn the_least_break_is_named(rt: HostRuntime) -> Result<(), Fail> {
     Ok(())
 }
 
-/// So many workers are at the gate at once, each by its number, and what the calling thread filed itself was taken
-/// before the joins.
+/// Asserts that `workers` workers are at the gate at once, each with its number, and that what the calling thread filed
+/// was taken before the threads were joined.
 fn assert_meeting<R: Threads + Wait + Abort + Sync>(
     rt: &R,
     alloc: Global,
@@ -347,7 +347,7 @@ fn workers_meet_at_the_gate(rt: HostRuntime) -> Result<(), Fail> {
     Ok(())
 }
 
-/// A gate is told the worker and the delivery, before and after it.
+/// A gate gets the worker and the delivery, before and after the delivery.
 #[test]
 fn gates_are_told(rt: HostRuntime) -> Result<(), Fail> {
     let blocks = read_blocks(rt.alloc(), 1).ok_or("no blocks")?;

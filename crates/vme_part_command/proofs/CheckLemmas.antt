@@ -17,7 +17,7 @@ use Rattle.vme_summary.proofs.Sound.{sound_apart}
 use Rattle.vme_part_command.specs.FileChecks.{FileComesTo, IsFoundSoFar, IsPending, MayBeJudged}
 
 module _ (number : ℕ) (listing : Bool) (start : Option ℕ) (file : Option FileSoFar) (pending : List Step) where
-  -- too many came
+  -- if t has too many steps, or the count with `steps` is over the limit, t with `steps` has too many
   pub many-came : (t : Trace) (count : ℕ) (flag : Bool) (steps : List Step)
       → FileComesTo number listing start file pending count flag t
       → (flag ≡ false → capture_limit < count + length steps) → capture_limit < length (t.steps ++ steps)
@@ -42,7 +42,7 @@ module _ (number : ℕ) (listing : Bool) (start : Option ℕ) (file : Option Fil
   comes-few t count false e same few found = (same, few, found)
 
   module _ (t : Trace) (p : IsPending number listing start file pending t) where
-    -- more steps come behind those that aren't judged
+    -- `IsPending` holds with `steps` added to the pending steps
     pub pending-more : (steps : List Step) → IsPending number listing start file (pending ++ steps) (with_steps t steps)
     pending-more steps = record {
       judged = p.judged;
@@ -51,7 +51,7 @@ module _ (number : ℕ) (listing : Bool) (start : Option ℕ) (file : Option Fil
       found = p.found;
     }
 
-    -- all of them may be judged
+    -- all pending steps may be judged
     pub all-may : MayBeJudged t → FileMayGoOn p.judged pending
     all-may may = record {
       formed = ap malformed_step p.all ∙ may.formed;
@@ -71,7 +71,7 @@ module _ (number : ℕ) (listing : Bool) (start : Option ℕ) (file : Option Fil
           ∙ ap (λ (l : List Step). p.judged.steps ++ l) (take-append-drop n pending))
           ∙ p.all
 
-      -- so may some of them
+      -- the first n pending steps may be judged
       pub some-may : MayBeJudged t → FileMayGoOn p.judged (take n pending)
       some-may may = record {
         formed = (sound_apart p.judged.opening (p.judged.steps ++ take n pending) (drop n pending)
@@ -85,7 +85,7 @@ module _ (number : ℕ) (listing : Bool) (start : Option ℕ) (file : Option Fil
         );
       }
 
-      -- behind which the others are left
+      -- after judging the first n pending steps, the others are pending
       pub pending-less : (next : Option FileSoFar)
           → IsFoundSoFar number listing start next (with_steps p.judged (take n pending))
           → IsPending number listing start next (drop n pending) t
@@ -110,14 +110,14 @@ pub limited-long : (t : Trace) → capture_limit < length t.steps
     → limited t ≡ Err (record { line = 0; kind = TooManySteps })
 limited-long t many = rw (past_limit (length t.steps) many) refl
 
--- so few steps may be judged
+-- a well-formed recording with at most `capture_limit` steps may be judged
 pub may-judge : (t : Trace) (steps : List Step) (count next : ℕ) → count ≡ length t.steps
     → next ≡ count + length steps → next ≤ capture_limit → malformed_step (with_steps t steps) ≡ None
     → MayBeJudged (with_steps t steps)
 may-judge t steps count next same more few formed =
     record { formed = formed; few = omega (arith, same, more, few, length-append t.steps steps) }
 
--- of all steps that are judged
+-- after judging all pending steps, `next` is the file with all steps of t
 pub found-all : (number : ℕ) (listing : Bool) (start : Option ℕ) (file next : Option FileSoFar) (pending : List Step)
     (t : Trace) (p : IsPending number listing start file pending t)
     → IsFoundSoFar number listing start next (with_steps p.judged pending)
@@ -125,7 +125,7 @@ pub found-all : (number : ℕ) (listing : Bool) (start : Option ℕ) (file next 
 found-all number listing start file next pending t p found =
     subst (IsFoundSoFar number listing start next) p.all found
 
--- counting leaves what is judged
+-- counting steps doesn't change which are judged
 pub pending-same : (number : ℕ) (listing : Bool) (start : Option ℕ) (file next : Option FileSoFar) (p q : Vec Step)
     (t : Trace) → next ≡ file → q ≡ p → IsPending number listing start file p.items t
     → IsPending number listing start next q.items t

@@ -1,4 +1,4 @@
--- How the commands end, by what is found.
+-- How the commands end, by their results.
 use Rattle.std.proofs.Common.{◌≡◌, ℕ, List, [], Option, Ok, Err, refl, inl, inr, take, length, subst}
 use Rattle.std.specs.Io.KnownBytes.{Appends}
 use Rattle.std.proofs.KnownBytes.{Appends-nil}
@@ -22,21 +22,21 @@ use Rattle.vme_part_command.specs.declared.no_part.NoPart.{NoPart}
 use Rattle.vme_part_command.specs.declared.no_part.NoPart.TheVariants as no_part
 use Rattle.vme_part_command.specs.declared.part.PartOptions.{PartOptions}
 
--- of a text of which a front was taken, the first bytes were
+-- if a front of `text` was written, it is the first n bytes for some n
 pub front_taken : (old new : Option (List ℕ)) (text : List ℕ) → AppendsFront old new text → (n : ℕ) × Appends old new
     (take n text)
 front_taken old new text took =
     let (front, rest, split, appended) = took in
     (length front, subst (λ (bytes : List ℕ). Appends old new bytes) (front_is text front rest split) appended)
 
--- a refusal ends a command: nothing is written to standard output
+-- a command that refuses something ends with it: nothing is written to standard output
 pub complaint_ends : (error : List ℕ) (s : ℕ) (out : Writing) (err : Writing × Writing) (status : ℕ)
     → Complains (record { out = []; error = error; status = s }) err status
     → Ends (record { out = []; error = error; status = s }) (out, out) err status
 complaint_ends error s out err status told =
     inl (record { out_is = (Appends-nil _, refl); err_is = told.err_is; status_is = told.status_is })
 
--- a line that refuses something was told
+-- if the line was written, or a write of it failed, and the status is 3, `Complains` holds of the refusal
 pub refused : (text : List ℕ) (err : Writing × Writing) (status : ℕ) → TriesToWrite err.0 err.1 (line_of text)
     → status ≡ 3 → Complains (refusing text) err status
 refused text err status told is = record { err_is = told; status_is = is }
@@ -45,7 +45,7 @@ pub refused_ends : (text : List ℕ) (out : Writing) (err : Writing × Writing) 
     → TriesToWrite err.0 err.1 (line_of text) → status ≡ 3 → Ends (refusing text) (out, out) err status
 refused_ends text out err status told is = complaint_ends _ _ out err status (refused text err status told is)
 
--- ---- what is found of parts
+-- ---- results from parts
 
 module _ {X : Type 0} (IsFound : X → Type 0) (answer : X → CommandAnswer) (names : List (List ℕ))
     (inputs : List Reading × List Reading) (err : Writing × Writing) (status : ℕ) where
@@ -64,7 +64,7 @@ module _ {X : Type 0} (IsFound : X → Type 0) (answer : X → CommandAnswer) (n
   ends_unjoined why out is (inl told) = (Err why, is, complaint_ends _ _ out err status told)
   ends_unjoined why out is (inr told) = (Err none.Memory, tt, complaint_ends _ _ out err status told)
 
--- a listing is told of one part of all inputs
+-- if the command ends with the listing from one part of all inputs, it lists the recording
 pub ends_listed : (names : List (List ℕ)) (inputs : List Reading × List Reading) (files : Option ℕ) (p : PartValue)
     (out err : Writing × Writing) (status : ℕ) → IsJoinOf inputs.0 inputs.1 p → ListsPart p files out err status
     → ListsRecording names inputs files out err status
@@ -72,7 +72,7 @@ ends_listed names inputs files p out err status join (inl told) =
     (Ok told.0, record { part = p; join = join; lists = told.1 }, told.2)
 ends_listed names inputs files p out err status join (inr told) = (Err none.Memory, tt, told)
 
--- ---- what is found of a dump
+-- ---- results from a dump
 
 module _ (o : PartOptions) (binding dump : Reading × Reading) (err : Writing × Writing) (status : ℕ)
     (b d : Option (List ℕ)) (binding_reading : IsReading binding.0 binding.1 b)

@@ -1,4 +1,4 @@
--- A dump that is a file, as it is read.
+-- Reading a dump that is a file.
 use Rattle.std.proofs.Common.{◌≡◌, ◌≤◌, ℕ, Bool, true, false, List, [], ◌++◌, length, take, drop, Option}
 use Rattle.std.proofs.Common.{refl, sym, ap, subst, ◌∙◌, append_assoc, append-nil, take-append-drop}
 use Rattle.std.specs.Prelude.{Ok}
@@ -18,7 +18,7 @@ ends_not : (flag : Bool) → flag ≡ false → flag ≡ true → ⊥
 ends_not true e h = absurd (cc)
 ends_not false e h = absurd (cc)
 
--- ---- the body is begun
+-- ---- the start of the body
 
 module _ (bound : BoundLines) (number : ℕ) (start : Option ℕ) (old now : Reading) (input : InputSoFar)
     (h : IsReadTo old now [] input) (n : ℕ) (within : n ≤ length input.held) (r : StepReading) where
@@ -35,7 +35,7 @@ module _ (bound : BoundLines) (number : ℕ) (start : Option ℕ) (old now : Rea
         (starts rest ends);
   }
 
--- behind definitions that were held until the first time was known
+-- `IsAtFile` holds after the definitions, which were held until the first time was determined
 pub file-behind : (bound : BoundLines) (number : ℕ) (start : Option ℕ) (old before now : Reading)
     (here after : InputSoFar) (r : StepReading) (n : ℕ) → IsAtDefinitions bound old before here r n
     → IsReadOn here after → IsReadTo old now [] after
@@ -60,7 +60,7 @@ module _ (bound : BoundLines) (number : ℕ) (start : Option ℕ) (old now : Rea
         ∙ append_assoc (take n input.held) (drop n input.held) rest)
         ∙ taken (drop n input.held ++ rest)
 
-    -- is taken
+    -- `IsAtFile` holds after a piece is taken
     pub file-taken : IsAtFile bound number start old now (record input { held = drop n input.held }) next
     file-taken = record {
       done = at.done ++ take n input.held;
@@ -72,7 +72,7 @@ module _ (bound : BoundLines) (number : ℕ) (start : Option ℕ) (old now : Rea
           (sym (split-at at.done input.held n rest)) (at.starts rest ends);
     }
 
-  -- more bytes follow
+  -- `IsAtFile` holds after more bytes are read
   pub file-grown : (later : Reading) (after : InputSoFar) → input.is_whole ≡ false → IsGrown input after
       → IsReadTo old later at.done after → IsAtFile bound number start old later after r
   file-grown later after going grown read = record {
@@ -89,7 +89,7 @@ module _ (bound : BoundLines) (number : ℕ) (start : Option ℕ) (old now : Rea
       same : (rest : List ℕ) → after.held ++ rest ≡ input.held ++ (grown.more ++ rest)
       same rest = ap (λ l. l ++ rest) grown.held ∙ append_assoc input.held grown.more rest
 
-  -- none do
+  -- if there are no more bytes, `IsAtFileEnd` holds
   pub file-ends : input.is_whole ≡ true → input.limit ≡ longest_input
       → IsAtFileEnd bound number start old now input.held r
   file-ends whole limit = record {

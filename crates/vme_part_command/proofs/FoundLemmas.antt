@@ -1,4 +1,4 @@
--- What is found of a dump that is a file.
+-- The results for a dump that is a file.
 use Rattle.std.proofs.Common.{◌≡◌, ℕ, zero, suc, List, [], ◌∷◌, length, Option, None, Some, refl, sym}
 use Rattle.std.proofs.Common.{ap}
 use Rattle.std.proofs.Common.{subst, ◌∙◌, arith}
@@ -37,7 +37,7 @@ use Rattle.vme_part_command.specs.declared.part.PartOptions.{PartOptions}
 -- ---- there is no recording
 
 module _ (o : PartOptions) where
-  -- the binding is refused
+  -- if the binding is refused, so is the part
   pub no-binding : (binding : Result BoundLines Refusal) (dump : Result Contents Refusal) (refusal : Refusal)
       → AnswerGives (λ (b : BoundLines). b) (Err refusal) binding
       → FindsPart part_value o (dump_recording binding dump) (Err (none.Refused refusal))
@@ -45,7 +45,7 @@ module _ (o : PartOptions) where
   no-binding binding dump refusal refused =
       ap (λ (b : Result BoundLines Refusal). dump_recording b dump) refused
 
-  -- so is the dump
+  -- if the dump is refused, so is the part
   pub dump-refused : (bound : BoundLines) (old now : Reading) (refusal : Refusal) → IsDumpRefused old now refusal
       → FindsOfDump o bound old now (Err (none.Refused refusal))
   dump-refused bound old now Memory refused = (refused.0, refused.1, tt)
@@ -62,12 +62,12 @@ module _ (o : PartOptions) where
     is_recorded captured is =
         ap (λ (d : Result Contents Refusal). dump_recording (Ok bound) d) read.is ∙ ap (recorded contents) is
 
-    -- the binding can't be used on it
+    -- if the binding can't be used on the dump, this is the reason that there is no part
     pub unusable-part : (fault : BindFault) → capture_of bound contents ≡ Err fault
         → FindsOfDump o bound old now (Err (none.Refused (BadBinding fault)))
     unusable-part fault is = (Some read.text, read.reading, is_recorded (Err fault) is)
 
-    -- there is one
+    -- within the limit there is a recording
     module _ (given : Trace) (captured : capture_of bound contents ≡ limited given) where
       whole_is : limited given ≡ Ok given → dump_recording (Ok bound) (dump_read (Some read.text))
           ≡ Ok (record { start = start_of contents; recording = given })
@@ -79,7 +79,7 @@ module _ (o : PartOptions) where
       refused_by (Err fault) refusal is =
           let same : BadBinding fault ≡ refusal = cc in ap (λ (r : Refusal). Err r) same
 
-      -- of the recording that was judged, with its first time
+      -- the result for all steps is the result for the dump, whose first time is `start`
       pub found-part : (start : Option ℕ) → ((o.number ≡ 0 → ⊥) → start_of contents ≡ start) → (backplane : ℕ)
           → backplane ≡ backplane_of given.opening → (found : Result Part NoPart)
           → FindsOfSteps o.number o.listing start backplane given found → FindsOfDump o bound old now found
@@ -123,7 +123,7 @@ module _ (o : PartOptions) where
       found-part start starts backplane same (Err none.OutOfRange) fits =
           (Some read.text, read.reading, (record { start = start_of contents; recording = given }, whole_is fits))
 
-  -- what is found of all steps is found of the dump
+  -- the result for all steps that the reader gave is the result for the dump
   pub finds-of-dump : (bound : BoundLines) (start : Option ℕ) (old now : Reading) (bytes : List ℕ) (r : StepReading)
       → IsAtFileEnd bound o.number start old now bytes r → (given : Trace)
       → (whole_reading r bytes).recorded ≡ given → (whole_reading r bytes).fault ≡ None → (backplane : ℕ)

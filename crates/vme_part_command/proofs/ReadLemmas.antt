@@ -1,4 +1,4 @@
--- Parts read of inputs, one after the other.
+-- Parts read from inputs, one after the other.
 use Rattle.std.proofs.Common.{◌≡◌, ◌≢◌, ◌⊎◌, ℕ, zero, suc, ◌+◌, ◌<◌, ◌≤◌, List, [], ◌∷◌, ◌++◌, drop, length, map}
 use Rattle.std.proofs.Common.{length-append, slice_get, get_or, set, Some, sym, refl}
 use Rattle.std.proofs.Common.{ap, ◌∙◌, subst, arith, inl, inr, None}
@@ -15,7 +15,7 @@ use Rattle.vme_part_format.specs.Tables.{PartValue}
 use Rattle.vme_part_command.specs.Inputs.{HasFaultAt, HaveRead, IsFaulty, ReadParts}
 use Rattle.vme_part_command.specs.declared.inputs.NoPartInput.{NoPartInput}
 
--- ---- the elements of lists by their places
+-- ---- the items of lists by their indices
 
 module _ {A : Type 0} where
   get_here : (xs : List A) (i : ℕ) (x : A) → i < length xs → slice_get (set xs i x) i ≡ Some x
@@ -43,7 +43,7 @@ module _ {A : Type 0} where
   head_of_drop (y ∷ ys) zero = refl
   head_of_drop (y ∷ ys) (suc j) = head_of_drop ys j
 
--- ---- what is read so far
+-- ---- the parts read so far
 
 pub read_none : (old new : List Reading) → HaveRead old new 0 []
 read_none old new = record {
@@ -70,7 +70,7 @@ module _ {A : Type 0} (f : A → Reading) (xs ys : List A) (i : ℕ) (x y : A) (
   kept k ne =
       slice_get-map f ys k ∙ ap (option_map f) (sym (get_else ys i k y ne)) ∙ sym (slice_get-map f (set ys i y) k)
 
-  -- those before are parts whatever this one becomes
+  -- reading the input i doesn't change those before it
   earlier : HaveRead (map f xs) (map f (set ys i y)) i ps
   earlier = record {
     within = before.within;
@@ -82,7 +82,7 @@ module _ {A : Type 0} (f : A → Reading) (xs ys : List A) (i : ℕ) (x y : A) (
         before.read k a b q at_a (kept k ne ∙ at_b) at_q;
   }
 
-  -- this one is no part
+  -- if the input i has a fault, `HasFaultAt` holds at i
   read_fault : (fault : NoPartInput) → IsFaulty (f (get_or ys i x)) (f y) fault
       → HasFaultAt (map f xs) (map f (set ys i y)) i fault
   read_fault fault faulty = record {
@@ -121,7 +121,7 @@ module _ {A : Type 0} (f : A → Reading) (xs ys : List A) (i : ℕ) (x y : A) (
         of_this a b q (subst (λ (n : ℕ). slice_get (map f xs) n ≡ Some a) e at_a)
         (subst (λ (n : ℕ). slice_get (map f (set ys i y)) n ≡ Some b) e at_b) last.1
 
-    -- one more
+    -- the input i is a part, and the first i + 1 inputs are
     pub read_more : HaveRead (map f xs) (map f (set ys i y)) (i + 1) (ps ++ p ∷ [])
     read_more = record {
       within = subst (λ (n : ℕ). i + 1 ≤ n) (same ∙ sym (length-map xs f)) (omega arith);
@@ -130,7 +130,7 @@ module _ {A : Type 0} (f : A → Reading) (xs ys : List A) (i : ℕ) (x y : A) (
       read = λ k a b q at_a at_b at_q. of_each k a b q at_a at_b (get_snoc ps p q k at_q);
     }
 
--- all of them
+-- if n isn't below the number of inputs, all are parts
 pub read_each : {A : Type 0} (f : A → Reading) (xs ys : List A) (n : ℕ) (ps : List PartValue) → length xs ≤ n
     → HaveRead (map f xs) (map f ys) n ps → ReadParts (map f xs) (map f ys) ps
 read_each f xs ys n ps all have =
@@ -138,19 +138,19 @@ read_each f xs ys n ps all have =
     let same : n ≡ length xs = omega arith in
     record { many = have.many ∙ (same ∙ sym (length-map xs f)); fit = have.fit; read = have.read }
 
--- what holds of what each element is seen as
+-- if P holds of each item of `map f xs`, it holds of f x for each x in xs
 pub all_seen : {A B : Type 0} (P : B → Type 0) (f : A → B) (xs : List A) → All P (map f xs) → All (λ x. P (f x)) xs
 all_seen P f xs h k d low =
     subst P (get_or-map f xs k d (f d) low) (h k (f d) (subst (λ (n : ℕ). k < n) (sym (length-map xs f)) low))
 
--- what each is called stays, where that of the one that is changed does
+-- changing the item i doesn't change the names, if its name stays
 pub same_names : {A B : Type 0} (g : A → B) (ys : List A) (i : ℕ) (x y : A) → i < length ys → g y ≡ g (get_or ys i x)
     → map g (set ys i y) ≡ map g ys
 same_names g [] i x y within same = refl
 same_names g (z ∷ zs) zero x y within same = ap (λ n. n ∷ map g zs) same
 same_names g (z ∷ zs) (suc i) x y within same = ap (λ l. g z ∷ l) (same_names g zs i x y (omega arith) same)
 
--- the name at a place
+-- the name of the item i is the item i of the names
 pub name_there : {A : Type 0} (g : A → List ℕ) (xs : List A) (i : ℕ) (x : A) → slice_get xs i ≡ Some x
     → g x ≡ get_or (map g xs) i []
 name_there g [] i x there = absurd (none-some x there)

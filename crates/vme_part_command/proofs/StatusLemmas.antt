@@ -1,4 +1,4 @@
--- The status of a listing, by its last row.
+-- The exit status of a listing is that of its last row.
 use Rattle.std.proofs.Common.{◌≡◌, ◌∙◌, ◌-◌, ℕ, suc, List, [], ◌∷◌, ap, arith, length, refl}
 use Rattle.std.specs.Prelude.{Option, None, Some, slice_get}
 use Rattle.std.specs.List.{last_or}

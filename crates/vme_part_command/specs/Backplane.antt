@@ -6,14 +6,14 @@ use Rattle.vme_trace.specs.LineNumbers.{line_count}
 use Rattle.vme_part_format.specs.PartText.{level_code, seen_level}
 use Rattle.vme_part_format.specs.Sums.{sum_of}
 
--- the level of a line before any change: that of a constant, and Unknown where the line has a bit of a variable
+-- the code of the level of line l before any change: that of a constant, or Unknown if the line has a bit of a variable
 abbrev pub line_code : Levels → ℕ → ℕ
 line_code opening l = level_code (seen_level opening l)
 
 abbrev pub line_codes : Levels → List ℕ
 line_codes opening = map (line_code opening) (range_with_len 0 line_count)
 
--- the number of slots, and that of each line
+-- the number of slots, and the code of each line
 abbrev pub backplane_bytes : Levels → List ℕ
 backplane_bytes opening = opening.slots ∷ line_codes opening
 

@@ -20,42 +20,42 @@ use Rattle.vme_part_command.specs.declared.file_check.FileCheck.{FileCheck}
 use Rattle.vme_part_command.specs.declared.no_part.NoPart.{NoPart}
 use Rattle.vme_part_command.specs.declared.no_part.NoPart.TheVariants as none
 
--- what is found of a file so far, unless the nodes of a table have no numbers
+-- `file` is the file with the steps of t so far, unless a table has too many nodes (`None`)
 abbrev pub IsFoundSoFar : ℕ → Bool → Option ℕ → Option FileSoFar → Trace → Type 0
 IsFoundSoFar number listing start None t = Unit {0}
 IsFoundSoFar number listing start (Some file) t = IsFileSoFar number listing start file t
 
--- the same of the steps before some others
+-- `file` is the file with the steps of t before `pending`, the last ones
 pub record IsPending (number : ℕ) (listing : Bool) (start : Option ℕ) (file : Option FileSoFar) (pending : List Step)
     (t : Trace) : Type 0 where
   pub judged : Trace
   pub all : with_steps judged pending ≡ t
   pub found : IsFoundSoFar number listing start file judged
 
--- a recording has no more steps than one may have
+-- t is well-formed and has at most as many steps as a recording may have
 pub record MayBeJudged (t : Trace) : Type 0 where
   pub formed : malformed_step t ≡ None
   pub few : length t.steps ≤ capture_limit
 
--- the steps that were given are counted and judged, but for some; or they are too many
+-- the steps of t are counted, and all but `pending` are judged; or (`true`) they are too many
 abbrev pub FileComesTo : ℕ → Bool → Option ℕ → Option FileSoFar → List Step → ℕ → Bool → Trace → Type 0
 FileComesTo number listing start file pending count true t = capture_limit < length t.steps
 FileComesTo number listing start file pending count false t =
     (count ≡ length t.steps) × (count ≤ capture_limit) × IsPending number listing start file pending t
 
--- a check was given all steps of this recording
+-- `check` was given all steps of t
 abbrev pub HasTakenSteps : ℕ → Bool → Option ℕ → FileCheck → Trace → Type 0
 HasTakenSteps number listing start check t =
     FileComesTo number listing start check.file check.pending.items check.count check.is_too_long t
 
--- and they are those that a reader gave
+-- `check` was given all steps that the reader r gave
 pub record IsFileJudged (number : ℕ) (listing : Bool) (start : Option ℕ) (r : StepReading) (check : FileCheck) : Type 0
   where
     pub sound : IsSound r
     pub taken : HasTakenSteps number listing start check r.given
 
--- a part can be written, its nodes are few, and it is the one of a recording as the file of a number, whose dump has
--- this first time
+-- p can be written, is compact, and is the part of the file `number` that t makes, whose dump has the first time
+-- `start`
 pub record IsPartOfSteps (number : ℕ) (listing : Bool) (start : Option ℕ) (backplane : ℕ) (t : Trace)
     (p : Part) : Type 0
   where
@@ -65,7 +65,8 @@ pub record IsPartOfSteps (number : ℕ) (listing : Bool) (start : Option ℕ) (b
     pub compact : IsCompactPart (part_value p)
     pub stands : IsPartOfFile listing (file_of number start t) (part_value p)
 
--- what is found of all steps, or why there is no part of them
+-- the result for all steps of t: the part, or why there is none; of `TooManyMarks` and `OutOfRange` it says only that t
+-- isn't too long
 abbrev pub FindsOfSteps : ℕ → Bool → Option ℕ → ℕ → Trace → Result Part NoPart → Type 0
 FindsOfSteps number listing start backplane t (Ok part) =
     (limited t ≡ Ok t) × IsPartOfSteps number listing start backplane t part

@@ -1,4 +1,4 @@
--- The lines that are told of parts, without their line feeds.
+-- The lines that are written about parts, without their line feeds.
 use Rattle.std.specs.Prelude.{ℕ, Bool, true, false, List, ◌++◌, codes, decimal}
 use Rattle.vme_stream.specs.Texts.{verdict_text}
 use Rattle.vme_part_format.specs.declared.fault.PartFault.{PartFault}
@@ -14,14 +14,14 @@ refusing_text what = codes "vmecheck: " ++ what
 abbrev pub part_text : ℕ → List ℕ → List ℕ
 part_text number what = codes "vmecheck: part " ++ decimal number ++ what
 
--- what is told of an input
+-- the line that says `what` of the input `name`
 abbrev pub input_text : List ℕ → List ℕ → List ℕ
 input_text name what = codes "vmecheck: " ++ name ++ codes ": " ++ what
 
 abbrev pub byte_text : ℕ → List ℕ → List ℕ
 byte_text place kind = codes "byte " ++ decimal place ++ codes ": " ++ kind
 
--- what a fault of a part is, behind the name of its file
+-- the text of a fault of a part, which comes after the name of its file
 abbrev pub kind_text : PartFaultKind → ℕ → List ℕ
 kind_text fault.NotAPart place = codes "no part"
 kind_text fault.OtherVersion place = codes "a part of another version"
@@ -39,7 +39,7 @@ kind_text fault.Trailing place = byte_text place (codes "Trailing")
 abbrev pub fault_text : PartFault → List ℕ
 fault_text f = kind_text f.kind f.place
 
--- what is told in place of a verdict, or the verdict
+-- the line of an answer about the whole recording
 abbrev pub told_text : RecordingAnswer → List ℕ
 told_text (told.Beyond number) = part_text number (codes " beyond the files")
 told_text (told.Missing number) = part_text number (codes " missing")
@@ -47,7 +47,7 @@ told_text (told.Torn number) = part_text number (codes " torn")
 told_text told.TooManySteps = refusing_text (codes "too many steps")
 told_text (told.Verdict v) = verdict_text (verdict_of v)
 
--- that a part has marks where the first has none, or the other way round
+-- the text for a part that has no marks where the first has some (`true`), or the other way round (`false`)
 abbrev pub marks_text : Bool → List ℕ
 marks_text true = codes "without marks"
 marks_text false = codes "with marks"

@@ -33,11 +33,11 @@ use Rattle.vme_part_command.specs.declared.inputs.NoPartInput.TheVariants as inp
 use Rattle.vme_part_command.specs.declared.inputs.NoJoin.{NoJoin}
 use Rattle.vme_part_command.specs.declared.inputs.NoJoin.TheVariants as none
 
--- something is refused for this, with status 3
+-- a refusal with the line `text` and status 3
 abbrev pub refusing : List ℕ → CommandAnswer
 refusing text = record { out = []; error = line_of text; status = 3 }
 
--- ---- why inputs make no part
+-- ---- why no part is joined from the inputs
 
 abbrev pub what_is_wrong : NoPartInput → List ℕ
 what_is_wrong input.Unread = codes "cannot read"
@@ -80,9 +80,9 @@ abbrev pub no_join_answer : List (List ℕ) → NoJoin → CommandAnswer
 no_join_answer names why =
     record { out = []; error = line_of (no_join_text names why); status = no_join_status why }
 
--- ---- what is answered
+-- ---- the answers
 
--- the verdict, or what is told in its place
+-- the command's answer with the verdict, or why there is none
 abbrev pub told_answer : RecordingAnswer → CommandAnswer
 told_answer (told.Beyond number) = refusing (told_text (told.Beyond number))
 told_answer (told.Missing number) = refusing (told_text (told.Missing number))
@@ -116,7 +116,7 @@ rows_status rows = option_map_or row_status (last_or None rows) 2
 abbrev pub listed_status : Recorded → ℕ
 listed_status listing = rows_status listing.rows
 
--- the listing, or what is told in its place
+-- the command's answer with the listing, or why there is none
 abbrev pub listed_answer : ListingAnswer → CommandAnswer
 listed_answer (listed.Listing listing) =
     record { out = text_of listing; error = []; status = listed_status listing }
@@ -124,13 +124,13 @@ listed_answer (listed.Refused what) = refusing (told_text what)
 listed_answer listed.Unmarked = refusing (refusing_text (codes "parts without marks"))
 listed_answer listed.TooLong = refusing (refusing_text (codes "too many steps"))
 
--- ---- how it ends
+-- ---- how the commands end
 
--- an answer is told, or that there was no memory
+-- the command ends with `answer`, or with the answer that memory ran out
 abbrev pub EndsUnlessMemory : CommandAnswer → Writing × Writing → Writing × Writing → ℕ → Type 0
 EndsUnlessMemory answer out err status = Ends answer out err status ⊎ Ends (refusal_answer Memory) out err status
 
--- a refusal is told
+-- the line of the refusal `answer` is written to standard error, or a write of it fails; the status is that of `answer`
 pub record Complains (answer : CommandAnswer) (err : Writing × Writing) (status : ℕ) : Type 0 where
   pub err_is : TriesToWrite err.0 err.1 answer.error
   pub status_is : status ≡ answer.status
@@ -138,7 +138,7 @@ pub record Complains (answer : CommandAnswer) (err : Writing × Writing) (status
 abbrev pub ComplainsUnlessMemory : CommandAnswer → Writing × Writing → ℕ → Type 0
 ComplainsUnlessMemory answer err status = Complains answer err status ⊎ Complains (refusal_answer Memory) err status
 
--- something is found, or why the inputs make no part
+-- x is found, or no part is joined from the inputs, for the reason `why`
 abbrev pub IsFoundOrNoJoin : {X : Type 0} → (X → Type 0) → List Reading × List Reading → Result X NoJoin → Type 0
 IsFoundOrNoJoin IsFound inputs (Ok x) = IsFound x
 IsFoundOrNoJoin IsFound inputs (Err why) = IsNoJoin inputs.0 inputs.1 why
@@ -147,20 +147,20 @@ abbrev pub answer_or : {X : Type 0} → (X → CommandAnswer) → List (List ℕ
 answer_or answer names (Ok x) = answer x
 answer_or answer names (Err why) = no_join_answer names why
 
--- The inputs, which have these names, are read; what may be found of them is found, or why they make no part, unless
--- there was no memory; and its answer is told, unless a write of it fails.
+-- The inputs, which have the names `names`, are read. Something that satisfies `IsFound` is found, or why no part is
+-- joined from the inputs. The command ends with its answer, or with that for lack of memory, unless a write fails.
 abbrev pub DoesOfParts : {X : Type 0} → (X → Type 0) → (X → CommandAnswer) → List (List ℕ) → List Reading × List Reading
     → Writing × Writing → Writing × Writing → ℕ → Type 0
 DoesOfParts {X} IsFound answer names inputs out err status =
     (found : Result X NoJoin) × IsFoundOrNoJoin IsFound inputs found
     × Ends (answer_or answer names found) out err status
 
--- one part of all inputs is written
+-- one part joined from all inputs is written
 abbrev pub WritesJoin : List (List ℕ) → List Reading × List Reading → Writing × Writing → Writing × Writing → ℕ → Type 0
 WritesJoin names inputs out err status =
     DoesOfParts (IsJoinOf inputs.0 inputs.1) written_part names inputs out err status
 
--- this is told of the recording of so many files by one part of all inputs
+-- `what` is the answer about the recording, which has `files` files, from one part joined from all inputs
 pub record IsToldOf (inputs : List Reading × List Reading) (files : Option ℕ) (what : RecordingAnswer) : Type 0 where
   pub part : PartValue
   pub join : IsJoinOf inputs.0 inputs.1 part
@@ -172,13 +172,13 @@ abbrev pub TellsRecording : List (List ℕ) → List Reading × List Reading →
 TellsRecording names inputs files out err status =
     DoesOfParts (IsToldOf inputs files) told_answer names inputs out err status
 
--- something is listed of a recording by a part, and its answer is told, or that there was no memory
+-- the command ends with the listing from the part p, or with that for lack of memory
 abbrev pub ListsPart : PartValue → Option ℕ → Writing × Writing → Writing × Writing → ℕ → Type 0
 ListsPart p files out err status =
     ((what : ListingAnswer) × DeterminesListingAnswer p files what × Ends (listed_answer what) out err status)
     ⊎ Ends (refusal_answer Memory) out err status
 
--- this is listed of it
+-- `what` is the answer to listing the recording, which has `files` files, from one part joined from all inputs
 pub record IsListedOf (inputs : List Reading × List Reading) (files : Option ℕ) (what : ListingAnswer) : Type 0 where
   pub part : PartValue
   pub join : IsJoinOf inputs.0 inputs.1 part

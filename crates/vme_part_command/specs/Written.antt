@@ -30,7 +30,7 @@ pub record DumpRecording : Type 0 where
   pub start : Option ℕ
   pub recording : Trace
 
--- these of a dump, or the first reason that there are none: the binding is read first
+-- the recording of a dump and its first time, or the first reason that there is none: the binding is read first
 abbrev pub dump_recording : Result BoundLines Refusal → Result Contents Refusal → Result DumpRecording Refusal
 dump_recording binding dump = do
   bound ← binding
@@ -38,8 +38,9 @@ dump_recording binding dump = do
   t ← or_bad_binding (capture_of bound contents)
   Ok (record { start = start_of contents; recording = t })
 
--- A part can be written, in few bytes, and is the one of a recording as a file, with marks or without: but for number
--- 0, the levels behind the dump's first time are the opening of the file, and its steps those behind that time.
+-- p can be written, in few bytes, and is the part of the file that the dump's recording makes, with marks or without.
+-- Except for number 0, the levels after the dump's first time are the opening of the file, and its steps are those
+-- after that time.
 pub record IsPartOfRecording (o : PartOptions) (d : DumpRecording) (p : PartValue) : Type 0 where
   pub backplane : p.backplane ≡ backplane_of d.recording.opening
   pub listing : p.listing ≡ o.listing
@@ -47,8 +48,8 @@ pub record IsPartOfRecording (o : PartOptions) (d : DumpRecording) (p : PartValu
   pub small : IsSmall p
   pub stands : IsPartOfFile o.listing (file_of o.number d.start d.recording) p
 
--- What is found of a recording that is to be read: a part of it, seen by view, or why the recording isn't there, unless
--- there was no memory. Or what is found of a recording has no place in a part.
+-- The result for a recording that `read` gives: a part of it, as a value by `view`; or why there is no recording,
+-- unless memory ran out; or, where there is a recording, that its part would be out of bounds.
 abbrev pub FindsPart : {X : Type 0} → (X → PartValue) → PartOptions → Result DumpRecording Refusal → Result X NoPart
     → Type 0
 FindsPart view o read (Ok part) = (d : DumpRecording) × (read ≡ Ok d) × IsPartOfRecording o d (view part)
@@ -56,7 +57,7 @@ FindsPart view o read (Err (none.Refused refusal)) = AnswerGives (λ (d : DumpRe
 FindsPart view o read (Err none.TooManyMarks) = (d : DumpRecording) × (read ≡ Ok d)
 FindsPart view o read (Err none.OutOfRange) = (d : DumpRecording) × (read ≡ Ok d)
 
--- the same of what a dump says that is read, by a binding
+-- `FindsPart` for the recording that the binding `bound` makes of a dump, which is read
 abbrev pub FindsOfDump : PartOptions → BoundLines → Reading → Reading → Result Part NoPart → Type 0
 FindsOfDump o bound old now found =
     (bytes : Option (List ℕ)) × IsReading old now bytes
@@ -74,7 +75,7 @@ no_part_status (none.Refused refusal) = refusal_status refusal
 no_part_status none.TooManyMarks = 3
 no_part_status none.OutOfRange = 3
 
--- a text is written, with status 0
+-- the answer with `text` on standard output and status 0
 abbrev pub written : List ℕ → CommandAnswer
 written text = record { out = text; error = []; status = 0 }
 
@@ -88,8 +89,8 @@ abbrev pub part_answer : Result PartValue NoPart → CommandAnswer
 part_answer (Ok p) = written_part p
 part_answer (Err why) = no_part_answer why
 
--- the binding and the dump are read, or can't be; a part of their recording is made, unless there was no memory; and it
--- is written, or why there is none, unless a write of it fails
+-- the binding and the dump are read, or can't be; a part of their recording is made, unless memory ran out; and it is
+-- written, or why there is none, unless a write fails
 abbrev pub WritesPart : PartOptions → Reading × Reading → Reading × Reading → Writing × Writing → Writing × Writing → ℕ
     → Type 0
 WritesPart o binding dump out err status =

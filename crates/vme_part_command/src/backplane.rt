@@ -29,7 +29,7 @@ fn code_at(opening: &Lines, number: u8) -> u8
     }
 }
 
-/// Adds what each line has before any change.
+/// Adds the code of each line's level before any change.
 fn put_codes(bytes: &mut Vec<u8>, opening: &Lines) -> Result<(), AllocError>
     ensures { OnOk result (bytes.new.items ≡ bytes.old.items ++ line_codes opening.now) }
 {
@@ -39,8 +39,8 @@ fn put_codes(bytes: &mut Vec<u8>, opening: &Lines) -> Result<(), AllocError>
     Ok(())
 }
 
-/// The sum of a backplane, by the levels before any change: of the number of slots, and of what each line has for good.
-/// Where the binding gives a line bits of a variable, it is Unknown there.
+/// The sum of a backplane: a checksum of the number of slots and of each line's level before any change. A line that
+/// the binding makes a constant has this constant. A line to which it gives bits of a variable is Unknown.
 #[tactic(auto, unfolding(crate::specs::Backplane::backplane_of))]
 pub(crate) fn backplane_sum(alloc: Global, opening: &Lines) -> Result<u64, AllocError>
     ensures { IfOk result (λ sum. sum ≡ backplane_of opening.now) }

@@ -1,4 +1,4 @@
-//! What is told where there is no answer.
+//! The lines on standard error where there is no answer.
 
 ghost use Rattle.std.specs.Prelude.{◌≡◌, IfOk};
 ghost use Rattle.vme_stream.specs.Outputs.{TriesToWrite};
@@ -13,7 +13,7 @@ use vme_stream::{Message, Refusal, complain, refusal_line, write_all};
 use vme_text::Text;
 use vme_trace::Sink;
 
-/// Tells that there is no memory. The answer is the exit status.
+/// Writes that memory ran out. The answer is the exit status.
 pub(crate) fn no_memory<E: Sink>(err: &mut E) -> u8
     ensures { Complains (refusal_answer Memory) (E.writing err.old, E.writing err.new) result }
 {
@@ -21,7 +21,7 @@ pub(crate) fn no_memory<E: Sink>(err: &mut E) -> u8
     Refusal::Memory.status()
 }
 
-/// Tells a line that refuses something. The answer is the exit status.
+/// Writes a line that refuses something. The answer is the exit status, 3.
 pub(crate) fn refuse<E: Sink>(line: Message, err: &mut E) -> u8
     ensures told { TriesToWrite (E.writing err.old) (E.writing err.new) line }
     ensures status { result ≡ 3 }
@@ -30,7 +30,7 @@ pub(crate) fn refuse<E: Sink>(line: Message, err: &mut E) -> u8
     3
 }
 
-/// Writes some bytes. Where that fails, nothing else is done.
+/// Writes `bytes`. If that fails, nothing else is done.
 fn tell_bytes<E: Sink>(err: &mut E, bytes: &[u8])
     ensures { TriesToWrite (E.writing err.old) (E.writing err.new) bytes.now }
 {
@@ -52,7 +52,7 @@ fn input_line(alloc: Global, name: &[u8], what: &[u8]) -> Result<Text, AllocErro
     Ok(text)
 }
 
-/// Tells something of an input by its name. The answer is the exit status.
+/// Writes the line that `what` is wrong with the input `name`. The answer is the exit status.
 pub(crate) fn tell_input<E: Sink>(alloc: Global, name: &[u8], what: &[u8], err: &mut E) -> u8
     ensures { ComplainsUnlessMemory (refusing (input_text name.now what.now))
         (E.writing err.old, E.writing err.new) result }

@@ -25,8 +25,8 @@ use vme_step_reader::StepReader;
 use vme_stream::Refusal;
 use vme_trace::Source;
 
-/// Takes the first of the bytes that are held, as many as are whole tokens, and judges their steps. It fails for a
-/// fault of the dump, or for want of memory.
+/// Takes the bytes held in `input` that are whole tokens, and judges their steps. The error is a fault of the dump, or
+/// `None` if memory runs out.
 fn judge_piece(
     alloc: Global,
     reader: StepReader,
@@ -55,7 +55,7 @@ fn judge_piece(
     }
 }
 
-/// Takes the last bytes. The answer is the part of the file.
+/// Takes the last bytes of the body. The answer is the part of the file.
 fn judge_last(
     alloc: Global,
     reader: StepReader,
@@ -107,7 +107,7 @@ fn judge_body<D: Source>(
     judge_last(alloc, reader, input.bytes(), check, backplane)
 }
 
-/// Judges the body of a dump that has this first time.
+/// Judges the body of a dump with the first time `start`, if it has one.
 fn part_of_body<D: Source>(
     alloc: Global,
     options: PartOptions,
@@ -129,7 +129,8 @@ fn part_of_body<D: Source>(
     judge_body(alloc, dump, input, reader, check, backplane)
 }
 
-/// Judges the body behind definitions that are held, which have so many bytes, once the dump's first time is known.
+/// Judges the body after the definitions, which are held in `input` and have `count` bytes. First it reads the dump up
+/// to its first time.
 fn part_behind<D: Source>(
     alloc: Global,
     options: PartOptions,

@@ -1,4 +1,4 @@
-//! The steps of a dump that is a file of a recording, judged as they come.
+//! The steps of a dump that is a file of a recording, judged as they are read.
 
 ghost use Rattle.std.specs.Prelude.{◌≡◌, ◌+◌, ◌≤◌, ◌<◌, ℕ, Bool, [], false, true, IfOk, None, Ok, Option, length};
 ghost use Rattle.vme_trace.specs.LineNumbers.{line_count};
@@ -22,22 +22,22 @@ use vme_trace::{Lines, Step};
 /// How many steps a recording has at most.
 const MOST_STEPS: usize = 268_435_456;
 
-/// So many steps are judged at once, however they come: so a dump has one part, however it is read.
+/// How many steps are judged at once, however they are read. So the part of a dump doesn't depend on how it is read.
 const BATCH: usize = 16_384;
 
-/// What the steps of a dump come to, as they come.
+/// The state of judging the steps of a dump.
 #[derive(Drop)]
 pub(crate) struct FileCheck {
-    /// What is found, unless the nodes of a table have no numbers: then nothing more is judged.
+    /// The file with the steps judged so far, or `None` if a table has too many nodes. Then no more steps are judged.
     file: Option<FileSoFar>,
-    /// The steps behind those that are judged.
+    /// The steps after those that are judged.
     pending: Vec<Step>,
-    /// How many steps came, and whether they are too many: then nothing more is judged either.
+    /// How many steps were given, and whether they are too many. Then no more steps are judged either.
     count: usize,
     is_too_long: bool,
 }
 
-/// Judges the steps that follow, unless the nodes of a table have no numbers.
+/// Judges the steps that follow. The result is `None` if a table has too many nodes.
 fn gone_on(
     alloc: Global,
     file: Option<FileSoFar>,
@@ -59,7 +59,7 @@ fn gone_on(
     }
 }
 
-/// Judges steps in batches, as long as there are enough. The rest is handed back.
+/// Judges `pending` in batches, as long as there is a whole batch. The rest is returned.
 fn judge_batches(
     alloc: Global,
     file: Option<FileSoFar>,
@@ -81,7 +81,7 @@ fn judge_batches(
     Ok((file, pending))
 }
 
-/// Judges all steps, the last of which these are.
+/// Judges `pending` and then `steps`, the last steps.
 fn judge_all(
     alloc: Global,
     file: Option<FileSoFar>,
@@ -101,7 +101,7 @@ fn judge_all(
     gone_on(alloc, file, rest.as_slice())
 }
 
-/// The part of a file whose steps all came.
+/// The part of a file whose steps were all given.
 fn part_in(alloc: Global, file: FileSoFar, backplane: u64) -> Result<Part, NoPart>
     requires { (number : ℕ) × (listing : Bool) × (start : Option ℕ) × (t : Trace)
         × IsFileSoFar number listing start file t × (malformed_step t ≡ None) }
@@ -118,8 +118,8 @@ fn part_in(alloc: Global, file: FileSoFar, backplane: u64) -> Result<Part, NoPar
 }
 
 impl FileCheck {
-    /// Before the first step of a dump that is the file of a number, with marks or without. It has this first time, if
-    /// it has one, and these levels before any change.
+    /// The state before the first step of a dump that is the file `number`, with marks (`listing`) or without. The dump
+    /// has the first time `start`, if it has one, and the levels `opening` before any change.
     pub fn new(
         alloc: Global,
         number: u32,
@@ -138,7 +138,7 @@ impl FileCheck {
         }
     }
 
-    /// Counts the steps that follow, and says whether they aren't too many.
+    /// Counts `steps` more steps. The answer is whether there aren't too many.
     fn counts(&mut self, steps: usize) -> bool
         ensures few { result ≡ true → (self.new.count ≡ self.old.count + steps) × (self.new.is_too_long ≡ false)
             × (self.old.is_too_long ≡ false) }
@@ -184,7 +184,7 @@ impl FileCheck {
         })
     }
 
-    /// The part of the file, whose last steps these are. The backplane has this sum.
+    /// The part of the file, whose last steps are `steps`. `backplane` is the sum of the backplane.
     pub fn finish(self, alloc: Global, steps: Vec<Step>, backplane: u64) -> Result<Part, NoPart>
         requires { (number : ℕ) × (listing : Bool) × (start : Option ℕ) × (t : Trace)
             × HasTakenSteps number listing start self t × (malformed_step (with_steps t steps.items) ≡ None) }

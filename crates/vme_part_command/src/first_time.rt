@@ -13,8 +13,8 @@ use vme_dump_input::{BufferedInput, unread};
 use vme_stream::Refusal;
 use vme_trace::Source;
 
-/// What a front of a dump tells of its first time. Fewer bytes than these aren't read, which are twice as many then: so
-/// that all tries together take time in proportion to the bytes.
+/// The first time of a dump that begins with `front`, if `front` determines it. With fewer than `least` bytes it isn't
+/// tried; a try sets `least` to twice the bytes. So all tries together take time in proportion to the bytes.
 fn start_in_time(alloc: Global, front: &[u8], least: &mut usize) -> Result<Start, AllocError>
     ensures { IfOk result (λ start. (rest : List ℕ) → DeterminesStart (front.now ++ rest) start) }
 {
@@ -25,8 +25,8 @@ fn start_in_time(alloc: Global, front: &[u8], least: &mut usize) -> Result<Start
     start_in(alloc, front)
 }
 
-/// The first time of a dump that is the file of a number, if it has one, which isn't asked of number 0: the dump is
-/// read on until it is told, and nothing of it is taken.
+/// The first time of a dump that is the file `number`, if it has one. For number 0 nothing is read. Else the dump is
+/// read until its first time is determined, and no bytes are taken from `input`.
 pub(crate) fn read_start<D: Source>(
     alloc: Global,
     dump: &mut D,

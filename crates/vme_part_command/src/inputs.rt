@@ -1,4 +1,4 @@
-//! The parts that inputs are.
+//! The parts in the inputs.
 
 ghost use Rattle.std.specs.Prelude.{◌≡◌, IfErr, IfOk, Some, map};
 ghost use Rattle.vme_stream.specs.Inputs.{IsReading};
@@ -20,7 +20,7 @@ use vme_parts::{JoinRefusal, join_parts};
 use vme_stream::{InFault, read_all};
 use vme_trace::{Sink, Source};
 
-/// A part, and its name as it is told.
+/// An input that has a part, and its name in messages.
 #[derive(Drop)]
 pub struct NamedPart<'a, P> {
     pub name: &'a [u8],
@@ -32,9 +32,9 @@ pub struct NamedPart<'a, P> {
 pub(crate) enum NoPartInput {
     /// It can't be read.
     Unread,
-    /// It has over 268,435,456 bytes.
+    /// It has more than 268,435,456 bytes.
     TooLong,
-    /// It has this fault.
+    /// Its bytes have this fault.
     Faulty(PartFault),
 }
 
@@ -45,13 +45,13 @@ enum PartInputError {
     Fault(NoPartInput),
 }
 
-/// Why inputs make no part.
+/// Why no part is joined from the inputs.
 #[derive(Clone, Copy, Debug)]
 pub(crate) enum NoJoin {
     Memory,
-    /// The input at this place is no part.
+    /// The input with this index is no part.
     Input(usize, NoPartInput),
-    /// They make none together, of which the first has marks or none.
+    /// The parts can't be joined for this reason. The flag is whether the first has marks.
     Refused(JoinRefusal, bool),
 }
 
@@ -75,7 +75,7 @@ impl<T: Drop> From<AllocFailed<T>> for NoJoin {
     }
 }
 
-/// The part that an input is.
+/// Reads the part in an input.
 fn part_in<P: Source>(alloc: Global, input: &mut NamedPart<'_, P>) -> Result<Part, PartInputError>
     ensures fits { IfOk result (λ part. FitsPart (part_value part)) }
     ensures read { IfOk result (λ part. IsReading (P.reading input.old.part) (P.reading input.new.part)
@@ -96,7 +96,7 @@ fn part_in<P: Source>(alloc: Global, input: &mut NamedPart<'_, P>) -> Result<Par
     }
 }
 
-/// The parts that inputs are, in order.
+/// Reads the parts in the inputs, in order.
 fn read_parts<P: Source>(
     alloc: Global,
     inputs: &mut [NamedPart<'_, P>],
@@ -119,7 +119,7 @@ fn read_parts<P: Source>(
     Ok(parts)
 }
 
-/// Whether the first of some parts has marks.
+/// Whether the first part has marks, or `false` if there is no part.
 fn has_marks(parts: &[Part]) -> bool
     ensures { result ≡ first_listing (map part_value parts.now) }
 {
@@ -129,7 +129,7 @@ fn has_marks(parts: &[Part]) -> bool
     }
 }
 
-/// One part of the parts that inputs are.
+/// The part joined from the parts in the inputs.
 pub(crate) fn joined<P: Source>(
     alloc: Global,
     inputs: &mut [NamedPart<'_, P>],
@@ -151,7 +151,7 @@ pub(crate) fn joined<P: Source>(
     }
 }
 
-/// The name of the input at a place.
+/// The name of the input with the index `place`.
 fn name_of<'a, P>(inputs: &[NamedPart<'a, P>], place: usize) -> &'a [u8]
     ensures { result.now ≡ name_at (map (λ i. i.name.now) inputs.now) place }
 {
@@ -161,7 +161,7 @@ fn name_of<'a, P>(inputs: &[NamedPart<'a, P>], place: usize) -> &'a [u8]
     }
 }
 
-/// Tells why an input is no part. The answer is the exit status.
+/// Writes why an input is no part. The answer is the exit status.
 fn refuse_input<E: Sink>(alloc: Global, name: &[u8], fault: &NoPartInput, err: &mut E) -> u8
     ensures { ComplainsUnlessMemory (refusing (input_text name.now (what_is_wrong fault.now)))
         (E.writing err.old, E.writing err.new) result }
@@ -176,7 +176,8 @@ fn refuse_input<E: Sink>(alloc: Global, name: &[u8], fault: &NoPartInput, err: &
     }
 }
 
-/// Tells that a part has marks where the first has none, or the other way round. The answer is the exit status.
+/// Writes that a part has no marks and the first has some (`has_marks`), or the other way round. The answer is the exit
+/// status.
 fn refuse_marks<E: Sink>(alloc: Global, name: &[u8], has_marks: bool, err: &mut E) -> u8
     ensures { ComplainsUnlessMemory (refusing (input_text name.now (marks_text has_marks)))
         (E.writing err.old, E.writing err.new) result }
@@ -188,7 +189,7 @@ fn refuse_marks<E: Sink>(alloc: Global, name: &[u8], has_marks: bool, err: &mut 
     }
 }
 
-/// Tells why inputs make no part together. The answer is the exit status.
+/// Writes why the parts in the inputs can't be joined. The answer is the exit status.
 fn tell_join_refusal<P, E: Sink>(
     alloc: Global,
     inputs: &[NamedPart<'_, P>],
@@ -212,7 +213,7 @@ fn tell_join_refusal<P, E: Sink>(
     }
 }
 
-/// Tells why inputs make no part. The answer is the exit status.
+/// Writes why no part is joined from the inputs. The answer is the exit status.
 pub(crate) fn refuse_joined<P, E: Sink>(
     alloc: Global,
     inputs: &[NamedPart<'_, P>],

@@ -1,4 +1,4 @@
-//! One part of several.
+//! One part joined from several.
 
 ghost use Rattle.std.specs.Prelude.{map};
 ghost use Rattle.vme_stream.specs.Ends.{Ends};
@@ -14,7 +14,7 @@ use vme_part_format::{Part, write_part};
 use vme_stream::{cannot_write_line, complain, write_all};
 use vme_trace::{Sink, Source};
 
-/// Writes a text. The answer is the exit status.
+/// Writes `bytes`. The answer is the exit status.
 fn put_bytes<O: Sink, E: Sink>(bytes: &[u8], out: &mut O, err: &mut E) -> u8
     ensures { Ends (written bytes.now)
         (O.writing out.old, O.writing out.new) (E.writing err.old, E.writing err.new) result }
@@ -40,8 +40,9 @@ pub(crate) fn put_part<O: Sink, E: Sink>(alloc: Global, part: &Part, out: &mut O
     }
 }
 
-/// Writes to `out` one part of the parts that inputs are, in whatever order, or to `err` why there is none. The answer
-/// is the exit status: 0, 3 where an input is refused, 4 for want of memory, 5 where the part can't be written.
+/// Writes to `out` one part joined from the parts in the inputs, which may be in any order, or to `err` why there is
+/// none. The answer is the exit status: 0, 3 where an input is refused, 4 for want of memory, 5 where the part can't be
+/// written.
 pub fn write_joined<P: Source, O: Sink, E: Sink>(
     alloc: Global,
     inputs: &mut [NamedPart<'_, P>],

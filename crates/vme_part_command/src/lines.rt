@@ -1,4 +1,4 @@
-//! The lines that are told of parts.
+//! The lines that are written about parts.
 
 ghost use Rattle.std.specs.Prelude.{◌≡◌, ◌≤◌, length};
 ghost use Rattle.vme_stream.specs.Texts.{break_text, line_of, verdict_status as status_of, verdict_text};
@@ -58,7 +58,7 @@ pub(crate) fn verdict_status(verdict: &WideVerdict) -> u8
     }
 }
 
-/// The line that says something of a part by its number.
+/// The line that says `what` of the file `number`.
 pub(crate) fn part_line(number: u64, what: &[u8]) -> Message
     requires { length what.now ≤ 64 }
     ensures { result ≡ line_of (part_text number what.now) }
@@ -70,7 +70,7 @@ pub(crate) fn part_line(number: u64, what: &[u8]) -> Message
         .with_line_feed()
 }
 
-/// The line that refuses something.
+/// The line of a refusal, for the reason `what`.
 pub(crate) fn refusing_line(what: &[u8]) -> Message
     requires { length what.now ≤ 64 }
     ensures { result ≡ line_of (refusing_text what.now) }
@@ -81,7 +81,7 @@ pub(crate) fn refusing_line(what: &[u8]) -> Message
         .with_line_feed()
 }
 
-/// The line of what is told in place of a verdict, or of the verdict.
+/// The line of an answer about the whole recording.
 pub(crate) fn told_line(told: &RecordingAnswer) -> Message
     ensures { result ≡ line_of (told_text told.now) }
 {
@@ -124,7 +124,7 @@ fn kind_message(kind: PartFaultKind, place: usize) -> Message
     }
 }
 
-/// What a fault of a part is, behind the name of its file.
+/// The text of a fault of a part, which comes after the name of its file.
 pub(crate) fn fault_message(fault: &PartFault) -> Message
     ensures { result ≡ fault_text fault.now }
 {

@@ -1,14 +1,14 @@
-//! Why there is no part of a file.
+//! Why no part of a file is made.
 
 use vme_stream::Refusal;
 
-/// Why there is no part of a file.
+/// Why no part of a file is made.
 #[derive(Clone, Copy, Debug)]
 pub(crate) enum NoPart {
     /// An input is refused, or memory runs out.
     Refused(Refusal),
-    /// The nodes of a table have no numbers of 32 bits.
+    /// A table has too many nodes for ways of 32 bits.
     TooManyMarks,
-    /// What is found is out of the range of parts.
+    /// The part would be out of the range of parts.
     OutOfRange,
 }

@@ -28,7 +28,7 @@ pub struct PartOptions {
     pub listing: bool,
 }
 
-/// The part of the recording that a binding makes of a dump that is a file of another.
+/// The part of the recording that the binding `bound` makes of a dump, which is a file of a longer recording.
 fn part_of_dump<D: Source>(
     alloc: Global,
     options: PartOptions,
@@ -46,7 +46,7 @@ fn part_of_dump<D: Source>(
     }
 }
 
-/// The same, where the binding is to be read: it is read first.
+/// The part of the recording that a binding makes of a dump. The binding is read first.
 fn made_part<B: Source, D: Source>(
     alloc: Global,
     options: PartOptions,
@@ -64,7 +64,7 @@ fn made_part<B: Source, D: Source>(
     }
 }
 
-/// Tells why there is no part. The answer is the exit status.
+/// Writes why there is no part. The answer is the exit status.
 fn refuse_part<E: Sink>(why: NoPart, err: &mut E) -> u8
     ensures { Complains (no_part_answer why) (E.writing err.old, E.writing err.new) result }
 {
@@ -78,9 +78,9 @@ fn refuse_part<E: Sink>(why: NoPart, err: &mut E) -> u8
     }
 }
 
-/// Judges a dump that is a file of a recording, by a binding, whatever stood before it, and writes its part to `out`,
-/// or to `err` why there is none. The answer is the exit status: 0 whatever the verdict, 3 where an input is refused, 4
-/// for want of memory, 5 where the part can't be written.
+/// Judges a dump that is a file of a recording, by a binding, for each memory (state) in which the file may begin, and
+/// writes its part to `out`, or to `err` why there is none. The answer is the exit status: 0 whatever the verdict, 3
+/// where an input is refused, 4 for want of memory, 5 where the part can't be written.
 pub fn write_part_of<B: Source, D: Source, O: Sink, E: Sink>(
     alloc: Global,
     options: PartOptions,

@@ -1,4 +1,4 @@
-//! What is told of the whole recording.
+//! The verdict and the listing of the whole recording.
 
 ghost use Rattle.std.specs.Prelude.{◌≡◌, map};
 ghost use Rattle.vme_stream.specs.Ends.{Ends};
@@ -36,7 +36,7 @@ fn put_verdict<O: Sink, E: Sink>(verdict: &WideVerdict, out: &mut O, err: &mut E
     }
 }
 
-/// Tells the verdict, or what is told in its place. The answer is the exit status.
+/// Writes the verdict, or why there is none. The answer is the exit status.
 fn tell<O: Sink, E: Sink>(told: RecordingAnswer, out: &mut O, err: &mut E) -> u8
     ensures { Ends (told_answer told)
         (O.writing out.old, O.writing out.new) (E.writing err.old, E.writing err.new) result }
@@ -50,9 +50,10 @@ fn tell<O: Sink, E: Sink>(told: RecordingAnswer, out: &mut O, err: &mut E) -> u8
     }
 }
 
-/// Writes to `out` the verdict of the whole recording, of so many files, by the parts that inputs are, or to `err` why
-/// there is none. The answer is the exit status: that of `check` by the verdict; 3 where an input is refused, or a file
-/// is missing or torn; 4 for want of memory; 5 where the verdict can't be written.
+/// Writes to `out` the verdict of the whole recording, which has `files` files, from the parts in the inputs, or to
+/// `err` why there is none. If `files` is `None`, the recording ends with the last file that is covered. The answer is
+/// the exit status: that of `check` by the verdict; 3 where an input is refused, a file is missing, torn or beyond the
+/// files, or there are too many steps; 4 for want of memory; 5 where the verdict can't be written.
 pub fn tell_whole<P: Source, O: Sink, E: Sink>(
     alloc: Global,
     inputs: &mut [NamedPart<'_, P>],
@@ -113,7 +114,7 @@ fn put_listing<O: Sink, E: Sink>(listing: &Listing, out: &mut O, err: &mut E) ->
     }
 }
 
-/// Writes the listing, or what is told in its place. The answer is the exit status.
+/// Writes the listing, or why there is none. The answer is the exit status.
 fn put_listed<O: Sink, E: Sink>(what: ListingAnswer, out: &mut O, err: &mut E) -> u8
     ensures { Ends (listed_answer what)
         (O.writing out.old, O.writing out.new) (E.writing err.old, E.writing err.new) result }
@@ -126,7 +127,7 @@ fn put_listed<O: Sink, E: Sink>(what: ListingAnswer, out: &mut O, err: &mut E) -
     }
 }
 
-/// Writes the listing that a part says, or what is told in its place. The answer is the exit status.
+/// Writes the listing from a part, or why there is none. The answer is the exit status.
 fn list_part<O: Sink, E: Sink>(
     alloc: Global,
     part: &Part,
@@ -144,8 +145,9 @@ fn list_part<O: Sink, E: Sink>(
     }
 }
 
-/// Writes to `out` the listing of the whole recording, of so many files, by the parts that inputs are, or to `err` why
-/// there is none. The answer is the exit status: that of `list` by the listing's verdict; else as `tell_whole` answers.
+/// Writes to `out` the listing of the whole recording, which has `files` files, from the parts in the inputs, or to
+/// `err` why there is none. If `files` is `None`, the recording ends with the last file that is covered. The answer is
+/// the exit status: that of `list` by the listing's verdict; 3 for parts without marks; else as `tell_whole` answers.
 pub fn list_whole<P: Source, O: Sink, E: Sink>(
     alloc: Global,
     inputs: &mut [NamedPart<'_, P>],

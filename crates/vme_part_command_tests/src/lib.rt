@@ -1,11 +1,11 @@
-//! Tests of vme_part_command and of vme_part_listing: a recording of three files, whose parts are
-//! made, joined, and told.
+//! Tests of vme_part_command and of vme_part_listing: a recording of three files. Their parts are
+//! made and joined, and the verdict and the listing of the whole are written.
 //!
-//! - `tests`: the verdict and the listing of the whole, and what is told where a file is missing,
-//!   torn, differs, is damaged or can't be read. `want_of_memory_is_told` is made for
-//!   `tests/memory/run`, which refuses each of its allocations in turn.
+//! - `tests`: the verdict and the listing of the whole, and the message where a file is missing,
+//!   torn, differs, is damaged or can't be read. `want_of_memory_is_told` is for `tests/memory/run`,
+//!   which refuses each of its allocations in turn.
 //!
-//! Not tried here: files and processes, on which `tests/parts/run` runs the program.
+//! Not tested here: files and processes, on which `tests/parts/run` runs the program.
 #![tactic(auto)]
 
 #[cfg(test)]

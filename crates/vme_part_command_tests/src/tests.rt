@@ -35,7 +35,7 @@ BG3 = 1
 IA = 1
 ";
 
-/// The same, of a backplane of two slots.
+/// `BINDING` with a backplane of two slots.
 const OTHER_BINDING: &[u8] = b"slots 2
 AS = bus.AS
 DS0 = bus.DS0
@@ -61,7 +61,7 @@ BG3 = 1
 IA = 1
 ";
 
-/// One read cycle: until the address strobe falls.
+/// The first file: a read cycle until the address strobe falls.
 const FIRST: &str = "$timescale 1 ns $end
 $scope module bus $end
 $var wire 1 p AS $end
@@ -76,7 +76,7 @@ $enddefinitions $end
 #10 0p
 ";
 
-/// Until the answer, from the middle of the cycle on.
+/// The second file: the cycle from there until the answer.
 const SECOND: &str = "$timescale 1 ns $end
 $scope module bus $end
 $var wire 1 p AS $end
@@ -92,7 +92,7 @@ $enddefinitions $end
 #30 0s
 ";
 
-/// Its end.
+/// The third file: the end of the cycle.
 const THIRD: &str = "$timescale 1 ns $end
 $scope module bus $end
 $var wire 1 p AS $end
@@ -108,7 +108,7 @@ $enddefinitions $end
 #50 1s
 ";
 
-/// Another end, with no answer before it.
+/// Another third file: the end of a cycle without an answer before it.
 const OTHER_THIRD: &str = "$timescale 1 ns $end
 $scope module bus $end
 $var wire 1 p AS $end
@@ -123,7 +123,7 @@ $enddefinitions $end
 #40 1p 1q
 ";
 
-/// No time.
+/// A dump without a time.
 const HEADER: &str = "$timescale 1 ns $end
 $scope module bus $end
 $var wire 1 p AS $end
@@ -136,7 +136,7 @@ $upscope $end
 $enddefinitions $end
 ";
 
-/// No step, and no level of a line.
+/// A dump without a step, and without a level of a line.
 const NO_LEVELS: &str = "$timescale 1 ns $end
 $scope module bus $end
 $var wire 1 p AS $end
@@ -150,7 +150,7 @@ $enddefinitions $end
 #0
 ";
 
-/// The first file, of which the first time has no levels.
+/// The first file, with no levels at its first time.
 const LATER_FIRST: &str = "$timescale 1 ns $end
 $scope module bus $end
 $var wire 1 p AS $end
@@ -166,7 +166,7 @@ $enddefinitions $end
 #10 0p
 ";
 
-/// The second file, of which the levels stand before each time.
+/// The second file, with its levels before any time.
 const UNTIMED_SECOND: &str = "$timescale 1 ns $end
 $scope module bus $end
 $var wire 1 p AS $end
@@ -191,7 +191,7 @@ transfer 3 of 2 read DTACK 4 close 5
 verdict conforming
 ";
 
-/// A sink that holds what it took, up to a count of bytes at which writes fail.
+/// A sink that keeps what is written. Writes fail at a limit of bytes.
 #[derive(Drop)]
 struct Page {
     bytes: Vec<u8>,
@@ -208,7 +208,7 @@ impl Page {
         }
     }
 
-    /// A sink whose memory is taken before the first write.
+    /// A sink whose memory is allocated before the first write.
     fn with_room(alloc: Global, room: usize) -> Result<Page, AllocError> {
         Ok(Page {
             bytes: Vec::with_capacity(alloc, room)?,
@@ -235,7 +235,7 @@ impl Sink for Page {
     }
 }
 
-/// A reader of some bytes, of which the read behind them fails.
+/// A reader of the bytes `left`, whose next read fails.
 #[derive(Drop)]
 struct TornReader<'a> {
     left: &'a [u8],
@@ -253,7 +253,7 @@ impl Read for TornReader<'_> {
     }
 }
 
-/// A reader of some bytes, a few at a time.
+/// A reader that gives a few bytes at a time.
 #[derive(Drop)]
 struct ShortReader<'a> {
     left: &'a [u8],
@@ -268,10 +268,10 @@ impl Read for ShortReader<'_> {
     }
 }
 
-/// What is written and told, and the status.
+/// The texts on standard output and on standard error, and the status.
 type WantedAnswer<'a> = (&'a str, &'a str, u8);
 
-/// Whether this was written and told, with this status.
+/// Whether the outputs and the status are `wanted`.
 fn has_told(out: &Page, err: &Page, status: u8, wanted: WantedAnswer<'_>) -> bool {
     let (text, told, ended) = wanted;
     out.bytes.as_slice() == text.as_bytes()
@@ -279,7 +279,7 @@ fn has_told(out: &Page, err: &Page, status: u8, wanted: WantedAnswer<'_>) -> boo
         && status == ended
 }
 
-/// The part of a dump as the file of a number, by a binding, if one is written.
+/// The part of `dump` as the file `number`, by `binding`, if one is written.
 fn part_by(
     alloc: Global,
     binding: &[u8],
@@ -304,12 +304,12 @@ fn part_by(
     }
 }
 
-/// The part with marks of a dump as the file of a number.
+/// The part with marks of `dump` as the file `number`.
 fn part_of(alloc: Global, number: u32, dump: &str) -> Option<Vec<u8>> {
     part_by(alloc, BINDING, number, true, dump)
 }
 
-/// The name of an input by its place.
+/// The name of the input with the index `place`.
 fn name_by(place: usize) -> &'static [u8] {
     match place {
         0 => b"a.part",
@@ -318,7 +318,7 @@ fn name_by(place: usize) -> &'static [u8] {
     }
 }
 
-/// The inputs that some bytes are.
+/// Inputs with the bytes `parts`.
 fn inputs_of<'a>(alloc: Global, parts: &'a [&'a [u8]]) -> Option<Vec<NamedPart<'a, Bytes<'a>>>> {
     let mut inputs = Vec::new(alloc);
     for bytes in parts {
@@ -329,7 +329,7 @@ fn inputs_of<'a>(alloc: Global, parts: &'a [&'a [u8]]) -> Option<Vec<NamedPart<'
     Some(inputs)
 }
 
-/// One part of some parts, if one is written.
+/// The part joined from `parts`, if one is written.
 fn joined(alloc: Global, parts: &[&[u8]]) -> Option<Vec<u8>> {
     let mut inputs = inputs_of(alloc, parts)?;
     let mut out = Page::new(alloc, 1_000_000);
@@ -342,7 +342,7 @@ fn joined(alloc: Global, parts: &[&[u8]]) -> Option<Vec<u8>> {
     }
 }
 
-/// Whether this is written, to a page with so much room, and told of the whole by some inputs.
+/// Whether the command on the inputs writes `wanted`, to a page with room for `room` bytes.
 fn answers<P: Source>(
     alloc: Global,
     inputs: &mut [NamedPart<'_, P>],
@@ -361,7 +361,7 @@ fn answers<P: Source>(
     has_told(&out, &err, status, wanted)
 }
 
-/// Whether this is written and told of the whole by some parts.
+/// Whether the command on `parts` writes `wanted`.
 fn tells(
     alloc: Global,
     parts: &[&[u8]],
@@ -384,7 +384,7 @@ fn a_part_is_short(rt: HostRuntime) {
     assert!(rt; writes_a_short_part(rt.alloc()) == Some(true));
 }
 
-/// Whether the parts of the files, in whatever order, say the verdict and the listing of the whole.
+/// Whether the parts of the files, in any order, give the verdict and the listing of the whole.
 fn tells_the_whole(alloc: Global) -> Option<bool> {
     let first = part_of(alloc, 0, FIRST)?;
     let second = part_of(alloc, 1, SECOND)?;
@@ -404,7 +404,7 @@ fn the_verdict_and_the_listing_of_the_whole(rt: HostRuntime) {
     assert!(rt; tells_the_whole(rt.alloc()) == Some(true));
 }
 
-/// Whether a file opens with the levels behind its first time, and with none where that has none.
+/// Whether a file opens with the levels after its first time, and with none if that has none.
 fn opens_at_the_first_time(alloc: Global) -> Option<bool> {
     let none = part_of(alloc, 0, NO_LEVELS)?;
     let first = part_of(alloc, 1, LATER_FIRST)?;
@@ -424,7 +424,7 @@ fn the_opening_is_that_of_the_first_time(rt: HostRuntime) {
     assert!(rt; opens_at_the_first_time(rt.alloc()) == Some(true));
 }
 
-/// The part with marks of a dump that comes in reads of a few bytes.
+/// The part with marks of a dump that is read a few bytes at a time.
 fn part_by_reads(alloc: Global, number: u32, dump: &str) -> Option<Vec<u8>> {
     let mut out = Page::new(alloc, 1_000_000);
     let mut err = Page::new(alloc, 1000);
@@ -464,7 +464,7 @@ fn short_reads_make_the_same_part(rt: HostRuntime) {
     assert!(rt; writes_the_same_part(rt.alloc()) == Some(true));
 }
 
-/// Whether parts that were joined with others, one of them twice, say the listing of the whole.
+/// Whether parts that were joined with others, one of them twice, give the listing of the whole.
 fn tells_by_joins(alloc: Global) -> Option<bool> {
     let first = part_of(alloc, 0, FIRST)?;
     let second = part_of(alloc, 1, SECOND)?;
@@ -483,7 +483,7 @@ fn joins_of_joins(rt: HostRuntime) {
     assert!(rt; tells_by_joins(rt.alloc()) == Some(true));
 }
 
-/// Whether it is told which file is missing, and which is too many.
+/// Whether a missing file, and one beyond the files, is reported by its number.
 fn tells_missing_files(alloc: Global) -> Option<bool> {
     let first = part_of(alloc, 0, FIRST)?;
     let third = part_of(alloc, 2, THIRD)?;
@@ -503,7 +503,7 @@ fn a_missing_file_is_told(rt: HostRuntime) {
     assert!(rt; tells_missing_files(rt.alloc()) == Some(true));
 }
 
-/// Whether a file that doesn't follow those before it is told, and two that differ.
+/// Whether a file that doesn't follow those before it, and two that differ, are reported.
 fn tells_torn_files(alloc: Global) -> Option<bool> {
     let first = part_of(alloc, 0, FIRST)?;
     let second = part_of(alloc, 1, SECOND)?;
@@ -547,7 +547,7 @@ fn a_torn_file_is_told(rt: HostRuntime) {
     assert!(rt; tells_torn_files(rt.alloc()) == Some(true));
 }
 
-/// Whether a dump is refused as no file, with this line.
+/// Whether `dump` is refused with the line `told`.
 fn is_no_file(alloc: Global, dump: &str, told: &str) -> bool {
     let mut out = Page::new(alloc, 1000);
     let mut err = Page::new(alloc, 1000);
@@ -565,7 +565,8 @@ fn is_no_file(alloc: Global, dump: &str, told: &str) -> bool {
     has_told(&out, &err, status, ("", told, 3))
 }
 
-/// Whether an empty file is refused, and one with only a header has no steps, and levels that none left.
+/// Whether an empty file is refused, and one with only a header has no steps and no levels, so it doesn't follow a file
+/// that leaves some.
 fn judges_short_files(alloc: Global) -> Option<bool> {
     let header = part_of(alloc, 0, HEADER)?;
     let first = part_of(alloc, 0, FIRST)?;
@@ -660,7 +661,7 @@ fn damaged_parts_are_refused(rt: HostRuntime) {
     assert!(rt; refuses_damaged(rt.alloc()) == Some(true));
 }
 
-/// Whether it is told that a part can't be read behind this place.
+/// Whether it is reported that a part can't be read after its first `place` bytes.
 fn tells_torn_read(alloc: Global, part: &[u8], place: usize) -> bool {
     let left = part.get(..place).unwrap_or_default();
     let mut inputs = [NamedPart {
@@ -671,10 +672,10 @@ fn tells_torn_read(alloc: Global, part: &[u8], place: usize) -> bool {
     answers(alloc, &mut inputs, None, false, 1000, wanted)
 }
 
-/// Behind how many bytes a read fails.
+/// After how many bytes a read fails.
 static PLACES: [usize; 5] = [0, 1, 8, 100, 1000];
 
-/// Whether it is told that a part can't be read behind each of these places, and behind its end.
+/// Whether it is reported that a part can't be read after each count of `PLACES`, and after its end.
 fn tells_torn_reads(alloc: Global) -> Option<bool> {
     let part = part_of(alloc, 0, FIRST)?;
     let bytes = part.as_slice();
@@ -691,7 +692,7 @@ fn a_read_fails_in_mid_stream(rt: HostRuntime) {
     assert!(rt; tells_torn_reads(rt.alloc()) == Some(true));
 }
 
-/// Whether it is told that the verdict can't be written.
+/// Whether it is reported that the verdict can't be written.
 fn tells_full_pages(alloc: Global) -> Option<bool> {
     let first = part_of(alloc, 0, FIRST)?;
     let parts = [first.as_slice()];

@@ -44,13 +44,13 @@ IsBytes-take n bytes h i =
 pub IsBytes-rest : (b : ℕ) (bytes : List ℕ) → IsBytes (b ∷ bytes) → IsBytes bytes
 IsBytes-rest b bytes h i = h (suc i)
 
--- the value of a step that did not fail
+-- if a bind succeeds, so do its first reader and its continuation
 pub bind_ok : {A B : Type 0} (r : Result A FieldFault) (f : A → Result B FieldFault) (y : B) → (r >>= f) ≡ Ok y
     → (x : A) × (r ≡ Ok x) × (f x ≡ Ok y)
 bind_ok (Ok x) f y e = (x, refl, e)
 bind_ok (Err d) f y e = absurd cc
 
--- a test that did not fail
+-- if a test with a fault in one branch succeeds, it took the other branch
 pub guard_out : {A : Type 0} (b : Bool) (d : FieldFault) (x y : A) → cond b (Err d) (Ok x) ≡ Ok y
     → (b ≡ false) × (x ≡ y)
 guard_out true d x y e = absurd cc
@@ -77,7 +77,7 @@ pub found_ok : {A : Type 0} (d : FieldFault) (o : Option A) (y : A) → or_fault
 found_ok d None y e = absurd cc
 found_ok d (Some x) y e = ap (λ (z : _). there z) (ok_is x y e)
 
--- what a reader took from the front
+-- a reader took `text` from the front of `bytes`, and left `rest`
 pub record Takes (bytes text rest : List ℕ) : Type 0 where
   pub parts : bytes ≡ text ++ rest
   pub rest_fits : IsBytes rest
@@ -198,15 +198,15 @@ numbered_at k (q ∷ rs) (suc n) r ok e =
     let p = and_parts (eqb (rule_number q) k) (is_numbered (k + 1) rs) ok in
     omega (arith, numbered_at (k + 1) rs n r p.1 e)
 
--- the rule at a place has the place as its number
+-- the rule with the index n in `all_rules` has the number n
 pub rule_numbered : (n : ℕ) (r : Rule) → slice_get all_rules n ≡ Some r → rule_number r ≡ n
 rule_numbered n r e = omega (arith, numbered_at 0 all_rules n r all_numbered e)
 
--- the bytes of a break behind the number of its rule
+-- the bytes of a break after the number of its rule
 abbrev pub break_bytes : WideBreak → List ℕ
 break_bytes b = b.line ∷ (to_le_bytes w64 b.instant ++ to_le_bytes w64 b.time)
 
--- a break of a rule was read
+-- `break_at` read a break of `rule` from `bytes`
 pub record IsRead (steps : ℕ) (rule : Rule) (bytes : List ℕ) (x : Option WideBreak × List ℕ) : Type 0 where
   pub found : WideBreak
   pub is : x.0 ≡ Some found
@@ -267,17 +267,17 @@ break_again steps bad b rest fits =
       may,
     ) refl
 
--- the bytes of a rule's number and 1, and then of the break
+-- `number`, which is 1 more than the rule's number, and then `break_bytes` are the bytes of the break
 named_bytes : (b : WideBreak) (number : ℕ) → 0 < number → rule_number b.rule ≡ number - 1
     → number ∷ break_bytes b ≡ first_break_bytes (Some b)
 named_bytes b number some e = ap (λ (k : ℕ). k ∷ break_bytes b) (omega (arith, e))
 
--- which way a test went
+-- a test gave z by one of its branches
 pub chosen : {A : Type 0} (b : Bool) (x y z : A) → cond b x y ≡ z → ((b ≡ true) × (x ≡ z)) ⊎ ((b ≡ false) × (y ≡ z))
 chosen true x y z e = inl (refl, e)
 chosen false x y z e = inr (refl, e)
 
--- what a first break that was read is
+-- x was read from `bytes`: they begin with its encoding, and it is within the bounds
 abbrev FirstBreakTaken : ℕ → List ℕ → Option WideBreak × List ℕ → Type 0
 FirstBreakTaken steps bytes x = Takes bytes (first_break_bytes x.0) x.1 × IfSome x.0 (FitsBreak steps)
 
@@ -344,7 +344,7 @@ first_break_again steps (Some b) rest fits =
     first_break_by_again steps (fault_at fault.BadBreak ((rule_number b.rule + 1) ∷ (break_bytes b ++ rest))) b rest
     fits
 
--- ---- where a way goes on
+-- ---- ways
 
 pub way_number_takes : (listing : Bool) (bytes : List ℕ) (x : ℕ × List ℕ) → IsBytes bytes
     → way_number_at listing bytes ≡ Ok x → Takes bytes (way_bytes listing x.0) x.1 × CanWrite listing x.0

@@ -17,7 +17,7 @@ use Rattle.vme_part_format.specs.Reading.{◌>>=◌, coded_level, fault_at, four
 use Rattle.vme_part_format.specs.Reading.{unpacked}
 use Rattle.vme_part_format.proofs.FieldLaws.{IsBytes, Takes, Takes-then, bind_ok, byte_takes, found_ok, ok_is, some_is}
 
--- each of some levels, from line l on, is unknown where the backplane doesn't have the line
+-- each of the levels, which are those of the lines from l on, is Unknown if the backplane doesn't have its line
 abbrev pub AreSeen : ℕ → ℕ → List Level → Type 0
 AreSeen slots l [] = Unit {0}
 AreSeen slots l (a ∷ ls) = (has_line slots l ≡ false → a ≡ Unknown) × AreSeen slots (l + 1) ls
@@ -70,7 +70,7 @@ pub coded_again : (slots l : ℕ) (a : Level) → (has_line slots l ≡ false �
 unfolding coded_by
 coded_again slots l a h = by_again (has_line slots l) a h
 
--- four levels of lines that were read
+-- `four` of these options is `Some ls`
 pub record IsFour (oa ob oc od : Option Level) (ls : List Level) : Type 0 where
   pub a : Level
   pub b : Level
@@ -168,7 +168,7 @@ unpacked_again slots l a b c d sa sb sc sd =
     ap (λ (k : ℕ). coded_level slots (l + 3) k) q.3 ∙ coded_again slots (l + 3) d sd in
     four_is _ _ _ _ a b c d a-is b-is c-is d-is
 
--- levels of so many fours of lines that were read
+-- the levels of 4 n lines, from line l on, were read from `bytes`
 abbrev pub LevelsTaken : ℕ → ℕ → ℕ → List ℕ → List Level × List ℕ → Type 0
 LevelsTaken slots l n bytes x =
     Takes bytes (packed x.0) x.1 × AreSeen slots l x.0 × (length x.0 ≡ 4 * n)
@@ -240,7 +240,7 @@ packed_again slots l (suc n) (a ∷ b ∷ c ∷ d ∷ ls) rest len seen =
     (subst (λ (k : ℕ). AreSeen slots k ls) (omega arith) seen.1.1.1.1) in
     rw (first, others) refl
 
--- a level by its place
+-- the level with the index l, and the levels after it
 cut : (xs : List Level) (l : ℕ) (a : Level) (ls : List Level) → drop l xs ≡ a ∷ ls
     → (slice_get xs l ≡ Some a) × (drop (l + 1) xs ≡ ls)
 cut [] zero a ls e = absurd cc
@@ -278,7 +278,7 @@ seen_levels_seen : (v : Levels) (l n : ℕ) → AreSeen v.slots l (map (seen_lev
 seen_levels_seen v l zero = tt
 seen_levels_seen v l (suc n) = (λ h. hidden (has_line v.slots l) (level_at v l) h, seen_levels_seen v (l + 1) n)
 
--- levels that were read
+-- the levels x.0 were read from `bytes`
 pub record LevelsRead (slots : ℕ) (bytes : List ℕ) (x : Levels × List ℕ) : Type 0 where
   pub taken : Takes bytes (levels_bytes x.0) x.1
   pub slots-is : x.0.slots ≡ slots

@@ -10,7 +10,7 @@ use Rattle.vme_trace.specs.declared.level.Level.{Level}
 use Rattle.vme_trace.specs.declared.level.Level.TheVariants.{Unknown}
 use Rattle.vme_part_format.specs.PartText.{packed, quad, seen_level, seen_levels}
 
--- the level of a line, and those behind it
+-- the levels from line n on are that of line n, and those from line n + 1 on
 one_more : (v : Levels) (n m : ℕ) → n < line_count → m ≡ n + 1
     → drop n (seen_levels v) ≡ seen_level v n ∷ drop m (seen_levels v)
 one_more v n m lt next =
@@ -20,7 +20,7 @@ one_more v n m lt next =
     cut ∙ ap (λ (x : Level). x ∷ drop (suc n) (seen_levels v)) level
     ∙ ap (λ (k : ℕ). seen_level v n ∷ drop k (seen_levels v)) (sym (next ∙ add-one n))
 
--- four levels make a byte, and then come those behind them
+-- the bytes of the levels from line n on are one byte of four levels, and those of the levels from line n + 4 on
 pub four_more : (v : Levels) (n m : ℕ) → n + 3 < line_count → m ≡ n + 4
     → packed (drop n (seen_levels v))
     ≡ quad (seen_level v n) (seen_level v (n + 1)) (seen_level v (n + 2)) (seen_level v (n + 3))
@@ -34,7 +34,7 @@ four_more v n m lt next =
     ∙ ap (λ (ls : List Level). seen_level v (n + 1) ∷ ls) (c
     ∙ ap (λ (ls : List Level). seen_level v (n + 2) ∷ ls) d)))
 
--- one byte more is written
+-- the loop invariant holds after the byte `place` is written
 pub put_more : (v : Levels) (out new total : List ℕ) (place byte : ℕ) → place < 48
     → byte ≡ quad (seen_level v (4 * place)) (seen_level v (4 * place + 1)) (seen_level v (4 * place + 2))
     (seen_level v (4 * place + 3))
@@ -46,7 +46,7 @@ put_more v out new total place byte lt is put so_far =
     ap (λ (t : List ℕ). t ++ rest) put ∙ append_assoc out (byte ∷ []) rest
     ∙ ap (λ (k : ℕ). out ++ (k ∷ rest)) is ∙ ap (λ (t : List ℕ). out ++ t) (sym four) ∙ so_far
 
--- all are written
+-- after 48 bytes all levels are written
 pub put_all : (v : Levels) (out total : List ℕ) (place : ℕ) → 48 ≤ place
     → out ++ packed (drop (4 * place) (seen_levels v)) ≡ total → out ≡ total
 put_all v out total place le so_far =

@@ -1,4 +1,4 @@
--- Reading the levels of four lines after those of four others, as a loop does.
+-- The loop that reads the levels of all lines, four lines at a time.
 use Rattle.std.proofs.Common.{◌≡◌, ℕ, suc, ◌+◌, ◌-◌, ◌*◌, ◌/◌, ◌%◌, ◌<◌, ◌≤◌, Bool, true, false, List, [], ◌∷◌, ◌++◌}
 use Rattle.std.proofs.Common.{length, set, take, Option, Some, None, Result, Ok, Err, refl, sym, ap, subst, ◌∙◌, arith}
 use Rattle.std.proofs.Common.{append_assoc}
@@ -19,7 +19,7 @@ four_none : (oa ob oc od : Option Level) (a b c : Level) → oa ≡ Some a → o
     → four oa ob oc od ≡ None
 four_none oa ob oc od a b c ea eb ec ed = rw (ea, eb, ec, ed) refl
 
--- one line after the other has its level, or the last may not have it
+-- four lines in turn are given the levels in `byte`, or the last may not have its level (r is `false`)
 pub four_set : (r : Bool) (v0 v1 v2 v3 v4 : Levels) (l byte : ℕ) → SetsLevel true v0 l (byte % 4) v1
     → SetsLevel true v1 (l + 1) (byte / 4 % 4) v2 → SetsLevel true v2 (l + 2) (byte / 16 % 4) v3
     → SetsLevel r v3 (l + 3) (byte / 64) v4 → SetsFour r v0 l byte v4
@@ -75,7 +75,7 @@ four_taken xs i a b c d lt =
     ∙ ap (λ (ls : List Level). ls ++ b ∷ []) t1))
     ∙ pieces (take i xs) a b c d
 
--- what the levels are after four more
+-- w is v with the levels `ls` for the four lines from 4 place on
 pub record AreFour (v w : Levels) (place : ℕ) (ls : List Level) : Type 0 where
   pub slots-is : w.slots ≡ v.slots
   pub many : length w.levels ≡ length v.levels
@@ -109,7 +109,7 @@ regroup front ls (Ok x) = ap (λ (xs : List Level). Ok (xs, x.1)) (sym (append_a
 regroup front ls (Err f) = refl
 
 module _ (slots : ℕ) where
-  -- four levels more
+  -- the loop invariant holds after one more byte, of four levels
   pub levels_step : (place byte : ℕ) (bytes after : List ℕ) (front ls : List Level)
       (total : Result (List Level × List ℕ) FieldFault) → place < 48 → byte_at bytes ≡ Ok (byte, after)
       → unpacked slots (4 * place) byte ≡ Some ls → behind front (packed_at slots (4 * place) (48 - place) bytes)
@@ -124,7 +124,7 @@ module _ (slots : ℕ) where
       let next : 4 * place + 4 ≡ 4 * (place + 1) = omega arith in
       ap (λ (l : ℕ). behind (front ++ ls) (packed_at slots l (48 - (place + 1)) after)) (sym next) ∙ sym one ∙ so_far
 
-  -- four levels that lines may not have
+  -- if the lines may not have the levels in a byte, the result is this fault
   pub levels_bad : (place byte : ℕ) (bytes after : List ℕ) (front : List Level)
       (total : Result (List Level × List ℕ) FieldFault) → place < 48 → byte_at bytes ≡ Ok (byte, after)
       → unpacked slots (4 * place) byte ≡ None → behind front (packed_at slots (4 * place) (48 - place) bytes) ≡ total
@@ -136,7 +136,7 @@ module _ (slots : ℕ) where
       rw (k, h, read) refl in
       sym so_far ∙ one
 
-  -- no byte is left
+  -- if the next byte isn't read, its error is the error of the whole
   pub levels_cut : (error : FieldError) (place : ℕ) (bytes : List ℕ) (front : List Level)
       (total : Result (List Level × List ℕ) FieldFault) → place < 48 → Fails error (byte_at bytes)
       → behind front (packed_at slots (4 * place) (48 - place) bytes) ≡ total → Fails error total
@@ -147,7 +147,7 @@ module _ (slots : ℕ) where
       let one : behind front (packed_at slots (4 * place) (48 - place) bytes) ≡ Err f = rw (k, h) refl in
       sym so_far ∙ one
 
-  -- all levels
+  -- after 48 bytes the result is all levels
   pub levels_done : (place : ℕ) (bytes : List ℕ) (front : List Level) (total : Result (List Level × List ℕ) FieldFault)
       → 48 ≤ place → behind front (packed_at slots (4 * place) (48 - place) bytes) ≡ total → total ≡ Ok (front, bytes)
   unfolding packed_at

@@ -1,4 +1,4 @@
--- Reading one thing after the other, as a loop does.
+-- Reading a list in a loop, one item after the other. `front` has the items read so far, `total` is the result.
 use Rattle.std.proofs.Common.{◌≡◌, ℕ, suc, Bool, ◌-◌, ◌+◌, ◌≤◌, ◌<◌, List, [], ◌∷◌, ◌++◌, Option, Some, Result, Ok, Err}
 use Rattle.std.proofs.Common.{refl, sym, ap, ◌∙◌, append_assoc, arith}
 use Rattle.std.proofs.lemmas.List.{append-nil}
@@ -52,20 +52,20 @@ module _ (listing : Bool) (steps ways : ℕ) where
       rw k (ap (λ (es : List TableEntry). Ok (es, bytes)) (append-nil front)) in
       sym so_far ∙ one
 
--- one more of a list that is read, behind those read before
+-- the loop invariant, `behind front read ≡ total`, holds after one more item, a
 pub more : {A : Type 0} (front : List A) (a : A) (read later total : Result (List A × List ℕ) FieldFault)
     → read ≡ (later >>= λ x. Ok (a ∷ x.0, x.1)) → behind front read ≡ total → behind (front ++ a ∷ []) later ≡ total
 more front a read later total step so_far =
     sym (regroup front a later) ∙ ap (λ (r : Result (List _ × List ℕ) FieldFault). behind front r) (sym step) ∙ so_far
 
--- the fault of one is that of all
+-- the error of reading an item is the error of the whole
 pub ends : {A : Type 0} (error : FieldError) (front : List A) (read total : Result (List A × List ℕ) FieldFault)
     → Fails error read → behind front read ≡ total → Fails error total
 ends field.Memory front read total fails so_far = tt
 ends (field.Fault f) front read total fails so_far =
     sym so_far ∙ ap (λ (r : Result (List _ × List ℕ) FieldFault). behind front r) fails
 
--- nothing more is read
+-- if no item is left, the result is `front`
 pub done : {A : Type 0} (front : List A) (bytes : List ℕ) (read total : Result (List A × List ℕ) FieldFault)
     → read ≡ Ok ([], bytes) → behind front read ≡ total → total ≡ Ok (front, bytes)
 done front bytes read total none so_far =

@@ -27,7 +27,7 @@ use Rattle.vme_part_format.specs.Reading.{write_answer_at}
 use Rattle.vme_part_format.proofs.FieldLaws.{IsBytes, Takes, Takes-then, bind_ok, byte_takes, found_ok, guard_in}
 use Rattle.vme_part_format.proofs.FieldLaws.{number_again, number_takes, ok_is, some_is, wide16, wide32, wide64}
 
--- one of two, by a test of a number
+-- case distinction: a test gave y by its first branch, or by the others
 pub either : {A G : Type 0} (b : Bool) (first others y : A) → cond b first others ≡ y → (b ≡ true → first ≡ y → G)
     → (others ≡ y → G) → G
 either true first others y e one other = one refl e
@@ -61,7 +61,7 @@ number_by_takes false false false true bytes x fits e =
 number_by_takes false false false false bytes x fits e =
     number_takes w64 (2 ^ 64) wide64 bytes x.0 x.1 fits e
 
--- the bytes of a number, in as few as hold it
+-- n in the least width that holds it, of 0, 1, 2, 4 and 8 bytes
 abbrev pub distance_bytes : ℕ → List ℕ
 distance_bytes n = bytes_of_width (width_code n) n
 
@@ -103,9 +103,9 @@ distance_again bad n rest lt =
     (λ h. omega (arith, ltb-true n 65536 h)) (λ h. omega (arith, ltb-true n 4294967296 h)) lt in
     rw (number, eq-eqb (width_code n) (width_code n) refl) refl
 
--- ---- what happens
+-- ---- kinds of marks
 
--- a kind that was read
+-- a kind with the code `code` was read from `bytes`
 abbrev pub KindTaken : ℕ → List ℕ → MarkKind × List ℕ → Type 0
 KindTaken code bytes x = Takes bytes (kind_bytes x.0) x.1 × (kind_code x.0 ≡ code) × FitsKind x.0
 
@@ -292,7 +292,7 @@ kind_few (kind.WriteAnswer line moved unknown value) =
     below_both (eqb line DTACK) 14 15 (omega arith) (omega arith)
 kind_few kind.Close = omega arith
 
--- an instant that was read, behind another
+-- an instant was read from `bytes`, by its distance from `before`
 abbrev InstantTaken : ℕ → ℕ → ℕ → List ℕ → ℕ × List ℕ → Type 0
 InstantTaken steps before code bytes x =
     Takes bytes (distance_bytes (x.0 - before)) x.1 × (width_code (x.0 - before) ≡ code) × (before ≤ x.0) × (0 < x.0)
@@ -355,7 +355,7 @@ mark_takes steps before bytes x low fits e =
       record { kind = t2.2; instant = (t1.3, t1.2, t1.4, omega (arith, t1.4)) },
     )
 
--- a mark behind its first byte
+-- reads what follows `tag`, the first byte of a mark
 abbrev mark_behind : FieldFault → ℕ → ℕ → ℕ → List ℕ → Result (WideMark × List ℕ) FieldFault
 mark_behind bad steps before tag bytes =
     instant_at bad steps before (tag / 32) bytes >>= λ instant. kind_at bad (tag % 32) instant.1 >>= λ kind.
@@ -385,7 +385,7 @@ mark_again steps before m rest fits =
     ((distance_bytes far ++ kind_bytes m.kind) ++ rest) rest fits (omega (arith, kind_few m.kind))
     (omega (arith, kind_few m.kind)) (append_assoc (distance_bytes far) (kind_bytes m.kind) rest)
 
--- marks that were read
+-- n marks were read from `bytes`
 abbrev pub MarksTaken : ℕ → ℕ → ℕ → List ℕ → List WideMark × List ℕ → Type 0
 MarksTaken steps before n bytes x =
     Takes bytes (marks_bytes before x.0) x.1 × FitMarks steps before x.0 × (length x.0 ≡ n)

@@ -80,7 +80,7 @@ body_again p fits =
 
 -- ---- name, version and sum
 
--- the value of a test and what follows it
+-- if a test that refuses on `false` succeeds, b is `true`, and the rest succeeds
 guard_not : {A E : Type 0} (b : Bool) (f : E) (others : Result A E) (y : A) → cond (not b) (Err f) others ≡ Ok y
     → (b ≡ true) × (others ≡ Ok y)
 guard_not true f others y e = (refl, e)
@@ -173,7 +173,7 @@ part_again p fits =
     ap (λ (t : List ℕ). body_at (drop 8 t)) fronts ∙ body_again p fits in
     rw (has, body) refl
 
--- no part is another of which one byte is another
+-- the encodings of two parts don't differ in one byte alone
 pub part_apart : (bytes : List ℕ) (q p : PartValue) → IsBytes bytes → bytes ≡ part_bytes q
     → DifferInOne bytes (part_bytes p) → ⊥
 unfolding part_bytes

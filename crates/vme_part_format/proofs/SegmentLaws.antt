@@ -205,7 +205,7 @@ times_again first order steps (Some t) rest low few fits =
 
 -- ---- a segment
 
--- the fields before the tables
+-- the fields before the tables were read from `bytes`
 record HeadTaken (before : Option ℕ) (bytes : List ℕ) (numbers : (ℕ × ℕ) × List ℕ) (steps slots : ℕ × List ℕ)
     (opening left : Levels × List ℕ) (times : Option SegmentTimes × List ℕ) : Type 0 where
   numbers-are : NumbersTaken before bytes numbers
@@ -218,7 +218,7 @@ record HeadTaken (before : Option ℕ) (bytes : List ℕ) (numbers : (ℕ × ℕ
   was-left : LevelsRead slots.0 opening.1 left
   times-are : TimesTaken numbers.0.0 numbers.0.1 steps.0 left.1 times
 
--- the five tables
+-- the five tables were read from `bytes`
 record TablesTaken (listing : Bool) (steps : ℕ) (bytes : List ℕ) (a b c d e : TableValue × List ℕ) : Type 0 where
   known : TableTaken listing 4 steps bytes a
   handshake : TableTaken listing 147 steps a.1 b
@@ -290,7 +290,7 @@ segment_taken listing before bytes n st sl op le ti a b c d f h t =
       from_behind before s h.numbers-are.2,
     )
 
--- each table has an entry before that of memory 2, and one behind it
+-- each monitor has at least 3 memories
 least_4 : 3 ≤ 4
 least_4 = omega arith
 
@@ -309,7 +309,7 @@ least_11 = omega arith
 abbrev done_with : {A : Type 0} → A → Result A FieldFault
 done_with x = Ok x
 
--- what stands before the tables
+-- the values of the fields before the tables
 record Head : Type 0 where
   numbers : ℕ × ℕ
   steps : ℕ
@@ -320,7 +320,7 @@ record Head : Type 0 where
 abbrev with_tables : Head → TableValue → TableValue → TableValue → TableValue → TableValue → SegmentValue
 with_tables h a b c d f = read_segment h.numbers h.steps h.opening h.left h.times a b c d f
 
--- the tables that are left to read, behind those that were read
+-- reads the rest of a segment from one table on, where the tables before it were read
 abbrev at_acknowledge : Bool → Head → TableValue → TableValue → TableValue → TableValue → List ℕ
     → Result (SegmentValue × List ℕ) FieldFault
 at_acknowledge listing h a b c d bytes =
@@ -349,7 +349,7 @@ record IsTables (listing : Bool) (h : Head) (bytes : List ℕ) (x : SegmentValue
   taken : TablesTaken listing h.steps bytes a b c d f
   is : (with_tables h a.0 b.0 c.0 d.0 f.0, f.1) ≡ x
 
--- one table more
+-- if reading a table and the rest gives x, then reading the table succeeds, and the rest gives x
 next_table : (listing : Bool) (memories steps : ℕ) (bytes : List ℕ)
     (k : TableValue × List ℕ → Result (SegmentValue × List ℕ) FieldFault) (x : SegmentValue × List ℕ) → 3 ≤ memories
     → steps < 2 ^ 64 → IsBytes bytes → (table_at listing memories steps bytes >>= k) ≡ Ok x
@@ -407,7 +407,7 @@ take_tables listing h bytes x low fits e =
     let t = next_table listing 4 h.steps bytes k x least_4 low fits e in
     take_handshake listing h bytes t.0 x low t.1 t.2
 
--- what is left to read before the tables
+-- reads the rest of a segment from one of the fields before the tables on
 abbrev at_times : Bool → ℕ × ℕ → ℕ → Levels → Levels → List ℕ → Result (SegmentValue × List ℕ) FieldFault
 at_times listing n st op le bytes =
     times_at n.0 n.1 st bytes >>= λ ti.
@@ -425,7 +425,7 @@ at_slots listing n st bytes = slots_at bytes >>= λ sl. at_opening listing n st 
 abbrev at_steps : Bool → ℕ × ℕ → List ℕ → Result (SegmentValue × List ℕ) FieldFault
 at_steps listing n bytes = number_at w64 bytes >>= λ st. at_slots listing n st.0 st.1
 
--- the fields up to the slots
+-- the fields up to the slots were read from `bytes`
 record FrontTaken (before : Option ℕ) (bytes : List ℕ) (n : (ℕ × ℕ) × List ℕ) (st sl : ℕ × List ℕ) : Type 0 where
   numbers-are : NumbersTaken before bytes n
   steps-are : Takes n.1 (to_le_bytes w64 st.0) st.1
@@ -502,7 +502,7 @@ module _ (listing : Bool) (before : Option ℕ) (bytes : List ℕ) (x : SegmentV
       let n = bind_ok (numbers_at before bytes) k x e in
       take_steps n.0 (numbers_take before bytes n.0 fits n.1) n.2
 
--- the bytes of a segment, and what is behind it, from left to right
+-- the bytes of a segment and `rest` after them, regrouped to the right
 segment_text : (listing : Bool) (s : SegmentValue) (rest : List ℕ)
     → segment_bytes listing s ++ rest
     ≡ to_le_bytes w64 s.first ++ (s.order ∷ (to_le_bytes w64 s.steps ++ (s.opening.slots ∷ (levels_bytes s.opening

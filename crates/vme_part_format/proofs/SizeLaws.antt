@@ -298,7 +298,7 @@ marked_tables_size s fits =
       marked_table_size 11 s.steps s.acknowledge (omega arith) fits.acknowledge,
     )
 
--- what a segment has before its tables
+-- a segment has at most 139 bytes before its tables
 before_tables : (listing : Bool) (s : SegmentValue)
     → length (segment_bytes listing s) ≤ 139 + length (tables_bytes listing s)
 unfolding segment_bytes
@@ -376,7 +376,7 @@ few_nodes listing s f c =
       f.acknowledge.as_many,
     )
 
--- some segments have few nodes
+-- compact segments together have at most 420 nodes a segment
 nodes_are_few : (listing : Bool) (before : Option ℕ) (ss : List SegmentValue) → FitSegments listing before ss
     → All IsCompact ss → nodes_in_segments ss ≤ 420 * length ss
 nodes_are_few listing before [] f c = omega arith
@@ -387,7 +387,7 @@ nodes_are_few listing before (s ∷ ss) f c =
       nodes_are_few listing (Some (last_of s.first s.order)) ss f.2 (All-tail IsCompact s ss c),
     )
 
--- a part with marks, whose tables have few nodes
+-- a part with marks, whose tables are compact
 pub compact_part_size : (p : PartValue) → FitsPart p → IsCompactPart p → p.listing ≡ true
     → length (part_bytes p) ≤ 29 + 15589 * length p.segments + 15 * marks_in p
 compact_part_size p fits compact marked =
@@ -397,7 +397,7 @@ compact_part_size p fits compact marked =
       nodes_are_few p.listing None p.segments fits.segments compact,
     )
 
--- a part of one segment is small
+-- a compact part of at most one segment is small
 pub part_is_small : (p : PartValue) → FitsPart p → IsCompactPart p → length p.segments ≤ 1 → IsSmall p
 part_is_small p fits compact one = by_marks p.listing refl
   where

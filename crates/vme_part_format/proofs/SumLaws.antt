@@ -1,4 +1,4 @@
--- Each step of the sum tells bytes apart, and tells sums apart.
+-- Each step of the sum is injective in the byte, and in the sum before it.
 use Rattle.std.proofs.Common.{◌≡◌, ℕ, suc, ◌+◌, ◌-◌, ◌*◌, ◌%◌, ◌^◌, ◌<◌, ◌≤◌, List, [], ◌∷◌, ◌++◌, length, take, drop}
 use Rattle.std.proofs.Common.{refl, sym, ap, subst, ◌∙◌, arith, inl, inr, length-append}
 use Rattle.std.specs.List.{fold}
@@ -22,10 +22,11 @@ xor_same s a b e =
     (bit_at (bit_xor s b) i) (bit_at-lt s i) (bit_at-lt a i) (bit_at-lt b i) (bit_at_xor s a i) (bit_at_xor s b i)
     (ap (λ (n : ℕ). bit_at n i) e))
 
--- the factor has an inverse
+-- the inverse of the factor modulo 2 ^ 64
 back : ℕ
 back = 14886173955864302971
 
+-- x multiplied by the factor and by its inverse is x modulo 2 ^ 64
 turns : (x : ℕ) → x * sum_factor * back ≡ x + (x * 887285111055) * 2 ^ 64
 unfolding back
 turns x = omega arith
@@ -58,7 +59,7 @@ step_sum s t b ls lt lb e =
 step_low : (s b : ℕ) → summed s b < 2 ^ 64
 step_low s b = omega arith
 
--- after different sums the same bytes leave different ones
+-- from different sums s and t, the same bytes give different sums
 pub sums_same : (bytes : List ℕ) (s t : ℕ) → IsBytes bytes → s < 2 ^ 64 → t < 2 ^ 64
     → fold summed s bytes ≡ fold summed t bytes → s ≡ t
 sums_same [] s t low ls lt e = e
@@ -70,7 +71,7 @@ pub fold_low : (bytes : List ℕ) (s : ℕ) → s < 2 ^ 64 → fold summed s byt
 fold_low [] s low = low
 fold_low (b ∷ bytes) s low = fold_low bytes (summed s b) (step_low s b)
 
--- one byte in the middle
+-- byte strings that differ in one byte only have different sums
 pub byte_same : (front back : List ℕ) (a b s : ℕ) → s < 2 ^ 64 → a < 256 → b < 256 → IsBytes back
     → fold summed s (front ++ a ∷ back) ≡ fold summed s (front ++ b ∷ back) → a ≡ b
 byte_same [] back a b s ls la lb low e =
@@ -90,7 +91,7 @@ differ_sums bytes others fits d e =
     d.apart (byte_same d.front d.back d.one d.other sum_start (omega arith) (rest 0) d.byte
     (IsBytes-rest d.one d.back rest) same)
 
--- some bytes, and their sum
+-- `bytes` with their sum at the end
 abbrev pub with_sum : List ℕ → List ℕ
 with_sum bytes = bytes ++ to_le_bytes w64 (sum_of bytes)
 
@@ -99,7 +100,7 @@ sums_are a b e =
     sym (from_le_bytes-to_le_bytes_8 (sum_of a) (fold_low a sum_start (omega arith))) ∙ ap (from_le_bytes w64) e
     ∙ from_le_bytes-to_le_bytes_8 (sum_of b) (fold_low b sum_start (omega arith))
 
--- one of the bytes before the sum is another
+-- if a and b with their sums are equal except for one byte before the sum, that byte is equal too
 in_front : (a b front back : List ℕ) (one other r : ℕ) → IsBytes (with_sum a) → with_sum a ≡ front ++ one ∷ back
     → with_sum b ≡ front ++ other ∷ back → length a ≡ length front + suc r → length b ≡ length front + suc r
     → other < 256
@@ -125,7 +126,7 @@ in_front a b front back one other r fits ea eb la lb byte =
     byte_same front (take r back) one other sum_start (omega arith) (rest 0) byte
     (IsBytes-take r back (IsBytes-rest one back rest)) same
 
--- one of the bytes of the sum is another
+-- if a and b with their sums are equal except for one byte of the sum, that byte is equal too
 in_sum : (a b front back : List ℕ) (one other : ℕ) → with_sum a ≡ front ++ one ∷ back
     → with_sum b ≡ front ++ other ∷ back
     → length a ≤ length front → length b ≡ length a → one ≡ other
@@ -140,7 +141,7 @@ in_sum a b front back one other ea eb la lb =
     let rest : one ∷ back ≡ other ∷ back = append_cancel_left front (one ∷ back) (other ∷ back) whole in
     cc
 
--- no bytes with their sum are others with theirs, of which one is another
+-- two byte strings with their sums don't differ in one byte alone
 pub changed_apart : (a b : List ℕ) → IsBytes (with_sum a) → DifferInOne (with_sum a) (with_sum b) → ⊥
 changed_apart a b fits d =
     let f = d.front in

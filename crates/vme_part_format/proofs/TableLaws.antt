@@ -27,7 +27,7 @@ use Rattle.vme_part_format.proofs.FieldLaws.{number_takes}
 use Rattle.vme_part_format.proofs.FieldLaws.{ok_is, way_again, way_takes, wide32, is_false}
 use Rattle.vme_part_format.proofs.MarkLaws.{marks_again, marks_takes}
 
--- each of some entries
+-- each of the entries fits, and can be written
 abbrev pub AreEntries : Bool → ℕ → ℕ → List TableEntry → Type 0
 AreEntries listing steps ways [] = Unit {0}
 AreEntries listing steps ways (e ∷ es) = IsEntry listing steps ways e × AreEntries listing steps ways es
@@ -210,7 +210,7 @@ node_count_takes listing memories bytes x fits e =
     subst (λ (y : ℕ × List ℕ). CountTaken listing memories bytes y) g.1
     (node_number_takes listing bytes a.0 fits a.1, ltb-true _ _ g.0)
 
--- there are none in a table without marks
+-- a table of a part without marks is read with 0 nodes
 no_nodes : (memories : ℕ) (bytes : List ℕ) (x : ℕ × List ℕ) → node_count_at false memories bytes ≡ Ok x → x.0 ≡ 0
 unfolding node_count_at
 no_nodes memories bytes x e =
@@ -242,7 +242,7 @@ abbrev pub TableTaken : Bool → ℕ → ℕ → List ℕ → TableValue × List
 TableTaken listing memories steps bytes x =
     Takes bytes (table_bytes listing x.0) x.1 × FitsTable listing memories steps x.0
 
--- a table that was read, by its fields
+-- if the fields of a table were read one after the other, the table x was read
 table_taken : (listing : Bool) (memories steps : ℕ) (bytes : List ℕ) (a : ℕ × List ℕ)
     (b c : List TableEntry × List ℕ) (d : List NodeValue × List ℕ) → 3 ≤ memories
     → node_count_at listing memories bytes ≡ Ok a → CountTaken listing memories bytes a
@@ -313,7 +313,7 @@ table_takes listing memories steps bytes x some low fits e =
     let made : TableValue × List ℕ = (record { entries = b.0.0 ++ stays ∷ c.0.0; nodes = d.0.0 }, d.0.1) in
     table_taken listing memories steps bytes a.0 b.0 c.0 d.0 some a.1 t0 t1 t2 t3 x (sym (ok_is made x d.2))
 
--- entries that fit may be written
+-- entries that fit can be written, if each way below `ways` can
 are_entries : (listing : Bool) (steps ways : ℕ) (es : List TableEntry)
     → ((n : ℕ) → n < ways → CanWrite listing n) → All (FitsEntry steps ways) es → AreEntries listing steps ways es
 are_entries listing steps ways [] can fits = tt
@@ -349,7 +349,7 @@ node_count_again false memories ns rest few has =
     let fewer : memories + 0 < 2 ^ 32 = omega (arith, none) in
     rw (lt-ltb (memories + 0) (2 ^ 32) fewer, none) refl
 
--- a table that is written, by its parts
+-- the encoding of a table, field by field, is read as this table
 parts_again : (listing : Bool) (memories steps : ℕ) (front back : List TableEntry) (ns : List NodeValue) (rest : List ℕ)
     → length front ≡ 2 → length back ≡ memories - 3 → memories + length ns < 2 ^ 32 → HasNodes listing ns
     → AreEntries listing steps (memories + length ns) front → AreEntries listing steps (memories + length ns) back

@@ -1,4 +1,4 @@
--- What can be written, and is read again.
+-- The bounds of a part: what can be written, and is read again as it was.
 use Rattle.std.specs.Prelude.{◌≡◌, ℕ, ◌+◌, ◌%◌, ◌^◌, ◌<◌, ◌≤◌, ◌⊎◌, Bool, true, false, List, [], ◌∷◌, ◌++◌, length}
 use Rattle.std.specs.Prelude.{All, Option, None, Some, IfSome}
 use Rattle.vme_trace.specs.Levels.{Levels}
@@ -12,18 +12,18 @@ use Rattle.vme_part_format.specs.declared.wide.WideMark.{WideMark}
 use Rattle.vme_part_format.specs.Tables.{NodeValue, PartValue, SegmentValue, TableValue, last_of}
 use Rattle.vme_part_format.specs.PartText.{seen_levels}
 
--- the levels of a backplane: those of lines that it doesn't have are unknown
+-- the backplane has 1 to 21 slots, and the lines that it doesn't have are Unknown
 pub record FitsLevels (v : Levels) : Type 0 where
   pub slots : (1 ≤ v.slots) × (v.slots ≤ 21)
   pub seen : v.levels ≡ seen_levels v
 
--- a break of a segment of so many steps
+-- a break of a segment of `steps` steps
 pub record FitsBreak (steps : ℕ) (b : WideBreak) : Type 0 where
   pub line : b.line < line_count
   pub instant : (0 < b.instant) × (b.instant ≤ steps) × (b.instant < 2 ^ 64)
   pub time : b.time < 2 ^ 64
 
--- where something goes on: below the number of the memories and of the nodes that are behind
+-- an entry whose `next` is below `ways`, the number of memories and nodes
 pub record FitsEntry (steps ways : ℕ) (e : TableEntry) : Type 0 where
   pub next : e.next < ways
   pub first_break : IfSome e.first_break (FitsBreak steps)
@@ -42,7 +42,7 @@ FitsKind (kind.WriteAnswer line moved unknown value) =
     ((line ≡ DTACK) ⊎ (line ≡ BERR)) × (unknown < 256) × (value < 2 ^ 32)
 FitsKind kind.Close = Unit {0}
 
--- a mark behind an instant
+-- a mark at an instant from `before` to `steps`, and not 0
 pub record FitsMark (steps before : ℕ) (m : WideMark) : Type 0 where
   pub kind : FitsKind m.kind
   pub instant : (0 < m.instant) × (before ≤ m.instant) × (m.instant ≤ steps) × (m.instant < 2 ^ 64)
@@ -51,17 +51,17 @@ abbrev pub FitMarks : ℕ → ℕ → List WideMark → Type 0
 FitMarks steps before [] = Unit {0}
 FitMarks steps before (m ∷ ms) = FitsMark steps before m × FitMarks steps m.instant ms
 
--- the instants of marks are not before an instant, and ascend
+-- the instants of the marks don't descend, and are `before` at least
 abbrev pub AreAscending : ℕ → List WideMark → Type 0
 AreAscending before [] = Unit {0}
 AreAscending before (m ∷ ms) = (before ≤ m.instant) × AreAscending m.instant ms
 
--- a way can be written
+-- `next` fits the bytes of a way: 4 in a part with marks (`true`), else 1
 abbrev pub CanWrite : Bool → ℕ → Type 0
 CanWrite true next = next < 2 ^ 32
 CanWrite false next = next < 256
 
--- a node with so many others behind it, in a table of so many memories
+-- a node with `behind` nodes after it, in a table of `count` memories
 pub record FitsNode (count steps behind : ℕ) (n : NodeValue) : Type 0 where
   pub next : n.next < count + behind
   pub first_break : IfSome n.first_break (FitsBreak steps)
@@ -72,11 +72,11 @@ abbrev pub FitNodes : ℕ → ℕ → List NodeValue → Type 0
 FitNodes count steps [] = Unit {0}
 FitNodes count steps (n ∷ ns) = FitsNode count steps (length ns) n × FitNodes count steps ns
 
--- memory 2 stays as it is and shows nothing
+-- the entry of memory 2: the run stays in it, and has no break and no mark
 abbrev pub stays : TableEntry
 stays = record { next = 2; first_break = None }
 
--- nodes there are in a part with marks alone
+-- only a part with marks (`true`) has nodes
 abbrev pub HasNodes : Bool → List NodeValue → Type 0
 HasNodes true ns = Unit {0}
 HasNodes false ns = ns ≡ []
@@ -90,13 +90,13 @@ pub record FitsTable (listing : Bool) (count steps : ℕ) (t : TableValue) : Typ
   pub few : count + length t.nodes < 2 ^ 32
   pub listed : HasNodes listing t.nodes
 
--- the number of a first file and an order
+-- a segment of 2 ^ order files may begin with the file `first`
 pub record FitsNumbers (first order : ℕ) : Type 0 where
   pub low : first < 2 ^ 63
   pub few : order < 63
   pub aligned : first % 2 ^ order ≡ 0
 
--- no steps and no times, or both
+-- a segment has times if and only if it has steps; the times are ordered, and `number` is one of its files
 abbrev pub FitsTimes : ℕ → ℕ → ℕ → Option SegmentTimes → Type 0
 FitsTimes first order steps None = steps ≡ 0
 FitsTimes first order steps (Some t) =
@@ -115,7 +115,7 @@ pub record FitsSegment (listing : Bool) (s : SegmentValue) : Type 0 where
   pub grant : FitsTable listing 35 s.steps s.grant
   pub acknowledge : FitsTable listing 11 s.steps s.acknowledge
 
--- the last number before some segments, if there are some
+-- the segment begins after the last file of the segments before it, if there are any
 abbrev pub IsBehind : Option ℕ → SegmentValue → Type 0
 IsBehind None s = Unit {0}
 IsBehind (Some last) s = last < s.first

@@ -1,4 +1,4 @@
--- The bytes of a part. Numbers are written with their least byte first.
+-- The encoding of a part as bytes. Numbers are written with their least byte first.
 use Rattle.std.specs.Prelude.{ℕ, ◌+◌, ◌-◌, ◌*◌, ◌==◌, Bool, true, false, List, [], ◌∷◌, ◌++◌, length, map, flat_map}
 use Rattle.std.specs.Prelude.{take, drop, Option, None, Some, codes, nat_lt, if◌then◌else◌}
 use Rattle.std.specs.List.{range_with_len}
@@ -39,7 +39,7 @@ packed (a ∷ b ∷ []) = []
 packed (a ∷ b ∷ c ∷ []) = []
 packed (a ∷ b ∷ c ∷ d ∷ ls) = quad a b c d ∷ packed ls
 
--- the level of a line, which is unknown where the backplane doesn't have the line
+-- the level of line l, which is Unknown if the backplane doesn't have the line
 abbrev pub seen_level : Levels → ℕ → Level
 seen_level v l = if has_line v.slots l then level_at v l else Unknown
 
@@ -49,14 +49,14 @@ seen_levels v = map (seen_level v) (range_with_len 0 line_count)
 unfoldable pub levels_bytes : Levels → List ℕ
 levels_bytes v = packed (seen_levels v)
 
--- ---- breaks, and where a way goes on
+-- ---- breaks and entries
 
 abbrev pub first_break_bytes : Option WideBreak → List ℕ
 first_break_bytes None = 0 ∷ []
 first_break_bytes (Some b) =
     (rule_number b.rule + 1) ∷ b.line ∷ (to_le_bytes w64 b.instant ++ to_le_bytes w64 b.time)
 
--- four bytes in a part with marks, else one
+-- a way, i.e. the number of the memory or node with which a run continues: 4 bytes in a part with marks, else 1
 abbrev pub way_bytes : Bool → ℕ → List ℕ
 way_bytes true next = to_le_bytes w32 next
 way_bytes false next = next ∷ []
@@ -66,7 +66,7 @@ entry_bytes listing e = way_bytes listing e.next ++ first_break_bytes e.first_br
 
 -- ---- marks
 
--- how many bytes a distance has, as a code: 0, 1, 2, 4 or 8
+-- a code, 0 to 4, of how many bytes n is written in: 0, 1, 2, 4 or 8
 abbrev pub width_code : ℕ → ℕ
 width_code n =
     if n == 0 then 0 else if nat_lt n 256 then 1 else if nat_lt n 65536 then 2 else if nat_lt n 4294967296 then 3
@@ -116,12 +116,12 @@ kind_bytes (kind.Answer line) = []
 kind_bytes (kind.WriteAnswer line moved unknown value) = moved_code moved ∷ unknown ∷ to_le_bytes w32 value
 kind_bytes kind.Close = []
 
--- a mark so many instants after the one before it
+-- a mark of the kind k, n instants after the one before it
 unfoldable pub spaced_bytes : ℕ → MarkKind → List ℕ
 spaced_bytes n k =
     (32 * width_code n + kind_code k) ∷ (bytes_of_width (width_code n) n ++ kind_bytes k)
 
--- a mark behind an instant
+-- the mark m, by the distance of its instant from `before`
 abbrev pub mark_bytes : ℕ → WideMark → List ℕ
 mark_bytes before m = spaced_bytes (m.instant - before) m.kind
 
@@ -136,7 +136,7 @@ node_bytes n =
     to_le_bytes w32 n.next
     ++ (first_break_bytes n.first_break ++ (to_le_bytes w32 (length n.marks) ++ marks_bytes 0 n.marks))
 
--- memory 2 isn't written: it stays as it is and shows nothing
+-- the entries that are written: that of memory 2 is always the same, and isn't
 abbrev pub written : List TableEntry → List TableEntry
 written es = take 2 es ++ drop 3 es
 
@@ -168,7 +168,7 @@ tables_bytes listing s =
 abbrev pub head_bytes : SegmentValue → List ℕ
 head_bytes s = to_le_bytes w64 s.first ++ (s.order ∷ to_le_bytes w64 s.steps)
 
--- the levels before it, and those that it leaves
+-- the number of slots, the levels before a segment, and those after it
 abbrev pub lines_bytes : SegmentValue → List ℕ
 lines_bytes s = s.opening.slots ∷ (levels_bytes s.opening ++ levels_bytes s.left)
 
@@ -194,7 +194,7 @@ front_bytes p = to_le_bytes w64 p.backplane ++ (flag p.listing ∷ to_le_bytes w
 unfoldable pub body_bytes : PartValue → List ℕ
 body_bytes p = front_bytes p ++ flat_map (segment_bytes p.listing) p.segments
 
--- what the sum is of
+-- the bytes whose sum a part ends with
 abbrev pub summed_bytes : PartValue → List ℕ
 summed_bytes p = name_bytes ++ version_byte ∷ body_bytes p
 

@@ -1,4 +1,4 @@
--- Reading from left to right, with the first fault that is met. A reader answers what it read and the bytes behind it.
+-- Reading from left to right, up to the first fault. A reader answers what it read and the bytes after it.
 use Rattle.std.specs.Prelude.{◌≡◌, ℕ, zero, suc, ◌+◌, ◌-◌, ◌/◌, ◌%◌, ◌^◌, ◌==◌, Bool, true, false, not, ◌&&◌}
 use Rattle.std.specs.Prelude.{List, [], ◌∷◌, ◌++◌, length, take, drop, Option, None, Some, Result, Ok, Err}
 use Rattle.std.specs.Prelude.{bytes_eq, nat_le, nat_lt, slice_get, if◌then◌else◌}
@@ -37,25 +37,27 @@ abbrev pub ◌>>=◌ : {A B : Type 0} → Result A FieldFault → (A → Result 
 (Ok x) >>= f = f x
 (Err e) >>= f = Err e
 
--- a field that no part has there: how many bytes are left from it on
+-- a fault of the field with which `bytes` begin
 abbrev pub fault_at : PartFaultKind → List ℕ → FieldFault
 fault_at kind bytes = record { kind = kind; left = length bytes }
 
--- what a function returned, seen by view, and what it left are what reading gives, unless memory ran out
+-- the error of a function is the fault of `read`, unless memory ran out
 abbrev pub Fails : {Y : Type 0} → FieldError → Result Y FieldFault → Type 0
 Fails field.Memory read = Unit {0}
 Fails (field.Fault f) read = read ≡ Err f
 
+-- what a function returned, by `view`, and the bytes `rest` that it left are the result of `read`; its error is as in
+-- `Fails`
 abbrev pub Gives : {X Y : Type 0} → (X → Y) → Result X FieldError → List ℕ → Result (Y × List ℕ) FieldFault → Type 0
 Gives view (Ok x) rest read = read ≡ Ok (view x, rest)
 Gives view (Err e) rest read = Fails e read
 
--- the same of what is read to the end
+-- the same as `Gives`, for a reader that leaves no bytes
 abbrev pub GivesPart : {X Y : Type 0} → (X → Y) → Result X FieldError → Result Y FieldFault → Type 0
 GivesPart view (Ok x) read = read ≡ Ok (view x)
 GivesPart view (Err e) read = Fails e read
 
--- what is read, behind what was read before
+-- the items of `front`, then those of `read`
 abbrev pub behind : {A : Type 0} → List A → Result (List A × List ℕ) FieldFault → Result (List A × List ℕ) FieldFault
 behind front read = read >>= λ x. Ok (front ++ x.0, x.1)
 
@@ -78,7 +80,7 @@ flag_at (suc (suc b) ∷ rest) = Err (fault_at fault.BadFlag (suc (suc b) ∷ re
 
 -- ---- levels
 
--- the level of a line by its code, if it may have that
+-- the level with the code `code`, if line l may have it; a line that the backplane doesn't have is Unknown
 abbrev pub coded_level : ℕ → ℕ → ℕ → Option Level
 coded_level slots l code =
     if has_line slots l
@@ -92,23 +94,23 @@ four (Some a) None c d = None
 four (Some a) (Some b) None d = None
 four (Some a) (Some b) (Some c) None = None
 
--- the levels of four lines, from line l on
+-- the levels in `byte` of the four lines from line l on
 unfoldable pub unpacked : ℕ → ℕ → ℕ → Option (List Level)
 unpacked slots l byte =
     four (coded_level slots l (byte % 4)) (coded_level slots (l + 1) (byte / 4 % 4))
     (coded_level slots (l + 2) (byte / 16 % 4)) (coded_level slots (l + 3) (byte / 64))
 
--- a line has the level of a code, or may not have it
+-- line l is given the level with the code `code` (`true`), or may not have it (`false`)
 abbrev pub SetsLevel : Bool → Levels → ℕ → ℕ → Levels → Type 0
 SetsLevel true old l code new = (a : Level) × (coded_level old.slots l code ≡ Some a) × (new ≡ set_level old l a)
 SetsLevel false old l code new = coded_level old.slots l code ≡ None
 
--- lines from l on have these levels
+-- the lines from l on are given these levels
 abbrev pub with_levels : Levels → ℕ → List Level → Levels
 with_levels v l [] = v
 with_levels v l (a ∷ ls) = with_levels (set_level v l a) (l + 1) ls
 
--- four lines have the levels of a byte, or may not have them
+-- the four lines from l on are given the levels in `byte` (`true`), or may not have them (`false`)
 abbrev pub SetsFour : Bool → Levels → ℕ → ℕ → Levels → Type 0
 SetsFour true old l byte new =
     (ls : List Level) × (unpacked old.slots l byte ≡ Some ls) × (new ≡ with_levels old l ls)
@@ -118,7 +120,7 @@ abbrev pub or_fault : {A : Type 0} → FieldFault → Option A → Result A Fiel
 or_fault f None = Err f
 or_fault f (Some x) = Ok x
 
--- the levels of four times as many lines, from line l on
+-- reads n bytes, which have the levels of 4 n lines, from line l on
 unfoldable pub packed_at : ℕ → ℕ → ℕ → List ℕ → Result (List Level × List ℕ) FieldFault
 packed_at slots l zero bytes = Ok ([], bytes)
 packed_at slots l (suc n) bytes = do
@@ -132,7 +134,7 @@ levels_at slots bytes = do
   levels ← packed_at slots 0 48 bytes
   Ok (record { slots = slots; levels = levels.0 }, levels.1)
 
--- ---- breaks, and where a way goes on
+-- ---- breaks and entries
 
 abbrev pub may_break : ℕ → ℕ → ℕ → Bool
 may_break steps line instant = nat_lt line line_count && nat_lt 0 instant && nat_le instant steps
@@ -147,7 +149,7 @@ break_at steps rule bad bytes = do
   time ← number_at w64 instant.1
   if may_break steps line.0 instant.0 then Ok (Some (read_break rule line.0 instant.0 time.0), time.1) else Err bad
 
--- 0 for none, else the number of the rule and 1
+-- reads what follows `number`: no break if it is 0, else a break of the rule number - 1
 unfoldable pub first_break_by : ℕ → FieldFault → ℕ → List ℕ → Result (Option WideBreak × List ℕ) FieldFault
 first_break_by steps bad number bytes =
     if number == 0 then Ok (None, bytes)
@@ -158,7 +160,7 @@ first_break_at steps bytes = do
   number ← byte_at bytes
   first_break_by steps (fault_at fault.BadBreak bytes) number.0 number.1
 
--- the number as it is written, below the number of the ways
+-- reads a way as it is written; `way_at` requires that it is below `ways`
 abbrev pub way_number_at : Bool → List ℕ → Result (ℕ × List ℕ) FieldFault
 way_number_at true bytes = number_at w32 bytes
 way_number_at false bytes = byte_at bytes
@@ -188,7 +190,7 @@ distance_number_at code bytes =
     if code == 0 then Ok (0, bytes) else if code == 1 then byte_at bytes else if code == 2 then number_at w16 bytes
     else if code == 3 then number_at w32 bytes else number_at w64 bytes
 
--- so many instants, in as few bytes as hold the number
+-- reads a distance in the width with the code `code`, which has to be the least that holds it
 unfoldable pub distance_at : FieldFault → ℕ → List ℕ → Result (ℕ × List ℕ) FieldFault
 distance_at bad code bytes = do
   n ← distance_number_at code bytes
@@ -240,7 +242,7 @@ kind_at bad code bytes =
     else if code == 16 then Ok (kind.Close, bytes)
     else Err bad
 
--- an instant that many later than another, in a segment of so many steps
+-- reads an instant of a segment of `steps` steps, by its distance from `before`
 unfoldable pub instant_at : FieldFault → ℕ → ℕ → ℕ → List ℕ → Result (ℕ × List ℕ) FieldFault
 instant_at bad steps before code bytes = do
   n ← distance_at bad code bytes
@@ -275,7 +277,7 @@ node_at steps ways bytes = do
   marks ← marks_at steps 0 count.0 count.1
   Ok (record { next = next.0; first_break = first_break.0; marks = marks.0 }, marks.1)
 
--- so many nodes, of a table of so many memories
+-- reads n nodes of a table of `memories` memories
 unfoldable pub nodes_at : ℕ → ℕ → ℕ → List ℕ → Result (List NodeValue × List ℕ) FieldFault
 nodes_at memories steps zero bytes = Ok ([], bytes)
 nodes_at memories steps (suc n) bytes = do
@@ -287,13 +289,13 @@ abbrev pub node_number_at : Bool → List ℕ → Result (ℕ × List ℕ) Field
 node_number_at true bytes = number_at w32 bytes
 node_number_at false bytes = Ok (0, bytes)
 
--- how many nodes a table of so many memories has
+-- reads how many nodes a table of `memories` memories has
 unfoldable pub node_count_at : Bool → ℕ → List ℕ → Result (ℕ × List ℕ) FieldFault
 node_count_at listing memories bytes = do
   n ← node_number_at listing bytes
   if nat_lt (memories + n.0) (2 ^ 32) then Ok n else Err (fault_at fault.BadWay bytes)
 
--- a table of so many memories, at least 3
+-- reads a table of `memories` memories, at least 3
 unfoldable pub table_at : Bool → ℕ → ℕ → List ℕ → Result (TableValue × List ℕ) FieldFault
 table_at listing memories steps bytes = do
   count ← node_count_at listing memories bytes
@@ -314,7 +316,7 @@ is_behind (Some last) first = nat_lt last first
 abbrev pub may_begin : Option ℕ → ℕ → ℕ → Bool
 may_begin before first order = are_numbers first order && is_behind before first
 
--- the first number and the order of a segment behind another
+-- reads the first number and the order of a segment; `before` is the last file of the segment before it
 unfoldable pub numbers_at : Option ℕ → List ℕ → Result ((ℕ × ℕ) × List ℕ) FieldFault
 numbers_at before bytes = do
   first ← number_at w64 bytes
@@ -393,7 +395,7 @@ abbrev pub read_whole : ℕ → Bool → List SegmentValue → PartValue
 read_whole backplane listing segments =
     record { backplane = backplane; listing = listing; segments = segments }
 
--- all fields, and nothing behind them
+-- reads all fields, after which no bytes may be left
 unfoldable pub body_at : List ℕ → Result PartValue FieldFault
 body_at bytes = do
   backplane ← number_at w64 bytes
@@ -410,11 +412,11 @@ summed_part bytes = take (length bytes - 8) bytes
 abbrev pub written_sum : List ℕ → ℕ
 written_sum bytes = from_le_bytes w64 (drop (length bytes - 8) bytes)
 
--- at least the name, the version and the sum, which is that of the bytes before it
+-- there are at least 16 bytes, and the last 8 are the sum of those before them
 abbrev pub has_its_sum : List ℕ → Bool
 has_its_sum bytes = nat_le 16 (length bytes) && (sum_of (summed_part bytes) == written_sum bytes)
 
--- a field's fault, where so many bytes end with the fields
+-- a field's fault with its place, where the fields end at `end`
 abbrev pub placed : {A : Type 0} → ℕ → Result A FieldFault → Result A PartFault
 placed end (Ok x) = Ok x
 placed end (Err f) = Err (record { kind = f.kind; place = end - f.left })
@@ -427,11 +429,12 @@ part_at bytes =
     else if not (has_its_sum bytes) then Err (record { kind = fault.Damaged; place = length bytes - 8 })
     else placed (length bytes - 8) (body_at (drop 8 (summed_part bytes)))
 
--- what the reader returned is what reading gives, unless memory ran out
+-- the error of the reader is the fault of `read`, unless memory ran out
 abbrev pub Refuses : ReadError → Result PartValue PartFault → Type 0
 Refuses errors.Memory read = Unit {0}
 Refuses (errors.Fault f) read = read ≡ Err f
 
+-- what the reader returned, by `view`, is the result of `read`; its error is as in `Refuses`
 abbrev pub IsPartReading : {X : Type 0} → (X → PartValue) → Result X ReadError → Result PartValue PartFault → Type 0
 IsPartReading view (Ok x) read = read ≡ Ok (view x)
 IsPartReading view (Err e) read = Refuses e read

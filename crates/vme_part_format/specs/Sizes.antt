@@ -3,7 +3,7 @@ use Rattle.std.specs.Prelude.{ℕ, ◌+◌, ◌*◌, ◌≤◌, List, [], ◌∷
 use Rattle.vme_part_format.specs.PartText.{part_bytes}
 use Rattle.vme_part_format.specs.Tables.{NodeValue, PartValue, SegmentValue, TableValue}
 
--- how many marks nodes have
+-- how many marks the nodes have together
 abbrev pub marks_in_nodes : List NodeValue → ℕ
 marks_in_nodes [] = 0
 marks_in_nodes (n ∷ ns) = length n.marks + marks_in_nodes ns
@@ -28,7 +28,7 @@ abbrev pub marks_in_segments : List SegmentValue → ℕ
 marks_in_segments [] = 0
 marks_in_segments (s ∷ ss) = marks_in_segment s + marks_in_segments ss
 
--- and a part
+-- how many nodes and marks a part has
 abbrev pub nodes_in : PartValue → ℕ
 nodes_in p = nodes_in_segments p.segments
 
@@ -49,7 +49,7 @@ pub record IsCompact (s : SegmentValue) : Type 0 where
 abbrev pub IsCompactPart : PartValue → Type 0
 IsCompactPart p = All IsCompact p.segments
 
--- the bytes of a part of one segment: 4,096 at most without marks, else 16 a mark and 16,384
+-- the most bytes of a part of at most one segment: 4,096 without marks, else 16,384 and 16 a mark
 abbrev pub most_bytes : PartValue → ℕ
 most_bytes p = if p.listing then 16384 + 16 * marks_in p else 4096
 

@@ -1,4 +1,4 @@
--- What a part says, without where it lies in memory.
+-- A part as a value: vectors are lists.
 use Rattle.std.specs.Prelude.{ℕ, ◌+◌, ◌-◌, ◌^◌, Bool, List, map, Option}
 use Rattle.vme_trace.specs.Levels.{Levels}
 use Rattle.vme_part_format.specs.declared.part.Part.{Part}

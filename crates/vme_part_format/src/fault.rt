@@ -11,36 +11,36 @@ pub enum PartFaultKind {
     NotAPart,
     /// They are a part of another version.
     OtherVersion,
-    /// They are fewer than any part has, or their sum isn't the one at their end.
+    /// They are fewer than 16, or the sum at their end isn't that of the bytes before it.
     Damaged,
-    /// A field passes the end.
+    /// A field extends past the end.
     CutShort,
     /// A flag is neither 0 nor 1.
     BadFlag,
-    /// The first number and the order of a segment make none, or the segment isn't behind the one before it.
+    /// No segment has this first number and order, or the segment doesn't come after the one before it.
     BadNumber,
-    /// A number of slots or a level is none, or a level is that of a line that isn't there.
+    /// A number of slots or a code of a level is invalid, or a line that the backplane doesn't have isn't Unknown.
     BadLevels,
-    /// Steps without times, times without steps, or times that can't be.
+    /// Steps without times, times without steps, or times that are impossible.
     BadSteps,
-    /// A rule, a line or an instant of a break is none.
+    /// The rule, the line or the instant of a break is invalid.
     BadBreak,
-    /// It goes on in a memory or a node that isn't there.
+    /// A run continues in a memory or a node that isn't there, or there are too many nodes.
     BadWay,
-    /// A mark is none, or there are no marks where some have to be.
+    /// A mark is invalid, or a node has no marks.
     BadMark,
-    /// Bytes stand between the last segment and the sum.
+    /// There are bytes between the last segment and the sum.
     Trailing,
 }
 
-/// A field that no part has there, and how many bytes are left from it on.
+/// A field that no part has there. `left` is the number of bytes from its start to the end of the fields.
 #[derive(Clone, Copy, Debug, PartialEq, Eq)]
 pub struct FieldFault {
     pub kind: PartFaultKind,
     pub left: usize,
 }
 
-/// Why a field isn't read.
+/// Why a field isn't read: memory runs out, or the field has a fault.
 #[derive(Clone, Copy, Debug, PartialEq, Eq)]
 pub enum FieldError {
     Memory,
@@ -67,14 +67,14 @@ impl<T: Drop> From<AllocFailed<T>> for FieldError {
     }
 }
 
-/// The first fault of the bytes, and where the field begins that has it.
+/// The first fault of the bytes. `place` is the index at which the field with the fault begins.
 #[derive(Clone, Copy, Debug, PartialEq, Eq)]
 pub struct PartFault {
     pub kind: PartFaultKind,
     pub place: usize,
 }
 
-/// Why no part is read.
+/// Why no part is read: memory runs out, or the bytes have a fault.
 #[derive(Clone, Copy, Debug, PartialEq, Eq)]
 pub enum ReadError {
     Memory,

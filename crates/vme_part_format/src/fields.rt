@@ -1,4 +1,4 @@
-//! What is left of some bytes, and the fields that are read from its front.
+//! A cursor over bytes: the bytes that are left, and the fields that are read from their front.
 
 ghost use Rattle.std.specs.Prelude.{◌≡◌, ◌↔◌, [], IsTrue, slice_get};
 ghost use Rattle.std.specs.Int.{w16, w32, w64};
@@ -13,14 +13,14 @@ use crate::wide::WideBreak;
 use std::marker::Model;
 use vme_trace::{Line, Rule};
 
-/// The rule of a place in the order of rules, if there is one.
+/// The rule with the index `place` in `Rule::ALL`, if there is one.
 fn rule_at(place: u8) -> Option<Rule>
     ensures { result ≡ slice_get all_rules place }
 {
     Rule::ALL.get(usize::from(place)).copied()
 }
 
-/// What is left of some bytes. Contracts see it as these bytes.
+/// The bytes that are left to read. In contracts it is the list of these bytes.
 #[derive(Drop)]
 pub(crate) struct Fields<'a> {
     rest: &'a [u8],
@@ -48,7 +48,7 @@ impl<'a> Fields<'a> {
         self.rest.is_empty()
     }
 
-    /// A fault of the next field.
+    /// A fault of the kind `kind` at the next field.
     pub(crate) fn fault(&self, kind: PartFaultKind) -> FieldFault
         ensures { result ≡ fault_at kind self.now }
     {
@@ -123,7 +123,7 @@ impl<'a> Fields<'a> {
         }
     }
 
-    /// A break of a rule, behind the number of the rule.
+    /// Reads what follows the number of `rule` in a break: line, instant and time.
     #[tactic(auto, unfolding(crate::specs::Reading::break_at))]
     fn break_by(
         &mut self,
@@ -147,7 +147,7 @@ impl<'a> Fields<'a> {
         }
     }
 
-    /// A break by the number that stands before it: 0 for none, else the number of the rule and 1.
+    /// Reads what follows `number`: no break if it is 0, else a break of the rule `number - 1`.
     #[tactic(auto, unfolding(crate::specs::Reading::first_break_by))]
     fn first_break_by(
         &mut self,
@@ -166,7 +166,7 @@ impl<'a> Fields<'a> {
         }
     }
 
-    /// A break in a segment of so many steps, if there is one.
+    /// Reads a break of a segment of `steps` steps, or that there is none.
     #[tactic(auto, unfolding(crate::specs::Reading::first_break_at))]
     pub(crate) fn first_break(&mut self, steps: u64) -> Result<Option<WideBreak>, FieldError>
         ensures { Gives (λ x. x) result self.new (first_break_at steps self.old) }
@@ -176,7 +176,8 @@ impl<'a> Fields<'a> {
         self.first_break_by(steps, bad, number)
     }
 
-    /// The number of a way, as it is written.
+    /// Reads a way, i.e. the number of the memory or node with which a run continues: 4 bytes in a part with marks,
+    /// else 1.
     fn way_number(&mut self, listing: bool) -> Result<u32, FieldError>
         ensures { Gives (λ x. x) result self.new (way_number_at listing self.old) }
     {
@@ -187,7 +188,7 @@ impl<'a> Fields<'a> {
         }
     }
 
-    /// Where it goes on, of so many ways.
+    /// Reads a way below `ways`.
     #[tactic(auto, unfolding(crate::specs::Reading::way_at))]
     pub(crate) fn way(&mut self, listing: bool, ways: u32) -> Result<u32, FieldError>
         ensures { Gives (λ x. x) result self.new (way_at listing ways self.old) }

@@ -23,7 +23,7 @@ fn code_of(level: Level) -> u8
     }
 }
 
-/// The code of the level of a line, which is unknown where the backplane doesn't have it.
+/// The code of the level of the line `number`, which is Unknown if the backplane doesn't have the line.
 fn code_at(lines: &Lines, number: u8) -> u8
     requires { number < line_count }
     ensures code { result ≡ level_code (seen_level lines.now number) }
@@ -35,7 +35,7 @@ fn code_at(lines: &Lines, number: u8) -> u8
     }
 }
 
-/// The level of a line of a backplane by its code, if it may have that.
+/// The level with the code `code`, if `line` may have it. A line that the backplane doesn't have is Unknown.
 fn level_of(lines: &Lines, line: Line, code: u8) -> Option<Level>
     ensures { result ≡ coded_level lines.now.slots line code }
 {
@@ -53,7 +53,7 @@ fn level_of(lines: &Lines, line: Line, code: u8) -> Option<Level>
     }
 }
 
-/// The codes of four lines, from one of a number on.
+/// The codes of the four lines from number `first` on, in one byte.
 fn four_codes(lines: &Lines, first: u8) -> u8
     requires { first + 3 < line_count }
     ensures { result ≡ quad (seen_level lines.now first) (seen_level lines.now (first + 1))
@@ -75,7 +75,7 @@ pub(crate) fn put_levels(out: &mut Vec<u8>, lines: &Lines) -> Result<(), AllocEr
     Ok(())
 }
 
-/// Gives a line the level of a code, if it may have that; whether it may.
+/// Gives the line `number` the level with the code `code`, if it may have it. Answers whether it may.
 #[tactic(auto, unfolding(vme_trace::specs::Trace::changed))]
 fn set_level(lines: &mut Lines, number: u8, code: u8) -> bool
     requires { number < line_count }
@@ -93,7 +93,7 @@ fn set_level(lines: &mut Lines, number: u8, code: u8) -> bool
     }
 }
 
-/// Gives four lines the levels of a byte, if they may have these; whether they may.
+/// Gives the four lines from number `first` on the levels in `byte`, if they may have these. Answers whether they may.
 #[tactic(auto, unfolding(crate::specs::Reading::unpacked))]
 fn set_four(lines: &mut Lines, first: u8, byte: u8) -> bool
     requires { first + 3 < line_count }
@@ -111,7 +111,7 @@ fn set_four(lines: &mut Lines, first: u8, byte: u8) -> bool
     set_level(lines, first + 3, byte / 64)
 }
 
-/// The levels of a backplane of so many slots.
+/// Reads the levels of a backplane of `slots` slots.
 pub(crate) fn read_levels(fields: &mut Fields, slots: u8) -> Result<Lines, FieldError>
     requires least { 1 ≤ slots }
     requires most { slots ≤ 21 }

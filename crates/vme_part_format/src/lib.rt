@@ -1,33 +1,35 @@
-//! Parts of a recording as bytes: what was found of files that follow one another, whatever stood
-//! before them.
+//! The byte format of parts. A part is a partial result: what judging files of a recording gives,
+//! for each state in which they may begin.
 //!
 //! # Parts of this crate
 //!
-//! - `part`, `segment`, `table`, `wide`: what a part says. A [`Part`] has segments, a [`Segment`]
-//!   five tables, one for each monitor, and an [`OutcomeTable`] an entry for each memory in which
-//!   the segment may be entered, and nodes that ways through it have in common. Breaks and marks
-//!   have numbers of 64 bits.
+//! - `part`, `segment`, `table`, `wide`: the contents of a part. A [`Part`] has segments, i.e. files
+//!   that follow one another and are judged as one. A [`Segment`] has five tables, one for each
+//!   monitor. A monitor's memory is the state of its automaton. An [`OutcomeTable`] has an entry for
+//!   each memory in which the segment may begin, and nodes that several runs share. A break is a
+//!   violation of a rule, and a mark an event of the bus with its instant. Their numbers have 64
+//!   bits.
 //! - `write`: [`write_part`] writes the bytes of a part.
 //! - `read`, `fields`, `levels`, `marks`, `tables`: [`read_part`] reads them. The bytes come from
 //!   elsewhere and are not trusted.
 //! - `numbers`: numbers as bytes.
-//! - `sum`: [`sum_of_bytes`], the sum that a part ends with.
+//! - `sum`: [`sum_of_bytes`], the checksum that a part ends with.
 //! - `fault`: why bytes are no part.
 //!
 //! # What is proved
 //!
-//! - [`write_part`] writes `part_bytes` (`specs/PartText`) of a part that fits (`specs/Bounds`).
-//!   Without marks they are at most 4,034 bytes a segment, and 29 more.
-//! - [`read_part`] answers exactly the part with that text: what it reads is written so (`found`),
-//!   and what is written so is read, unless memory runs out (`only`). Else it answers the first
-//!   fault with its place (`exact`, by `part_at` of `specs/Reading`). A part of which one byte is
-//!   another is none (`changed`).
-//! - [`sum_of_bytes`] is FNV-1a, and tells bytes from as many of which one is another.
+//! - For a part within the bounds (`specs/Bounds`), [`write_part`] writes its encoding, `part_bytes`
+//!   (`specs/PartText`). Without marks it has at most 4,034 bytes a segment, and 29 more.
+//! - [`read_part`] inverts `part_bytes`: it accepts only encodings of parts (`found`), and accepts
+//!   each, unless allocation fails (`only`). Else it answers the first fault with its place
+//!   (`exact`, by `part_at` of `specs/Reading`). An encoding with one byte changed is refused
+//!   (`changed`).
+//! - [`sum_of_bytes`] is FNV-1a. It differs for byte strings of equal length that differ in one byte.
 //!
 //! # What isn't proved
 //!
-//! That memory suffices. That a part which is read stands for any files: who writes one may say in
-//! it what they like.
+//! That memory suffices. That a part that is read was made from real files: anyone can write a
+//! well-formed one.
 //!
 //! # Limits
 //!

@@ -1,4 +1,4 @@
-//! Marks, each by its distance from the one before it.
+//! Writing and reading marks. Each is written by the distance of its instant from that of the mark before it.
 
 ghost use Rattle.std.specs.Prelude.{◌≡◌, ◌^◌, ◌<◌, ◌≤◌, ◌++◌, ◌-◌, OnOk};
 ghost use Rattle.vme_part_format.specs.Bounds.{AreAscending};
@@ -15,7 +15,7 @@ use std::alloc::{AllocError, Global};
 use vme_monitor::mark::MarkKind;
 use vme_trace::{Class, Line, MovedBytes};
 
-/// How many bytes a distance has, as a code: 0, 1, 2, 4 or 8.
+/// A code, 0 to 4, of how many bytes `distance` is written in: 0, 1, 2, 4 or 8.
 fn width_of(distance: u64) -> u8
     ensures code { result ≡ width_code distance }
     ensures few { result ≤ 4 }
@@ -114,7 +114,7 @@ fn put_kind(out: &mut Vec<u8>, kind: MarkKind) -> Result<(), AllocError>
     }
 }
 
-/// Adds a mark behind an instant.
+/// Adds `mark`, by the distance of its instant from `before`.
 #[tactic(auto, unfolding(crate::specs::PartText::spaced_bytes))]
 fn put_mark(out: &mut Vec<u8>, before: u64, mark: &WideMark) -> Result<(), AllocError>
     requires { before ≤ mark.now.instant }
@@ -126,7 +126,7 @@ fn put_mark(out: &mut Vec<u8>, before: u64, mark: &WideMark) -> Result<(), Alloc
     put_kind(out, mark.kind)
 }
 
-/// Adds marks, the first of which counts from 0.
+/// Adds `marks`. The distance of the first is that from 0.
 pub(crate) fn put_marks(out: &mut Vec<u8>, marks: &[WideMark]) -> Result<(), AllocError>
     requires { AreAscending 0 marks.now }
     ensures { OnOk result (out.new.items ≡ out.old.items ++ marks_bytes 0 marks.now) }
@@ -163,7 +163,7 @@ fn read_distance(fields: &mut Fields, bad: FieldFault, code: u8) -> Result<u64, 
     }
 }
 
-/// An instant behind another, in a segment of so many steps.
+/// Reads an instant of a segment of `steps` steps, by its distance from `before`.
 #[tactic(auto, unfolding(crate::specs::Reading::instant_at))]
 fn read_instant(
     fields: &mut Fields,
@@ -279,7 +279,7 @@ fn read_mark(fields: &mut Fields, steps: u64, before: u64) -> Result<WideMark, F
     Ok(WideMark { instant, kind })
 }
 
-/// So many marks, the first of which counts from 0.
+/// Reads `count` marks. The distance of the first is that from 0.
 pub(crate) fn read_marks(
     alloc: Global,
     fields: &mut Fields,

@@ -1,4 +1,4 @@
-//! A part that is read from bytes, which aren't trusted.
+//! Reading a part from bytes that aren't trusted.
 
 ghost use Rattle.std.specs.Prelude.{◌≡◌, ◌-◌, ◌≤◌, IfOk, IsErr, Ok, None, drop, length, map};
 ghost use Rattle.vme_part_format.specs.Bounds.{FitsNumbers, FitsPart};
@@ -26,13 +26,13 @@ pub(crate) const NAME: [u8; 7] = *b"vmepart";
 /// The version, which follows.
 pub(crate) const VERSION: u8 = b'1';
 
-/// How many bytes name, version and sum have.
+/// How many bytes the name, the version and the sum have together.
 const FEWEST_BYTES: usize = 16;
 
 /// How many bytes the sum has.
 const SUM_BYTES: usize = 8;
 
-/// Whether a number is behind another, if there is one.
+/// Whether `first` is greater than `before`, if there is a `before`.
 fn comes_behind(before: Option<u64>, first: u64) -> bool
     ensures { result ≡ is_behind before first }
 {
@@ -42,14 +42,14 @@ fn comes_behind(before: Option<u64>, first: u64) -> bool
     }
 }
 
-/// Whether a segment of that order may begin with that number.
+/// Whether a segment of the order `order` may begin with the file `first`.
 fn are_numbers(first: u64, order: u8) -> bool
     ensures { result ≡ are_numbers_of first order }
 {
     first < 1 << 63 && order < 63 && first % file_count(order) == 0
 }
 
-/// The first number and the order of a segment behind another.
+/// Reads the first number and the order of a segment. `before` is the last file of the segment before it.
 #[tactic(auto, unfolding(crate::specs::Reading::numbers_at))]
 fn read_numbers(fields: &mut Fields, before: Option<u64>) -> Result<(u64, u8), FieldError>
     ensures numbers { Gives (λ x. x) result fields.new (numbers_at before fields.old) }
@@ -96,7 +96,7 @@ fn read_step_times(fields: &mut Fields, there: bool) -> Result<Option<SegmentTim
     }))
 }
 
-/// Whether a segment of so many steps may have these times.
+/// Whether a segment of `steps` steps may have the times `times`.
 fn are_times(first: u64, order: u8, steps: u64, times: Option<SegmentTimes>) -> bool
     requires { FitsNumbers first order }
     ensures { result ≡ are_times_of first order steps times }
@@ -132,7 +132,7 @@ fn read_times(
     }
 }
 
-/// A segment behind another, which ends with that number.
+/// Reads a segment. `before` is the last file of the segment before it.
 #[tactic(auto, unfolding(crate::specs::Reading::segment_at))]
 fn read_segment(
     alloc: Global,
@@ -169,7 +169,7 @@ fn read_segment(
     })
 }
 
-/// So many segments.
+/// Reads `count` segments.
 fn read_segments(
     alloc: Global,
     fields: &mut Fields,
@@ -189,7 +189,7 @@ fn read_segments(
     Ok(segments)
 }
 
-/// All fields, and nothing behind them.
+/// Reads all fields, after which no bytes may be left.
 #[tactic(auto, unfolding(crate::specs::Reading::body_at))]
 fn read_body(alloc: Global, bytes: &[u8]) -> Result<Part, FieldError>
     ensures { GivesPart part_value result (body_at bytes.now) }
@@ -209,7 +209,7 @@ fn read_body(alloc: Global, bytes: &[u8]) -> Result<Part, FieldError>
     })
 }
 
-/// Whether the bytes are long enough, and end with the sum of those before it.
+/// Whether there are at least 16 bytes, and the last 8 are the sum of those before them.
 fn has_its_sum(bytes: &[u8]) -> bool
     ensures { result ≡ has_sum_of bytes.now }
 {
@@ -229,7 +229,7 @@ fn refusal(kind: PartFaultKind, place: usize) -> ReadError
     ReadError::Fault(PartFault { kind, place })
 }
 
-/// The part of the bytes between the version and the sum.
+/// Reads the fields of a part, between the version and the sum of `bytes`.
 fn read_fields(alloc: Global, bytes: &[u8]) -> Result<Part, ReadError>
     requires { 16 ≤ length bytes.now }
     ensures { IsPartReading part_value result
@@ -244,7 +244,7 @@ fn read_fields(alloc: Global, bytes: &[u8]) -> Result<Part, ReadError>
     }
 }
 
-/// The part whose bytes these are, or the first fault.
+/// The part whose encoding `bytes` is, or the first fault.
 #[tactic(auto, unfolding(crate::specs::Reading::part_at))]
 fn read_checked(alloc: Global, bytes: &[u8]) -> Result<Part, ReadError>
     ensures { IsPartReading part_value result (part_at bytes.now) }
@@ -261,18 +261,18 @@ fn read_checked(alloc: Global, bytes: &[u8]) -> Result<Part, ReadError>
     read_fields(alloc, bytes)
 }
 
-/// The part whose bytes these are, all of them.
+/// The part whose encoding is the whole of `bytes`.
 pub fn read_part(alloc: Global, bytes: &[u8]) -> Result<Part, ReadError>
-    // What is read is written so.
+    // If a part is read, `bytes` is its encoding.
     ensures found { IfOk result (λ p. FitsPart (part_value p) × (bytes.now ≡ part_bytes (part_value p))) }
 
-    // What is written so is read, unless memory runs out.
+    // The encoding of a part is read as this part, unless memory runs out.
     ensures only { (p : PartValue) → FitsPart p → bytes.now ≡ part_bytes p → IsPartReading part_value result (Ok p) }
 
-    // A part of which one byte is another is none.
+    // The encoding of a part with one byte changed is refused.
     ensures changed { (p : PartValue) → DifferInOne bytes.now (part_bytes p) → IsErr result }
 
-    // Which fault it is.
+    // The result is that of `part_at`, which has the first fault, unless memory runs out.
     ensures exact { IsPartReading part_value result (part_at bytes.now) }
 {
     read_checked(alloc, bytes)

@@ -17,23 +17,23 @@ pub struct SegmentTimes {
     pub last: u64,
 }
 
-/// What was found of 2^`order` files that follow one another, from the number `first` on, a multiple of that, whatever
-/// stood before them.
+/// What judging 2^`order` consecutive files gives, for each memory in which each monitor may begin. The first file has
+/// the number `first`, a multiple of 2^`order`.
 #[derive(Debug, Drop)]
 pub struct Segment {
     /// The number of the first file.
     pub first: u64,
-    /// How many files they are is 2 to the power of this.
+    /// The segment has 2^`order` files.
     pub order: u8,
-    /// How many steps they have.
+    /// How many steps the files have.
     pub steps: u64,
     /// The levels before the first step.
     pub opening: Lines,
-    /// The levels that the last file leaves.
+    /// The levels after the last file.
     pub left: Lines,
-    /// When the steps are, if there are some.
+    /// When the steps are, if there are any.
     pub times: Option<SegmentTimes>,
-    /// Stretches that are judged, and U1.
+    /// Where judging begins and ends, and rule U1.
     pub known: OutcomeTable,
     /// The handshake.
     pub handshake: OutcomeTable,
@@ -45,10 +45,10 @@ pub struct Segment {
     pub acknowledge: OutcomeTable,
 }
 
-/// How many memories each monitor has, in the order of a segment's tables.
+/// How many memories (states) each monitor has, in the order of a segment's tables.
 pub const MEMORY_COUNTS: [u32; 5] = [4, 147, 13, 35, 11];
 
-/// How many files a segment of an order covers.
+/// How many files a segment of order `order` covers.
 pub(crate) fn file_count(order: u8) -> u64
     requires { order < 63 }
     ensures { result ≡ 2 ^ order }

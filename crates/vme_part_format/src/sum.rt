@@ -1,4 +1,4 @@
-//! The sum that a part ends with.
+//! The checksum that a part ends with.
 
 ghost use Rattle.std.specs.Prelude.{◌≡◌, ◌≢◌, ℕ, List};
 ghost use Rattle.vme_part_format.specs.Sums.{DifferInOne, sum_of};
@@ -17,11 +17,11 @@ fn sum_by_bytes(bytes: &[u8]) -> u64
     sum
 }
 
-/// The sum of some bytes: FNV-1a of 64 bits.
+/// The FNV-1a hash of `bytes`, of 64 bits.
 pub fn sum_of_bytes(bytes: &[u8]) -> u64
     ensures sum { result ≡ sum_of bytes.now }
 
-    // As many bytes of which one is another have another sum.
+    // The sum of other bytes of the same length that differ in one byte is another.
     ensures tells { (others : List ℕ) → DifferInOne bytes.now others → sum_of others ≢ result }
 {
     sum_by_bytes(bytes)

@@ -1,4 +1,4 @@
-//! Tables.
+//! Writing and reading tables.
 
 ghost use Rattle.std.specs.Prelude.{◌≡◌, ◌+◌, ◌^◌, ◌<◌, ◌≤◌, ◌++◌, ℕ, OnOk, IfOk, Some, All, flat_map, length, map};
 ghost use Rattle.std.specs.Int.{w32, to_le_bytes};
@@ -17,7 +17,7 @@ use crate::table::{OutcomeTable, STAYS, TableEntry, TableNode};
 use crate::wide::{WideBreak, WideMark};
 use std::alloc::{AllocError, Global};
 
-/// How many entries stand before that of the memory in which judging has ended.
+/// How many entries come before that of memory 2, in which judging has ended.
 const BEFORE_ENDED: u32 = 2;
 
 fn put_break(out: &mut Vec<u8>, found: WideBreak) -> Result<(), AllocError>
@@ -116,7 +116,7 @@ fn put_node_count(out: &mut Vec<u8>, listing: bool, nodes: &[TableNode]) -> Resu
     }
 }
 
-/// Adds the entries but that of the memory in which judging has ended.
+/// Adds all entries except that of memory 2, in which judging has ended.
 fn put_written(out: &mut Vec<u8>, listing: bool, entries: &[TableEntry]) -> Result<(), AllocError>
     requires many { 3 ≤ length entries.now }
     requires can { All (λ e. CanWrite listing e.next) entries.now }
@@ -128,7 +128,7 @@ fn put_written(out: &mut Vec<u8>, listing: bool, entries: &[TableEntry]) -> Resu
     put_entries(out, listing, &entries[ended + 1..])
 }
 
-/// Adds a table.
+/// Adds `table`.
 #[tactic(auto, unfolding(crate::specs::PartText::table_bytes))]
 pub(crate) fn put_table(
     out: &mut Vec<u8>,
@@ -144,7 +144,7 @@ pub(crate) fn put_table(
     put_nodes(out, table.nodes.as_slice())
 }
 
-/// So many entries.
+/// Reads `count` entries of a table in which `next` is below `ways`.
 fn read_entries(
     alloc: Global,
     fields: &mut Fields,
@@ -196,7 +196,7 @@ fn read_node(
     })
 }
 
-/// So many nodes, of a table of so many memories.
+/// Reads `count` nodes of a table of `memories` memories.
 fn read_nodes(
     alloc: Global,
     fields: &mut Fields,
@@ -222,7 +222,7 @@ fn read_node_number(fields: &mut Fields, listing: bool) -> Result<u32, FieldErro
     if listing { fields.u32() } else { Ok(0) }
 }
 
-/// How many nodes a table of so many memories has.
+/// Reads how many nodes a table of `memories` memories has.
 #[tactic(auto, unfolding(crate::specs::Reading::node_count_at))]
 fn read_node_count(fields: &mut Fields, listing: bool, memories: u32) -> Result<u32, FieldError>
     ensures counted { Gives (λ x. x) result fields.new (node_count_at listing memories fields.old) }
@@ -236,7 +236,7 @@ fn read_node_count(fields: &mut Fields, listing: bool, memories: u32) -> Result<
     }
 }
 
-/// A table of so many memories.
+/// Reads a table of `memories` memories.
 #[tactic(auto, unfolding(crate::specs::Reading::table_at))]
 pub(crate) fn read_table(
     alloc: Global,

@@ -3,7 +3,7 @@
 use vme_monitor::mark::MarkKind;
 use vme_trace::{Line, Rule};
 
-/// A rule that is broken: when, and on which line. Its numbers have 64 bits.
+/// A violation of a rule: when, and on which line.
 #[derive(Clone, Copy, Debug, PartialEq, Eq)]
 pub struct WideBreak {
     /// At which instant: 1 is the first step.
@@ -16,7 +16,7 @@ pub struct WideBreak {
     pub line: Line,
 }
 
-/// Something that happens, and the instant of the step at which it does, a number of 64 bits.
+/// An event of the bus, and the instant of the step at which it happens.
 #[derive(Debug, PartialEq, Eq, Drop)]
 pub struct WideMark {
     pub instant: u64,

@@ -1,4 +1,4 @@
-//! A part as bytes.
+//! Writing a part.
 
 ghost use Rattle.std.specs.Prelude.{◌≡◌, ◌++◌, ◌+◌, ◌*◌, ◌^◌, ◌<◌, ◌≤◌, [], ◌∷◌, OnOk, IfOk};
 ghost use Rattle.std.specs.Prelude.{None, Some, false, flat_map, length, map, true, vec_len};
@@ -43,7 +43,7 @@ fn put_head(out: &mut Vec<u8>, segment: &Segment) -> Result<(), AllocError>
     out.extend_from_slice(&segment.steps.to_le_bytes())
 }
 
-/// Adds the levels before a segment, and those that it leaves.
+/// Adds the number of slots, the levels before a segment, and those after it.
 fn put_lines(out: &mut Vec<u8>, segment: &Segment) -> Result<(), AllocError>
     ensures { OnOk result (out.new.items ≡ out.old.items ++ lines_bytes (segment_value segment.now)) }
 {
@@ -100,7 +100,7 @@ fn put_flag(out: &mut Vec<u8>, listing: bool) -> Result<(), AllocError>
     Ok(out.push(if listing { 1 } else { 0 })?)
 }
 
-/// Adds what stands between the version and the segments.
+/// Adds what comes between the version and the segments.
 fn put_front(out: &mut Vec<u8>, part: &Part) -> Result<(), AllocError>
     requires { length part.now.segments.items < 2 ^ 32 }
     ensures { OnOk result (out.new.items ≡ out.old.items ++ front_bytes (part_value part.now)) }
@@ -110,7 +110,7 @@ fn put_front(out: &mut Vec<u8>, part: &Part) -> Result<(), AllocError>
     out.extend_from_slice(&(part.segments.len() as u32).to_le_bytes())
 }
 
-/// All bytes of a part but its sum.
+/// All bytes of a part except its sum.
 #[tactic(auto, unfolding(crate::specs::PartText::body_bytes))]
 fn write_summed(alloc: Global, part: &Part) -> Result<Vec<u8>, AllocError>
     requires { FitsPart (part_value part.now) }
@@ -141,16 +141,17 @@ pub fn write_part(alloc: Global, part: &Part) -> Result<Vec<u8>, AllocError>
     requires { FitsPart (part_value part.now) }
     ensures bytes { IfOk result (λ out. out.items ≡ part_bytes (part_value part.now)) }
 
-    // Without marks they are at most 4,034 for a segment, and 29.
+    // Without marks there are at most 4,034 bytes a segment, and 29 more.
     ensures few { part.now.listing ≡ false
         → IfOk result (λ out. length out.items ≤ 29 + 4034 * vec_len part.now.segments) }
 
-    // With marks they are at most 15 for a mark, 26 for a node, 4,669 for a segment, and 29.
+    // With marks there are at most 15 bytes a mark, 26 a node, 4,669 a segment, and 29 more.
     ensures marked { part.now.listing ≡ true → IfOk result (λ out. length out.items
         ≤ 29 + 4669 * vec_len part.now.segments + 26 * nodes_in (part_value part.now)
         + 15 * marks_in (part_value part.now)) }
 
-    // Of one segment whose tables have at most two nodes a memory they are at most 4,096, or 16,384 and 16 for a mark.
+    // A part of at most one segment, whose tables have at most two nodes a memory, has at most 4,096 bytes without
+    // marks. With marks it has at most 16,384, and 16 more for each mark.
     ensures small { IsCompactPart (part_value part.now) → vec_len part.now.segments ≤ 1
         → IfOk result (λ out. length out.items ≤ most_bytes (part_value part.now)) }
 {

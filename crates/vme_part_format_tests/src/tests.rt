@@ -11,14 +11,14 @@ use vme_trace::{Class, Level, Line, Lines, MovedBytes, RULE_COUNT, Rule};
 /// How many memories each monitor has.
 const MEMORIES: [u8; 5] = [4, 147, 13, 35, 11];
 
-/// Every line of two slots high, but A31, which is unknown, and BG3's last net, which is low.
+/// The levels of two slots: every line is high, except A31, which is unknown, and BG3's last net, which is low.
 const LEVELS: [u8; 48] = [
     0x55, 0x55, 0x55, 0x55, 0x55, 0x55, 0x55, 0x55, 0x55, 0x55, 0x55, 0x56, 0x55, 0xA9, 0xAA, 0xAA,
     0xAA, 0xAA, 0x95, 0xAA, 0xAA, 0xAA, 0xAA, 0x5A, 0xA9, 0xAA, 0xAA, 0xAA, 0xAA, 0x85, 0xAA, 0xAA,
     0xAA, 0xAA, 0x5A, 0xAA, 0xAA, 0xAA, 0xAA, 0x6A, 0x55, 0x55, 0x55, 0x55, 0x55, 0x55, 0x55, 0x55,
 ];
 
-/// The same lines.
+/// The lines with the levels `LEVELS`.
 fn some_lines() -> Option<Lines> {
     let mut lines = Lines::new(2)?;
     for number in 0..192 {
@@ -34,7 +34,7 @@ fn some_lines() -> Option<Lines> {
     Some(lines)
 }
 
-/// The name, the version and what stands before the segments.
+/// Adds the name, the version, and the fields before the segments.
 fn put_front(out: &mut Vec<u8>, backplane: u64, listing: u8, count: u32) -> Result<(), AllocError> {
     out.extend_from_slice(b"vmepart1")?;
     out.extend_from_slice(&backplane.to_le_bytes())?;
@@ -42,7 +42,7 @@ fn put_front(out: &mut Vec<u8>, backplane: u64, listing: u8, count: u32) -> Resu
     out.extend_from_slice(&count.to_le_bytes())
 }
 
-/// What stands in a segment before its times.
+/// Adds the fields of a segment before its times.
 fn put_head(out: &mut Vec<u8>, first: u64, order: u8, steps: u64) -> Result<(), AllocError> {
     out.extend_from_slice(&first.to_le_bytes())?;
     out.push(order)?;
@@ -60,7 +60,7 @@ fn put_times(out: &mut Vec<u8>, times: [u64; 3]) -> Result<(), AllocError> {
     Ok(())
 }
 
-/// A table without marks, in which each memory stays as it is.
+/// Adds a table without marks, in which each run stays in its memory (state).
 fn put_idle_table(out: &mut Vec<u8>, memories: u8) -> Result<(), AllocError> {
     for next in 0..memories {
         if next != 2 {
@@ -70,7 +70,7 @@ fn put_idle_table(out: &mut Vec<u8>, memories: u8) -> Result<(), AllocError> {
     Ok(())
 }
 
-/// A table without marks, in which each memory stays as it is and breaks I5 on SYSRESET*.
+/// Adds a table without marks, in which each run stays in its memory, and breaks I5 on SYSRESET*.
 fn put_broken_table(out: &mut Vec<u8>, memories: u8) -> Result<(), AllocError> {
     for next in 0..memories {
         if next != 2 {
@@ -82,7 +82,7 @@ fn put_broken_table(out: &mut Vec<u8>, memories: u8) -> Result<(), AllocError> {
     Ok(())
 }
 
-/// A table with marks, of which there are none, in which each memory stays as it is.
+/// Adds a table of a part with marks, which has none itself, in which each run stays in its memory.
 fn put_silent_table(out: &mut Vec<u8>, memories: u8) -> Result<(), AllocError> {
     out.extend_from_slice(&[0, 0, 0, 0])?;
     for next in 0..memories {
@@ -93,10 +93,10 @@ fn put_silent_table(out: &mut Vec<u8>, memories: u8) -> Result<(), AllocError> {
     Ok(())
 }
 
-/// How many marks stand in `MARKS`.
+/// How many marks `MARKS` has.
 const MARK_COUNT: u8 = 18;
 
-/// Marks of each kind, at distances of each width.
+/// The bytes of marks of each kind, at distances of each width.
 const MARKS: [u8; 75] = [
     0x20, 1, // at 1 a reset
     0x01, // a start
@@ -118,7 +118,7 @@ const MARKS: [u8; 75] = [
     0x10, // and another
 ];
 
-/// The same marks.
+/// The marks in `MARKS`.
 const KINDS: [(u64, MarkKind); 18] = [
     (1, MarkKind::Reset),
     (1, MarkKind::Start),
@@ -187,7 +187,7 @@ const KINDS: [(u64, MarkKind); 18] = [
 /// The bytes of a break of H4 on DTACK*, at instant 7 and time 70.
 const FOUND: [u8; 18] = [8, 3, 7, 0, 0, 0, 0, 0, 0, 0, 70, 0, 0, 0, 0, 0, 0, 0];
 
-/// A table of the handshake with two nodes, in which memories 3 and 4 go on with the second and the first, and the
+/// Adds a table of the handshake with two nodes. Memories 3 and 4 continue with the second and the first node, and the
 /// first node with the second.
 fn put_marked_table(out: &mut Vec<u8>) -> Result<(), AllocError> {
     out.extend_from_slice(&[2, 0, 0, 0])?;
@@ -221,7 +221,7 @@ fn empty_part(alloc: Global) -> Result<Vec<u8>, AllocError> {
     Ok(out)
 }
 
-/// The same of 2^62 files, whose tables have as many breaks as they may have.
+/// The bytes before the sum of a part of 2^62 files, whose tables have as many breaks as they may have.
 fn greatest_part(alloc: Global) -> Result<Vec<u8>, AllocError> {
     let mut out = Vec::new(alloc);
     put_front(&mut out, u64::MAX, 0, 1)?;
@@ -243,7 +243,7 @@ fn put_marked_segment(out: &mut Vec<u8>, first: u64) -> Result<(), AllocError> {
     put_silent_table(out, 11)
 }
 
-/// The same of two segments with marks.
+/// The bytes before the sum of a part of two segments with marks.
 fn marked_part(alloc: Global) -> Result<Vec<u8>, AllocError> {
     let mut out = Vec::new(alloc);
     put_front(&mut out, 1, 1, 2)?;
@@ -252,14 +252,14 @@ fn marked_part(alloc: Global) -> Result<Vec<u8>, AllocError> {
     Ok(out)
 }
 
-/// Bytes with their sum behind them.
+/// The bytes and then their sum.
 fn with_sum(alloc: Global, bytes: &[u8]) -> Result<Vec<u8>, AllocError> {
     let mut whole = Vec::from_slice(alloc, bytes)?;
     whole.extend_from_slice(&sum_of_bytes(bytes).to_le_bytes())?;
     Ok(whole)
 }
 
-/// Bytes of which one is another.
+/// The bytes with the one at `place` changed to `byte`.
 fn changed(alloc: Global, bytes: &[u8], place: usize, byte: u8) -> Result<Vec<u8>, AllocError> {
     let mut all = Vec::new(alloc);
     for (at, old) in bytes.iter().enumerate() {
@@ -268,7 +268,7 @@ fn changed(alloc: Global, bytes: &[u8], place: usize, byte: u8) -> Result<Vec<u8
     Ok(all)
 }
 
-/// The part of the bytes, which is written as these bytes again.
+/// Reads the part in `bytes`, and asserts that it is written as the same bytes.
 fn read_again(rt: &impl Abort, alloc: Global, bytes: &[u8]) -> Result<Part, Fail> {
     let part = read_part(alloc, bytes).ok().ok_or("no part")?;
     let written = write_part(alloc, &part)?;
@@ -276,7 +276,7 @@ fn read_again(rt: &impl Abort, alloc: Global, bytes: &[u8]) -> Result<Part, Fail
     Ok(part)
 }
 
-/// The fault of some bytes.
+/// The fault with which `bytes` are refused, if they are.
 fn fault_of(alloc: Global, bytes: &[u8]) -> Option<PartFault> {
     match read_part(alloc, bytes) {
         Err(ReadError::Fault(fault)) => Some(fault),
@@ -396,7 +396,7 @@ fn a_changed_byte_is_damage(rt: HostRuntime) -> Result<(), Fail> {
     Ok(())
 }
 
-/// Bytes with their sum are read, and written so again, or refused at a place before the sum.
+/// Asserts that the bytes with their sum are read and written as the same bytes, or refused at a place before the sum.
 fn is_exact(rt: &impl Abort, alloc: Global, bytes: &[u8]) -> Result<(), Fail> {
     let whole = with_sum(alloc, bytes)?;
     match read_part(alloc, whole.as_slice()) {
@@ -413,7 +413,7 @@ fn is_exact(rt: &impl Abort, alloc: Global, bytes: &[u8]) -> Result<(), Fail> {
     Ok(())
 }
 
-/// Fronts of the bytes with their sum are cut short.
+/// Asserts that fronts of the bytes, with their sums, are refused as cut short.
 fn is_cut_short(rt: &impl Abort, alloc: Global, front: &[u8]) -> Result<(), Fail> {
     let whole = with_sum(alloc, front)?;
     let fault = fault_of(alloc, whole.as_slice()).ok_or("a part")?;
@@ -470,7 +470,7 @@ fn faults_have_their_places(rt: HostRuntime) -> Result<(), Fail> {
     Ok(())
 }
 
-/// What is written of the part that the bytes are.
+/// The bytes that are written for the part in `bytes`.
 fn rewritten(alloc: Global, bytes: &[u8]) -> Result<Vec<u8>, ReadError> {
     match read_part(alloc, bytes) {
         Ok(part) => match write_part(alloc, &part) {
@@ -481,7 +481,7 @@ fn rewritten(alloc: Global, bytes: &[u8]) -> Result<Vec<u8>, ReadError> {
     }
 }
 
-/// The same, once more where memory is refused at first.
+/// `rewritten`, tried once more if memory is refused at first.
 fn bytes_again(alloc: Global, bytes: &[u8]) -> Result<Vec<u8>, ReadError> {
     match rewritten(alloc, bytes) {
         Err(ReadError::Memory) => rewritten(alloc, bytes),

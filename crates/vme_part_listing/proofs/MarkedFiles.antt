@@ -1,4 +1,4 @@
--- The marks of the files of a recording, shown from the first on.
+-- The marks of the files of a recording, from the first on.
 use Rattle.std.proofs.Common.{◌≡◌, ℕ, ◌+◌, ◌<◌, ◌≤◌, ◌^◌, Bool, true, List, [], ◌∷◌, ◌++◌, length, length-append, map}
 use Rattle.std.proofs.Common.{take, drop}
 use Rattle.std.proofs.Common.{get_or, refl, ap, sym, subst, ◌∙◌, arith, Option, Some, None}
@@ -37,13 +37,14 @@ use Rattle.vme_parts.proofs.SegmentLemmas.{tells_all}
 use Rattle.vme_parts.proofs.ToldFiles.{contained_at, drop_value}
 use Rattle.vme_parts.proofs.WholeFiles.{HasComeTo, come_first, come_on, files_more, found_all}
 
--- what ways show past a segment, whatever stood before
+-- if the runs are `before` after `steps` steps, and the tables of s agree with the steps after these, then the runs are
+-- `after` after both
 abbrev pub PastMarks : Ways → Ways → ℕ → SegmentValue → Type 0
 PastMarks before after steps s =
     (o v : Levels) (x y : List Step) → v ≡ levels_after o x → steps ≡ length x → length x + length y < 2 ^ 64
     → HasMarks before o x → TellsAll true s v y → HasMarks after o (x ++ y)
 
--- judging and the ways have come past the first of some segments, up to those that are left
+-- j and w are the states of judging and of the runs after the segments of s ∷ ss up to those in `left`
 pub record MarksTo (j : JudgedSegments) (w : Ways) (s : SegmentValue) (ss left : List SegmentValue) : Type 0 where
   pub come : (files : List Block) (end : ℕ) → AreFiles files → AllStand true files (s ∷ ss) → AreNext 0 (s ∷ ss) end
       → (n : ℕ) × HasComeTo j s.opening files n × AreNext n left end × HasMarks w s.opening
@@ -120,7 +121,7 @@ steps_of_recording (b ∷ bs) t is =
     let whole : record { opening = b.opening; steps = joined_steps (b ∷ bs) } ≡ t = cc in
     ap (λ (k : Trace). k.steps) whole
 
--- the marks of all of them are those of the recording
+-- if no segments are left, the marks of the runs are those of the recording
 pub marks_whole : (j : JudgedSegments) (w : Ways) (s : SegmentValue) (xs : List Segment) (i : ℕ) → length xs ≤ i
     → ((t : Trace) → malformed_step t ≡ None → t.opening.slots ≤ 21 → HasMarks w t.opening t.steps
     → marks_of_ways w ≡ all_marks t)
@@ -143,7 +144,7 @@ marks_whole j w s xs i h law was files end are stand next t is few =
       opens,
     )
 
--- what is listed of what judging came to
+-- if all files are judged, an answer by `ListsFiles` is true
 pub listing_told : (p : PartValue) (count : Option ℕ) (j : JudgedSegments) (what : ListingAnswer) → p.listing ≡ true
     → JudgesFiles p count (Ok j) → ListsFiles j p.segments what → DeterminesListingAnswer p count what
 listing_told p count j (listed.Listing l) marked judges lists files n are part has =

@@ -1,4 +1,4 @@
--- The marks that ways through segments show.
+-- The marks of runs through segments.
 use Rattle.std.proofs.Common.{◌≡◌, ℕ, ◌+◌, ◌<◌, ◌^◌, Bool, true, List, [], ◌∷◌, ◌++◌, length, map}
 use Rattle.std.proofs.Common.{ap}
 use Rattle.std.proofs.Common.{sym, ◌∙◌, Option, Some, None}
@@ -30,7 +30,7 @@ use Rattle.vme_part_listing.specs.declared.listing.Way.{Way}
 use Rattle.vme_summary.specs.declared.extent.Extent.{Extent}
 use Rattle.vme_parts.proofs.Runs.{IsRun}
 
--- a monitor's marks past some steps, and then past a segment
+-- if a monitor has the run w over the steps x, and the table t agrees with its runs over y, it has the run r over both
 pub past_way : {P : Type 0} (run : P → Levels → List Step → Outcome P) → IsRun run → (begin : Levels → P)
     (place : P → ℕ) (count : ℕ) (t : TableValue) (w r : Way) (o v : Levels) (x y : List Step) (steps : ℕ)
     → r.memory ≡ (outcome_in t w.memory).leaving
@@ -52,7 +52,7 @@ past_way {P} run law begin place count t w r o v x y steps memory marks opens co
       marks = ap (map mark_of) shown ∙ (both ∙ ap (λ (q : Outcome P). q.marks) (sym whole));
     }
 
--- the opening of the recording that judged files make
+-- the opening of the judged files is that of the recording that they make
 pub opened_so : (j : JudgedSegments) (e : Extent) (bs : List Block) (t : Trace) (o : Levels) → HasJudgedFiles j e bs → o
     ≡ e.opening
     → joined_trace bs ≡ Some t → o ≡ t.opening
@@ -63,7 +63,7 @@ opened_so j e (b ∷ bs) t o was same is =
     let whole : record { opening = b.opening; steps = joined_steps (b ∷ bs) } ≡ t = cc in
     same ∙ (sym own ∙ ap (λ (k : Trace). k.opening) whole)
 
--- the listing by what was found and shown is that of the recording
+-- the listing from the opening, the first break and the marks of a recording is its listing
 pub listed_so : (t : Trace) (judged : Bool) (first_break : Option Break) (o : Levels) (ms : List Mark) (l : Listed)
     → judged ≡ has_span (judged_spans t) → first_break ≡ first_break_of t → o ≡ t.opening → ms ≡ all_marks t
     → l ≡ in_newest_version (listed o judged first_break ms) → listing_of t ≡ l

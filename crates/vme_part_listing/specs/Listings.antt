@@ -1,4 +1,4 @@
--- What is listed of a recording by a part of it.
+-- The answers to listing a recording from a part of it.
 use Rattle.std.specs.Prelude.{◌≡◌, ℕ, List, take, Option, Some, false, true}
 use Rattle.vme_trace.specs.Trace.{Trace}
 use Rattle.vme_trace.specs.declared.block.Block.{Block}
@@ -11,19 +11,19 @@ use Rattle.vme_parts.specs.Telling.{AllCovered, HasFiles, IsRecordingAnswer}
 use Rattle.vme_part_listing.specs.declared.answers.ListingAnswer.{ListingAnswer}
 use Rattle.vme_part_listing.specs.declared.answers.ListingAnswer.TheVariants as listed
 
--- this is the listing of the recording that files make
+-- l is the listing of the recording that the files make
 abbrev pub IsListingOfFiles : List Block → Recorded → Type 0
 IsListingOfFiles files l =
     BlocksJoin files × ((t : Trace) → joined_trace files ≡ Some t → listing_of t ≡ l)
 
--- this is listed of a recording of so many files
+-- when an answer is true of a recording of n files
 abbrev pub IsListingAnswer : List Block → PartValue → ℕ → ListingAnswer → Type 0
 IsListingAnswer files p n (listed.Listing l) = AllCovered p n × (p.listing ≡ true) × IsListingOfFiles (take n files) l
 IsListingAnswer files p n (listed.Refused what) = IsRecordingAnswer files p n what
 IsListingAnswer files p n listed.Unmarked = p.listing ≡ false
 IsListingAnswer files p n listed.TooLong = AllCovered p n × (p.listing ≡ true)
 
--- whatever files it is a part of, this is listed of them
+-- whichever files p is a part of, the answer `what` is true of them
 abbrev pub DeterminesListingAnswer : PartValue → Option ℕ → ListingAnswer → Type 0
 DeterminesListingAnswer p count what =
     (files : List Block) (n : ℕ) → AreFiles files → IsPartOf files p → HasFiles p count n

@@ -1,4 +1,4 @@
--- The marks of the monitors on their ways through segments.
+-- The marks of the monitors' runs through segments.
 use Rattle.std.specs.Prelude.{◌≡◌, ℕ, ◌<◌, ◌≤◌, List, map, take, Some, true}
 use Rattle.vme_trace.specs.Levels.{Levels}
 use Rattle.vme_trace.specs.Trace.{Trace}
@@ -31,13 +31,13 @@ use Rattle.vme_parts.specs.Covering.{AreNext}
 use Rattle.vme_parts.specs.Files.{AllStand, AreFiles}
 use Rattle.vme_parts.specs.Progress.{FoundAll}
 
--- a monitor that began at an opening is, after some steps, in this memory, and has shown these marks
+-- w is the run, over the steps x, of a monitor that began at the opening o: its memory and its marks
 pub record HasWay {P : Type 0} (run : P → Levels → List Step → Outcome P) (begin : Levels → P) (place : P → ℕ) (w : Way)
     (o : Levels) (x : List Step) : Type 0 where
   pub leaving : w.memory ≡ place (run (begin o) o x).leaving
   pub marks : map mark_of w.marks.items ≡ (run (begin o) o x).marks
 
--- and so for each monitor
+-- w has the run of each monitor over the steps x, from the opening o
 pub record HasMarks (w : Ways) (o : Levels) (x : List Step) : Type 0 where
   pub known : HasWay known_run (start_in known_begin) (phase_place nil_place) w.known o x
   pub handshake : HasWay handshake_run (start_in dtb_begin) (phase_place memory_place) w.handshake o x
@@ -47,7 +47,7 @@ pub record HasMarks (w : Ways) (o : Levels) (x : List Step) : Type 0 where
       (phase_place acknowledgement_place) w.acknowledge o
       x
 
--- the memories are memories
+-- each memory is below the number of its monitor's memories
 pub record FitWays (w : Ways) : Type 0 where
   pub known : w.known.memory < 4
   pub handshake : w.handshake.memory < 147
@@ -55,7 +55,7 @@ pub record FitWays (w : Ways) : Type 0 where
   pub grant : w.grant.memory < 35
   pub acknowledge : w.acknowledge.memory < 11
 
--- the marks of all, in order
+-- the marks of all monitors, in order
 abbrev pub marks_of_ways : Ways → List Mark
 marks_of_ways w =
     merged (map mark_of w.known.marks.items)
@@ -63,14 +63,15 @@ marks_of_ways w =
     (merged (map mark_of w.stability.marks.items)
     (merged (map mark_of w.grant.marks.items) (map mark_of w.acknowledge.marks.items))))
 
--- these are the marks of the recording that files make, and this is its opening, whatever files segments stand for
+-- whichever files the segments ss stand for, the recording that these make has the opening o and the marks ms
 abbrev pub ShowsFiles : Levels → List SegmentValue → List Mark → Type 0
 ShowsFiles o ss ms =
     (files : List Block) (end : ℕ) → AreFiles files → AllStand true files ss → AreNext 0 ss end
     → (t : Trace) → joined_trace (take end files) ≡ Some t → t.opening.slots ≤ 21
     → (ms ≡ all_marks t) × (o ≡ t.opening)
 
--- this is listed of it, where judging has come past all of them
+-- whichever files the segments ss stand for, a listing is that of the recording that these make, where j is the state
+-- after judging them; of `TooLong` nothing is said, and there is no other answer
 abbrev pub ListsFiles : JudgedSegments → List SegmentValue → ListingAnswer → Type 0
 ListsFiles j ss (listed.Listing l) =
     (files : List Block) (end : ℕ) → AreFiles files → AllStand true files ss → AreNext 0 ss end

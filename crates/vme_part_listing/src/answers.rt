@@ -1,4 +1,4 @@
-//! What is listed of the whole recording.
+//! The answers to listing the whole recording.
 
 use vme_listing::Listing;
 use vme_parts::RecordingAnswer;
@@ -6,9 +6,9 @@ use vme_parts::RecordingAnswer;
 /// The listing of the whole recording, or why there is none.
 #[derive(Drop)]
 pub enum ListingAnswer {
-    /// It is this.
+    /// The listing.
     Listing(Listing),
-    /// This is told in place of a verdict.
+    /// There is no verdict, for this reason.
     Refused(RecordingAnswer),
     /// The part has no marks.
     Unmarked,

@@ -1,14 +1,15 @@
-//! The listing of a recording, by a part of it.
+//! The listing of a recording, from a part of it.
 //!
 //! # Parts of this crate
 //!
-//! - `listing`: [`tell_listing`] lists what a part says of the whole recording: the monitors' marks
-//!   on their ways through the segments, put in order. `answers` has what it answers.
+//! - `listing`: [`tell_listing`] lists the whole recording from a part with marks: the marks of the
+//!   monitors' runs through the segments, i.e. events of the bus with their instants, in order.
+//!   `answers` has its answers.
 //!
 //! # What is proved
 //!
-//! Whatever files a part is one of, the listing is that of the recording that they make, and what
-//! is told in its place is so (`DeterminesListingAnswer`).
+//! If a part is of the files of a recording, the listing is that of this recording, and an answer in
+//! its place is true (`DeterminesListingAnswer`).
 //!
 //! # What isn't proved
 //!

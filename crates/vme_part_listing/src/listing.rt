@@ -1,4 +1,4 @@
-//! The listing that a part with marks says.
+//! The listing from a part with marks.
 
 ghost use Rattle.std.specs.Prelude.{◌≡◌, ◌+◌, ◌<◌, ◌++◌, ◌∷◌, [], ◌^◌, All, IfOk, IfSome, List, OnOk, length, map};
 ghost use Rattle.std.specs.Prelude.{true};
@@ -32,7 +32,7 @@ use vme_parts::{JudgedSegments, judged};
 use vme_summary::listing_by;
 use vme_trace::{Break, Lines};
 
-/// A mark with an instant of 32 bits, if it has such.
+/// The mark with an instant of 32 bits, if its instant fits.
 fn narrow_mark(mark: &WideMark) -> Option<Mark>
     ensures { IfSome result (λ m. m ≡ mark_of mark.now) }
 {
@@ -45,7 +45,7 @@ fn narrow_mark(mark: &WideMark) -> Option<Mark>
     }
 }
 
-/// Marks with instants of 32 bits, if all have such.
+/// The marks with instants of 32 bits, if all instants fit.
 fn narrow(alloc: Global, marks: &[WideMark]) -> Result<Option<Vec<Mark>>, AllocError>
     ensures { IfOk result (λ found. IfSome found (λ v. v.items ≡ map mark_of marks.now)) }
 {
@@ -59,7 +59,7 @@ fn narrow(alloc: Global, marks: &[WideMark]) -> Result<Option<Vec<Mark>>, AllocE
     Ok(Some(all))
 }
 
-/// A break with an instant of 32 bits, if it has such.
+/// The break, if there is one, with an instant of 32 bits, if its instant fits.
 fn narrow_break(found: Option<WideBreak>) -> Option<Option<Break>>
     ensures { IfSome result (λ b. b ≡ option_map break_of found) }
 {
@@ -77,7 +77,7 @@ fn narrow_break(found: Option<WideBreak>) -> Option<Option<Break>>
     }
 }
 
-/// The marks of one monitor on its way through segments.
+/// The run of one monitor through segments: the memory (state) that it is in, and its marks so far.
 #[derive(Drop)]
 struct Way {
     memory: u32,
@@ -85,7 +85,7 @@ struct Way {
 }
 
 impl Way {
-    /// Past the table of a segment, before which so many steps were.
+    /// Runs through the table of a segment, where `steps` steps come before the segment.
     fn go_past(&mut self, table: &OutcomeTable, steps: u64) -> Result<(), AllocError>
         requires few { length table.now.entries.items < 2 ^ 32 }
         requires memory { self.old.memory < length table.now.entries.items }
@@ -100,7 +100,7 @@ impl Way {
     }
 }
 
-/// A monitor at the opening of a recording.
+/// The run of a monitor at the opening of a recording.
 fn begin<M: Finite>(alloc: Global, opening: &Lines) -> Way
     ensures memory { result.memory ≡ M.place_of (M.begin opening.now) }
     ensures low { result.memory < M.COUNT }
@@ -113,7 +113,7 @@ fn begin<M: Finite>(alloc: Global, opening: &Lines) -> Way
     }
 }
 
-/// The marks of all monitors on their ways.
+/// The runs of all monitors through segments.
 #[derive(Drop)]
 struct Ways {
     known: Way,
@@ -124,7 +124,7 @@ struct Ways {
 }
 
 impl Ways {
-    /// Before any step.
+    /// The runs before any step.
     fn at(alloc: Global, opening: &Lines) -> Ways
         ensures fit { FitWays result }
         ensures shows { HasMarks result opening.now [] }
@@ -138,7 +138,7 @@ impl Ways {
         }
     }
 
-    /// Past a segment, before which so many steps were.
+    /// Runs through a segment, where `steps` steps come before it.
     fn go_past(&mut self, segment: &Segment, steps: u64) -> Result<(), AllocError>
         requires fit { FitWays self.old }
         requires tables { HasTables (segment_value segment.now) }
@@ -155,7 +155,7 @@ impl Ways {
         Ok(())
     }
 
-    /// The marks of all, in order, if their instants have 32 bits.
+    /// The marks of all monitors, in order, if their instants fit in 32 bits.
     fn together(self, alloc: Global) -> Result<Option<Vec<Mark>>, AllocError>
         ensures { IfOk result (λ found. IfSome found (λ v. v.items ≡ marks_of_ways self)) }
     {
@@ -182,14 +182,15 @@ impl Ways {
     }
 }
 
-/// How many steps judging has come past.
+/// How many steps were judged.
 fn step_count(judging: &JudgedSegments) -> u64
     ensures { result ≡ judging.now.steps }
 {
     judging.steps
 }
 
-/// The marks of a segment and of those that follow it, in order, if their instants have 32 bits.
+/// The marks of the runs through `first` and then `rest`, in order. `None` if an instant doesn't fit in 32 bits, or
+/// judging stops.
 fn marks_from(
     alloc: Global,
     first: &Segment,
@@ -212,7 +213,7 @@ fn marks_from(
         let steps = judging.steps;
         match judging.go_past(segment) {
             Ok(()) => {
-                // they have 64 bits
+                // the steps fit in 64 bits
                 let _after = step_count(&judging);
                 ways.go_past(segment, steps)?
             }
@@ -222,7 +223,7 @@ fn marks_from(
     ways.together(alloc)
 }
 
-/// The listing of a recording past whose segments judging has come.
+/// The listing of a recording whose segments, `first` and then `rest`, were judged.
 fn listing_from(
     alloc: Global,
     judging: &JudgedSegments,
@@ -252,7 +253,7 @@ fn listing_from(
     Ok(ListingAnswer::Listing(listing))
 }
 
-/// The listing of a recording past all of whose segments judging has come.
+/// The listing of a recording whose segments were all judged.
 fn list_all(
     alloc: Global,
     judging: &JudgedSegments,
@@ -268,7 +269,8 @@ fn list_all(
     }
 }
 
-/// The listing that a part with marks says of a recording of so many files, or of those up to the last that is covered.
+/// The listing, from a part with marks, of a recording of `files` files or, if `files` is `None`, of those up to the
+/// last that is covered.
 pub fn tell_listing(
     alloc: Global,
     part: &Part,

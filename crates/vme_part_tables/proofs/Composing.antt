@@ -1,4 +1,4 @@
--- What a table of two says.
+-- The outcomes of a composition of two tables.
 use Rattle.std.proofs.Common.{inl, inr, ◌≡◌, ℕ, suc, ◌+◌, ◌-◌, ◌<◌, ◌≤◌, List, []}
 use Rattle.std.proofs.Common.{◌∷◌, ◌++◌}
 use Rattle.std.proofs.Common.{length, map, get_or, Option, Some, None, refl, ap, sym, subst, ◌∙◌, arith, append_assoc}
@@ -28,18 +28,18 @@ module _ (es : List TableEntry) (bs : List NodeValue) (steps : ℕ) where
   abbrev m : ℕ
   m = length es
 
-  -- what the second table says of a memory
+  -- the outcome of the second table for the memory w
   abbrev second_says : ℕ → WayOutcome
   second_says w = behind_break (entry_of es w).first_break (walked m bs (entry_of es w).next)
 
-  -- both, from a way through nodes of the first
+  -- the outcome of the first table from the way w, with the break `ev` before it, followed by that of the second
   abbrev both_say : List NodeValue → ℕ → Option WideBreak → WayOutcome
   both_say ns w ev = let a = behind_break ev (walked m ns w) in gone_on steps a (second_says a.leaving)
 
   abbrev nodes_of_both : List NodeValue → List NodeValue
   nodes_of_both ns = nodes_on es steps ns ++ map (later_node steps) bs
 
-  -- what the table of both says from there
+  -- the outcome of the composition from the same way
   abbrev says_on : List NodeValue → ℕ → Option WideBreak → WayOutcome
   says_on ns w ev = behind_break (first_break_on es steps w ev) (walked m (nodes_of_both ns) (next_on es (length ns) w))
 
@@ -59,7 +59,7 @@ module _ (es : List TableEntry) (bs : List NodeValue) (steps : ℕ) where
   first_break_past : (w : ℕ) (ev : Option WideBreak) → m ≤ w → first_break_on es steps w ev ≡ ev
   first_break_past w ev h = rw (le-ltb w m h) refl
 
-  -- a way that ends in a memory of the first
+  -- if w is a memory of the first table, the composition continues as the second does from w
   walked_second : (ns : List NodeValue) (w : ℕ) → w < m → ((entry_of es w).next < m) ⊎ (m ≤ (entry_of es w).next)
       → walked m (nodes_of_both ns) (next_on es (length ns) w)
       ≡ later_outcome steps (walked m bs (entry_of es w).next)
@@ -133,7 +133,7 @@ module _ (es : List TableEntry) (bs : List NodeValue) (steps : ℕ) where
             walked_past m n ns w k,
           ) on
 
--- a way ends in a memory
+-- each run ends in a memory
 pub walked_leaving : (m : ℕ) (ns : List NodeValue) (w : ℕ) → NodesGoOn m ns → w < m + length ns
     → (walked m ns w).leaving < m
 walked_leaving m [] w g h = omega arith
@@ -154,7 +154,7 @@ outcome_at t k e h = rw h refl
 outcome_past : (t : TableValue) (k : ℕ) → slice_get t.entries k ≡ None → outcome_in t k ≡ ended_in k
 outcome_past t k h = rw h refl
 
--- what holds of each entry
+-- what holds of each entry holds of the entry e with the index k
 of_entry : (P : TableEntry → Type 0) (es : List TableEntry) (k : ℕ) (e : TableEntry) → All P es → k < length es
     → get_or es k e ≡ e → P e
 of_entry P es k e all h same = subst P same (all k e h)

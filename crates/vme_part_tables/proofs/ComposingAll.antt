@@ -1,4 +1,4 @@
--- What is composed and pruned says both.
+-- The composition of two tables, when pruned, has the outcomes of both, one after the other.
 use Rattle.std.proofs.Common.{ℕ, ◌+◌, ◌∙◌, arith}
 use Rattle.vme_part_format.specs.Tables.{TableValue}
 use Rattle.vme_part_tables.specs.Composed.{CanCompose, table_on}

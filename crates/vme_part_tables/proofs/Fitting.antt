@@ -1,4 +1,4 @@
--- What is made of tables that can be written can be written.
+-- The composition of tables that can be written can be written.
 use Rattle.std.proofs.Common.{inl, inr, ◌≡◌, ℕ, ◌+◌, ◌<◌, ◌≤◌, ◌^◌, Bool, true, false, List, [], ◌∷◌}
 use Rattle.std.proofs.Common.{◌++◌, length, map}
 use Rattle.std.proofs.Common.{get_or, Option, Some, None, refl, ap, subst, ◌∙◌, arith}
@@ -20,7 +20,7 @@ use Rattle.vme_part_tables.specs.Composed.{CanCompose, entry_of, entry_on, first
 use Rattle.vme_part_tables.specs.Composed.{nodes_on, table_on}
 use Rattle.vme_part_tables.proofs.Composing.{composed_memories, composed_ways}
 
--- a table that can be written has ways
+-- in a table that can be written each node continues with a memory or a node after it
 nodes_have_ways : (count steps : ℕ) (ns : List NodeValue) → FitNodes count steps ns → NodesGoOn count ns
 nodes_have_ways count steps [] f = tt
 nodes_have_ways count steps (n ∷ ns) f = (f.0.next, nodes_have_ways count steps ns f.1)
@@ -101,7 +101,7 @@ module _ (steps more : ℕ) (fits : steps + more < 2 ^ 64) where
 
   module _ (listing : Bool) (count : ℕ) (a b : TableValue) (f : FitsTable listing count steps a)
       (g : FitsTable listing count more b) (c : CanCompose a b) where
-    -- the break where a way goes on
+    -- the break of the entry w of the second table is within the bounds
     break_at : (w : ℕ) → IfSome (entry_of b.entries w).first_break (FitsBreak more)
     break_at w = by_place (slice_get_cases b.entries w).1
       where

@@ -1,4 +1,4 @@
--- What is pruned can be written, if it could before.
+-- If a table can be written, it can be written when pruned.
 use Rattle.std.proofs.Common.{◌≡◌, ℕ, ◌<◌, Bool, true, false, List, [], ◌∷◌, ◌++◌, length, map, refl}
 use Rattle.std.proofs.Common.{ap}
 use Rattle.std.proofs.Common.{subst, ◌∙◌, Some}

@@ -1,4 +1,4 @@
--- A table of two tells of the run over the steps of both.
+-- A table with the outcomes of two agrees with the run over the steps of both.
 use Rattle.std.proofs.Common.{◌≡◌, ℕ, ◌+◌, ◌<◌, ◌≤◌, ◌^◌, Bool, true, false, List, [], ◌∷◌, ◌++◌, map, Option}
 use Rattle.std.proofs.Common.{Some, None}
 use Rattle.std.proofs.Common.{refl, ap, ◌∙◌, arith}

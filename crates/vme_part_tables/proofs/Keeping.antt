@@ -14,7 +14,7 @@ use Rattle.vme_part_tables.specs.Ways.{NodesGoOn}
 use Rattle.vme_part_tables.specs.Pruned.{IsKept, KeptGoOn, node_kept, nodes_kept}
 use Rattle.vme_part_tables.proofs.Stepping.{same_within}
 
--- one more is kept, and those that were
+-- setting the item i of xs to `true` leaves each item that is `true`
 pub set_kept : (xs : List Bool) (i k : ℕ) → i < length xs → get_or xs k false ≡ true → get_or (set xs i true) k false
     ≡ true
 set_kept xs i k h e = by_order (cases_order k i)
@@ -39,7 +39,7 @@ module _ (m : ℕ) where
   pub kept_memory : (xs : List Bool) (w : ℕ) → w < m → IsKept m xs w
   kept_memory xs w h past = absurd (omega arith)
 
-  -- behind a node
+  -- the way w, which counts the nodes after the node k, leads to a kept node
   pub kept_from : (xs : List Bool) (k w : ℕ) → suc k + (w - m) < length xs → get_or xs (suc k + (w - m)) false ≡ true
       → IsKept m (drop (suc k) xs) w
   kept_from xs k w h e past =
@@ -75,7 +75,7 @@ module _ (m : ℕ) where
   kept_go_on (b ∷ bs) (n ∷ ns) l each =
       (λ e. each zero n (omega arith) e, kept_go_on bs ns (omega arith) (λ k d h e. each (suc k) d (omega arith) e))
 
-  -- one node more is looked at
+  -- the loop invariant holds after one more node: each kept node before p + 1 continues with a memory or a kept node
   pub kept_one_more : (xs ys : List Bool) (ns : List TableNode) (p : ℕ) (n : TableNode) → n ≡ get_or ns p n
       → p < length ns → length ys ≡ length xs
       → ((k : ℕ) → get_or xs k false ≡ true → get_or ys k false ≡ true)
@@ -106,7 +106,7 @@ module _ (m : ℕ) where
   kept_at (b ∷ bs) (n ∷ ns) zero d g l h e = g.0 e
   kept_at (b ∷ bs) (n ∷ ns) (suc k) d g l h e = kept_at bs ns k d g.1 (omega arith) (omega arith) e
 
--- from a node on
+-- the kept nodes from the node p on
 module _ (m : ℕ) (xs : List Bool) (ns : List TableNode) (p : ℕ) (n : TableNode) (within : p < length ns)
     (as_many : length xs ≡ length ns) (is : n ≡ get_or ns p n) where
   node_there : drop p ns ≡ n ∷ drop (suc p) ns
@@ -125,7 +125,7 @@ module _ (m : ℕ) (xs : List Bool) (ns : List TableNode) (p : ℕ) (n : TableNo
       ≡ nodes_kept m (drop (suc p) xs) (map node_value (drop (suc p) ns))
   node_is_dropped e = rw (flag_there false e, node_there) refl
 
--- the last of the first nodes
+-- the node that is popped from the first l nodes is that with the index l - 1
 popped : (xs ys : List TableNode) (l p : ℕ) (n : TableNode) → ys ≡ take l xs → l ≤ length xs → p + 1 ≡ l
     → Some n ≡ Some (get_or ys (l - 1) n) → n ≡ get_or xs p n
 popped xs ys l p n front few e last =

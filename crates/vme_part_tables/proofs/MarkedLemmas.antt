@@ -1,4 +1,4 @@
--- What is said through nodes in the order in which they are made.
+-- The outcomes through nodes that are in the order in which they are made.
 use Rattle.std.proofs.Common.{inl, inr, ◌≡◌, ℕ, zero, suc, ◌+◌, ◌-◌, ◌^◌, ◌<◌, ◌≤◌, get_or, Bool, true, List, []}
 use Rattle.std.proofs.Common.{◌∷◌, ◌++◌, length, map, reverse}
 use Rattle.std.proofs.Common.{Option, Some, None, refl, ap, sym, subst, ◌∙◌, arith, length-append, append-nil}
@@ -43,7 +43,7 @@ module _ (m : ℕ) where
       by_place (inl i) = rw (turned_memory k w i) h
       by_place (inr i) = rw (turned_node k w i) (omega arith)
 
-  -- one more node leaves what is said from others
+  -- one more node doesn't change the outcome from the ways there were before
   pub says_still : (made : List NodeValue) (n : NodeValue) (ev : Option WideBreak) (w : ℕ) → w < m + length made
       → made_says m (made ++ n ∷ []) ev w ≡ made_says m made ev w
   says_still made n ev w h = by_place (cases_lt w m)
@@ -67,7 +67,7 @@ module _ (m : ℕ) where
           let e : turned m (length made) w + 1 - 1 ≡ turned m (length made) w = omega arith in
           rw (to, reverse_one made n, walked_past m n (reverse made) (turned m (length made) w + 1) past, e) refl
 
-  -- and from it
+  -- the outcome from the new node is its marks and its break, and then the outcome from its `next`
   pub says_new : (made : List NodeValue) (n : NodeValue)
       → made_says m (made ++ n ∷ []) None (m + length made)
       ≡ behind_marks n.marks (behind_break n.first_break (walked m (reverse made) n.next))
@@ -87,7 +87,7 @@ break_or : (a b : Option WideBreak) → option_map break_of (option_or a b)
 break_or None b = refl
 break_or (Some a) b = refl
 
--- a break is said before what follows
+-- `behind_break` adds a break before the outcome w
 pub says_break : (ev : Option WideBreak) (w : WayOutcome) → SaysBehind (option_map break_of ev) [] w (behind_break ev w)
 says_break ev w = record { leaving = refl; first_break = break_or ev w.first_break; marks = refl }
 
@@ -100,7 +100,7 @@ says_marks ev ws ms w e =
       marks = map-append mark_of ws w.marks ∙ ap (λ k. k ++ map mark_of w.marks) e;
     }
 
--- nothing but a break before a way
+-- without marks, the break alone is added before the outcome from w
 pub through_nothing : (m : ℕ) (made : List NodeValue) (ev on : Option WideBreak) (w : ℕ)
     → SaysBehind (option_map break_of ev) [] (made_says m made on w) (made_says m made (option_or ev on) w)
 through_nothing m made ev on w =
@@ -108,7 +108,7 @@ through_nothing m made ev on w =
     (sym (behind_two ev on (walked m (reverse made) (turned m (length made) w))))
     (says_break ev (made_says m made on w))
 
--- a new node before a way
+-- with marks, the new node adds the break and the marks before the outcome from w
 pub through_node : (m : ℕ) (made : List NodeValue) (n : NodeValue) (ev on : Option WideBreak) (w : ℕ) (ms : List Mark)
     → n.first_break ≡ option_or ev on → n.next ≡ turned m (length made) w → map mark_of n.marks ≡ ms
     → SaysBehind (option_map break_of ev) ms (made_says m made on w)
@@ -128,7 +128,7 @@ earlier_none : (e : Option Break) → earlier e None ≡ e
 earlier_none None = refl
 earlier_none (Some b) = refl
 
--- a memory says its own run
+-- an outcome r with the break `ev` and the marks ms that ends in the memory p agrees with this run
 pub row_tells : {P : Type 0} (place : P → ℕ) (m : ℕ) (made : List NodeValue) (p : P) (ev : Option Break)
     (ms : List Mark)
     (r : WayOutcome) → place p < m → SaysBehind ev ms (made_says m made None (place p)) r
@@ -140,7 +140,7 @@ row_tells place m made p ev ms r h s =
     let s = subst (λ w. SaysBehind ev ms w r) ends s in
     record { leaving = s.leaving; first_break = s.first_break ∙ earlier_none ev; marks = s.marks ∙ append-nil ms }
 
--- where places go on, and one more
+-- one more item doesn't change the items before it
 pub onward_before : (os : List Onward) (o : Onward) (k : ℕ) → k < length os
     → onward_at (os ++ o ∷ []) k ≡ onward_at os k
 onward_before [] o k h = absurd (omega arith)
@@ -160,7 +160,7 @@ map_reverse f (x ∷ xs) =
     ∙ (map-append f (reverse xs) (x ∷ [])
     ∙ (ap (λ k. k ++ f x ∷ []) (map_reverse f xs) ∙ sym (reverse-append (f x ∷ []) (map f xs))))
 
--- a node that was pushed
+-- the values of the nodes after a node was pushed
 module _ (m : ℕ) (old new : List TableNode) (n : TableNode) (pushed : new ≡ old ++ n ∷ []) where
   values : map node_value new ≡ map node_value old ++ node_value n ∷ []
   values = ap (map node_value) pushed ∙ map-append node_value old (n ∷ [])
@@ -190,7 +190,7 @@ module _ (m : ℕ) (old new : List TableNode) (n : TableNode) (pushed : new ≡ 
       subst (SaysBehind (option_map break_of ev) ms (made_says m made on w)) (sym to)
       (through_node m made (node_value n) ev on w ms first_break (next ∙ ap (λ j. turned m j w) (sym many)) marks)
 
--- the table of nodes that were made
+-- the table of the nodes in `made`, with the entries es
 module _ (m : ℕ) (made ns : List NodeValue) (onward : List Onward) (es : List TableEntry) (some : 0 < m)
     (few : m + length made < 2 ^ 32) (g : MadeGoOn m made) (ways : AreMade m made onward) (count : length es ≡ m)
     (entries : (k : ℕ) → k < m → slice_get es k ≡ Some (entry_made m (length made) (onward_at onward k)))
@@ -234,11 +234,11 @@ pub no_marks : (ms : List Mark) → eqb (length ms) 0 ≡ true → ms ≡ []
 no_marks [] e = refl
 no_marks (m ∷ ms) e = let none = eqb-true (length (m ∷ ms)) 0 e in absurd (omega arith)
 
--- one place more goes on
 all_one : (P : Onward → Type 0) (o : Onward) → P o → All P (o ∷ [])
 all_one P o p zero d h = p
 all_one P o p (suc k) d h = absurd (omega arith)
 
+-- `AreMade` holds with one more item
 module _ (m : ℕ) (first new : List TableNode) (os ps : List Onward) (o : Onward) (pushed : ps ≡ os ++ o ∷ [])
     (ways : AreMade m (map node_value first) os) (more : length first ≤ length new) (way : o.way < m + length new) where
   pub made_step : AreMade m (map node_value new) ps
@@ -250,7 +250,7 @@ module _ (m : ℕ) (first new : List TableNode) (os ps : List Onward) (o : Onwar
       (All-append P os (o ∷ []) (λ k d h. let low = ways k d h in omega (arith, low, a, b, more))
       (all_one P o (omega (arith, b, way))))
 
--- a place that is there
+-- the way of an item k below the length is below m + length made
 pub onward_made : (m : ℕ) (made : List NodeValue) (os : List Onward) (k : ℕ) → AreMade m made os → k < length os
     → (onward_at os k).way < m + length made
 onward_made m made os k ways h = by_place (slice_get_cases os k).1
@@ -262,7 +262,7 @@ onward_made m made os k ways h = by_place (slice_get_cases os k).1
         rw e (subst (λ (x : Onward). x.way < m + length made) there.3 (ways k there.0 there.1))
     by_place (inr past) = absurd (omega arith)
 
--- one that may not be there
+-- the way of any item k, even the default one, is below m + length made
 pub onward_low : (m : ℕ) (made : List NodeValue) (os : List Onward) (k : ℕ) → 0 < m → AreMade m made os
     → (onward_at os k).way < m + length made
 onward_low m made os k some ways = by_place (slice_get_cases os k).1
@@ -279,7 +279,7 @@ Stays m first new =
     (ev : Option WideBreak) (w : ℕ) → w < m + length first
     → made_says m (map node_value new) ev w ≡ made_says m (map node_value first) ev w
 
--- a memory more
+-- the loop invariant holds after one more memory, with the number i
 pub memory_step : {P : Type 0} (place : P → ℕ) (m : ℕ) (first new : List TableNode) (os ps : List Onward) (o : Onward)
     (says : ℕ → Outcome P) (i : ℕ) → ps ≡ os ++ o ∷ [] → length os ≡ i → AreMade m (map node_value first) os
     → Stays m first new → TellsRun true place (says_at m (map node_value new) o) (says i)
@@ -303,7 +303,7 @@ memory_step place m first new os ps o says i pushed count ways stays here below 
         subst (λ w. TellsRun true place w (says k)) (sym (ap (says_at m (map node_value new)) at))
         (subst (λ j. TellsRun true place (says_at m (map node_value new) o) (says j)) same here)
 
--- a table that says of each memory what is said from its place
+-- if each item of `onward` gives the run of its memory, the table agrees with the runs of all memories
 pub marked_tells : {P : Type 0} (place : P → ℕ) (nth : ℕ → P) (count : ℕ) (made : List NodeValue)
     (onward : List Onward) (needs : List Bool) (says : P → Outcome P) (t : TableValue) → ((p : P) → place p < count)
     → ((p : P) → nth (place p) ≡ p)

@@ -1,4 +1,4 @@
--- The memories that a table leaves are noted, and the marks of others left out.
+-- The memories in which a table ends are marked as needed, and the marks of the others are left out.
 use Rattle.std.proofs.Common.{inl, inr, ◌≡◌, ℕ, zero, suc, ◌+◌, ◌<◌, ◌≤◌, Bool, true, false, List, [], ◌∷◌, get_or}
 use Rattle.std.proofs.Common.{length, Option, None, ap, subst, sym, refl, arith}
 use Rattle.std.specs.Prelude.{◌⊎◌}
@@ -12,7 +12,7 @@ use Rattle.vme_part_tables.specs.Marked.{if_needed, is_needed}
 use Rattle.vme_part_tables.specs.Ways.{HasWays, WayOutcome, ended_in, from_entry, outcome_in}
 use Rattle.vme_part_tables.proofs.Composing.{walked_leaving}
 
--- a table leaves one of its memories
+-- a run of a table ends in one of its memories
 pub leaves_one : (t : TableValue) (k : ℕ) → HasWays t → k < length t.entries
     → (outcome_in t k).leaving < length t.entries
 leaves_one t k p h =
@@ -23,7 +23,7 @@ leaves_one t k p h =
     let left = walked_leaving (length t.entries) t.nodes e.next p.nodes (p.entries k d h) in
     subst (λ (w : WayOutcome). w.leaving < length t.entries) (sym at) left
 
--- one more is noted
+-- the loop invariant holds after the memory in which the run from n ends is marked
 pub noted_more : (t : TableValue) (old new : List Bool) (n : ℕ)
     → ((k : ℕ) → get_or old k false ≡ true → get_or new k false ≡ true)
     → get_or new (outcome_in t n).leaving false ≡ true
@@ -37,13 +37,13 @@ noted_more t old new n more here before k h = by_place (cases_lt k n)
         let same : n ≡ k = omega arith in
         subst (λ j. get_or new (outcome_in t j).leaving false ≡ true) same here
 
--- what is noted is needed
+-- a memory that is marked is needed
 pub is_noted : (needs : List Bool) (k : ℕ) → get_or needs k false ≡ true → is_needed needs k ≡ true
 is_noted [] k e = absurd (cc)
 is_noted (b ∷ bs) zero e = e
 is_noted (b ∷ bs) (suc k) e = is_noted bs k e
 
--- what is told of a run where its marks are needed is all of it
+-- if the marks are needed, `if_needed` is the whole run
 pub whole_needed : {P : Type 0} (b : Bool) (o : Outcome P) → b ≡ true → if_needed b o ≡ o
 whole_needed b o e = rw e refl
 

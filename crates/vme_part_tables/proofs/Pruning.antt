@@ -1,4 +1,4 @@
--- What a table says without the nodes that no way reaches.
+-- The outcomes of a table without the nodes that no run reaches.
 use Rattle.std.proofs.Common.{inl, inr, ◌≡◌, ℕ, zero, suc, ◌+◌, ◌-◌, ◌<◌, ◌≤◌, Bool, true, false, cond}
 use Rattle.std.proofs.Common.{List, [], ◌∷◌, ◌++◌}
 use Rattle.std.proofs.Common.{length, map, take, drop, get_or, Some, None, refl, ap, sym, subst, ◌∙◌, arith}
@@ -29,7 +29,7 @@ kept_cons b bs = sum_by-cons (λ (b : Bool). cond b 1 0) b bs
 pub kept_append : (xs ys : List Bool) → kept_count (xs ++ ys) ≡ kept_count xs + kept_count ys
 kept_append xs ys = sum_by-append (λ (b : Bool). cond b 1 0) xs ys
 
--- how many are kept from a node on, up to another
+-- two counts differ by how many of the `more` nodes from the node `from` on are kept
 pub counts_between : (keeps : List Bool) (counts : List ℕ) (from more : ℕ) → AreCounts keeps counts
     → from + more < length keeps
     → get_or counts (from + more) 0 ≡ get_or counts from 0 + kept_count (take more (drop from keeps))
@@ -46,7 +46,7 @@ module _ (m : ℕ) where
   pub next_node : (bs : List Bool) (w : ℕ) → m ≤ w → next_kept m bs w ≡ m + kept_count (take (w - m) bs)
   next_node bs w h = rw (le-ltb w m h) refl
 
-  -- at a node that is kept
+  -- the way m, to the first node, is m among the kept nodes too
   next_first : (bs : List Bool) → next_kept m bs m ≡ m
   next_first bs =
       let e : m - m ≡ 0 = omega arith in
@@ -69,7 +69,7 @@ module _ (m : ℕ) where
   next_at_least : (bs : List Bool) (w : ℕ) → m ≤ w → m ≤ next_kept m bs w
   next_at_least bs w h = rw (next_node bs w h) (omega arith)
 
-  -- what is kept behind one node
+  -- a way past the first node that leads to a kept node does so among the nodes after the first
   kept_behind : (b : Bool) (bs : List Bool) (w : ℕ) → m < w → IsKept m (b ∷ bs) w → IsKept m bs (w - 1)
   kept_behind b bs w h k _ =
       let e : w - m ≡ suc (w - 1 - m) = omega arith in
@@ -134,7 +134,7 @@ module _ (m : ℕ) where
       by_order more w k (inr (inr h)) =
           rw (next_dropped bs w h, walked_past m n ns w h) (more (w - 1) (kept_behind false bs w h k))
 
-  -- how many are kept
+  -- the kept nodes are as many as `keeps` says
   pub length-nodes_kept : (bs : List Bool) (ns : List NodeValue) → length bs ≡ length ns
       → length (nodes_kept m bs ns) ≡ kept_count bs
   length-nodes_kept [] ns l = refl

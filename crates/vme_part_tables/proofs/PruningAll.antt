@@ -1,4 +1,4 @@
--- A table without the nodes that no way reaches is a pruned one.
+-- A table without the nodes that no run reaches is pruned.
 use Rattle.std.proofs.Common.{◌≡◌, ℕ, Bool, List, length, map, ap, subst, ◌∙◌}
 use Rattle.vme_part_format.specs.Tables.{NodeValue, TableValue}
 use Rattle.vme_part_format.specs.declared.table.TableEntry.{TableEntry}

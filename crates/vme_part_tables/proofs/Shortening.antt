@@ -1,4 +1,4 @@
--- Nodes that take in others say the same.
+-- Merging nodes doesn't change the outcomes.
 use Rattle.std.proofs.Common.{inl, inr, ◌≡◌, ℕ, zero, suc, ◌+◌, ◌-◌, ◌<◌, ◌≤◌, ◌^◌, Bool, true, false, List, [], ◌∷◌}
 use Rattle.std.proofs.Common.{◌++◌}
 use Rattle.std.proofs.Common.{length, map, get_or, set, Option, Some, None, refl, ap, sym, subst, ◌∙◌, arith}
@@ -22,9 +22,9 @@ use Rattle.vme_part_tables.specs.Ways.{HasWays, NodesGoOn, WayOutcome, behind_br
 use Rattle.vme_part_tables.specs.Ways.{outcome_in, walked}
 use Rattle.vme_part_tables.proofs.Walking.{walked_here, walked_memory, walked_past}
 
--- ---- what is said
+-- ---- outcomes
 
--- behind one node
+-- `next_past` past one node gives the outcome from w among the nodes after it
 past_one : (m w : ℕ) (x : NodeValue) (xs : List NodeValue) → walked m (x ∷ xs) (next_past m 0 w) ≡ walked m xs w
 past_one m w x xs = by_place (cases_lt w m)
   where
@@ -34,7 +34,7 @@ past_one m w x xs = by_place (cases_lt w m)
         let e : w + (0 + 1) - 1 ≡ w = omega arith in
         rw (le-ltb w m h) (walked_past m x xs (w + (0 + 1)) (omega arith) ∙ ap (walked m xs) e)
 
--- and one more
+-- `next_past` past d + 2 nodes gives the outcome past d + 1 nodes among those after the first
 past_more : (m d w : ℕ) (x : NodeValue) (xs : List NodeValue)
     → walked m (x ∷ xs) (next_past m (suc d) w) ≡ walked m xs (next_past m d w)
 past_more m d w x xs = by_place (cases_lt w m)
@@ -45,7 +45,7 @@ past_more m d w x xs = by_place (cases_lt w m)
         let e : w + (suc d + 1) - 1 ≡ w + (d + 1) = omega arith in
         rw (le-ltb w m h) (walked_past m x xs (w + (suc d + 1)) (omega arith) ∙ ap (walked m xs) e)
 
--- what is said from a node
+-- the outcome from the node j with the index d
 walked_at : (m : ℕ) (ns : List NodeValue) (d : ℕ) (j : NodeValue) → d < length ns → get_or ns d j ≡ j
     → walked m ns (m + d) ≡ behind_marks j.marks (behind_break j.first_break (walked m ns (next_past m d j.next)))
 walked_at m [] d j h e = absurd (omega (arith, h))
@@ -89,7 +89,7 @@ taken_here m n j xs d next h e w = by_order w (cases_order w m)
     by_order w (inr (inr above)) =
         walked_past m (node_with m d n j) xs w above ∙ sym (walked_past m n xs w above)
 
--- behind a node that stays
+-- if ys has the outcomes of xs, it has them with a node x before both
 over_one : (m : ℕ) (x : NodeValue) (xs ys : List NodeValue) → ((w : ℕ) → walked m ys w ≡ walked m xs w) → (w : ℕ)
     → walked m (x ∷ ys) w ≡ walked m (x ∷ xs) w
 over_one m x xs ys same w = by_order w (cases_order w m)
@@ -116,7 +116,7 @@ taken_says m (x ∷ xs) (suc i) (suc k) d n j at e h f next w =
     over_one m x xs (set xs i (node_with m d n j))
     (λ v. taken_says m xs i k d n j (omega (arith, at)) e (omega (arith, h)) f next v) w
 
--- ---- where nodes go on
+-- ---- with what nodes continue
 
 goes_on_at : (m : ℕ) (ns : List NodeValue) (d : ℕ) (j : NodeValue) → NodesGoOn m ns → d < length ns → get_or ns d j ≡ j
     → j.next + (d + 1) < m + length ns ⊎ (j.next < m)
@@ -245,7 +245,7 @@ same_taken m ns place between may g =
       says = λ w. taken_says m ns place k between n j refl e h f may.next w;
     }
 
--- where the taken node goes on has a number of 32 bits
+-- the way of the merged node fits in 32 bits
 pub next_fits : (m : ℕ) (ns : List NodeValue) (place between : ℕ) (may : MayTakeIn m ns place between) → NodesGoOn m ns
     → m + length ns < 2 ^ 32 → m ≤ may.behind.next → may.behind.next + (between + 1) < 2 ^ 32
 next_fits m ns place between may g few past =
@@ -402,7 +402,7 @@ module _ (t : TableValue) (ms : List NodeValue) (h : HasWays t) (s : SayTheSame 
         outcomes = others_say;
       }
 
--- one after the other
+-- `IsPruned` is transitive
 pub pruned_again : (t u v : TableValue) → IsPruned t u → IsPruned u v → IsPruned t v
 pruned_again t u v p q =
     record {

@@ -8,7 +8,7 @@ use Rattle.std.proofs.lemmas.List.{get_or-drop, length-map, map-append, take_mor
 use Rattle.std.proofs.lemmas.Option.{slice_get-get_or}
 use Rattle.vme_part_tables.specs.Composed.{map_rest}
 
--- what is left starts with the same element
+-- if two lists are equal from index i on, their items i are equal
 pub same_at : {A : Type 0} (xs ys : List A) (i : ℕ) (d : A) → drop i xs ≡ drop i ys → get_or ys i d ≡ get_or xs i d
 same_at {A} xs ys i d e = rw add-zero at (sym (get_or-drop i ys 0 d) ∙ (sym (ap (λ (l : List A). get_or l 0 d) e)
     ∙ get_or-drop i xs 0 d))

@@ -1,4 +1,4 @@
--- Walks through nodes.
+-- Runs through nodes.
 use Rattle.std.proofs.Common.{inl, inr, ◌≡◌, ℕ, suc, ◌+◌, ◌-◌, ◌<◌, ◌≤◌, true, false, eqb, List, []}
 use Rattle.std.proofs.Common.{◌∷◌, ◌++◌}
 use Rattle.std.proofs.Common.{length, map, Option, Some, None, refl, ap, sym, ◌∙◌, arith}
@@ -32,7 +32,7 @@ pub walked_past : (m : ℕ) (n : NodeValue) (ns : List NodeValue) (w : ℕ) → 
     → walked m (n ∷ ns) w ≡ walked m ns (w - 1)
 walked_past m n ns w h = rw (le-ltb w m (omega arith), other_number w m h) refl
 
--- over nodes that are passed
+-- a way past the nodes fs gives the same outcome as without them
 pub walked_over : (m : ℕ) (fs ns : List NodeValue) (w : ℕ) → m ≤ w
     → walked m (fs ++ ns) (w + length fs) ≡ walked m ns w
 walked_over m [] ns w h = let e : w + 0 ≡ w = omega arith in ap (walked m ns) e
@@ -68,7 +68,7 @@ walked_later m by (n ∷ ns) w = by_order (walked_later m by ns) w (cases_order 
         walked_past m (later_node by n) (map (later_node by) ns) w h
         ∙ (more (w - 1) ∙ sym (ap (later_outcome by) (walked_past m n ns w h)))
 
--- breaks one behind another
+-- `behind_break` of two breaks in turn is that of the first of the two
 pub behind_two : (a b : Option WideBreak) (r : WayOutcome)
     → behind_break (option_or a b) r ≡ behind_break a (behind_break b r)
 behind_two None b r = refl

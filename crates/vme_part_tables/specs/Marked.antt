@@ -1,4 +1,4 @@
--- A table with marks of what a monitor's summary says.
+-- A table with marks, made from a monitor's summary.
 use Rattle.std.specs.Prelude.{◌≡◌, ℕ, ◌+◌, ◌-◌, ◌<◌, Bool, true, false, List, [], ◌++◌, All, Option, None, length}
 use Rattle.std.specs.Prelude.{map, reverse}
 use Rattle.std.specs.Prelude.{slice_get, nat_lt, if◌then◌else◌}
@@ -13,51 +13,52 @@ use Rattle.vme_part_tables.specs.Ways.{NodesGoOn, WayOutcome, behind_break, outc
 use Rattle.vme_part_tables.specs.Runs.{TellsRun, break_of, mark_of}
 use Rattle.vme_part_tables.specs.declared.marked.Onward.{Onward}
 
--- a way that says a break and marks, and then what another says
+-- the outcome r is the break `found`, the marks `shown`, and then the outcome w
 pub record SaysBehind (found : Option Break) (shown : List Mark) (w r : WayOutcome) : Type 0 where
   pub leaving : r.leaving ≡ w.leaving
   pub first_break : option_map break_of r.first_break ≡ earlier found (option_map break_of w.first_break)
   pub marks : map mark_of r.marks ≡ shown ++ map mark_of w.marks
 
--- where a way goes on that names a node by how many were made before it: the last one made comes first
+-- translates `way`, which counts `made` nodes in the order in which they were made, to a way of the reverse order
 abbrev pub turned : ℕ → ℕ → ℕ → ℕ
 turned memories made way = if nat_lt way memories then way else memories + (made - 1 - (way - memories))
 
--- what is said from there, through nodes in the order in which they were made
+-- the outcome of a run with `first_break` that continues with `way`, where `made` has the nodes in the order in which
+-- they were made
 abbrev pub made_says : ℕ → List NodeValue → Option WideBreak → ℕ → WayOutcome
 made_says memories made first_break way =
     behind_break first_break (walked memories (reverse made) (turned memories (length made) way))
 
--- nodes that were made go on with memories or with those made before
+-- each node continues with a memory or with a node that was made before
 abbrev pub MadeGoOn : ℕ → List NodeValue → Type 0
 MadeGoOn memories made = NodesGoOn memories (reverse made)
 
--- where places go on
+-- each way in `onward` is a memory or a node that was made
 abbrev pub AreMade : ℕ → List NodeValue → List Onward → Type 0
 AreMade memories made onward = All (λ (o : Onward). o.way < memories + length made) onward
 
--- where a place goes on, if it is there
+-- the item `place` of `onward`, or a default one
 abbrev pub onward_at : List Onward → ℕ → Onward
 onward_at onward place = option_map_or (λ o. o) (slice_get onward place) (record { first_break = None; way = 0 })
 
--- what is said from there
+-- the outcome of a run that continues with o
 abbrev pub says_at : ℕ → List NodeValue → Onward → WayOutcome
 says_at memories made o = made_says memories made o.first_break o.way
 
--- from each of the first places what is said is its run
+-- the outcome from the item k of `onward` agrees with the run `runs k`, for each k < n
 abbrev pub SayBelow : {P : Type 0} → (P → ℕ) → ℕ → List NodeValue → List Onward → ℕ → (ℕ → Outcome P) → Type 0
 SayBelow {P} place memories made onward n runs =
     (k : ℕ) → k < n → TellsRun true place (says_at memories made (onward_at onward k)) (runs k)
 
--- the entry of a memory
+-- the entry of the table by o, the item of its memory
 abbrev pub entry_made : ℕ → ℕ → Onward → TableEntry
 entry_made memories made o = record { next = turned memories made o.way; first_break = o.first_break }
 
--- whether the marks of the memory at a place are needed
+-- whether the marks of the memory with the number `place` are needed
 abbrev pub is_needed : List Bool → ℕ → Bool
 is_needed needs place = option_map_or (λ b. b) (slice_get needs place) false
 
--- those of each memory that a table leaves are
+-- the marks of each memory in which a run of the table ends are needed
 abbrev pub AreNeeded : TableValue → List Bool → Type 0
 AreNeeded t needs = (k : ℕ) → k < length t.entries → is_needed needs (outcome_in t k).leaving ≡ true
 
@@ -65,6 +66,6 @@ abbrev pub marks_if : Bool → List Mark → List Mark
 marks_if true marks = marks
 marks_if false marks = []
 
--- a run, and its marks where they are needed
+-- the run o, without its marks if they aren't needed
 abbrev pub if_needed : {P : Type 0} → Bool → Outcome P → Outcome P
 if_needed b o = record { leaving = o.leaving; first_break = o.first_break; marks = marks_if b o.marks }

@@ -7,34 +7,34 @@ use Rattle.vme_part_format.specs.Tables.{NodeValue, TableValue}
 use Rattle.vme_part_format.specs.declared.table.TableEntry.{TableEntry}
 use Rattle.vme_part_tables.specs.Ways.{HasWays, outcome_in}
 
--- how many are kept
+-- how many nodes are kept
 abbrev pub kept_count : List Bool → ℕ
 kept_count keeps = count_by (λ b. b) keeps
 
--- how many are kept before each
+-- `counts` has for each node how many nodes before it are kept
 abbrev pub AreCounts : List Bool → List ℕ → Type 0
 AreCounts keeps counts =
     (length counts ≡ length keeps) × ((k : ℕ) → k < length keeps → slice_index counts k ≡ kept_count (take k keeps))
 
--- a way goes on with a memory, or with a node that is kept
+-- `way` is a memory or a kept node
 abbrev pub IsKept : ℕ → List Bool → ℕ → Type 0
 IsKept memories keeps way =
     memories ≤ way → (way - memories < length keeps) × (slice_index_or keeps (way - memories) false ≡ true)
 
--- each node that is kept goes on so
+-- each kept node continues with a memory or a kept node
 abbrev pub KeptGoOn : ℕ → List Bool → List NodeValue → Type 0
 KeptGoOn memories [] ns = Unit {0}
 KeptGoOn memories (b ∷ bs) [] = Unit {0}
 KeptGoOn memories (b ∷ bs) (n ∷ ns) = (b ≡ true → IsKept memories bs n.next) × KeptGoOn memories bs ns
 
--- the nodes that are kept are on a way from an entry as far as ways go
+-- all nodes that a run from an entry reaches are kept
 pub record KeepsWays (memories : ℕ) (keeps : List Bool) (entries : List TableEntry) (nodes : List NodeValue) : Type 0
   where
     pub as_many : length keeps ≡ length nodes
     pub reached : All (λ (e : TableEntry). IsKept memories keeps e.next) entries
     pub closed : KeptGoOn memories keeps nodes
 
--- where a way goes on among those nodes that are kept
+-- translates `way`, which counts all nodes, to one that counts the kept ones alone
 abbrev pub next_kept : ℕ → List Bool → ℕ → ℕ
 next_kept memories keeps way =
     if nat_lt way memories then way else memories + kept_count (take (way - memories) keeps)
@@ -46,7 +46,7 @@ node_kept memories keeps n = record {
   marks = n.marks;
 }
 
--- the nodes that are kept
+-- the kept nodes, whose ways count the kept nodes alone
 abbrev pub nodes_kept : ℕ → List Bool → List NodeValue → List NodeValue
 nodes_kept memories [] ns = []
 nodes_kept memories (b ∷ bs) [] = []
@@ -63,7 +63,7 @@ table_kept keeps t =
       nodes = nodes_kept (length t.entries) keeps t.nodes;
     }
 
--- a table says what another says, with no more nodes, and can be written if that can
+-- the table u has the outcomes of t and at most as many nodes, and it can be written if t can
 pub record IsPruned (t u : TableValue) : Type 0 where
   pub counted : length u.entries ≡ length t.entries
   pub few : length u.nodes ≤ length t.nodes

@@ -1,4 +1,4 @@
--- What a table says of a run.
+-- When a table agrees with the runs of a monitor.
 use Rattle.std.specs.Prelude.{◌≡◌, ℕ, ◌+◌, ◌<◌, ◌≤◌, ◌^◌, Bool, true, false, [], length, map}
 use Rattle.std.specs.Option.{option_map}
 use Rattle.vme_trace.specs.declared.verdict.Break.{Break}
@@ -10,25 +10,25 @@ use Rattle.vme_part_format.specs.declared.wide.WideBreak.{WideBreak}
 use Rattle.vme_part_format.specs.declared.wide.WideMark.{WideMark}
 use Rattle.vme_part_tables.specs.Ways.{HasWays, WayOutcome, gone_on, outcome_in}
 
--- the same break and mark, of the definitions
+-- a break and a mark of 64 bits as those of the definitions
 abbrev pub break_of : WideBreak → Break
 break_of b = record { instant = b.instant; time = b.time; rule = b.rule; line = b.line }
 
 abbrev pub mark_of : WideMark → Mark
 mark_of m = record { instant = m.instant; kind = m.kind }
 
--- marks are those of a run in a table that has marks; in another there are none
+-- the marks of w are those of the run o in a table with marks (`true`), else there are none
 abbrev pub ShowsMarks : {P : Type 0} → Bool → WayOutcome → Outcome P → Type 0
 ShowsMarks true w o = map mark_of w.marks ≡ o.marks
 ShowsMarks false w o = w.marks ≡ []
 
--- a way tells of a run: the memory that is left, the first break, and the marks
+-- the outcome w agrees with the run o in the memory in which it ends, the first break and the marks
 pub record TellsRun {P : Type 0} (listing : Bool) (place : P → ℕ) (w : WayOutcome) (o : Outcome P) : Type 0 where
   pub leaving : w.leaving ≡ place o.leaving
   pub first_break : option_map break_of w.first_break ≡ o.first_break
   pub marks : ShowsMarks listing w o
 
--- a table of so many memories tells of the run from each memory that enters
+-- the table t has `memories` memories, and its outcome from each memory p agrees with the run `says p`
 pub record TellsRuns {P : Type 0} (listing : Bool) (memories : ℕ) (place : P → ℕ) (t : TableValue) (says : P
     → Outcome P)
     : Type 0 where
@@ -36,7 +36,7 @@ pub record TellsRuns {P : Type 0} (listing : Bool) (memories : ℕ) (place : P �
   pub ways : HasWays t
   pub tells : (p : P) → TellsRun listing place (outcome_in t (place p)) (says p)
 
--- a table says what two say of steps that follow one another, so many of which are those of the first
+-- the table `both` has the outcomes of `first` followed by those of `second`; `first` has `steps` steps
 pub record SaysBoth (steps : ℕ) (first second both : TableValue) : Type 0 where
   pub counted : length both.entries ≡ length first.entries
   pub few : length both.nodes ≤ length first.nodes + length second.nodes

@@ -1,4 +1,4 @@
--- A table whose nodes have taken in others.
+-- A table in which nodes are merged with the nodes that they continue with.
 use Rattle.std.specs.Prelude.{◌≡◌, ℕ, ◌+◌, ◌<◌, ◌≤◌, ◌^◌, List, ◌++◌, length, None, Some, IfSome, slice_get}
 use Rattle.std.specs.Prelude.{nat_lt, if◌then◌else◌}
 use Rattle.std.specs.List.{last_or}
@@ -8,11 +8,12 @@ use Rattle.vme_part_format.specs.Tables.{NodeValue}
 use Rattle.vme_part_format.specs.declared.wide.WideMark.{WideMark}
 use Rattle.vme_part_tables.specs.Ways.{NodesGoOn, walked}
 
--- where a way goes on behind a node that has so many before it
+-- translates `way`, which counts the nodes after a node b, to one that counts those after an earlier node a, where
+-- `between` nodes are between a and b
 abbrev pub next_past : ℕ → ℕ → ℕ → ℕ
 next_past memories between way = if nat_lt way memories then way else way + (between + 1)
 
--- a node with what another shows, which has so many before it
+-- the node n merged with the later node `behind`, where `between` nodes are between the two
 abbrev pub node_with : ℕ → ℕ → NodeValue → NodeValue → NodeValue
 node_with memories between n behind =
     record {
@@ -21,19 +22,20 @@ node_with memories between n behind =
       marks = n.marks ++ behind.marks;
     }
 
--- nodes say what others do, as many, and can be written if those can
+-- the nodes ms have the outcomes of ns and are as many, and they can be written if ns can
 pub record SayTheSame (memories : ℕ) (ns ms : List NodeValue) : Type 0 where
   pub as_many : length ms ≡ length ns
   pub go_on : NodesGoOn memories ms
   pub fit : (steps : ℕ) → FitNodes memories steps ns → FitNodes memories steps ms
   pub says : (way : ℕ) → walked memories ms way ≡ walked memories ns way
 
--- the last of some marks isn't later than the first of others
+-- the last of ms isn't later than the first of ks
 abbrev pub AreInOrder : List WideMark → List WideMark → Type 0
 AreInOrder ms ks =
     IfSome (last_or None ms) (λ (a : WideMark). IfSome (slice_get ks 0) (λ (b : WideMark). a.instant ≤ b.instant))
 
--- a node goes on with another, which has so many before it, and the marks of both may stand in one
+-- the node `place` continues with a later one, `between` nodes are between the two, and one node may have the marks of
+-- both
 pub record MayTakeIn (memories : ℕ) (ns : List NodeValue) (place between : ℕ) : Type 0 where
   pub node : NodeValue
   pub behind : NodeValue

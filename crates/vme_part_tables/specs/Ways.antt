@@ -1,4 +1,4 @@
--- What a table says of a memory that enters.
+-- The outcome of a table for each memory in which its segment may begin.
 use Rattle.std.specs.Prelude.{ℕ, ◌-◌, ◌+◌, ◌<◌, ◌==◌, List, [], ◌∷◌, ◌++◌, map, Option, None, min, ◌^◌}
 use Rattle.std.specs.Prelude.{All, length, slice_get, nat_lt, if◌then◌else◌}
 use Rattle.std.specs.Option.{option_map, option_map_or, option_or}
@@ -7,7 +7,7 @@ use Rattle.vme_part_format.specs.declared.table.TableEntry.{TableEntry}
 use Rattle.vme_part_format.specs.declared.wide.WideBreak.{WideBreak}
 use Rattle.vme_part_format.specs.declared.wide.WideMark.{WideMark}
 
--- the memory that is left, by its number, the first break, and the marks
+-- the number of the memory in which a run ends, its first break, and its marks
 pub record WayOutcome : Type 0 where
   pub leaving : ℕ
   pub first_break : Option WideBreak
@@ -16,7 +16,7 @@ pub record WayOutcome : Type 0 where
 abbrev pub ended_in : ℕ → WayOutcome
 ended_in memory = record { leaving = memory; first_break = None; marks = [] }
 
--- with a break before
+-- the outcome of a run that has the break `first_break`, if there is one, and then the outcome w
 abbrev pub behind_break : Option WideBreak → WayOutcome → WayOutcome
 behind_break first_break w = record {
   leaving = w.leaving;
@@ -24,11 +24,12 @@ behind_break first_break w = record {
   marks = w.marks;
 }
 
--- with marks before
+-- the outcome of a run that has `marks`, and then the outcome w
 abbrev pub behind_marks : List WideMark → WayOutcome → WayOutcome
 behind_marks marks w = record { leaving = w.leaving; first_break = w.first_break; marks = marks ++ w.marks }
 
--- where a way goes on: a number below that of the memories is a memory; that number is the first of the nodes
+-- the outcome of a run that continues with `way`: below `memories` it is a memory, in which the run ends; else
+-- way - memories is the index of a node, with which the run continues
 abbrev pub walked : ℕ → List NodeValue → ℕ → WayOutcome
 walked memories [] way = ended_in way
 walked memories (n ∷ ns) way =
@@ -36,26 +37,26 @@ walked memories (n ∷ ns) way =
     else if way == memories then behind_marks n.marks (behind_break n.first_break (walked memories ns n.next))
     else walked memories ns (way - 1)
 
--- what a table says of an entry
+-- the outcome of the run from the entry e
 abbrev pub from_entry : TableValue → TableEntry → WayOutcome
 from_entry t e = behind_break e.first_break (walked (length t.entries) t.nodes e.next)
 
--- what a table says of the memory of a number
+-- the outcome of the run from the memory with the number `memory`
 abbrev pub outcome_in : TableValue → ℕ → WayOutcome
 outcome_in t memory = option_map_or (from_entry t) (slice_get t.entries memory) (ended_in memory)
 
--- nodes go on with memories or with nodes behind them
+-- each node continues with a memory or with a node after it
 abbrev pub NodesGoOn : ℕ → List NodeValue → Type 0
 NodesGoOn memories [] = Unit {0}
 NodesGoOn memories (n ∷ ns) = (n.next < memories + length ns) × NodesGoOn memories ns
 
--- each way ends in a memory, and ways have numbers of 32 bits
+-- each run ends in a memory, and ways fit in 32 bits
 pub record HasWays (t : TableValue) : Type 0 where
   pub few : length t.entries + length t.nodes < 2 ^ 32
   pub entries : All (λ (e : TableEntry). e.next < length t.entries + length t.nodes) t.entries
   pub nodes : NodesGoOn (length t.entries) t.nodes
 
--- some instants later, as far as there are numbers
+-- the instant i, n later, but at most 2 ^ 64 - 1
 abbrev pub later : ℕ → ℕ → ℕ
 later n i = min (i + n) (2 ^ 64 - 1)
 
@@ -73,6 +74,6 @@ later_outcome n w =
       marks = map (later_mark n) w.marks;
     }
 
--- a segment of n steps, and then one whose instants count from its own start
+-- the outcome a of a segment of n steps, followed by the outcome b of one whose instants count from its own start
 abbrev pub gone_on : ℕ → WayOutcome → WayOutcome → WayOutcome
 gone_on n a b = behind_marks a.marks (behind_break a.first_break (later_outcome n b))

@@ -1,4 +1,4 @@
-//! One table of two.
+//! Composition of two tables into one.
 
 ghost use Rattle.std.specs.Prelude.{◌≡◌, ◌+◌, ◌<◌, ◌≤◌, ◌^◌, IfOk, IsTrue, ◌↔◌, length, map};
 ghost use Rattle.vme_part_format.specs.Tables.{node_value, table_value};
@@ -14,7 +14,8 @@ use crate::ways::later_break;
 use std::alloc::{AllocError, Global};
 use vme_part_format::{OutcomeTable, TableEntry, TableNode, WideBreak, WideMark};
 
-/// Where a way goes on that the first table ends, with so many of its nodes behind.
+/// Where a run continues in the composed table if it continues with `way` in the first table. If `way` is a memory, the
+/// run goes through `second`. `between` nodes of the first table come before the nodes of the second.
 fn gone_on(
     way: u32,
     first_break: Option<WideBreak>,
@@ -45,7 +46,7 @@ fn gone_on(
     }
 }
 
-/// Has an entry of the first table go on in the second.
+/// Continues an entry of the first table in the second.
 fn connect_entry(entry: &mut TableEntry, between: u32, second: &[TableEntry], steps: u64)
     requires few { length second.now < 2 ^ 32 }
     requires fits { NextsFit second.now between }
@@ -54,7 +55,7 @@ fn connect_entry(entry: &mut TableEntry, between: u32, second: &[TableEntry], st
     *entry = gone_on(entry.next, entry.first_break, between, second, steps);
 }
 
-/// Has a node of the first table, with so many behind it, go on in the second.
+/// Continues a node of the first table, with `between` nodes after it, in the second.
 fn connect_node(node: &mut TableNode, between: u32, second: &[TableEntry], steps: u64)
     requires few { length second.now < 2 ^ 32 }
     requires fits { NextsFit second.now between }
@@ -65,7 +66,7 @@ fn connect_node(node: &mut TableNode, between: u32, second: &[TableEntry], steps
     node.first_break = way.first_break;
 }
 
-/// Has the entries of the first table, which has so many nodes, go on in the second.
+/// Continues the entries of the first table, which has `between` nodes, in the second.
 fn connect_entries(entries: &mut [TableEntry], between: u32, second: &[TableEntry], steps: u64)
     requires few { length second.now < 2 ^ 32 }
     requires fits { NextsFit second.now between }
@@ -76,7 +77,7 @@ fn connect_entries(entries: &mut [TableEntry], between: u32, second: &[TableEntr
     }
 }
 
-/// Has the nodes of the first table go on in the second.
+/// Continues the nodes of the first table in the second.
 fn connect_nodes(nodes: &mut [TableNode], second: &[TableEntry], steps: u64)
     requires few { length second.now < 2 ^ 32 }
     requires few_nodes { length nodes.old < 2 ^ 32 }
@@ -90,14 +91,14 @@ fn connect_nodes(nodes: &mut [TableNode], second: &[TableEntry], steps: u64)
     }
 }
 
-/// Counts the instant of a mark from a start that is some instants earlier.
+/// Makes the instant of a mark `by` later.
 fn delay_mark(mark: &mut WideMark, by: u64)
     ensures { mark.new ≡ later_mark by mark.old }
 {
     mark.instant = mark.instant.saturating_add(by);
 }
 
-/// Counts the instants of marks from a start that is some instants earlier.
+/// Makes the instants of marks `by` later.
 fn delay_marks(marks: &mut [WideMark], by: u64)
     ensures { marks.new ≡ map (later_mark by) marks.old }
 {
@@ -106,7 +107,7 @@ fn delay_marks(marks: &mut [WideMark], by: u64)
     }
 }
 
-/// Counts the instants of a node from a start that is some instants earlier.
+/// Makes the instants of a node `by` later.
 fn delay_node(node: &mut TableNode, by: u64)
     ensures { node_value node.new ≡ later_node_of by (node_value node.old) }
 {
@@ -114,7 +115,7 @@ fn delay_node(node: &mut TableNode, by: u64)
     delay_marks(node.marks.as_mut_slice(), by);
 }
 
-/// Counts the instants of nodes from a start that is some instants earlier.
+/// Makes the instants of nodes `by` later.
 fn delay_nodes(nodes: &mut [TableNode], by: u64)
     ensures { map node_value nodes.new ≡ map (later_node_of by) (map node_value nodes.old) }
 {
@@ -123,7 +124,7 @@ fn delay_nodes(nodes: &mut [TableNode], by: u64)
     }
 }
 
-/// The table of the steps of two, with nodes that may be on no way.
+/// The composition of two tables. `steps` is the number of steps of the first. It may have nodes that no run reaches.
 fn connected(
     first: OutcomeTable,
     second: OutcomeTable,
@@ -148,7 +149,7 @@ fn connected(
     Ok(OutcomeTable { entries, nodes })
 }
 
-/// Whether the nodes of two tables have numbers of 32 bits in one.
+/// Whether the ways of the composition of two tables fit in 32 bits.
 pub fn are_few_together(first: &OutcomeTable, second: &OutcomeTable) -> bool
     requires few { length first.now.entries.items < 2 ^ 32 }
     ensures { IsTrue result
@@ -158,7 +159,7 @@ pub fn are_few_together(first: &OutcomeTable, second: &OutcomeTable) -> bool
     first.nodes.len() <= room && second.nodes.len() <= room - first.nodes.len()
 }
 
-/// The table of the steps of two, so many of which are those of the first.
+/// The composition of two tables. `steps` is the number of steps of the first.
 pub fn composed(
     alloc: Global,
     first: OutcomeTable,

@@ -1,4 +1,4 @@
-//! The memories that a table leaves.
+//! The memories in which a table ends.
 
 ghost use Rattle.std.specs.Prelude.{◌≡◌, ℕ, ◌<◌, IfOk, false, length, slice_index_or, true};
 ghost use Rattle.vme_part_format.specs.Tables.{table_value};
@@ -9,7 +9,7 @@ use crate::ways::follow;
 use std::alloc::{AllocError, Global};
 use vme_part_format::OutcomeTable;
 
-/// Notes the memory at a place.
+/// Marks the memory with the number `place` as needed.
 fn note(needs: &mut [bool], place: usize)
     requires { place < length needs.old }
     ensures more { (k : ℕ) → slice_index_or needs.old k false ≡ true → slice_index_or needs.new k false ≡ true }
@@ -18,7 +18,7 @@ fn note(needs: &mut [bool], place: usize)
     needs[place] = true;
 }
 
-/// Notes each memory that a table leaves.
+/// Marks each memory in which a run of a table ends as needed.
 fn note_left(needs: &mut [bool], table: &OutcomeTable)
     requires ways { HasWays (table_value table.now) }
     requires as_many { length needs.old ≡ length table.now.entries.items }
@@ -31,7 +31,8 @@ fn note_left(needs: &mut [bool], table: &OutcomeTable)
     }
 }
 
-/// Which memories a table leaves, by their places: of steps behind its own no others are needed.
+/// For each memory, by its number, whether a run of the table ends in it. For the steps after those of the table no
+/// other memories are needed.
 pub fn left_memories(alloc: Global, table: &OutcomeTable) -> Result<Vec<bool>, AllocError>
     requires { HasWays (table_value table.now) }
     ensures { IfOk result (λ needs. AreNeeded (table_value table.now) needs.items) }

@@ -1,28 +1,32 @@
-//! Tables of a part: what a memory comes to in one, and how tables are made of others.
+//! Tables of a part: what a table says of each memory (the state of a monitor's automaton) in which
+//! its segment may begin, and how tables are made from others.
 //!
 //! # Parts of this crate
 //!
-//! - `ways`: ways through a table. [`follow`] says which memory is left and which rule is broken
-//!   first, [`put_marks_on_way`] adds the marks.
-//! - `compose`: [`composed`] makes one table of two. `shorten`: a node takes in the one that it goes
-//!   on with, where no other way leads there; `prune`: without what no way reaches.
-//! - `marked`: [`marked_table`] makes a table with marks of what a monitor's summary says; `left`:
-//!   [`left_memories`] says of which memories the marks of what follows are needed.
+//! - `ways`: runs through a table. A *way* is where a run continues: the number of a memory, in
+//!   which it ends, or of a node. [`follow`] gives the memory in which a run ends and its first
+//!   break, and [`put_marks_on_way`] adds its marks.
+//! - `compose`: [`composed`] makes one table from two. `shorten`: a node is merged with the one that
+//!   it continues with, if no other way leads there. `prune`: nodes that no run reaches are dropped.
+//! - `marked`: [`marked_table`] makes a table with marks from a monitor's summary. `left`:
+//!   [`left_memories`] gives the memories in which a table ends, i.e. those whose marks are needed
+//!   in the table after it.
 //!
 //! # What is proved
 //!
-//! A table is what it says of each memory that enters (`outcome_in`, `specs/Ways`). [`follow`] and
-//! [`put_marks_on_way`] say exactly that. What [`composed`] says of a memory is what the first
-//! table says of it and then, so many instants later, what the second says of the memory that the
-//! first leaves (`gone_on`); and if both tables can be written as parts of a file, it can
-//! (`SaysBoth`). [`marked_table`] tells of each memory that enters what the summary does: the
-//! memory that is left, the first break and, where they are needed, the marks (`TellsRuns`). They
-//! are of each memory that the table before leaves (`AreNeeded`).
+//! A table means its outcome for each memory in which the segment may begin (`outcome_in`,
+//! `specs/Ways`). [`follow`] and [`put_marks_on_way`] give exactly this outcome. The outcome of
+//! [`composed`] for a memory is that of the first table for it, followed by that of the second for
+//! the memory in which the first ends, with its instants `steps` later (`gone_on`). If both tables
+//! can be written in a part, so can the result (`SaysBoth`). [`marked_table`] gives for each memory
+//! what the summary does: the memory in which the run ends, the first break and, where they are
+//! needed, the marks (`TellsRuns`). They are needed for each memory in which the table before ends
+//! (`AreNeeded`).
 //!
 //! # What isn't proved
 //!
-//! That memory suffices. That of the nodes which no way reaches none is left, and that of those
-//! which a single way leads to each is taken in.
+//! That memory suffices. That each node that no run reaches is dropped, and that each node that a
+//! single way leads to is merged.
 #![tactic(auto)]
 
 mod compose;

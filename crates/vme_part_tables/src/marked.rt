@@ -1,4 +1,4 @@
-//! A table with marks of what a monitor's summary says.
+//! A table with marks, made from a monitor's summary.
 
 ghost use Rattle.std.specs.Prelude.{◌≡◌, ℕ, ◌+◌, ◌<◌, ◌≤◌, ◌^◌, IfOk, OnOk, Option, length, map, [], true};
 ghost use Rattle.std.specs.Option.{option_map};
@@ -45,22 +45,23 @@ fn wide_marks(alloc: Global, marks: &[Mark]) -> Result<Vec<WideMark>, AllocError
     Ok(all)
 }
 
-/// Where ways go on from a memory: the break up to the next node, and a memory, or the number of memories and
-/// of nodes that were made before that node.
+/// Where the run from a memory continues: its first break before the next node, and `way`. If `way` is below the
+/// number of memories, it is the memory in which the run ends. Else `way` less that number is the index of the next
+/// node in the order in which nodes were made.
 #[derive(Clone, Copy)]
 struct Onward {
     first_break: Option<WideBreak>,
     way: u32,
 }
 
-/// Nodes in the order in which they were made, each with the distance to the one that it goes on with.
+/// Nodes in the order in which they were made. The table has them in the reverse order, and `next` of each is as there.
 #[derive(Drop)]
 struct Made {
     memories: u32,
     nodes: Vec<TableNode>,
 }
 
-/// Where a way goes on in nodes of which the last one made is the first.
+/// Translates `way`, which counts nodes in the order in which `made` nodes were made, to a way of the reverse order.
 fn turned(memories: u32, made: u32, way: u32) -> u32
     requires few { memories + made < 2 ^ 32 }
     requires way { way < memories + made }
@@ -74,7 +75,8 @@ fn turned(memories: u32, made: u32, way: u32) -> u32
 }
 
 impl Made {
-    /// The way through some marks to where it goes on, by a node if there are marks.
+    /// Where a run continues that has `first_break` and `marks`, and then continues with `onward`. If there are marks,
+    /// a node is made for them.
     fn through(
         &mut self,
         alloc: Global,
@@ -120,7 +122,7 @@ impl Made {
     }
 }
 
-/// Whether the marks of the memory at a place are needed.
+/// Whether the marks of the memory with the number `place` are needed.
 fn is_needed(needs: &[bool], place: usize) -> bool
     ensures { result ≡ is_needed_of needs.now place }
 {
@@ -130,7 +132,7 @@ fn is_needed(needs: &[bool], place: usize) -> bool
     }
 }
 
-/// The marks of a memory, if they are needed.
+/// The marks of the run from a memory, if they are needed, else none.
 fn marks_if_needed<M: Finite>(
     alloc: Global,
     summary: &M::Summary,
@@ -146,7 +148,7 @@ fn marks_if_needed<M: Finite>(
     }
 }
 
-/// Where ways go on from the memories of a monitor, by what a summary says of each.
+/// Where the run from each memory of a monitor continues, by what `summary` says of it.
 fn memory_ways<M: Finite>(
     alloc: Global,
     made: &mut Made,
@@ -179,7 +181,7 @@ fn memory_ways<M: Finite>(
     Ok(onward)
 }
 
-/// Where a place goes on, if it is there.
+/// The item `place` of `onward`, or a default one.
 fn onward_at(onward: &[Onward], place: usize) -> Onward
     ensures { result ≡ onward_at_of onward.now place }
 {
@@ -192,7 +194,7 @@ fn onward_at(onward: &[Onward], place: usize) -> Onward
     }
 }
 
-/// The table of nodes that were made, and of places from which ways go on, one for each memory.
+/// The table of the nodes in `made`, with an entry for each memory by its item of `onward`.
 fn made_table(
     alloc: Global,
     made: Made,
@@ -223,8 +225,8 @@ fn made_table(
     Ok(OutcomeTable { entries, nodes })
 }
 
-/// The table with marks of what a monitor's summary says: a node for each memory of which it says marks, if they are
-/// needed. Of the others it says none.
+/// The table with marks of a monitor's summary. It has a node for each memory whose marks are needed, if there are any.
+/// For the other memories it has no marks.
 pub fn marked_table<M: Finite>(
     alloc: Global,
     summary: &M::Summary,

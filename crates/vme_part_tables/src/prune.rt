@@ -1,4 +1,4 @@
-//! Nodes that no way reaches.
+//! Dropping nodes that no run reaches.
 
 ghost use Rattle.std.specs.Prelude.{◌≡◌, ℕ, ◌+◌, ◌-◌, ◌<◌, ◌≤◌, ◌^◌, All, IfOk, drop, length, map, false};
 ghost use Rattle.std.specs.Prelude.{slice_index_or, true};
@@ -11,7 +11,7 @@ ghost use Rattle.vme_part_tables.specs.Ways.{HasWays, NodesGoOn};
 use std::alloc::{AllocError, Global};
 use vme_part_format::{OutcomeTable, TableEntry, TableNode};
 
-/// Keeps the nodes that entries go on with.
+/// Sets `keeps` for the nodes that entries continue with.
 fn keep_for_entries(keeps: &mut [bool], memories: u32, entries: &[TableEntry])
     requires { All (λ (e : TableEntry). e.next < memories + length keeps.old) entries.now }
     ensures { All (λ (e : TableEntry). IsKept memories keeps.new e.next) entries.now }
@@ -23,7 +23,7 @@ fn keep_for_entries(keeps: &mut [bool], memories: u32, entries: &[TableEntry])
     }
 }
 
-/// Keeps the node that another goes on with, if that one is kept.
+/// Sets `keeps` for the node that the node `place` continues with, if `place` is kept.
 fn keep_next(keeps: &mut [bool], memories: u32, place: usize, next: u32)
     requires place { place < length keeps.old }
     requires next { next < memories + (length keeps.old - (place + 1)) }
@@ -36,7 +36,7 @@ fn keep_next(keeps: &mut [bool], memories: u32, place: usize, next: u32)
     }
 }
 
-/// Keeps the nodes that kept ones go on with.
+/// Sets `keeps` for the nodes that kept nodes continue with.
 fn keep_for_nodes(keeps: &mut [bool], memories: u32, nodes: &[TableNode])
     requires as_many { length keeps.old ≡ length nodes.now }
     requires goes_on { NodesGoOn memories (map node_value nodes.now) }
@@ -48,7 +48,7 @@ fn keep_for_nodes(keeps: &mut [bool], memories: u32, nodes: &[TableNode])
     }
 }
 
-/// Keeps the nodes that are on a way from an entry.
+/// Sets `keeps` for the nodes that a run from an entry reaches.
 fn keep_reached(keeps: &mut [bool], memories: u32, entries: &[TableEntry], nodes: &[TableNode])
     requires as_many { length keeps.old ≡ length nodes.now }
     requires entries { All (λ (e : TableEntry). e.next < memories + length nodes.now) entries.now }
@@ -59,7 +59,7 @@ fn keep_reached(keeps: &mut [bool], memories: u32, entries: &[TableEntry], nodes
     keep_for_nodes(keeps, memories, nodes);
 }
 
-/// Which nodes are on a way from an entry.
+/// For each node, whether a run from an entry reaches it.
 fn reached(
     alloc: Global,
     memories: u32,
@@ -75,7 +75,7 @@ fn reached(
     Ok(keeps)
 }
 
-/// How many nodes are kept before each.
+/// For each node, how many nodes before it are kept.
 fn kept_before(alloc: Global, keeps: &[bool]) -> Result<Vec<u32>, AllocError>
     requires { length keeps.now < 2 ^ 32 }
     ensures { IfOk result (λ counts. AreCounts keeps.now counts.items) }
@@ -91,7 +91,7 @@ fn kept_before(alloc: Global, keeps: &[bool]) -> Result<Vec<u32>, AllocError>
     Ok(counts)
 }
 
-/// Where a way goes on among the kept nodes, of those from one on.
+/// Translates `way`, which counts the nodes from index `from` on, to one that counts the kept ones alone.
 fn next_kept(memories: u32, keeps: &[bool], counts: &[u32], from: usize, way: u32) -> u32
     requires few { memories + length keeps.now < 2 ^ 32 }
     requires counts { AreCounts keeps.now counts.now }
@@ -106,7 +106,7 @@ fn next_kept(memories: u32, keeps: &[bool], counts: &[u32], from: usize, way: u3
     memories + (counts[to] - counts[from])
 }
 
-/// Has an entry go on among the kept nodes.
+/// Has the way of an entry count the kept nodes alone.
 fn renumber_entry(entry: &mut TableEntry, memories: u32, keeps: &[bool], counts: &[u32])
     requires few { memories + length keeps.now < 2 ^ 32 }
     requires counts { AreCounts keeps.now counts.now }
@@ -116,7 +116,7 @@ fn renumber_entry(entry: &mut TableEntry, memories: u32, keeps: &[bool], counts:
     entry.next = next_kept(memories, keeps, counts, 0, entry.next);
 }
 
-/// Has entries go on among the kept nodes.
+/// Has the ways of entries count the kept nodes alone.
 fn renumber_entries(entries: &mut [TableEntry], memories: u32, keeps: &[bool], counts: &[u32])
     requires few { memories + length keeps.now < 2 ^ 32 }
     requires counts { AreCounts keeps.now counts.now }
@@ -128,7 +128,7 @@ fn renumber_entries(entries: &mut [TableEntry], memories: u32, keeps: &[bool], c
     }
 }
 
-/// The kept nodes.
+/// The kept nodes, whose ways count the kept nodes alone.
 fn kept_nodes(
     alloc: Global,
     memories: u32,
@@ -164,7 +164,7 @@ fn kept_nodes(
     Ok(kept)
 }
 
-/// The table with those nodes alone that are on a way.
+/// The table with only those nodes that a run reaches.
 pub(crate) fn pruned(alloc: Global, table: OutcomeTable) -> Result<OutcomeTable, AllocError>
     requires { HasWays (table_value table) }
     ensures { IfOk result (λ t. IsPruned (table_value table) (table_value t)) }

@@ -1,5 +1,5 @@
-//! Nodes that a single way leads to, taken in by the node that it comes from: so a table has at most two nodes for a
-//! memory, unless marks don't ascend.
+//! Merging nodes: a node that a single way leads to is merged into the node that this way comes from. So a table has at
+//! most two nodes a memory, unless marks don't ascend.
 
 ghost use Rattle.std.specs.Prelude.{◌≡◌, ◌+◌, ◌<◌, ◌≤◌, ◌^◌, ◌++◌, IfOk, IfSome, IsTrue, OnOk, length, map};
 ghost use Rattle.std.specs.Option.{option_or};
@@ -11,21 +11,21 @@ ghost use Rattle.vme_part_tables.specs.Ways.{HasWays, NodesGoOn};
 use std::alloc::{AllocError, Global};
 use vme_part_format::{OutcomeTable, TableEntry, TableNode, WideBreak, WideMark};
 
-/// Counts one way more that leads to a node.
+/// Counts one more way that leads to the node `place`.
 fn count_way(counts: &mut [u32], place: usize) {
     if place < counts.len() {
         counts[place] = counts[place].saturating_add(1);
     }
 }
 
-/// Forgets the ways that lead to a node.
+/// Sets the number of ways that lead to the node `place` to 0.
 fn forget_ways(counts: &mut [u32], place: usize) {
     if place < counts.len() {
         counts[place] = 0;
     }
 }
 
-/// How many ways lead to a node.
+/// How many ways lead to the node `place`.
 fn ways_to(counts: &[u32], place: usize) -> u32 {
     match counts.get(place) {
         Some(count) => *count,
@@ -42,7 +42,7 @@ fn count_from_entries(counts: &mut [u32], memories: u32, entries: &[TableEntry])
     }
 }
 
-/// Counts the ways that lead to nodes from others, if one leads to these.
+/// Counts the ways that lead from nodes to nodes. Those from a node that no way leads to don't count.
 fn count_from_nodes(counts: &mut [u32], memories: u32, nodes: &[TableNode]) {
     for (place, node) in nodes.iter().enumerate() {
         if memories <= node.next && 0 < ways_to(counts, place) {
@@ -52,7 +52,7 @@ fn count_from_nodes(counts: &mut [u32], memories: u32, nodes: &[TableNode]) {
     }
 }
 
-/// Whether some marks come before others.
+/// Whether the last of `marks` isn't later than the first of `others`.
 fn are_in_order(marks: &[WideMark], others: &[WideMark]) -> bool
     ensures { IsTrue result → AreInOrder marks.now others.now }
 {
@@ -65,7 +65,7 @@ fn are_in_order(marks: &[WideMark], others: &[WideMark]) -> bool
     last.instant <= first.instant
 }
 
-/// Whether the marks of a node and of another may stand in one.
+/// Whether the marks of `node` and then those of `behind` may be in one node.
 fn may_stand_in_one(node: &TableNode, behind: &TableNode) -> bool
     ensures order { IsTrue result → AreInOrder node.now.marks.items behind.now.marks.items }
     ensures few { IsTrue result → length node.now.marks.items + length behind.now.marks.items < 2 ^ 32 }
@@ -77,8 +77,8 @@ fn may_stand_in_one(node: &TableNode, behind: &TableNode) -> bool
     are_in_order(node.marks.as_slice(), behind.marks.as_slice())
 }
 
-/// How many nodes are between a node and the one that it goes on with, if it may take that in, and no other way leads
-/// there.
+/// How many nodes are between the node `place` and the one that it continues with, if the two may be merged and no
+/// other way leads to that one.
 fn only_next(memories: u32, counts: &[u32], nodes: &[TableNode], place: usize) -> Option<usize>
     requires few { memories + length nodes.now < 2 ^ 32 }
     requires place { place < length nodes.now }
@@ -114,7 +114,7 @@ fn copied(alloc: Global, marks: &[WideMark]) -> Result<Vec<WideMark>, AllocError
     Ok(all)
 }
 
-/// Has a node go on elsewhere, with a break and marks behind its own.
+/// Has `node` continue with `next`, and adds `first_break` and the marks `more` after its own.
 fn lengthen(
     node: &mut TableNode,
     next: u32,
@@ -133,7 +133,8 @@ fn lengthen(
     node.marks.append(&mut more)
 }
 
-/// Where a node goes on that takes in another, which has so many before it and goes on there.
+/// Where a node continues after merging with a later node that continues with `way`. `between` nodes are between the
+/// two.
 fn next_past(memories: u32, between: usize, way: u32) -> u32
     requires { memories ≤ way → way + (between + 1) < 2 ^ 32 }
     ensures { result ≡ next_past_of memories between way }
@@ -145,7 +146,7 @@ fn next_past(memories: u32, between: usize, way: u32) -> u32
     }
 }
 
-/// Has a node take in the one that it goes on with, which has so many before it.
+/// Merges into the node `place` the one that it continues with. `between` nodes are between the two.
 fn take_in(
     alloc: Global,
     memories: u32,
@@ -166,7 +167,7 @@ fn take_in(
     lengthen(&mut nodes[place], next, first_break, more)
 }
 
-/// Has a node take in those behind it that no other way leads to, if one leads to it.
+/// Merges into the node `place`, if a way leads to it, those that it continues with and that no other way leads to.
 fn take_in_all(
     alloc: Global,
     memories: u32,
@@ -192,7 +193,7 @@ fn take_in_all(
     Ok(())
 }
 
-/// Has each node that a way leads to take in those behind it that no other way leads to.
+/// Merges into each node that a way leads to those that it continues with and that no other way leads to.
 fn join_ways(
     alloc: Global,
     memories: u32,
@@ -209,7 +210,8 @@ fn join_ways(
     Ok(())
 }
 
-/// The table whose nodes have taken in those that no other way leads to. These stay, and no way leads to them.
+/// The table whose nodes are merged with those that no other way leads to. A merged node stays in the table, and no
+/// run reaches it.
 pub(crate) fn shortened(alloc: Global, table: OutcomeTable) -> Result<OutcomeTable, AllocError>
     requires { HasWays (table_value table) }
     ensures { IfOk result (λ t. IsPruned (table_value table) (table_value t)) }

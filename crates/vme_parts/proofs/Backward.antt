@@ -29,7 +29,7 @@ popped_last old new x e all =
     (All-same IsSegment (map segment_value new ++ segment_value x ∷ []) (map segment_value old)
     (sym (popped_values old new x e)) all)
 
--- whatever was popped
+-- the first n segments of a list satisfy `IsSegment` if all do
 pub popped_all : (n : ℕ) (old new : List Segment) → new ≡ take n old → All IsSegment (map segment_value old)
     → All IsSegment (map segment_value new)
 popped_all n old new e all =

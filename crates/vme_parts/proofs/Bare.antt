@@ -30,12 +30,12 @@ or_none None = refl
 or_none (Some b) = refl
 
 module _ {P : Type 0} (place : P → ℕ) (nth : ℕ → P) (says : P → Outcome P) where
-  -- an entry says what the memory at a place comes to
+  -- the entry e agrees with the run from the memory with the number k
   pub record IsRow (k : ℕ) (e : TableEntry) : Type 0 where
     pub next : e.next ≡ place (says (nth k)).leaving
     pub first_break : option_map break_of e.first_break ≡ (says (nth k)).first_break
 
-  -- so do the first entries
+  -- the first n entries agree with the runs from their memories
   abbrev pub AreRows : List TableEntry → ℕ → Type 0
   AreRows es n = (k : ℕ) → k < n → (e : TableEntry) × (slice_get es k ≡ Some e) × IsRow k e
 
@@ -79,7 +79,7 @@ module _ {P : Type 0} (place : P → ℕ) (nth : ℕ → P) (says : P → Outcom
             };
       }
 
--- a table that tells of runs tells of what they are
+-- a table that agrees with the runs f agrees with equal runs g
 pub tells_same : {P : Type 0} (listing : Bool) (count : ℕ) (place : P → ℕ) (t : TableValue) (f g : P → Outcome P)
     → ((p : P) → f p ≡ g p) → TellsRuns listing count place t f → TellsRuns listing count place t g
 tells_same listing count place t f g e s =

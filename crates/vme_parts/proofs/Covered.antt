@@ -20,7 +20,7 @@ cover_head s ss k c = (s, (0, omega arith, refl), c)
 cover_tail : (s : SegmentValue) (ss : List SegmentValue) (k : ℕ) → SegmentsCover ss k → SegmentsCover (s ∷ ss) k
 cover_tail s ss k c = (c.0, (suc c.1.0, omega (arith, c.1.1), c.1.2), c.2)
 
--- one of them is the first, or one of the others
+-- if a segment of s ∷ ss covers k, so does s or one of ss
 cover_either : (s : SegmentValue) (ss : List SegmentValue) (k : ℕ) → SegmentsCover (s ∷ ss) k
     → SegmentCovers s k ⊎ SegmentsCover ss k
 cover_either s ss k c = by_place c.1.0 c.1.1 c.1.2
@@ -29,7 +29,7 @@ cover_either s ss k c = by_place c.1.0 c.1.1 c.1.2
     by_place zero h e = inl (subst (λ (x : SegmentValue). SegmentCovers x k) (sym e) c.2)
     by_place (suc i) h e = inr (c.0, (i, omega (arith, h), e), c.2)
 
--- each begins from a number on
+-- the segments ascend, and the first begins with n or a later file
 abbrev From : ℕ → List SegmentValue → Type 0
 From n [] = Unit {0}
 From n (s ∷ ss) = (n ≤ s.first) × From (last_of s.first s.order + 1) ss
@@ -42,7 +42,7 @@ pub from_none : (ss : List SegmentValue) → Ascend None ss → From 0 ss
 from_none [] a = tt
 from_none (s ∷ ss) a = (omega arith, from_some (last_of s.first s.order) ss a.1)
 
--- and covers nothing before it
+-- segments from n on cover no file before n
 covers_from : (n : ℕ) (ss : List SegmentValue) (k : ℕ) → From n ss → SegmentsCover ss k → n ≤ k
 covers_from n [] k f c = absurd (omega (arith, c.1.1))
 covers_from n (s ∷ ss) k f c = by_case (covers_from (last_of s.first s.order + 1) ss k f.1) (cover_either s ss k c)
@@ -51,7 +51,7 @@ covers_from n (s ∷ ss) k f c = by_case (covers_from (last_of s.first s.order +
     by_case more (inl h) = omega (arith, f.0, h.0)
     by_case more (inr h) = omega (arith, f.0, more h, pow_pos s.order)
 
--- segments that follow one another cover all up to the last, and nothing else
+-- segments that follow one another cover exactly the files from n to end - 1
 pub next_covers : (n : ℕ) (ss : List SegmentValue) (end k : ℕ) → AreNext n ss end → n ≤ k → k < end → SegmentsCover ss k
 next_covers n [] end k a low high = absurd (omega (arith, a, low, high))
 next_covers n (s ∷ ss) end k a low high =
@@ -76,7 +76,7 @@ next_high n (s ∷ ss) end k a c = by_case (next_high (last_of s.first s.order +
     by_case more (inl h) = omega (arith, h.1, next_low (last_of s.first s.order + 1) ss end a.1)
     by_case more (inr h) = more h
 
--- before a gap all is covered, at it nothing is, and behind it something is
+-- each file before a gap is covered, the one at the gap isn't, and one after it is
 pub gap_before : (n : ℕ) (ss : List SegmentValue) (k i : ℕ) → HasGap n ss k → n ≤ i → i < k → SegmentsCover ss i
 gap_before n [] k i g low high = absurd g
 gap_before n (s ∷ ss) k i (inl g) low high = absurd (omega (arith, g.1, low, high))
@@ -112,7 +112,7 @@ gap_there n (s ∷ ss) k f (inr g) c =
     by_case more (inl d) = absurd (omega (arith, d.1, gap_low (last_of s.first s.order + 1) ss k g.1))
     by_case more (inr d) = more d
 
--- something behind the gap is covered
+-- a file after k is covered
 record CoveredBehind (ss : List SegmentValue) (k : ℕ) : Type 0 where
   pub at : ℕ
   pub behind : k < at
@@ -196,7 +196,7 @@ module _ (p : PartValue) (up : From 0 p.segments) where
           by_place (inr i) = absurd (h.1 (b.at, i, b.there))
 
   module _ (end : ℕ) (next : AreNext 0 p.segments end) where
-    -- where the recording has more, the next one is missing
+    -- if the recording has more than `end` files, the file `end` is missing
     pub next_missing : (count : Option ℕ) (n : ℕ) → HasFiles p count n → LacksFrom count end → IsMissing p end ×
         (end < n)
     next_missing count n h l = (
@@ -212,7 +212,7 @@ module _ (p : PartValue) (up : From 0 p.segments) where
         by_count (Some c) h (inr l) = omega (arith, h.1, l)
         by_count None h l = omega (arith, h.0, l)
 
-    -- where it hasn't, it has as many as are covered
+    -- if the recording doesn't have more than `end` files, and all covered files are within it, it has `end` files
     pub next_whole : (count : Option ℕ) (n : ℕ) → AreWithinFiles p.segments count → HasFiles p count n
         → (LacksFrom count end → ⊥) → n ≡ end
     next_whole (Some c) n w h l = by_order (cases_order c end)
@@ -254,7 +254,7 @@ pub last_covered : (p : PartValue) (last : SegmentValue) → last_or None p.segm
 last_covered p last e =
     (last, last_contained p.segments last e, (omega arith, omega arith))
 
--- where there are no segments, the first file is missing
+-- if there are no segments, the recording has more files than are covered
 pub none_lacks : (count : Option ℕ) (end : ℕ) (xs : List Segment) → xs ≡ [] → AreNext 0 (map segment_value xs) end
     → LacksFrom count end
 none_lacks count end xs e next =
@@ -264,7 +264,7 @@ none_lacks count end xs e next =
     by_count None z = z
     by_count (Some c) z = inl z
 
--- ---- whether the last file that is covered is behind those of a recording
+-- ---- whether the last file that is covered is beyond those of the recording
 
 pub is_beyond : (ss : List SegmentValue) (last : SegmentValue) (count : Option ℕ) (c k : ℕ) → last_or None ss
     ≡ Some last

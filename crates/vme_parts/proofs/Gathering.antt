@@ -29,7 +29,7 @@ all_back P xs ys all = All-same P ys (drop (length xs) (xs ++ ys)) (sym (drop-ap
 pub all_last : {X : Type 0} (P : X → Type 0) (xs : List X) (x : X) → All P (xs ++ x ∷ []) → P x
 all_last P xs x all = All-contains P (xs ++ x ∷ []) x all (Contains-push xs x)
 
--- two at the end become one
+-- `All` holds if two items at the end are replaced by one for which P follows
 all_merged : {X : Type 0} (P : X → Type 0) (xs : List X) (s t r : X) → (P s → P t → P r) → All P (xs ++ s ∷ t ∷ [])
     → All P (xs ++ r ∷ [])
 all_merged P xs s t r both all =
@@ -61,7 +61,7 @@ gathered_none =
       compact = λ all. all;
     }
 
--- one more behind
+-- `Gathered` holds with one more segment at the end of both
 pub gathered_pushed : (done ss : List SegmentValue) (x : SegmentValue) → Gathered done ss → Ascend None (ss ++ x ∷ [])
     → Gathered (done ++ x ∷ []) (ss ++ x ∷ [])
 gathered_pushed done ss x g order =
@@ -91,7 +91,7 @@ gathered_pushed done ss x g order =
     back n h (inl c) = cover_more ss x n (h c)
     back n h (inr c) = cover_last ss x n c
 
--- one more that lies within another
+-- `Gathered` holds with one more segment in `done` that lies within one of ss
 pub gathered_within : (done ss : List SegmentValue) (x s : SegmentValue) → Gathered done ss → Contains ss s
     → ((n : ℕ) → SegmentCovers x n → SegmentCovers s n) → Gathered (done ++ x ∷ []) ss
 gathered_within done ss x s g there within =
@@ -113,14 +113,14 @@ gathered_within done ss x s g there within =
     back n h (inl c) = h c
     back n h (inr c) = (s, there, within n c)
 
--- what begins where the one before began ends later: the order stays
+-- if r replaces s and t at the end and begins where s does, the segments still ascend
 order_merged : (before : Option ℕ) (front : List SegmentValue) (s t r : SegmentValue) → r.first ≡ s.first
     → Ascend before (front ++ s ∷ t ∷ []) → Ascend before (front ++ r ∷ [])
 order_merged None [] s t r e a = (tt, tt)
 order_merged (Some l) [] s t r e a = (rw e a.0, tt)
 order_merged before (x ∷ xs) s t r e a = (a.0, order_merged (Some (last_of x.first x.order)) xs s t r e a.1)
 
--- two buddies at the end become one
+-- `Gathered` holds if the buddies s and t at the end are joined to r
 pub gathered_merged : (done front : List SegmentValue) (s t r : SegmentValue) → Gathered done (front ++ s ∷ t ∷ [])
     → IsOfBoth s t r → AreBuddies s t → IsCompact r → Gathered done (front ++ r ∷ [])
 gathered_merged done front s t r g b h few =

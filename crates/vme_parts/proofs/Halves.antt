@@ -12,7 +12,7 @@ use Rattle.vme_parts.specs.Buddies.{AreBuddies, FewNodes, IsTableOf, are_buddies
 use Rattle.vme_parts.specs.Gathering.{IsSegment, Precedes}
 use Rattle.vme_parts.specs.Joined.{IsOfBoth}
 
--- what the test tells
+-- `are_buddies` implies `AreBuddies`
 pub buddies_are : (s t : SegmentValue) → are_buddies s t ≡ true → AreBuddies s t
 buddies_are s t e =
     let all = and_parts (s.order == t.order && nat_lt s.order 62 && t.first == s.first + 2 ^ s.order)
@@ -27,7 +27,7 @@ buddies_are s t e =
       aligned = eqb-true (s.first % 2 ^ (s.order + 1)) 0 all.1;
     }
 
--- no value, by a test
+-- if the test says that there is no value, the option is `None`
 pub none_by_test : (o : Option ℕ) (r : Bool) → is_some o ≡ not r → r ≡ true → o ≡ None
 none_by_test None r e t = refl
 none_by_test (Some x) true e t = absurd (cc)
@@ -40,7 +40,7 @@ can_compose n a b p q few =
 table_of_both : (n steps : ℕ) (a b c : TableValue) → SaysBoth steps a b c → IsTableOf n a → IsTableOf n c
 table_of_both n steps a b c s p = record { ways = s.ways; counted = s.counted ∙ p.counted }
 
--- one of two is a segment, as the first is
+-- r, joined from s and t, satisfies `IsSegment` if s does
 pub segment_of_both : (s t r : SegmentValue) → IsOfBoth s t r → AreBuddies s t → IsSegment s → IsSegment r
 segment_of_both s t r b h p =
     record {
@@ -59,7 +59,7 @@ segment_of_both s t r b h p =
       };
     }
 
--- and it comes before what the second comes before
+-- r, joined from s and t, precedes each segment that t precedes
 pub first_of_both : (s t r n : SegmentValue) → IsOfBoth s t r → AreBuddies s t → Precedes t n → Precedes r n
 first_of_both s t r n b h (inl k) = inl (omega (arith, b.first, h.behind, k))
 first_of_both s t r n b h (inr k) = inl (omega (arith, b.first, h.behind, k.0))

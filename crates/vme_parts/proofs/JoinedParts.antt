@@ -1,4 +1,4 @@
--- One part of the segments of all.
+-- The part joined from the segments of all parts.
 use Rattle.std.proofs.Common.{inl, inr, ◌≡◌, ℕ, zero, suc, ◌<◌, ◌^◌, Bool, List, [], ◌∷◌, ◌++◌, length, map}
 use Rattle.std.proofs.Common.{get_or}
 use Rattle.std.proofs.Common.{refl, ap, subst, sym, ◌∙◌, arith, Option, None, Some}
@@ -91,7 +91,7 @@ table_is : (listing : Bool) (memories steps : ℕ) (t : TableValue) → FitsTabl
 table_is listing memories steps t f =
     record { ways = has_ways listing memories steps t f; counted = f.as_many }
 
--- a segment that can be written is one, whatever was read
+-- a segment that can be written satisfies `IsSegment`
 pub is_segment : (listing : Bool) (s : SegmentValue) → FitsSegment listing s → IsSegment s
 is_segment listing s f =
     record {
@@ -105,7 +105,7 @@ is_segment listing s f =
       };
     }
 
--- so are those of a part that can be written
+-- the segments of a part that can be written satisfy `IsSegment`
 pub part_segments : (p : PartValue) → FitsPart p → All IsSegment p.segments
 part_segments p f =
     All-weaker (FitsSegment p.listing) IsSegment (is_segment p.listing) p.segments
@@ -118,7 +118,7 @@ segments_more ps p =
     flat_map_more (λ (q : PartValue). q.segments) [] (map part_value ps) (part_value p)
     ∙ ap segments_of (sym (map_push part_value ps p))
 
--- each of them is one of a part, and each of a part is one of them
+-- `segments_of` has exactly the segments that one of the parts has
 from_some : (ps : List PartValue) (s : SegmentValue) → Contains (segments_of ps) s
     → (p : PartValue) × Contains ps p × Contains p.segments s
 from_some [] s c = absurd (omega (arith, c.1))
@@ -160,7 +160,7 @@ sorted_are_segments ps made sorted e same fits =
     All-permutation IsSegment made sorted same
     (All-same IsSegment made (segments_of ps) e (segments_are ps fits))
 
--- what sorted segments say of one another
+-- the sorted segments are those of the parts, so a difference among them is one between parts
 module _ (ps : List PartValue) (made sorted : List SegmentValue) (e : made ≡ segments_of ps)
     (same : IsPermutation made sorted) where
   in_sorted : (s : SegmentValue) → Contains (segments_of ps) s → Contains sorted s
@@ -187,7 +187,7 @@ module _ (ps : List PartValue) (made sorted : List SegmentValue) (e : made ≡ s
         apart = a.apart;
       }
 
--- the part of what is gathered of all segments, in whatever order
+-- the part r, whose segments are gathered from all segments of the parts ps, sorted
 module _ (ps : List PartValue) (r : PartValue) (made sorted : List SegmentValue) (e : made ≡ segments_of ps)
     (same : IsPermutation made sorted) (listed : All (λ (p : PartValue). p.listing ≡ r.listing) ps)
     (fits : All FitsPart ps) (sum : r.backplane < 2 ^ 64) (few : length r.segments < 2 ^ 32)

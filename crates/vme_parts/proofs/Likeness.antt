@@ -38,7 +38,7 @@ module _ (backplane : ℕ) (listing : Bool) (xs : List Part) (i : ℕ) where
     one,
   )
 
--- ---- why parts make none together
+-- ---- why parts can't be joined
 
 pub refused_by : (backplane : ℕ) (listing : Bool) (ps : List PartValue) (why : JoinRefusal)
     → backplane ≡ first_backplane ps → listing ≡ first_listing ps → AreRefusedBy backplane listing ps why

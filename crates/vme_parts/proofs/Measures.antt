@@ -1,4 +1,4 @@
--- What is looked at before a part is written.
+-- The tests whether a part can be written.
 use Rattle.std.proofs.Common.{◌≡◌, ℕ, ◌+◌, ◌^◌, ◌<◌, ◌≤◌, Bool, true, false, List, [], ◌∷◌, ◌++◌, length}
 use Rattle.std.proofs.Common.{map}
 use Rattle.std.proofs.Common.{get_or, take, drop, set, refl, ap, sym, subst, ◌∙◌, arith, Some, None}
@@ -26,7 +26,7 @@ use Rattle.vme_part_format.specs.declared.wide.WideMark.{WideMark}
 
 -- ---- levels
 
--- the levels of the lines before a number are those that a backplane shows
+-- the first n levels of `seen` are those of `lines`, with Unknown for lines that the backplane doesn't have
 pub record SeesBefore (seen lines : Levels) (n : ℕ) : Type 0 where
   pub slots : seen.slots ≡ lines.slots
   pub many : length seen.levels ≡ line_count
@@ -106,7 +106,7 @@ all_more P xs i x h is one was =
 pub all_whole : {X : Type 0} (P : X → Type 0) (xs : List X) (i : ℕ) → length xs ≤ i → All P (take i xs) → All P xs
 all_whole P xs i h was = subst (All P) (take_all i xs h) was
 
--- memory 2 stands between the first two entries and those behind
+-- if the entry with index 2 is `stays`, it is between the first two entries and the others
 pub stands_between : (es : List TableEntry) → slice_get es 2 ≡ Some stays
     → (front : List TableEntry) × (back : List TableEntry) × (length front ≡ 2) × (es ≡ front ++ stays ∷ back)
 stands_between [] e = absurd (cc)
@@ -142,7 +142,7 @@ table_fit listing memories steps t as_many few none stays_there entries nodes =
     by_listing true none = tt
     by_listing false none = no_nodes t.nodes.items (none refl)
 
--- two flags that a test doesn't tell apart
+-- two flags that aren't unequal are equal
 pub same_flag : (a b : Bool) → not (beq a b) ≡ false → a ≡ b
 same_flag true true e = refl
 same_flag true false e = absurd (cc)
@@ -155,7 +155,7 @@ other_flag true false e f = absurd (cc)
 other_flag false true e f = absurd (cc)
 other_flag false false e f = absurd (cc)
 
--- a part of one segment
+-- a part of one segment fits if the segment does
 pub one_fits : (p : Part) (s : Segment) → p.backplane < 2 ^ 64 → length p.segments.items ≡ 1
     → s ≡ get_or p.segments.items 0 s → FitsSegment p.listing (segment_value s) → FitsPart (part_value p)
 one_fits p s small one is fits =
@@ -171,7 +171,7 @@ one_fits p s small one is fits =
     all_fit (x ∷ []) n e = (subst (λ (y : Segment). FitsSegment p.listing (segment_value y)) e fits, tt, tt)
     all_fit (x ∷ y ∷ xs) n e = absurd (omega (arith, n))
 
--- and its tables have few nodes
+-- a list of one segment is compact if the segment is
 pub one_compact : (xs : List Segment) (s : Segment) → length xs ≡ 1 → s ≡ get_or xs 0 s → IsCompact (segment_value s)
     → All IsCompact (map segment_value xs)
 one_compact [] s one is h = absurd (omega (arith, one))

@@ -25,7 +25,7 @@ module _ (s t r : SegmentValue) (b : IsOfBoth s t r) (h : AreBuddies s t) where
   begins : t.first ≡ s.first + 2 ^ s.order
   begins = omega (arith, h.behind, pow_pos s.order)
 
-  -- the files of both
+  -- the files of r are those of s and then those of t
   pub files_of_both : (files : List Block) → files_of files s ++ files_of files t ≡ files_of files r
   files_of_both files =
       let size = 2 ^ s.order in
@@ -44,7 +44,7 @@ module _ (s t r : SegmentValue) (b : IsOfBoth s t r) (h : AreBuddies s t) where
       subst (SegmentStandsFor listing r) (files_of_both files)
       (segment_stands_for_both s t r b listing (files_of files s) (files_of files t) p q)
 
-  -- what it covers
+  -- each file that r covers is covered by s or t
   pub covers_both : (n : ℕ) → SegmentCovers r n → (SegmentCovers s n) ⊎ (SegmentCovers t n)
   covers_both n c = by_place (cases_lt n t.first)
     where

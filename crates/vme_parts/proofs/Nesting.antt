@@ -16,7 +16,7 @@ lt_cancel n a b h = by_place (cases_lt a b)
     by_place (inl k) = k
     by_place (inr k) = absurd (omega (arith, mul-le-mul_left n k))
 
--- a multiple that is below another is a whole step below it
+-- of two multiples of n, the lesser is at least n below the greater
 step_below : (n a b : ℕ) → n * a < n * b → n * a + n ≤ n * b
 step_below n a b h =
     let k : a + 1 ≤ b = omega (arith, lt_cancel n a b h) in
@@ -30,7 +30,7 @@ power_parts low high h =
     let e : low + (high - low) ≡ high = omega arith in
     sym (ap (λ k. 2 ^ k) e) ∙ pow-add 2 low (high - low)
 
--- a multiple of a greater power is one of a lesser
+-- a multiple of 2 ^ high is one of 2 ^ low, if low ≤ high
 multiple_low : (x low high : ℕ) → low ≤ high → x % 2 ^ high ≡ 0
     → x ≡ 2 ^ low * (2 ^ (high - low) * (x / 2 ^ high))
 multiple_low x low high h e =

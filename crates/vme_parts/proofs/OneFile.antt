@@ -31,7 +31,7 @@ use Rattle.vme_part_tables.specs.Runs.{TellsRuns}
 use Rattle.vme_parts.specs.Meeting.{ends_at, starts_at}
 use Rattle.vme_parts.specs.Stands.{SegmentStandsFor, extent_of, first_with_step}
 
--- the last time, by the step at the last place
+-- the time of the step with the last index is the last time
 pub last_time_is : (xs : List Step) (x : Step) → slice_get xs (length xs - 1) ≡ Some x → Some x.time ≡ last_time xs
 last_time_is xs x e = ap (option_map (λ (s : Step). s.time)) (sym e ∙ sym (last_or-got xs))
 
@@ -39,7 +39,7 @@ pub no_last_time : (xs : List Step) → slice_get xs 0 ≡ None → None ≡ las
 no_last_time [] e = refl
 no_last_time (x ∷ xs) e = absurd (cc)
 
--- where there is a first step there is a last one
+-- if there is a first step, there is a last one
 pub some_last : (xs : List Step) (x : Step) → slice_get xs 0 ≡ Some x → slice_get xs (length xs - 1) ≡ None → ⊥
 some_last [] x e n = absurd (cc)
 some_last (y ∷ ys) x e n =
@@ -47,13 +47,13 @@ some_last (y ∷ ys) x e n =
     let bad : Some (get_or (y ∷ ys) last y) ≡ None = sym (slice_get-get_or (y ∷ ys) last y (omega arith)) ∙ n in
     absurd (cc)
 
--- the lines that one step more leaves
+-- the levels after k + 1 steps are those after k steps with the changes of the step k
 pub left_more : (o : Levels) (xs : List Step) (k : ℕ) (x : Step) → k < length xs → take (k + 1) xs ≡ take k xs ++ x ∷ []
     → changed (levels_after o (take k xs)) x.changes ≡ levels_after o (take (k + 1) xs)
 left_more o xs k x h e =
     sym (ap (levels_after o) e ∙ levels_after-append (take k xs) (x ∷ []) o)
 
--- a list of one segment
+-- an empty list to which x is pushed has the one value of x
 pub pushed_alone : (old new : List Segment) (x : Segment) → old ≡ [] → new ≡ old ++ x ∷ []
     → map segment_value new ≡ segment_value x ∷ []
 pushed_alone old new x e p = ap (map segment_value) p ∙ ap (λ (xs : List Segment). map segment_value (xs ++ x ∷ [])) e

@@ -1,4 +1,4 @@
--- What is well-formed as a dump's recording is so as a file of a number.
+-- If a dump's recording is well-formed, so is the file with a number.
 use Rattle.std.proofs.Common.{◌≡◌, ℕ, ◌≤◌, Bool, true, false, List, [], ◌∷◌, length, arith, Option, None, if◌then◌else◌}
 use Rattle.vme_trace.specs.Levels.{Levels}
 use Rattle.vme_trace.specs.Trace.{changed}

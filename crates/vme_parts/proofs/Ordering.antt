@@ -1,4 +1,4 @@
--- The order in which segments are added, and the last of some.
+-- The order in which segments are added, and the last segment of a list.
 use Rattle.std.proofs.Common.{inl, inr, ◌≡◌, ℕ, suc, ◌-◌, ◌<◌, ◌≤◌, List, [], ◌∷◌, ◌++◌, length, map, get_or}
 use Rattle.std.proofs.Common.{drop, take}
 use Rattle.std.proofs.Common.{refl, ap, sym, ◌∙◌, arith, Option, Some, None, subst}
@@ -19,7 +19,7 @@ use Rattle.vme_parts.specs.Gathering.{Ascend, BeginsInLast, Gathered, IsSegment,
 use Rattle.vme_parts.proofs.Gathering.{gathered_pushed, gathered_within}
 use Rattle.vme_parts.proofs.Nesting.{lies_within}
 
--- the order by the key
+-- a segment precedes another if its key isn't greater
 pub precedes_by_key : (s t : SegmentValue) → s.order < 63 → t.order < 63 → order_key s ≤ order_key t → Precedes s t
 precedes_by_key s t p q h = by_cases (cases_order s.first t.first)
   where
@@ -37,7 +37,7 @@ precedes_on s t u (inr a) (inr b) = inr (a.0 ∙ b.0, omega (arith, a.1, b.1))
 pub precedes_itself : (s : SegmentValue) → Precedes s s
 precedes_itself s = inr (refl, omega arith)
 
--- the last of some segments, by the slice's
+-- the item with the last index is the last segment
 pub last_there : (xs : List Segment) (x : Segment) → slice_get xs (length xs - 1) ≡ Some x
     → last_or None (map segment_value xs) ≡ Some (segment_value x)
 last_there xs x e =
@@ -45,7 +45,7 @@ last_there xs x e =
     ∙ (ap (λ n. slice_get (map segment_value xs) (n - 1)) (length-map xs segment_value)
     ∙ (slice_get-map segment_value xs (length xs - 1) ∙ ap (option_map segment_value) e))
 
--- and where there is none
+-- if there is no item with the last index, there is no last segment
 pub none_there : (xs : List Segment) → slice_get xs (length xs - 1) ≡ None → last_or None (map segment_value xs) ≡ None
 none_there xs e =
     last_or-got (map segment_value xs)
@@ -83,7 +83,7 @@ begins_first xs s e =
     subst (λ (o : Option SegmentValue). IfSome o (λ last. last_of last.first last.order < s.first))
     (sym (none_there xs e)) tt
 
--- one that begins behind the last goes on ascending
+-- if s begins after the last of ss, then ss and s ascend
 ascend_from : (before : Option SegmentValue) (ss : List SegmentValue) (s : SegmentValue)
     → Ascend (option_map (λ (b : SegmentValue). last_of b.first b.order) before) ss
     → IfSome (last_or before ss) (λ last. last_of last.first last.order < s.first)
@@ -97,7 +97,7 @@ pub gathered_behind : (done ss : List SegmentValue) (s : SegmentValue)
     → Gathered (done ++ s ∷ []) (ss ++ s ∷ [])
 gathered_behind done ss s h g = gathered_pushed done ss s g (ascend_from None ss s g.order h)
 
--- one that begins in the last lies within it
+-- a segment that begins in the last one, which precedes it, lies within it, so `Gathered` holds without it
 pub gathered_in_last : (done ss : List SegmentValue) (s : SegmentValue) → BeginsInLast ss s → All IsSegment ss
     → IsSegment s → IfSome (last_or None ss) (λ last. Precedes last s) → Gathered done ss
     → Gathered (done ++ s ∷ []) ss
@@ -108,7 +108,7 @@ gathered_in_last done ss s b all p order g =
     (λ (o : Option SegmentValue). IfSome o (λ last. Precedes last s)) b.there order in
     gathered_within done ss s b.last g there (lies_within b.last s q.numbers p.numbers before b.within)
 
--- what comes next of sorted segments comes before those that are left
+-- each segment of a list satisfies `IsSegment` if all do, and the next of sorted segments precedes those after it
 segments_at : (xs : List Segment) (k : ℕ) (d : Segment) → k < length xs → All IsSegment (map segment_value xs)
     → IsSegment (segment_value (get_or xs k d))
 segments_at xs k d h all =
@@ -145,7 +145,7 @@ comes_next all done rest x e every sorted =
     (IsNonDecreasingBy-drop (λ (s : Segment). order_key (segment_value s)) (length done) all sorted) in
     (segments_at (x ∷ rest) 0 x (omega arith) own, first_of_sorted x rest own up)
 
--- what comes before the next comes before all that follow
+-- if the last segment precedes s, and s precedes all of ss, then the last precedes all of ss
 pub precede_all : (o : Option SegmentValue) (s : SegmentValue) (ss : List SegmentValue)
     → IfSome o (λ last. Precedes last s) → All (Precedes s) ss → IfSome o (λ last. All (Precedes last) ss)
 precede_all None s ss h all = tt
@@ -169,7 +169,7 @@ rest_segments (x ∷ xs) all =
     subst (λ (ys : List Segment). All IsSegment (map segment_value ys)) (sym (tail_whole x xs))
     (All-tail IsSegment (segment_value x) (map segment_value xs) all)
 
--- the first one and all others
+-- the first segment and all others are the whole list
 pub first_and_rest : (xs : List Segment) (x : Segment) → 0 < length xs → x ≡ get_or xs 0 x
     → segment_value x ∷ map segment_value (take (length xs - 1) (drop 1 xs)) ≡ map segment_value xs
 first_and_rest [] x h e = absurd (omega arith)

@@ -18,17 +18,17 @@ use Rattle.vme_part_tables.proofs.Noting.{needed_within, whole_needed}
 use Rattle.vme_parts.proofs.Bare.{tells_same}
 use Rattle.vme_parts.proofs.Runs.{IsRun}
 
--- the steps up to a piece's end
+-- the first n steps and then a piece of k steps are the first m = n + k steps
 pub piece_more : (xs : List Step) (n k m : ℕ) → n + k ≡ m → take n xs ++ take k (drop n xs) ≡ take m xs
 piece_more xs n k m e = sym (take-add n k xs) ∙ ap (λ i. take i xs) e
 
--- the lines behind it
+-- the levels after the piece are those after the first m steps
 pub piece_lines : (o : Levels) (xs : List Step) (n k m : ℕ) → n + k ≡ m
     → levels_after (levels_after o (take n xs)) (take k (drop n xs)) ≡ levels_after o (take m xs)
 piece_lines o xs n k m e =
     sym (levels_after-append (take n xs) (take k (drop n xs)) o) ∙ ap (levels_after o) (piece_more xs n k m e)
 
--- a piece of well-formed steps is well formed behind those before it
+-- a piece of well-formed steps is well-formed from the levels after the steps before it
 pub piece_sound : (o : Levels) (xs : List Step) (n k : ℕ)
     → malformed_step (record { opening = o; steps = xs }) ≡ None
     → malformed_step (record { opening = levels_after o (take n xs); steps = take k (drop n xs) }) ≡ None
@@ -41,12 +41,12 @@ piece_sound o xs n k e =
     (sym (take-append-drop k (drop n xs))) behind in
     (sound_apart (levels_after o (take n xs)) (take k (drop n xs)) (drop k (drop n xs)) again).first
 
--- no steps are well formed
+-- the empty list of steps is well-formed
 pub none_sound : (o : Levels) (xs : List Step) → malformed_step (record { opening = o; steps = xs }) ≡ None
     → malformed_step (record { opening = o; steps = [] }) ≡ None
 none_sound o xs e = (sound_apart o [] xs e).first
 
--- no steps show no marks, needed or not
+-- without steps there are no marks, so it doesn't matter which are needed
 pub none_needed : {P : Type 0} (place : P → ℕ) (count : ℕ) (t : TableValue) (needs : List Bool) (run : P → Outcome P)
     → ((p : P) → run p ≡ nothing_shown p)
     → TellsRuns true count place t (λ p. if_needed (is_needed needs (place p)) (run p))
@@ -59,8 +59,8 @@ none_needed {P} place count t needs run e =
     by_case true p = refl
     by_case false p = refl
 
--- a table tells of the run over steps and a piece behind them, if that of the piece tells of those memories that the
--- steps leave
+-- the composition c of the tables a and b agrees with the run over the steps x and then y, if a agrees with the run
+-- over x, and b with that over y, where b has marks at least for the memories in which a ends
 pub needed_of_both : {P : Type 0} (run : P → Levels → List Step → Outcome P) → IsRun run → (place : P → ℕ) (count : ℕ)
     (needs : List Bool) (o v : Levels) (x y : List Step) (a b c : TableValue) → ((p : P) → place p < count)
     → v ≡ levels_after o x → length x + length y < 2 ^ 64 → SaysBoth (length x) a b c → AreNeeded a needs

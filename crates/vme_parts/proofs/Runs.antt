@@ -21,7 +21,8 @@ use Rattle.vme_part_format.specs.Tables.{TableValue}
 use Rattle.vme_part_tables.specs.Runs.{SaysBoth, TellsRuns}
 use Rattle.vme_part_tables.proofs.Joining.{tables_tell_both}
 
--- a run goes on where steps end, and its instants count from 1 to the number of steps
+-- the run over x and then y is the run over x, followed by that over y from the memory in which the first ends; the
+-- instants of a run over x are from 1 to the number of steps
 pub record IsRun {P : Type 0} (run : P → Levels → List Step → Outcome P) : Type 0 where
   pub joined : (p : P) (o : Levels) (x y : List Step)
       → run p o (x ++ y) ≡ composed_outcome (length x) (run p o x) (run (run p o x).leaving (levels_after o x) y)

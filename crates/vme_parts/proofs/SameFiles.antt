@@ -1,4 +1,4 @@
--- Segments of the same files that say the same.
+-- Segments of the same files that agree.
 use Rattle.std.proofs.Common.{inl, inr, ◌≡◌, ℕ, zero, suc, ◌+◌, ◌-◌, ◌<◌, ◌≤◌, List, [], ◌∷◌, length, map}
 use Rattle.std.proofs.Common.{get_or, refl, ap, sym, subst, ◌∙◌, arith}
 use Rattle.std.specs.Prelude.{◌⊎◌, All, Contains}
@@ -17,14 +17,14 @@ elements_same [] i d e h = absurd (omega (arith, h))
 elements_same (x ∷ xs) zero d e h = refl
 elements_same (x ∷ xs) (suc i) d e h = elements_same xs i d e (omega (arith, h))
 
--- a segment at a place
+-- the segment with the index k satisfies `IsSegment` if all do
 segment_there : (xs : List Segment) (k : ℕ) (d : Segment) → k < length xs → All IsSegment (map segment_value xs)
     → IsSegment (segment_value (get_or xs k d))
 segment_there xs k d h all =
     subst IsSegment (get_or-map segment_value xs k d (segment_value d) h)
     (all k (segment_value d) (omega (arith, h, length-map xs segment_value)))
 
--- ---- what is said is the same
+-- ---- outcomes that agree
 
 same_tables : (t : TableValue) → AreTablesAlike t t
 same_tables t = record { as_many = refl; leaving = λ k h. refl; first_break = λ k h. refl }
@@ -89,14 +89,14 @@ alike_on s t u a b =
 
 -- ---- in order
 
--- what stands between two of the same files is of these too
+-- in order, a segment between two of the same files is of these files too
 between : (s t u : SegmentValue) → Precedes s t → Precedes t u → HaveSameFiles s u → HaveSameFiles s t
 between s t u (inl a) (inl b) same = absurd (omega (arith, a, b, same.0))
 between s t u (inl a) (inr b) same = absurd (omega (arith, a, b.0, same.0))
 between s t u (inr a) (inl b) same = absurd (omega (arith, a.0, b, same.0))
 between s t u (inr a) (inr b) same = (a.0, omega (arith, a.1, b.1, same.1))
 
--- neighbours of the same files say the same
+-- of the first n segments, neighbours of the same files agree
 abbrev pub NextAlike : List Segment → ℕ → Type 0
 NextAlike xs n =
     (i : ℕ) (d : Segment) → i + 1 < n
@@ -137,7 +137,7 @@ module _ (xs : List Segment) (all : All IsSegment (map segment_value xs))
       let q = segment_there xs j d h all in
       precedes_by_key (at i d) (at j d) p.numbers.few q.numbers.few (sorted i j d le h)
 
-  -- those of the same files say the same, so many places apart
+  -- segments of the same files agree if they are n places apart
   apart_by : (n i : ℕ) (d : Segment) → i + n < length xs → HaveSameFiles (at i d) (at (i + n) d)
       → AreAlike (at i d) (at (i + n) d)
   apart_by zero i d h same =
@@ -190,14 +190,14 @@ module _ (xs : List Segment) (all : All IsSegment (map segment_value xs))
             ∙ sym (ap (λ (x : SegmentValue). x.order) b.2)),
       )))
 
--- all of the same files say the same
+-- if sorted neighbours of the same files agree, all segments of the same files do
 pub all_alike : (xs : List Segment) → All IsSegment (map segment_value xs)
     → IsNonDecreasingBy (λ (s : Segment). order_key (segment_value s)) xs → NextAlike xs (length xs)
     → AllAlike (map segment_value xs)
 all_alike [] all sorted next = λ s t p q same. absurd (omega (arith, p.1))
 all_alike (x ∷ xs) all sorted next = alike_in (x ∷ xs) all sorted next x
 
--- two neighbours that don't
+-- if two neighbours of the same files differ, `HaveApart` holds
 pub have_apart : (xs : List Segment) (n : ℕ) (a b : Segment) → 0 < n → n < length xs → a ≡ get_or xs (n - 1) a
     → b ≡ get_or xs n b → HaveSameFiles (segment_value a) (segment_value b)
     → (AreAlike (segment_value a) (segment_value b) → ⊥) → HaveApart (map segment_value xs) a.first

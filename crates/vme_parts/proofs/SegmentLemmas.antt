@@ -1,4 +1,4 @@
--- Judging goes past a segment.
+-- Judging a segment.
 use Rattle.std.proofs.Common.{◌≡◌, ℕ, ◌+◌, ◌<◌, ◌^◌, Bool, List, [], ◌++◌, length, length-append, refl, ap, sym, subst}
 use Rattle.std.proofs.Common.{◌∙◌, arith}
 use Rattle.std.proofs.Common.{Option, true}
@@ -22,7 +22,8 @@ use Rattle.vme_parts.specs.declared.judged_segments.JudgedSegments.{JudgedSegmen
 use Rattle.vme_parts.specs.declared.state.States.{States}
 use Rattle.vme_parts.proofs.Standing.{ends_of_both, starts_of_both}
 
--- what the monitors come to past a segment, whatever stood before
+-- if the monitors have the states `before` after `steps` steps, and the tables of s agree with the steps after these,
+-- then the monitors have the states `after` after both
 abbrev pub PastTables : States → States → ℕ → SegmentValue → Type 0
 PastTables before after steps s =
     (listing : Bool) (o v : Levels) (x y : List Step) → v ≡ levels_after o x → steps ≡ length x

@@ -1,4 +1,4 @@
--- A segment of two stands for the files of both.
+-- A segment joined from two stands for the files of both.
 use Rattle.std.proofs.Common.{◌≡◌, ℕ, ◌+◌, ◌<◌, ◌^◌, Bool, List, ◌++◌, length, refl, ap, sym, subst, ◌∙◌}
 use Rattle.std.proofs.Common.{arith, length-append, Option, Some, None}
 use Rattle.std.specs.Prelude.{find, not}

@@ -1,4 +1,4 @@
--- What the monitors come to past a segment.
+-- The states of the monitors after a segment.
 use Rattle.std.proofs.Common.{◌≡◌, ℕ, ◌+◌, ◌<◌, ◌^◌, Bool, false, List, [], ◌++◌, length, refl, ap, sym, subst}
 use Rattle.std.proofs.Common.{arith}
 use Rattle.std.proofs.Common.{Option, None, get_or}
@@ -19,7 +19,7 @@ use Rattle.vme_parts.specs.Progress.{HasState, way_of}
 use Rattle.vme_parts.specs.declared.state.State.{State}
 use Rattle.vme_parts.proofs.Runs.{IsRun}
 
--- a way without its marks
+-- the outcome w without its marks
 abbrev bare : WayOutcome → WayOutcome
 bare w = record { leaving = w.leaving; first_break = w.first_break; marks = [] }
 
@@ -27,7 +27,7 @@ tells_bare : {P : Type 0} (listing : Bool) (place : P → ℕ) (w : WayOutcome) 
     → TellsRun listing place w r → TellsRun false place (bare w) r
 tells_bare listing place w r t = record { leaving = t.leaving; first_break = t.first_break; marks = refl }
 
--- the memory that a table leaves is one of its memories
+-- a run of a table of n memories ends in one of them
 pub leaves_memory : (n : ℕ) (t : TableValue) (k : ℕ) → IsTableOf n t → k < n → (outcome_in t k).leaving < n
 leaves_memory n t k p h =
     let below : k < length t.entries = omega (arith, p.counted, h) in
@@ -39,7 +39,8 @@ leaves_memory n t k p h =
     let left = walked_leaving (length t.entries) t.nodes e.next p.ways.nodes (p.ways.entries k d below) in
     subst (λ (w : WayOutcome). w.leaving < n) (sym at) (omega (arith, left, p.counted))
 
--- a monitor past some steps, and then past a segment
+-- if a monitor has the state s after the steps x, and the table t agrees with its runs over y, it has the state r after
+-- both
 pub past_state : {P : Type 0} (run : P → Levels → List Step → Outcome P) → IsRun run → (begin : Levels → P)
     (place : P → ℕ) (listing : Bool) (count : ℕ) (t : TableValue) (s r : State) (o v : Levels) (x y : List Step)
     (steps : ℕ) → r.memory ≡ (outcome_in t s.memory).leaving

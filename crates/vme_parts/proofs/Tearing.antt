@@ -1,4 +1,4 @@
--- Files that others don't go on with.
+-- Files that don't follow those before them.
 use Rattle.std.proofs.Common.{inl, inr, ◌≡◌, ℕ, true, Option, Some, None, refl}
 use Rattle.std.specs.Prelude.{IfSome}
 use Rattle.vme_trace.specs.Levels.{Levels}

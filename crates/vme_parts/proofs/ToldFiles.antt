@@ -1,4 +1,4 @@
--- What is told of the files of a recording.
+-- The answers about the files of a recording.
 use Rattle.std.proofs.Common.{◌≡◌, ℕ, ◌+◌, ◌<◌, ◌≤◌, ◌^◌, Bool, List, [], ◌∷◌, ◌++◌, length, map, get_or}
 use Rattle.std.proofs.Common.{take, drop, ap}
 use Rattle.std.proofs.Common.{sym, subst, ◌∙◌, arith, Option, Some, None}
@@ -32,7 +32,7 @@ use Rattle.vme_parts.proofs.Covered.{all_covered, from_none, gap_missing, last_c
 use Rattle.vme_parts.proofs.Covered.{next_whole}
 use Rattle.vme_parts.proofs.WholeFiles.{HasComeTo, come_first, come_on, found_all, torn_below, torn_whole}
 
--- the segment at a place, and those from there on
+-- the segments from index i on are the segment x and those from i + 1 on
 pub drop_value : (xs : List Segment) (i : ℕ) (x : Segment) → i < length xs → x ≡ get_or xs i x
     → drop i (map segment_value xs) ≡ segment_value x ∷ drop (i + 1) (map segment_value xs)
 drop_value xs i x h e =
@@ -50,9 +50,9 @@ contained_at xs i x h e = (
   get_or-map segment_value xs i x (segment_value x) h ∙ ap segment_value (sym e),
 )
 
--- ---- past segments that follow one another
+-- ---- judging segments that follow one another
 
--- judging has come past the first of some segments, up to those that are left
+-- j is the state after judging the segments of s ∷ ss up to those in `left`
 pub record ComesTo (j : JudgedSegments) (s : SegmentValue) (ss left : List SegmentValue) : Type 0 where
   pub come : (listing : Bool) (files : List Block) (end : ℕ) → AreFiles files → AllStand listing files (s ∷ ss)
       → AreNext 0 (s ∷ ss) end → (n : ℕ) × HasComeTo j s.opening files n × AreNext n left end
@@ -121,7 +121,7 @@ module _ (j : JudgedSegments) (s : SegmentValue) (xs : List Segment) (i : ℕ) (
         omega (arith, torn_below files c.0 (2 ^ x.order) k are own, low, c.2.0, pow_pos x.order),
       )
 
--- past all of them
+-- if no segments are left, all are judged
 pub judges_whole : (j : JudgedSegments) (s : SegmentValue) (xs : List Segment) (i : ℕ) → length xs ≤ i
     → ComesTo j s (map segment_value xs) (drop i (map segment_value xs)) → JudgesAll (s ∷ map segment_value xs) (Ok j)
 judges_whole j s xs i h was =
@@ -135,7 +135,7 @@ judges_whole j s xs i h was =
       ap Some c.1.opened,
     )
 
--- ---- of the files of a part
+-- ---- the files of a part
 
 fit_ascend : (listing : Bool) (before : Option ℕ) (ss : List SegmentValue) → FitSegments listing before ss
     → Ascend before ss
@@ -210,7 +210,7 @@ module _ (p : PartValue) (count : Option ℕ) (end : ℕ) (w : AreWithinFiles p.
       stop_told (stop.Torn k) judges = torn_told k judges
       stop_told stop.TooManySteps judges = many_told
 
--- what is told of what judging came to
+-- if all files are judged, the verdict by the states is the answer
 pub verdict_told : (p : PartValue) (count : Option ℕ) (j : JudgedSegments) (v : WideVerdict)
     → JudgesFiles p count (Ok j)
     → ((t : Trace) → FoundAll j.states t → verdict_by rules_in_force t ≡ verdict_of v)

@@ -1,4 +1,4 @@
--- The first of some files that doesn't follow those before it.
+-- The first of the files that doesn't follow those before it.
 use Rattle.std.proofs.Common.{inl, inr, ◌≡◌, ℕ, ◌+◌, ◌≤◌, Bool, true, List, [], ◌∷◌, ◌++◌, refl, ap, sym}
 use Rattle.std.proofs.Common.{◌∙◌}
 use Rattle.std.proofs.Common.{append-nil, arith, subst, Option, Some, None}
@@ -23,7 +23,7 @@ use Rattle.vme_parts.specs.Progress.{HasJudgedFiles, IsTornIn}
 use Rattle.vme_parts.specs.Stands.{SegmentStandsFor, extent_of, first_with_step}
 use Rattle.vme_parts.specs.declared.judged_segments.JudgedSegments.{JudgedSegments}
 
--- the extent of a block alone
+-- the extent of one block
 abbrev extent_alone : Block → Extent
 extent_alone b =
     record {
@@ -48,7 +48,7 @@ alone b sound =
       ends = ap last_time (sym (append-nil b.steps));
     }
 
--- files up to the first one that has a step
+-- the files before the first one that has a step, this one, and those after it
 record Split (ys : List Block) (n : ℕ) : Type 0 where
   front : List Block
   one : Block
@@ -95,7 +95,7 @@ split (y ∷ ys) n e = by_steps y.steps refl (split ys n)
 
 module _ (j : JudgedSegments) (s : SegmentValue) (listing : Bool) (e : Extent) (bs ys : List Block) (k : ℕ)
     (was : HasJudgedFiles j e bs) (p : SegmentStandsFor listing s ys) (n : s.first ≡ e.last + 1) where
-  -- where the segment opens with other levels
+  -- if the segment opens with other levels than those before leave, its first file is torn
   torn_first : (zs : List Block) → IsExtent (extent_of s) zs → (s.opening ≡ j.left → ⊥) → k ≡ s.first → IsTornIn bs zs k
   torn_first [] q other at = let none : None ≡ Some s.first = q.first in absurd (cc)
   torn_first (z ∷ zs) q other at =
@@ -117,10 +117,10 @@ module _ (j : JudgedSegments) (s : SegmentValue) (listing : Bool) (e : Extent) (
             other (sym same ∙ (meets.opened ∙ sym was.left));
       }
 
-  -- where a step isn't later than those before it: behind the last of the files before come others without a step
+  -- the case of a step that isn't later than those before it: the files `front` have no step, and `one` has that step
   module _ (a : Block) (rest front back : List Block) (one : Block) (first : bs ≡ a ∷ rest)
       (parts : ys ≡ front ++ one ∷ back) (still : joined_steps front ≡ []) where
-    -- those before it join: there is no step among them that could be early
+    -- the files before `one` join: `front` has no step that could be early
     still_joins : GoOn (number_after a.number rest) (left_after (left_by a) rest) None ys → BlocksJoin (bs ++ front)
     still_joins g =
         let own = apart front (one ∷ back) (number_after a.number rest) (left_after (left_by a) rest) None

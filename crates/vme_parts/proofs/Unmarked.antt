@@ -1,4 +1,4 @@
--- Tables without marks tell of the monitors' runs, whose marks are left out.
+-- Tables without marks agree with the monitors' runs, whose marks are left out.
 use Rattle.std.proofs.Common.{◌≡◌, ℕ, false, List, ap, ◌∙◌, Option}
 use Rattle.vme_trace.specs.Levels.{Levels}
 use Rattle.vme_trace.specs.declared.step.Change.{Change}
@@ -28,7 +28,7 @@ unmarked_tells {P} observation next count place t o x s =
           };
     }
 
--- so does a table of what a summary says of these
+-- a table without marks that agrees with a summary of runs without marks agrees with the runs
 pub summary_tells : {P S : Type 0} (observation : Levels → Levels → List Change → Option S)
     (next : P → Levels → Levels → S → Next P) (count : ℕ) (place : P → ℕ) (t : TableValue) (says : P → Outcome P)
     (o : Levels) (x : List Step) → ((p : P) → says p ≡ run_of (machine_step observation (unmarked_step next)) p o x)

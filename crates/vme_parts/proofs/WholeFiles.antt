@@ -21,7 +21,7 @@ use Rattle.vme_parts.specs.Stands.{SegmentStandsFor, extent_of}
 use Rattle.vme_parts.specs.Telling.{IsTornFile}
 use Rattle.vme_parts.specs.declared.judged_segments.JudgedSegments.{JudgedSegments}
 
--- what is found is of the recording that the files make
+-- the states after judging the files bs are those after the recording that the files make
 pub found_all : (j : JudgedSegments) (e : Extent) (bs : List Block) (t : Trace) → HasJudgedFiles j e bs
     → e.opening.slots ≤ 21 → joined_trace bs ≡ Some t → FoundAll j.states t
 found_all j e [] t was few is = absurd (cc)
@@ -38,7 +38,7 @@ found_all j e (b ∷ bs) t was few is =
     } in
     subst (λ k. FoundAll j.states k) whole here
 
--- the files of the next segment are those behind the ones before
+-- the first n files and then those of the segment s, which begins with n, are the first files up to the last of s
 pub files_more : (files : List Block) (n : ℕ) (s : SegmentValue) → s.first ≡ n
     → take n files ++ files_of files s ≡ take (last_of s.first s.order + 1) files
 files_more files n s e =
@@ -50,7 +50,7 @@ got_at : (xs ys : List Block) (x : Block) → slice_get (xs ++ x ∷ ys) (length
 got_at [] ys x = refl
 got_at (z ∷ zs) ys x = got_at zs ys x
 
--- the number of a file is how many are before it
+-- the number of a file is the number of files before it
 number_is : (xs ys : List Block) (x : Block) → AreFiles (xs ++ x ∷ ys) → x.number ≡ length xs
 number_is xs ys x are = are (length xs) x (got_at xs ys x)
 
@@ -77,7 +77,7 @@ torn_files files xs ys x k are e number before there =
           (ap (λ n. take (n + 1) files) (sym at) ∙ (ap (take (length xs + 1)) e ∙ taken_one xs ys x)) joined);
     }
 
--- a file that is torn from those before it in a segment is torn from those of the recording
+-- a file that doesn't follow those before it in a segment is the least such file of the recording
 pub torn_whole : (files : List Block) (n size k : ℕ) → AreFiles files
     → IsTornIn (take n files) (take size (drop n files)) k → IsTornFile files k
 torn_whole files n size k are t =
@@ -92,7 +92,7 @@ torn_whole files n size k are t =
     ∙ sym (append_assoc (take n files) t.front (t.torn ∷ (t.back ++ rest)))))) in
     torn_files files (take n files ++ t.front) (t.back ++ rest) t.torn k are parts t.numbered t.before t.there
 
--- and it is one of the segment's
+-- the number of a file that is torn in a segment is below the segment's end
 pub torn_below : (files : List Block) (n size k : ℕ) → AreFiles files
     → IsTornIn (take n files) (take size (drop n files)) k → k < n + size
 torn_below files n size k are t =
@@ -118,7 +118,7 @@ torn_below files n size k are t =
       length-append t.front (t.torn ∷ t.back),
     )
 
--- what judging has come to up to a number, of segments that stand for their files
+-- j is the state after judging the first n files, which begin with the levels `opening`
 pub record HasComeTo (j : JudgedSegments) (opening : Levels) (files : List Block) (n : ℕ) : Type 0 where
   pub extent : Extent
   pub judged : HasJudgedFiles j extent (take n files)

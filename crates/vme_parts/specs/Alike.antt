@@ -1,5 +1,5 @@
--- Which parts make one together: those of one backplane, all with marks or none, of which no two say different things
--- of the same files.
+-- Which parts can be joined: they are of one backplane, all have marks or none has, and no two segments of the same
+-- files differ.
 use Rattle.std.specs.Prelude.{◌≡◌, ℕ, ◌<◌, Bool, false, List, [], ◌∷◌, All, Contains, Some, length, slice_get, take}
 use Rattle.vme_part_format.specs.Tables.{PartValue, SegmentValue, TableValue}
 use Rattle.vme_part_tables.specs.Ways.{outcome_in}
@@ -7,7 +7,8 @@ use Rattle.vme_parts.specs.Gathering.{segments_of}
 use Rattle.vme_parts.specs.declared.join_refusal.JoinRefusal.{JoinRefusal}
 use Rattle.vme_parts.specs.declared.join_refusal.JoinRefusal.TheVariants as refusal
 
--- two tables say the same of each memory that enters: the memory that is left, and the first break
+-- t and u have the same number of memories, and the runs from each memory end in the same memory and have the same
+-- first break
 pub record AreTablesAlike (t u : TableValue) : Type 0 where
   pub as_many : length u.entries ≡ length t.entries
   pub leaving : (memory : ℕ) → memory < length t.entries
@@ -15,7 +16,7 @@ pub record AreTablesAlike (t u : TableValue) : Type 0 where
   pub first_break : (memory : ℕ) → memory < length t.entries → (outcome_in t memory).first_break
       ≡ (outcome_in u memory).first_break
 
--- two segments say the same of their files, but for marks
+-- two segments agree in all but the marks
 pub record AreAlike (s t : SegmentValue) : Type 0 where
   pub steps : s.steps ≡ t.steps
   pub opening : s.opening ≡ t.opening
@@ -30,11 +31,11 @@ pub record AreAlike (s t : SegmentValue) : Type 0 where
 abbrev pub HaveSameFiles : SegmentValue → SegmentValue → Type 0
 HaveSameFiles s t = (s.first ≡ t.first) × (s.order ≡ t.order)
 
--- any two of the same files say the same
+-- any two segments of the same files agree
 abbrev pub AllAlike : List SegmentValue → Type 0
 AllAlike ss = (s t : SegmentValue) → Contains ss s → Contains ss t → HaveSameFiles s t → AreAlike s t
 
--- two of the same files, from a number on, don't
+-- two segments of the same files, from `number` on, differ
 pub record HaveApart (ss : List SegmentValue) (number : ℕ) : Type 0 where
   pub one : SegmentValue
   pub other : SegmentValue
@@ -44,7 +45,7 @@ pub record HaveApart (ss : List SegmentValue) (number : ℕ) : Type 0 where
   pub same_files : HaveSameFiles one other
   pub apart : AreAlike one other → ⊥
 
--- a part is of a backplane, with marks or without
+-- the part p is of `backplane`, and has marks if `listing` is `true`, else none
 abbrev pub IsLike : ℕ → Bool → PartValue → Type 0
 IsLike backplane listing p = (p.backplane ≡ backplane) × (p.listing ≡ listing)
 
@@ -57,17 +58,17 @@ abbrev pub first_listing : List PartValue → Bool
 first_listing [] = false
 first_listing (p ∷ ps) = p.listing
 
--- parts make one together
+-- the parts ps have r's backplane, have marks exactly if r has, and no two of their segments of the same files differ
 pub record MakeOne (ps : List PartValue) (r : PartValue) : Type 0 where
   pub like : All (IsLike r.backplane r.listing) ps
   pub alike : AllAlike (segments_of ps)
 
--- those before a place are of a backplane, with marks or without, and for the one there something else is so
+-- the parts before `place` are of `backplane` and `listing`, and `Is` holds of the part at `place`
 abbrev pub HasUnlikeAt : ℕ → Bool → List PartValue → ℕ → (PartValue → Type 0) → Type 0
 HasUnlikeAt backplane listing ps place Is =
     (p : PartValue) × (slice_get ps place ≡ Some p) × All (IsLike backplane listing) (take place ps) × Is p
 
--- why parts make none together, of which the first is of a backplane, with marks or without
+-- when a refusal of the parts ps is true, where `backplane` and `listing` are those of the first
 abbrev pub AreRefusedBy : ℕ → Bool → List PartValue → JoinRefusal → Type 0
 AreRefusedBy backplane listing ps refusal.Memory = Unit {0}
 AreRefusedBy backplane listing ps (refusal.Backplane place) =
@@ -82,7 +83,7 @@ AreRefusedBy backplane listing ps refusal.TooManySegments = Unit {0}
 abbrev pub AreRefused : List PartValue → JoinRefusal → Type 0
 AreRefused ps why = AreRefusedBy (first_backplane ps) (first_listing ps) ps why
 
--- a refusal that says nothing of how parts differ
+-- a refusal that isn't for a difference between parts
 abbrev pub IsNoDifference : JoinRefusal → Type 0
 IsNoDifference refusal.Memory = Unit {0}
 IsNoDifference (refusal.Backplane place) = ⊥

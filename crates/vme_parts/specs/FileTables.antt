@@ -14,7 +14,7 @@ use Rattle.vme_part_format.specs.Tables.{table_value}
 use Rattle.vme_part_tables.specs.Runs.{TellsRuns}
 use Rattle.vme_parts.specs.declared.made.FileTables.{FileTables}
 
--- tables tell of the monitors' runs over these steps after that opening, which leave these lines
+-- the tables agree with the monitors' runs over the steps x from the opening o, and `all.left` is the levels after x
 pub record AreTablesOf (listing : Bool) (o : Levels) (x : List Step) (all : FileTables) : Type 0 where
   pub known : TellsRuns listing 4 (phase_place nil_place) (table_value all.known) (λ p. known_run p o x)
   pub handshake : TellsRuns listing 147 (phase_place memory_place) (table_value all.handshake)

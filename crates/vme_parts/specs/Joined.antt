@@ -1,4 +1,4 @@
--- One segment of two that follow one another.
+-- One segment joined from two that follow one another.
 use Rattle.std.specs.Prelude.{◌≡◌, ◌+◌, ◌<◌, ◌^◌, Option, None, Some}
 use Rattle.vme_summary.specs.Extents.{Meets}
 use Rattle.vme_part_format.specs.Tables.{SegmentValue}
@@ -6,7 +6,7 @@ use Rattle.vme_part_format.specs.declared.segment.SegmentTimes.{SegmentTimes}
 use Rattle.vme_part_tables.specs.Runs.{SaysBoth}
 use Rattle.vme_parts.specs.Stands.{extent_of}
 
--- the times of steps and of those behind them
+-- the times of the steps of a and then those of b
 abbrev pub later_times : SegmentTimes → SegmentTimes → SegmentTimes
 later_times a b = record { number = a.number; first = a.first; last = b.last }
 
@@ -15,7 +15,7 @@ joined_times None b = b
 joined_times (Some a) None = Some a
 joined_times (Some a) (Some b) = Some (later_times a b)
 
--- a segment is of two of the same order, the second of which goes on where the first ends
+-- r is joined from s and t, which have the same order, and t continues where s ends
 pub record IsOfBoth (s t r : SegmentValue) : Type 0 where
   pub meets : Meets (extent_of s) (extent_of t)
   pub same_order : t.order ≡ s.order

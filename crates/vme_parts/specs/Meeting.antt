@@ -5,22 +5,22 @@ use Rattle.vme_trace.specs.Levels.{Levels}
 use Rattle.vme_summary.specs.Joins.{is_later_time}
 use Rattle.vme_part_format.specs.declared.segment.SegmentTimes.{SegmentTimes}
 
--- the time of the first step, if there is one, and of the last
+-- the time of the first step (`starts_at`) and of the last (`ends_at`), if there is one
 abbrev pub starts_at : Option SegmentTimes → Option ℕ
 starts_at times = option_map (λ (t : SegmentTimes). t.first) times
 
 abbrev pub ends_at : Option SegmentTimes → Option ℕ
 ends_at times = option_map (λ (t : SegmentTimes). t.last) times
 
--- behind files that leave these levels and have these times come others: they open with those levels, and their first
--- step, if they have one, is later than the last one before it, if there is one
+-- files follow others, which leave the levels `left` and have the times `before`: they open with these levels, and
+-- their first step, if they have one, is later than the last step before it, if there is one
 pub record FilesGoOn (left : Levels) (before : Option SegmentTimes) (opening : Levels)
     (after : Option SegmentTimes) : Type 0
   where
     pub opened : opening ≡ left
     pub later : is_later_time (ends_at before) (starts_at after) ≡ true
 
--- a step isn't later than those before it: the first of this file
+-- the first step of `after`, which is in the file `file`, isn't later than the last step of `before`
 pub record IsEarlyFile (before after : Option SegmentTimes) (file : ℕ) : Type 0 where
   pub last : SegmentTimes
   pub first : SegmentTimes
@@ -29,7 +29,8 @@ pub record IsEarlyFile (before after : Option SegmentTimes) (file : ℕ) : Type 
   pub early : first.first ≤ last.last
   pub numbered : file ≡ first.number
 
--- the file at which others don't go on: the first one, if it opens with other levels, or else the first that has a step
+-- the file that doesn't follow those before it: the first one, if it opens with other levels, or else the first that
+-- has a step, if that step isn't later than the last step before
 abbrev pub IsTornAt : Levels → Option SegmentTimes → ℕ → Levels → Option SegmentTimes → ℕ → Type 0
 IsTornAt left before first opening after file =
     ((opening ≡ left → ⊥) × (file ≡ first)) ⊎ ((opening ≡ left) × IsEarlyFile before after file)

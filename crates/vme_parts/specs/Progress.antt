@@ -1,4 +1,4 @@
--- What the monitors come to on their way through segments.
+-- The states of the monitors after segments.
 use Rattle.std.specs.Prelude.{◌≡◌, ℕ, ◌+◌, ◌^◌, ◌<◌, ◌≤◌, Bool, false, List, [], ◌∷◌, ◌++◌, length, None}
 use Rattle.vme_trace.specs.Blocks.{joined_steps}
 use Rattle.vme_trace.specs.Levels.{Levels}
@@ -31,16 +31,16 @@ use Rattle.vme_parts.specs.declared.judged_segments.Stop.TheVariants as stop
 use Rattle.vme_parts.specs.declared.state.State.{State}
 use Rattle.vme_parts.specs.declared.state.States.{States}
 
--- what is known of a way
+-- a monitor's state as an outcome without marks
 abbrev pub way_of : State → WayOutcome
 way_of s = record { leaving = s.memory; first_break = s.first_break; marks = [] }
 
--- a monitor that began at an opening is, after some steps, in this memory, and has found this break first
+-- s is the state, after the steps x, of a monitor that began at the opening o
 abbrev pub HasState : {P : Type 0} → (P → Levels → List Step → Outcome P) → (Levels → P) → (P → ℕ) → State → Levels
     → List Step → Type 0
 HasState run begin place s o x = TellsRun false place (way_of s) (run (begin o) o x)
 
--- and so for each monitor
+-- s has the state of each monitor after the steps x, from the opening o
 pub record HasStates (s : States) (o : Levels) (x : List Step) : Type 0 where
   pub known : HasState known_run (start_in known_begin) (phase_place nil_place) s.known o x
   pub handshake : HasState handshake_run (start_in dtb_begin) (phase_place memory_place) s.handshake o x
@@ -50,13 +50,13 @@ pub record HasStates (s : States) (o : Levels) (x : List Step) : Type 0 where
       (phase_place acknowledgement_place) s.acknowledge
       o x
 
--- and of all steps of a well-formed recording
+-- s has the state of each monitor after all steps of t, a well-formed recording of at most 21 slots
 pub record FoundAll (s : States) (t : Trace) : Type 0 where
   pub sound : malformed_step t ≡ None
   pub few : t.opening.slots ≤ 21
   pub found : HasStates s t.opening t.steps
 
--- the memories are memories
+-- each memory is below the number of its monitor's memories
 pub record FitStates (s : States) : Type 0 where
   pub known : s.known.memory < 4
   pub handshake : s.handshake.memory < 147
@@ -64,7 +64,7 @@ pub record FitStates (s : States) : Type 0 where
   pub grant : s.grant.memory < 35
   pub acknowledge : s.acknowledge.memory < 11
 
--- a segment's tables tell of the monitors' runs over some steps behind these levels
+-- the tables of s agree with the monitors' runs over the steps y from the levels v
 pub record TellsAll (listing : Bool) (s : SegmentValue) (v : Levels) (y : List Step) : Type 0 where
   pub known : TellsRuns listing 4 (phase_place nil_place) s.known (λ p. known_run p v y)
   pub handshake : TellsRuns listing 147 (phase_place memory_place) s.handshake (λ p. handshake_run p v y)
@@ -72,13 +72,14 @@ pub record TellsAll (listing : Bool) (s : SegmentValue) (v : Levels) (y : List S
   pub grant : TellsRuns listing 35 (phase_place arbitration_place) s.grant (λ p. grant_run p v y)
   pub acknowledge : TellsRuns listing 11 (phase_place acknowledgement_place) s.acknowledge (λ p. acknowledge_run p v y)
 
--- past a segment whose tables tell of the steps that follow, the monitors have come to new states
+-- if the monitors have the states `old` after `steps` steps, and the tables of s agree with the steps after these, then
+-- the monitors have the states `new` after both
 abbrev pub HasStatesPast : States → States → SegmentValue → ℕ → Type 0
 HasStatesPast old new s steps =
     (listing : Bool) (o v : Levels) (x y : List Step) → v ≡ levels_after o x → steps ≡ length x
     → length x + length y < 2 ^ 64 → HasStates old o x → TellsAll listing s v y → HasStates new o (x ++ y)
 
--- judging has come past files that follow one another and have this extent
+-- j is the state after judging the files bs, which follow one another and have the extent e
 pub record HasJudgedFiles (j : JudgedSegments) (e : Extent) (bs : List Block) : Type 0 where
   pub extent : IsExtent e bs
   pub left : j.left ≡ e.left
@@ -87,13 +88,13 @@ pub record HasJudgedFiles (j : JudgedSegments) (e : Extent) (bs : List Block) : 
   pub counted : j.steps ≡ length (joined_steps bs)
   pub found : HasStates j.states e.opening (joined_steps bs)
 
--- past a segment that follows the files judged so far, judging has come past its files too
+-- if the files of s come next after those that were judged in `old`, then in `new` they are judged too
 abbrev pub HasJudgedNext : JudgedSegments → JudgedSegments → SegmentValue → Type 0
 HasJudgedNext old new s =
     (listing : Bool) (e : Extent) (bs ys : List Block) → HasJudgedFiles old e bs → SegmentStandsFor listing s ys
     → s.first ≡ e.last + 1 → HasJudgedFiles new (joined_extent e (extent_of s)) (bs ++ ys)
 
--- of files behind others the one of this number is the first that doesn't follow those before it
+-- of the files ys after bs, the file k is the first that doesn't follow those before it
 pub record IsTornIn (bs ys : List Block) (k : ℕ) : Type 0 where
   pub front : List Block
   pub torn : Block
@@ -103,7 +104,7 @@ pub record IsTornIn (bs ys : List Block) (k : ℕ) : Type 0 where
   pub before : BlocksJoin (bs ++ front)
   pub there : BlocksJoin ((bs ++ front) ++ torn ∷ []) → ⊥
 
--- why judging stops behind some files at others
+-- why judging stops at the files ys, after bs
 abbrev pub StopsAt : List Block → List Block → Stop → Type 0
 StopsAt bs ys (stop.Torn k) = IsTornIn bs ys k
 StopsAt bs ys stop.TooManySteps = Unit {0}

@@ -1,4 +1,4 @@
--- What a segment says of files.
+-- When a segment stands for files.
 use Rattle.std.specs.Prelude.{◌≡◌, ℕ, ◌^◌, Bool, true, false, List, [], ◌∷◌, length, Option, find, not}
 use Rattle.std.specs.Option.{option_map}
 use Rattle.vme_trace.specs.Blocks.{joined_steps}
@@ -17,7 +17,7 @@ use Rattle.vme_part_format.specs.Tables.{SegmentValue, last_of}
 use Rattle.vme_part_format.specs.declared.segment.SegmentTimes.{SegmentTimes}
 use Rattle.vme_part_tables.specs.Runs.{TellsRuns}
 
--- where the files of a segment lie, and what they leave
+-- the numbers of a segment's first and last file, its levels before and after, and its first and last time
 abbrev pub extent_of : SegmentValue → Extent
 extent_of s =
     record {
@@ -33,12 +33,13 @@ abbrev pub is_empty : List Step → Bool
 is_empty [] = true
 is_empty (s ∷ ss) = false
 
--- the number of the first of some files that has a step
+-- the number of the first of the files bs that has a step
 abbrev pub first_with_step : List Block → Option ℕ
 first_with_step bs = option_map (λ (b : Block). b.number) (find (λ (b : Block). not (is_empty b.steps)) bs)
 
--- a segment stands for files that follow one another, whatever stood before them: it has their extent, their number,
--- and the count of their steps, and its tables tell of the monitors' runs over all of these
+-- s stands for the files bs, which follow one another: it has their extent, as many files, the number of the first that
+-- has a step and the count of their steps, and its tables agree with the monitors' runs over these steps from each
+-- memory
 pub record SegmentStandsFor (listing : Bool) (s : SegmentValue) (bs : List Block) : Type 0 where
   pub extent : IsExtent (extent_of s) bs
   pub as_many : length bs ≡ 2 ^ s.order

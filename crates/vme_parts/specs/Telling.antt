@@ -1,4 +1,4 @@
--- What is told of a recording by a part of it.
+-- What a part of a recording answers about it.
 use Rattle.std.specs.Prelude.{◌≡◌, ℕ, ◌+◌, ◌-◌, ◌<◌, ◌≤◌, ◌⊎◌, Bool, List, take, Option, None, Some}
 use Rattle.std.specs.Prelude.{Err, Ok, Result, option_map, slice_get}
 use Rattle.vme_trace.specs.Verdict.{rules_in_force, verdict_by}
@@ -27,35 +27,35 @@ verdict_of (wide.Broken b) = verdict.Broken (break_of b)
 verdict_of (wide.Unreadable b) = verdict.Unreadable (break_of b)
 verdict_of wide.NeverIdle = verdict.NeverIdle
 
--- all numbers below one are covered
+-- all numbers below n are covered
 abbrev pub AllCovered : PartValue → ℕ → Type 0
 AllCovered p n = (k : ℕ) → k < n → PartCovers p k
 
--- a part covers something from a number on
+-- the part covers a number that isn't below n
 abbrev pub CoversFrom : PartValue → ℕ → Type 0
 CoversFrom p n = (k : ℕ) × (n ≤ k) × PartCovers p k
 
--- a recording has so many files, at least one: that number, or those up to the last that is covered
+-- the recording has n files, at least 1: as many as are given, or else those up to the last that is covered
 abbrev pub HasFiles : PartValue → Option ℕ → ℕ → Type 0
 HasFiles p None n = (0 < n) × (CoversFrom p n → ⊥) × ((n ≡ 1) ⊎ PartCovers p (n - 1))
 HasFiles p (Some count) n = (0 < n) × (n ≡ count)
 
--- the least number that isn't covered
+-- n is the least number that isn't covered
 pub record IsMissing (p : PartValue) (n : ℕ) : Type 0 where
   pub before : AllCovered p n
   pub there : PartCovers p n → ⊥
 
--- the least file that doesn't follow those before it
+-- n is the least file that doesn't follow those before it
 pub record IsTornFile (files : List Block) (n : ℕ) : Type 0 where
   pub before : BlocksJoin (take n files)
   pub there : BlocksJoin (take (n + 1) files) → ⊥
 
--- the verdict of the recording that files make
+-- v is the verdict on the recording that the files make
 abbrev pub IsVerdictOfFiles : List Block → Verdict → Type 0
 IsVerdictOfFiles files v =
     BlocksJoin files × ((t : Trace) → joined_trace files ≡ Some t → verdict_by rules_in_force t ≡ v)
 
--- this is told of a recording of so many files
+-- when an answer is true of a recording of n files
 abbrev pub IsRecordingAnswer : List Block → PartValue → ℕ → RecordingAnswer → Type 0
 IsRecordingAnswer files p n (told.Beyond k) = PartCovers p k × (n ≤ k)
 IsRecordingAnswer files p n (told.Missing k) = IsMissing p k × (k < n)
@@ -63,18 +63,18 @@ IsRecordingAnswer files p n (told.Torn k) = AllCovered p n × IsTornFile files k
 IsRecordingAnswer files p n told.TooManySteps = AllCovered p n
 IsRecordingAnswer files p n (told.Verdict v) = AllCovered p n × IsVerdictOfFiles (take n files) (verdict_of v)
 
--- whatever files it is a part of, this is told of them
+-- whichever files p is a part of, the answer `what` is true of them
 abbrev pub DeterminesRecordingAnswer : PartValue → Option ℕ → RecordingAnswer → Type 0
 DeterminesRecordingAnswer p count what =
     (files : List Block) (n : ℕ) → AreFiles files → IsPartOf files p → HasFiles p count n
     → IsRecordingAnswer files p n what
 
--- what is told where judging stops
+-- the answer where judging stops
 abbrev pub told_of : Stop → RecordingAnswer
 told_of (stop.Torn k) = told.Torn k
 told_of stop.TooManySteps = told.TooManySteps
 
--- past all of some segments, or why not, whatever files they stand for
+-- the result of judging all segments ss, or why it stops, whichever files they stand for
 abbrev pub JudgesAll : List SegmentValue → Result JudgedSegments Stop → Type 0
 JudgesAll ss (Ok j) =
     (listing : Bool) (files : List Block) (end : ℕ) → AreFiles files → AllStand listing files ss → AreNext 0 ss end
@@ -86,7 +86,7 @@ JudgesAll ss (Err (stop.Torn k)) =
     → IsTornFile files k × (k < end)
 JudgesAll ss (Err stop.TooManySteps) = Unit {0}
 
--- past all files of a recording, or what is told in place of a verdict
+-- the result of judging all files of a recording, or the answer in place of a verdict
 abbrev pub JudgesFiles : PartValue → Option ℕ → Result JudgedSegments RecordingAnswer → Type 0
 JudgesFiles p count (Ok j) =
     (files : List Block) (n : ℕ) → AreFiles files → IsPartOf files p → HasFiles p count n

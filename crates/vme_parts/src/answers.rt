@@ -1,8 +1,8 @@
-//! What is told of the whole recording.
+//! The answers about the whole recording.
 
 use vme_part_format::WideBreak;
 
-/// What the rules say of a recording whose numbers have 64 bits.
+/// The verdict on a recording. Its numbers have 64 bits.
 #[derive(Clone, Copy, Debug, PartialEq, Eq)]
 pub enum WideVerdict {
     /// No rule is broken.
@@ -15,14 +15,14 @@ pub enum WideVerdict {
     NeverIdle,
 }
 
-/// What a part says of the whole recording.
+/// The answer of a part about the whole recording.
 #[derive(Clone, Copy, Debug, PartialEq, Eq)]
 pub enum RecordingAnswer {
-    /// The recording has fewer files, and this is one more that is covered: the last one.
+    /// This is the last file that is covered, and the recording has only files before it.
     Beyond(u64),
-    /// No part covers this file, the least of those that aren't covered.
+    /// This file isn't covered, and it is the least such.
     Missing(u64),
-    /// This file doesn't follow those before it; those do.
+    /// This file doesn't follow those before it, and it is the least such.
     Torn(u64),
     /// Files that follow one another have more steps than 64 bits count.
     TooManySteps,

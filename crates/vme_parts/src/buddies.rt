@@ -1,4 +1,4 @@
-//! Segments that are the halves of one.
+//! Buddies: two segments that are the halves of one.
 
 ghost use Rattle.std.specs.Prelude.{◌≡◌, ◌+◌, ◌<◌, ◌^◌, IfErr, IfOk, IsTrue};
 ghost use Rattle.vme_part_format.specs.Bounds.{FitsNumbers};
@@ -17,7 +17,7 @@ use std::alloc::{AllocError, Global};
 use vme_part_format::{OutcomeTable, Segment};
 use vme_part_tables::{are_few_together, composed};
 
-/// The last order of a segment.
+/// The greatest order of a segment.
 pub(crate) const LAST_ORDER: u8 = 62;
 
 fn file_count(order: u8) -> u64
@@ -42,7 +42,7 @@ pub(crate) fn step_count(segment: &Segment) -> u64
     segment.steps
 }
 
-/// Whether two segments are the halves of one.
+/// Whether two segments are buddies: `first` is the first half of a segment, and `second` the second.
 fn are_buddies(first: &Segment, second: &Segment) -> bool
     requires { FitsNumbers first.now.first first.now.order }
     ensures { result ≡ are_buddies_of (segment_value first.now) (segment_value second.now) }
@@ -53,7 +53,7 @@ fn are_buddies(first: &Segment, second: &Segment) -> bool
         && first.first % file_count(first.order + 1) == 0
 }
 
-/// Whether the second follows the first.
+/// Whether `second` opens with the levels that `first` leaves, and its steps are later, if both have steps.
 fn follows(first: &Segment, second: &Segment) -> bool
     ensures { IsTrue result → SegmentGoesOn (segment_value first.now) (segment_value second.now) }
 {
@@ -67,7 +67,7 @@ fn follows(first: &Segment, second: &Segment) -> bool
     torn.is_none()
 }
 
-/// Whether two segments are the halves of one, and the second follows the first.
+/// Whether two segments are buddies, and the second follows the first.
 pub(crate) fn are_joinable(first: &Segment, second: &Segment) -> bool
     requires { FitsNumbers first.now.first first.now.order }
     ensures buddies { IsTrue result → AreBuddies (segment_value first.now) (segment_value second.now) }
@@ -79,7 +79,7 @@ pub(crate) fn are_joinable(first: &Segment, second: &Segment) -> bool
     follows(first, second)
 }
 
-/// Whether the nodes of two tables have numbers of 32 bits in one.
+/// Whether the ways of the composition of two tables fit in 32 bits.
 pub(crate) fn nodes_are_few(first: &OutcomeTable, second: &OutcomeTable) -> bool
     requires { HasWays (table_value first.now) }
     ensures { IsTrue result → FewNodes (table_value first.now) (table_value second.now) }
@@ -87,7 +87,7 @@ pub(crate) fn nodes_are_few(first: &OutcomeTable, second: &OutcomeTable) -> bool
     are_few_together(first, second)
 }
 
-/// Whether the nodes of two segments have numbers of 32 bits in one.
+/// Whether, for each monitor, the ways of the composition of the two tables fit in 32 bits.
 fn have_few_nodes(first: &Segment, second: &Segment) -> bool
     requires { HasTables (segment_value first.now) }
     ensures { IsTrue result → HaveFewNodes (segment_value first.now) (segment_value second.now) }
@@ -107,7 +107,7 @@ fn have_few_nodes(first: &Segment, second: &Segment) -> bool
     nodes_are_few(&first.acknowledge, &second.acknowledge)
 }
 
-/// One segment of two buddies that follow one another.
+/// Joins two buddies that follow one another into one segment.
 pub(crate) fn joined(alloc: Global, first: Segment, second: Segment) -> Result<Segment, JoinRefusal>
     requires first { HasTables (segment_value first) }
     requires second { HasTables (segment_value second) }

@@ -1,4 +1,4 @@
-//! Tables whose nodes are few.
+//! Compact tables, i.e. tables with few nodes.
 
 ghost use Rattle.std.specs.Prelude.{IsTrue};
 ghost use Rattle.vme_part_format.specs.Sizes.{IsCompact, IsCompactTable};
@@ -6,14 +6,14 @@ ghost use Rattle.vme_part_format.specs.Tables.{segment_value, table_value};
 
 use vme_part_format::{OutcomeTable, Segment};
 
-/// Whether a table has at most two nodes for a memory.
+/// Whether a table has at most two nodes a memory.
 fn is_compact_table(table: &OutcomeTable) -> bool
     ensures { IsTrue result → IsCompactTable (table_value table.now) }
 {
     table.nodes.len() <= table.entries.len().saturating_mul(2)
 }
 
-/// Whether the tables of a segment have at most two nodes for a memory.
+/// Whether each table of a segment has at most two nodes a memory.
 pub(crate) fn is_compact(segment: &Segment) -> bool
     ensures { IsTrue result → IsCompact (segment_value segment.now) }
 {

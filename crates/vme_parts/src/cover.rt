@@ -9,7 +9,7 @@ ghost use Rattle.vme_parts.specs.Gathering.{IsSegment};
 use crate::buddies::last_file;
 use vme_part_format::Segment;
 
-/// The number behind the last file of a segment.
+/// The number after that of a segment's last file.
 fn end_of(segment: &Segment) -> u64
     requires { FitsNumbers segment.now.first segment.now.order }
     ensures { result ≡ last_of segment.now.first segment.now.order + 1 }
@@ -17,8 +17,8 @@ fn end_of(segment: &Segment) -> u64
     last_file(segment) + 1
 }
 
-/// The number behind the files that segments cover from 0 on, if they cover all up to their last, or else the least
-/// that they don't.
+/// If the segments cover all files from 0 to their last, the number after the last. Else the least number that they
+/// don't cover.
 pub(crate) fn covered(segments: &[Segment]) -> Result<u64, u64>
     requires { All IsSegment (map segment_value segments.now) }
     ensures next { IfOk result (λ end. AreNext 0 (map segment_value segments.now) end) }
@@ -34,7 +34,7 @@ pub(crate) fn covered(segments: &[Segment]) -> Result<u64, u64>
     Ok(next)
 }
 
-/// The last file that is covered, where that is none of so many.
+/// The last file that is covered, if its number isn't below `files`.
 pub(crate) fn beyond(segments: &[Segment], files: Option<u64>) -> Option<u64>
     requires { All IsSegment (map segment_value segments.now) }
     ensures beyond { IfSome result (λ k. IsBeyond (map segment_value segments.now) files k) }
@@ -53,8 +53,8 @@ pub(crate) fn beyond(segments: &[Segment], files: Option<u64>) -> Option<u64>
     None
 }
 
-/// Whether a recording of so many files, or of those that are covered, and of one at least, has more than those before
-/// a number.
+/// Whether the recording has more than `end` files. It has `files` of them, but at least 1. If `files` is `None`, it
+/// has `end` of them, but at least 1.
 pub(crate) fn lacks(end: u64, files: Option<u64>) -> bool
     ensures lacks { IsTrue result → LacksFrom files end }
     ensures whole { result ≡ false → LacksFrom files end → ⊥ }

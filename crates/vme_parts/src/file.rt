@@ -1,4 +1,4 @@
-//! A dump's recording as a file of a number.
+//! A dump's recording as a file of a recording, with a number.
 
 ghost use Rattle.std.specs.Prelude.{◌≡◌, ◌≤◌, None, length};
 ghost use Rattle.vme_trace.specs.WellFormed.{malformed_step};
@@ -27,9 +27,9 @@ fn behind_opening<'a>(
     }
 }
 
-/// The steps of a dump that is the file of a number, whose first time is this one, if it has one. For number 0 the
-/// file is the dump's recording. For a greater number the levels behind the first time are its opening, to which the
-/// opening goes on, and its steps are those behind that time. What is well-formed stays so.
+/// The steps of the file `number`, where `opening` and `steps` are the recording of a dump. `first_time` is the dump's
+/// first time, if it has one. For number 0 the file is the dump's recording. For a greater number the file's steps are
+/// those after the first time, and `opening` becomes the levels after that time. A well-formed recording stays so.
 pub fn steps_of_file<'a>(
     number: u32,
     first_time: Option<u64>,

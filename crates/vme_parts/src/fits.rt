@@ -20,14 +20,14 @@ use vme_part_format::{
 };
 use vme_trace::{Change, LINE_COUNT, Level, Line, Lines};
 
-/// Whether a first number and an order are those of a segment.
+/// Whether the first number and the order of a segment are within the bounds.
 fn numbers_fit(segment: &Segment) -> bool
     ensures { IsTrue result → FitsNumbers segment.now.first segment.now.order }
 {
     segment.first < 1 << 63 && segment.order < 63 && segment.first % (1u64 << segment.order) == 0
 }
 
-/// The level of a line, unknown where the backplane doesn't have it.
+/// The level of the line `number`, which is Unknown if the backplane doesn't have the line.
 fn level_at(lines: &Lines, number: u8) -> Level
     requires { number < line_count }
     ensures { result ≡ seen_level lines.now number }
@@ -38,7 +38,7 @@ fn level_at(lines: &Lines, number: u8) -> Level
     }
 }
 
-/// Gives a line a level, even one that the backplane doesn't have.
+/// Gives the line `number` a level, even if the backplane doesn't have the line.
 #[tactic(auto, unfolding(vme_trace::specs::Trace::changed))]
 fn put_level(lines: &mut Lines, number: u8, level: Level)
     requires { number < line_count }
@@ -50,7 +50,7 @@ fn put_level(lines: &mut Lines, number: u8, level: Level)
     lines.apply(&[Change { line, level }]);
 }
 
-/// Whether lines that a backplane doesn't have are unknown.
+/// Whether the lines that the backplane doesn't have are Unknown.
 fn levels_fit(lines: &Lines) -> bool
     ensures { IsTrue result → FitsLevels lines.now }
 {
@@ -63,14 +63,14 @@ fn levels_fit(lines: &Lines) -> bool
     seen == *lines
 }
 
-/// Whether a break is one of so many steps.
+/// Whether a break is one of a segment of `steps` steps.
 fn break_fits(found: WideBreak, steps: u64) -> bool
     ensures { IsTrue result → FitsBreak steps found }
 {
     0 < found.instant && found.instant <= steps
 }
 
-/// Whether a break is one of so many steps, if there is one.
+/// Whether a break, if there is one, is one of a segment of `steps` steps.
 fn first_break_fits(first_break: Option<WideBreak>, steps: u64) -> bool
     ensures { IsTrue result → IfSome first_break (FitsBreak steps) }
 {
@@ -93,14 +93,14 @@ fn kind_fits(kind: MarkKind) -> bool
     }
 }
 
-/// Whether a mark is not before an instant, and of so many steps.
+/// Whether a mark's instant is `before` at least, is one of `steps` steps, and its kind is within the bounds.
 fn mark_fits(mark: &WideMark, steps: u64, before: u64) -> bool
     ensures { IsTrue result → FitsMark steps before mark.now }
 {
     0 < mark.instant && before <= mark.instant && mark.instant <= steps && kind_fits(mark.kind)
 }
 
-/// Whether marks ascend, and are of so many steps.
+/// Whether each mark fits a segment of `steps` steps, and the instants of the marks don't descend.
 fn marks_fit(marks: &[WideMark], steps: u64) -> bool
     ensures { IsTrue result → FitMarks steps 0 marks.now }
 {
@@ -114,7 +114,7 @@ fn marks_fit(marks: &[WideMark], steps: u64) -> bool
     true
 }
 
-/// Whether a node fits, with so many others behind it.
+/// Whether a node with `behind` nodes after it, in a table of `memories` memories, is within the bounds.
 fn node_fits(node: &TableNode, memories: u32, steps: u64, behind: u32) -> bool
     requires { memories + behind < 2 ^ 32 }
     ensures { IsTrue result → FitsNode memories steps behind (node_value node.now) }
@@ -157,7 +157,7 @@ fn entries_fit(entries: &[TableEntry], ways: u32, steps: u64) -> bool
     true
 }
 
-/// Whether memory 2 stays as it is, and shows nothing.
+/// Whether a run from memory 2 stays in it, and has no break and no mark.
 fn memory_stays(entries: &[TableEntry]) -> bool
     ensures { IsTrue result → slice_get entries.now 2 ≡ Some stays }
 {
@@ -167,14 +167,14 @@ fn memory_stays(entries: &[TableEntry]) -> bool
     }
 }
 
-/// Whether a part, with marks or without, may have so many nodes.
+/// Whether a table of a part, with marks (`listing`) or without, may have `nodes` nodes.
 fn may_have(listing: bool, nodes: usize) -> bool
     ensures { IsTrue result → listing ≡ false → nodes ≡ 0 }
 {
     listing || nodes == 0
 }
 
-/// Whether a table of so many memories can be written.
+/// Whether a table of `memories` memories can be written.
 fn table_fits(table: &OutcomeTable, listing: bool, memories: u32, steps: u64) -> bool
     requires { memories < 2 ^ 31 }
     ensures { IsTrue result → FitsTable listing memories steps (table_value table.now) }
@@ -199,7 +199,7 @@ fn table_fits(table: &OutcomeTable, listing: bool, memories: u32, steps: u64) ->
     nodes_fit(table.nodes.as_slice(), memories, steps)
 }
 
-/// Whether times are those of a segment.
+/// Whether the times of a segment are within the bounds.
 fn times_fit(segment: &Segment) -> bool
     requires { FitsNumbers segment.now.first segment.now.order }
     ensures { IsTrue result
@@ -261,7 +261,7 @@ fn backplane_of(part: &Part) -> u64
     part.backplane
 }
 
-/// Whether a segment can be written, and has few nodes.
+/// Whether a segment can be written, and each table has at most two nodes a memory.
 fn segment_can(segment: &Segment, listing: bool) -> bool
     ensures fits { IsTrue result → FitsSegment listing (segment_value segment.now) }
     ensures compact { IsTrue result → IsCompact (segment_value segment.now) }
@@ -269,12 +269,13 @@ fn segment_can(segment: &Segment, listing: bool) -> bool
     segment_fits(segment, listing) && is_compact(segment)
 }
 
-/// Whether a part of one segment can be written, and has few nodes: what can't is out of the range of a part.
+/// Whether a part has one segment, can be written, and each table has at most two nodes a memory. If not, it is refused
+/// as out of the range of parts.
 pub fn can_write(part: &Part) -> bool
     ensures fits { IsTrue result → FitsPart (part_value part.now) }
     ensures compact { IsTrue result → IsCompactPart (part_value part.now) }
 {
-    // any number of 64 bits can
+    // the backplane may be any number of 64 bits
     let _backplane = backplane_of(part);
     match part.segments.as_slice() {
         [segment] => segment_can(segment, part.listing),

@@ -1,4 +1,4 @@
-//! Segments that are gathered one by one: buddies are joined, and what lies in another is dropped.
+//! Segments that are gathered one by one: buddies are joined, and a segment that lies in another is dropped.
 
 ghost use Rattle.std.specs.Prelude.{◌≡◌, ◌<◌, ◌++◌, ◌∷◌, [], All, IfErr, IfOk, IfSome, IsPermutation, IsTrue};
 ghost use Rattle.std.specs.Prelude.{List, None, OnOk};
@@ -15,7 +15,8 @@ use crate::join_refusal::JoinRefusal;
 use std::alloc::{AllocError, Global};
 use vme_part_format::Segment;
 
-/// The segment of one and of its buddies at the end of others, as long as there is one that it follows.
+/// Joins `next` with the last of `segments`, as long as the last is its buddy and `next` follows it. Each one that is
+/// joined is removed from `segments`.
 fn join_back(
     alloc: Global,
     segments: &mut Vec<Segment>,
@@ -42,7 +43,7 @@ fn join_back(
     Ok(next)
 }
 
-/// Whether a segment begins in the last of others.
+/// Whether `next` begins with a file of the last of `segments`, or before it.
 fn begins_in_last(segments: &[Segment], next: &Segment) -> bool
     requires { All IsSegment (map segment_value segments.now) }
     ensures within { IsTrue result → BeginsInLast (map segment_value segments.now) (segment_value next.now) }
@@ -55,7 +56,8 @@ fn begins_in_last(segments: &[Segment], next: &Segment) -> bool
     }
 }
 
-/// Adds a segment behind others, none of which begins behind it, and joins buddies.
+/// Adds `next` at the end of `segments`, the last of which precedes it, and joins buddies. Drops `next` if it lies in
+/// the last.
 fn add(alloc: Global, segments: &mut Vec<Segment>, next: Segment) -> Result<(), JoinRefusal>
     requires segments { All IsSegment (map segment_value segments.old.items) }
     requires next { IsSegment (segment_value next) }
@@ -76,7 +78,7 @@ fn add(alloc: Global, segments: &mut Vec<Segment>, next: Segment) -> Result<(), 
     Ok(())
 }
 
-/// Where a segment stands among others: by its first file, a greater one before those that lie in it.
+/// The key by which segments are sorted: first by the first file, then a greater segment before one that lies in it.
 fn order_key(segment: &Segment) -> u128
     ensures { result ≡ order_key_of (segment_value segment.now) }
 {
@@ -92,7 +94,7 @@ pub(crate) fn sort_segments(segments: &mut Vec<Segment>) -> Result<(), AllocErro
     segments.sort_by_key(|segment| order_key(segment))
 }
 
-/// Segments in order as few as buddies make of them.
+/// The segments of `all`, which are in order, with buddies joined, and without those that lie in another.
 pub(crate) fn gather(alloc: Global, all: Vec<Segment>) -> Result<Vec<Segment>, JoinRefusal>
     requires segments { All IsSegment (map segment_value all.items) }
     requires order { IsNonDecreasingBy (λ (s : Segment). order_key_of (segment_value s)) all.items }

@@ -1,4 +1,4 @@
-//! Parts joined, in any order.
+//! Joining parts, in any order.
 
 ghost use Rattle.std.specs.Prelude.{◌≡◌, ◌<◌, ◌^◌, All, IfErr, IfOk, OnOk, map};
 ghost use Rattle.vme_part_format.specs.Bounds.{FitsPart};
@@ -15,7 +15,7 @@ use crate::same::compare_all;
 use std::alloc::{AllocError, Global};
 use vme_part_format::{Part, Segment};
 
-/// Refuses parts of which one is of another backplane, or has marks where others have none.
+/// Refuses the first part whose backplane isn't `backplane`, or whose `listing` is another.
 fn check_alike(parts: &[Part], backplane: u64, listing: bool) -> Result<(), JoinRefusal>
     ensures like { OnOk result (All (IsLike backplane listing) (map part_value parts.now)) }
     ensures refused { IfErr result (AreRefusedBy backplane listing (map part_value parts.now)) }
@@ -44,7 +44,7 @@ fn all_segments(alloc: Global, parts: Vec<Part>) -> Result<Vec<Segment>, AllocEr
     Ok(all)
 }
 
-/// The backplane's sum of the first part, if there is one.
+/// The sum of the first part's backplane, or 0 if there is no part.
 fn backplane_of(parts: &[Part]) -> u64
     ensures { result ≡ first_backplane (map part_value parts.now) }
 {
@@ -54,7 +54,7 @@ fn backplane_of(parts: &[Part]) -> u64
     }
 }
 
-/// Whether the first part has marks.
+/// Whether the first part has marks, or `false` if there is no part.
 fn has_marks(parts: &[Part]) -> bool
     ensures { result ≡ first_listing (map part_value parts.now) }
 {
@@ -64,7 +64,7 @@ fn has_marks(parts: &[Part]) -> bool
     }
 }
 
-/// One part of all of these, in any order.
+/// Joins `parts`, which may be in any order, into one part.
 pub fn join_parts(alloc: Global, parts: Vec<Part>) -> Result<Part, JoinRefusal>
     requires { All (λ (p : Part). FitsPart (part_value p)) parts.items }
     ensures joins { IfOk result (λ r. JoinsParts (map part_value parts.items) (part_value r)) }

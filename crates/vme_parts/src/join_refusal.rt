@@ -1,25 +1,25 @@
-//! Why parts make none together.
+//! Why parts can't be joined.
 
 ghost use Rattle.std.specs.Prelude.{◌≡◌};
 
 use std::alloc::{AllocError, AllocFailed};
 
-/// Why parts make none together.
+/// Why parts can't be joined.
 #[derive(Clone, Copy, Debug, PartialEq, Eq)]
 pub enum JoinRefusal {
     /// There is no memory.
     Memory,
-    /// The part at this place is of another backplane than the first.
+    /// The part with this index is of another backplane than the first.
     Backplane(usize),
-    /// The part at this place has marks, and the first has none, or the other way round.
+    /// The part with this index has marks and the first has none, or the other way round.
     Marks(usize),
-    /// Two parts say different things of the same files, the first of which has this number.
+    /// Two segments of the same files differ. The first of these files has this number.
     Differs(u64),
     /// Files that follow one another have more steps than 64 bits count.
     TooManySteps,
-    /// The nodes of a table have no numbers of 32 bits.
+    /// A table has too many nodes for ways of 32 bits.
     TooManyNodes,
-    /// What isn't joined are more segments than 32 bits count.
+    /// There are more segments, after joining, than 32 bits count.
     TooManySegments,
 }
 

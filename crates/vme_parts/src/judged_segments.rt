@@ -14,16 +14,17 @@ use crate::state::States;
 use vme_part_format::{Segment, SegmentTimes};
 use vme_trace::Lines;
 
-/// Why judging doesn't go past a segment.
+/// Why judging stops at a segment.
 #[derive(Clone, Copy)]
 pub enum Stop {
-    /// This file doesn't follow those before it.
+    /// This file of the segment doesn't follow those before it.
     Torn(u64),
-    /// There are more steps than 64 bits count.
+    /// With the segment there are more steps than 64 bits count.
     TooManySteps,
 }
 
-/// What judging segments in order has come to.
+/// The state of judging segments in order: the levels that the files judged so far leave, the times and the number of
+/// their steps, and the monitors' states after them.
 #[derive(Clone, Copy)]
 pub struct JudgedSegments {
     pub left: Lines,
@@ -33,7 +34,7 @@ pub struct JudgedSegments {
 }
 
 impl JudgedSegments {
-    /// Past the first segment.
+    /// The state after the first segment.
     pub fn of(segment: &Segment) -> JudgedSegments
         requires { HasTables (segment_value segment.now) }
         ensures fit { FitStates result.states }
@@ -49,7 +50,7 @@ impl JudgedSegments {
         }
     }
 
-    /// Past a segment that follows.
+    /// Judges the segment that comes next. The error says why judging stops there.
     pub fn go_past(&mut self, segment: &Segment) -> Result<(), Stop>
         requires fit { FitStates self.old.states }
         requires tables { HasTables (segment_value segment.now) }

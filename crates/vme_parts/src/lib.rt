@@ -1,29 +1,32 @@
-//! Parts of a recording: what is found of a file by itself, how parts are joined, and what is told
-//! of the whole.
+//! Parts of a recording: how a file is judged by itself, how parts are joined, and which verdict
+//! they give of the whole.
 //!
 //! # Parts of this crate
 //!
-//! - `file`: [`steps_of_file`] says which steps of a dump are those of the file, and with which
-//!   levels it opens. `made`: [`part_of_steps`] judges them, whatever stood before; `pieces`: with
-//!   marks. `fits`: [`can_write`] says whether that is a part that can be written.
-//! - `join`: [`join_parts`] makes one part of any parts, in any order; `same`: whether segments of
-//!   the same files say the same; `gather`: segments, of which buddies are joined (`buddies`);
-//!   `compact`: whether their tables have few nodes; `meets`: whether files follow one another, and
-//!   which one doesn't.
-//! - `tell`: [`tell_verdict`] says what a part says of the whole: which files are covered
-//!   (`cover`), and what the monitors come to (`judging`, `state`). `answers` has what it answers.
+//! - `file`: [`steps_of_file`] gives the steps of a dump that are those of the file, and the levels
+//!   with which it opens. `made`: [`part_of_steps`] judges them, from each memory (the state of a
+//!   monitor's automaton) in which the file may begin. `pieces` does so with marks. `fits`:
+//!   [`can_write`] says whether the part can be written.
+//! - `join`: [`join_parts`] makes one part from any parts, in any order. `same`: whether segments of
+//!   the same files agree. `gather` collects segments and joins buddies, i.e. the two halves of a
+//!   segment (`buddies`). `compact`: whether tables have few nodes. `meets`: whether files follow
+//!   one another, and which one doesn't.
+//! - `tell`: [`tell_verdict`] gives the verdict of the whole recording from a part: it looks at
+//!   which files are covered (`cover`), and runs the monitors through the segments
+//!   (`judged_segments`, `state`). `answers` has its answers.
 //!
 //! # What is proved
 //!
-//! - The part of a file has one segment. It stands for the file whatever stood before it
-//!   (`SegmentStandsFor`): its tables tell of the five monitors' runs over its steps, from each
-//!   memory that may enter ([`part_of_steps`]).
-//! - Whatever files parts are of, [`join_parts`] answers one of the same files, which covers
-//!   exactly what any of them covers (`JoinsParts`), and can be written. They are of one backplane,
-//!   and no two segments of the same files say different things (`MakeOne`); where it says that they
-//!   do, it is so (`AreRefused`).
-//! - Whatever files a part is one of, [`tell_verdict`] says the verdict of the recording that they
-//!   make, or the least number that isn't covered, or the least file that doesn't follow those
+//! - The part of a file has one segment. Its tables agree with the runs of the five monitors over
+//!   the file's steps, from each memory in which it may begin (`SegmentStandsFor`,
+//!   [`part_of_steps`]).
+//! - If parts are of the files of a recording, [`join_parts`] answers a part of the same files. It
+//!   covers exactly the files that any of them covers (`JoinsParts`), and it can be written. The
+//!   joined parts are of one backplane, all have marks or none has, and no two of their segments of
+//!   the same files differ (`MakeOne`). Where it refuses parts for one of these reasons, it is true
+//!   (`AreRefused`).
+//! - If a part is of the files of a recording, [`tell_verdict`] answers the verdict of that
+//!   recording, or the least number that isn't covered, or the least file that doesn't follow those
 //!   before it (`DeterminesRecordingAnswer`).
 //!
 //! # What isn't proved

@@ -30,7 +30,7 @@ use vme_part_tables::widened;
 use vme_summary::each_monitor::summarise_monitors;
 use vme_trace::{Lines, Step};
 
-/// The table without marks of what a monitor's summary says.
+/// The table without marks of a monitor's summary.
 fn bare_table<M: Finite>(alloc: Global, summary: &M::Summary) -> Result<OutcomeTable, AllocError>
     ensures { IfOk result (λ t. TellsRuns false M.COUNT M.place_of (table_value t) (λ p. M.outcome summary.now p)) }
 {
@@ -46,7 +46,7 @@ fn bare_table<M: Finite>(alloc: Global, summary: &M::Summary) -> Result<OutcomeT
     Ok(OutcomeTable { entries, nodes })
 }
 
-/// The tables of the five monitors, and the lines that steps leave.
+/// The tables of the five monitors, and the levels after the steps.
 #[derive(Drop)]
 struct FileTables {
     known: OutcomeTable,
@@ -57,7 +57,7 @@ struct FileTables {
     left: Lines,
 }
 
-/// The tables without marks of some steps, which the monitors are led along at once.
+/// The tables without marks of `steps`. All monitors are run in one pass.
 fn bare_tables(alloc: Global, opening: &Lines, steps: &[Step]) -> Result<FileTables, AllocError>
     requires { length steps.now ≤ 268435456 }
     ensures { IfOk result (AreTablesOf false opening.now steps.now) }
@@ -84,7 +84,7 @@ fn bare_tables(alloc: Global, opening: &Lines, steps: &[Step]) -> Result<FileTab
     })
 }
 
-/// The tables with marks of some steps.
+/// The tables with marks of `steps`.
 fn marked_tables(alloc: Global, opening: &Lines, steps: &[Step]) -> Result<FileTables, PartRefusal>
     requires accepted { malformed_step (record { opening = opening.now; steps = steps.now }) ≡ None }
     requires few { length steps.now ≤ 268435456 }
@@ -106,7 +106,7 @@ fn marked_tables(alloc: Global, opening: &Lines, steps: &[Step]) -> Result<FileT
     })
 }
 
-/// The tables of some steps, with marks or without.
+/// The tables of `steps`, with marks (`listing`) or without.
 fn tables_of(
     alloc: Global,
     listing: bool,
@@ -145,7 +145,7 @@ fn times_of(number: u64, steps: &[Step]) -> Option<SegmentTimes>
     })
 }
 
-/// The segment of one file: its number, its opening and its steps.
+/// The segment of one file, from its number, its opening and its steps.
 fn segment_of_steps(
     alloc: Global,
     listing: bool,
@@ -177,7 +177,7 @@ fn segment_of_steps(
     })
 }
 
-/// The part of one file: of its number, its opening and its steps. The backplane has this sum.
+/// The part of one file, from its number, its opening and its steps. `backplane` is the sum of the backplane.
 pub fn part_of_steps(
     alloc: Global,
     backplane: u64,

@@ -8,7 +8,7 @@ ghost use Rattle.vme_parts.specs.Meeting.{FilesGoOn, IsEarlyFile, IsTornAt, ends
 use vme_part_format::SegmentTimes;
 use vme_trace::Lines;
 
-/// The first file that has a step, where that isn't later than the last one before it.
+/// The file of the first step of `after`, if this step isn't later than the last step of `before`.
 fn early_file(before: Option<SegmentTimes>, after: Option<SegmentTimes>) -> Option<u64>
     ensures later { result ≡ None → is_later_time (ends_at before) (starts_at after) ≡ true }
     ensures early { IfSome result (IsEarlyFile before after) }
@@ -26,8 +26,9 @@ fn early_file(before: Option<SegmentTimes>, after: Option<SegmentTimes>) -> Opti
     }
 }
 
-/// The file that doesn't follow those before it, if one doesn't: they leave these lines and have these times, and
-/// behind them comes a segment that begins with this number.
+/// The file of a segment that doesn't follow the files before the segment, if there is one. The files before leave the
+/// levels `left` and have the times `before`. The segment begins with the file `first` and the levels `opening`, and
+/// has the times `after`.
 pub(crate) fn torn_file(
     left: &Lines,
     before: Option<SegmentTimes>,
@@ -45,7 +46,7 @@ pub(crate) fn torn_file(
     }
 }
 
-/// The times of steps and of those behind them.
+/// The times of the steps of `before` and then those of `after`.
 pub(crate) fn joined_times(
     before: Option<SegmentTimes>,
     after: Option<SegmentTimes>,

@@ -1,15 +1,15 @@
-//! Why there is no part.
+//! Why no part is made.
 
 ghost use Rattle.std.specs.Prelude.{◌≡◌};
 
 use std::alloc::{AllocError, AllocFailed};
 
-/// Why there is no part.
+/// Why no part is made.
 #[derive(Clone, Copy, Debug, PartialEq, Eq)]
 pub enum PartRefusal {
     /// There is no memory.
     Memory,
-    /// The nodes of a table have no numbers of 32 bits.
+    /// A table has too many nodes for ways of 32 bits.
     TooManyNodes,
 }
 

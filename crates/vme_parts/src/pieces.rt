@@ -1,5 +1,5 @@
-//! A table with marks, made of pieces of the steps: of a piece each memory that the steps before it leave has its own
-//! marks, and those that run on as one share what follows it.
+//! A table with marks, made from pieces of the steps. In a piece, each memory in which the steps before may end has its
+//! own marks. Runs that end the piece in the same memory share what follows.
 
 ghost use Rattle.std.specs.Prelude.{◌≡◌, ◌+◌, ◌≤◌, ◌<◌, ◌^◌, ◌++◌, IfOk, List, None, length, true};
 ghost use Rattle.vme_trace.specs.Levels.{Levels};
@@ -20,10 +20,10 @@ use vme_part_format::OutcomeTable;
 use vme_part_tables::{composed, left_memories, marked_table};
 use vme_trace::{Lines, Step};
 
-/// So many steps are summarised at once.
+/// How many steps a piece has, at most.
 const PIECE: usize = 1024;
 
-/// The lines that steps leave.
+/// The levels after `steps`.
 pub(crate) fn lines_behind(opening: &Lines, steps: &[Step]) -> Lines
     ensures { result ≡ levels_after opening.now steps.now }
 {
@@ -34,7 +34,7 @@ pub(crate) fn lines_behind(opening: &Lines, steps: &[Step]) -> Lines
     lines
 }
 
-/// The table of a piece, with the marks of those memories that need them.
+/// The table of a piece, with the marks of the memories for which `needs` is set.
 fn piece_table<M: Finite>(
     alloc: Global,
     opening: &Lines,
@@ -51,7 +51,7 @@ fn piece_table<M: Finite>(
     marked_table::<M>(alloc, &summary, needs)
 }
 
-/// The table of so many steps and of a piece behind them.
+/// The table of `done` steps, which have the table `table`, and of the steps `piece` after them.
 fn with_piece<M: Finite>(
     alloc: Global,
     table: OutcomeTable,
@@ -77,7 +77,7 @@ fn with_piece<M: Finite>(
     Ok(table)
 }
 
-/// The table with marks of some steps.
+/// The table with marks of `steps`.
 pub(crate) fn table_with_marks<M: Finite>(
     alloc: Global,
     opening: &Lines,

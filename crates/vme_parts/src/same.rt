@@ -1,4 +1,4 @@
-//! Whether two segments of the same files say the same.
+//! Whether two segments of the same files agree.
 
 ghost use Rattle.std.specs.Prelude.{◌≡◌, ◌↔◌, ◌<◌, ℕ, All, IfErr, IsTrue, OnOk, false, length, map};
 ghost use Rattle.std.specs.List.Sorted.{IsNonDecreasingBy};
@@ -52,7 +52,7 @@ fn are_times_same(times: Option<SegmentTimes>, others: Option<SegmentTimes>) -> 
     times == others
 }
 
-/// Whether two tables say the same of the memory that is left and of the first break, where a memory enters.
+/// Whether the runs from `memory` in two tables end in the same memory and have the same first break.
 fn are_ways_same(first: &OutcomeTable, second: &OutcomeTable, memory: u32) -> bool
     requires first { HasWays (table_value first.now) }
     requires second { HasWays (table_value second.now) }
@@ -71,7 +71,8 @@ fn are_ways_same(first: &OutcomeTable, second: &OutcomeTable, memory: u32) -> bo
     are_breaks_same(found, other_found)
 }
 
-/// Whether two tables say the same of each memory that enters.
+/// Whether two tables have the same number of memories, and the runs from each memory end in the same memory and have
+/// the same first break.
 fn are_tables_same(first: &OutcomeTable, second: &OutcomeTable) -> bool
     requires first { HasWays (table_value first.now) }
     requires second { HasWays (table_value second.now) }
@@ -90,7 +91,7 @@ fn are_tables_same(first: &OutcomeTable, second: &OutcomeTable) -> bool
     true
 }
 
-/// Whether the tables of two segments say the same.
+/// Whether the tables of two segments agree.
 fn are_all_tables_same(first: &Segment, second: &Segment) -> bool
     requires first { HasTables (segment_value first.now) }
     requires second { HasTables (segment_value second.now) }
@@ -117,7 +118,7 @@ fn are_all_tables_same(first: &Segment, second: &Segment) -> bool
     are_tables_same(&first.acknowledge, &second.acknowledge)
 }
 
-/// Whether two segments of the same files say the same.
+/// Whether two segments of the same files agree in all but the marks.
 fn are_same(first: &Segment, second: &Segment) -> bool
     requires first { HasTables (segment_value first.now) }
     requires second { HasTables (segment_value second.now) }
@@ -139,7 +140,7 @@ fn are_same(first: &Segment, second: &Segment) -> bool
     are_all_tables_same(first, second)
 }
 
-/// Refuses the second of two segments that says something else of the same files.
+/// Refuses two segments of the same files that differ.
 fn compare(first: &Segment, second: &Segment) -> Result<(), JoinRefusal>
     requires first { HasTables (segment_value first.now) }
     requires second { HasTables (segment_value second.now) }
@@ -156,7 +157,7 @@ fn compare(first: &Segment, second: &Segment) -> Result<(), JoinRefusal>
     Ok(())
 }
 
-/// Refuses segments, in order, two of which say different things of the same files.
+/// Refuses segments, which are in order, if two of the same files differ.
 pub(crate) fn compare_all(segments: &[Segment]) -> Result<(), JoinRefusal>
     requires segments { All IsSegment (map segment_value segments.now) }
     requires order { IsNonDecreasingBy (λ (s : Segment). order_key (segment_value s)) segments.now }

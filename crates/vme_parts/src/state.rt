@@ -1,4 +1,4 @@
-//! What monitors come to on their way through segments.
+//! The states of the monitors after segments.
 
 ghost use Rattle.std.specs.Prelude.{◌≡◌, ◌<◌, ◌^◌, [], None, length};
 ghost use Rattle.std.specs.Option.{option_map, option_or};
@@ -27,14 +27,14 @@ use vme_part_format::{OutcomeTable, Segment, WideBreak};
 use vme_part_tables::{follow, later_break};
 use vme_trace::Lines;
 
-/// What a monitor has come to: the memory that it is in, and the first break.
+/// The state of a monitor: the memory that it is in, and the first break so far.
 #[derive(Clone, Copy)]
 pub struct State {
     pub memory: u32,
     pub first_break: Option<WideBreak>,
 }
 
-/// A monitor at the opening of a recording.
+/// The state of a monitor at the opening of a recording.
 fn begin<M: Finite>(opening: &Lines) -> State
     ensures memory { result.memory ≡ M.place_of (M.begin opening.now) }
     ensures low { result.memory < M.COUNT }
@@ -47,7 +47,7 @@ fn begin<M: Finite>(opening: &Lines) -> State
     }
 }
 
-/// Past the table of a segment, before which so many steps were.
+/// The state after a segment with the table `table`, where `steps` steps come before the segment.
 fn past(state: State, table: &OutcomeTable, steps: u64) -> State
     requires few { length table.now.entries.items < 2 ^ 32 }
     requires memory { state.memory < length table.now.entries.items }
@@ -77,7 +77,7 @@ fn comes_before(a: &WideBreak, b: &WideBreak) -> bool
     a.instant < b.instant || (a.instant == b.instant && less)
 }
 
-/// The sooner of two breaks.
+/// The lesser of two breaks, or the one that there is.
 fn least(first: Option<WideBreak>, second: Option<WideBreak>) -> Option<WideBreak>
     ensures { option_map break_of result ≡ least_of (option_map break_of first) (option_map break_of second) }
 {
@@ -96,7 +96,7 @@ fn least(first: Option<WideBreak>, second: Option<WideBreak>) -> Option<WideBrea
     }
 }
 
-/// The verdict that the first break gives, where anything is judged.
+/// The verdict by the first break, if anything is judged.
 fn verdict_of(found: Option<WideBreak>) -> WideVerdict
     ensures { verdict_is result ≡ verdict_on (option_map break_of found) }
 {
@@ -107,7 +107,7 @@ fn verdict_of(found: Option<WideBreak>) -> WideVerdict
     }
 }
 
-/// What the monitors have come to.
+/// The states of the five monitors.
 #[derive(Clone, Copy)]
 pub struct States {
     pub known: State,
@@ -118,7 +118,7 @@ pub struct States {
 }
 
 impl States {
-    /// Before any step.
+    /// The states before any step.
     pub fn at(opening: &Lines) -> States
         ensures fit { FitStates result }
         ensures found { HasStates result opening.now [] }
@@ -132,7 +132,7 @@ impl States {
         }
     }
 
-    /// Past a segment, before which so many steps were.
+    /// The states after `segment`, where `steps` steps come before it.
     pub fn past(&self, segment: &Segment, steps: u64) -> States
         requires fit { FitStates self.now }
         requires tables { HasTables (segment_value segment.now) }
@@ -148,7 +148,7 @@ impl States {
         }
     }
 
-    /// Whether anything is judged of a recording past whose steps the monitors have come.
+    /// Whether anything is judged of a recording after whose steps the monitors have these states.
     pub fn has_judged(&self) -> bool
         requires { FitStates self.now }
         ensures { (t : Trace) → FoundAll self.now t → result ≡ has_span (judged_spans t) }
@@ -157,7 +157,7 @@ impl States {
         Known::started(Known::nth(self.known.memory as usize))
     }
 
-    /// Its first break.
+    /// The first break of a recording after whose steps the monitors have these states.
     pub fn first_break(&self) -> Option<WideBreak>
         ensures { (t : Trace) → FoundAll self.now t → option_map break_of result ≡ first_break_of t }
     {
@@ -172,7 +172,7 @@ impl States {
         least(self.known.first_break, started)
     }
 
-    /// The verdict on it.
+    /// The verdict on a recording after whose steps the monitors have these states.
     pub fn verdict(&self) -> WideVerdict
         requires { FitStates self.now }
         ensures { (t : Trace) → FoundAll self.now t → verdict_by rules_in_force t ≡ verdict_is result }

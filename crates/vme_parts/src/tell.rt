@@ -1,4 +1,4 @@
-//! What a part says of the whole recording.
+//! The verdict on the whole recording, from a part.
 
 ghost use Rattle.std.specs.Prelude.{◌≡◌, ◌∷◌, [], All, IfOk, map};
 ghost use Rattle.vme_part_format.specs.Bounds.{FitsPart};
@@ -12,7 +12,7 @@ use crate::cover::{beyond, covered, lacks};
 use crate::judged_segments::{JudgedSegments, Stop};
 use vme_part_format::{Part, Segment};
 
-/// Past a segment and those that follow it.
+/// Judges a segment and those that follow it.
 fn judge_from(first: &Segment, rest: &[Segment]) -> Result<JudgedSegments, Stop>
     requires first { IsSegment (segment_value first.now) }
     requires rest { All IsSegment (map segment_value rest.now) }
@@ -29,7 +29,7 @@ fn judge_from(first: &Segment, rest: &[Segment]) -> Result<JudgedSegments, Stop>
     Ok(judging)
 }
 
-/// Past all segments, which follow one another.
+/// Judges all segments, which follow one another by their numbers.
 fn judge_all(segments: &[Segment]) -> Result<JudgedSegments, Stop>
     requires segments { All IsSegment (map segment_value segments.now) }
     requires some { segments.now ≡ [] → ⊥ }
@@ -42,7 +42,7 @@ fn judge_all(segments: &[Segment]) -> Result<JudgedSegments, Stop>
     }
 }
 
-/// What is told where judging stops.
+/// The answer where judging stops.
 fn told_of(stop: Stop) -> RecordingAnswer
     ensures { result ≡ told_of_stop stop }
 {
@@ -52,7 +52,8 @@ fn told_of(stop: Stop) -> RecordingAnswer
     }
 }
 
-/// Past all segments, of which none is missing.
+/// Judges all segments of `part`, if they cover all files of the recording and no others. The recording has `files`
+/// files or, if `files` is `None`, those up to the last that is covered.
 pub fn judged(part: &Part, files: Option<u64>) -> Result<JudgedSegments, RecordingAnswer>
     requires { FitsPart (part_value part.now) }
     ensures fit { IfOk result (λ j. FitStates j.states) }
@@ -75,7 +76,8 @@ pub fn judged(part: &Part, files: Option<u64>) -> Result<JudgedSegments, Recordi
     }
 }
 
-/// What a part says of a recording of so many files, or of those up to the last that is covered.
+/// The answer of `part` for a recording of `files` files or, if `files` is `None`, of those up to the last that is
+/// covered.
 pub fn tell_verdict(part: &Part, files: Option<u64>) -> RecordingAnswer
     requires { FitsPart (part_value part.now) }
     ensures { DeterminesRecordingAnswer (part_value part.now) files result }

@@ -1,5 +1,5 @@
-//! Tests of vme_parts: worked recordings cut into files, whose parts are joined in many orders and
-//! bracketings, and files that are missing or torn.
+//! Tests of vme_parts: recordings that are cut into files, whose parts are joined in many orders and
+//! groupings, and files that are missing or torn.
 #![tactic(auto)]
 
 #[cfg(test)]

@@ -22,7 +22,7 @@ struct TestFile {
     capture: Capture,
 }
 
-/// A file of this number, opening and steps.
+/// A file with the number, opening and steps.
 fn file_of(number: u32, opening: Lines, steps: Vec<Step>) -> Result<TestFile, &'static str> {
     match Capture::new(opening, steps) {
         Ok(capture) => Ok(TestFile { number, capture }),
@@ -30,7 +30,7 @@ fn file_of(number: u32, opening: Lines, steps: Vec<Step>) -> Result<TestFile, &'
     }
 }
 
-/// Copies of steps, behind others.
+/// Adds copies of `steps` to `own`.
 fn copy_steps(alloc: Global, own: &mut Vec<Step>, steps: &[Step]) -> Result<(), &'static str> {
     for step in steps {
         let again = step.copy(alloc).map_err(|_| "no memory")?;
@@ -39,7 +39,7 @@ fn copy_steps(alloc: Global, own: &mut Vec<Step>, steps: &[Step]) -> Result<(), 
     Ok(())
 }
 
-/// A read of a requester in slot 2, as words of lines and levels, one step each.
+/// A read of a requester in slot 2. Each item is one step: words of lines and levels.
 const READ: [&str; 13] = [
     "BR3=0",
     "BG3.0=0",
@@ -56,7 +56,7 @@ const READ: [&str; 13] = [
     "BBSY=1 AM1=1 AM2=1 A05=1",
 ];
 
-/// What is done to a recording that conforms: a reset, a lost line, and edges in the wrong place.
+/// Changes that spoil a conforming recording: a reset, a lost line, and edges in the wrong place.
 const SPOILS: [&str; 12] = [
     "SYSRESET=0",
     "SYSRESET=1",
@@ -72,7 +72,7 @@ const SPOILS: [&str; 12] = [
     "IA.1=0",
 ];
 
-/// The next of some numbers that look random.
+/// The next number of a pseudorandom generator.
 fn next_number(state: &mut u64) -> u64 {
     *state = state
         .wrapping_mul(6364136223846793005)
@@ -80,7 +80,7 @@ fn next_number(state: &mut u64) -> u64 {
     *state >> 33
 }
 
-/// A number below another.
+/// A pseudorandom number below `end`.
 fn below(state: &mut u64, end: usize) -> usize
     ensures { 0 < end → result < end }
 {
@@ -91,7 +91,7 @@ fn below(state: &mut u64, end: usize) -> usize
     }
 }
 
-/// The changes that words say, but for those that change nothing; the lines go on to the levels behind them.
+/// The changes in `words`, without those that change nothing. `lines` gets the levels after them.
 fn changes_of(alloc: Global, lines: &mut Lines, words: &str) -> Result<Vec<Change>, &'static str> {
     let mut changes = Vec::new(alloc);
     for number in 0..LINE_COUNT {
@@ -115,7 +115,7 @@ fn changes_of(alloc: Global, lines: &mut Lines, words: &str) -> Result<Vec<Chang
     Ok(changes)
 }
 
-/// Adds a step of some changes, if there are some.
+/// Adds a step with the changes, if there are any.
 fn add_step(
     alloc: Global,
     steps: &mut Vec<Step>,
@@ -133,7 +133,7 @@ fn add_step(
     steps.push(step).map_err(|_| "no memory")
 }
 
-/// Each line of a backplane, high; the lines go on to these levels.
+/// The changes by which each line of the backplane goes high. `lines` gets these levels.
 fn quiet_changes(alloc: Global, lines: &mut Lines) -> Result<Vec<Change>, &'static str> {
     let mut quiet = Vec::new(alloc);
     for number in 0..LINE_COUNT {
@@ -150,7 +150,7 @@ fn quiet_changes(alloc: Global, lines: &mut Lines) -> Result<Vec<Change>, &'stat
     Ok(quiet)
 }
 
-/// Adds a step of the changes that words say, if they change something.
+/// Adds a step with the changes in `words`, if they change something.
 fn add_words(
     alloc: Global,
     steps: &mut Vec<Step>,
@@ -162,7 +162,7 @@ fn add_words(
     add_step(alloc, steps, time, changes.as_slice())
 }
 
-/// The steps of some reads, spoiled at most twice, and of a first one behind which the bus is idle.
+/// A first step after which the bus is idle, and then the steps of one to four reads, spoiled at most twice.
 fn steps_of_reads(
     alloc: Global,
     state: &mut u64,
@@ -190,7 +190,7 @@ fn steps_of_reads(
     Ok(steps)
 }
 
-/// Some reads on three slots, spoiled at most twice.
+/// A recording of one to four reads on three slots, spoiled at most twice.
 fn recording(alloc: Global, seed: u64) -> Result<Capture, &'static str> {
     let mut state = seed;
     let opening = Lines::new(3).ok_or("no such backplane")?;
@@ -199,7 +199,7 @@ fn recording(alloc: Global, seed: u64) -> Result<Capture, &'static str> {
     Capture::new(opening, steps).ok().ok_or("malformed")
 }
 
-/// Where a recording of so many steps is cut into so many files, some of them empty.
+/// The places at which a recording of `steps` steps is cut into `count` files, some of them empty.
 fn cuts_of(
     alloc: Global,
     state: &mut u64,
@@ -216,7 +216,7 @@ fn cuts_of(
     Ok(cuts)
 }
 
-/// The file of a number, of some steps behind these lines, which go on to what it leaves.
+/// The file `number` with `steps`, which opens with `lines`. `lines` gets the levels that it leaves.
 fn next_file(
     alloc: Global,
     number: u32,
@@ -232,7 +232,7 @@ fn next_file(
     file_of(number, opening, own)
 }
 
-/// The recording cut into so many files, some of them empty.
+/// The recording cut into `count` files, some of them empty.
 fn files_of(
     alloc: Global,
     state: &mut u64,
@@ -258,7 +258,7 @@ fn files_of(
     Ok(files)
 }
 
-/// The files of a recording of a seed, cut by another.
+/// The files of the recording of `seed`, cut by the generator `state`.
 fn cut_recording(
     alloc: Global,
     seed: u64,
@@ -269,7 +269,7 @@ fn cut_recording(
     files_of(alloc, state, &capture, count)
 }
 
-/// The bytes of the part of a file, on a backplane of this sum.
+/// The bytes of the part of a file, whose backplane has the sum `backplane`.
 fn part_of(
     alloc: Global,
     backplane: u64,
@@ -287,7 +287,7 @@ fn part_of(
     write_part(alloc, &part).map_err(|_| "no memory")
 }
 
-/// A part of its bytes.
+/// The part in `bytes`.
 fn read_one(alloc: Global, bytes: &[u8]) -> Result<Part, &'static str>
     ensures { IfOk result (λ p. FitsPart (part_value p)) }
 {
@@ -297,7 +297,7 @@ fn read_one(alloc: Global, bytes: &[u8]) -> Result<Part, &'static str>
     }
 }
 
-/// Parts of their bytes.
+/// The parts in `texts`.
 fn read_each(alloc: Global, texts: &[Vec<u8>]) -> Result<Vec<Part>, &'static str>
     ensures { IfOk result (λ v. All (λ (p : Part). FitsPart (part_value p)) v.items) }
 {
@@ -315,7 +315,7 @@ fn why_apart(alloc: Global, texts: &[Vec<u8>]) -> Result<Option<JoinRefusal>, &'
     Ok(join_parts(alloc, parts).err())
 }
 
-/// The bytes of one part of several.
+/// The bytes of the part joined from those in `texts`.
 fn join_all(alloc: Global, texts: &[Vec<u8>]) -> Result<Vec<u8>, &'static str> {
     let parts = read_each(alloc, texts)?;
     match join_parts(alloc, parts) {
@@ -324,7 +324,7 @@ fn join_all(alloc: Global, texts: &[Vec<u8>]) -> Result<Vec<u8>, &'static str> {
     }
 }
 
-/// What bytes of a part tell of so many files.
+/// The answer of the part in `text` for `files` files.
 fn told_of(
     alloc: Global,
     text: &[u8],
@@ -334,7 +334,7 @@ fn told_of(
     Ok(tell_verdict(&part, files))
 }
 
-/// How many segments the part has whose bytes these are.
+/// How many segments the part in `text` has.
 fn segments_in(alloc: Global, text: &[u8]) -> Result<usize, &'static str> {
     let part = read_one(alloc, text)?;
     Ok(part.segments.len())
@@ -346,7 +346,7 @@ fn copied(alloc: Global, text: &[u8]) -> Result<Vec<u8>, &'static str> {
     Ok(again)
 }
 
-/// Some of the parts in a bag, taken out or copied.
+/// At most four of the parts in `bag`, taken out or copied.
 fn some_of(
     alloc: Global,
     state: &mut u64,
@@ -367,7 +367,7 @@ fn some_of(
     Ok(some)
 }
 
-/// The parts of files.
+/// The parts of the files, one for each.
 fn bag_of(alloc: Global, listing: bool, files: &[TestFile]) -> Result<Vec<Vec<u8>>, &'static str> {
     let mut bag = Vec::new(alloc);
     for file in files {
@@ -377,7 +377,8 @@ fn bag_of(alloc: Global, listing: bool, files: &[TestFile]) -> Result<Vec<Vec<u8
     Ok(bag)
 }
 
-/// The parts joined in some order and bracketing, some of them twice: 60 joins at most, and then one of all.
+/// The parts of the files, joined in a pseudorandom order and grouping, some of them twice: at most 60 joins, and then
+/// one of all.
 fn joined(
     alloc: Global,
     state: &mut u64,
@@ -395,7 +396,7 @@ fn joined(
     join_all(alloc, bag.as_slice())
 }
 
-/// What files tell, joined in some order and bracketing, of so many.
+/// The answer of the part joined from the files for `count` files.
 fn told_of_files(
     alloc: Global,
     state: &mut u64,
@@ -407,7 +408,7 @@ fn told_of_files(
     told_of(alloc, text.as_slice(), count)
 }
 
-/// One part of two, the second first.
+/// The part joined from two. The second is given first.
 fn join_two(alloc: Global, first: Vec<u8>, second: Vec<u8>) -> Result<Vec<u8>, &'static str> {
     let mut both = Vec::new(alloc);
     both.push(second).map_err(|_| "no memory")?;
@@ -415,7 +416,7 @@ fn join_two(alloc: Global, first: Vec<u8>, second: Vec<u8>) -> Result<Vec<u8>, &
     join_all(alloc, both.as_slice())
 }
 
-/// The verdict of the recording of a seed.
+/// The verdict of the recording of `seed`.
 fn verdict_of(alloc: Global, seed: u64) -> Result<Verdict, &'static str> {
     let capture = recording(alloc, seed)?;
     verdict_by_blocks(alloc, &capture, 100)
@@ -423,7 +424,7 @@ fn verdict_of(alloc: Global, seed: u64) -> Result<Verdict, &'static str> {
         .ok_or("no verdict")
 }
 
-/// Whether a verdict with numbers of 64 bits is this one.
+/// Whether the answer `told` is the verdict `verdict`.
 fn is_verdict(told: &RecordingAnswer, verdict: &Verdict) -> bool {
     match (told, verdict) {
         (RecordingAnswer::Verdict(WideVerdict::Conforming), Verdict::Conforming) => true,
@@ -444,7 +445,7 @@ fn is_verdict(told: &RecordingAnswer, verdict: &Verdict) -> bool {
     }
 }
 
-/// Whether a recording of a seed, cut by it, tells its verdict with marks or without.
+/// Whether the parts of the recording of `seed`, with marks (`listing`) or without, give its verdict.
 fn tells_verdict(alloc: Global, seed: u64, listing: bool) -> Result<bool, &'static str> {
     let mut state = seed.wrapping_mul(77).wrapping_add(5);
     let count = 1 + below(&mut state, 9);
@@ -456,7 +457,7 @@ fn tells_verdict(alloc: Global, seed: u64, listing: bool) -> Result<bool, &'stat
     Ok(is_verdict(&told, &verdict) && is_verdict(&again, &verdict))
 }
 
-/// Whatever the cut, the order, the bracketing and the repetition, the verdict is that of the recording.
+/// For each cut, order, grouping and repetition, the verdict is that of the recording.
 #[test]
 fn every_order_tells_the_whole(rt: HostRuntime) -> Result<(), Fail> {
     let alloc = rt.alloc();
@@ -467,7 +468,7 @@ fn every_order_tells_the_whole(rt: HostRuntime) -> Result<(), Fail> {
     Ok(())
 }
 
-/// Whether files joined twice make the same bytes, of so many segments.
+/// Whether two joins of the same seven files have the same bytes, and three segments.
 fn is_determined(alloc: Global, seed: u64, listing: bool) -> Result<bool, &'static str> {
     let mut state = seed;
     let files = cut_recording(alloc, seed, &mut state, 7)?;
@@ -477,7 +478,7 @@ fn is_determined(alloc: Global, seed: u64, listing: bool) -> Result<bool, &'stat
     Ok(one.as_slice() == other.as_slice() && count == 3)
 }
 
-/// A join is determined by what it covers: its bytes are the same for each order and bracketing.
+/// A join is determined by what it covers: its bytes are the same for each order and grouping.
 #[test]
 fn a_join_is_determined_by_what_it_covers(rt: HostRuntime) -> Result<(), Fail> {
     let alloc = rt.alloc();
@@ -488,7 +489,7 @@ fn a_join_is_determined_by_what_it_covers(rt: HostRuntime) -> Result<(), Fail> {
     Ok(())
 }
 
-/// Two runs of files joined apart, and then together: the files up to an end, and those from another on.
+/// The files before `end` and those from `from` on, joined separately, and then together.
 fn joined_runs(
     alloc: Global,
     state: &mut u64,
@@ -504,7 +505,7 @@ fn joined_runs(
     join_two(alloc, first, second)
 }
 
-/// Runs that overlap make the whole: 0 to 5 and 3 to 8.
+/// Ranges of files that overlap make the whole: 0 to 5 and 3 to 8.
 #[test]
 fn runs_that_overlap_make_the_whole(rt: HostRuntime) -> Result<(), Fail> {
     let alloc = rt.alloc();
@@ -517,7 +518,7 @@ fn runs_that_overlap_make_the_whole(rt: HostRuntime) -> Result<(), Fail> {
     Ok(())
 }
 
-/// All files but those from one up to another, joined.
+/// All files except those from `from` to before `to`, joined.
 fn joined_without(
     alloc: Global,
     state: &mut u64,
@@ -537,7 +538,8 @@ fn joined_without(
     joined_runs(alloc, state, files, from, to)
 }
 
-/// What is told of the eight files of a recording but those from one up to another, of so many.
+/// The answer, for `count` files, of the part joined from eight files of a recording except those from `from` to before
+/// `to`.
 fn told_without(
     alloc: Global,
     from: usize,
@@ -594,7 +596,7 @@ fn left_by(file: &TestFile) -> Lines {
     left
 }
 
-/// A file of a number with the steps of another, the first of which may be at time 3.
+/// The file `number` with the opening and the steps of `file`. If `early`, its first step is at time 3.
 fn again(
     alloc: Global,
     file: &TestFile,
@@ -609,7 +611,7 @@ fn again(
     file_of(number, *file.capture.opening(), steps)
 }
 
-/// Adds empty files behind others, which leave these levels.
+/// Adds `count` empty files after others, which leave the levels `left`.
 fn add_empty(
     alloc: Global,
     files: &mut Vec<TestFile>,
@@ -623,7 +625,8 @@ fn add_empty(
     Ok(())
 }
 
-/// What is told of the halves of a recording with empty files between them, where the second may begin too early.
+/// The answer for the halves of a recording with `gap` empty files between them. If `early`, the second begins too
+/// early.
 fn told_with_gap(alloc: Global, gap: u8, early: bool) -> Result<RecordingAnswer, &'static str> {
     let mut state = 4;
     let halves = cut_recording(alloc, 3, &mut state, 2)?;
@@ -641,7 +644,7 @@ fn told_with_gap(alloc: Global, gap: u8, early: bool) -> Result<RecordingAnswer,
     told_of_files(alloc, &mut state, false, files.as_slice(), None)
 }
 
-/// Two steps at one time and a step before another are torn at the file that has the step, across empty files too.
+/// A step that isn't later than the one before it is torn at its file, even if empty files are between them.
 #[test]
 fn a_tear_in_time_is_told_at_its_file(rt: HostRuntime) -> Result<(), Fail> {
     let alloc = rt.alloc();
@@ -651,7 +654,7 @@ fn a_tear_in_time_is_told_at_its_file(rt: HostRuntime) -> Result<(), Fail> {
     Ok(())
 }
 
-/// The file of a number, which opens with another level of one line.
+/// `file` with the number `number`, and another level of one line in its opening.
 fn torn_file(alloc: Global, file: &TestFile, number: u32) -> Result<TestFile, &'static str> {
     let line = Line::address(9);
     let mut opening = *file.capture.opening();
@@ -668,7 +671,7 @@ fn torn_file(alloc: Global, file: &TestFile, number: u32) -> Result<TestFile, &'
     file_of(number, opening, steps)
 }
 
-/// What is told where the file of a number opens with other levels.
+/// The answer if the file `torn` opens with other levels.
 fn told_with_torn(alloc: Global, torn: u32) -> Result<RecordingAnswer, &'static str> {
     let mut state = 6;
     let mut files = cut_recording(alloc, 5, &mut state, 8)?;
@@ -678,7 +681,7 @@ fn told_with_torn(alloc: Global, torn: u32) -> Result<RecordingAnswer, &'static 
     told_of_files(alloc, &mut state, false, files.as_slice(), None)
 }
 
-/// A file that opens with other levels is torn, and what lies around it isn't.
+/// A file that opens with other levels is torn, and the files around it aren't.
 #[test]
 fn a_tear_in_levels_is_told_at_its_file(rt: HostRuntime) -> Result<(), Fail> {
     let alloc = rt.alloc();
@@ -689,7 +692,7 @@ fn a_tear_in_levels_is_told_at_its_file(rt: HostRuntime) -> Result<(), Fail> {
     Ok(())
 }
 
-/// Why the parts of a file on a backplane and of another aren't joined, if they aren't.
+/// Why the parts of two files aren't joined, if they aren't. The second has the sum `backplane` and marks if `listing`.
 fn why_two(
     alloc: Global,
     first: &TestFile,
@@ -705,7 +708,7 @@ fn why_two(
     why_apart(alloc, parts.as_slice())
 }
 
-/// Why the parts of two files and of another under the number of the second aren't joined, if they aren't.
+/// Why the parts of `first`, `second` and `other`, which has the number of `second`, aren't joined, if they aren't.
 fn why_three(
     alloc: Global,
     first: &TestFile,
@@ -753,7 +756,7 @@ fn parts_that_dont_go_together_are_refused(rt: HostRuntime) -> Result<(), Fail> 
     Ok(())
 }
 
-/// The first time of a file of a number over 0 is its opening, where it has a step.
+/// If a file with a number over 0 has a step at its first time, this step belongs to its opening.
 #[test]
 fn the_first_time_opens_a_later_file(rt: HostRuntime) -> Result<(), Fail> {
     let alloc = rt.alloc();

@@ -1,4 +1,4 @@
--- What workers find, where something else is told.
+-- The result of workers, compared with the answer of a check.
 use Rattle.std.proofs.Common.{◌≡◌, ◌≤◌, ◌<◌, ◌↔◌, ℕ, suc, List, Bool, true, false, Result, Ok, Err, refl, sym, subst}
 use Rattle.std.proofs.Common.{arith}
 use Rattle.std.specs.Prelude.{nat_lt, if◌then◌else◌, Option, Some}
@@ -21,14 +21,14 @@ use Rattle.vme_trace.specs.Trace.{Trace}
 use Rattle.vme_trace.specs.Verdict.{verdict_by, rules_in_force}
 use Rattle.vme_trace.specs.declared.verdict.Verdict.{Verdict}
 
--- the verdict of a report is told
+-- `Finds` holds of equal verdicts
 pub same_verdict : (v w : Verdict) → w ≡ v → Finds (Ok w) (Ok v)
 same_verdict v w is = λ i. Ok (sym is i)
 
 pub same_fault : (outcome : Result Report RunFault) (f g : RunFault) → outcome ≡ Err f → f ≡ g → outcome ≡ Err g
 same_fault outcome f g is same = subst (λ (x : RunFault). outcome ≡ Err x) same is
 
--- what another run may give is no answer
+-- `Finds` holds of a reason after which another run may have an answer
 pub passed : (unjudged : Unjudged) (there : Result Verdict Refusal) → IsPassing unjudged → Finds (Err unjudged) there
 passed (Refused refused.Memory) there is = tt
 passed (Refused refusal) there is = absurd is
@@ -50,7 +50,7 @@ lt_false m n h = grind (arith, nat_tests)
 lt_true : (m n : ℕ) → m < n → nat_lt m n ≡ true
 lt_true m n h = grind (arith, nat_tests)
 
--- a recording of few blocks has its verdict told, and one of many the refusal
+-- a recording of at most 4,096 blocks has its verdict as judgement, and one of more has the refusal
 few_judged : (block : ℕ) (t : Trace) → block_count block t ≤ 4096 → verdict_in_blocks block t
     ≡ Ok (verdict_by rules_in_force t)
 few_judged block t few = judged_by (nat_lt 4096 (block_count block t)) (verdict_by rules_in_force t)
@@ -66,7 +66,7 @@ pub many_refused : (block : ℕ) (t : Trace) → 4096 < block_count block t → 
 many_refused block t many = refused_by (nat_lt 4096 (block_count block t)) (verdict_by rules_in_force t)
     (lt_true 4096 (block_count block t) many)
 
--- ---- how it ends
+-- ---- how the command ends
 
 pods_answer_by-small : (found : Result Verdict Unjudged) → (pods_answer_by found).status ≤ 4
 pods_answer_by-small (Ok v) = verdict_status-small v
@@ -74,7 +74,7 @@ pods_answer_by-small (Err (Refused r)) = refusal_status-small r
 pods_answer_by-small (Err NoWorker) = omega arith
 pods_answer_by-small (Err Stray) = omega arith
 
--- what workers find is told as a check tells it, but for a status of 4
+-- unless the status is 4, the answer for the workers' result is that of a check
 told_as_checked : (there : Result Verdict Refusal) (found : Result Verdict Unjudged) → Finds found there
     → ((pods_answer_by found).status ≡ 4 → ⊥)
     → pods_answer_by found ≡ answer_by there

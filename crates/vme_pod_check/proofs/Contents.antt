@@ -1,4 +1,4 @@
--- What a run joins is the recording whose blocks are delivered.
+-- A run joins the recording whose blocks are delivered.
 use Rattle.std.proofs.Common.{◌≡◌, ℕ, zero, suc, ◌*◌, ◌<◌, ◌≤◌, List, [], ◌∷◌, length, slice_get, get_or, Some, None}
 use Rattle.std.proofs.Common.{Result, Ok, Err, sym, refl, ap, ◌∙◌, subst, arith}
 use Rattle.std.specs.Prelude.{All, IfErr, IfOk}
@@ -24,7 +24,7 @@ use Rattle.vme_pod_check.specs.Judgements.{NeedsThreads}
 use Rattle.vme_pod_check.specs.declared.unjudged.Unjudged.{Unjudged}
 use Rattle.vme_pod_check.specs.declared.unjudged.Unjudged.TheVariants.{NoWorker}
 
--- what holds of all holds at each place
+-- what holds of all items holds of the item with the index k
 all_at : (P : Block → Type 0) (xs : List Block) (k : ℕ) (x : Block) → All P xs → slice_get xs k ≡ Some x → P x
 all_at P [] k x all at = absurd (none-some x at)
 all_at P (y ∷ ys) zero x all at = subst P (same_Some y x at) (all zero y (omega arith))
@@ -45,7 +45,7 @@ numbered : (t : Trace) (size : ℕ) (k : ℕ) (d : Block) → k < block_count si
     ≡ block_at size t k
 numbered t size k d low = get_or-map-range_with_len (block_at size t) 0 (block_count size t) k k d low (omega arith)
 
--- each block of a cut stands at its number
+-- the index of each block of a cut is its number
 pub cut_numbered : (t : Trace) (size : ℕ) → AreTakenFrom (blocks_of size t) (blocks_of size t)
 cut_numbered t size k d low =
     let long : length (blocks_of size t) ≡ block_count size t = length-map-range_with_len (block_at size t) 0
@@ -55,13 +55,13 @@ cut_numbered t size k d low =
     ∙ ap (λ (b : Block). Some b) is in
     subst (λ (b : Block). slice_get (blocks_of size t) b.number ≡ Some b) (sym is) at
 
--- blocks that join make one recording, which is the one that is made of the content of their deliveries
+-- the recording that the content of deliveries makes is the one that their blocks make
 capture_is : (blocks : List Block) (t made : Trace) (content : List Block) → content ≡ blocks → joined_trace blocks
     ≡ Some t → joined_trace content ≡ Some made → made ≡ t
 capture_is blocks t made content is joined content_joined = same_Some made t (sym content_joined
     ∙ (ap joined_trace is ∙ joined))
 
--- of deliveries of blocks that join, a report has the verdict on their recording
+-- a report on deliveries of blocks that join has the verdict on their recording
 pub report_verdict : (blocks deliveries : List Block) (total : ℕ) (outcome : Result Report RunFault) (t : Trace) → total
     ≡ length blocks → AreTakenFrom blocks deliveries → joined_trace blocks ≡ Some t
     → IfOk outcome (λ r. IsRecorded total deliveries r.answers r.capture r.span)
@@ -77,7 +77,7 @@ too_long : (blocks deliveries total : ℕ) → total ≡ blocks → total ≤ 40
     → ⊥
 too_long blocks deliveries total is few short many = omega arith
 
--- of these, in range, no other fault comes
+-- a fault of a run on deliveries of blocks that join, with numbers in range, satisfies `MayCome`
 may_come : (blocks deliveries : List Block) (total workers : ℕ) (f : RunFault) → total ≡ length blocks → 0 < total
     → total ≤ 4096 → 0 < workers → workers ≤ 64
     → BlocksJoin blocks → AreDeliveries blocks deliveries → IsFault total deliveries workers f → MayCome f
@@ -110,7 +110,7 @@ outcome_alone ds total w outcome (Ok v) refusals alone = tt
 outcome_alone ds total w outcome (Err unjudged) refusals alone = λ is.
     (subst (λ (o : Result Report RunFault). IfErr o (λ f. IsFault total ds w f)) (alone is) refusals).1
 
--- what is left of the faults
+-- a fault that satisfies `MayCome` is `NoWorker`, `Memory` or `Missing`
 pub none_left : (f : RunFault) → MayCome f → (f ≡ fault.NoWorker → ⊥) → (f ≡ fault.Memory → ⊥)
     → ((n : ℕ) (answers : List Answer) → f ≡ fault.Missing n answers → ⊥) → ⊥
 none_left fault.BadTotal may worker memory missing = may
@@ -125,7 +125,7 @@ none_left (fault.Torn n answers) may worker memory missing = may
 pub few_of : (n : ℕ) → (4096 < n → ⊥) → n ≤ 4096
 few_of n h = grind arith
 
--- how many blocks a cut has that isn't refused for too many
+-- a cut that isn't refused for too many blocks has 1 to 4,096 blocks
 pub cut_count : (t : Trace) (size : ℕ) (blocks : List Block) → blocks ≡ blocks_of size t → block_count size t ≤ 4096
     → (1 ≤ length blocks) × (length blocks ≤ 4096)
 cut_count t size blocks is few =

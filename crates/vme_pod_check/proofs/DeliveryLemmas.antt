@@ -12,7 +12,7 @@ use Rattle.vme_pod_check.specs.Deliveries.{AreDeliveries, AreTakenFrom}
 pub themselves : (blocks : List Block) → AreTakenFrom blocks blocks → AreDeliveries blocks blocks
 themselves blocks of = record { of = of; all = All-contains_itself blocks; count = omega arith }
 
--- so are the blocks and some of them behind
+-- the blocks and then some of them again are deliveries of them
 pub with_more : (blocks deliveries again : List Block) → deliveries ≡ blocks ++ again → AreTakenFrom blocks deliveries
     → length deliveries ≤ 2 * length blocks → AreDeliveries blocks deliveries
 with_more blocks deliveries again is of count = record {
@@ -21,7 +21,7 @@ with_more blocks deliveries again is of count = record {
   count = count;
 }
 
--- and any order of these
+-- deliveries in another order are deliveries
 pub reordered : (blocks before after : List Block) → IsPermutation before after → AreDeliveries blocks before
     → AreDeliveries blocks after
 reordered blocks before after p d = record {
@@ -30,7 +30,7 @@ reordered blocks before after p d = record {
   count = omega (arith, length_permutation before after p, d.count);
 }
 
--- what a slice of all of a vector leaves there
+-- a vector has the items of a slice of all of it, after the slice is changed
 written_back : (lent before after : List Block) (len : ℕ) → len ≡ length before → lent ≡ before → length after
     ≡ length lent → take len (after ++ drop (length after) before) ≡ after
 written_back lent before after len all same long =

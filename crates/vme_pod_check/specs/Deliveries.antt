@@ -6,7 +6,7 @@ use Rattle.vme_trace.specs.declared.block.Block.{Block}
 abbrev pub AreTakenFrom : List Block → List Block → Type 0
 AreTakenFrom blocks deliveries = All (λ b. slice_get blocks b.number ≡ Some b) deliveries
 
--- the deliveries are of these blocks, each of which is among them, and on average at most twice
+-- each delivery is one of the blocks, each block is delivered, and there are at most twice as many deliveries as blocks
 pub record AreDeliveries (blocks deliveries : List Block) : Type 0 where
   pub of : AreTakenFrom blocks deliveries
   pub all : All (λ b. Contains deliveries b) blocks

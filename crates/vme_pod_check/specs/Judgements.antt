@@ -1,4 +1,4 @@
--- What workers find of a recording, and how it is told.
+-- The result of workers for a recording, and the command's answer.
 use Rattle.std.specs.Prelude.{◌≡◌, ◌<◌, ℕ, [], List, codes, IfErr, Result, Ok, Err}
 use Rattle.vme_stream.specs.Answers.{CommandAnswer, AnswerGives, answer_by, judgement_of}
 use Rattle.vme_stream.specs.Ends.{Does}
@@ -10,8 +10,8 @@ use Rattle.vme_pod_check.specs.declared.unjudged.Unjudged.TheVariants.{Refused, 
 use Rattle.vme_trace.specs.Streams.{Reading, Writing}
 use Rattle.vme_trace.specs.declared.verdict.Verdict.{Verdict}
 
--- what workers find is what there is to tell, unless there was no memory, or a thread couldn't be started; no block is
--- ever stray
+-- the result of workers is the judgement `there`, unless memory ran out or a thread couldn't be started; it is never
+-- `Stray`
 abbrev pub Finds : Result Verdict Unjudged → Result Verdict Refusal → Type 0
 Finds (Ok verdict) there = there ≡ Ok verdict
 Finds (Err (Refused refusal)) there = AnswerGives (λ (v : Verdict). v) (Err refusal) there
@@ -46,7 +46,7 @@ pods_answer_by (Ok verdict) = answer_by (Ok verdict)
 pods_answer_by (Err unjudged) =
     record { out = []; error = line_of (unjudged_text unjudged); status = unjudged_status unjudged }
 
--- What the inputs say is judged by so many workers: what they find is told as a check tells it.
+-- The recording of the inputs is judged by `workers` workers, and the command ends with their result as a check does.
 abbrev pub ChecksByPods : Reading × Reading → Reading × Reading → ℕ → ℕ
     → Writing × Writing → Writing × Writing → ℕ → Type 0
 ChecksByPods binding dump block workers out err status =

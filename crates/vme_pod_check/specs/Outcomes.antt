@@ -1,8 +1,8 @@
--- What comes of a run.
+-- The faults of a run.
 use Rattle.vme_floor.specs.declared.report.RunFault.{RunFault}
 use Rattle.vme_floor.specs.declared.report.RunFault.TheVariants as fault
 
--- the faults that may come of deliveries of blocks that join, with numbers in range
+-- the faults that a run may have for deliveries of blocks that join, with numbers in range
 abbrev pub MayCome : RunFault → Type 0
 MayCome fault.BadTotal = ⊥
 MayCome fault.BadDraws = ⊥

@@ -14,7 +14,7 @@ use std::thread::Threads;
 use vme_stream::{capture_from, complain, tell_verdict};
 use vme_trace::{Sink, Source, Verdict};
 
-/// Judges the recording that a binding makes of a dump by workers, and writes its verdict to `out`, or why there is
+/// Judges by workers the recording that a binding makes of a dump, and writes its verdict to `out`, or why there is
 /// none to `err`. The line and the exit status are those of a check, for every order, every repetition and every number
 /// of workers; the status is 4 where there is no memory or a thread can't be started.
 ///
@@ -35,7 +35,7 @@ pub fn check_by_pods<R: Threads + Wait + Sync, B: Source, D: Source, O: Sink, E:
         (O.writing out.old, O.writing out.new) (E.writing err.old, E.writing err.new) result }
     ensures unwritten { (result ≡ 5) ↔ ((O.writing out.new).failures ≡ suc (O.writing out.old).failures) }
 
-    // Inputs that are told whole, no failure, and a status other than 4 give exactly the answer of a check.
+    // If the inputs are read whole, no write fails, and the status isn't 4, this is exactly the answer of a check.
     ensures exact { TellsExactly (λ b d. answer_of (Some b) (Some d) plan.block)
         (B.reading binding.old, B.reading binding.new) (D.reading dump.old, D.reading dump.new)
         (O.writing out.old, O.writing out.new) (E.writing err.old, E.writing err.new) result }

@@ -1,4 +1,4 @@
-//! What the pods deliver: the blocks of a recording, in some order, and some of them again.
+//! The deliveries of the pods: the blocks of a recording, in some order, some of them twice.
 
 ghost use Rattle.std.specs.Prelude.{◌≡◌, ◌*◌, ◌+◌, ◌<◌, ◌≤◌, IfOk, IsPermutation, length, None, OnOk};
 ghost use Rattle.vme_pod_check.specs.Deliveries.{AreDeliveries, AreTakenFrom};
@@ -6,14 +6,14 @@ ghost use Rattle.vme_pod_check.specs.Deliveries.{AreDeliveries, AreTakenFrom};
 use std::alloc::{AllocError, Global};
 use vme_trace::Block;
 
-/// Numbers drawn by a seed: the generator SplitMix64.
+/// Pseudorandom numbers from a seed, by the generator SplitMix64.
 #[derive(Drop)]
 struct Draws {
     state: u64,
 }
 
 impl Draws {
-    /// The next number below a bound.
+    /// The next number below `bound`.
     fn below(&mut self, bound: usize) -> usize
         requires { 0 < bound }
         ensures { result < bound }
@@ -25,8 +25,8 @@ impl Draws {
     }
 }
 
-/// The blocks, in the order of their numbers; or, by a seed, in another order, and about a third of them twice. Each
-/// block has to stand at its own number, as those of `Capture::cut` do. An error is lack of memory.
+/// The blocks, in the order of their numbers or, with a seed, in another order and about a third of them twice. The
+/// index of each block has to be its number, as `Capture::cut` gives them. An error is lack of memory.
 pub fn deliveries_of(
     alloc: Global,
     blocks: Vec<Block>,
@@ -45,7 +45,7 @@ pub fn deliveries_of(
     Ok(deliveries)
 }
 
-/// The blocks, and behind them about a third of them again.
+/// The blocks, and after them about a third of them again.
 fn some_again(
     alloc: Global,
     blocks: Vec<Block>,
@@ -64,7 +64,7 @@ fn some_again(
     Ok(deliveries)
 }
 
-/// Another order of the blocks, each as likely as any.
+/// Puts the blocks in another order. Each order is equally likely.
 fn shuffle(blocks: &mut [Block], draws: &mut Draws)
     ensures { IsPermutation blocks.old blocks.new }
 {

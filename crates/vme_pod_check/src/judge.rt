@@ -22,18 +22,17 @@ use vme_trace::{Block, Capture, CutFault, Verdict};
 /// How the recording is delivered.
 #[derive(Clone, Copy, Debug, PartialEq, Eq)]
 pub struct Plan {
-    /// The steps of a block, 1 to 65,536.
+    /// The number of steps of a block, 1 to 65,536.
     pub block: u32,
-    /// The workers, 1 to 64.
+    /// The number of workers, 1 to 64.
     pub workers: u32,
-    /// What the order and the repetition of the deliveries are drawn by; without it they are in the order of their
-    /// numbers.
+    /// The seed of the order and the repetition of the deliveries. Without it they are in the order of their numbers.
     pub seed: Option<u64>,
 }
 
-/// The verdict on a recording that is cut into blocks, which workers deliver in the order that the plan says. Whatever
-/// the order, the repetition and the number of workers, the answer is the same one, unless memory is short or a thread
-/// can't be started. An error is either of these, or a recording of more than 4,096 blocks.
+/// The verdict on a recording that is cut into blocks, which workers deliver in the order of the plan. The answer
+/// doesn't depend on the order, the repetition or the number of workers, unless memory runs out or a thread can't be
+/// started. An error is either of these, or a recording of more than 4,096 blocks.
 pub fn verdict_by_pods<R: Threads + Wait + Sync>(
     rt: &R,
     alloc: Global,
@@ -54,7 +53,7 @@ pub fn verdict_by_pods<R: Threads + Wait + Sync>(
     }
 }
 
-/// The verdict on the recording that blocks make which join.
+/// The verdict on the recording that `blocks`, which join, make.
 fn verdict_on_blocks<R: Threads + Wait + Sync>(
     rt: &R,
     alloc: Global,
@@ -79,7 +78,7 @@ fn verdict_on_blocks<R: Threads + Wait + Sync>(
     }
 }
 
-/// The verdict of a report, or what a fault is to the program.
+/// The verdict of a report, or the reason that there is none, for a fault of the run.
 fn verdict_of(outcome: Result<Report, RunFault>) -> Result<Verdict, Unjudged>
     requires { IfErr outcome MayCome }
     ensures exact { (v : Verdict) → IfOk outcome (λ report. report.verdict ≡ v)
@@ -92,7 +91,7 @@ fn verdict_of(outcome: Result<Report, RunFault>) -> Result<Verdict, Unjudged>
     }
 }
 
-/// What a fault of a run is to the program.
+/// The reason that there is no verdict, for a fault of the run.
 fn unjudged_by(fault: RunFault) -> Unjudged
     requires { MayCome fault }
     ensures passing { IsPassing result }
@@ -101,7 +100,7 @@ fn unjudged_by(fault: RunFault) -> Unjudged
     match fault {
         RunFault::NoWorker => Unjudged::NoWorker,
         RunFault::Memory => Unjudged::Refused(Refusal::Memory),
-        // All deliveries of a number were answered with want of memory.
+        // Each delivery of a number was answered that there was no memory.
         RunFault::Missing { .. } => Unjudged::Refused(Refusal::Memory),
         _ => unreachable!(),
     }

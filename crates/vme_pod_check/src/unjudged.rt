@@ -9,16 +9,16 @@ use vme_stream::{Message, Refusal, refusal_line};
 /// Why a recording is not judged by workers.
 #[derive(Clone, Copy, Debug, PartialEq, Eq)]
 pub enum Unjudged {
-    /// A check would refuse it too, or there is no memory.
+    /// A check would refuse it too, or memory ran out.
     Refused(Refusal),
     /// A thread couldn't be started.
     NoWorker,
-    /// The benches of the workers don't account for what the board holds. This never comes.
+    /// The benches of the workers don't account for what the board holds. This is never returned.
     Stray,
 }
 
 impl Unjudged {
-    /// The line that tells it.
+    /// The line for standard error.
     pub fn line(&self) -> Message
         ensures { result ≡ line_of (unjudged_text self.now) }
     {

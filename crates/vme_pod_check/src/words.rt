@@ -1,4 +1,4 @@
-//! The words of the command line.
+//! The arguments of the command line.
 
 ghost use Rattle.std.specs.Prelude.{◌≤◌, IfOk, IfSome};
 
@@ -7,7 +7,7 @@ use clap::error::ErrorKind;
 use clap::{Arg, ArgMatches, Command, value_parser};
 use std::alloc::{AllocError, Global};
 
-/// What the words ask for: the files, and how their recording is delivered.
+/// The parsed command line: the files, and how their recording is delivered.
 #[derive(Debug, Drop)]
 pub struct PodsOrder {
     /// The file of the binding.
@@ -18,8 +18,8 @@ pub struct PodsOrder {
     pub plan: Plan,
 }
 
-/// Reads the words, the program's name first. None is a fault of clap's own. An error is what is wrong with the words,
-/// the help that they ask for, or lack of memory, as its kind says.
+/// Parses the arguments `words`, the program's name first. None is a fault of clap itself. The kind of an error says
+/// whether it is a fault of the arguments, the help that they ask for, or lack of memory.
 pub fn order_of(alloc: Global, words: &[String]) -> Result<Option<PodsOrder>, clap::Error>
     ensures block { IfOk result (λ o. IfSome o (λ order. (1 ≤ order.plan.block) × (order.plan.block ≤ 65536))) }
     ensures workers { IfOk result (λ o. IfSome o (λ order. (1 ≤ order.plan.workers) × (order.plan.workers ≤ 64))) }
@@ -46,7 +46,7 @@ pub fn order_of(alloc: Global, words: &[String]) -> Result<Option<PodsOrder>, cl
     }))
 }
 
-/// The number of an option, if it is from 1 to the greatest.
+/// The number of the option `name`, if it is from 1 to `greatest`.
 fn number(matches: &ArgMatches<'_>, name: &str, greatest: u32) -> Option<u32>
     ensures { IfSome result (λ n. (1 ≤ n) × (n ≤ greatest)) }
 {
@@ -56,7 +56,7 @@ fn number(matches: &ArgMatches<'_>, name: &str, greatest: u32) -> Option<u32>
     }
 }
 
-/// The fault of words that are no text. An error is lack of memory.
+/// The error for arguments that aren't text. An error of this function is lack of memory.
 pub fn no_text(alloc: Global) -> Result<clap::Error, AllocError> {
     let mut command = command(alloc)?;
     command.error(ErrorKind::InvalidValue, "a word is no text")

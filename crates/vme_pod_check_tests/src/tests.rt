@@ -59,7 +59,7 @@ $enddefinitions $end
 #50 1s
 ";
 
-/// The same without a strobe.
+/// The read without a strobe.
 const UNSTROBED: &[u8] = b"$timescale 1 ns $end
 $scope module bus $end
 $var wire 1 p AS $end
@@ -95,7 +95,7 @@ fn recorded_read(alloc: Global) -> Option<Capture> {
     recorded_in(alloc, &binding, READ).ok()?.ok()
 }
 
-/// A sink that holds what it took, as long as that is shorter than its room.
+/// A sink that keeps what is written, as long as what it has kept is shorter than its room.
 #[derive(Drop)]
 struct Page {
     bytes: Vec<u8>,
@@ -138,7 +138,7 @@ struct ToldLine {
     status: u8,
 }
 
-/// Whether this is told of a dump, with so much room for the verdict; none where memory is short.
+/// Whether a check of the inputs writes `told`, to a standard output with the room `room`. None if memory runs out.
 fn tells_once<R: Threads + Wait + Sync>(
     rt: &R,
     alloc: Global,
@@ -170,7 +170,7 @@ fn tells_once<R: Threads + Wait + Sync>(
     }
 }
 
-/// The same. Where memory is short once, it is asked for again.
+/// `tells_once`, tried again if memory runs out once.
 fn tells<R: Threads + Wait + Sync>(
     rt: &R,
     alloc: Global,
@@ -188,12 +188,12 @@ fn tells<R: Threads + Wait + Sync>(
     }
 }
 
-/// The steps of a block, and the workers.
+/// Pairs of the number of steps of a block and the number of workers.
 static SHARES: [(u32, u32); 6] = [(1, 1), (1, 3), (2, 1), (2, 3), (65536, 1), (65536, 3)];
 
 static SEEDS: [u64; 3] = [0, 1, 7919];
 
-/// Whether this is told of a dump by a plan whose numbers are in their ranges.
+/// Whether a check of `dump` writes `told`, by a plan with the numbers `share`, which have to be in their ranges.
 fn tells_by<R: Threads + Wait + Sync>(
     rt: &R,
     alloc: Global,
@@ -214,7 +214,7 @@ fn tells_by<R: Threads + Wait + Sync>(
     tells(rt, alloc, (BINDING, dump), plan, 1000, told)
 }
 
-/// Whether this is told of a dump, for every plan of some.
+/// Whether a check of `dump` writes `told`, by each of several plans.
 fn plans_tell<R: Threads + Wait + Sync>(
     rt: &R,
     alloc: Global,
@@ -271,7 +271,7 @@ fn a_recording_is_judged(rt: HostRuntime) {
     assert!(rt; verdict_of_read(&rt, rt.alloc()) == Some(Verdict::Conforming));
 }
 
-/// The deliveries of the blocks of one step.
+/// The deliveries, by `seed`, of the recording's blocks of one step.
 fn delivered(alloc: Global, capture: &Capture, seed: u64) -> Option<Vec<Block>> {
     match capture.cut(alloc, 1) {
         Ok(blocks) => deliveries_of(alloc, blocks, Some(seed)).ok(),
@@ -279,7 +279,7 @@ fn delivered(alloc: Global, capture: &Capture, seed: u64) -> Option<Vec<Block>> 
     }
 }
 
-/// Whether no number is less than the one before it.
+/// Whether no number is below the one before it.
 fn ascend(deliveries: &[Block]) -> bool {
     let mut least = 0;
     for block in deliveries {
@@ -297,7 +297,7 @@ fn shuffles_and_repeats(alloc: Global, capture: &Capture, seed: u64) -> Option<(
     Some((!ascend(deliveries.as_slice()), deliveries.len() != 6))
 }
 
-/// Whether some of eight seeds shuffle, and some repeat.
+/// Whether any of eight seeds gives another order, and any delivers a block twice.
 fn some_shuffle_and_repeat(alloc: Global) -> Option<bool> {
     let capture = recorded_read(alloc)?;
     let (mut some_shuffles, mut some_repeats) = (false, false);
@@ -309,13 +309,13 @@ fn some_shuffle_and_repeat(alloc: Global) -> Option<bool> {
     Some(some_shuffles && some_repeats)
 }
 
-/// No contract says that an order is another one, nor that anything is delivered twice.
+/// No contract says that a seed gives another order, or that a block is delivered twice.
 #[test]
 fn seeds_shuffle_and_repeat(rt: HostRuntime) {
     assert!(rt; some_shuffle_and_repeat(rt.alloc()) == Some(true));
 }
 
-/// Files copies of the blocks whose numbers are odd, or of the others. None is a delivery that was refused.
+/// Files copies of the blocks whose numbers are odd (`odd`), or of the others. None if a delivery is refused.
 fn filed_by(
     alloc: Global,
     board: &Board,
@@ -336,7 +336,7 @@ fn filed_by(
     Some(bench)
 }
 
-/// The bench of both pods, once each has filed its blocks on a thread of its own.
+/// The bench of both pods, after each has filed its blocks on a thread of its own.
 fn filed_by_both(
     rt: &impl Threads,
     alloc: Global,
@@ -362,7 +362,7 @@ fn filed_by_both(
     Some(odd?.fold(even?, board))
 }
 
-/// What a board leaves that has no block of another bench, and of which nothing was taken.
+/// The contents of a closed board, if it has no block of another bench, and nothing was taken from it.
 fn contents_of(alloc: Global, board: Board, bench: Bench) -> Option<Vec<Option<Judged>>>
     requires { IsOf bench board }
 {
@@ -387,7 +387,7 @@ fn judged_by_two_pods(
     contents_of(alloc, board, bench)
 }
 
-/// The book of all judged blocks.
+/// A book with all judged blocks, which it joins by number.
 fn all_inserted(alloc: Global, total: u32, contents: Vec<Option<Judged>>) -> Option<Book> {
     let mut book = Book::new(alloc, total).ok()?;
     for content in contents {
@@ -396,7 +396,7 @@ fn all_inserted(alloc: Global, total: u32, contents: Vec<Option<Judged>>) -> Opt
     Some(book)
 }
 
-/// The read, of which two pods deliver the blocks; its verdict is known before the book is closed.
+/// The read, whose blocks two pods deliver. Its verdict is known before the book is closed.
 fn whole_by_two_pods(rt: &impl Threads, alloc: Global) -> Option<Whole> {
     let blocks = recorded_read(alloc)?.cut(alloc, 1).ok()?;
     let total = u32::try_from(blocks.len()).ok()?;
@@ -422,13 +422,13 @@ fn two_pods(rt: HostRuntime) {
     assert!(rt; is_whole(&rt, rt.alloc()));
 }
 
-/// A binding and a dump that are refused, and the line that tells it.
+/// Pairs of a binding and a dump that are refused, each with the line of the refusal.
 static REFUSED: [(&[u8], &[u8], &str); 2] = [
     (b"AS = 0\n", READ, "vmecheck: binding line 1: SlotsFirst\n"),
     (BINDING, b"", "vmecheck: dump line 1: NoEndDefinitions\n"),
 ];
 
-/// By two workers in an order of their own, whether a binding and a dump are refused by this line with status 3.
+/// Whether a binding and a dump, by two workers and a seed, are refused with the line `text` and status 3.
 fn is_refused<R: Threads + Wait + Sync>(
     rt: &R,
     alloc: Global,
@@ -458,7 +458,7 @@ fn refusals_are_told(rt: HostRuntime) {
     assert!(rt; inputs_are_refused(&rt, rt.alloc()));
 }
 
-/// A dump of so many steps, in which AS goes low and high in turn.
+/// A dump of `steps` steps, in which AS goes low and high in turn.
 fn long_dump(alloc: Global, steps: u32) -> Option<String> {
     let mut dump = String::from_str(alloc, HEAD).ok()?;
     for step in 0..steps {
@@ -496,7 +496,7 @@ fn a_verdict_that_is_not_written_is_told(rt: HostRuntime) {
     assert!(rt; tells(&rt, rt.alloc(), (BINDING, READ), TWO_WORKERS, 0, unwritten));
 }
 
-/// Whether this line tells it, and this is its status.
+/// Whether the reason has the line `text` and the status `status`.
 fn is_told(unjudged: Unjudged, text: &str, status: u8) -> bool {
     unjudged.line().as_bytes() == text.as_bytes() && unjudged.status() == status
 }
@@ -514,7 +514,7 @@ fn what_is_not_judged_is_told(rt: HostRuntime) {
     assert!(rt; unjudged_is_told());
 }
 
-/// The words of a line, the program's name first.
+/// The arguments in a line, the program's name first.
 fn words_of(alloc: Global, line: &str) -> Option<Vec<String>> {
     let mut words = Vec::new(alloc);
     for word in line.split(' ') {
@@ -523,13 +523,13 @@ fn words_of(alloc: Global, line: &str) -> Option<Vec<String>> {
     Some(words)
 }
 
-/// What the words of a line ask for.
+/// The order, i.e. the parsed arguments, in a line.
 fn ordered(alloc: Global, line: &str) -> Option<PodsOrder> {
     let words = words_of(alloc, line)?;
     order_of(alloc, words.as_slice()).ok()?
 }
 
-/// Whether a line asks for this plan, and for these files.
+/// Whether a line is parsed to the plan and the files.
 fn orders(alloc: Global, line: &str, plan: Plan, binding: &str, dump: &str) -> bool {
     match ordered(alloc, line) {
         Some(order) => {

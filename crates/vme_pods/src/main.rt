@@ -1,15 +1,15 @@
-//! Judges a recording as pods would deliver it: cut into blocks, which workers deliver in any
-//! order, some of them twice.
+//! Judges a recording as the pods of a logic analyser would deliver it: cut into blocks, which
+//! workers deliver in any order, some of them twice.
 //!
 //! `vme_pods [--block N] [--workers N] [--seed S] BINDING DUMP` writes the line that
-//! `vmecheck check` writes, with its status. It is there for those who embed the library, and shows
-//! that `run` of vme_floor judges real recordings. It reads its arguments and opens two files, and
-//! no more: vme_pod_check does the rest.
+//! `vmecheck check` writes, with its status. It is an example for those who embed the library, and
+//! shows that `run` of vme_floor judges real recordings. It reads its arguments and opens two files.
+//! vme_pod_check does the rest.
 //!
 //! # What is proved
 //!
-//! What is written and the status, of vme_pod_check (`check_by_pods`). Here: a file that can't be
-//! opened is told as the input that it is (`open`), with the status of that refusal (`refuse`).
+//! What is written and the status: see vme_pod_check (`check_by_pods`). Here: a file that can't be
+//! opened is refused as the input that it is (`open`), with the status of that refusal (`refuse`).
 //!
 //! # What isn't proved
 //!
@@ -34,7 +34,7 @@ fn main(rt: HostRuntime) -> ExitCode {
     ExitCode::from(work(&rt, &rt))
 }
 
-/// Does what the words ask for, by threads of `threads`; the answer is the exit status.
+/// Parses the command line and does what it asks for, by threads of `threads`. The answer is the exit status.
 fn work<R: Threads + Wait + Sync>(rt: &HostRuntime, threads: &R) -> u8 {
     match ordered(rt) {
         Ok(Some(order)) => check_order(rt, threads, &order),
@@ -51,7 +51,7 @@ fn work<R: Threads + Wait + Sync>(rt: &HostRuntime, threads: &R) -> u8 {
     }
 }
 
-/// The order of the command line.
+/// The order, i.e. the parsed command line.
 fn ordered(rt: &HostRuntime) -> Result<Option<PodsOrder>, clap::Error>
     ensures block { IfOk result (λ o. IfSome o (λ order. (1 ≤ order.plan.block) × (order.plan.block ≤ 65536))) }
     ensures workers { IfOk result (λ o. IfSome o (λ order. (1 ≤ order.plan.workers) × (order.plan.workers ≤ 64))) }
@@ -64,7 +64,7 @@ fn ordered(rt: &HostRuntime) -> Result<Option<PodsOrder>, clap::Error>
     order_of(rt.alloc(), words.as_slice())
 }
 
-/// Checks the recording of the files that an order names. Both are opened before one is read.
+/// Checks the recording of the files in `order`. Both are opened before one is read.
 fn check_order<R: Threads + Wait + Sync>(rt: &HostRuntime, threads: &R, order: &PodsOrder) -> u8
     requires block { (1 ≤ order.now.plan.block) × (order.now.plan.block ≤ 65536) }
     requires workers { (1 ≤ order.now.plan.workers) × (order.now.plan.workers ≤ 64) }
@@ -83,7 +83,7 @@ fn check_order<R: Threads + Wait + Sync>(rt: &HostRuntime, threads: &R, order: &
     }
 }
 
-/// The binding and the dump of an order, opened.
+/// Opens the binding and the dump of an order.
 fn open_both(rt: &HostRuntime, order: &PodsOrder) -> Result<(Io<File>, Io<File>), Refusal> {
     let binding = open(rt, order.binding.as_str(), Input::Binding)?;
     let dump = open(rt, order.dump.as_str(), Input::Dump)?;
@@ -99,7 +99,7 @@ fn open(rt: &HostRuntime, name: &str, input: Input) -> Result<Io<File>, Refusal>
     }
 }
 
-/// Says why there is no verdict. The answer is the refusal's status.
+/// Writes why there is no verdict. The answer is the refusal's status.
 fn refuse(rt: &HostRuntime, refusal: &Refusal) -> u8
     ensures { result ≡ refusal_status refusal.now }
 {

@@ -6,7 +6,7 @@ use super::{CONFORMING, Outcome, assert_told, told_of, told_through};
 use std::test::Fail;
 use vme_floor::Answer;
 
-/// One worker takes every block as soon as it is filed, in whatever order they come.
+/// One worker takes every block as soon as it is filed, in any order of the deliveries.
 #[test]
 fn one_worker_takes_all(rt: HostRuntime) -> Result<(), Fail> {
     for order in [
@@ -20,7 +20,8 @@ fn one_worker_takes_all(rt: HostRuntime) -> Result<(), Fail> {
     Ok(())
 }
 
-/// The calling thread takes no block where it delivers none: so many workers share one delivery until another has it.
+/// The calling thread takes no block if it delivers none: 64 workers share one delivery, in runs that are repeated
+/// until another worker gets it.
 #[test]
 fn without_a_delivery_nothing_is_taken(rt: HostRuntime) -> Result<(), Fail> {
     let blocks = read_blocks(rt.alloc(), 14).ok_or("no blocks")?;
@@ -36,7 +37,7 @@ fn without_a_delivery_nothing_is_taken(rt: HostRuntime) -> Result<(), Fail> {
     Ok(())
 }
 
-/// A number that nobody delivers is missing, though blocks behind it were taken.
+/// A number that nobody delivers is missing, even if blocks after it were taken.
 #[test]
 fn missing_behind_a_gap(rt: HostRuntime) -> Result<(), Fail> {
     let deliveries = picked_of(rt.alloc(), 5, &[2, 0]).ok_or("no blocks")?;

@@ -1,4 +1,4 @@
-//! Gates that hold workers and listen to them.
+//! Gates that make workers wait, and one that records their calls.
 
 use std::sync::atomic::{AtomicBool, AtomicU32, Ordering};
 use std::sync::{Condvar, Mutex, Wait};
@@ -43,7 +43,7 @@ impl<R: Wait> Gate for Waits<R> {
     }
 }
 
-/// Who came to a gate, and what was done there. A worker is the bit of its number.
+/// Which workers came to a gate, and which deliveries were done. A worker is the bit of its number.
 #[derive(Clone, Copy)]
 struct Seen {
     came: u64,
@@ -54,8 +54,8 @@ struct Seen {
     own: u32,
 }
 
-/// Holds each other worker until the calling thread was done twice, and that thread at its second delivery until so
-/// many others have come: then all of them are there at once.
+/// Makes each other worker wait until the calling thread has done two deliveries, and the calling thread wait at its
+/// second delivery until `others` calls of other workers have come: then all of them are at the gate at once.
 #[derive(Drop)]
 pub(super) struct Gathers<R: Wait> {
     rt: R,
@@ -112,7 +112,7 @@ impl<R: Wait> Gate for Gathers<R> {
     }
 }
 
-/// Counts the calls, and notes whether each was the next in order: a pass and a done for each delivery, by worker 0.
+/// Counts the calls, and records whether each was the next in order: `pass` and `done` for each delivery, by worker 0.
 #[derive(Drop)]
 pub(super) struct Listens {
     calls: AtomicU32,
@@ -127,7 +127,7 @@ impl Listens {
         }
     }
 
-    /// Whether so many deliveries were told of, in their order.
+    /// Whether the calls were those of `deliveries` deliveries, in their order.
     pub(super) fn heard_in_order(&self, deliveries: u32) -> bool {
         !self.out_of_order.load(Ordering::SeqCst)
             && self.calls.load(Ordering::SeqCst) == deliveries.saturating_mul(2)

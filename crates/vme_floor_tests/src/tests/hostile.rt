@@ -1,4 +1,4 @@
-//! Deliveries that a careful caller doesn't make, by four workers at once.
+//! Invalid deliveries and a doubled one, by four workers at once.
 
 use super::recordings::{READ_ROWS, block_of, no_changes, picked, read_blocks, read_by_fives};
 use super::{CONFORMING, Outcome, assert_told, told_of};
@@ -42,7 +42,7 @@ fn hostile(alloc: Global) -> Option<Vec<Block>> {
     picked(alloc, &blocks, &[4, 0, 5, 1, 2, 2])
 }
 
-/// The answers to these.
+/// Whether the answers are those to the deliveries of `hostile`.
 fn are_as_due(answers: &[Answer]) -> bool {
     let [first, second, third, fourth, fifth, sixth] = answers else {
         return false;

@@ -1,17 +1,17 @@
-//! The blocks of recordings by texts: a step is the lines that change, with their new levels, and steps stand ten units
-//! apart. None is made where there is no memory.
+//! The blocks of recordings from texts: a step is the lines that change, with their new levels, and steps are ten units
+//! apart. A function answers None if memory runs out.
 
 use smallvec::SmallVec;
 use std::alloc::Global;
 use vme_trace::{Block, Capture, Change, Changes, LINE_COUNT, Level, Line, Lines, Step};
 
-/// Every line gets high but A24 to A31, and a requester in slot 2 takes the bus by level 3.
+/// Every line except A24 to A31 goes high, and a requester in slot 2 takes the bus by level 3.
 const GRANTED: &str = "quiet;BR3=0;BG3.0=0;BG3.1=0;BBSY=0 BR3=1;BG3.0=1;BG3.1=1";
 
 /// A standard address.
 const ADDRESSED: &str = "AM1=0 AM2=0 A05=0";
 
-/// A read there, of five steps.
+/// A read at this address, of five steps.
 const READ: &str = "AS=0;DS0=0 DS1=0;DTACK=0;AS=1 DS0=1 DS1=1;DTACK=1";
 
 /// An answer that no strobe asks for.
@@ -31,7 +31,7 @@ pub(super) fn no_changes(alloc: Global) -> Changes {
     Changes::new(SmallVec::new(alloc))
 }
 
-/// The change that a word says, as BR3=0.
+/// The change in a word, for example `BR3=0`.
 fn change_of(word: &str) -> Option<Change> {
     let (name, level) = word.split_once('=')?;
     let level = match level.as_bytes() {
@@ -44,7 +44,7 @@ fn change_of(word: &str) -> Option<Change> {
     })
 }
 
-/// Adds that each line but A24 to A31 gets high.
+/// Adds the changes by which each line except A24 to A31 goes high.
 fn push_quiet(changes: &mut Vec<Change>, lines: &Lines) -> Option<()> {
     for number in 0..LINE_COUNT {
         let line = Line::from_number(number)?;
@@ -56,7 +56,7 @@ fn push_quiet(changes: &mut Vec<Change>, lines: &Lines) -> Option<()> {
     Some(())
 }
 
-/// The step that a text says.
+/// The step in `text`.
 fn step_of(alloc: Global, lines: &Lines, time: u64, text: &str) -> Option<Step> {
     let mut changes = Vec::new(alloc);
     for word in text.split_whitespace() {
@@ -82,8 +82,8 @@ fn push_steps(alloc: Global, steps: &mut Vec<Step>, lines: &Lines, text: &str) -
     Some(())
 }
 
-/// The recording of these texts, one after the other, on a backplane of three slots whose lines are unknown before, cut
-/// into blocks of so many steps.
+/// The recording of the texts, one after the other, on a backplane of three slots whose lines are unknown before, cut
+/// into blocks of `size` steps.
 fn blocks_of(alloc: Global, texts: &[&str], size: u32) -> Option<Vec<Block>> {
     let opening = Lines::new(3)?;
     let mut steps = Vec::new(alloc);
@@ -99,7 +99,7 @@ pub(super) fn read_blocks(alloc: Global, size: u32) -> Option<Vec<Block>> {
     blocks_of(alloc, &[GRANTED, ADDRESSED, READ, "BBSY=1"], size)
 }
 
-/// The block of a number among these.
+/// The block with the number `number`.
 pub(super) fn block_of(blocks: Vec<Block>, number: u32) -> Option<Block> {
     for block in blocks {
         if block.number == number {
@@ -109,7 +109,7 @@ pub(super) fn block_of(blocks: Vec<Block>, number: u32) -> Option<Block> {
     None
 }
 
-/// The blocks of the read by fives, and then the second again, with a fall of DS0 alone as its last step.
+/// The read in blocks of five steps, and then its second block again, with a fall of DS0 alone as its last step.
 pub(super) fn read_by_fives(alloc: Global) -> Option<Vec<Block>> {
     let mut blocks = read_blocks(alloc, 5)?;
     let other = blocks_of(alloc, &[GRANTED, ADDRESSED, "AS=0;DS0=0"], 5)?;
@@ -117,7 +117,7 @@ pub(super) fn read_by_fives(alloc: Global) -> Option<Vec<Block>> {
     Some(blocks)
 }
 
-/// A read that a reset leaves without an answer, by its 13 steps.
+/// A read that a reset leaves without an answer, in 13 blocks of one step.
 pub(super) fn reset_blocks(alloc: Global) -> Option<Vec<Block>> {
     let reset = "AS=0;DS0=0 DS1=0;SYSRESET=0;AS=1 DS0=1 DS1=1 BBSY=1;SYSRESET=1";
     blocks_of(alloc, &[GRANTED, ADDRESSED, reset], 1)
@@ -142,7 +142,7 @@ pub(super) fn wrong_blocks(alloc: Global, size: u32) -> Option<Vec<Block>> {
     blocks_of(alloc, &texts, size)
 }
 
-/// Its listing.
+/// The listing of the recording of `wrong_blocks`.
 pub(super) fn wrong_rows(alloc: Global) -> Option<String> {
     let start = "vmecheck listing 3\nstart 1\ntenure 5 level 3 slot 2 end -\n";
     let mut rows = String::from_str(alloc, start).ok()?;
@@ -162,7 +162,7 @@ pub(super) fn wrong_rows(alloc: Global) -> Option<String> {
     Some(rows)
 }
 
-/// Copies of the blocks with these places.
+/// Copies of the blocks with the indices `places`.
 pub(super) fn picked(alloc: Global, blocks: &[Block], places: &[usize]) -> Option<Vec<Block>> {
     let mut picked = Vec::with_capacity(alloc, places.len()).ok()?;
     for place in places {
@@ -172,13 +172,13 @@ pub(super) fn picked(alloc: Global, blocks: &[Block], places: &[usize]) -> Optio
     Some(picked)
 }
 
-/// The blocks of the read with these places, where it is cut into blocks of so many steps.
+/// The blocks of the read with the indices `places`, where it is cut into blocks of `size` steps.
 pub(super) fn picked_of(alloc: Global, size: u32, places: &[usize]) -> Option<Vec<Block>> {
     let blocks = read_blocks(alloc, size)?;
     picked(alloc, &blocks, places)
 }
 
-/// Each of at most 200 blocks twice, in an order that the seed turns. The stride is a prime above 200.
+/// Each of at most 200 blocks twice, in an order that depends on the seed. The stride is a prime above 200.
 pub(super) fn shuffled(alloc: Global, blocks: &[Block], seed: u32) -> Option<Vec<Block>> {
     let mut all = Vec::new(alloc);
     for i in 0..blocks.len().saturating_mul(2) {

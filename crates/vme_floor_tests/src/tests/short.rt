@@ -7,7 +7,7 @@ use std::test::Fail;
 use vme_floor::Answer;
 use vme_trace::Block;
 
-/// Whether the delivery of a number was refused for want of memory.
+/// Whether a delivery of the number `number` was refused for want of memory.
 fn is_short(deliveries: &[Block], answers: &[Answer], number: u32) -> bool {
     deliveries.len() == answers.len()
         && deliveries.iter().zip(answers).any(|(block, answer)| {
@@ -15,8 +15,8 @@ fn is_short(deliveries: &[Block], answers: &[Answer], number: u32) -> bool {
         })
 }
 
-/// Three workers tell what they tell with ample memory, or that it is short: never another verdict, nor that blocks are
-/// torn or stray.
+/// Asserts that a run of three workers has the result that it has with enough memory, or that memory ran out: never
+/// another verdict, or that blocks are torn or stray.
 fn assert_run(rt: &impl Abort, deliveries: &[Block], told: &RunOutcome) {
     match told.outcome {
         Outcome::Judged(_) => {
@@ -31,7 +31,7 @@ fn assert_run(rt: &impl Abort, deliveries: &[Block], told: &RunOutcome) {
     }
 }
 
-/// `tests/memory/run` refuses each of its allocations in turn. Where deliveries can't be made, they are made again.
+/// `tests/memory/run` refuses each of its allocations in turn. If the deliveries can't be made, they are made again.
 #[test]
 fn each_growth_fails_once(rt: HostRuntime) -> Result<(), Fail> {
     for order in [

@@ -1,4 +1,4 @@
--- The first step may be the opening.
+-- The first step may belong to the opening.
 use Rattle.std.proofs.Common.{List, ap, subst, arith, ◌∙◌}
 use Rattle.std.specs.Prelude.{IfOk}
 use Rattle.vme_trace.specs.Levels.{Levels}

@@ -1,6 +1,7 @@
 use Rattle.std.proofs.Common.{refl}
 use Rattle.vme_file_part.proofs.file_so_far.extended.Goals as goal
 
+-- 4, 147, 13, 35 and 11 are the numbers of memories (states) of the five monitors
 pub joined_table-requires : goal.joined_table-requires
 joined_table-requires c = (4, c.requires.first.known, c.requires.second.known)
 

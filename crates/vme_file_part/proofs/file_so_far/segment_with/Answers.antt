@@ -1,4 +1,4 @@
--- The steps are judged behind those so far, or they are the first.
+-- The steps are judged after those so far, or they are the first.
 use Rattle.std.proofs.lemmas.Result.{IfOk-weaker}
 use Rattle.vme_parts.specs.Opened.{opening_of, steps_of}
 use Rattle.vme_file_part.proofs.SoFar.{found-first, found-more, may-begin, may-so-far, stands-so-far}

@@ -1,4 +1,4 @@
--- No step came at all, or what is found is whole.
+-- No step was given, or the segment so far is that of the file.
 use Rattle.std.proofs.Common.{List, ap, subst, ◌∙◌}
 use Rattle.std.proofs.lemmas.Result.{IfOk-weaker}
 use Rattle.vme_trace.specs.WellFormed.{malformed_step}

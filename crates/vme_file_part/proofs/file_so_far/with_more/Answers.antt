@@ -1,4 +1,4 @@
--- The steps are judged from the levels that are left, and the tables are joined.
+-- The steps are judged from the levels after those so far, and the tables are composed.
 use Rattle.std.proofs.Common.{arith, subst}
 use Rattle.std.proofs.lemmas.Result.{IfOk-weaker}
 use Rattle.vme_trace.specs.Levels.{Levels}

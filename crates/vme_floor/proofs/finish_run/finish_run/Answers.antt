@@ -43,7 +43,7 @@ returns-in-Err-default-Torn-clause-answers c =
     answered c.args.total c.args.deliveries.now c.requires.account.0 c.args.replies.items c.in-Ok.answers
     c.requires.account.1.work are c.in-Ok.ensures.count c.requires.account.1.did
 
--- the second
+-- the second claim
 pub returns-in-Ok-close-clause-recorded : goal.returns-in-Ok-close-clause-recorded
 returns-in-Ok-close-clause-recorded c =
     let are = are_all c.as_slice.result.now c.args.replies.items c.in-Ok.answers c.as_slice.ensures.value
@@ -54,7 +54,7 @@ returns-in-Ok-close-clause-recorded c =
     recorded c.args.total c.args.deliveries.now v c.args.replies.items c.in-Ok.answers k.work are c.in-Ok.ensures.count
     all closed c.in-Ok-close.whole whole.0 whole.1
 
--- what was taken early
+-- how many blocks were taken early
 pub returns-in-Ok-close-clause-within : goal.returns-in-Ok-close-clause-within
 returns-in-Ok-close-clause-within c =
     let k = c.requires.account.1.collected in let most = count_limit c.args.collection.book in
@@ -68,7 +68,7 @@ returns-in-Ok-close-clause-own c v k own =
     k.no_taken all union own
     (λ n low. all_there whole.0 all (sym whole.1.all) n (omega (arith, low, long, held)))
 
--- the third
+-- the third claim
 pub returns-in-Err-default-Missing-clause-refusals : goal.returns-in-Err-default-Missing-clause-refusals
 returns-in-Err-default-Missing-clause-refusals c =
     let are = are_all c.as_slice.result.now c.args.replies.items c.in-Ok.answers c.as_slice.ensures.value

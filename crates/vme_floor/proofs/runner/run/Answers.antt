@@ -1,4 +1,4 @@
--- What follows from the claims.
+-- The claims of `run` follow from those of `run_deliveries`.
 use Rattle.std.proofs.Common.{◌≡◌, ◌≢◌, ℕ, List, Result, Ok, Err, sym, subst}
 use Rattle.std.specs.Prelude.{IfErr, IfOk}
 use Rattle.vme_trace.specs.Verdict.{rules_in_force, verdict_by}

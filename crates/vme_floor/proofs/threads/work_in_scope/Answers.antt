@@ -107,7 +107,7 @@ loop-worker-preserved g c =
           (let long = c.push_reserved.new.self.ok.0 in omega (arith, below, long));
     }
 
--- the same share, told otherwise
+-- a share may be replaced by an equal one
 share_as : (r : Result CollectingWorker AllocError) (s u : List ℕ) → IfOk r (λ all. (view_of all.work.bench).share ≡ s)
     → s ≡ u → IfOk r (λ all. (view_of all.work.bench).share ≡ u)
 share_as (Ok all) s u a is = a ∙ is

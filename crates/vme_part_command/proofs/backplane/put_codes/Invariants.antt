@@ -1,4 +1,4 @@
--- The lines so far are added.
+-- The codes of the lines so far are added.
 use Rattle.std.proofs.Common.{◌≡◌, ◌++◌, map}
 use Rattle.std.specs.List.{range_with_len}
 use Rattle.vme_part_command.specs.Backplane.{line_code}

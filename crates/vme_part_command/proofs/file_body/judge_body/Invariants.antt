@@ -1,4 +1,4 @@
--- The body is read as far as the reader is, and its steps are judged.
+-- The reader has taken the body so far, and its steps are judged.
 use Rattle.std.proofs.Common.{◌≡◌, ℕ, Bool, Option}
 use Rattle.vme_trace.specs.Streams.{Reading}
 use Rattle.vme_bind.specs.Binding.{BoundLines}

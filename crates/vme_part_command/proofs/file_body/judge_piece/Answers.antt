@@ -1,4 +1,4 @@
--- The steps of a piece are judged, or the body isn't read on.
+-- The steps of a piece are judged, or reading the body fails.
 use Rattle.std.proofs.Common.{◌≡◌, ◌≤◌, ℕ, List, ◌++◌, Some, ap, length, subst, sym, take, ◌∙◌}
 use Rattle.vcd_read.specs.declared.fault.VcdFault.{VcdFault}
 use Rattle.vme_trace.specs.Followed.{with_steps}

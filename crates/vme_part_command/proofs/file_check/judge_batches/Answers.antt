@@ -1,4 +1,4 @@
--- A batch is judged, and the steps behind it are left.
+-- A batch is judged, and the steps after it are left.
 use Rattle.std.proofs.Common.{List, subst, sym, ◌∙◌}
 use Rattle.vme_trace.specs.Followed.{with_steps}
 use Rattle.vme_trace.specs.declared.step.Step.{Step}

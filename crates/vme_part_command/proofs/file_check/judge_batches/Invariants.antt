@@ -1,4 +1,4 @@
--- The steps behind those that are judged are left.
+-- The steps after those that are judged are left.
 use Rattle.std.proofs.Common.{ℕ, Bool, Option, length}
 use Rattle.vme_trace.specs.Trace.{Trace}
 use Rattle.vme_part_command.specs.FileChecks.{IsPending, MayBeJudged}

@@ -1,4 +1,4 @@
--- The dump is read on until its first time is told.
+-- The dump is read until its first time is determined.
 use Rattle.std.proofs.Common.{◌≡◌, ◌++◌, ℕ, List, [], true, ap, append-nil, refl, subst, sym, ◌∙◌}
 use Rattle.vcd_start.specs.Starts.{StartsAt}
 use Rattle.vme_dump_input.specs.BufferedInputs.{FailsAs}

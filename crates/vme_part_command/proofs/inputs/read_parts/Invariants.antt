@@ -1,4 +1,4 @@
--- The inputs so far are read, and are the parts.
+-- The inputs so far are read, and have the parts.
 use Rattle.std.proofs.Common.{◌≡◌, drop, map}
 use Rattle.vme_part_format.specs.Tables.{part_value}
 use Rattle.vme_part_command.specs.Inputs.{HaveRead}

@@ -19,7 +19,7 @@ pub judge_all-requires-clause-segments : goal.judge_all-requires-clause-segments
 judge_all-requires-clause-segments c =
     rw c.as_slice-segments.ensures.value (part_segments (part_value c.args.part.now) c.requires)
 
--- where there is no segment, no number is behind them, and the recording has none
+-- if there is no segment, `end` is 0, and the recording has more files
 pub judge_all-requires-clause-some : goal.judge_all-requires-clause-some
 judge_all-requires-clause-some c =
     λ none. c.lacks.ensures.whole c.if-lacks.false

@@ -1,4 +1,4 @@
--- The steps are judged, if there are some.
+-- The steps are judged, if there are any.
 use Rattle.vme_file_part.proofs.SoFar.{found-by-it, its-found}
 use Rattle.vme_file_part.proofs.file_so_far.FileSoFar.go_on.Goals as goal
 

@@ -1,4 +1,4 @@
--- No steps leave each memory as it is at the opening, and show nothing.
+-- Without steps each memory is that at the opening, and there are no marks.
 use Rattle.std.proofs.Common.{ap, map}
 use Rattle.vme_summary.specs.Runs.{known_run, handshake_run, stability_run, grant_run, acknowledge_run}
 use Rattle.vme_part_tables.specs.Runs.{mark_of}

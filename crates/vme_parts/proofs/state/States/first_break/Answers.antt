@@ -1,4 +1,4 @@
--- Each monitor finds its least break.
+-- The state of each monitor has its least break.
 use Rattle.std.proofs.Common.{◌∙◌, ap}
 use Rattle.std.specs.Option.{option_map}
 use Rattle.vme_monitor.specs.BothMonitors.{least}

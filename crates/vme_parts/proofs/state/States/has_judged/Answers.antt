@@ -1,4 +1,4 @@
--- The memory that is left has started exactly where something is judged.
+-- The memory of the monitor `known` has started exactly if something is judged.
 use Rattle.std.proofs.Common.{◌∙◌, ap}
 use Rattle.vme_monitor.specs.KnownRules.{known_begin, nil_found, nil_nth, nil_place}
 use Rattle.vme_monitor.specs.OverStretches.{has_started, phase_nth, start_in}

@@ -1,4 +1,4 @@
--- Each monitor goes past its table.
+-- Each monitor's state is that after its table.
 use Rattle.std.proofs.Common.{arith}
 use Rattle.vme_monitor.specs.KnownRules.{known_begin, nil_place}
 use Rattle.vme_monitor.specs.OverStretches.{phase_place, start_in}

@@ -1,4 +1,4 @@
--- The first break gives the verdict where anything is judged.
+-- If anything is judged, the first break gives the verdict.
 use Rattle.std.proofs.Common.{sym, ◌∙◌}
 use Rattle.std.specs.Option.{option_map}
 use Rattle.vme_part_tables.specs.Runs.{break_of}
