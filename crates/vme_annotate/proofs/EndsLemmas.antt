@@ -1,4 +1,4 @@
--- How the commands end, by what they read and find.
+-- How the commands end, by what they read.
 use Rattle.std.proofs.Common.{◌≡◌, ◌≤◌, ◌↔◌, ℕ, suc, List, refl, sym, ap, subst, ◌∙◌, inl, inr, map, true}
 use Rattle.std.specs.Prelude.{◌==◌, filter, Option, None, Some, Result, Ok, Err}
 use Rattle.vme_trace.specs.Streams.{Reading, Writing}
@@ -79,7 +79,7 @@ annotation_answer-small : (text : List ℕ) (read : Result Trace Refusal) → (a
 annotation_answer-small text (Ok t) = verdict_status-small (verdict_by rules_in_force t)
 annotation_answer-small text (Err r) = refusal_status-small r
 
--- what is read is what is to be read, unless there was no memory
+-- unless memory ran out, which has the status 4, `read` is `said`, what is to be read
 same_read : (text : List ℕ) (read said : Result Trace Refusal) → AnswerGives (λ (t : Trace). t) read said
     → ((annotation_answer_by text read).status ≡ 4 → ⊥) → read ≡ said
 same_read text (Ok t) said given memory = sym given
@@ -122,7 +122,8 @@ module _ (skew : ℕ) (binding dump : Reading × Reading) (out err : Writing × 
       with_d whole same memory in
       (text, told, tells)
 
--- what is prepared is an annotated dump, where each change is put
+-- if `d` is prepared with `t`, and its changes are put at the times of their instants, the text is `d`'s dump,
+-- annotated
 pub annotated_so : (t : Trace) (d : AnnotatedDump) → IsPrepared t d → (start : ℕ) (put : List PutChange)
     → ends_definitions_at d.text.items start ≡ true → ArePutAt d.text.items t start put
     → map change_of put ≡ map (planned d.listing.listing.rows) d.changes.items
@@ -147,7 +148,7 @@ annotated_so t d is start put starts placed are =
       text_is = ap (λ (scope : List ℕ). annotated d.text.items start scope d.added.own put) beside.scope_is;
     }
 
--- the changes of its rows are those of the recording's
+-- changes of the rows of `found`, the listing of `t`, are changes of the rows of `t`
 pub planned_of : (t : Trace) (found : Timed) → IsTimed t found → (changes : List PlannedChange)
     → ArePlanned found.listing.rows changes → ArePlanned (recorded_rows t) changes
 planned_of t found is changes are = subst (λ (listing : Listed). ArePlanned listing.rows changes) is.listing_is are

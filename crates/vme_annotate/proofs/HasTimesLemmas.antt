@@ -1,4 +1,4 @@
--- What a recording that a binding makes of a dump has of the dump's times.
+-- A recording that a binding makes of a dump has its times from the dump.
 use Rattle.std.proofs.Common.{◌≡◌, ℕ, zero, suc, ◌+◌, ◌<◌, ◌≤◌, Bool, true, false, cond, eqb, List, [], ◌∷◌, ◌++◌}
 use Rattle.std.proofs.Common.{Option, None, Result, Ok, Err, refl, sym, ap, subst, arith, get_or, length}
 use Rattle.std.proofs.Common.{◌⊎◌, inl, inr, true≢false}
@@ -29,7 +29,7 @@ use Rattle.vme_annotation.proofs.SameDumpLemmas.{IsDump, both_read, dump_is}
 -- ---- the steps of a recording
 
 module _ (dump : List ℕ) where
-  -- each of these steps has a time that the dump comes to
+  -- the dump reaches the time of each of these steps
   abbrev pub EachReached : List Step → Type 0
   EachReached [] = Unit {0}
   EachReached (step ∷ steps) = IsReached dump step.time × EachReached steps
@@ -59,7 +59,7 @@ module _ (dump : List ℕ) where
   at_reached t zero each = inl refl
   at_reached t (suc i) each = get_reached t.steps i each
 
-  -- what the recording settles to
+  -- the steps of the deskewed recording
   step_reached : (skew : ℕ) (t : Trace) (i : ℕ) → EachReached t.steps → EachReached (step_to skew t i)
   step_reached skew t i each = if_reached _ _ (at_reached t (group_start skew t i) each)
 
@@ -160,7 +160,7 @@ module _ (dump : List ℕ) where
       (times_known is.declared.nets items first_context read.0 0 t read.1
       (among_from (times_from 0 items) t among.0 among.1 among.2))) i)
 
-  -- the times of the body don't go back
+  -- the time stamps of the body don't go back
   pub body_rises : (contents : Contents) → dump_of dump ≡ Ok contents → IsFromOn 0 (times_of_body dump)
   body_rises contents e =
       let is : IsDump dump contents = dump_is dump contents e in

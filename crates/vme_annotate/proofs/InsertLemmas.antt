@@ -1,4 +1,4 @@
--- Changes that are put into a dump, one behind the other.
+-- Changes that are inserted into a dump, one after another.
 use Rattle.std.proofs.Common.{◌≡◌, ℕ, zero, suc, ◌+◌, ◌-◌, ◌≤◌, List, [], ◌∷◌, ◌++◌, drop, length, take, refl, sym}
 use Rattle.std.proofs.Common.{ap, ◌∙◌, arith}
 use Rattle.std.proofs.Common.{append_assoc}
@@ -10,7 +10,7 @@ use Rattle.vme_annotation.specs.Annotated.{ArePutAt, annotated, change_text, dec
 use Rattle.vme_annotation.specs.Inserted.{PutChange, with_changes}
 use Rattle.vme_annotation.specs.Shown.{ShownChange}
 
--- places that don't go back, up to one
+-- the places of the changes are from `from` to `end`, and don't go back
 abbrev pub ArePlacedTo : ℕ → List PutChange → ℕ → Type 0
 ArePlacedTo from [] end = from ≤ end
 ArePlacedTo from (p ∷ put) end = (from ≤ p.place) × ArePlacedTo p.place put end
@@ -45,7 +45,7 @@ drop_both (b ∷ text) (suc n) m =
     let next : suc n + m ≡ suc (n + m) = omega arith in ap (λ (k : ℕ). drop k (b ∷ text)) next ∙ drop_both text n m
 
 module _ (text_of : ShownChange → List ℕ) (dump : List ℕ) where
-  -- the dump between two places, with changes in it
+  -- the dump from `from` to `end`, with the changes inserted
   abbrev pub with_front : ℕ → List PutChange → ℕ → List ℕ
   with_front from [] end = take (end - from) (drop from dump)
   with_front from (p ∷ put) end =
@@ -69,6 +69,7 @@ module _ (text_of : ShownChange → List ℕ) (dump : List ℕ) where
       append_assoc front (text ++ rest) tail
       ∙ ap (λ (l : List ℕ). front ++ l) (append_assoc text rest tail ∙ ap (λ (l : List ℕ). text ++ l) e)
 
+  -- the text up to `mid`, and the bytes of the dump from there to `end`, are the text up to `end`
   pub bytes_put : (from : ℕ) (put : List PutChange) (mid end : ℕ) → ArePlacedTo from put mid → mid ≤ end
       → with_front from put mid ++ take (end - mid) (drop mid dump) ≡ with_front from put end
   bytes_put from [] mid end to le = between from mid end to le
@@ -76,6 +77,7 @@ module _ (text_of : ShownChange → List ℕ) (dump : List ℕ) where
       onto (take (p.place - from) (drop from dump)) (text_of p.change) (with_front p.place put mid)
       (take (end - mid) (drop mid dump)) (with_front p.place put end) (bytes_put p.place put mid end to.1 le)
 
+  -- the text up to `mid`, and the rest of the dump, are the whole text
   pub rest_put : (from : ℕ) (put : List PutChange) (mid : ℕ) → ArePlacedTo from put mid
       → with_front from put mid ++ drop mid dump ≡ with_changes text_of from put dump
   unfolding with_changes
@@ -86,6 +88,7 @@ module _ (text_of : ShownChange → List ℕ) (dump : List ℕ) where
       onto (take (p.place - from) (drop from dump)) (text_of p.change) (with_front p.place put mid) (drop mid dump)
       (with_changes text_of p.place put dump) (rest_put p.place put mid to.1)
 
+  -- the text up to the place of `c`, and then `c`, are the text with `c` as its last change
   pub change_put : (from : ℕ) (put : List PutChange) (c : PutChange) → with_front from put c.place ++ text_of c.change
       ≡ with_front from (put ++ c ∷ []) c.place
   change_put from [] c =
@@ -104,7 +107,7 @@ rest_is dump place =
     take_all (length dump - place) (drop place dump) many
 
 module _ (dump : List ℕ) (scope : List ℕ) (own : List (List ℕ)) (start : ℕ) where
-  -- the front of an annotated dump, with some changes, up to a place
+  -- the annotated dump up to `end`, with the changes `put`
   abbrev pub written_front : List PutChange → ℕ → List ℕ
   written_front put end =
       take start dump ++ (declarations scope own ++ with_front (change_text own) dump start put end)

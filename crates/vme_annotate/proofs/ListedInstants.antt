@@ -1,4 +1,4 @@
--- The rows of a recording tell of its instants alone.
+-- The changes of a recording's rows are at its instants.
 use Rattle.std.proofs.Common.{◌≡◌, ℕ, zero, suc, ◌+◌, ◌≤◌, ◌==◌, Bool, true, false, List, [], ◌∷◌, ◌++◌, refl, sym}
 use Rattle.std.proofs.Common.{arith, inl, inr, true≢false}
 use Rattle.std.specs.Prelude.{All, flat_map, if◌then◌else◌, nat_lt, ◌&&◌, IfSome, Option, None, Some}
@@ -38,7 +38,7 @@ module _ (last : ℕ) where
   abbrev AreIn : List ShownChange → Type 0
   AreIn changes = AllByRecursion IsIn changes
 
-  -- what comes of a row is in
+  -- the changes of a row are at instants up to `last`
   abbrev RowIsIn : Row → Type 0
   RowIsIn row = AreIn (row_changes row)
 

@@ -1,4 +1,4 @@
--- The recording of a text, settled and cut into blocks.
+-- The recording of a text, deskewed and cut into blocks.
 use Rattle.std.proofs.Common.{◌≡◌, ℕ, false, List, length, refl, ap, sym, subst, ◌∙◌}
 use Rattle.std.specs.Prelude.{nat_lt, Option, Result, Ok, Err}
 use Rattle.vcd_read.specs.Contents.{Contents}
@@ -79,7 +79,7 @@ text_refused skew block bound bytes fault is =
     (passes_through (capture_refusal fault) (recording_by bound (or_bad_dump (dump_of bytes))) or_too_long
     (recording_by-fails bound bytes fault is)))
 
--- ---- what settled
+-- ---- the deskewed recording
 
 module _ (skew block : ℕ) (t made : Trace) (within : nat_lt capture_limit (length t.steps) ≡ false)
     (is : made ≡ settled skew t) where
@@ -111,6 +111,7 @@ unfolding settled_recording settled_read
 recording_is skew block binding dump bound is =
     ap (settled_blocks skew block) (capture_read-bound binding dump bound is)
 
+-- a refusal of the binding is the refusal of the listing
 pub unbound : (skew block : ℕ) (binding dump : Option (List ℕ)) (r : Refusal)
     → AnswerGives (λ (bound : BoundLines). bound) (Err r) (binding_read binding)
     → GivesTimed (Err r) (settled_recording skew binding dump block)
@@ -119,6 +120,7 @@ unbound skew block binding dump r is =
     (recording-refused skew binding dump block r
     (read-refused skew binding dump r (capture_read-refused binding dump r is)))
 
+-- a refusal of the dump is the refusal of the listing
 pub unread_by : (skew block : ℕ) (dump : Option (List ℕ)) (bound : BoundLines) (r : Refusal)
     → AnswerGives (λ (contents : Contents). contents) (Err r) (dump_read dump)
     → GivesTimed (Err r) (listed_in skew bound (dump_read dump) block)

@@ -37,7 +37,7 @@ time_shown t instant =
     let next : suc (max instant 1 - 1) ≡ max instant 1 = omega arith in
     time_in t.steps (max instant 1 - 1) ∙ ap (time_at t) next
 
--- ---- they don't go back
+-- ---- the times of instants don't go back
 
 rising : (f : ℕ → ℕ) (last : ℕ) → ((i j : ℕ) → i ≤ j → j ≤ last → f i ≤ f j) → (a b : ℕ) → a ≤ b → b ≤ last
     → f (max a 1) ≤ f (max b 1)
@@ -59,6 +59,7 @@ module _ (dump : List ℕ) (t : Trace) (changes : List PlannedChange) (has : Has
       subst (λ (c : ShownChange). c.instant ≤ last_instant t)
       (get_or-map (planned rows) changes i d (planned rows d) lt) (each i (planned rows d) many)
 
+  -- a later change isn't shown before an earlier one
   pub still_ahead : (i j : ℕ) (d : PlannedChange) → i ≤ j → j < length changes
       → shown_time t (get_or changes i d).instant ≤ shown_time t (get_or changes j d).instant
   still_ahead i j d le lt =
@@ -67,11 +68,12 @@ module _ (dump : List ℕ) (t : Trace) (changes : List PlannedChange) (has : Has
 
 -- ---- what is written so far
 
--- no change that is still to come is shown before a time
+-- no change from index `done` on is shown before the time `asked`
 abbrev pub IsAhead : Trace → List PlannedChange → ℕ → ℕ → Type 0
 IsAhead t changes done asked = (i : ℕ) (d : PlannedChange) → done ≤ i → i < length changes
     → asked ≤ shown_time t (get_or changes i d).instant
 
+-- the changes `put` are at their times, the dump is written up to a time, and no later change is shown before it
 pub record ArePutSoFar (dump : List ℕ) (t : Trace) (changes : List PlannedChange) (start done : ℕ)
     (put : List PutChange) (w : WritingPlace) : Type 0 where
   pub placed : ArePutAt dump t start put
@@ -79,7 +81,8 @@ pub record ArePutSoFar (dump : List ℕ) (t : Trace) (changes : List PlannedChan
   pub written : IsWrittenTo dump asked asked w
   pub ahead : IsAhead t changes done asked
 
--- the changes before one are put, at the times of their instants
+-- the first `done` changes are put; if they are those of a recording whose times the dump has, they are put at the
+-- times of their instants
 pub record IsPutSoFar (dump : List ℕ) (found : Timed) (changes : List PlannedChange) (start done : ℕ)
     (put : List PutChange) (w : WritingPlace) : Type 0 where
   pub are : map change_of put ≡ map (planned found.listing.rows) (take done changes)
@@ -100,7 +103,7 @@ none_put dump found changes start w le written = record {
   };
 }
 
--- one more is put
+-- the change `c`, which has the index `done`, is put at `new.count`
 module _ (dump : List ℕ) (found : Timed) (changes : List PlannedChange) (start done : ℕ) (put : List PutChange)
     (old new : WritingPlace) (so_far : IsPutSoFar dump found changes start done put old) (c : PlannedChange)
     (some : done < length changes) (is : (d : PlannedChange) → get_or changes done d ≡ c) (time : ℕ)
@@ -148,7 +151,7 @@ module _ (dump : List ℕ) (found : Timed) (changes : List PlannedChange) (start
     right = more_right;
   }
 
--- the same, of the change at a place
+-- the change with the index `done` is put at `new.count`
 pub next_put : (dump : List ℕ) (found : Timed) (changes : List PlannedChange) (start done : ℕ) (put : List PutChange)
     (old new : WritingPlace) → IsPutSoFar dump found changes start done put old → (d : PlannedChange)
     → done < length changes → (time : ℕ) → time ≡ get_or found.times (max (get_or changes done d).instant 1 - 1) 0
@@ -161,6 +164,7 @@ next_put dump found changes start done put old new so_far d some time time_is fo
     more_put dump found changes start done put old new so_far (get_or changes done d) some
     (λ (e : PlannedChange). get_or_default changes done e d some) time time_is forward goes
 
+-- the bytes up to the change with the index `done`, and that change, are written
 pub next_written : (dump scope : List ℕ) (own : List (List ℕ)) (found : Timed) (changes : List PlannedChange)
     (start done : ℕ) (put : List PutChange) (old new : WritingPlace)
     → IsPutSoFar dump found changes start done put old → (d : PlannedChange) → done < length changes → (time : ℕ)

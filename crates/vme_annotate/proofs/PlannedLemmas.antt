@@ -85,6 +85,7 @@ instant_of c = c.instant
 abbrev at_instant : ℕ → PlannedChange
 at_instant n = record { instant = n; variable = shown.Verdict; row = None }
 
+-- all changes of the rows, sorted stably by their instants, are planned
 pub in_order : (rows : List Row) (before after : List PlannedChange) → map (planned rows) before ≡ all_changes rows
     → IsPermutation before after → IsNonDecreasingBy instant_of after → IsStableByKey instant_of nat_cmp before after
     → ArePlanned rows after

@@ -1,4 +1,4 @@
--- What putting one text after another comes to.
+-- The result of putting one text after another.
 use Rattle.std.proofs.Common.{◌≡◌, ℕ, suc, ◌+◌, Bool, true, false, List, [], ◌++◌, length, take, drop, refl, sym, ap}
 use Rattle.std.proofs.Common.{subst}
 use Rattle.std.proofs.Common.{◌∙◌, append_assoc, take-append-drop}
@@ -12,7 +12,7 @@ use Rattle.std.specs.Prelude.{MatchResult, Ok, Err, Result}
 use Rattle.std.specs.Result.{is_err}
 use Rattle.vme_annotate.specs.Outputs.{HasPutBy, IsHeld}
 
--- the first of a text are the first of a longer one
+-- a prefix of `x` is a prefix of `x ++ y`
 front_of : (x y : List ℕ) (n : ℕ) → take n x ≡ take (length (take n x)) (x ++ y)
 front_of x y n =
     let split : x ++ y ≡ take n x ++ (drop n x ++ y) =
@@ -37,7 +37,7 @@ fails_after a b c x y one two =
 pub put_nothing : (start : Writing) → IsHeld start start [] []
 put_nothing start = ([], refl, (Appends-nil start.taken, refl))
 
--- bytes are held behind those that are held
+-- bytes are appended to those that are held
 pub held_more : (start now : Writing) (held made bytes : List ℕ) → IsHeld start now held made
     → IsHeld start now (held ++ bytes) (made ++ bytes)
 held_more start now held made bytes is = (
@@ -46,7 +46,7 @@ held_more start now held made bytes is = (
   is.2,
 )
 
--- what is held is written
+-- the bytes that are held are written
 pub held_written : (start mid now : Writing) (held made : List ℕ) → IsHeld start mid held made → Writes mid now held
     → IsHeld start now [] made
 held_written start mid now held made is one = (
@@ -55,18 +55,18 @@ held_written start mid now held made is one = (
   subst (λ (text : List ℕ). Writes start now text) (sym is.1) (writes_both start mid now is.0 held is.2 one),
 )
 
--- or a write of it fails
+-- a write of the bytes that are held fails
 pub held_failed : (start mid now : Writing) (held made : List ℕ) → IsHeld start mid held made
     → FailsToWrite mid now held → FailsToWrite start now made
 held_failed start mid now held made is one =
     subst (λ (text : List ℕ). FailsToWrite start now text) (sym is.1) (fails_after start mid now is.0 held is.2 one)
 
--- all of what was put is written where nothing is held
+-- if nothing is held, all that was put is written
 pub all_written : (start now : Writing) (made : List ℕ) → IsHeld start now [] made → Writes start now made
 all_written start now made is =
     subst (λ (text : List ℕ). Writes start now text) (sym (is.1 ∙ append-nil is.0)) is.2
 
--- bytes are written at once where nothing is held
+-- if nothing is held, bytes are written at once, or a write of them fails
 pub wrote : {A E : Type 0} (start old new : Writing) (made bytes : List ℕ) (r : Result A E)
     → MatchResult r (λ _. Writes old new bytes) (λ _. FailsToWrite old new bytes) → IsHeld start old [] made
     → HasPutBy (is_err r) start new [] (made ++ bytes)
@@ -75,14 +75,14 @@ wrote start old new made bytes (Ok a) one is =
 wrote start old new made bytes (Err e) one is =
     held_failed start old new bytes (made ++ bytes) (held_more start old [] made bytes is) one
 
--- what is held is written
+-- the bytes that are held are written, or a write of them fails
 pub flushed : {A E : Type 0} (start old new : Writing) (held made : List ℕ) (r : Result A E)
     → MatchResult r (λ _. Writes old new held) (λ _. FailsToWrite old new held) → IsHeld start old held made
     → HasPutBy (is_err r) start new [] made
 flushed start old new held made (Ok a) one is = held_written start old new held made is one
 flushed start old new held made (Err e) one is = held_failed start old new held made is one
 
--- more is put, and held
+-- more bytes are put and held, unless a write has failed
 pub put_more : (failed : Bool) (start now : Writing) (held made bytes : List ℕ) → HasPutBy failed start now held made
     → HasPutBy failed start now (held ++ bytes) (made ++ bytes)
 put_more true start now held made bytes put = fails_longer start now made bytes put

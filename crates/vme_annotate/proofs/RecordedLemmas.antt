@@ -33,7 +33,7 @@ use Rattle.vme_annotate.proofs.HasTimesLemmas.{settled_reached, times_order}
 use Rattle.vme_annotate.proofs.ListedInstants.{changes_within}
 use Rattle.vme_annotate.proofs.ListedLemmas.{capture_by-short, or_too_long}
 
--- ---- one step back
+-- ---- from a result that is `Ok` to what it is made of
 
 or_refused_is : (b : Bool) (r : Refusal) (u t : Trace) → cond b (Err r) (Ok u) ≡ Ok t → u ≡ t
 or_refused_is true r u t e = absurd cc
@@ -60,7 +60,7 @@ bound_is : (r : Result Trace BindFault) (t : Trace) → or_bad_binding r ≡ Ok 
 bound_is (Ok other) t e = ap (λ (u : Trace). Ok u) cc
 bound_is (Err fault) t e = absurd cc
 
--- ---- what is listed is the settled recording of a dump
+-- ---- what is listed is the deskewed recording of a dump
 
 pub record IsRecorded (skew : ℕ) (bound : BoundLines) (dump : List ℕ) (t : Trace) : Type 0 where
   pub contents : Contents

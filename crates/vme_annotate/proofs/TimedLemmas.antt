@@ -3,7 +3,7 @@ use Rattle.std.proofs.Common.{◌≡◌, ℕ, zero, suc, ◌-◌, List, get_or, 
 use Rattle.std.specs.Prelude.{decimal, max}
 use Rattle.vme_annotate.specs.TimedRows.{time_text}
 
--- behind the opening
+-- after the opening, the time at which an instant is shown is the one in its text
 pub time_shown : (times : List ℕ) (instant : ℕ) → (instant ≡ 0 → ⊥)
     → decimal (get_or times (max instant 1 - 1) 0) ≡ time_text times instant
 time_shown times zero some = absurd (some refl)

@@ -1,4 +1,4 @@
--- The times of a dump, as they are passed while it is written.
+-- The time stamps of a dump that are passed while it is written.
 use Rattle.std.proofs.Common.{◌≡◌, ℕ, zero, suc, get_or, ◌<◌, ◌≤◌, Bool, true, false, eqb, List, [], ◌∷◌, ◌++◌, length}
 use Rattle.std.proofs.Common.{refl, sym, ap, subst, ◌∙◌}
 use Rattle.std.proofs.Common.{arith, true≢false, ◌⊎◌, inl, inr, append_assoc}
@@ -25,7 +25,7 @@ and_true false b first second = absurd (true≢false (sym first))
 below_test : (a b : ℕ) → a < b → nat_lt a b ≡ true
 below_test a b lt = grind (arith, nat_tests, lt)
 
--- numbers that are below one are below a higher one, and don't have it among them
+-- numbers that are all below `low` are all below `high`
 pub still_below : (xs : List ℕ) (low high : ℕ) → low ≤ high → list_all (λ (x : ℕ). nat_lt x low) xs ≡ true
     → list_all (λ (x : ℕ). nat_lt x high) xs ≡ true
 still_below [] low high le all = refl
@@ -51,7 +51,7 @@ either_true : (a b : Bool) → (a || b) ≡ true → (a ≡ true) ⊎ (b ≡ tru
 either_true true b e = inl refl
 either_true false b e = inr e
 
--- of numbers that don't go back none is below the first
+-- numbers from `least` on that don't go back have none below `least`
 least_of : (least n : ℕ) (xs : List ℕ) → IsFromOn least xs → is_among n xs ≡ true → least ≤ n
 least_of least n [] from among = absurd (true≢false (sym among))
 least_of least n (x ∷ xs) from among =
@@ -72,7 +72,7 @@ among_rest n xs ys among none =
       | inr rest ↦ rest
     ]
 
--- the next time isn't behind one that is reached and wasn't passed
+-- if `time` is in the list, and each passed time is below it, then the next time is at most `time`
 pub next_reached : (time next : ℕ) (passed rest all : List ℕ) → all ≡ passed ++ next ∷ rest → IsFromOn 0 all
     → list_all (λ (t : ℕ). nat_lt t time) passed ≡ true → is_among time all ≡ true → next ≤ time
 next_reached time next passed rest all split from fewer among =
@@ -84,13 +84,13 @@ next_reached time next passed rest all split from fewer among =
       | inr later ↦ least_of next time rest part.1.1 later
     ]
 
--- and there is a next one
+-- if `time` is in the list, and each passed time is below it, then a next time is left
 pub none_ahead : (time : ℕ) (passed all : List ℕ) → all ≡ passed ++ []
     → list_all (λ (t : ℕ). nat_lt t time) passed ≡ true → is_among time all ≡ true → ⊥
 none_ahead time passed all split fewer among =
     true≢false (sym (among_rest time passed [] (sym (ap (is_among time) split) ∙ among) (not_among passed time fewer)))
 
--- one more that is passed
+-- a next time below `time` joins the times that are passed
 pub passed_more : (time next : ℕ) (passed rest all : List ℕ) → all ≡ passed ++ next ∷ rest → next < time
     → list_all (λ (t : ℕ). nat_lt t time) passed ≡ true
     → (all ≡ (passed ++ next ∷ []) ++ rest) × (list_all (λ (t : ℕ). nat_lt t time) (passed ++ next ∷ []) ≡ true)
@@ -104,7 +104,7 @@ passed_more time next passed rest all split lt fewer = (
 -- ---- one step
 
 module _ (dump : List ℕ) (asked time : ℕ) (w : WritingPlace) (is : IsWrittenTo dump asked time w) where
-  -- a time that is reached and told by none of those ahead is that at which writing stands
+  -- a time that is reached, but has no time stamp, is the one at which writing is
   stands_there : asked ≤ time → IsReached dump time → (is_among time (times_of_body dump) ≡ true → ⊥)
       → IsAtTime dump time w.count
   stands_there le reached untold =
@@ -113,6 +113,7 @@ module _ (dump : List ℕ) (asked time : ℕ) (w : WritingPlace) (is : IsWritten
         | inr among ↦ absurd (untold among)
       ]
 
+  -- no time stamp is left: `w` stays as it is
   pub written_none : asked ≤ time → IsReached dump time → w.next ≡ None → IsWrittenTo dump time time w
   written_none le reached none = record {
     same = is.same;
@@ -131,6 +132,7 @@ module _ (dump : List ℕ) (asked time : ℕ) (w : WritingPlace) (is : IsWritten
     behind : IsNextTime dump w.count w.places found
     behind = subst (λ (o : Option TimePlace). IfSome o (IsNextTime dump w.count w.places)) next is.next
 
+    -- the next time stamp is after `time`: `w` stays as it is
     pub written_before : asked ≤ time → IsReached dump time → IsFromOn 0 (times_of_body dump) → time < found.time
         → IsWrittenTo dump time time w
     written_before le reached sorted lt = record {
@@ -147,6 +149,7 @@ module _ (dump : List ℕ) (asked time : ℕ) (w : WritingPlace) (is : IsWritten
       next = is.next;
     }
 
+    -- the next time stamp is `time`: writing continues after it
     pub written_at : found.time ≡ time → (count : ℕ) → count ≡ max found.end w.count
         → IsWrittenTo dump time time (record w { count = count })
     written_at e count here =
@@ -181,6 +184,7 @@ module _ (dump : List ℕ) (asked time : ℕ) (w : WritingPlace) (is : IsWritten
             last = ordered.1;
           }
 
+      -- the next time stamp is before `time`: it is passed
       pub written_on : found.time < time → IsWrittenTo dump asked time (record w { places = places; next = later })
       written_on lt =
           let more = passed_more time found.time is.passed (times_left w.places)
@@ -205,7 +209,7 @@ written_for dump asked time w is le = record {
   next = is.next;
 }
 
--- what is left behind the next time
+-- the times of `old` are that of `later` and then those of `new`, or none if there is no `later`
 pub left_is : (later : Option TimePlace) (old new : TimesLeft)
     → IfSome later (λ f. times_left old ≡ f.time ∷ times_left new) → IfNone later (times_left old ≡ [])
     → times_left old ≡ times_ahead later new

@@ -21,7 +21,7 @@ pub record Added : Type 0 where
 abbrev pub bytes_of : Vec ℕ → List ℕ
 bytes_of v = v.items
 
--- they are free beside these variables and nets
+-- no variable has the scope in its path, and the codes are free beside these nets
 pub record AreBeside (variables : List Variable) (nets : List Net) (added : Added) : Type 0 where
   pub underscores : ℕ
   pub scope : IsFreeScope variables underscores
@@ -40,7 +40,7 @@ pub record IsBeside (dump : List ℕ) (variables : List Variable) (added : Added
   pub each : All (λ (code : List ℕ). IsUnused (take start dump) (code_number code) code) added.own
   pub ascend : IsStrictlyIncreasing (map code_number added.own)
 
--- they are free beside those of a dump, unless there was no memory
+-- the scope and the codes are free beside the variables and nets of the dump; the only refusal is `Memory`
 abbrev pub IsFor : List ℕ → Result Added Refusal → Type 0
 IsFor dump (Ok added) = (d : Defined (List Variable))
     × (header_of appended dump (nothing_declared []) (tokens dump) ≡ Ok d)

@@ -1,4 +1,4 @@
--- How `annotate` and `list --times` end, by what they read and find.
+-- How `annotate` and `list --times` end, by what they read.
 use Rattle.std.specs.Prelude.{◌≡◌, ◌≢◌, ℕ, List, [], Option, None, Some, Result, Ok, Err}
 use Rattle.vme_trace.specs.Streams.{Reading, Writing}
 use Rattle.vme_trace.specs.Trace.{Trace}
@@ -15,17 +15,18 @@ use Rattle.vme_annotate.specs.TimedListings.{timed_text}
 
 -- ---- listings with times
 
--- a listing with times is told with the status of the verdict
+-- the listing of a recording is written with times, and the exit status is that of the verdict
 abbrev pub timed_answer_by : Result Trace Refusal → CommandAnswer
 timed_answer_by (Ok t) =
     record { out = timed_text t; error = []; status = verdict_status (verdict_by rules_in_force t) }
 timed_answer_by (Err refusal) = refusal_answer refusal
 
--- the answer to a binding and a dump that are to be listed with times, each by its bytes or unreadable
+-- the answer to a binding and a dump, to be listed with times; each is given by its bytes, or is unreadable
 abbrev pub timed_answer_of : ℕ → Option (List ℕ) → Option (List ℕ) → ℕ → CommandAnswer
 timed_answer_of skew binding dump block = timed_answer_by (settled_recording skew binding dump block)
 
--- what the inputs say is settled and listed with times, unless there was no memory
+-- the recording that the inputs give, deskewed, is listed with times; or the answer is that of their refusal or of
+-- `Memory`
 abbrev pub WritesTimes : ℕ → Reading × Reading → Reading × Reading → ℕ → Writing × Writing → Writing × Writing → ℕ
     → Type 0
 WritesTimes skew binding dump block out err status =
@@ -39,14 +40,14 @@ annotation_answer_by text (Ok t) =
     record { out = text; error = []; status = verdict_status (verdict_by rules_in_force t) }
 annotation_answer_by text (Err refusal) = refusal_answer refusal
 
--- the text is the dump, annotated, where there is a recording of it
+-- the text is the dump, annotated, if there is a recording of it
 abbrev pub IsAnnotationOf : Option (List ℕ) → Result Trace Refusal → List ℕ → Type 0
 IsAnnotationOf (Some dump) (Ok t) text = IsAnnotated dump t text
 IsAnnotationOf None (Ok t) text = ⊥
 IsAnnotationOf dump (Err refusal) text = Unit {0}
 
--- The binding and the dump are read, or can't be; the recording that they make is settled by the skew, unless there was
--- no memory; and the dump is told, annotated with its listing, unless a write of it fails.
+-- The binding and the dump are read, or can't be. The recording that they make is deskewed by `skew`, unless memory
+-- runs out. The annotated dump is written, unless a write of it fails.
 abbrev pub Annotates : ℕ → Reading × Reading → Reading × Reading → Writing × Writing → Writing × Writing → ℕ → Type 0
 Annotates skew binding dump out err status =
     (binding_bytes dump_bytes : Option (List ℕ)) × (read : Result Trace Refusal) × (text : List ℕ)
@@ -56,14 +57,14 @@ Annotates skew binding dump out err status =
     × IsAnnotationOf dump_bytes read text
     × Ends (annotation_answer_by text read) out err status
 
--- the answer to a binding and a dump of these bytes by a skew was told
+-- the answer to a binding and a dump with these bytes is written
 abbrev pub TellsAnnotation : ℕ → List ℕ → List ℕ → Writing × Writing → Writing × Writing → ℕ → Type 0
 TellsAnnotation skew binding dump out err status =
     (text : List ℕ)
     × IsAnnotationOf (Some dump) (settled_recording skew (Some binding) (Some dump) BLOCK) text
     × Tells (annotation_answer_by text (settled_recording skew (Some binding) (Some dump) BLOCK)) out err status
 
--- inputs that are told whole, no failure of the output, and memory give exactly their answer
+-- if both inputs are read whole, no write to `out` fails and memory suffices, exactly their answer is written
 abbrev pub AnnotatesExactly : ℕ → Reading × Reading → Reading × Reading → Writing × Writing → Writing × Writing → ℕ
     → Type 0
 AnnotatesExactly skew binding dump out err status =

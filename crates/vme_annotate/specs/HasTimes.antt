@@ -1,4 +1,4 @@
--- What a recording that a binding makes of a dump has of the dump's times.
+-- A recording that a binding makes of a dump has its times from the dump.
 use Rattle.std.specs.Prelude.{ℕ, ◌≤◌, IsSome, All, List}
 use Rattle.vcd_places.specs.Places.{body_in, times_of_body}
 use Rattle.vcd_places.specs.Times.{IsFromOn, IsReached}
@@ -6,8 +6,8 @@ use Rattle.vme_listing.specs.Recorded.{recorded_rows}
 use Rattle.vme_trace.specs.Trace.{Trace, last_instant, time_at}
 use Rattle.vme_annotation.specs.Shown.{ShownChange, all_changes}
 
--- the dump tells times that don't go back, and comes to each of a step; the times of the steps don't go back, and the
--- rows tell of the recording's instants alone
+-- The time stamps of `dump` don't go back. The time of each instant of `t` is 0 or one of them, and up to the last
+-- instant these times don't go back. The changes of the rows are at instants of `t`.
 pub record HasTimes (dump : List ℕ) (t : Trace) : Type 0 where
   pub defined : IsSome (body_in dump)
   pub sorted : IsFromOn 0 (times_of_body dump)

@@ -1,4 +1,4 @@
--- What goes out of bytes that are held together before they are written.
+-- The output of a buffer: what is written, and what is held.
 use Rattle.std.specs.Prelude.{◌≡◌, ℕ, Bool, true, false, List, [], ◌++◌}
 use Rattle.vme_trace.specs.Streams.{Writing}
 use Rattle.vme_stream.specs.Outputs.{FailsToWrite, Writes}
@@ -11,7 +11,7 @@ pub record Held : Type 0 where
 abbrev pub nothing_held : Held
 nothing_held = record { bytes = []; failed = false }
 
--- a front of a text was written, and the rest of it is held
+-- of the text `made` a prefix is written, and the rest, `held`, is held
 abbrev pub IsHeld : Writing → Writing → List ℕ → List ℕ → Type 0
 IsHeld start now held made = (front : List ℕ) × (made ≡ front ++ held) × Writes start now front
 
@@ -19,6 +19,6 @@ abbrev pub HasPutBy : Bool → Writing → Writing → List ℕ → List ℕ →
 HasPutBy true start now held made = FailsToWrite start now made
 HasPutBy false start now held made = IsHeld start now held made
 
--- since this start a text was put: written or held, or a write of it failed
+-- since `start` the text `made` was put: it is written or held, or a write of it failed
 abbrev pub HasPut : Writing → Writing → Held → List ℕ → Type 0
 HasPut start now b made = HasPutBy b.failed start now b.bytes made

@@ -1,4 +1,4 @@
--- A dump with all that is put into it, before it is written.
+-- A dump with all that is inserted into it, before it is written.
 use Rattle.std.specs.Prelude.{◌≡◌, ℕ, List, Option, Some, Result, Ok, Err}
 use Rattle.vcd_read.specs.Meaning.{dump_of}
 use Rattle.vme_stream.specs.Answers.{or_bad_dump}
@@ -13,20 +13,21 @@ use Rattle.vme_annotate.specs.Planned.{ArePlanned}
 use Rattle.vme_annotate.specs.TimedListings.{IsTimed, listed_in}
 use Rattle.vme_annotate.specs.declared.annotating.AnnotatedDump.{AnnotatedDump}
 
--- what is put into a dump is what the listing of this recording tells, at the times that the dump has for it
+-- the listing, its times and its changes are those of the recording `t`, the dump has the times, and the added scope
+-- and codes are free in the dump
 pub record IsPrepared (t : Trace) (d : AnnotatedDump) : Type 0 where
   pub timed : IsTimed t d.listing
   pub has_times : HasTimes d.text.items t
   pub planned : ArePlanned d.listing.listing.rows d.changes.items
   pub added : IsFor d.text.items (Ok d.added)
 
--- it is that of the recording that is to be read there, of a dump of these bytes; or what is found is why there is no
--- recording, unless there was no memory
+-- the result is the dump with these bytes, prepared with the given recording, or the same refusal as the recording, or
+-- `Memory`
 abbrev pub GivesPrepared : Option (List ℕ) → Result AnnotatedDump Refusal → Result Trace Refusal → Type 0
 GivesPrepared bytes (Ok d) recording = (t : Trace) × (recording ≡ Ok t) × IsPrepared t d × (bytes ≡ Some d.text.items)
 GivesPrepared bytes (Err Memory) recording = Unit {0}
 GivesPrepared bytes (Err refusal) recording = recording ≡ Err refusal
 
--- the recording of the text of a dump, by a binding and a skew
+-- the recording that a binding makes of the text of a dump, deskewed by `skew`
 abbrev pub recording_in : ℕ → BoundLines → List ℕ → Result Trace Refusal
 recording_in skew bound text = listed_in skew bound (or_bad_dump (dump_of text)) BLOCK

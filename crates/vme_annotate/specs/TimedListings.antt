@@ -15,23 +15,22 @@ use Rattle.vme_stream.specs.declared.refusal.Refusal.TheVariants.{Memory}
 use Rattle.vme_commands.specs.Judged.{in_blocks}
 use Rattle.vme_annotate.specs.TimedRows.{timed_line}
 
--- ---- what is found of a recording
+-- ---- the listing of a recording, with times
 
 abbrev pub times_of : List Step → List ℕ
 times_of steps = map (λ (step : Step). step.time) steps
 
--- a listing, and the times of the steps
+-- a listing with the times of the recording's steps
 pub record Timed : Type 0 where
   pub listing : Listed
   pub times : List ℕ
 
--- they are those of a recording
+-- `found` is the listing of the recording `t`, with the times of its steps
 pub record IsTimed (t : Trace) (found : Timed) : Type 0 where
   pub listing_is : found.listing ≡ listing_of t
   pub times_are : found.times ≡ times_of t.steps
 
--- they are those of the recording that is to be read there, or what is found is why there is none, unless there was no
--- memory
+-- the result is the listing and times of the given recording, or the same refusal as it, or `Memory`
 abbrev pub GivesTimed : Result Timed Refusal → Result Trace Refusal → Type 0
 GivesTimed (Ok found) recording = (t : Trace) × (recording ≡ Ok t) × IsTimed t found
 GivesTimed (Err Memory) recording = Unit {0}
@@ -39,24 +38,25 @@ GivesTimed (Err refusal) recording = recording ≡ Err refusal
 
 -- ---- the text
 
+-- the first line: a listing, version 3, with times
 abbrev pub timed_header : List ℕ
 timed_header = codes "vmecheck listing 3 times" ++ 10 ∷ []
 
--- the text of some rows
+-- the text of a listing with these rows
 abbrev pub timed_rows_text : List ℕ → List Row → List ℕ
 timed_rows_text times rows = timed_header ++ flat_map (timed_line times) rows
 
--- that of a recording's listing
+-- the text of the listing of a recording
 abbrev pub timed_text : Trace → List ℕ
 timed_text t = timed_rows_text (times_of t.steps) (recorded_rows t)
 
--- ---- what is read
+-- ---- the recording that is listed
 
--- a recording settled by a skew, if it is cut into at most 4,096 blocks of so many steps
+-- a recording deskewed by `skew`, if it needs at most 4,096 blocks of `block` steps
 abbrev pub settled_in_blocks : ℕ → ℕ → Result Trace Refusal → Result Trace Refusal
 settled_in_blocks skew block recording = settled_or skew recording >>= in_blocks block
 
--- the recording that a binding makes of what reading the dump gave, settled by a skew, if it is cut into at most 4,096
--- blocks of so many steps
+-- the recording that the binding `bound` makes of what reading the dump gave, deskewed by `skew`, if it needs at most
+-- 4,096 blocks of `block` steps
 abbrev pub listed_in : ℕ → BoundLines → Result Contents Refusal → ℕ → Result Trace Refusal
 listed_in skew bound dump block = settled_in_blocks skew block (capture_by bound dump)

@@ -1,5 +1,5 @@
--- The text of a row with the times of its instants: as in a listing, but that each instant has an at sign and its time
--- behind it.
+-- The text of a row with the times of its instants: as in a listing, but each instant is followed by an at sign and its
+-- time.
 use Rattle.std.specs.Prelude.{ℕ, zero, suc, List, ◌∷◌, [], ◌++◌, codes, decimal, get_or, Option, None, Some}
 use Rattle.vme_trace.specs.Names.{line_name}
 use Rattle.vme_trace.specs.Rules.{rule_name}

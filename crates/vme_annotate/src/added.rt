@@ -16,7 +16,7 @@ use vcd_places::{definitions_end, unused_codes};
 use vcd_read::{Variable, Variables, read_definitions};
 use vme_stream::Refusal;
 
-/// What a scope of added variables is named.
+/// The name of a scope of added variables, before its underscores.
 const SCOPE: &[u8] = b"vmecheck";
 
 /// How many variables are added.
@@ -57,7 +57,7 @@ impl AddedVariables {
     }
 }
 
-/// How many underscores stand behind `vmecheck`, if a name is such a scope's.
+/// The number of underscores in `name`, if it is `vmecheck` followed by underscores alone.
 fn underscores_of(name: &[u8]) -> Option<usize> {
     let rest = name.strip_prefix(SCOPE)?;
     if rest.iter().all(|byte| *byte == b'_') {
@@ -67,7 +67,8 @@ fn underscores_of(name: &[u8]) -> Option<usize> {
     }
 }
 
-/// One more than the underscores of any such name that stands in the path of a variable, or this, if that is more.
+/// The greater of `least` and one more than the most underscores in a name in `path` that is `vmecheck` and underscores
+/// alone.
 fn free_behind(least: usize, path: &[u8]) -> usize {
     let mut free = least;
     for name in path.split(|byte| *byte == b'.') {
@@ -78,7 +79,8 @@ fn free_behind(least: usize, path: &[u8]) -> usize {
     free
 }
 
-/// One more than the underscores of any such name that stands in the path of a variable.
+/// One more than the most underscores in a name in a variable's path that is `vmecheck` and underscores alone, or 0 if
+/// there is no such name.
 fn highest_free(variables: &[Variable]) -> usize {
     let mut free = 0;
     for variable in variables {
@@ -87,14 +89,14 @@ fn highest_free(variables: &[Variable]) -> usize {
     free
 }
 
-/// Whether a path has this name as one of its parts.
+/// Whether `name` is one of the names in `path`, which are joined by dots.
 fn has_part(path: &[u8], name: &[u8]) -> bool
     ensures { result ≡ list_any (λ part. bytes_eq part name.now) (slice_split (λ b. b == 46) path.now) }
 {
     path.split(|byte| *byte == b'.').any(|part| part == name)
 }
 
-/// Whether no path has this name as one of its parts.
+/// Whether no variable has `name` in its path.
 fn lack_part(variables: &[Variable], name: &[u8]) -> bool
     ensures { result ≡ not (list_any (has_part name.now) variables.now) }
 {
@@ -106,7 +108,7 @@ fn lack_part(variables: &[Variable], name: &[u8]) -> bool
     true
 }
 
-/// The name of a scope with so many underscores.
+/// `vmecheck` followed by this many underscores.
 fn scope_of(alloc: Global, underscores: usize) -> Result<Vec<u8>, AllocError>
     ensures { IfOk result (λ scope. scope.items ≡ scope_name underscores) }
 {
@@ -116,7 +118,7 @@ fn scope_of(alloc: Global, underscores: usize) -> Result<Vec<u8>, AllocError>
     Ok(scope)
 }
 
-/// What is added to a dump whose definitions have no fault. The only refusal is want of memory.
+/// The scope and the codes to add to a dump whose definitions have no fault. The only refusal is want of memory.
 pub(crate) fn added_to(alloc: Global, dump: &[u8]) -> Result<AddedVariables, Refusal>
     requires { (d : Defined (List Variable))
         × (header_of appended dump.now (nothing_declared []) (tokens dump.now) ≡ Ok d) }
@@ -131,7 +133,7 @@ pub(crate) fn added_to(alloc: Global, dump: &[u8]) -> Result<AddedVariables, Ref
     }
 }
 
-/// What is added to a dump, beside these variables.
+/// The scope and the codes to add to `dump`, whose variables these are.
 fn added_beside(
     alloc: Global,
     dump: &[u8],

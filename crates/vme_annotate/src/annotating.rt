@@ -22,7 +22,7 @@ use vme_stream::{
 };
 use vme_trace::{Sink, Source};
 
-/// A dump, and all that is put into it.
+/// A dump, and all that is inserted into it.
 #[derive(Drop)]
 struct AnnotatedDump {
     text: Vec<u8>,
@@ -31,9 +31,10 @@ struct AnnotatedDump {
     added: AddedVariables,
 }
 
-/// Writes to `out` a dump, byte for byte, with variables of its own that show the tenures, cycles and transfers of the
-/// recording that a binding makes of it, settled by a skew, and from a break on its verdict; or to `err` why there is
-/// no recording. The answer is the exit status: that of `list`.
+/// Writes to `out` the dump, byte for byte, with added variables that show the tenures, cycles and transfers of its
+/// recording and, from a break (a violation of a rule) on, its verdict. The recording is what the binding makes of the
+/// dump, settled, i.e. deskewed, by `skew`. If there is none, the reason is written to `err`. Returns the exit status,
+/// that of `list`.
 ///
 /// The binding is read, and then the dump, which is kept as it is, with the times of its steps and the rows of its
 /// listing: that is all that takes memory, and no more is taken once something is written. A failure of `err` is
@@ -51,7 +52,8 @@ pub fn annotate<B: Source, D: Source, O: Sink, E: Sink>(
         (O.writing out.old, O.writing out.new) (E.writing err.old, E.writing err.new) result }
     ensures unwritten { (result ≡ 5) ↔ ((O.writing out.new).failures ≡ suc (O.writing out.old).failures) }
 
-    // Inputs that are told whole, no failure, and memory give exactly the annotated dump, or the first fault.
+    // If both inputs are read whole, no write to `out` fails and memory suffices, the output is exactly the annotated
+    // dump, or the first fault.
     ensures exact { AnnotatesExactly skew
         (B.reading binding.old, B.reading binding.new) (D.reading dump.old, D.reading dump.new)
         (O.writing out.old, O.writing out.new) (E.writing err.old, E.writing err.new) result }
@@ -59,7 +61,7 @@ pub fn annotate<B: Source, D: Source, O: Sink, E: Sink>(
     read_and_tell(alloc, binding, dump, skew, out, err)
 }
 
-/// The same, in the words of the definitions alone.
+/// `annotate`, with the contract `answer` alone.
 fn read_and_tell<B: Source, D: Source, O: Sink, E: Sink>(
     alloc: Global,
     binding: &mut B,
@@ -81,7 +83,7 @@ fn read_and_tell<B: Source, D: Source, O: Sink, E: Sink>(
     }
 }
 
-/// Writes an annotated dump.
+/// Writes an annotated dump, or to `err` that it can't be written. Returns the exit status.
 fn tell<O: Sink, E: Sink>(annotated: &AnnotatedDump, out: &mut O, err: &mut E) -> u8
     ensures { (t : Trace) → IsPrepared t annotated.now → (text : List ℕ)
         × IsAnnotated annotated.now.text.items t text
@@ -103,7 +105,8 @@ fn tell<O: Sink, E: Sink>(annotated: &AnnotatedDump, out: &mut O, err: &mut E) -
     }
 }
 
-/// The dump, with what is put into it, or the first reason that there is no recording of it: the binding is read first.
+/// The dump, with what is inserted into it, or the first reason that there is no recording of it. The binding is read
+/// first.
 fn annotated_from<B: Source, D: Source>(
     alloc: Global,
     binding: &mut B,
@@ -122,7 +125,7 @@ fn annotated_from<B: Source, D: Source>(
     }
 }
 
-/// The same, of the text of a dump.
+/// The dump with this text, with what is inserted into it, or the reason that there is no recording of it.
 fn annotated_in(
     alloc: Global,
     bound: &Binding,

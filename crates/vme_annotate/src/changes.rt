@@ -17,7 +17,8 @@ pub(crate) struct PlannedChange {
     /// From which instant on.
     pub instant: u32,
     pub variable: ShownVariable,
-    /// The place of the row of which it tells from then on; without one nothing goes on.
+    /// The index of the row that the variable shows from then on. Without one it shows that nothing
+    /// is in progress.
     pub row: Option<usize>,
 }
 
@@ -37,7 +38,7 @@ impl Model for RowChanges {
 }
 
 impl RowChanges {
-    /// A variable comes to tell of a row, or of none.
+    /// From `instant` on `variable` shows the row with the index `row`, or nothing.
     fn push(
         &mut self,
         instant: u32,
@@ -55,7 +56,8 @@ impl RowChanges {
         Ok(())
     }
 
-    /// What a row tells begins, and ends if it has an end.
+    /// From `start` on `variable` shows the row with the index `row`, and nothing from `end` on, if
+    /// there is an end.
     fn push_part(
         &mut self,
         variable: ShownVariable,
@@ -73,7 +75,8 @@ impl RowChanges {
         }
     }
 
-    /// At a reset and at a break tenure, cycle and transfer end.
+    /// From `instant` on tenure, cycle and transfer show nothing: they end at the opening, a reset
+    /// and a break.
     fn push_ends(&mut self, instant: u32) -> Result<(), AllocError>
         ensures { (rows : List Row) → OnOk result (map (planned rows) self.new
             ≡ map (planned rows) self.old ++ all_end instant) }
@@ -83,7 +86,8 @@ impl RowChanges {
         self.push(instant, ShownVariable::Transfer, None)
     }
 
-    /// A break that the row at a place tells.
+    /// A break at `instant`: tenure, cycle and transfer end, and the verdict shows the row with the
+    /// index `row`.
     fn push_break(&mut self, instant: u32, row: usize) -> Result<(), AllocError>
         ensures { (rows : List Row) → OnOk result (map (planned rows) self.new
             ≡ map (planned rows) self.old ++ break_changes (text_in rows (Some row)) instant) }
@@ -92,7 +96,7 @@ impl RowChanges {
         self.push(instant, ShownVariable::Verdict, Some(row))
     }
 
-    /// The changes of the row at a place.
+    /// The changes of `row`, which has the index `place`.
     fn push_row(&mut self, place: usize, row: &Row) -> Result<(), AllocError>
         ensures { (rows : List Row) → slice_get rows place ≡ Some row.now → OnOk result (map (planned rows) self.new
             ≡ map (planned rows) self.old ++ row_changes row.now) }
@@ -134,7 +138,7 @@ impl RowChanges {
         }
     }
 
-    /// The changes of a verdict, which the row at a place tells.
+    /// The changes of the verdict `outcome`, whose row has the index `row`.
     fn push_outcome(&mut self, outcome: ListedVerdict, row: usize) -> Result<(), AllocError>
         ensures { (rows : List Row) → OnOk result (map (planned rows) self.new
             ≡ map (planned rows) self.old ++ verdict_changes (text_in rows (Some row)) outcome) }
@@ -147,7 +151,8 @@ impl RowChanges {
     }
 }
 
-/// All changes of the rows of a listing, in the order of the rows. At the opening nothing goes on.
+/// All changes of the rows of a listing, in the order of the rows. First, at the opening, each
+/// variable shows nothing.
 fn changes_by_row(alloc: Global, rows: &[Row]) -> Result<Vec<PlannedChange>, AllocError>
     ensures { IfOk result (λ changes. map (planned rows.now) changes.items ≡ all_changes rows.now) }
 {
@@ -163,7 +168,8 @@ fn changes_by_row(alloc: Global, rows: &[Row]) -> Result<Vec<PlannedChange>, All
     Ok(changes)
 }
 
-/// The same, in the order of their instants, and at one instant in that of the rows.
+/// All changes of the rows of a listing, in the order of their instants, and at one instant in that
+/// of the rows.
 pub(crate) fn changes_of(alloc: Global, rows: &[Row]) -> Result<Vec<PlannedChange>, AllocError>
     ensures { IfOk result (λ changes. ArePlanned rows.now changes.items) }
 {

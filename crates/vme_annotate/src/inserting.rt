@@ -1,4 +1,4 @@
-//! A dump that is written with what is put into it.
+//! Writes a dump with what is inserted into it.
 
 ghost use Rattle.std.specs.Prelude.{◌≡◌, ◌<◌, ◌≤◌, ◌++◌, ℕ, true, List, MatchResult, Option, codes, flat_map};
 ghost use Rattle.std.specs.Prelude.{map};
@@ -28,7 +28,7 @@ use vme_listing::Row;
 use vme_stream::write_all;
 use vme_trace::{Failed, Sink};
 
-/// A dump, and what is put into it.
+/// A dump, and what is inserted into it.
 #[derive(Clone, Copy)]
 pub(crate) struct Annotation<'a> {
     pub dump: &'a [u8],
@@ -40,7 +40,7 @@ pub(crate) struct Annotation<'a> {
     pub added: &'a AddedVariables,
 }
 
-/// Puts the declaration of a variable.
+/// Puts the declaration of `variable`.
 fn put_declaration<W: Sink>(
     buffer: &mut OutputBuffer,
     sink: &mut W,
@@ -89,7 +89,7 @@ fn put_shown<W: Sink>(
     buffer.put(sink, text.as_bytes());
 }
 
-/// What is shown of the row at a place, and without one that nothing goes on.
+/// The text of the row with the index `place`. Without one it is a hyphen: nothing is in progress.
 fn text_in(rows: &[Row], place: Option<usize>) -> ShortText
     ensures { result ≡ text_in rows.now place }
 {
@@ -104,7 +104,7 @@ fn text_in(rows: &[Row], place: Option<usize>) -> ShortText
     }
 }
 
-/// Puts a change.
+/// Puts a change: its text, and the code of its variable.
 fn put_change<W: Sink>(
     buffer: &mut OutputBuffer,
     sink: &mut W,
@@ -120,18 +120,18 @@ fn put_change<W: Sink>(
     buffer.put(sink, annotation.added.code(change.variable.place()));
 }
 
-/// How far a dump is written, and the next of its times from there on.
+/// How far a dump is written, and its next time stamp.
 #[derive(Drop)]
 struct WritingPlace<'a> {
-    /// How many of its bytes are put.
+    /// How many bytes of the dump are put.
     count: usize,
     places: TimePlaces<'a>,
-    /// The first time that isn't before those that were asked for.
+    /// The next time stamp of the dump. It isn't before the times that `go_to` was called with.
     next: Option<TimePlace>,
 }
 
 impl<'a> WritingPlace<'a> {
-    /// Behind the definitions, up to this place.
+    /// The dump is written up to `end`, the end of its definitions.
     fn behind_definitions(end: usize, places: TimePlaces<'a>) -> WritingPlace<'a>
         requires at { IsAtTime places.text 0 end }
         requires order { end ≡ places.at }
@@ -150,8 +150,8 @@ impl<'a> WritingPlace<'a> {
         }
     }
 
-    /// The place behind the first token of a time that isn't before those that were asked for; or where writing stands,
-    /// if no token tells it. Writing goes on there.
+    /// If the next time stamp that isn't below `time` equals it, continues after it, unless writing is already further.
+    /// Returns the place at which writing continues.
     fn go_to(&mut self, time: u64) -> usize
         ensures place { result ≡ self.new.count }
         ensures forward { self.old.count ≤ result }
@@ -174,8 +174,8 @@ impl<'a> WritingPlace<'a> {
     }
 }
 
-/// Writes a dump with its declarations and changes. It is written in pieces of up to 4,096 bytes, or more of the dump
-/// itself, and takes no memory. After a failure a front of the text is written.
+/// Writes a dump with its declarations and changes, in pieces of up to 4,096 bytes, or longer ones of the dump itself.
+/// It takes no memory. After a failure a prefix of the text is written.
 pub(crate) fn write_annotated<W: Sink>(
     sink: &mut W,
     annotation: &Annotation<'_>,

@@ -1,17 +1,17 @@
-//! What a listing tells, on the waveform and with times: a dump that is written again with
-//! variables of its own, which show the tenures, cycles and transfers, and the verdict; and the
-//! listing with the times of its instants.
+//! What a listing says, in a viewer's waveform and with times: the dump with added variables, which
+//! show the tenures, cycles and transfers, and the verdict; and the listing with the times of its
+//! instants.
 //!
 //! # Parts
 //!
 //! - `annotating`: [`annotate`] writes a dump, annotated with the listing of its recording.
 //! - `listing_times`: [`list_times`] writes that listing, with the times of its instants.
 //! - `listed`, `step_times`: the listing of a recording, and the times of its steps.
-//! - `shown`, `changes`: what the variables show; when they change, by the rows.
+//! - `shown`, `changes`: the texts that the variables show; when they change, by the rows.
 //! - `added`: the codes and the scope of the variables, which the dump doesn't have.
-//! - `inserting`: the dump that is written with what is put into it.
+//! - `inserting`: writes the dump with what is inserted into it.
 //! - `timed_rows`, `short_text`, `output_buffer`: the lines of rows with times; texts that take no
-//!   memory; bytes that are held until they are written.
+//!   memory; a buffer of bytes before they are written.
 //!
 //! # What is proved
 //!
@@ -22,8 +22,8 @@
 //! # What isn't proved
 //!
 //! That memory suffices: the dump is kept, with eight bytes for each of its steps, the marks and
-//! rows of its listing, and sixteen to twenty-four bytes for each change that is put in. What a
-//! viewer shows of the variables.
+//! rows of its listing (a mark is an event of the bus with its instant), and sixteen to twenty-four
+//! bytes for each change that is inserted. What a viewer shows of the variables.
 //!
 //! # In which order to read
 //!

@@ -51,7 +51,8 @@ impl TimedListing {
         self.times.get(instant as usize - 1).copied()
     }
 
-    /// The time at which an instant is shown: the opening with the first step, and at 0 where there is none.
+    /// The time at which an instant is shown: the opening at the time of the first step. It is 0 if there is no such
+    /// step.
     pub fn shown_time(&self, instant: u32) -> u64
         ensures { result ≡ get_or self.now.times (max instant 1 - 1) 0 }
     {
@@ -91,8 +92,8 @@ fn verdict_row_status(outcome: ListedVerdict) -> u8
     }
 }
 
-/// The listing of the recording that a binding makes of the text of a dump, settled by a skew, with the times of its
-/// steps, or why there is none. The text is read once.
+/// The listing of the recording that the binding `bound` makes of a dump's text, settled, i.e. deskewed, by `skew`,
+/// with the times of its steps; or why there is none. The text is read once.
 pub(crate) fn listed_in(
     alloc: Global,
     bound: &Binding,
@@ -106,7 +107,7 @@ pub(crate) fn listed_in(
     listed_by_skew::<Brand>(alloc, bound, text, skew, block)
 }
 
-/// The same by a skew that types name.
+/// `listed_in`, where the type `K` stands for `skew`.
 fn listed_by_skew<K: GhostSkew>(
     alloc: Global,
     bound: &Binding,
@@ -129,7 +130,8 @@ fn listed_by_skew<K: GhostSkew>(
     }
 }
 
-/// The listing of a settled recording, whose last group ends. The limit on steps holds before they settle.
+/// The listing of a deskewed recording, whose last group of steps ends here. The limit on steps counts those before
+/// deskewing.
 fn settled_listing<K: GhostSkew>(
     alloc: Global,
     settling: SettlingVisitor<K, StepTimes<Lister>>,

@@ -18,8 +18,8 @@ use vme_stream::{
 };
 use vme_trace::{Failed, Sink, Source};
 
-/// Writes to `out` the listing of the recording that a binding makes of a dump, settled by a skew, with the times of
-/// its instants, or to `err` why there is none. The answer is the exit status: that of `list`.
+/// Writes to `out` the listing, with the times of its instants, of the recording that the binding makes of the dump,
+/// deskewed by `skew`; or to `err` why there is none. Returns the exit status, that of `list`.
 ///
 /// The binding is read, and then the dump, which is kept as it is, with the times of its steps and the rows. A failure
 /// of `err` is ignored.
@@ -38,7 +38,7 @@ pub fn list_times<B: Source, D: Source, O: Sink, E: Sink>(
         (O.writing out.old, O.writing out.new) (E.writing err.old, E.writing err.new) result }
     ensures unwritten { (result ≡ 5) ↔ ((O.writing out.new).failures ≡ suc (O.writing out.old).failures) }
 
-    // Inputs that are told whole, no failure, and memory give exactly the answer that is defined.
+    // If both inputs are read whole, no write to `out` fails and memory suffices, the answer is exactly as defined.
     ensures exact { TellsExactly (λ b d. timed_answer_of skew (Some b) (Some d) block)
         (B.reading binding.old, B.reading binding.new) (D.reading dump.old, D.reading dump.new)
         (O.writing out.old, O.writing out.new) (E.writing err.old, E.writing err.new) result }
@@ -46,7 +46,7 @@ pub fn list_times<B: Source, D: Source, O: Sink, E: Sink>(
     read_and_tell(alloc, binding, dump, block, skew, out, err)
 }
 
-/// The same, in the words of the definitions alone.
+/// `list_times`, with the contract `answer` alone.
 fn read_and_tell<B: Source, D: Source, O: Sink, E: Sink>(
     alloc: Global,
     binding: &mut B,
@@ -70,7 +70,7 @@ fn read_and_tell<B: Source, D: Source, O: Sink, E: Sink>(
     }
 }
 
-/// Writes the lines of a listing. It is written in pieces of up to 4,096 bytes, and takes no memory.
+/// Writes the lines of a listing, in pieces of up to 4,096 bytes. It takes no memory.
 fn write_times<W: Sink>(listing: &TimedListing, sink: &mut W) -> Result<(), Failed>
     ensures { MatchResult result
         (λ _. Writes (W.writing sink.old) (W.writing sink.new)
@@ -87,7 +87,7 @@ fn write_times<W: Sink>(listing: &TimedListing, sink: &mut W) -> Result<(), Fail
     buffer.finish(sink)
 }
 
-/// Writes a listing.
+/// Writes a listing, or to `err` that it can't be written. Returns the exit status.
 fn tell<O: Sink, E: Sink>(listing: &TimedListing, out: &mut O, err: &mut E) -> u8
     ensures { (t : Trace) → IsTimed t listing.now → Ends (timed_answer_by (Ok t))
         (O.writing out.old, O.writing out.new) (E.writing err.old, E.writing err.new) result }
@@ -101,7 +101,8 @@ fn tell<O: Sink, E: Sink>(listing: &TimedListing, out: &mut O, err: &mut E) -> u
     }
 }
 
-/// The listing of the recording that a binding makes of a dump, or the first reason that there is none.
+/// The listing, with times, of the recording that the binding makes of the dump, or the first reason that there is
+/// none.
 fn listing_from<B: Source, D: Source>(
     alloc: Global,
     binding: &mut B,

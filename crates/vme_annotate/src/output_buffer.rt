@@ -1,4 +1,4 @@
-//! Bytes that are held together before they are written.
+//! A buffer of bytes before they are written.
 
 ghost use Rattle.std.specs.Prelude.{◌≡◌, ◌+◌, ◌≤◌, ◌++◌, ℕ, [], List, MatchResult, false, length};
 ghost use Rattle.vme_stream.specs.Outputs.{FailsToWrite, Writes};
@@ -12,7 +12,7 @@ use vme_trace::{Failed, Sink};
 /// The most bytes that are held.
 const MOST: usize = 4096;
 
-/// The bytes that are to be written next. Once a write failed none is made any more.
+/// The bytes to write next. After a write has failed nothing more is written.
 #[derive(Drop)]
 pub(crate) struct OutputBuffer {
     bytes: [u8; 4096],
@@ -43,7 +43,7 @@ impl OutputBuffer {
         }
     }
 
-    /// Writes some bytes, unless a write failed.
+    /// Writes `bytes`, unless a write has failed.
     fn write<W: Sink>(&mut self, sink: &mut W, bytes: &[u8])
         requires { self.old.bytes ≡ [] }
         ensures empty { self.new.bytes ≡ [] }
@@ -70,7 +70,8 @@ impl OutputBuffer {
         self.len = 0;
     }
 
-    /// Puts some bytes behind those that are held, and writes what there is no room for.
+    /// Appends `bytes`. Where there is no room for them, what is held is written first. Bytes for
+    /// which even the empty buffer has no room are written at once.
     pub fn put<W: Sink>(&mut self, sink: &mut W, bytes: &[u8])
         ensures { (start : Writing) (made : List ℕ) → HasPut start (W.writing sink.old) self.old made
             → HasPut start (W.writing sink.new) self.new (made ++ bytes.now) }
@@ -84,7 +85,7 @@ impl OutputBuffer {
         self.hold(bytes);
     }
 
-    /// Holds some bytes behind those that are held.
+    /// Appends `bytes`, for which there is room.
     fn hold(&mut self, bytes: &[u8])
         requires { length self.old.bytes + length bytes.now ≤ MOST }
         ensures bytes { self.new.bytes ≡ self.old.bytes ++ bytes.now }
@@ -95,7 +96,7 @@ impl OutputBuffer {
         self.len = end;
     }
 
-    /// Writes what is held, and answers whether all was written.
+    /// Writes what is held, and returns whether all was written.
     pub fn finish<W: Sink>(mut self, sink: &mut W) -> Result<(), Failed>
         ensures { (start : Writing) (made : List ℕ) → HasPut start (W.writing sink.old) self made
             → MatchResult result (λ _. Writes start (W.writing sink.new) made)

@@ -74,7 +74,7 @@ impl ShortText {
         self.push(&digits[start..]);
     }
 
-    /// Appends the last digits of a number in base 16, in upper case.
+    /// Appends the last `digits` digits of `number` in base 16, in upper case.
     pub fn push_hexadecimal(&mut self, digits: usize, number: u32)
         requires room { length self.old + digits ≤ MOST }
         requires digits { digits ≤ 8 }

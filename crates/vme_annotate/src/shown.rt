@@ -1,4 +1,4 @@
-//! What the variables of an annotated dump show.
+//! The texts that the variables of an annotated dump show.
 
 ghost use Rattle.std.specs.Prelude.{◌≡◌, ◌+◌, ◌≤◌, ◌++◌, length};
 ghost use Rattle.vme_listing.specs.RowText.{address_digits};
@@ -10,7 +10,7 @@ use crate::short_text::{MOST, ShortText};
 use vme_listing::{AnswerLine, Direction, ListedVerdict, Row, data_digits};
 use vme_trace::{Class, Lanes, Line, Rule, Space};
 
-/// The address space of a code.
+/// The name of the address space of a cycle with this address modifier code.
 fn space_text(modifier: u8) -> &'static [u8]
     ensures text { result.now ≡ space_text modifier }
     ensures length { length result.now ≡ 3 }
@@ -127,7 +127,7 @@ impl ShortText {
     }
 }
 
-/// What is shown from the first instant of a row on.
+/// The text that is shown from the first instant of a row on.
 pub(crate) fn shown_text(row: &Row) -> ShortText
     ensures { result ≡ shown_text row.now }
 {

@@ -7,11 +7,11 @@ use std::alloc::{AllocError, Global};
 use std::marker::Model;
 use vme_trace::{Lines, Step, StepVisitor};
 
-/// Keeps the times of the steps of a recording, in front of what takes it.
+/// Keeps the times of the steps of a recording, and passes the recording on to `taker`.
 #[derive(Drop)]
 pub(crate) struct StepTimes<F: StepVisitor> {
     times: Vec<u64>,
-    /// What takes the recording.
+    /// The visitor that the recording is passed on to.
     taker: F,
     /// Whether there was memory for all.
     is_whole: bool,
@@ -30,7 +30,7 @@ impl<F: StepVisitor> Model for StepTimes<F> {
 }
 
 impl<F: StepVisitor> StepTimes<F> {
-    /// Before the first step, in front of what takes the recording.
+    /// Begins before the first step, and passes the opening on to `taker`.
     pub fn new(alloc: Global, opening: &Lines, taker: F) -> StepTimes<F>
         ensures { result ≡ record { opening = opening.now; steps = [] } }
     {
@@ -43,7 +43,8 @@ impl<F: StepVisitor> StepTimes<F> {
         }
     }
 
-    /// What took the recording, and the times of its steps, if there was memory for all.
+    /// The visitor that the recording was passed on to, and the times of its steps, if there was
+    /// memory for all.
     pub fn into_parts(self) -> Option<(F, Vec<u64>)>
         ensures taker { IfSome result (λ parts. F.recorded parts.0 ≡ self) }
         ensures times { IfSome result (λ parts. parts.1.items ≡ times_of self.steps) }

@@ -43,9 +43,9 @@ fn answer_text(line: AnswerLine) -> &'static [u8]
     }
 }
 
-/// An instant and its time take at most 41 bytes, and a word before them at most 20.
+/// An instant and its time take at most 41 bytes, and the word before them at most 20.
 impl ShortText {
-    /// A word, and behind it an instant and its time.
+    /// Appends `word`, then `instant` with its time.
     fn push_instant(&mut self, listing: &TimedListing, word: &[u8], instant: u32)
         requires room { length self.old + 61 ≤ MOST }
         requires short { length word.now ≤ 20 }
@@ -62,7 +62,7 @@ impl ShortText {
         }
     }
 
-    /// The same where there may be no instant.
+    /// Appends `word`, then `instant` with its time, or a hyphen where there is no instant.
     fn push_edge(&mut self, listing: &TimedListing, word: &[u8], instant: Option<u32>)
         requires room { length self.old + 61 ≤ MOST }
         requires short { length word.now ≤ 20 }

@@ -1,4 +1,4 @@
-//! Tests of vme_annotate: annotated dumps and listings with times, by texts that stand beside them.
+//! Tests of vme_annotate: annotated dumps and listings with times, compared with expected texts.
 //!
 //! What is written for each body and each head was made by a program in Python that shares nothing
 //! with the crate. The listing of each annotated dump is compared with that of the dump itself.

@@ -11,7 +11,7 @@ use vme_confirm_command::confirm::confirm_with;
 use vme_stream::Bytes;
 use vme_trace::{Failed, Sink};
 
-/// The definitions up to their end, which stands in front of a body.
+/// The definitions without their end, `END`, which comes before a body.
 const HEAD: &str = "$timescale 1 ns $end\n$scope module bus $end\n\
 $var wire 1 p AS $end\n$var wire 1 q DS0 $end\n$var wire 1 r DS1 $end\n\
 $var wire 1 s DTACK $end\n$var wire 1 t BERR $end\n$var wire 1 u IACK $end\n\
@@ -21,11 +21,11 @@ const END: &str = "$enddefinitions $end";
 
 const BODY: &str = "\n#0 1p 1q 1r 1s 1t 1u\n#10 0p\n#20 0q\n#30 0s\n#40 1p 1q\n#50 1s\n";
 
-/// What is declared behind that head.
+/// The declarations that are added after that head.
 const DECLARED: &str = "$scope module vmecheck $end $var string 1 ! tenure $end \
 $var string 1 \" cycle $end $var string 1 # transfer $end $var string 1 $ verdict $end $upscope $end ";
 
-/// Bodies behind the head, what is written for each, and the status.
+/// Bodies after the head, the annotated text of each, and the status.
 static BODIES: [(&str, &str, u8); 14] = [
     // Plain
     (
@@ -117,7 +117,7 @@ static BODIES: [(&str, &str, u8); 14] = [
     ),
 ];
 
-/// What stands in the place of the last section of the head, what is declared behind it, and what is shown at first.
+/// What replaces the last section of the head, the declarations that are added after it, and what is shown at first.
 static HEADS: [(&str, &str, &str); 6] = [
     // A scope of that name
     (
@@ -207,7 +207,7 @@ impl Sink for Page {
     }
 }
 
-/// What a command wrote and told, and its status.
+/// What a command wrote to `out` and to `err`, and its status.
 #[derive(Drop)]
 struct Answer {
     out: Page,
@@ -216,14 +216,14 @@ struct Answer {
 }
 
 impl Answer {
-    /// Whether this was written and told, with this status.
+    /// Whether `text` was written to `out` and `told` to `err`, with this status.
     fn is(&self, text: &str, told: &str, status: u8) -> bool {
         self.out.bytes.as_slice() == text.as_bytes()
             && self.err.bytes.as_slice() == told.as_bytes()
             && self.status == status
     }
 
-    /// Whether what was written begins so, nothing was told, and the status is 0.
+    /// Whether what was written to `out` begins with `front`, nothing was written to `err`, and the status is 0.
     fn begins(&self, front: &str) -> bool {
         self.out.bytes.as_slice().starts_with(front.as_bytes())
             && self.err.bytes.is_empty()
@@ -231,7 +231,7 @@ impl Answer {
     }
 }
 
-/// The parts of a text, one behind the other.
+/// The parts of a text, joined.
 fn text_of(alloc: Global, parts: &[&str]) -> Result<String, AllocError> {
     let mut text = String::new(alloc);
     for part in parts {
@@ -240,7 +240,7 @@ fn text_of(alloc: Global, parts: &[&str]) -> Result<String, AllocError> {
     Ok(text)
 }
 
-/// What annotating a dump by a binding writes, to a page with so much room.
+/// What annotating a dump by a binding writes, to a page with `room` bytes.
 fn annotated(alloc: Global, binding: &[u8], dump: &[u8], skew: u64, room: usize) -> Answer {
     let mut out = Page::new(alloc, room);
     let mut err = Page::new(alloc, 1000);
@@ -255,7 +255,7 @@ fn annotated(alloc: Global, binding: &[u8], dump: &[u8], skew: u64, room: usize)
     Answer { out, err, status }
 }
 
-/// What listing a dump by a binding with times writes, to a page with so much room.
+/// What listing a dump by a binding with times writes, to a page with `room` bytes.
 fn timed(alloc: Global, binding: &[u8], dump: &[u8], room: usize) -> Answer {
     let mut out = Page::new(alloc, room);
     let mut err = Page::new(alloc, 1000);
@@ -289,7 +289,7 @@ fn listed<R: AllocGlobal + Threads + Sync>(rt: &R, dump: &[u8]) -> Answer {
     Answer { out, err, status }
 }
 
-/// Whether two dumps have one listing, and this status.
+/// Whether two dumps have the same listing, with this status.
 fn have_one_listing<R: AllocGlobal + Threads + Sync>(
     rt: &R,
     first: &[u8],
@@ -303,7 +303,8 @@ fn have_one_listing<R: AllocGlobal + Threads + Sync>(
         && other.status == status
 }
 
-/// Whether a body behind the head is annotated so, with this status, and is listed as before.
+/// Whether the head with `body` is annotated as the head with `shown`, with this status, and both have the same
+/// listing.
 fn shows<R: AllocGlobal + Threads + Sync>(
     rt: &R,
     body: &str,
@@ -327,7 +328,8 @@ fn bodies(rt: HostRuntime) {
     }
 }
 
-/// Whether behind a head that ends so this is declared, and this is shown at first, and it is listed as before.
+/// Whether a head that ends with `last` gets the declarations `declared`, the body begins with `first`, and the
+/// annotated dump has the same listing.
 fn declares<R: AllocGlobal + Threads + Sync>(
     rt: &R,
     last: &str,
@@ -354,7 +356,7 @@ fn heads(rt: HostRuntime) {
     }
 }
 
-/// Whether a dump that is annotated again has a scope more, and is listed as before.
+/// Whether a dump that is annotated again has one more scope, and the same listing.
 fn has_a_scope_more<R: AllocGlobal + Threads + Sync>(rt: &R) -> Option<bool> {
     let dump = text_of(rt.alloc(), &[HEAD, END, BODY]).ok()?;
     let scope = "$scope module vmecheck_ $end $var string 1 % tenure $end ";
@@ -369,7 +371,7 @@ fn twice(rt: HostRuntime) {
     assert!(rt; has_a_scope_more(&rt) == Some(true));
 }
 
-/// Whether a body is annotated so, by a binding and a skew.
+/// Whether `body` is annotated as `shown`, by a binding and a skew.
 fn shows_by(alloc: Global, binding: &[u8], body: &str, skew: u64, shown: &str) -> Option<bool> {
     let dump = text_of(alloc, &[HEAD, END, body]).ok()?;
     let wanted = text_of(alloc, &[HEAD, DECLARED, END, shown]).ok()?;
@@ -377,7 +379,7 @@ fn shows_by(alloc: Global, binding: &[u8], body: &str, skew: u64, shown: &str) -
     Some(answer.is(wanted.as_str(), "", 0))
 }
 
-/// By a skew the changes stand at the times of the settled steps.
+/// With a skew the changes are at the times of the deskewed steps.
 #[test]
 fn by_a_skew(rt: HostRuntime) {
     let body = "\n#0 1p 1q 1r 1s 1t 1u\n#10 0p\n#20 0s\n#23 0q\n#40 1p 1q\n#50 1s\n";
@@ -386,7 +388,7 @@ fn by_a_skew(rt: HostRuntime) {
     assert!(rt; shows_by(rt.alloc(), BUILT_IN, body, 3, shown) == Some(true));
 }
 
-/// Heads, bodies behind the end of the definitions, and what is told of each.
+/// Heads, bodies after the end of the definitions, and the message about each.
 static REFUSALS: [(&str, &str, &str); 4] = [
     ("", "\n", "vmecheck: binding line 2: NoSuchPath\n"),
     (
@@ -406,7 +408,7 @@ static REFUSALS: [(&str, &str, &str); 4] = [
     ),
 ];
 
-/// Whether a dump is neither annotated nor listed with times, and this is told.
+/// Whether a dump is neither annotated nor listed with times, and `told` is the message.
 fn is_refused(alloc: Global, head: &str, body: &str, told: &str) -> Option<bool> {
     let dump = text_of(alloc, &[head, END, body]).ok()?;
     Some(
@@ -415,7 +417,7 @@ fn is_refused(alloc: Global, head: &str, body: &str, told: &str) -> Option<bool>
     )
 }
 
-/// What refuses a listing refuses these too, and nothing is written.
+/// A dump that `list` refuses is refused here too, and nothing is written.
 #[test]
 fn refusals(rt: HostRuntime) {
     for (head, body, told) in REFUSALS.iter() {
@@ -449,7 +451,7 @@ verdict broken H4 3@20 DTACK\n",
     ("\n", "vmecheck listing 3 times\nverdict never-idle\n", 2),
 ];
 
-/// Whether this is refused as a listing of a dump, since its first line is none.
+/// Whether `listing` is refused as a listing of a dump, because of its header.
 fn is_no_listing(alloc: Global, dump: &[u8], listing: &[u8]) -> bool {
     let mut out = Page::new(alloc, 1000);
     let mut err = Page::new(alloc, 1000);
@@ -465,7 +467,7 @@ fn is_no_listing(alloc: Global, dump: &[u8], listing: &[u8]) -> bool {
     Answer { out, err, status }.is("", "vmecheck: listing header\n", 3)
 }
 
-/// Whether a body is listed so with times, with this status, and what is written isn't confirmed as a listing.
+/// Whether `body` is listed with times as `wanted`, with this status, and `confirm` refuses that text.
 fn tells_times(alloc: Global, body: &str, wanted: &str, status: u8) -> Option<bool> {
     let dump = text_of(alloc, &[HEAD, END, body]).ok()?;
     Some(
@@ -489,7 +491,7 @@ const CONSTANTS: &str =
     "slots 1\nAS = 1\nDS0 = 1\nDS1 = 1\nDTACK = 1\nBERR = 1\nIACK = 1\nAM = 1\nLWORD = 1\n\
 WRITE = 1\nA = 1\nBBSY = 0\nBR = 1\nBG0 = 1\nBG1 = 1\nBG2 = 1\nBG3 = 1\nIA = 1\n";
 
-/// Whether the dump is listed so with times, by a binding.
+/// Whether the dump is listed with times as `wanted`, by a binding.
 fn tells_times_by(alloc: Global, binding: &[u8], wanted: &str) -> Option<bool> {
     let dump = text_of(alloc, &[HEAD, END, BODY]).ok()?;
     Some(timed(alloc, binding, dump.as_bytes(), 1000).is(wanted, "", 0))
@@ -508,7 +510,7 @@ fn an_opening_is_shown_with_the_first_step(rt: HostRuntime) {
     assert!(rt; shows_by(rt.alloc(), CONSTANTS.as_bytes(), BODY, 0, shown) == Some(true));
 }
 
-/// A dump whose body goes on with 2,000 changes of no level.
+/// A dump whose body continues with 2,000 changes that leave the levels as they are.
 fn long_dump(alloc: Global) -> Result<String, AllocError> {
     let mut dump = text_of(alloc, &[HEAD, END, BODY])?;
     for _ in 0..2000 {
@@ -517,7 +519,7 @@ fn long_dump(alloc: Global) -> Result<String, AllocError> {
     Ok(dump)
 }
 
-/// Whether of the long dump, annotated, a front is written where there is only so much room, and of its listing too.
+/// Whether, of the long dump, annotated, a prefix is written to a page with `room` bytes, and the failure is reported.
 fn writes_a_front(alloc: Global, room: usize) -> Option<bool> {
     let dump = long_dump(alloc).ok()?;
     let whole = annotated(alloc, BUILT_IN, dump.as_bytes(), 0, 100_000);
@@ -539,7 +541,7 @@ fn writes_that_fail(rt: HostRuntime) {
     }
 }
 
-/// Whether of a listing with times, for which there is no room, nothing is written.
+/// Whether nothing is written of a listing with times for which there is no room.
 fn writes_no_times(alloc: Global) -> Option<bool> {
     let dump = text_of(alloc, &[HEAD, END, BODY]).ok()?;
     let answer = timed(alloc, BUILT_IN, dump.as_bytes(), 0);
@@ -551,7 +553,8 @@ fn times_that_cannot_be_written(rt: HostRuntime) {
     assert!(rt; writes_no_times(rt.alloc()) == Some(true));
 }
 
-/// Made for `tests/memory/run`, which refuses each allocation in turn: want of memory is told, or the answer is right.
+/// Made for `tests/memory/run`, which refuses each allocation in turn: want of memory is reported, or the answer is
+/// right.
 #[test]
 fn want_of_memory_is_told(rt: HostRuntime) {
     let (Ok(dump), Ok(wanted), Ok(mut out), Ok(mut err)) = (

@@ -112,7 +112,7 @@ module _ (nets : List Net) (c0 c1 c2 c3 : List ℕ) (are : AreFree nets (c0 ∷ 
       (net_stays (nets_2 c0 c1 nets) c2 1 new_2 c0 (length nets)
       (net_stays (nets_1 c0 nets) c1 1 new_1 c0 (length nets) (net_of_added nets c0 1 free_0.free)))
 
-  -- what comes of a body without a fault stays
+  -- a body without a fault has the same instants when the four nets are added
   pub instants_four : (items : List BodyItem) (instants : List Instant) → instants_in nets items ≡ Ok instants
       → instants_in all items ≡ Ok instants
   instants_four items instants e =
@@ -121,7 +121,7 @@ module _ (nets : List Net) (c0 c1 c2 c3 : List ℕ) (are : AreFree nets (c0 ∷ 
       (instants_stay (nets_1 c0 nets) c1 1 new_1 items instants
       (instants_stay nets c0 1 free_0.free items instants e)))
 
-  -- each of the codes shows a word
+  -- the text `text`, which is a word, is shown by the free code `code`, which has a net in `all`
   shown_by : (text code : List ℕ) (net : ℕ) → IsWord text → IsFree nets code → net_of all code ≡ Some net
       → IsShown all text code
   shown_by text code net word free has =

@@ -1,4 +1,4 @@
--- More variables, whose paths no variable of a dump has: a binding finds what it found.
+-- If variables are added whose paths no variable of a dump has, a binding finds what it found without them.
 use Rattle.std.proofs.Common.{◌≡◌, ℕ, Bool, true, false, cond, List, [], ◌∷◌, ◌++◌, None, Result, Ok, Err}
 use Rattle.std.proofs.Common.{refl, sym, subst, ◌∙◌, true≢false}
 use Rattle.std.specs.Prelude.{bytes_eq, filter_map, ◌||◌}
@@ -21,7 +21,7 @@ use Rattle.vme_bind.specs.declared.source.VariableSelector.{VariableSelector}
 abbrev pub has_path : List ℕ → Variable → Bool
 has_path path v = bytes_eq v.path path
 
--- where no variable has the path that is named, there is no candidate
+-- if no variable has the path that `named` names, there is no candidate
 no_candidate : (named : VariableSelector) (variables : List Variable) → list_any (has_path named.path) variables ≡ false
     → filter_map (candidate named) variables ≡ []
 no_candidate named [] none = refl
@@ -36,7 +36,7 @@ no_candidate named (v ∷ variables) none =
     go true is f others = absurd (true≢false f)
     go false is f others = rw is (others f)
 
--- each has a path that none of the others has
+-- no variable of the first list has the path of one of the second
 abbrev pub AreApart : List Variable → List Variable → Type 0
 AreApart variables [] = Unit {0}
 AreApart variables (new ∷ more) = (list_any (has_path new.path) variables ≡ false) × AreApart variables more
@@ -47,7 +47,7 @@ abbrev pub is_fine : {A E : Type 0} → Result A E → Bool
 is_fine (Ok a) = true
 is_fine (Err e) = false
 
--- of what is found without a fault each part is
+-- if a chain of two results has no fault, neither has the first; `fine_second` says this of the second
 pub fine_first : {A B E : Type 0} (r : Result A E) (f : A → Result B E) → is_fine (r >>= f) ≡ true → is_fine r ≡ true
 fine_first (Ok a) f e = refl
 fine_first (Err fault) f e = e
@@ -65,7 +65,7 @@ module _ (variables more : List Variable) (differ : AreApart variables more) whe
   abbrev pub all : List Variable
   all = variables ++ more
 
-  -- the candidates of a source are found in the variables
+  -- the variables have a candidate for `named`, and all their candidates are the same bits
   abbrev is_found : VariableSelector → Type 0
   is_found named = is_fine (only (filter_map (candidate named) variables)) ≡ true
 
@@ -111,7 +111,7 @@ module _ (variables more : List Variable) (differ : AreApart variables more) whe
       let same = source_stays a.group.count a.source source in
       rw same refl
 
-  -- the groups that a binding finds stay
+  -- a binding finds the same groups when the variables are added
   pub groups_stay : (assignments : List Assignment) → is_fine (bound_groups_in variables assignments) ≡ true
       → bound_groups_in all assignments ≡ bound_groups_in variables assignments
   unfolding bound_groups_in

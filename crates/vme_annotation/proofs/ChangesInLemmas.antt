@@ -1,4 +1,4 @@
--- A dump into which changes are put: its definitions stay, and what comes of its body.
+-- A dump with changes inserted has the same definitions, and its body has the same instants.
 use Rattle.std.proofs.Common.{◌≡◌, ℕ, zero, suc, ◌-◌, ◌≤◌, true, List, [], ◌∷◌, ◌++◌, take, drop, refl}
 use Rattle.std.proofs.Common.{sym}
 use Rattle.std.proofs.Common.{ap, ◌∙◌, arith, append_assoc}
@@ -20,7 +20,7 @@ nothing : (n : ℕ) → empty ≡ take n empty
 nothing zero = refl
 nothing (suc n) = refl
 
--- what stands before a place, and from there up to another
+-- the text up to `to` is the text up to `from`, and then that from `from` to `to`
 take_both : (text : List ℕ) (from to : ℕ) → from ≤ to → take to text ≡ take from text
     ++ take (to - from) (drop from text)
 take_both text zero to le = ap (λ (n : ℕ). take n text) (omega arith)
@@ -31,7 +31,7 @@ take_both (b ∷ text) (suc from) (suc to) le =
     ap (λ (rest : List ℕ). b ∷ rest) (take_both text from to (omega (arith, le))
     ∙ ap (λ (n : ℕ). take from text ++ take n (drop from text)) (omega arith))
 
--- a part of what begins apart, and what begins apart behind it
+-- if `bytes` and `rest` each begin with a space or are empty, so is a prefix of `bytes` followed by `rest`
 part_apart : (count : ℕ) (bytes rest : List ℕ) → begins_apart bytes ≡ true → begins_apart rest ≡ true
     → begins_apart (take count bytes ++ rest) ≡ true
 part_apart zero [] rest first second = second
@@ -41,13 +41,13 @@ part_apart (suc count) (b ∷ bytes) rest first second = first
 
 -- ---- the changes
 
--- a change that is put in behind an item, and shown by a code that has a net
+-- the change `p` is inserted after an item, at a token boundary, and its code has a net
 pub record IsPutIn (nets : List Net) (code_of : ShownChange → List ℕ) (dump : List ℕ) (p : PutChange) : Type 0 where
   pub shown : IsShown nets p.change.text (code_of p.change)
   pub behind : EndsBehindItem (take p.place dump)
   pub detached : begins_apart (drop p.place dump) ≡ true
 
--- each of them, at places that don't go back
+-- each change is inserted so, at places from `from` on that don't go back
 abbrev pub ArePutIn : List Net → (ShownChange → List ℕ) → List ℕ → ℕ → List PutChange → Type 0
 ArePutIn nets code_of dump from [] = Unit {0}
 ArePutIn nets code_of dump from (p ∷ put) =
@@ -60,7 +60,7 @@ module _ (nets : List Net) (code_of : ShownChange → List ℕ) (dump : List ℕ
   abbrev with : ℕ → List PutChange → List ℕ
   with from put = with_changes text_of from put dump
 
-  -- what stands behind a place at which no token goes on begins apart
+  -- if the dump from `from` on begins with a space or is empty, so is it with the changes inserted
   with_apart : (put : List PutChange) (from : ℕ) → ArePutIn nets code_of dump from put
       → begins_apart (drop from dump) ≡ true → begins_apart (with from put) ≡ true
   unfolding with_changes
@@ -68,7 +68,7 @@ module _ (nets : List Net) (code_of : ShownChange → List ℕ) (dump : List ℕ
   with_apart (p ∷ put) from are detached =
       part_apart (p.place - from) (drop from dump) (text_of p.change ++ with p.place put) detached refl
 
-  -- what stands before a place, a change, and what follows
+  -- the text up to the first change, that change, and what follows it
   with_first : (p : PutChange) (put : List PutChange) (from : ℕ) → from ≤ p.place
       → take from dump ++ with from (p ∷ put) ≡ take p.place dump ++ (text_of p.change ++ with p.place put)
   unfolding with_changes
@@ -77,6 +77,7 @@ module _ (nets : List Net) (code_of : ShownChange → List ℕ) (dump : List ℕ
       (text_of p.change ++ with p.place put))
       ∙ ap (λ (front : List ℕ). front ++ (text_of p.change ++ with p.place put)) (sym (take_both dump from p.place le))
 
+  -- with the changes inserted the dump has the same instants, and its definitions the same items
   pub instants_same : (put : List PutChange) (from : ℕ) → ArePutIn nets code_of dump from put
       → (instants_of_text nets (take from dump ++ with from put) ≡ instants_of_text nets dump)
       × (items_of_text (take from dump ++ with from put) ≡ items_of_text dump)

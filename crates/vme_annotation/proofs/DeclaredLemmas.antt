@@ -1,4 +1,4 @@
--- What the declarations that are put into a dump declare.
+-- What the declarations that are inserted into a dump declare.
 use Rattle.std.proofs.Common.{◌≡◌, ℕ, List, [], ◌∷◌, ◌++◌, None, Ok, true, false}
 use Rattle.std.proofs.Common.{refl, ap, ◌∙◌, length, append_assoc}
 use Rattle.std.specs.Prelude.{codes, map}
@@ -10,7 +10,7 @@ use Rattle.vcd_read.specs.Header.{is_code, is_end, net_of, variable_in, whole}
 use Rattle.vcd_places.proofs.PutInLemmas.{behind_items, on_line}
 use Rattle.vme_annotation.specs.Annotated.{declared_words}
 
--- ---- the nets with those that are declared
+-- ---- the nets with the declared ones added
 
 abbrev pub net_one : List ℕ → Net
 net_one code = record { code = code; size = 1 }
@@ -29,7 +29,7 @@ nets_4 c0 c1 c2 c3 nets = nets_3 c0 c1 c2 nets ++ net_one c3 ∷ []
 
 -- ---- the sections
 
--- the section of a variable of this code and this name
+-- the section that declares a variable with this code and this name
 abbrev pub var_section : ℕ → List ℕ → List ℕ → HeaderItem
 var_section line code name = whole (record {
   line = line;
@@ -41,7 +41,7 @@ module _ (scope c0 c1 c2 c3 : List ℕ) where
   abbrev pub four : List (List ℕ)
   four = c0 ∷ c1 ∷ c2 ∷ c3 ∷ []
 
-  -- the sections that are put in
+  -- the six sections that are inserted
   abbrev pub six : ℕ → List HeaderItem
   six line =
       whole (record { line = line; keyword = codes "$scope"; words = codes "module" ∷ scope ∷ [] })
@@ -49,7 +49,7 @@ module _ (scope c0 c1 c2 c3 : List ℕ) where
       ∷ var_section line c2 (codes "transfer") ∷ var_section line c3 (codes "verdict")
       ∷ whole (record { line = line; keyword = codes "$upscope"; words = [] }) ∷ []
 
-  -- the words are these sections
+  -- the words of the declarations are read as the six sections
   pub header_declared : (line : ℕ) (more : List Token) → is_end scope ≡ false → is_end c0 ≡ false → is_end c1 ≡ false
       → is_end c2 ≡ false → is_end c3 ≡ false
       → header_from between (map (on_line line) (declared_words scope four) ++ more)
@@ -57,11 +57,11 @@ module _ (scope c0 c1 c2 c3 : List ℕ) where
   unfolding header_from
   header_declared line more s n0 n1 n2 n3 = rw (s, n0, n1, n2, n3) refl
 
-  -- a variable of one bit, in the scope that is put in
+  -- a variable of one bit, in the inserted scope
   abbrev pub shown_in : Declared (List Variable) → ℕ → List ℕ → Variable
   shown_in d net name = variable_in ((scope ++ []) ∷ d.scopes) net 1 (record { name = name; index = None })
 
-  -- the variables that they declare
+  -- the four variables that the sections declare
   abbrev pub four_in : Declared (List Variable) → List Variable
   four_in d =
       shown_in d (length d.nets) (codes "tenure") ∷ shown_in d (length (nets_1 c0 d.nets)) (codes "cycle")
@@ -69,7 +69,7 @@ module _ (scope c0 c1 c2 c3 : List ℕ) where
       ∷ shown_in d (length (nets_3 c0 c1 c2 d.nets)) (codes "verdict")
       ∷ []
 
-  -- what is declared with them
+  -- what is declared after the six sections
   abbrev pub behind_six : Declared (List Variable) → Declared (List Variable)
   behind_six d = record { scopes = d.scopes; nets = nets_4 c0 c1 c2 c3 d.nets; variables = d.variables ++ four_in d }
 

@@ -24,7 +24,7 @@ any_of : (f : List ℕ → Bool) (ps : List (List ℕ)) → list_any f (drop 1 p
 any_of f [] any = any
 any_of f (p ∷ ps) any = or_true (f p) (list_any f ps) any
 
--- some part of what stands behind a dot
+-- if a part of `rest` satisfies `f`, so does a part, other than the first, of `front`, a dot and `rest`
 some_behind : (f : List ℕ → Bool) (front rest : List ℕ) → list_any f (parts rest) ≡ true
     → list_any f (drop 1 (parts (front ++ 46 ∷ rest))) ≡ true
 some_behind f [] rest some = ap (λ (ps : List (List ℕ)). list_any f (drop 1 ps))
@@ -44,7 +44,7 @@ some_behind f (b ∷ front) rest some = go (is_dot b) refl (some_behind f front 
         (slice_split-cons_no is_dot b (front ++ 46 ∷ rest) is)
         ∙ first_only (parts (front ++ 46 ∷ rest)) later
 
--- a scope of this name, with a name in it, where what is before ends
+-- the parts of a scope's name, a dot and `name` are the scope's name and the parts of `name`
 first_part : (scope name : List ℕ) → All (λ b. is_dot b ≡ false) scope
     → parts (scope ++ 46 ∷ name) ≡ scope ∷ parts name
 first_part scope name none = slice_split_at is_dot scope 46 name none refl
@@ -66,7 +66,7 @@ module _ (first : ℕ) (others : List ℕ) (undotted : All (λ b. is_dot b ≡ f
   abbrev inside : List (List ℕ) → List (List ℕ)
   inside outer = outer ++ scope ∷ (n ∷ name) ∷ []
 
-  -- the scope alone
+  -- the path of a name in the scope alone has the scope's name
   innermost : has_scope (joined_by_dots (scope ∷ (n ∷ name) ∷ [])) ≡ true
   innermost =
       ap has_scope (joined_behind first others ((n ∷ name) ∷ []) n (name ++ []) refl)
@@ -74,7 +74,7 @@ module _ (first : ℕ) (others : List ℕ) (undotted : All (λ b. is_dot b ≡ f
       ∙ ap (λ (test : Bool). test || list_any (λ part. bytes_eq part scope) (parts (n ∷ name ++ [])))
       ((bytes_eq-Decides scope scope).1 refl)
 
-  -- a scope around it
+  -- if a path has the scope's name, so has the path with one more scope around it
   around : (b : ℕ) (m : List ℕ) (names : List (List ℕ)) (path : List ℕ) → joined_by_dots names ≡ path
       → has_scope path ≡ true → has_scope (joined_by_dots ((b ∷ m) ∷ names)) ≡ true
   around b m names [] e has = absurd (true≢false (sym has))
@@ -91,7 +91,7 @@ module _ (first : ℕ) (others : List ℕ) (undotted : All (λ b. is_dot b ≡ f
 
 -- ---- paths that lack a scope
 
--- variables whose paths lack a part lack a path that has it
+-- variables that lack `part` in their paths lack each path that has it
 pub lacks_path : (part path : List ℕ) (variables : List Variable)
     → list_any (λ p. bytes_eq p part) (parts path) ≡ true → list_any (has_part part) variables ≡ false
     → list_any (has_path path) variables ≡ false

@@ -1,4 +1,5 @@
--- A dump with declarations before the end of its definitions, and strings in its body: the dump, with the variables.
+-- A dump with further declarations before the end of its definitions, and strings in its body: it is read as the dump
+-- with further variables.
 use Rattle.std.proofs.Common.{◌≡◌, ℕ, List, [], ◌∷◌, ◌++◌, Option, Some, None, Result, Ok, Err, true, false, refl, sym}
 use Rattle.std.proofs.Common.{ap}
 use Rattle.std.proofs.Common.{◌∙◌, Bool}
@@ -36,7 +37,7 @@ by_end : (section : Section) (t : Token) (ts : List Token) → ends_definitions 
 by_end section t ts is body true rest ends = rw is refl
 by_end section t ts is body false rest ends = rest ends
 
--- in the section that ends the definitions nothing is declared
+-- the section that ends the definitions declares nothing
 pub end_declares : (ts : List Token) (section : Section) → ends_definitions section ≡ true
     → (body : List Token) → (header_from (inside section) ts).body ≡ Some body
     → (header_from (inside section) ts).items ≡ []
@@ -45,7 +46,7 @@ end_declares [] section is body ends = absurd cc
 end_declares (t ∷ ts) section is body ends =
     by_end section t ts is body (is_end t.bytes) (end_declares ts (with_word section t.bytes) is body) ends
 
--- what a dump is, by its definitions and its body
+-- the contents of a dump, from its definitions and its body
 dump_by : (text : List ℕ) (declared : Declared (List Variable)) (body : List Token) (instants : List Instant)
     → declare_all appended (nothing_declared []) (header_from between (tokens text)).items ≡ Ok declared
     → (header_from between (tokens text)).body ≡ Some body
@@ -61,7 +62,7 @@ dump_by text declared body instants declares ends comes =
     ∙ ap (λ (r : Result (List Instant) VcdFault). r >>= λ instants.
     Ok (record { variables = declared.variables; instants = instants })) comes
 
--- and the other way round
+-- a text with the contents `contents` has such definitions and such a body
 pub record IsDump (text : List ℕ) (contents : Contents) : Type 0 where
   pub declared : Declared (List Variable)
   pub body : List Token
@@ -70,7 +71,7 @@ pub record IsDump (text : List ℕ) (contents : Contents) : Type 0 where
   pub comes : instants_in declared.nets (body_from ready body) ≡ Ok contents.instants
   pub variables : contents.variables ≡ declared.variables
 
--- of what is read without a fault each part is
+-- if a chain of two results is `Ok`, both are
 pub both_read : {A B E : Type 0} (r : Result A E) (f : A → Result B E) (b : B) → (r >>= f) ≡ Ok b
     → (a : A) × (r ≡ Ok a) × (f a ≡ Ok b)
 both_read (Ok a) f b e = (a, refl, e)
@@ -111,7 +112,8 @@ dump_is text contents e =
       variables = sym (ap (λ (found : Contents). found.variables) (same_contents made contents third.2));
     }
 
--- with more items behind those of the dump, the same end of the definitions, and a body that comes to the same
+-- a text with the items of the dump and then `more`, and a body of the same instants, is read as the dump with the
+-- variables of `more`
 pub same_dump : (dump text : List ℕ) (contents : Contents) (is : IsDump dump contents) (more : List HeaderItem)
     (declared : Declared (List Variable)) (body : List Token)
     → (header_from between (tokens text)).items ≡ (header_from between (tokens dump)).items ++ more

@@ -1,4 +1,4 @@
--- What the variables show are words: no byte of theirs is a space.
+-- The texts that the variables show are words: none of their bytes is a space.
 use Rattle.std.proofs.Common.{◌≡◌, ℕ, zero, suc, ◌+◌, ◌-◌, ◌≤◌, ◌/◌, ◌%◌, Bool, true, false, cond, eqb, List, [], ◌∷◌}
 use Rattle.std.proofs.Common.{◌++◌}
 use Rattle.std.proofs.Common.{Option, Some, None, refl, sym, ap, ◌∙◌, arith, true≢false}
@@ -246,7 +246,7 @@ rows_words (row ∷ rows) =
 all_words : (rows : List Row) → are_words (all_changes rows) ≡ true
 all_words rows = list_all-append shows_word opening_changes (flat_map row_changes rows) ∙ rows_words rows
 
--- ---- changes that are those of rows at each instant
+-- ---- changes that are, at each instant, those of rows
 
 both_true : (a b : Bool) → (a && b) ≡ true → (a ≡ true) × (b ≡ true)
 both_true true b e = (refl, e)
@@ -291,7 +291,7 @@ from_each (c ∷ changes) each =
         go true words = (both_true (shows_word c) (are_words (at instant changes)) words).1
         go false words = words
 
--- the changes of some rows are words, in whatever order the instants come
+-- if `changes` are, at each instant, those of `rows`, their texts are words
 pub shown_words : (rows : List Row) (changes : List ShownChange)
     → ((instant : ℕ) → filter (λ (c : ShownChange). eqb c.instant instant) changes ≡ changes_at rows instant)
     → list_all shows_word changes ≡ true

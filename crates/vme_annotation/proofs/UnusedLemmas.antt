@@ -1,4 +1,4 @@
--- A code that is no token of the definitions is no variable's.
+-- A code that is no token of the definitions isn't the code of a variable.
 use Rattle.std.proofs.Common.{◌≡◌, ℕ, Bool, true, false, cond, eqb, List, [], ◌∷◌, ◌++◌, Option, Some, None, Result, Ok}
 use Rattle.std.proofs.Common.{Err}
 use Rattle.std.proofs.Common.{refl, sym, ap, ◌∙◌, get_or, take, true≢false}
@@ -53,7 +53,7 @@ module _ (code : List ℕ) where
   neither true b first second = absurd (true≢false first)
   neither false b first second = second
 
-  -- ---- the items have no word that is no token
+  -- ---- no item has the code as a word, since it is no token
 
   abbrev Lack : Header → Type 0
   Lack header = list_any item_names header.items ≡ false
@@ -110,7 +110,7 @@ module _ (code : List ℕ) where
       by_end section t ts (is_end t.bytes) place (items_lack ts between refl parts.1)
       (items_lack ts (inside (with_word section t.bytes)) (word_lacks section t.bytes place parts.0) parts.1)
 
-  -- ---- nor has any net
+  -- ---- no net has the code
 
   joined_lacks : (nets : List Net) (other : List ℕ) (size : ℕ) (found : Option ℕ) (joined : JoinedNets)
       → net_of nets other ≡ found → bytes_eq other code ≡ false → net_of nets code ≡ None

@@ -1,4 +1,4 @@
--- An annotated dump: the dump, with four variables more.
+-- An annotated dump is read as the dump, with four more variables.
 use Rattle.std.proofs.Common.{◌≡◌, ℕ, ◌<◌, Bool, true, false, eqb, List, [], ◌∷◌, ◌++◌}
 use Rattle.std.proofs.Common.{Some, refl, sym, ap, subst, ◌∙◌, arith, length}
 use Rattle.std.proofs.Common.{append_assoc}
@@ -43,7 +43,7 @@ negated false e = refl
 
 -- ---- the end of the definitions
 
--- a text that begins with the section that ends the definitions: nothing is declared in it
+-- a text that begins with the section that ends the definitions declares nothing
 pub end_items : (line : ℕ) (rest : List ℕ) → begins_with_token (codes "$enddefinitions") rest ≡ true
     → (body : List Token)
     → (header_from between (tokens_from line rest)).body ≡ Some body
@@ -72,7 +72,7 @@ cancel {A = A} (x ∷ xs) ys e = cancel xs ys (ap rest e)
     rest [] = []
     rest (a ∷ others) = others
 
--- ---- a text before the end of whose definitions something stands
+-- ---- a text after `front`, which ends between two sections of the definitions
 
 module _ (front : List ℕ) (ends : ends_apart front ≡ true) (goes : is_between_sections front ≡ true) where
   abbrev line : ℕ
@@ -87,13 +87,14 @@ module _ (front : List ℕ) (ends : ends_apart front ≡ true) (goes : is_betwee
       let parts = both_true (not (is_some header.body)) (not (list_any is_unfinished header.items)) goes in
       (negated (is_some header.body) parts.0, negated (list_any is_unfinished header.items) parts.1)
 
+  -- the items of `front` followed by `rest` are those of `front` and then those of `rest`
   pub header_with : (rest : List ℕ) → header_from between (tokens (front ++ rest))
       ≡ behind_items (items_of_text front) (behind rest)
   header_with rest =
       ap (header_from between) (tokens_spaced front rest 1 ends)
       ∙ header_split (tokens_from line rest) (tokens front) between go_on
 
--- a dump has no items behind the start of the section that ends its definitions
+-- all items of a dump are before `start`, where the section that ends its definitions begins
 pub items_before : (dump : List ℕ) (start : ℕ) → ends_definitions_at dump start ≡ true → (body : List Token)
     → body_in dump ≡ Some body → items_of_text dump ≡ items_of_text (take start dump)
 items_before dump start starts body ends =
@@ -144,13 +145,14 @@ module _ (underscores : ℕ) where
       ap (λ (p : List ℕ). has_part scope (record v { path = p })) path
       ∙ scope_in_path 118 (codes "mecheck" ++ replicate underscores 95) scope_undotted n name (reverse scopes)
 
-  -- so no variable that lacks the scope has that path
+  -- no variable that lacks the scope has the path of a name in it
   apart_from : (n : ℕ) (name : List ℕ) (scopes : List (List ℕ)) (v : Variable) (variables : List Variable)
       → v.path ≡ path_of ((scope ++ []) ∷ scopes) (n ∷ name) → has_name variables underscores ≡ false
       → list_any (has_path v.path) variables ≡ false
   apart_from n name scopes v variables is lacks =
       lacks_path scope v.path variables (path_has n name scopes 0 v is) lacks
 
+  -- no variable of the dump has the path of one of the four variables
   pub four_apart : (c0 c1 c2 c3 : List ℕ) (d : Declared (List Variable)) → has_name d.variables underscores ≡ false
       → AreApart d.variables (four_in scope c0 c1 c2 c3 d)
   four_apart c0 c1 c2 c3 d lacks = (
@@ -185,7 +187,7 @@ code_word (b ∷ code) is =
     let parts = both_true (is_code_byte b) (is_code code) is in
     and_true (not (is_space b)) (is_word code) (code_byte b parts.0) (code_word code parts.1)
 
--- what has a byte has a first one
+-- a code that isn't empty has a first byte
 pub some_of : (code : List ℕ) → 0 < length code → (b : ℕ) × (k : List ℕ) × (code ≡ b ∷ k)
 some_of [] some = absurd (omega (arith, some))
 some_of (b ∷ k) some = (b, k, refl)
@@ -198,7 +200,7 @@ differ a b below = go (bytes_eq a b) refl
     go false is = refl
     go true is = absurd (omega (arith, below, ap code_number ((bytes_eq-Decides a b).0 is)))
 
--- the words that declare a variable, and further ones behind them
+-- the words that declare a variable, followed by `rest`
 abbrev with_net : List ℕ → List ℕ → List (List ℕ) → List (List ℕ)
 with_net code name rest =
     codes "$var" ∷ codes "string" ∷ codes "1" ∷ code ∷ name ∷ codes "$end" ∷ rest

@@ -1,5 +1,5 @@
--- An annotated dump: its text, byte for byte, with variables of its own in it, and their changes at the times of the
--- rows.
+-- An annotated dump: the text of a dump, byte for byte, with declarations of added variables, and their changes at the
+-- times of the rows.
 use Rattle.std.specs.Prelude.{◌≡◌, ℕ, ◌≤◌, ◌==◌, max, true, List, [], ◌∷◌, ◌++◌, length, map, flat_map, filter, codes}
 use Rattle.std.specs.Prelude.{get_or, take, Ok}
 use Rattle.vcd_read.specs.Header.{appended, nothing_declared}
@@ -17,7 +17,7 @@ use Rattle.vme_annotation.specs.declared.shown_variable.ShownVariable.TheVariant
 
 -- ---- the variables
 
--- where a variable stands among the others
+-- the index of a variable among the others
 abbrev pub place_of : ShownVariable → ℕ
 place_of shown.Tenure = 0
 place_of shown.Cycle = 1
@@ -38,7 +38,7 @@ abbrev pub declaration : List (List ℕ) → ShownVariable → List (List ℕ)
 declaration own variable =
     codes "$var" ∷ codes "string" ∷ codes "1" ∷ code_of own variable ∷ name_of variable ∷ codes "$end" ∷ []
 
--- those of all, in a scope
+-- the words of the declarations of all variables, in a scope
 abbrev pub declared_words : List ℕ → List (List ℕ) → List (List ℕ)
 declared_words scope own =
     codes "$scope" ∷ codes "module" ∷ scope ∷ codes "$end" ∷ flat_map (declaration own) all_shown
@@ -47,7 +47,7 @@ declared_words scope own =
 abbrev pub with_space : List ℕ → List ℕ
 with_space word = word ++ 32 ∷ []
 
--- the declarations, with a space behind each word
+-- the declarations, with a space after each word
 abbrev pub declarations : List ℕ → List (List ℕ) → List ℕ
 declarations scope own = flat_map with_space (declared_words scope own)
 
@@ -57,11 +57,11 @@ declarations scope own = flat_map with_space (declared_words scope own)
 abbrev pub change_text : List (List ℕ) → ShownChange → List ℕ
 change_text own c = codes " s" ++ (c.text ++ (codes " " ++ code_of own c.variable))
 
--- the time at which an instant is shown: the opening, which has none, with the first step
+-- the time at which an instant is shown: the opening, which has no time, is shown with the first step
 abbrev pub shown_time : Trace → ℕ → ℕ
 shown_time t instant = time_at t (max instant 1)
 
--- each is put in where the dump has come to the time of its instant, and behind those before it
+-- each change is inserted where the dump has come to the time of its instant, and not before the one that precedes it
 abbrev pub ArePutAt : List ℕ → Trace → ℕ → List PutChange → Type 0
 ArePutAt dump t from [] = Unit {0}
 ArePutAt dump t from (p ∷ put) =
@@ -74,7 +74,7 @@ unfoldable pub annotated : List ℕ → ℕ → List ℕ → List (List ℕ) →
 annotated dump start scope own put =
     take start dump ++ (declarations scope own ++ with_changes (change_text own) start put dump)
 
--- the text is that of the dump, annotated with the listing of a recording
+-- `text` is the dump, annotated with the listing of the recording `t`
 pub record IsAnnotated (dump : List ℕ) (t : Trace) (text : List ℕ) : Type 0 where
   pub defines : Defined (List Variable)
   pub defines_are : header_of appended dump (nothing_declared []) (tokens dump) ≡ Ok defines

@@ -9,7 +9,7 @@ use Rattle.vcd_read.specs.declared.dump.Variable.{Variable}
 
 -- ---- the codes
 
--- a code that a variable may have, and none has: `$end` would end its section
+-- an identifier code that no net has; it isn't `$end`, which would end the section of the variable's declaration
 pub record IsFree (nets : List Net) (code : List ℕ) : Type 0 where
   pub some : 0 < length code
   pub is_one : is_code code ≡ true
@@ -23,17 +23,17 @@ pub record AreFree (nets : List Net) (own : List (List ℕ)) : Type 0 where
 
 -- ---- the scope
 
--- what it is named, with so many underscores
+-- the name of the scope: `vmecheck` and this many underscores
 abbrev pub scope_name : ℕ → List ℕ
 scope_name underscores = codes "vmecheck" ++ replicate underscores 95
 
--- a variable has this name, or a scope that it stands in
+-- `name` is the variable's own name, or that of a scope around it
 abbrev pub has_part : List ℕ → Variable → Bool
 has_part name v = list_any (λ part. bytes_eq part name) (slice_split (λ b. b == 46) v.path)
 
 abbrev pub has_name : List Variable → ℕ → Bool
 has_name variables underscores = list_any (has_part (scope_name underscores)) variables
 
--- no name of the dump is that of the scope
+-- no variable has the scope's name in its path
 abbrev pub IsFreeScope : List Variable → ℕ → Type 0
 IsFreeScope variables underscores = has_name variables underscores ≡ false

@@ -1,8 +1,8 @@
--- Changes put into a dump.
+-- Changes inserted into a dump.
 use Rattle.std.specs.Prelude.{ℕ, ◌-◌, List, [], ◌∷◌, ◌++◌, take, drop}
 use Rattle.vme_annotation.specs.Shown.{ShownChange}
 
--- a change, and behind how many bytes of the dump it is put in
+-- a change, and the number of bytes of the dump after which it is inserted
 pub record PutChange : Type 0 where
   pub place : ℕ
   pub change : ShownChange
@@ -10,7 +10,7 @@ pub record PutChange : Type 0 where
 abbrev pub change_of : PutChange → ShownChange
 change_of p = p.change
 
--- a dump from a place on, with the texts of these changes in it, whose places don't go back
+-- the dump from the place `from` on, with the texts of the changes inserted at their places, which don't go back
 unfoldable pub with_changes : (ShownChange → List ℕ) → ℕ → List PutChange → List ℕ → List ℕ
 with_changes text_of from [] dump = drop from dump
 with_changes text_of from (p ∷ put) dump =

@@ -1,4 +1,4 @@
--- What an annotated dump says.
+-- A binding makes the same recording of a dump and of the annotated dump.
 use Rattle.std.specs.Prelude.{◌≡◌, ℕ, List, Ok}
 use Rattle.vme_bind.specs.Binding.{BoundLines}
 use Rattle.vme_bind.specs.TextCapture.{recording_of_text}

@@ -1,4 +1,4 @@
--- What the variables of an annotated dump show: of each row of the listing its text, from the row's first instant on,
+-- What the variables of an annotated dump show: the text of each row of the listing from the row's first instant on,
 -- and a hyphen from its end on.
 use Rattle.std.specs.Prelude.{ℕ, ◌==◌, if◌then◌else◌, List, [], ◌∷◌, ◌++◌, filter, flat_map, map, codes, decimal}
 use Rattle.std.specs.Prelude.{Option, None, Some}
@@ -23,7 +23,7 @@ use Rattle.vme_listing.specs.declared.row.Row.TheVariants.{Verdict}
 use Rattle.vme_annotation.specs.declared.shown_variable.ShownVariable.{ShownVariable}
 use Rattle.vme_annotation.specs.declared.shown_variable.ShownVariable.TheVariants as shown
 
--- a variable comes to show a text
+-- from `instant` on `variable` shows `text`
 pub record ShownChange : Type 0 where
   pub instant : ℕ
   pub variable : ShownVariable
@@ -33,29 +33,29 @@ pub record ShownChange : Type 0 where
 abbrev pub all_shown : List ShownVariable
 all_shown = shown.Tenure ∷ shown.Cycle ∷ shown.Transfer ∷ shown.Verdict ∷ []
 
--- nothing goes on
+-- the text of a variable when nothing is in progress
 abbrev pub nothing : List ℕ
 nothing = codes "-"
 
 abbrev pub change_to : ℕ → List ℕ → ShownVariable → ShownChange
 change_to instant text variable = record { instant = instant; variable = variable; text = text }
 
--- what goes on ends, if it has an end
+-- from `end` on, if there is an end, the variable shows nothing
 abbrev pub ends : ShownVariable → Option ℕ → List ShownChange
 ends variable None = []
 ends variable (Some end) = change_to end nothing variable ∷ []
 
--- it begins, and ends
+-- the variable shows `text` from `start` on, and nothing from `end` on, if there is an end
 abbrev pub goes_on : ShownVariable → ℕ → List ℕ → Option ℕ → List ShownChange
 goes_on variable start text end = change_to start text variable ∷ ends variable end
 
--- all that goes on ends
+-- from `instant` on tenure, cycle and transfer show nothing
 abbrev pub all_end : ℕ → List ShownChange
 all_end instant = map (change_to instant nothing) (shown.Tenure ∷ shown.Cycle ∷ shown.Transfer ∷ [])
 
 -- ---- the texts
 
--- the address space of a code, by its highest address line
+-- the name of the address space of an address modifier code, by its highest address line
 abbrev pub space_text : ℕ → List ℕ
 space_text modifier =
     if highest_address modifier == 31 then codes "A32"
@@ -67,7 +67,7 @@ block_text class.S = []
 block_text class.I = []
 block_text class.F = []
 
--- by which request a bus is granted, and to which slot
+-- the slot that the bus is granted to, and the level of the request
 abbrev pub tenure_text : ℕ → ℕ → List ℕ
 tenure_text level slot = codes "slot" ++ decimal slot ++ codes "_BR" ++ decimal level
 
@@ -114,7 +114,7 @@ shown_text (Verdict outcome) = verdict_text outcome
 
 -- ---- the rows
 
--- nothing goes on behind a break
+-- at a break tenure, cycle and transfer end, and the verdict shows `text`
 abbrev pub break_changes : List ℕ → ℕ → List ShownChange
 break_changes text instant = all_end instant ++ change_to instant text shown.Verdict ∷ []
 
@@ -124,7 +124,7 @@ verdict_changes text NeverIdle = []
 verdict_changes text (Broken rule instant line) = break_changes text instant
 verdict_changes text (Unreadable rule instant line) = break_changes text instant
 
--- what comes of a row that shows this text
+-- the changes that a row makes, whose text is `text`
 abbrev pub changes_with : List ℕ → Row → List ShownChange
 changes_with text (Start instant) = []
 changes_with text (Reset instant) = all_end instant
@@ -140,14 +140,14 @@ changes_with text (Verdict outcome) = verdict_changes text outcome
 unfoldable pub row_changes : Row → List ShownChange
 row_changes row = changes_with (shown_text row) row
 
--- at the opening nothing goes on
+-- at the opening each variable shows nothing
 abbrev pub opening_changes : List ShownChange
 opening_changes = map (change_to 0 nothing) all_shown
 
--- all changes of rows, those of a row behind those of the rows before it
+-- all changes: those of the opening, then those of each row, in the order of the rows
 abbrev pub all_changes : List Row → List ShownChange
 all_changes rows = opening_changes ++ flat_map row_changes rows
 
--- those at an instant
+-- the changes at an instant
 abbrev pub changes_at : List Row → ℕ → List ShownChange
 changes_at rows instant = filter (λ c. c.instant == instant) (all_changes rows)

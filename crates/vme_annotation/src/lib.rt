@@ -4,12 +4,12 @@
 //! # Parts
 //!
 //! - `shown_variable`: [`ShownVariable`], the variables that are added.
-//! - `same`: [`annotated_says_the_same`], what stays.
+//! - `same`: [`annotated_says_the_same`], the law that a binding makes the same recording of it.
 //!
 //! # What is proved
 //!
 //! - Any binding that makes a recording of a dump makes the same of the annotated dump
-//!   ([`annotated_says_the_same`]): what is put in is read past, and no binding names it.
+//!   ([`annotated_says_the_same`]): what is inserted adds no instant, and no binding names it.
 //!
 //! # What isn't proved
 //!

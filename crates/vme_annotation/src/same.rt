@@ -1,4 +1,4 @@
-//! What an annotated dump says.
+//! A binding makes the same recording of a dump and of the annotated dump.
 
 ghost use Rattle.vme_annotation.specs.Same.{SaysTheSame};
 

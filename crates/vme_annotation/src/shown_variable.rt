@@ -1,9 +1,9 @@
-//! The variables of an annotated dump.
+//! The variables that are added to a dump.
 
 ghost use Rattle.std.specs.Prelude.{◌≡◌, ◌≤◌};
 ghost use Rattle.vme_annotation.specs.Annotated.{name_of, place_of};
 
-/// A variable of an annotated dump.
+/// A variable that is added to a dump.
 #[derive(Clone, Copy, Debug, PartialEq, Eq)]
 pub enum ShownVariable {
     /// The tenure of the bus.
@@ -17,7 +17,7 @@ pub enum ShownVariable {
 }
 
 impl ShownVariable {
-    /// Its place among the variables.
+    /// Its index among the variables.
     pub fn place(self) -> usize
         ensures place { result ≡ place_of self }
         ensures below { result ≤ 3 }

@@ -60,7 +60,8 @@ uncut x y (suc (suc k)) x_is y_is first =
     let high = first.0.high in
     omega arith
 
--- an allowance whose text is cut at a place has a line, and the names of its rule and line stand around it
+-- the allowance `a` has a line; the name of its rule is what is before the place `end` in `text`, and that of its line
+-- what is after it
 pub record IsCut (text : List ℕ) (end : ℕ) (a : Allowance) : Type 0 where
   pub line : ℕ
   pub line_is : a.line ≡ Some line
@@ -92,7 +93,7 @@ is_cut text end a small is first = go a.line refl
           behind = rw (at, whole) (sym rest);
         }
 
--- and one whose text isn't cut has none
+-- an allowance whose text has no `=` has no line
 pub is_whole : (text : List ℕ) (a : Allowance) → allowance_text a ≡ text → IsFirstByte (is_byte 61) text None
     → (a.line ≡ None) × (rule_name a.rule ≡ text)
 is_whole text a is nowhere = go a.line refl
@@ -106,7 +107,7 @@ is_whole text a is nowhere = go a.line refl
         let whole : text ≡ two.x ∷ two.y ∷ 61 ∷ line_name line = sym is ∙ rw (some, two.name) refl in
         absurd ((rw whole at nowhere) 2 (omega arith) (omega arith) refl)
 
--- the text is what stands around a `=`
+-- a text with its first `=` at `end` is what is before it, `=`, and what is after it
 pub around : (text : List ℕ) (end : ℕ) → IsFirstByte (is_byte 61) text (Some end)
     → take end text ++ 61 ∷ take (length text - (end + 1)) (drop (end + 1) text) ≡ text
 around text end first =

@@ -1,4 +1,4 @@
--- How a check by a skew ends.
+-- How `check` with a skew ends.
 use Rattle.std.proofs.Common.{◌≡◌, ◌≤◌, ◌↔◌, ◌∙◌, ℕ, suc, List, refl, ap, subst}
 use Rattle.std.specs.Prelude.{Option, Some, Result, Ok, Err}
 use Rattle.vme_trace.specs.Streams.{Reading, Writing}
@@ -36,7 +36,7 @@ module _ (skew : ℕ) where
       (settled_answer_of skew (Some b) (Some d) block)
       (λ found. given_is answer_by refl found (settled_judgement skew (Some b) (Some d) block))
 
-  -- without a skew it is a check of what the binding makes of the dump
+  -- with a skew of 0 `check` judges what the binding makes of the dump
   pub checks_unsettled : skew ≡ 0 → (binding dump : Reading × Reading) (block : ℕ) (out err : Writing × Writing)
       (status : ℕ) → ChecksSettled skew binding dump block out err status
       → Checks binding dump block out err status

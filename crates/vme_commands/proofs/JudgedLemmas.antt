@@ -1,4 +1,4 @@
--- What is judged of a recording, and why it isn't.
+-- Whether a recording is judged, and why it isn't.
 use Rattle.std.proofs.Common.{◌≡◌, ◌<◌, ◌≤◌, ◌↔◌, ℕ, Bool, true, false, List, length, refl, sym, ap, ◌∙◌, inl, inr}
 use Rattle.std.specs.Prelude.{Option, Result, Ok, Err, nat_lt, if◌then◌else◌}
 use Rattle.std.proofs.lemmas.Bool.{cases_lt, le-ltb, lt-ltb}
@@ -22,7 +22,7 @@ at_most most n not_over = elim (cases_lt most n) [ inl over ↦ absurd (not_over
 module _ {X : Type 0} (t : Trace) (block : ℕ) (r : Result X NoVerdict)
     (long : (r ≡ Err TooManySteps) ↔ (capture_limit < length t.steps))
     (many : (r ≡ Err TooManyBlocks) ↔ ((length t.steps ≤ capture_limit) × (4096 < block_count block t))) where
-  -- a recording that is judged
+  -- if there is a result of judging, the recording is within the limits
   pub judged-fits : (x : X) → r ≡ Ok x → limited_in_blocks block t ≡ Ok t
   judged-fits x is =
       let short : length t.steps ≤ capture_limit = at_most capture_limit (length t.steps)
@@ -31,7 +31,7 @@ module _ {X : Type 0} (t : Trace) (block : ℕ) (r : Result X NoVerdict)
       (λ over. let no = many.1 (short, over) in absurd (cc)) in
       rw (le-ltb capture_limit (length t.steps) short) (rw (le-ltb 4096 (block_count block t) few) refl)
 
-  -- and why one isn't
+  -- if there is no result of judging, the refusal is the one by the limits of the recording, or `Memory`
   pub judged-refused : (why : NoVerdict) → r ≡ Err why → AnswerGives (λ (t : Trace). t) (Err (judging_refusal why))
       (limited_in_blocks block t)
   judged-refused TooManySteps is = rw (lt-ltb capture_limit (length t.steps) (long.0 is)) refl

@@ -1,4 +1,4 @@
--- How a listing ends, and what the steps of listing give.
+-- How `list` ends, and what its steps give.
 use Rattle.std.proofs.Common.{◌≡◌, ◌≤◌, ◌↔◌, ℕ, suc, Bool, true, false, List, [], ◌∷◌, ◌++◌, ◌-◌, length, take, refl}
 use Rattle.std.proofs.Common.{ap, subst, ◌∙◌, arith}
 use Rattle.std.specs.Io.KnownBytes.{Appends}
@@ -110,14 +110,14 @@ given_refusal r recording given = given
 
 -- ---- what was written
 
--- of a text of which a front was taken, the first bytes were
+-- if a prefix of `text` was taken, it is `take n text` for some n
 pub front_taken : (old new : Option (List ℕ)) (text : List ℕ) → AppendsFront old new text → (n : ℕ) × Appends old new
     (take n text)
 front_taken old new text took =
     let (front, rest, split, appended) = took in
     (length front, subst (λ (bytes : List ℕ). Appends old new bytes) (front_is text front rest split) appended)
 
--- what was written of a listing was written of what is equal to it
+-- if the text of a listing was written, so was that of an equal listing
 pub whole_written : (old new : Option (List ℕ)) (listing same : Listed) → listing ≡ same → Appends old new
     (text_of listing) → Appends old new (text_of same)
 whole_written old new listing same is took = subst (λ (l : Listed). Appends old new (text_of l)) is took

@@ -1,4 +1,4 @@
--- What settles of what a binding makes of a dump, and that by 0 all of it stays.
+-- The deskewed recording of a binding and a dump. Deskewing by 0 changes nothing.
 use Rattle.std.proofs.Common.{◌≡◌, ◌≤◌, ℕ, Bool, true, false, List, length, refl, sym, ap, subst, ◌∙◌, arith}
 use Rattle.std.proofs.lemmas.Bool.Decides.{nat_tests}
 use Rattle.std.specs.Prelude.{Option, Some, None, Result, Ok, Err, nat_le, nat_lt, if◌then◌else◌}
@@ -30,7 +30,7 @@ use Rattle.vme_commands.specs.Judged.{in_blocks}
 use Rattle.vme_commands.specs.Listings.{recording_in_blocks}
 use Rattle.vme_commands.specs.Settled.{settled_judgement, settled_read, settled_recording}
 
--- ---- by 0 all stays
+-- ---- deskewing by 0 changes nothing
 
 -- the contents, if there are any, are those of a text
 abbrev OfText : Result Contents Refusal → Type 0
@@ -68,7 +68,7 @@ captured-stays bound (Ok contents) of =
     (capture-stays bound of.0 contents of.1)
 captured-stays bound (Err r) of = refl
 
--- what a binding makes of a dump
+-- deskewing by 0 doesn't change what a binding makes of a dump
 pub dump-unsettled : (skew : ℕ) → skew ≡ 0 → (bound : BoundLines) (d : Option (List ℕ))
     → settled_or skew (capture_by bound (dump_read d)) ≡ capture_by bound (dump_read d)
 dump-unsettled skew none bound d =
@@ -95,7 +95,7 @@ pub recording-stays : (b d : Option (List ℕ)) (block : ℕ)
 unfolding settled_recording recording_in_blocks
 recording-stays b d block = ap (λ (r : Result Trace Refusal). r >>= in_blocks block) (read-stays b d)
 
--- ---- the same, of a skew that is 0
+-- ---- the same facts for a skew that equals 0
 
 pub judgement-unsettled : (skew : ℕ) → skew ≡ 0 → (b d : Option (List ℕ)) (block : ℕ)
     → settled_judgement skew b d block ≡ judgement_of b d block
@@ -107,7 +107,7 @@ pub recording-unsettled : (skew : ℕ) → skew ≡ 0 → (b d : Option (List �
 recording-unsettled skew none b d block =
     ap (λ (s : ℕ). settled_recording s b d block) none ∙ recording-stays b d block
 
--- ---- what is given of what settles
+-- ---- results for the deskewed recording
 
 abbrev GivesTrace : Result Trace Refusal → Result Trace Refusal → Type 0
 GivesTrace found read = AnswerGives (λ (t : Trace). t) found read
@@ -122,7 +122,7 @@ pub read-refused : (skew : ℕ) (b d : Option (List ℕ)) (r : Refusal) → Give
 unfolding settled_read
 read-refused skew b d r is = settled-refused skew (capture_read b d) r is
 
--- ---- and what is judged and listed of that
+-- ---- the verdict on the deskewed recording, and its listing
 
 pub judgement-given : (skew : ℕ) (b d : Option (List ℕ)) (block : ℕ) (t : Trace) → settled_read skew b d ≡ Ok t
     → settled_judgement skew b d block ≡ verdict_in_blocks block t
@@ -145,9 +145,9 @@ pub recording-refused : (skew : ℕ) (b d : Option (List ℕ)) (block : ℕ) (r 
 unfolding settled_recording
 recording-refused skew b d block r is = passes_through r (settled_read skew b d) (in_blocks block) is
 
--- ---- what settles as it is judged
+-- ---- a recording that is deskewed as it is judged
 
--- a recording that isn't too long settles
+-- a recording that isn't too long is deskewed
 pub settled-fits : (skew : ℕ) (t made : Trace) → nat_lt capture_limit (length t.steps) ≡ false → made ≡ settled skew t
     → settled_or skew (or_bad_binding (limited t)) ≡ Ok made
 settled-fits skew t made within is = rw within (ap Ok (sym is))
@@ -155,14 +155,14 @@ settled-fits skew t made within is = rw within (ap Ok (sym is))
 short-by : (n m : ℕ) → nat_lt capture_limit n ≡ false → m ≤ n → m ≤ capture_limit
 short-by n m within few = grind (arith, nat_tests)
 
--- and has no more steps than before
+-- if a recording isn't too long, neither is the deskewed one
 pub settled-short : (skew : ℕ) (t made : Trace) → nat_lt capture_limit (length t.steps) ≡ false → made ≡ settled skew t
     → length made.steps ≤ capture_limit
 settled-short skew t made within is =
     short-by (length t.steps) (length made.steps) within
     (subst (λ (u : Trace). length u.steps ≤ length t.steps) (sym is) (no_longer skew t))
 
--- one that is too long is refused before it settles
+-- a recording that is too long is refused before it is deskewed
 pub settled-long : (skew : ℕ) (t : Trace) → nat_lt capture_limit (length t.steps) ≡ true
     → settled_or skew (or_bad_binding (limited t)) ≡ Err (judging_refusal NoVerdict.TooManySteps)
 settled-long skew t long = rw long refl

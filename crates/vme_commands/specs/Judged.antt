@@ -10,14 +10,14 @@ use Rattle.vme_stream.specs.declared.refusal.Refusal.TheVariants.{TooManyBlocks}
 use Rattle.vme_stream.specs.Answers.{or_bad_binding}
 use Rattle.vme_bind.specs.Capture.{limited}
 
--- a recording, if it is cut into at most 4,096 blocks of so many steps
+-- a recording, if it needs at most 4,096 blocks of `block` steps
 abbrev pub in_blocks : ℕ → Trace → Result Trace Refusal
 in_blocks block t = if nat_lt 4096 (block_count block t) then Err TooManyBlocks else Ok t
 
--- a recording that is judged, or why it isn't: it is too long, or fills too many blocks of this size
+-- a recording that is judged, or why it isn't: it is too long, or needs too many blocks of `block` steps
 abbrev pub limited_in_blocks : ℕ → Trace → Result Trace Refusal
 limited_in_blocks block t = or_bad_binding (limited t) >>= in_blocks block
 
--- the verdict on it
+-- the verdict on such a recording
 abbrev pub judged_in_blocks : ℕ → Trace → Result Verdict Refusal
 judged_in_blocks block t = limited_in_blocks block t >>= λ t. Ok (verdict_by rules_in_force t)

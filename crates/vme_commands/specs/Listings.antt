@@ -26,15 +26,14 @@ use Rattle.vme_listing.specs.declared.row.Row.TheVariants.{Start, Reset, OpenTen
 use Rattle.vme_listing.specs.declared.row.Row.TheVariants.{FreeCycle, InterruptCycle, Transfer, PendingTransfer}
 use Rattle.vme_listing.specs.declared.row.Row.TheVariants.{Verdict}
 
--- the recording that a binding makes of a dump, if it is cut into at most 4,096 blocks of so many steps, or the first
--- reason that there is none
+-- the recording that a binding makes of a dump, if it needs at most 4,096 blocks of `block` steps, or the first reason
+-- that there is none
 unfoldable pub recording_in_blocks : Option (List ℕ) → Option (List ℕ) → ℕ → Result Trace Refusal
 recording_in_blocks binding dump block = do
   t ← capture_read binding dump
   in_blocks block t
 
--- The listing is the recording's, or the refusal is the reason that there is no recording; or memory ran out, and
--- nothing is said.
+-- the result is the listing of the given recording, or the same refusal as it, or `Memory`
 abbrev pub GivesListing : Result Listed Refusal → Result Trace Refusal → Type 0
 GivesListing (Ok listing) recording = (t : Trace) × (recording ≡ Ok t) × (listing ≡ listing_of t)
 GivesListing (Err Memory) recording = Unit {0}
@@ -48,7 +47,7 @@ verdict_row_status NeverIdle = 2
 verdict_row_status (Broken rule instant line) = 1
 verdict_row_status (Unreadable rule instant line) = 2
 
--- a listing whose last row is no verdict has the status of a bus that is never idle
+-- a listing whose last row isn't a verdict has the status of a bus that is never idle
 abbrev pub row_status : Row → ℕ
 row_status (Start instant) = 2
 row_status (Reset instant) = 2
@@ -75,24 +74,25 @@ listing_answer_by (Ok t) =
     record { out = text_of (listing_of t); error = []; status = verdict_status (verdict_by rules_in_force t) }
 listing_answer_by (Err refusal) = refusal_answer refusal
 
--- the answer to a binding and a dump that are to be listed by a skew: the bytes of each, or none where it can't be read
+-- the answer to a binding and a dump, to be deskewed by `skew` and listed; each is given by its bytes, or none if it
+-- can't be read
 abbrev pub listing_answer_of : ℕ → Option (List ℕ) → Option (List ℕ) → ℕ → CommandAnswer
 listing_answer_of skew binding dump block = listing_answer_by (settled_recording skew binding dump block)
 
--- what the inputs say is settled and listed, unless there was no memory
+-- the recording that the inputs give, deskewed, is listed; or the answer is that of their refusal or of `Memory`
 abbrev pub WritesListing : ℕ → Reading × Reading → Reading × Reading → ℕ → Writing × Writing → Writing × Writing → ℕ
     → Type 0
 WritesListing skew binding dump block out err status =
     Does listing_answer_by (λ b d recording. AnswerGives (λ t. t) recording (settled_recording skew b d block))
     binding dump out err status
 
--- what was written is the text of rows that split the judged edges of the recording: each belongs to one of them
+-- what was written is the text of rows that split the judged edges of the recording: each edge belongs to one row
 abbrev pub WritesSplit : Trace → Writing × Writing → Type 0
 WritesSplit t out =
     (rows : List Row) × Splits t (verdict t) rows × Writes out.0 out.1 (text_of (in_newest_version rows))
 
--- inputs that are told whole, no failure of the output, and memory: what is written splits the settled recording that
--- is made of them
+-- if both inputs are read whole, no write to `out` fails and memory suffices, the rows that are written split the
+-- judged edges of the deskewed recording
 abbrev pub WritesSplitExactly : ℕ → Reading × Reading → Reading × Reading → ℕ → Writing × Writing → ℕ → Type 0
 WritesSplitExactly skew binding dump block out status =
     (b d : List ℕ) (t : Trace) → TellsWhole binding.0 binding.1 b → TellsWhole dump.0 dump.1 d

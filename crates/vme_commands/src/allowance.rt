@@ -1,4 +1,4 @@
-//! Breaks that are allowed, as words tell them.
+//! Breaks, i.e. violations of a rule, that are allowed, read from arguments of the command line.
 
 ghost use Rattle.std.specs.Prelude.{◌≡◌, ◌<◌, IfOk, IfSome, Some, map, string_bytes};
 ghost use Rattle.vme_audit.specs.declared.allowance.Allowance.{Allowance};
@@ -10,8 +10,8 @@ use std::alloc::{AllocError, Global};
 use vme_audit::Allowance;
 use vme_trace::{Line, Rule};
 
-/// The allowance of a text, if it is one: a rule, or a rule, `=` and a line, each by its name. Allowances differ in
-/// their texts.
+/// The allowance that a text stands for, if it is one: a rule, or a rule, `=` and a line, each by its name. Different
+/// allowances have different texts.
 pub fn allowance_of(text: &[u8]) -> Option<Allowance>
     ensures named { IfSome result (λ allowance. allowance_text allowance ≡ text.now) }
     ensures found { (allowance : Allowance) → IfSome allowance.line (λ line. line < line_count)

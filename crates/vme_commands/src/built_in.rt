@@ -1,6 +1,6 @@
-//! What is used where no words say it.
+//! What is used where no argument gives it.
 
-/// The binding that is used where no words name one.
+/// The binding that is used where no argument names one.
 pub const BUILT_IN: &[u8] = b"slots 1
 AS = bus.AS
 DS0 = bus.DS0
@@ -26,9 +26,9 @@ BG3 = 1
 IA = 1
 ";
 
-/// How many steps a block has where no words say it.
+/// How many steps a block has where no argument gives it.
 pub const BLOCK: u32 = 16_384;
 
-/// What is said where no words say it and standard input is a terminal.
+/// The message of a call without arguments, if standard input is a terminal.
 pub const READS_TERMINAL: &[u8] =
     b"vmecheck: reads a dump from standard input; vmecheck --help tells of the commands\n";

@@ -17,13 +17,14 @@ use vme_stream::{Refusal, complain, refusal_line, tell_verdict};
 use vme_summary::Judge;
 use vme_trace::{Sink, Source, Verdict};
 
-/// Judges the recording that a binding makes of a dump, settled by a skew, and writes its verdict to `out`, or why
-/// there is none to `err`. The answer is the exit status: 0 conforming, 1 broken, 2 unreadable or never idle, 3 where
-/// an input is refused, 4 for want of memory, 5 where the verdict can't be written.
+/// Judges the recording that the binding makes of the dump, settled, i.e. deskewed, by `skew`, and writes its verdict
+/// to `out`, or to `err` why there is none. Returns the exit status: 0 conforming, 1 broken, 2 unreadable or never
+/// idle, 3 where an input is refused, 4 for want of memory, 5 where the verdict can't be written.
 ///
-/// The binding is read, and then the dump, piece by piece. Neither the dump nor the recording is kept: the steps settle
-/// and are judged as they are made, with a skew over 0 by one worker. A recording that fills more than 4,096 blocks of
-/// `block` steps is refused, and the verdict is otherwise the same for each size. A failure of `err` is ignored.
+/// The binding is read, and then the dump, piece by piece. Neither the dump nor the recording is kept: the steps are
+/// deskewed and judged as they are made, by one worker if `skew` is over 0. A recording that fills more than 4,096
+/// blocks of `block` steps is refused, and the verdict is otherwise the same for each size. A failure of `err` is
+/// ignored.
 pub fn check<R: Threads + Sync, B: Source, D: Source, O: Sink, E: Sink>(
     rt: &R,
     alloc: Global,
@@ -41,13 +42,13 @@ pub fn check<R: Threads + Sync, B: Source, D: Source, O: Sink, E: Sink>(
         (B.reading binding.old, B.reading binding.new) (D.reading dump.old, D.reading dump.new) block
         (O.writing out.old, O.writing out.new) (E.writing err.old, E.writing err.new) result }
 
-    // Without a skew what the binding makes of the dump is judged.
+    // If `skew` is 0, the recording that the binding makes of the dump is judged as it is.
     ensures unsettled { skew ≡ 0 → Checks
         (B.reading binding.old, B.reading binding.new) (D.reading dump.old, D.reading dump.new) block
         (O.writing out.old, O.writing out.new) (E.writing err.old, E.writing err.new) result }
     ensures unwritten { (result ≡ 5) ↔ ((O.writing out.new).failures ≡ suc (O.writing out.old).failures) }
 
-    // Inputs that are told whole, no failure, and memory give exactly the answer that is defined.
+    // If both inputs are read whole, no write to `out` fails and memory suffices, the answer is exactly as defined.
     ensures exact { TellsExactly (λ b d. settled_answer_of skew (Some b) (Some d) block)
         (B.reading binding.old, B.reading binding.new) (D.reading dump.old, D.reading dump.new)
         (O.writing out.old, O.writing out.new) (E.writing err.old, E.writing err.new) result }
@@ -67,7 +68,7 @@ pub fn check<R: Threads + Sync, B: Source, D: Source, O: Sink, E: Sink>(
     )
 }
 
-/// The same by workers whose pieces have a size of their own: what is answered doesn't depend on it.
+/// `check` by these workers, whose pieces may have any size. The answer doesn't depend on it.
 pub fn check_by<R: Threads + Sync, B: Source, D: Source, O: Sink, E: Sink>(
     alloc: Global,
     workers: &Workers<'_, R>,
@@ -92,8 +93,8 @@ pub fn check_by<R: Threads + Sync, B: Source, D: Source, O: Sink, E: Sink>(
     }
 }
 
-/// The verdict on the recording that a binding makes of a dump, settled by a skew, or the first reason that there is
-/// none.
+/// The verdict on the recording that the binding makes of the dump, deskewed by `skew`, or the first reason that there
+/// is none.
 fn judge_settled<R: Threads + Sync, B: Source, D: Source>(
     alloc: Global,
     workers: &Workers<'_, R>,
@@ -115,7 +116,7 @@ fn judge_settled<R: Threads + Sync, B: Source, D: Source>(
     }
 }
 
-/// The same by one worker, whose steps settle as they come.
+/// `judge_settled` by one worker, which deskews the steps as they come.
 #[inline(never)]
 fn judge_in_order<B: Source, D: Source>(
     alloc: Global,

@@ -18,8 +18,8 @@ use vme_summary::chunk_judge::ChunkJudge;
 use vme_summary::stream_judge::StreamJudge;
 use vme_trace::Source;
 
-/// What judged the recording that a binding makes of a dump, or the first reason that there is none. The binding is
-/// read, and then the dump, piece by piece: of its text nothing is kept.
+/// The judge that took the recording that a binding makes of a dump, or the first reason that there is none. The
+/// binding is read, and then the dump, piece by piece. None of its text is kept.
 pub(crate) fn judged_dump<R: Threads + Sync, B: Source, D: Source, J: ChunkJudge + Send>(
     alloc: Global,
     workers: &Workers<'_, R>,
@@ -51,8 +51,8 @@ pub(crate) fn judged_dump<R: Threads + Sync, B: Source, D: Source, J: ChunkJudge
     }
 }
 
-/// Has a dump take some of the first of these bytes, and says how many. A body waits for enough of them to share, and
-/// is read by the workers.
+/// Passes a prefix of `bytes` on to the reader of the dump, and returns its length. In the body nothing is passed on
+/// until there are enough bytes to share. The workers read them.
 fn take_by_workers<'b, R: Threads + Sync, J: ChunkJudge + Send>(
     alloc: Global,
     workers: &Workers<'_, R>,
@@ -76,7 +76,7 @@ fn take_by_workers<'b, R: Threads + Sync, J: ChunkJudge + Send>(
     }
 }
 
-/// What judged the recording of a dump, whose last bytes these are.
+/// The judge that took the recording of a dump, whose last bytes are `last`.
 fn finish<R: Threads + Sync, J: ChunkJudge + Send>(
     alloc: Global,
     workers: &Workers<'_, R>,

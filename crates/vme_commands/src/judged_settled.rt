@@ -1,4 +1,4 @@
-//! The recording that a binding makes of a dump, settled by a skew and judged as the dump is read.
+//! The recording that a binding makes of a dump, deskewed by a skew, and judged as the dump is read.
 
 ghost use Rattle.std.specs.Prelude.{◌≡◌, ◌≤◌, ℕ, List, Option, None, IfOk, length};
 ghost use Rattle.vme_bind.specs.Capture.{limited};
@@ -18,8 +18,8 @@ use vme_summary::chunk_judge::ChunkJudge;
 use vme_summary::stream_judge::StreamJudge;
 use vme_trace::{Source, StepVisitor};
 
-/// What judged the recording that a binding makes of a dump, settled by a skew, or the first reason that there is none.
-/// The binding is read, and then the dump, piece by piece: of its text nothing is kept, and neither are its steps.
+/// The judge that took the recording that a binding makes of a dump, deskewed by `skew`, or the first reason that there
+/// is none. The binding is read, and then the dump, piece by piece. Neither its text nor its steps are kept.
 pub(crate) fn judged_settled<B: Source, D: Source, J: ChunkJudge>(
     alloc: Global,
     piece: usize,
@@ -38,7 +38,7 @@ pub(crate) fn judged_settled<B: Source, D: Source, J: ChunkJudge>(
     judged_by_skew::<Brand, B, D, J>(alloc, piece, binding, dump, skew)
 }
 
-/// The same by a skew that types name.
+/// `judged_settled`, where the type `K` stands for `skew`.
 fn judged_by_skew<K: GhostSkew, B: Source, D: Source, J: ChunkJudge>(
     alloc: Global,
     piece: usize,
@@ -68,7 +68,8 @@ fn judged_by_skew<K: GhostSkew, B: Source, D: Source, J: ChunkJudge>(
     settled_judge(alloc, settled)
 }
 
-/// What took the recording that a binding makes of a dump, which is read in order, so many bytes at once.
+/// The visitor `taker`, after it took the recording that a binding makes of a dump, which is read in order, `piece`
+/// bytes at once.
 fn taken_in_order<F: StepVisitor, D: Source>(
     alloc: Global,
     piece: usize,
@@ -98,7 +99,8 @@ fn taken_in_order<F: StepVisitor, D: Source>(
     }
 }
 
-/// What judged a settled recording, whose last group ends. The limit holds on the steps before they settle.
+/// The judge that took a deskewed recording, whose last group of steps ends here. The limit on steps counts those
+/// before deskewing.
 fn settled_judge<K: GhostSkew, J: ChunkJudge>(
     alloc: Global,
     settling: SettlingVisitor<K, StreamJudge<J>>,

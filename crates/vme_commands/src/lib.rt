@@ -7,8 +7,8 @@
 //!   [`Workers`]. A listing is compared with that of a recording by vme_confirm_command. The commands
 //!   that write texts for people, as `explain`, are vme_text_commands'.
 //! - `judged_dump`, `workers`: a dump that is judged as it is read, in which pieces and by how
-//!   many; `judged_settled`: one that is judged so in order, with a skew; `settled`: by a skew of 0
-//!   a recording is itself ([`unsettled`]).
+//!   many; `judged_settled`: one that is deskewed and judged so, in order; `settled`: a recording
+//!   that is deskewed by 0 is itself ([`unsettled`]).
 //! - `allowance`, `words`, `built_in`: which breaks the arguments of an audit allow; how a call
 //!   without an order ends; what is used without arguments. The audit is vme_audit_command's.
 //!
@@ -30,7 +30,7 @@
 //! # Limits
 //!
 //! Blocks of 1 to 65,536 steps, at most 4,096 of them; at most 268,435,456 steps and as many bytes
-//! of an input; 1 to 64 workers. With a skew above 0 one worker settles and judges.
+//! of an input; 1 to 64 workers. With a skew above 0 one worker deskews and judges.
 //!
 //! # In which order to read
 //!

@@ -22,14 +22,14 @@ use vme_stream::{Refusal, cannot_write_line, complain, refusal_line};
 use vme_summary::Lister;
 use vme_trace::{Sink, Source};
 
-/// Writes to `out` the listing of the recording that a binding makes of a dump, settled by a skew, or to `err` why
-/// there is none. The answer is the exit status: that of the listing's verdict, 0 conforming, 1 broken, 2 unreadable or
-/// never idle; 3 where an input is refused, 4 for want of memory, 5 where the listing can't be written.
+/// Writes to `out` the listing of the recording that the binding makes of the dump, settled, i.e. deskewed, by `skew`,
+/// or to `err` why there is none. Returns the exit status: that of the listing's verdict, 0 conforming, 1 broken, 2
+/// unreadable or never idle; 3 where an input is refused, 4 for want of memory, 5 where the listing can't be written.
 ///
-/// The binding is read, and then the dump, piece by piece. Neither the dump nor the recording is kept: the steps settle
-/// and are judged as they are made, with a skew over 0 by one worker, and their marks are kept. A recording that fills
-/// more than 4,096 blocks of `block` steps is refused, and the listing is otherwise the same for each size. It is
-/// written in pieces of up to 4,096 bytes. A failure of `err` is ignored.
+/// The binding is read, and then the dump, piece by piece. Neither the dump nor the recording is kept: the steps are
+/// deskewed and judged as they are made, by one worker if `skew` is over 0. Their marks, i.e. events of the bus with
+/// their instants, are kept. A recording that fills more than 4,096 blocks of `block` steps is refused, and the listing
+/// is otherwise the same for each size. It is written in pieces of up to 4,096 bytes. A failure of `err` is ignored.
 pub fn list<R: Threads + Sync, B: Source, D: Source, O: Sink, E: Sink>(
     rt: &R,
     alloc: Global,
@@ -48,13 +48,13 @@ pub fn list<R: Threads + Sync, B: Source, D: Source, O: Sink, E: Sink>(
         (O.writing out.old, O.writing out.new) (E.writing err.old, E.writing err.new) result }
     ensures unwritten { (result ≡ 5) ↔ ((O.writing out.new).failures ≡ suc (O.writing out.old).failures) }
 
-    // Inputs that are told whole, no failure, and memory give exactly the answer that is defined.
+    // If both inputs are read whole, no write to `out` fails and memory suffices, the answer is exactly as defined.
     ensures exact { TellsExactly (λ b d. listing_answer_of skew (Some b) (Some d) block)
         (B.reading binding.old, B.reading binding.new) (D.reading dump.old, D.reading dump.new)
         (O.writing out.old, O.writing out.new) (E.writing err.old, E.writing err.new) result }
 
-    // Of the settled recording that is made of them, the judged edges split into exactly the rows whose text is
-    // written.
+    // Under the same conditions the rows whose text is written split the judged edges of the deskewed recording: each
+    // edge belongs to one row.
     ensures split { WritesSplitExactly skew
         (B.reading binding.old, B.reading binding.new) (D.reading dump.old, D.reading dump.new) block
         (O.writing out.old, O.writing out.new) result }
@@ -71,7 +71,7 @@ pub fn list<R: Threads + Sync, B: Source, D: Source, O: Sink, E: Sink>(
     )
 }
 
-/// The same by workers whose pieces have a size of their own: what is answered doesn't depend on it.
+/// `list` by these workers, whose pieces may have any size. The answer doesn't depend on it.
 pub fn list_by<R: Threads + Sync, B: Source, D: Source, O: Sink, E: Sink>(
     alloc: Global,
     workers: &Workers<'_, R>,
@@ -96,7 +96,7 @@ pub fn list_by<R: Threads + Sync, B: Source, D: Source, O: Sink, E: Sink>(
     }
 }
 
-/// Writes a listing.
+/// Writes a listing, or to `err` that it can't be written. Returns the exit status.
 #[inline(never)]
 fn tell<O: Sink, E: Sink>(listing: &Listing, out: &mut O, err: &mut E) -> u8
     ensures { (t : Trace) → listing.now ≡ listing_of t → Ends (listing_answer_by (Ok t))
@@ -140,8 +140,8 @@ fn outcome_code(outcome: ListedVerdict) -> u8
     }
 }
 
-/// The listing of the recording that a binding makes of a dump, settled by a skew, or the first reason that there is
-/// none.
+/// The listing of the recording that the binding makes of the dump, deskewed by `skew`, or the first reason that there
+/// is none.
 fn listing_settled<R: Threads + Sync, B: Source, D: Source>(
     alloc: Global,
     workers: &Workers<'_, R>,
@@ -163,7 +163,7 @@ fn listing_settled<R: Threads + Sync, B: Source, D: Source>(
     }
 }
 
-/// The same by one worker, whose steps settle as they come.
+/// `listing_settled` by one worker, which deskews the steps as they come.
 #[inline(never)]
 fn listing_in_order<B: Source, D: Source>(
     alloc: Global,

@@ -1,4 +1,4 @@
-//! How a call ends whose words are no order.
+//! How a call ends whose words, i.e. arguments, are no order.
 
 ghost use Rattle.std.specs.Prelude.{◌≡◌, ◌≢◌, false, if◌then◌else◌, true};
 ghost use Rattle.vme_words.specs.OrderFaults.{HasUsageKind, IsOfWords};
@@ -7,7 +7,7 @@ use clap::error::ErrorKind;
 use std::alloc::Global;
 use vme_words::{OrderFault, usage_fault};
 
-/// Why the words can't be had: there was no memory, or one of them is no text.
+/// Why the arguments can't be read: memory ran out, or one of them isn't text.
 pub fn unread_words(alloc: Global, is_no_memory: bool) -> OrderFault
     ensures of_words { IsOfWords result }
     ensures memory { is_no_memory ≡ true → result ≡ OrderFault.Memory }
@@ -20,8 +20,8 @@ pub fn unread_words(alloc: Global, is_no_memory: bool) -> OrderFault
     }
 }
 
-/// The exit status behind words that are no order, by what clap finds and by whether its text could be written: 3 for
-/// wrong words; for the help or the version 0 where it was written, and 5 where not.
+/// The exit status of a call whose words are no order, by the kind of clap's error and whether its text was written: 3
+/// for invalid words; for the help or the version 0 if it was written, and else 5.
 pub fn words_status(kind: ErrorKind, is_written: bool) -> u8
     ensures wrong { kind ≢ ErrorKind.DisplayHelp → kind ≢ ErrorKind.DisplayVersion → result ≡ 3 }
     ensures help { kind ≡ ErrorKind.DisplayHelp → result ≡ (if is_written then 0 else 5) }

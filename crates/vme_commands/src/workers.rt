@@ -13,14 +13,13 @@ use vme_summary::chunk_judge::ChunkJudge;
 use vme_summary::stream_judge::StreamJudge;
 use vme_text_workers::{Speculation, read_by_workers};
 
-/// How many bytes of a dump one worker looks at together, where that is enough for its definitions and its longest
-/// word.
+/// How many bytes of a dump one worker is given at once. It is given more where the definitions or a word need more.
 const PIECE: usize = 262_144;
 
-/// How many several workers look at first. What stands in these behind the definitions is judged by one.
+/// How many bytes several workers are given first. Those of them after the definitions are judged by one worker.
 const FRONT: usize = 65_536;
 
-/// How many each of several workers gets at once behind those.
+/// How many bytes each of several workers is given at once after those.
 const SHARE: usize = 1_048_576;
 
 /// How many workers read and judge a dump, and in which pieces it is read. The answers depend on neither.
@@ -28,9 +27,9 @@ const SHARE: usize = 1_048_576;
 pub struct Workers<'r, R: Threads + Sync> {
     rt: &'r R,
     count: u32,
-    /// How many bytes are looked at together, at least.
+    /// How many bytes are given at once, at least.
     piece: usize,
-    /// How many each of several workers gets at once.
+    /// How many bytes each of several workers is given at once.
     share: usize,
     /// Whether the levels before the pieces of several workers were assumed wrongly.
     speculation: Speculation,
@@ -38,13 +37,13 @@ pub struct Workers<'r, R: Threads + Sync> {
 }
 
 impl<'r, R: Threads + Sync> Workers<'r, R> {
-    /// So many workers.
+    /// `count` workers.
     pub fn new(rt: &'r R, count: u32) -> Workers<'r, R> {
         let piece = if count > 1 { FRONT } else { PIECE };
         Workers::with_pieces(rt, count, piece, SHARE)
     }
 
-    /// So many workers, so many bytes that are looked at together, and so many for each of several workers at once.
+    /// `count` workers, which are given at least `piece` bytes at once, and `share` bytes for each of several workers.
     pub fn with_pieces(rt: &'r R, count: u32, piece: usize, share: usize) -> Workers<'r, R>
         requires { (1 ≤ piece) × (piece ≤ longest_input) }
     {
@@ -57,20 +56,20 @@ impl<'r, R: Threads + Sync> Workers<'r, R> {
         }
     }
 
-    /// How many bytes are looked at together, at least.
+    /// How many bytes are given at once, at least.
     pub fn piece(&self) -> usize
         ensures { (1 ≤ result) × (result ≤ longest_input) }
     {
         self.piece
     }
 
-    /// Whether so many bytes of a body are too few to share.
+    /// Whether `len` bytes of a body are too few to share among the workers.
     pub fn want_more(&self, len: usize) -> bool {
         self.count > 1 && len < self.share.saturating_mul(self.count as usize)
     }
 
-    /// Takes the next piece of a dump, which ends behind a space, or where the dump does. One worker reads it in order,
-    /// without a thread.
+    /// Reads the next piece of a dump, which ends after white space, or where the dump does. A single worker reads it
+    /// in order, without a thread.
     pub fn read<J: ChunkJudge + Send>(
         &self,
         alloc: Global,

@@ -22,10 +22,10 @@ const PIECES: [usize; 10] = [1, 2, 3, 5, 8, 13, 21, 34, 64, 4096];
 /// How many workers read each dump.
 static WORKERS: [u32; 3] = [1, 2, 5];
 
-/// By which skews it settles. No steps lie so near.
+/// The skews that it is deskewed by. No two steps are so near.
 static SKEWS: [u64; 2] = [0, 1];
 
-/// A reader that gives so many bytes a read.
+/// A reader that gives at most `portion` bytes a read.
 #[derive(Drop)]
 struct Portions<'a> {
     left: &'a [u8],
@@ -41,7 +41,7 @@ impl Read for Portions<'_> {
     }
 }
 
-/// A source of a dump, of which a read gives no more bytes than are looked at together.
+/// A source of a dump that gives at most `portion` bytes a read.
 fn in_portions(dump: &str, portion: usize) -> Io<Portions<'_>> {
     Io::new(Portions {
         left: dump.as_bytes(),
@@ -49,7 +49,7 @@ fn in_portions(dump: &str, portion: usize) -> Io<Portions<'_>> {
     })
 }
 
-/// What is told of a dump: the line of its verdict, its listing, or else its first fault, and the status.
+/// The expected answers to a dump: the line of its verdict, its listing, or else its first fault, and the status.
 #[derive(Clone, Copy)]
 struct Wanted {
     line: &'static str,
@@ -72,7 +72,7 @@ const NEVER_IDLE: Wanted = Wanted {
     status: 2,
 };
 
-/// What is told of a dump with this fault, or of one that conforms where there is none.
+/// The expected answers to a dump with this fault, or to one that conforms if the fault is empty.
 fn told_of(fault: &'static str) -> Wanted {
     if fault.is_empty() {
         return CONFORMING;
@@ -94,7 +94,7 @@ fn expect_pieces<R: Abort + AllocGlobal + Threads + Sync>(rt: &R, dump: &str, wa
     }
 }
 
-/// Expects that of a dump this is told, whatever the skew.
+/// Expects these answers to a dump, whatever the skew.
 fn expect_by<R: Abort + AllocGlobal + Threads + Sync>(
     rt: &R,
     dump: &str,
@@ -114,7 +114,7 @@ fn expect_by<R: Abort + AllocGlobal + Threads + Sync>(
     }
 }
 
-/// Whether this is the line of the verdict, or else the fault that is told.
+/// Whether the line of the verdict is written, or else the fault is reported.
 fn checks_by<R: Threads + Sync>(
     alloc: Global,
     dump: &str,
@@ -142,7 +142,7 @@ fn checks_by<R: Threads + Sync>(
     )
 }
 
-/// The same of the listing.
+/// Whether the listing is written, or else the fault is reported.
 fn lists_by<R: Threads + Sync>(
     alloc: Global,
     dump: &str,
@@ -241,7 +241,7 @@ fn definitions_in_pieces(rt: HostRuntime) {
     );
 }
 
-/// Several workers look at a body once there is a share for each of them, and wait for no more; one waits for nothing.
+/// Several workers read a body once there is a share for each of them. A single worker doesn't wait.
 #[test]
 fn a_body_is_shared_once_it_is_enough(rt: HostRuntime) {
     let four = Workers::new(&rt, 4);

@@ -1,4 +1,4 @@
-//! Commands by a skew: a dump whose answer is told before its strobe.
+//! Commands with a skew: a dump in which the answer is recorded before the strobe.
 
 ghost use Rattle.std.specs.Prelude.{◌≤◌};
 
@@ -10,7 +10,7 @@ use vme_commands::list::list;
 use vme_commands::{BLOCK, BUILT_IN, unsettled};
 use vme_stream::Bytes;
 
-/// A read whose strobe is told 3 time units behind its answer.
+/// A read whose strobe is recorded 3 time units after its answer.
 const DUMP: &str = "$timescale 1 ns $end
 $scope module bus $end
 $var wire 1 p AS $end
@@ -29,7 +29,7 @@ $enddefinitions $end
 #50 1s
 ";
 
-/// Its listing by a skew under 3.
+/// Its listing with a skew below 3.
 const BROKEN: &str = "vmecheck listing 3
 start 1
 tenure 1 open end -
@@ -37,7 +37,7 @@ cycle 2 S 3D FFFFFE end -
 verdict broken H4 3 DTACK
 ";
 
-/// By 3: both fall at one instant.
+/// Its listing with a skew of 3: both fall at one instant.
 const SETTLED: &str = "vmecheck listing 3
 start 1
 tenure 1 open end -
@@ -46,24 +46,24 @@ transfer 3 of 2 read DTACK 3 close 4
 verdict conforming
 ";
 
-/// By 12: AS too falls at the first instant.
+/// Its listing with a skew of 12: AS too falls at the first instant.
 const LATE: &str = "vmecheck listing 3
 start 3
 tenure 3 open end -
 verdict conforming
 ";
 
-/// By more than the recording is long: it has one instant.
+/// Its listing with a skew that is longer than the recording: there is one instant.
 const ONE: &str = "vmecheck listing 3
 start 1
 tenure 1 open end -
 verdict conforming
 ";
 
-/// The line of the verdict by a skew under 3.
+/// The line of the verdict with a skew below 3.
 const HIDDEN: &str = "broken H4 at instant 3 time 20 line DTACK\n";
 
-/// Skews, the line of the verdict by each, the listing, and the status.
+/// Skews, the line of the verdict with each, the listing, and the status.
 static WANTED: [(u64, &str, &str, u8); 6] = [
     (0, HIDDEN, BROKEN, 1),
     (2, HIDDEN, BROKEN, 1),
@@ -114,7 +114,7 @@ fn recordings_settle(rt: HostRuntime) {
     }
 }
 
-/// Skews, what the explanation by each begins with, and the status.
+/// Skews, what the explanation with each begins with, and the status.
 static EXPLAINED: [(u64, &str, u8); 4] = [
     (0, HIDDEN, 1),
     (2, HIDDEN, 1),
@@ -147,7 +147,7 @@ fn an_explanation_is_of_what_settled(rt: HostRuntime) {
     }
 }
 
-/// The limit on blocks holds behind settling: of 4,097 steps two by two one is left.
+/// The limit on blocks counts the deskewed steps: of each two of the 4,097 steps one is left.
 #[test]
 fn blocks_are_counted_behind_settling(rt: HostRuntime) -> Result<(), Fail> {
     let dump = many_steps(rt.alloc(), HEAD)?;

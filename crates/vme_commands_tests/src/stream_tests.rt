@@ -56,7 +56,7 @@ enum Command {
 
 static COMMANDS: [Command; 2] = [Command::Check, Command::List];
 
-/// A reader that gives so many bytes a read, is interrupted before each, and fails behind the last.
+/// A reader that gives at most `piece` bytes a read, is interrupted before each, and fails after the last.
 #[derive(Drop)]
 struct Torn<'a> {
     left: &'a [u8],
@@ -80,7 +80,7 @@ impl Read for Torn<'_> {
     }
 }
 
-/// A source of the bytes up to a place, so many a read, that fails there.
+/// A source of the bytes up to `place`, at most `piece` a read, that fails there.
 fn torn_at(text: &str, place: usize, piece: usize) -> Io<Torn<'_>> {
     Io::new(Torn {
         left: text.as_bytes().get(..place).unwrap_or_default(),
@@ -89,7 +89,7 @@ fn torn_at(text: &str, place: usize, piece: usize) -> Io<Torn<'_>> {
     })
 }
 
-/// A reader of so many line feeds, so many a read, and the least room that it was offered.
+/// A reader of `left` line feeds, at most `piece` a read, and the least room that it was offered.
 #[derive(Drop)]
 struct LineFeeds {
     left: usize,
@@ -117,7 +117,8 @@ impl Read for Stuck {
     }
 }
 
-/// A writer that holds what it took, so many bytes a write, is interrupted before each, and fails once it has no room.
+/// A writer that holds what it took, at most `piece` bytes a write, is interrupted before each, and fails once it has
+/// no room.
 #[derive(Drop)]
 struct Page {
     bytes: Vec<u8>,
@@ -188,7 +189,7 @@ fn ended<R: AllocGlobal + Threads + Sync, B: Source, D: Source>(
     }
 }
 
-/// Whether a command writes nothing, and ends as refused with this text.
+/// Whether a command writes nothing to `out`, writes `text` to `err`, and ends with status 3.
 fn refuses<R: AllocGlobal + Threads + Sync, B: Source, D: Source>(
     rt: &R,
     command: Command,
@@ -202,7 +203,7 @@ fn refuses<R: AllocGlobal + Threads + Sync, B: Source, D: Source>(
     out.bytes.is_empty() && err.bytes.as_slice() == text.as_bytes() && status == 3
 }
 
-/// Whether a command tells that the binding can't be read behind this place.
+/// Whether a command reports that the binding can't be read, if a read fails at `place`.
 fn tells_torn_binding<R: AllocGlobal + Threads + Sync>(
     rt: &R,
     command: Command,
@@ -229,7 +230,7 @@ fn torn_bindings(rt: HostRuntime) -> Result<(), Fail> {
     Ok(())
 }
 
-/// Whether a command tells that the dump from this source can't be read, or what else is wrong with it.
+/// Whether a command reports that the dump from this source can't be read, or what else is wrong with it, by `wanted`.
 fn tells_of_dump<R: AllocGlobal + Threads + Sync, D: Source>(
     rt: &R,
     command: Command,
@@ -254,7 +255,7 @@ fn torn_dumps(rt: HostRuntime) {
     }
 }
 
-/// How many line feeds dumps have, how many come a read, and what is told of each: 17,000,000 bytes, the most that
+/// How many line feeds dumps have, how many come a read, and the message about each: 17,000,000 bytes, the most that
 /// there may be, one more, and as many as 64 bits can count.
 static LONG_DUMPS: [(usize, usize, &str); 5] = [
     (
@@ -317,7 +318,8 @@ fn a_writer_that_takes_nothing(rt: HostRuntime) {
     assert!(rt; err.bytes.as_slice() == told && status == 5);
 }
 
-/// Whether what a command writes to a page with so much room is a front of a text, and this is told and its status.
+/// Whether a command writes the first `room` bytes of `text` to a page with that room, and `told` to `err`, with this
+/// status.
 fn writes_front<R: AllocGlobal + Threads + Sync>(
     rt: &R,
     command: Command,
@@ -355,7 +357,7 @@ static WRITTEN: [(Command, bool, &str, u8); 4] = [
     (Command::List, true, BROKEN, 1),
 ];
 
-/// Expects that a command writes this where there is room for it, and as much as there is room for elsewhere.
+/// Expects that a command writes `text` where there is room for it, and else as much of it as there is room for.
 fn expect_fronts<R: Abort + AllocGlobal + Threads + Sync>(
     rt: &R,
     command: Command,

@@ -21,7 +21,7 @@ $upscope $end\n$enddefinitions $end\n";
 
 const BODY: &str = "#0 1p 1q 1r 1s 1t 1u\n#10 0p\n#20 0q\n#30 0s\n#40 1p 1q\n#50 1s\n";
 
-/// What the files of the inputs are named.
+/// The names of the input files.
 pub(crate) const NAMES: InputNames<'static> = InputNames {
     binding: b"bus.bind",
     dump: b"b.vcd",
@@ -33,7 +33,7 @@ const ONE_BIT: &str = "$var wire 1 p AS $end\n$enddefinitions $end\n";
 /// A dump with no path of the built-in binding.
 const UNBOUND: &str = "$enddefinitions $end\n";
 
-/// The listing of the dump of this head and body by the built-in binding.
+/// The listing of the dump with this head and body by the built-in binding.
 pub(crate) const LISTING: &str =
     "vmecheck listing 3\nstart 1\ntenure 1 open end -\ncycle 2 S 3D FFFFFE end 5\n\
 transfer 3 of 2 read DTACK 4 close 5\nverdict conforming\n";
@@ -82,10 +82,10 @@ impl Sink for Page {
     }
 }
 
-/// What a command writes and tells, and its status.
+/// What a command writes to `out` and to `err`, and its status.
 pub(crate) type WantedTexts<'a> = (&'a str, &'a str, u8);
 
-/// Whether a command wrote and told this.
+/// Whether a command wrote this, and ended with this status.
 pub(crate) fn has_told(out: &Page, err: &Page, status: u8, wanted: WantedTexts<'_>) -> bool {
     let (text, told, ended) = wanted;
     out.bytes.as_slice() == text.as_bytes()
@@ -93,7 +93,7 @@ pub(crate) fn has_told(out: &Page, err: &Page, status: u8, wanted: WantedTexts<'
         && status == ended
 }
 
-/// Whether this is written and told of the check of a dump by a binding.
+/// Whether the check of a dump by a binding gives this.
 pub(crate) fn checks<R: AllocGlobal + Threads + Sync>(
     rt: &R,
     binding: &[u8],
@@ -191,7 +191,7 @@ fn verdicts(rt: HostRuntime) -> Result<(), Fail> {
     Ok(())
 }
 
-/// Whether this is written and told of the listing of a dump by a binding.
+/// Whether the listing of a dump by a binding gives this.
 pub(crate) fn lists<R: AllocGlobal + Threads + Sync>(
     rt: &R,
     binding: &[u8],
@@ -262,7 +262,7 @@ fn listings(rt: HostRuntime) -> Result<(), Fail> {
     Ok(())
 }
 
-/// A read that a reset ends, after which the bus is idle again; the system reset is bound by a line more.
+/// A read that a reset ends, after which the bus is idle again. One more line of the binding binds the system reset.
 const RESET_BODY: &str = "#0 1p 1q 1r 1s 1t 1u 1v\n#10 0p\n#20 0q\n#25 0v\n#30 1p 1q\n#40 1v\n";
 
 const RESET_LISTING: &str =
@@ -302,7 +302,7 @@ $var wire 1 t BERR $end $var wire 1 u IACK $end $enddefinitions $end\n";
     Ok(())
 }
 
-/// The head and the rest of dumps, and the fault that is told of each.
+/// The head and the rest of dumps, and the message about the fault of each.
 static DUMP_FAULTS: [(&str, &str, &str); 11] = [
     (ONE_BIT, "1q", "vmecheck: dump line 3: UndeclaredCode\n"),
     (ONE_BIT, "b10 p", "vmecheck: dump line 3: TooWide\n"),
@@ -347,7 +347,7 @@ fn dump_faults(rt: HostRuntime) -> Result<(), Fail> {
     Ok(())
 }
 
-/// Bindings, and the fault that is told of each.
+/// Bindings, and the message about the fault of each.
 static BINDING_FAULTS: [(&str, &str); 6] = [
     ("AS = 0", "vmecheck: binding line 1: SlotsFirst\n"),
     ("slots 22", "vmecheck: binding line 1: SlotsFirst\n"),
@@ -370,7 +370,7 @@ fn binding_faults(rt: HostRuntime) {
     }
 }
 
-/// What stands in the head of the dump in place of what, and what is told.
+/// A text in the head of the dump, the text that replaces it, and the message.
 static OTHER_HEADS: [(&str, &str, &str); 2] = [
     (
         "$var wire 1 p AS $end\n",
@@ -384,7 +384,7 @@ static OTHER_HEADS: [(&str, &str, &str); 2] = [
     ),
 ];
 
-/// What stands in the built-in binding in place of what, and what is told.
+/// A text in the built-in binding, the text that replaces it, and the message.
 static OTHER_BINDINGS: [(&str, &str, &str); 2] = [
     (
         "= bus.AS\n",
@@ -413,7 +413,7 @@ fn paths(rt: HostRuntime) -> Result<(), Fail> {
     Ok(())
 }
 
-/// A dump of 4,097 steps, behind a head.
+/// A dump of 4,097 steps, with this head.
 pub(crate) fn many_steps(alloc: Global, head: &str) -> Result<String, Fail> {
     let mut dump = String::from_str(alloc, head)?;
     for time in 0..4097u32 {
@@ -433,7 +433,7 @@ fn blocks(rt: HostRuntime) -> Result<(), Fail> {
     Ok(())
 }
 
-/// The words of a line, the program's name first.
+/// The words, i.e. the arguments, in a line, the program's name first.
 fn words_of(alloc: Global, line: &str) -> Result<Vec<String>, AllocError> {
     let mut words = Vec::new(alloc);
     for word in line.split(' ') {
@@ -453,7 +453,7 @@ fn allows(text: &str, rule: Rule, line: &str) -> bool {
 /// Texts that allow nothing.
 static NO_ALLOWANCES: [&str; 7] = ["", "H9", "h4", "H4=", "=AS", "H4=AS=", "H4 =AS"];
 
-/// Whether so many breaks are allowed by the words of a line, or none are read of it.
+/// Whether the words of a line allow `count` breaks, or, if `count` is `None`, aren't allowances.
 fn allows_so_many(alloc: Global, line: &str, count: Option<usize>) -> Result<bool, AllocError> {
     let texts = words_of(alloc, line)?;
     let allowed = allowances_of(alloc, texts.as_slice())?;
@@ -475,7 +475,7 @@ fn allowances_are_read(rt: HostRuntime) -> Result<(), Fail> {
     Ok(())
 }
 
-/// Whether a file has these parts.
+/// Whether a file contains these texts.
 fn has_parts(file: &[u8], parts: &[&str]) -> bool {
     let text = str::from_utf8(file).unwrap_or("");
     for part in parts {
@@ -486,8 +486,8 @@ fn has_parts(file: &[u8], parts: &[&str]) -> bool {
     true
 }
 
-/// Whether the explanation of a dump begins so, nothing else is told, this is the status, and the files have these
-/// parts: the save file the first, the picture the second.
+/// Whether the explanation of a dump begins with the wanted text and has the wanted status, nothing is written to
+/// `err`, and the files contain `parts`: the save file the first, the picture the second.
 pub(crate) fn explains(
     alloc: Global,
     binding: &[u8],
@@ -521,7 +521,7 @@ pub(crate) fn explains(
     }
 }
 
-/// Whether an explanation was begun, or want of memory was told, and nothing else.
+/// Whether an explanation was begun, or want of memory was reported, and nothing else.
 fn begins_or_lacks_memory(out: &Page, err: &Page, status: u8) -> bool {
     if status == 4 {
         return err.bytes.as_slice() == b"vmecheck: out of memory\n".as_slice();
@@ -563,10 +563,10 @@ fn an_explanation_begins_with_the_verdict(rt: HostRuntime) -> Result<(), Fail> {
     Ok(())
 }
 
-/// What is written of a binding, what is told of it, and the status.
+/// How a binding that is written begins, how the message about it begins, and the status.
 type WrittenBinding = (&'static str, &'static str, u8);
 
-/// Whether a binding is written for a scope of a dump that begins so, and what is told begins so.
+/// Whether a binding for the scope `path` of a dump, and the message about it, begin as in `bound`, with that status.
 fn binds(
     alloc: Global,
     dump: &str,
@@ -610,7 +610,7 @@ fn a_binding_without_a_bus_ends_with_a_status_of_its_own(rt: HostRuntime) {
     assert!(rt; binds(rt.alloc(), UNBOUND, None, None, bound));
 }
 
-/// What is written and told of the scope of the bus, of none and of another.
+/// What is written for the scope of the bus, for none and for another.
 const IN_BUS: WrittenBinding = (
     "# Found by the names in the scope bus: look each line over.\nslots 2\nAS = bus.AS\n",
     "vmecheck: bound 6 of 19 groups in scope bus, 2 slots; ",
@@ -650,7 +650,7 @@ fn a_kind_of_refusal_is_told(rt: HostRuntime) {
     assert!(rt; is_told && err.bytes.is_empty() && status == 0);
 }
 
-/// What is told of a dump that gzip compressed.
+/// How the message about a dump that gzip compressed begins.
 const COMPRESSED: &[u8] =
     b"vmecheck: dump line 1: BadToken\nb.vcd, line 1:\n    \\x1F\\x8B\\x08\n    \
 ^^^^^^^^^^^^\nb.vcd is a file that gzip compressed:\n`zcat bus.vcd.gz > bus.vcd` makes a plain dump of \
@@ -658,7 +658,7 @@ it\nBadToken: a token of the dump may not stand where it stands\n  expected: ";
 
 const COMPRESSED_DUMP: &[u8] = b"\x1F\x8B\x08\n";
 
-/// Whether of a compressed dump nothing is written, and what it is is told.
+/// Whether nothing is written of a compressed dump, and the message says what it is.
 fn is_compressed(status: u8, out: &Page, err: &Page) -> bool {
     status == 3 && out.bytes.is_empty() && err.bytes.as_slice().starts_with(COMPRESSED)
 }

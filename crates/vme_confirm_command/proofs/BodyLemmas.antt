@@ -29,7 +29,7 @@ use Rattle.vme_dump_input.proofs.BodyLemmas.{sound-next}
 use Rattle.vme_dump_input.proofs.DumpRefusals.{dump-is}
 use Rattle.vme_dump_input.proofs.DumpTexts.{agree, captured-is}
 
--- a check that goes on with the steps of a piece
+-- a check that continues with the steps of a piece
 pub checked-next : {Source : Type 0} (skew : Option ℕ) (r next : StepReading) (steps : List Step) (piece : List ℕ)
     (time : ℕ) (t : Trace) (check : StepCheck Source) → IsSound r
     → ((rest : List ℕ) → whole_reading r (piece ++ rest) ≡ whole_reading next rest)

@@ -120,7 +120,7 @@ was_told : (answer : CommandAnswer) (out err : Writing × Writing) (status : ℕ
 was_told answer out err status (inl told) same = told
 was_told answer out err status (inr failed) same = absurd (not_both out.1.failures out.0.failures same failed.out_is.1)
 
--- inputs that are told whole, and no failure, give exactly their answer
+-- if the inputs are read whole, no write to `out` fails and memory suffices, exactly their answer is written
 pub Confirms-exact : (skew : ℕ) (binding dump listing : Reading × Reading) (out err : Writing × Writing) (status : ℕ)
     → Confirms skew binding dump listing out err status
     → (b d l : List ℕ) → TellsWhole binding.0 binding.1 b → TellsWhole dump.0 dump.1 d → TellsWhole listing.0 listing.1

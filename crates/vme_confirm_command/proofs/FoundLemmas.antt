@@ -1,4 +1,4 @@
--- What is found of a listing is the answer to it.
+-- The answer by the rows of a listing is the answer to the listing.
 use Rattle.std.proofs.Common.{◌≡◌, ℕ, List, [], ◌++◌, Option, Some, refl, sym, ap, subst, ◌∙◌}
 use Rattle.std.specs.Prelude.{Result, Ok, Err}
 use Rattle.vcd_read.specs.Contents.{Contents}
@@ -42,7 +42,7 @@ module _ (version : Version) (right : List Row) (given more : List Row) (over : 
   decided Yes h = decides-all {Source = Unit {0}} (λ _. over) given more right tt Yes h ends
   decided (No row) h = decides-all {Source = Unit {0}} (λ _. over) given more right tt (No row) h ends
 
--- it has no fault
+-- the listing has no fault
 pub found-whole : (old : Reading) (version : Version) (now : Reading) (given : List Row) (over : Type 0)
     (right : Result (List Row) BindFault) (found : Result Answer BindFault)
     → EndsRows old version now given over (Ok tt)
@@ -69,7 +69,7 @@ found-whole old version now given over right found ends finds result is =
     by_right (Ok rights) (Err fault) finds more none is = absurd finds
     by_right (Err own) (Ok answer) finds more none is = absurd finds
 
--- it has one
+-- the listing has a fault
 pub found-faulty : (old : Reading) (version : Version) (now : Reading) (given : List Row) (over : Type 0)
     (right : Result (List Row) BindFault) (fault : RowsFault) → EndsRows old version now given over (Err fault)
     → (result : Result Answer Refusal) → result ≡ Err (rows_refusal fault)
@@ -97,7 +97,7 @@ module _ (skew : ℕ) (bound : BoundLines) (contents : Contents) (dump : Option 
   abbrev with_given : Listed → Result Trace BindFault → Result (Listed × Trace) Refusal
   with_given given r = or_bad_binding r >>= λ t. Ok (given, t)
 
-  -- of the recording
+  -- the answer, if the binding makes a recording of the dump
   pub confirms-found : (version : Version) (t : Trace) → settled_or skew (capture_of bound contents) ≡ Ok t
       → (given : Result Listed Refusal) (found : Result Answer Refusal)
       → IsAnswerTo version (Ok (rows_in version (recorded_rows t))) given found
@@ -116,7 +116,7 @@ module _ (skew : ℕ) (bound : BoundLines) (contents : Contents) (dump : Option 
             decides,
       )
 
-  -- where there is none
+  -- the answer, if the binding makes no recording of the dump
   pub confirms-none : (version : Version) (fault : BindFault) → capture_of bound contents ≡ Err fault
       → (given : Result Listed Refusal) (found : Result Answer Refusal)
       → IsAnswerTo version (Err fault) given found
@@ -130,7 +130,7 @@ module _ (skew : ℕ) (bound : BoundLines) (contents : Contents) (dump : Option 
       (lacks (BadBinding fault) (said (Ok given))
       (said_is (Ok given) ∙ ap (λ (r : Result Trace BindFault). with_given given (settled_or skew r)) is))
 
--- where there is no dump
+-- the answer, if there is no dump
 pub confirms-refused : (skew : ℕ) (bound : BoundLines) (old now : Reading) (refusal : Refusal)
     → IsDumpRefused old now refusal
     → (dump : Option (List ℕ)) × IsReading old now dump
@@ -188,7 +188,7 @@ module _ {Whole Source : Type 0} (whole : Whole) (source : Source) (gave : Whole
       let (rows, gives) = finds.1 in
       (Err fault, rows, gives, refl, confirms-none skew bound contents dump dump_is version fault finds.0)
 
--- the dump is read somehow
+-- some reading of the dump leads to `now`
 pub begun-read : (bound : BoundLines) (old now : Reading) (input : InputSoFar) (begun : Begun)
     → BeginsDump bound old now input (Ok begun) → (bytes : Option (List ℕ)) × IsReading old now bytes
 begun-read bound old now input (Body r count) at = some-reading old now [] input at.read

@@ -32,6 +32,7 @@ module _ (old : Reading) (version : Version) (now : Reading) (input : InputSoFar
   rows-read so_far None none gave = gave
   rows-read so_far (Some fault) none gave = absurd (cc)
 
+  -- a row that is read is given; if none is read, the rows end
   pub gives-on : (so_far : RowsSoFar) (fault : Option RowsFault) → fault ≡ None → input.limit ≡ longest_listing
       → so_far.version ≡ version → (row : Option Row) → ReadsRow old now input so_far rows (Ok row)
       → MatchOption row (EndsAt old version now input (Some so_far) fault rows)
@@ -58,7 +59,7 @@ pub is-over-at : (so_far : RowsSoFar) (fault : Option RowsFault) → fault ≡ N
 is-over-at so_far None none over = over
 is-over-at so_far (Some fault) none over = absurd (cc)
 
--- one more was given, or none is
+-- one more row is given, or no more are
 
 module _ (old : Reading) (version : Version) (now : Reading) (input : InputSoFar) (pieces : Option RowsSoFar)
     (fault : Option RowsFault) (given : List Row) where
@@ -107,7 +108,7 @@ fault-gave old version now input pieces None fault is rows ends = absurd (cc)
 fault-gave old version now input pieces (Some own) fault is rows ends =
     subst (λ (f : Option RowsFault). GaveRows old version now input pieces f rows) is ends
 
--- more rows were given before it
+-- if the listing ends with `rows ++ more`, it ends with `rows` and more rows after them
 pub ends-behind : (old : Reading) (version : Version) (now : Reading) (rows more : List Row) (over : Type 0)
     → (over → more ≡ []) → (result : Result (Unit {0}) RowsFault)
     → EndsRows old version now (rows ++ more) (Unit {0}) result → EndsRows old version now rows over result

@@ -44,7 +44,7 @@ fill-more first now later more filled held limit going = record {
   limit = limit ∙ filled.limit;
 }
 
--- what follows a shorter front
+-- what may follow the bytes of `new` may follow those of `old`, after the bytes that were added
 followed_by-more : (old new : InputSoFar) (filled : HoldsMore old new) (future : List ℕ)
     → IsFollowedBy new.is_whole future
     → IsFollowedBy old.is_whole (filled.more ++ future)
@@ -57,17 +57,18 @@ behind : (old new : InputSoFar) (filled : HoldsMore old new) (future : List ℕ)
 behind old new filled future =
     sym (append_assoc old.held filled.more future) ∙ ap (λ l. l ++ future) (sym filled.held)
 
+-- rows that were read stay so when more bytes are held
 pub rows-filled : (done : List ℕ) (old new : InputSoFar) (so_far : RowsSoFar) (rows : List Row) → HoldsMore old new
     → HasReadRows done old so_far rows → HasReadRows done new so_far rows
 rows-filled done old new so_far rows filled has future ends =
     subst (λ l. HasRead (done ++ l) rows (behind_rows so_far l)) (behind old new filled future)
     (has (filled.more ++ future) (followed_by-more old new filled future ends))
 
--- ---- some of them are taken
+-- ---- some of the held bytes are taken
 
 module _ (old now : Reading) (done : List ℕ) (input : InputSoFar) (h : IsReadTo old now done input) (n : ℕ)
     (within : n ≤ length input.held) (so_far : RowsSoFar) (rows : List Row) where
-  -- rows are read in them
+  -- the rows in the bytes that are taken are read
   pub rows-taken : ((future : List ℕ) → IsFollowedBy input.is_whole future
       → HasRead (done ++ (input.held ++ future)) rows (behind_rows so_far (drop n input.held ++ future)))
       → AreRead old now (record input { held = drop n input.held }) (Ok so_far) rows
@@ -78,12 +79,13 @@ module _ (old now : Reading) (done : List ℕ) (input : InputSoFar) (h : IsReadT
         (sym (split-at done input.held n future)) (has future ends),
   )
 
--- and counted
+-- rows stay counted when more bytes are held
 pub counted-filled : (so_far : RowsSoFar) (old new : InputSoFar)
     → new.read + length old.held ≡ old.read + length new.held → (old.read < 2 ^ 62 → new.read < 2 ^ 62)
     → IsCounted so_far old → IsCounted so_far new
 counted-filled so_far old new same small counted = (omega (arith, same, counted.0), small counted.1)
 
+-- one more row stays counted, with the `n` bytes that it takes
 pub counted-next : (old new : RowsSoFar) (input : InputSoFar) (n : ℕ) → IsCounted old input → new.count ≡ old.count + 1
     → 0 < n → n ≤ length input.held → IsCounted new (record input { held = drop n input.held })
 counted-next old new input n counted one some within =
@@ -98,7 +100,7 @@ counted-first so_far input n none small within = (omega (arith, none, within, le
 longer : (text : List ℕ) (byte : ℕ) → text ≡ text ++ byte ∷ [] → ⊥
 longer text byte e = omega (arith, ap length e, length-append text (byte ∷ []))
 
--- a listing that is whole whatever follows is followed by nothing
+-- if the text is that of a whole listing whatever follows, the input has ended
 pub ends-whole : (done : List ℕ) (input : InputSoFar) (version : Version) (rows : List Row)
     → IsWholeText done input version rows → input.is_whole ≡ true
 ends-whole done input version rows whole = by_flag input.is_whole refl
@@ -119,7 +121,7 @@ whole-text done input version rows whole =
 
 -- ---- the rows of a listing
 
--- where rows are read there is no fault
+-- while rows are read there is no fault
 pub no-fault : (so_far : RowsSoFar) (fault : Option RowsFault) (input : InputSoFar)
     → AreCounted (Some so_far) fault input → fault ≡ None
 no-fault so_far fault input counted = by_fault fault (counted so_far refl).0
@@ -170,7 +172,7 @@ text-refused text fault short is =
     subst (λ w. GivesRows w (Err (listing_refusal fault))) (sym (text-fits text short))
     (listing_fault text fault is.0 is.1)
 
--- a listing that can't be had
+-- a listing that can't be read, or is too long
 pub input-refused : (old now : Reading) (fault : InFault) → FailsAs longest_listing old now fault
     → (bytes : Option (List ℕ)) × IsReading old now bytes
     × GivesRows (listing_text bytes) (Err (rows_refusal (Input fault)))

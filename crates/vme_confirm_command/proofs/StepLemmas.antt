@@ -25,7 +25,7 @@ use Rattle.vme_dump_input.specs.SettledReadings.{settled_so_far, settled_whole}
 use Rattle.vme_dump_input.specs.SettledSteps.{ComesOut}
 use Rattle.vme_confirm_command.specs.StepChecks.{ComesTo, StepsMayFollow}
 
--- ---- one step more of some
+-- ---- one more step
 
 found_behind : (xs ys : List Step) (k : ℕ) (y : Step) → slice_get ys k ≡ Some y
     → slice_get (xs ++ ys) (length xs + k) ≡ Some y
@@ -41,6 +41,7 @@ module _ (recorded : Trace) (steps : List Step) (i : ℕ) (step : Step) (found :
       ap (λ (l : List Step). record recorded { steps = l }) (append_assoc recorded.steps (take i steps) (step ∷ [])
       ∙ ap (λ (l : List Step). recorded.steps ++ l) (sym (taken_more steps i step found)))
 
+  -- if the steps may follow the recording, the step at `i` may follow it and the steps before `i`
   pub may-next : StepsMayFollow recorded steps → MayGoOn (with_steps recorded (take i steps)) step
   may-next may =
       let below = slice_get_within steps i step found in
@@ -81,6 +82,7 @@ whole-shorter None t = omega arith
 whole-shorter (Some skew) t = no_longer skew t
 
 module _ (skew : Option ℕ) (t given : Trace) (made : List Step) (few : length given.steps ≤ capture_limit) where
+  -- the steps that came out of the deskewing so far may follow those that were taken
   pub may-so_far : (time : ℕ) → with_steps t made ≡ settled_so_far skew time given
       → malformed_step (settled_so_far skew time given) ≡ None → StepsMayFollow t made
   may-so_far time is formed = record {
@@ -94,6 +96,7 @@ module _ (skew : Option ℕ) (t given : Trace) (made : List Step) (few : length 
     );
   }
 
+  -- the steps that came out of the deskewing at the end may follow those that were taken
   pub may-whole : with_steps t made ≡ settled_whole skew given → malformed_step (settled_whole skew given) ≡ None
       → StepsMayFollow t made
   may-whole is formed = record {
@@ -107,7 +110,7 @@ module _ (skew : Option ℕ) (t given : Trace) (made : List Step) (few : length 
     );
   }
 
--- too many came
+-- too many steps came
 pub many-came : (skew : Option ℕ) (given : Trace) (time : ℕ) (settler : Option Settling) (count : ℕ) (flag : Bool)
     (t : Trace) (steps : List Step) → ComesTo skew given time settler count flag t
     → (flag ≡ false → capture_limit < count + length steps)

@@ -1,4 +1,4 @@
--- Settled by 0, what is compared stays.
+-- Deskewed by 0, the recording that is compared stays as it is.
 use Rattle.std.proofs.Common.{◌≡◌, ℕ, Bool, true, false, List, length, refl, ap}
 use Rattle.std.specs.Prelude.{Option, Some, None, Result, Ok, Err, nat_le, if◌then◌else◌}
 use Rattle.vcd_read.specs.Contents.{Contents}

@@ -1,4 +1,4 @@
--- What the program answers of a listing that is to be confirmed.
+-- The answer of the program to a listing that is to be confirmed.
 use Rattle.std.specs.Prelude.{◌≡◌, ◌≢◌, ℕ, true, ◌++◌, [], List, Option, None, Some, Result, Ok, Err, codes, decimal}
 use Rattle.std.specs.Prelude.{length, nat_le, if◌then◌else◌}
 use Rattle.vcd_read.specs.Contents.{Contents}
@@ -35,20 +35,20 @@ abbrev pub listing_text : Option (List ℕ) → Result (List ℕ) Refusal
 listing_text None = Err (CannotRead Listing)
 listing_text (Some bytes) = if nat_le (length bytes) longest_listing then Ok bytes else Err (TooLong Listing)
 
--- of the bytes of an input, or of why they can't be had, this is the listing, or the first reason that there is none
+-- `given` is the listing with this text, or its first fault; or, if there is no text, the same refusal
 abbrev pub IsListing : Result (List ℕ) Refusal → Result Listed Refusal → Type 0
 IsListing (Err refusal) given = given ≡ Err refusal
 IsListing (Ok text) (Ok listing) = (is_well_placed listing ≡ true) × (text_of listing ≡ text)
 IsListing (Ok text) (Err refusal) =
     (fault : ListFault) × (refusal ≡ listing_refusal fault) × IsFirstFault text fault × IsNoListing text fault
 
--- the same, unless there was no memory
+-- `given` is so, unless memory ran out
 abbrev pub GivesRows : Result (List ℕ) Refusal → Result Listed Refusal → Type 0
 GivesRows text (Err Memory) = Unit {0}
 GivesRows text given = IsListing text given
 
--- A listing, and the recording that a binding makes of a dump, or the first reason that one is missing: a fault of the
--- listing comes before why the binding makes no recording. In what order the program looks isn't told by this.
+-- A listing, and the recording that a binding makes of a dump; or the first reason that one is missing. A fault of the
+-- listing comes before the reason that the binding makes no recording. The program may read in another order.
 abbrev pub compared : Result BoundLines Refusal → Result Contents Refusal → Result Listed Refusal
     → Result (Listed × Trace) Refusal
 compared binding dump listing = do
@@ -58,7 +58,7 @@ compared binding dump listing = do
   t ← or_bad_binding (capture_of bound contents)
   Ok (given, t)
 
--- the same, of the recording settled by a skew
+-- a listing, and the recording deskewed by `skew`; or the first reason that one is missing, as in `compared`
 abbrev pub compared_settled : ℕ → Result BoundLines Refusal → Result Contents Refusal → Result Listed Refusal
     → Result (Listed × Trace) Refusal
 compared_settled skew binding dump listing = do
@@ -68,20 +68,20 @@ compared_settled skew binding dump listing = do
   t ← or_bad_binding (settled_or skew (capture_of bound contents))
   Ok (given, t)
 
--- what is found says whether the listing is that of the recording in its version, and which row is the first that
--- differs; or why there is no answer
+-- `found` says whether the listing is that of the recording in its version, and which row is the first that differs; or
+-- it is why there is no answer
 abbrev pub IsFound : Result Confirmation Refusal → Result (Listed × Trace) Refusal → Type 0
 IsFound (Ok found) said = (given : Listed) × (t : Trace) × (said ≡ Ok (given, t))
     × DecidesListing given.rows (rows_in given.version (recorded_rows t)) found
 IsFound (Err refusal) said = said ≡ Err refusal
 
--- the same, unless there was no memory
+-- `found` is so, unless memory ran out
 abbrev pub GivesConfirmation : Result Confirmation Refusal → Result (Listed × Trace) Refusal → Type 0
 GivesConfirmation (Err Memory) said = Unit {0}
 GivesConfirmation found said = IsFound found said
 
--- This is the answer to a binding, a dump and the text of a listing by a skew, or the first reason that there is none:
--- where there are a binding and a dump, the text is read as a listing, or has a first fault.
+-- `found` is the answer, with the skew `skew`, to a binding, a dump and the text of a listing, or the first reason that
+-- there is none. If there are a binding and a dump, the text is read as a listing, or has a first fault.
 abbrev pub IsConfirmation : ℕ → Result BoundLines Refusal → Result Contents Refusal → Result (List ℕ) Refusal
     → Result Confirmation Refusal → Type 0
 IsConfirmation skew (Err refusal) dump text found = found ≡ Err refusal
@@ -108,8 +108,8 @@ confirmation_answer_by (Err refusal) = refusal_answer refusal
 
 -- ---- how it ends
 
--- The binding, the dump and the listing are read, or can't be; the listing is compared with that of the recording
--- settled by the skew, unless there was no memory; and the answer is told, unless a write of it fails.
+-- The binding, the dump and the listing are read, or can't be. The listing is compared with that of the recording
+-- deskewed by `skew`, unless memory runs out. The answer is written, unless a write of it fails.
 abbrev pub Confirms : ℕ → Reading × Reading → Reading × Reading → Reading × Reading
     → Writing × Writing → Writing × Writing → ℕ → Type 0
 Confirms skew binding dump listing out err status =
@@ -122,14 +122,14 @@ Confirms skew binding dump listing out err status =
     × GivesConfirmation found (compared_settled skew (binding_read binding_bytes) (dump_read dump_bytes) given)
     × Ends (confirmation_answer_by found) out err status
 
--- the answer to a binding, a dump and a listing of these bytes by a skew was told
+-- the answer, with the skew `skew`, to a binding, a dump and a listing with these bytes is written
 abbrev pub TellsConfirmation : ℕ → List ℕ → List ℕ → List ℕ → Writing × Writing → Writing × Writing → ℕ → Type 0
 TellsConfirmation skew binding dump listing out err status =
     (found : Result Confirmation Refusal)
     × IsConfirmation skew (binding_read (Some binding)) (dump_read (Some dump)) (listing_text (Some listing)) found
     × Tells (confirmation_answer_by found) out err status
 
--- inputs that are told whole, no failure of the output, and memory give exactly their answer
+-- if the inputs are read whole, no write to `out` fails and memory suffices, exactly their answer is written
 abbrev pub ConfirmsExactly : ℕ → Reading × Reading → Reading × Reading → Reading × Reading
     → Writing × Writing → Writing × Writing → ℕ → Type 0
 ConfirmsExactly skew binding dump listing out err status =

@@ -1,4 +1,4 @@
--- What comparing the steps of a dump with rows comes to.
+-- The result of comparing the steps of a dump with rows.
 use Rattle.std.specs.Prelude.{◌≡◌, ℕ, List, [], Option, Result, Ok, Err}
 use Rattle.vcd_read.specs.Contents.{Contents}
 use Rattle.vme_trace.specs.Streams.{Reading}
@@ -17,7 +17,7 @@ use Rattle.vme_dump_input.specs.DumpBeginnings.{IsDumpRefused, IsReadDump, IsSou
 use Rattle.vme_confirm_command.specs.StepChecks.{HasStepped}
 use Rattle.vme_confirm_command.specs.declared.step_check.StepCheck.{StepCheck}
 
--- the steps that were given are compared
+-- the steps that `r` has given are counted, and what came out of deskewing them is compared
 pub record IsChecked {Source : Type 0} (skew : Option ℕ) (r : StepReading) (t : Trace) (check : StepCheck Source) : Type
     0 where
   pub sound : IsSound r
@@ -26,7 +26,7 @@ pub record IsChecked {Source : Type 0} (skew : Option ℕ) (r : StepReading) (t 
 
 module _ {Whole Source : Type 0} (gave : Whole → Source → List Row → Type 0) (is_over : Source → Type 0) (whole : Whole)
     (version : Version) (bound : BoundLines) (skew : ℕ) where
-  -- what is found of the rows, by the recording that the binding makes of a dump, or why it makes none
+  -- the answer about the rows, for the recording that the binding makes of a dump, or why it makes none
   abbrev pub FindsOf : Contents → Result Answer BindFault → Source → Type 0
   FindsOf contents (Ok answer) source =
       (t : Trace) × (settled_or skew (capture_of bound contents) ≡ Ok t)

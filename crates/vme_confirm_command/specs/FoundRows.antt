@@ -1,4 +1,4 @@
--- What is found of the rows of a listing, and what it is once the listing is read to its end.
+-- The answer by the rows that a listing has given, and that to the listing once it is read to its end.
 use Rattle.std.specs.Prelude.{◌≡◌, ℕ, ◌≤◌, ◌⊎◌, List, length, Option, Result, Ok, Err}
 use Rattle.vme_trace.specs.Streams.{Reading}
 use Rattle.vme_bind.specs.declared.fault.BindFault.{BindFault}
@@ -13,26 +13,27 @@ use Rattle.vme_stream.specs.declared.refusal.Refusal.{Refusal}
 use Rattle.vme_stream.specs.declared.refusal.Refusal.TheVariants.{BadBinding}
 use Rattle.vme_confirm_command.specs.Confirmations.{GivesRows, listing_text}
 
--- the answer to the rows that were given, whatever is given behind them, unless no more are
+-- the answer by the rows `given`, which holds whatever rows follow them; `over` says that none do
 abbrev pub DecidesSo : List Row → List Row → Type 0 → Answer → Type 0
 DecidesSo given right over Yes = (given ≡ right) × over
 DecidesSo given right over (No row) = DiffersAt given right row × ((row ≤ length given) ⊎ over)
 
--- of these right rows, or of why there are none, this was found by the rows that were given
+-- by the rows that were given, the answer for the right rows, or the fault for which there are no right rows
 abbrev pub FindsRows : Version → Result (List Row) BindFault → Result Answer BindFault → List Row → Type 0 → Type 0
 FindsRows version (Ok right) (Ok answer) given over = DecidesSo given right over answer
 FindsRows version (Err own) (Err fault) given over = own ≡ fault
 FindsRows version (Ok right) (Err fault) given over = ⊥
 FindsRows version (Err own) (Ok answer) given over = ⊥
 
--- where this is the listing, or why there is none, this is the answer
+-- `found` is the answer to the listing; or the reason that there is none, or the fault for which there are no right
+-- rows
 abbrev pub IsAnswerTo : Version → Result (List Row) BindFault → Result Listed Refusal → Result Answer Refusal → Type 0
 IsAnswerTo version right (Err refusal) found = found ≡ Err refusal
 IsAnswerTo version (Err fault) (Ok given) found = found ≡ Err (BadBinding fault)
 IsAnswerTo version (Ok right) (Ok given) found =
     (answer : Answer) × (found ≡ Ok answer) × (given.version ≡ version) × DecidesListing given.rows right answer
 
--- a listing was read to its end, and this is the answer to it; or why there is none
+-- a listing was read to its end, and `found` is the answer to it, or why there is no answer
 abbrev pub EndsFound : Reading → Version → Reading → Result (List Row) BindFault → Result Answer Refusal → Type 0
 EndsFound old version now right found =
     (bytes : Option (List ℕ)) × (given : Result Listed Refusal) × IsReading old now bytes

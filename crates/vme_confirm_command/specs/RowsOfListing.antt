@@ -18,38 +18,38 @@ use Rattle.vme_dump_input.specs.BufferedInputs.{FailsAs, InputSoFar, IsReadTo}
 use Rattle.vme_confirm_command.specs.declared.rows_fault.RowsFault.{RowsFault}
 use Rattle.vme_confirm_command.specs.declared.rows_fault.RowsFault.TheVariants.{Input, Text}
 
--- more bytes are held, unless there were no more
+-- `new` holds the bytes of `old` and then `more`, which are none if the input had ended
 pub record HoldsMore (old new : InputSoFar) : Type 0 where
   pub more : List ℕ
   pub held : new.held ≡ old.held ++ more
   pub none : old.is_whole ≡ true → (more ≡ []) × (new.is_whole ≡ true)
   pub limit : new.limit ≡ old.limit
 
--- each row that was read has a byte that was
+-- at most as many rows were read as bytes were taken
 abbrev pub IsCounted : RowsSoFar → InputSoFar → Type 0
 IsCounted so_far input = (so_far.count + length input.held ≤ input.read) × (input.read < 2 ^ 62)
 
--- so it is while rows are read, and then there is no fault
+-- while rows are read they are counted so, and there is no fault
 abbrev pub AreCounted : Option RowsSoFar → Option RowsFault → InputSoFar → Type 0
 AreCounted pieces fault input = ForSome pieces (λ so_far. (is_none fault ≡ true) × IsCounted so_far input)
 
 module _ (done : List ℕ) (input : InputSoFar) where
-  -- these bytes were taken of a text, and the rows in them were read, whatever follows what is held
+  -- the bytes `done` were taken, and the rows in them, `rows`, were read, whatever follows the bytes that are held
   abbrev pub HasReadRows : RowsSoFar → List Row → Type 0
   HasReadRows so_far rows = (future : List ℕ) → IsFollowedBy input.is_whole future
       → HasRead (done ++ (input.held ++ future)) rows (behind_rows so_far (input.held ++ future))
 
-  -- the text has this fault, whatever follows
+  -- the text has this fault, whatever follows the bytes that are held
   abbrev pub HasTextFault : ListFault → Type 0
   HasTextFault fault = (future : List ℕ) → IsFollowedBy input.is_whole future
       → IsFaultOfText (done ++ (input.held ++ future)) fault
 
-  -- the text is that of this listing
+  -- the text is that of the listing with these rows
   abbrev pub IsWholeText : Version → List Row → Type 0
   IsWholeText version rows = (future : List ℕ) → IsFollowedBy input.is_whole future
       → IsTextOfListing (done ++ (input.held ++ future)) (listed version rows)
 
--- of a source that was read on from one state to another these rows were read; or no more are, for this fault
+-- between two states of the source these rows were read, or reading ended with this fault
 abbrev pub AreRead : Reading → Reading → InputSoFar → Result RowsSoFar RowsFault → List Row → Type 0
 AreRead old now input (Ok so_far) rows =
     (done : List ℕ) × IsReadTo old now done input × HasReadRows done input so_far rows
@@ -65,7 +65,7 @@ ReadsRow old now input so_far rows (Ok None) =
     × ((done : List ℕ) × IsReadTo old now done input × IsWholeText done input so_far.version rows)
 ReadsRow old now input so_far rows (Err fault) = AreRead old now input (Err fault) rows
 
--- these rows are of a listing in this version, as far as it is read
+-- these rows of a listing in this version were given so far, or reading ended with the fault
 abbrev pub GaveRows : Reading → Version → Reading → InputSoFar → Option RowsSoFar → Option RowsFault → List Row
     → Type 0
 GaveRows old version now input pieces (Some fault) rows =
@@ -74,7 +74,7 @@ GaveRows old version now input (Some so_far) None rows =
     (input.limit ≡ longest_listing) × (so_far.version ≡ version) × AreRead old now input (Ok so_far) rows
 GaveRows old version now input None None rows = ⊥
 
--- so are these, and no more are given: the listing is whole, or there is a fault
+-- these rows were given, and no more are: the listing is whole, or there is a fault
 abbrev pub EndsAt : Reading → Version → Reading → InputSoFar → Option RowsSoFar → Option RowsFault → List Row → Type 0
 EndsAt old version now input pieces (Some fault) rows = GaveRows old version now input pieces (Some fault) rows
 EndsAt old version now input (Some so_far) None rows =
@@ -82,7 +82,7 @@ EndsAt old version now input (Some so_far) None rows =
     × ((done : List ℕ) × IsReadTo old now done input × IsWholeText done input version rows)
 EndsAt old version now input None None rows = ⊥
 
--- so many bytes may still be taken, or more
+-- a bound for the bytes that may still be taken: those that are held, and those that may still be read
 abbrev pub rows_left : InputSoFar → ℕ
 rows_left input = input.limit + input.room + length input.held - input.read
 
@@ -94,12 +94,12 @@ IsOver None None = Unit {0}
 
 -- ---- at the end
 
--- what a fault of the listing is to the answer
+-- the refusal that the answer has for a fault of the listing
 abbrev pub rows_refusal : RowsFault → Refusal
 rows_refusal (Input fault) = refused Listing fault
 rows_refusal (Text fault) = listing_refusal fault
 
--- the listing was read to its end, and has these rows and maybe more; or this is its fault
+-- the listing was read to its end, and has these rows, and after them `more`, none if `over`; or this is its fault
 abbrev pub EndsRows : Reading → Version → Reading → List Row → Type 0 → Result (Unit {0}) RowsFault → Type 0
 EndsRows old version now rows over (Ok _) =
     (text : List ℕ) × (more : List Row) × IsReading old now (Some text) × (length text ≤ longest_listing)
@@ -107,6 +107,6 @@ EndsRows old version now rows over (Ok _) =
 EndsRows old version now rows over (Err fault) =
     (bytes : Option (List ℕ)) × IsReading old now bytes × GivesRows (listing_text bytes) (Err (rows_refusal fault))
 
--- a source was read on from one state to another, or not at all
+-- some reading of the source leads from `old` to `now`
 abbrev pub IsSomeReading : Reading → Reading → Type 0
 IsSomeReading old now = (bytes : Option (List ℕ)) × IsReading old now bytes

@@ -15,18 +15,18 @@ use Rattle.vme_cert.specs.declared.compare.Answer.{Answer}
 use Rattle.vme_dump_input.specs.SettledReadings.{settled_whole}
 use Rattle.vme_dump_input.specs.SettledSteps.{ComesOut}
 
--- the steps that were given are counted, and this came out of them; or they are too many
+-- the steps of `given` are counted, and `t` came out of deskewing them; or they are too many
 abbrev pub ComesTo : Option ℕ → Trace → ℕ → Option Settling → ℕ → Bool → Trace → Type 0
 ComesTo skew given time settler count true t = capture_limit < length given.steps
 ComesTo skew given time settler count false t =
     (count ≡ length given.steps) × (count ≤ capture_limit) × ComesOut skew settler given time t
 
--- these steps may follow a recording
+-- `steps` may follow those of `recorded`: they leave it well-formed and within the limit
 pub record StepsMayFollow (recorded : Trace) (steps : List Step) : Type 0 where
   pub formed : malformed_step (with_steps recorded steps) ≡ None
   pub within : length recorded.steps + length steps ≤ capture_limit
 
--- all steps of this recording were given by a dump up to a time, and what came out of them was taken
+-- the dump gave all steps of `given` up to `time`, and the checker took `t`, which came out of deskewing them
 pub record HasStepped {Source : Type 0} (skew : Option ℕ) (given : Trace) (time : ℕ) (t : Trace)
     (settler : Option Settling) (checker : Checker Source) (count : ℕ) (is_too_long : Bool) : Type 0 where
   pub comes : ComesTo skew given time settler count is_too_long t
@@ -34,13 +34,13 @@ pub record HasStepped {Source : Type 0} (skew : Option ℕ) (given : Trace) (tim
 
 module _ {Whole Source : Type 0} (gave : Whole → Source → List Row → Type 0) (is_over : Source → Type 0) (whole : Whole)
     (version : Version) where
-  -- rows of this whole are compared with those of some recording
+  -- rows of `whole` are compared with those of some recording
   pub record IsComparing (checker : Checker Source) : Type 0 where
     pub t : Trace
     pub taken : HasFollowed t checker
     pub compared : HasCompared gave is_over whole version t checker
 
-  -- of a whole recording this was found, unless it is too long
+  -- the answer about the rows for the whole recording `given`, or that it is too long
   abbrev pub Finds : Option ℕ → Trace → Result Answer BindFault → Source → Type 0
   Finds skew given (Ok answer) source =
       (limited given ≡ Ok given) × HasDecided gave is_over whole version (settled_whole skew given) source answer

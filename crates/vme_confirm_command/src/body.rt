@@ -26,8 +26,8 @@ use vme_step_reader::{StepReader, given_is_a_prefix, times_go_on};
 use vme_stream::Refusal;
 use vme_trace::Source;
 
-/// Takes the first of the bytes that are held, as many as are whole tokens, and gives their steps to a check. It fails
-/// for a fault of the dump, or for want of memory.
+/// Takes the whole tokens at the front of the held bytes, and gives their steps to `check`. It fails for a fault of the
+/// dump, or, without one, for want of memory.
 fn check_piece<S: RowSource>(
     alloc: Global,
     reader: StepReader,
@@ -60,7 +60,7 @@ fn check_piece<S: RowSource>(
     }
 }
 
-/// Takes the last bytes, and says what was found.
+/// Takes the last bytes of the body. Returns what was found, and the source of the rows.
 fn check_last<S: RowSource>(
     alloc: Global,
     reader: StepReader,
@@ -91,7 +91,7 @@ fn check_last<S: RowSource>(
     }
 }
 
-/// Reads a body to its end, and compares its steps.
+/// Reads a body to its end, and compares its steps. Returns what was found, and the source of the rows.
 fn compare_body<D: Source, S: RowSource>(
     alloc: Global,
     dump: &mut D,
@@ -139,8 +139,8 @@ fn first_check<S: RowSource>(
     StepCheck::new(alloc, opening_of(reader), skew, version, rows)
 }
 
-/// Compares rows with those of the recording that a binding makes of a dump whose definitions were read, settled by a
-/// skew; or says why it makes none. What the rows come from is handed back.
+/// Compares rows with those of the recording that a binding makes of a dump whose definitions were read, deskewed by
+/// `skew`. Returns what was found or why there is no recording, and the source of the rows.
 pub(crate) fn compare_begun<D: Source, S: RowSource>(
     alloc: Global,
     dump: &mut D,

@@ -30,14 +30,15 @@ use vme_stream::{
 };
 use vme_trace::{Sink, Source};
 
-/// Whether a listing is that of the recording that a binding makes of a dump, settled by a skew, in its version: writes
-/// the answer to `out`, or to `err` why there is none. The answer is the exit status: 0 confirmed, 1 not, 3 where an
-/// input is refused, 4 for want of memory, 5 where the answer can't be written. What the listing was read from is
-/// handed back.
+/// Says whether the listing is that of the recording that the binding makes of the dump, settled, i.e. deskewed, by
+/// `skew`, in the listing's version. Writes the answer to `out`, or to `err` why there is none. Returns the exit
+/// status, and the source that the listing was read from. The status is 0 if confirmed, 1 if not, 3 where an input is
+/// refused, 4 for want of memory, 5 where the answer can't be written.
 ///
-/// The binding is read, then the dump, and beside it the listing, each row as the recording comes to it: what is found
-/// is told once both are read. A binding that can't be used on the dump is told after the faults of these. The listing
-/// is compared by the definitions alone, by no monitor. A failure of `err` is ignored.
+/// The binding is read, then the dump, and beside it the listing, each row as the recording comes to it. The answer is
+/// written once both are read. That the binding can't be used on the dump is reported only if neither has a fault. The
+/// listing is compared by the definitions alone, and not by the monitors, the automata that judge a recording. A
+/// failure of `err` is ignored.
 pub fn confirm_with<B: Source, D: Source, L: Source + Drop, O: Sink, E: Sink>(
     alloc: Global,
     binding: &mut B,
@@ -53,7 +54,7 @@ pub fn confirm_with<B: Source, D: Source, L: Source + Drop, O: Sink, E: Sink>(
         (O.writing out.old, O.writing out.new) (E.writing err.old, E.writing err.new) result.0 }
     ensures unwritten { (result.0 ≡ 5) ↔ ((O.writing out.new).failures ≡ suc (O.writing out.old).failures) }
 
-    // Inputs that are told whole, no failure, and memory give exactly the answer that is defined.
+    // If the inputs are read whole, no write to `out` fails and memory suffices, the answer is exactly the defined one.
     ensures exact { ConfirmsExactly skew
         (B.reading binding.old, B.reading binding.new) (D.reading dump.old, D.reading dump.new)
         (L.reading listing, L.reading result.1)
@@ -62,7 +63,7 @@ pub fn confirm_with<B: Source, D: Source, L: Source + Drop, O: Sink, E: Sink>(
     answer(alloc, binding, dump, listing, skew, out, err)
 }
 
-/// Settled by 0, what is compared is the recording that a binding makes of a dump, as it is: a law, and a call does
+/// Deskewed by 0, the recording that a binding makes of a dump is compared as it is. This is a law, and a call does
 /// nothing.
 pub fn unsettled_comparison()
     ensures { (b d : Option (List ℕ)) (given : Result Listed Refusal)
@@ -87,7 +88,7 @@ fn answer<B: Source, D: Source, L: Source + Drop, O: Sink, E: Sink>(
     (tell(found, out, err), listing)
 }
 
-/// Writes an answer, or why there is none.
+/// Writes an answer, or why there is none. Returns the exit status.
 fn tell<O: Sink, E: Sink>(found: Result<Answer, Refusal>, out: &mut O, err: &mut E) -> u8
     ensures { Ends (confirmation_answer_by found)
         (O.writing out.old, O.writing out.new) (E.writing err.old, E.writing err.new) result }
@@ -101,7 +102,7 @@ fn tell<O: Sink, E: Sink>(found: Result<Answer, Refusal>, out: &mut O, err: &mut
     }
 }
 
-/// Writes an answer.
+/// Writes an answer. Returns the exit status.
 fn tell_found<O: Sink, E: Sink>(found: Answer, out: &mut O, err: &mut E) -> u8
     ensures { Ends (confirmation_answer_by (Ok found))
         (O.writing out.old, O.writing out.new) (E.writing err.old, E.writing err.new) result }
@@ -115,7 +116,7 @@ fn tell_found<O: Sink, E: Sink>(found: Answer, out: &mut O, err: &mut E) -> u8
     }
 }
 
-/// Compares a listing with that of the recording that a binding makes of a dump, settled by a skew.
+/// Compares a listing with that of the recording that the binding makes of the dump, deskewed by `skew`.
 fn comparison<B: Source, D: Source, L: Source + Drop>(
     alloc: Global,
     binding: &mut B,
@@ -159,7 +160,7 @@ fn comparison_bound<D: Source, L: Source + Drop>(
     }
 }
 
-/// Compares a listing with that of the recording that a binding makes of a dump whose definitions were read.
+/// Compares a listing with that of the recording that the binding makes of the dump, whose definitions were read.
 fn comparison_begun<D: Source, L: Source + Drop>(
     alloc: Global,
     dump: &mut D,
@@ -190,7 +191,7 @@ fn comparison_begun<D: Source, L: Source + Drop>(
     }
 }
 
-/// What is found of the rows of a listing holds once the listing is read to its end and has no fault.
+/// The answer `found` by the rows of a listing, if the listing, once read to its end, has no fault; else that fault.
 fn comparison_found<L: Source + Drop>(
     found: Result<Answer, BindFault>,
     rows: ListingRows<L>,
@@ -210,7 +211,7 @@ fn comparison_found<L: Source + Drop>(
     }
 }
 
-/// The line that tells whether a listing is confirmed.
+/// The line that says whether a listing is confirmed.
 fn confirmation_line(found: Answer) -> Message
     ensures { result ≡ line_of (confirmation_text found) }
 {

@@ -17,11 +17,11 @@ use vme_dump_input::BufferedInput;
 use vme_listing::{ListingPieces, Row, Version};
 use vme_trace::Source;
 
-/// How many bytes a listing has at most: 512 for each step that a recording may have, which is more than the rows of
-/// an instant have.
+/// How many bytes a listing has at most: 512 for each step that a recording may have, more than the rows of an instant
+/// have.
 pub(crate) const LONGEST_LISTING: u64 = 137_438_953_472;
 
-/// How much room each read of a listing has.
+/// How many bytes each read of a listing has room for.
 pub(crate) const LISTING_ROOM: usize = 2_097_152;
 
 /// The rows of a listing that are still to be read.
@@ -35,7 +35,7 @@ pub(crate) struct ListingRows<L: Source + Drop> {
     ghost counted: { AreCounted pieces fault input },
 }
 
-/// What a listing is read to.
+/// The buffer that a listing is read into.
 pub(crate) fn listing_input(alloc: Global) -> Result<BufferedInput, AllocError>
     ensures { IfOk result (λ input. input ≡ not_read LONGEST_LISTING LISTING_ROOM) }
 {
@@ -43,7 +43,7 @@ pub(crate) fn listing_input(alloc: Global) -> Result<BufferedInput, AllocError>
 }
 
 impl<L: Source + Drop> ListingRows<L> {
-    /// Begins behind the header, if there is one.
+    /// Begins after the header, if there is one.
     pub fn begin(source: L, input: BufferedInput) -> ListingRows<L>
         requires { input ≡ not_read LONGEST_LISTING LISTING_ROOM }
         ensures gave { (version : Version) → IfSome result.pieces (λ so_far. so_far.version ≡ version)
@@ -70,7 +70,7 @@ impl<L: Source + Drop> ListingRows<L> {
         }
     }
 
-    /// The version that the header says. Without a header it is any.
+    /// The version in the header. Without a header it is any.
     pub fn version(&self) -> Version
         ensures { IfSome self.now.pieces (λ so_far. so_far.version ≡ result) }
     {
@@ -106,7 +106,7 @@ impl<L: Source + Drop> ListingRows<L> {
         }
     }
 
-    /// Reads what is left. The answer is the first fault of the listing, if it has one; and what it was read from.
+    /// Reads the rest. Returns the first fault of the listing, if it has one, and the source of the listing.
     pub fn finish(self) -> (Result<(), RowsFault>, L)
         ensures { (old : Reading) (version : Version) (rows : List Row)
             → GaveRows old version (L.reading self.source) self.input self.pieces self.fault rows
@@ -126,7 +126,7 @@ impl<L: Source + Drop> ListingRows<L> {
         }
     }
 
-    /// What it was read from.
+    /// The source of the listing.
     pub fn into_source(self) -> L
         ensures { (old : Reading) (version : Version) (rows : List Row)
             → GaveRows old version (L.reading self.source) self.input self.pieces self.fault rows
@@ -142,7 +142,7 @@ impl<L: Source + Drop> ListingRows<L> {
     }
 }
 
-/// Reads on behind a fault, to the end: that the listing can't be had at all comes before one of its text.
+/// Reads the listing to its end after `fault`. That it can't be read, or is too long, comes before a fault of its text.
 fn read_on<L: Source + Drop>(
     source: L,
     input: BufferedInput,

@@ -1,4 +1,5 @@
-//! The next row of a listing, of which as many bytes are read as a line has at most.
+//! Reads the next row of a listing. Before that more bytes are held than a line has at most, unless
+//! the listing ends.
 
 ghost use Rattle.std.specs.Prelude.{◌≡◌, ◌+◌, ◌^◌, ◌<◌, ◌≤◌, ℕ, List, [], true, false, Option, Some, None, Ok, IfErr};
 ghost use Rattle.std.specs.Prelude.{IfOk, IfSome, OnOk, length};
@@ -15,7 +16,7 @@ use vme_listing::{LONGEST_LINE, ListFault, ListingPieces, Row};
 use vme_stream::InFault;
 use vme_trace::Source;
 
-/// Reads until there are more bytes than a line has, or the input ends.
+/// Reads until more bytes are held than a line has at most, or the input ends.
 fn fill<L: Source>(source: &mut L, input: &mut BufferedInput) -> Result<(), InFault>
     ensures read { (old : Reading) (done : List ℕ) → IsReadTo old (L.reading source.old) done input.old
         → OnOk result (IsReadTo old (L.reading source.new) done input.new) }
@@ -35,7 +36,7 @@ fn fill<L: Source>(source: &mut L, input: &mut BufferedInput) -> Result<(), InFa
     Ok(())
 }
 
-/// Begins behind the header of a listing, of which nothing is read.
+/// Begins after the header of a listing, of which nothing is read yet.
 pub(crate) fn begin_rows<L: Source>(
     source: &mut L,
     input: &mut BufferedInput,

@@ -1,14 +1,14 @@
-//! Why no more rows of a listing come.
+//! Why a listing gives no more rows.
 
 ghost use Rattle.std.specs.Prelude.{◌≡◌};
 
 use vme_listing::ListFault;
 use vme_stream::{InFault, Input, Refusal};
 
-/// Why no more rows of a listing come.
+/// Why a listing gives no more rows.
 #[derive(Clone, Copy)]
 pub(crate) enum RowsFault {
-    /// Its next bytes can't be had.
+    /// It can't be read, or is too long.
     Input(InFault),
     /// Its text has a fault.
     Text(ListFault),
@@ -17,7 +17,7 @@ pub(crate) enum RowsFault {
 impl RowsFault {
     ghost use Rattle.vme_confirm_command.specs.RowsOfListing.{rows_refusal};
 
-    /// What the fault is to the answer.
+    /// The refusal that the answer has for this fault.
     pub fn refusal(self) -> Refusal
         ensures { result ≡ rows_refusal self }
     {

@@ -1,4 +1,4 @@
-//! The steps of a dump, settled if there is a skew, as they are compared with rows.
+//! Compares the steps of a dump, deskewed if there is a skew, with rows.
 
 ghost use Rattle.std.specs.Prelude.{◌≡◌, ◌+◌, ◌-◌, ◌≤◌, ◌<◌, ℕ, List, [], true, false, length, Option};
 ghost use Rattle.std.specs.Prelude.{IfOk, OnOk};
@@ -24,12 +24,12 @@ use vme_trace::{Lines, Step};
 /// How many steps a recording has at most.
 const MOST_STEPS: usize = 268_435_456;
 
-/// What the steps of a dump come to, as they come.
+/// A comparison of the steps of a dump, as they come, with rows.
 #[derive(Drop)]
 pub(crate) struct StepCheck<S: RowSource> {
     settler: Option<StepSettler>,
     checker: Checker<S>,
-    /// How many steps came, and whether they are too many: then nothing more is compared.
+    /// How many steps came, and whether they are too many. If they are, nothing more is compared.
     count: usize,
     is_too_long: bool,
 }
@@ -65,7 +65,7 @@ impl<S: RowSource> StepCheck<S> {
         }
     }
 
-    /// Counts the steps that follow, and says whether they aren't too many.
+    /// Counts the `steps` steps that follow. Returns false if there are too many.
     fn counts(&mut self, steps: usize) -> bool
         ensures few { result ≡ true → (self.new.count ≡ self.old.count + steps) × (self.new.is_too_long ≡ false)
             × (self.old.is_too_long ≡ false) }
@@ -82,7 +82,7 @@ impl<S: RowSource> StepCheck<S> {
         true
     }
 
-    /// Takes the steps that follow once the dump has told this time.
+    /// Takes the steps that follow, once the dump has come to `time`.
     pub fn take(&mut self, alloc: Global, steps: Vec<Step>, time: u64) -> Result<(), AllocError>
         requires { (skew : Option ℕ) × (given : Trace) × (from : ℕ) × (t : Trace)
             × HasStepped skew given from t self.old.settler self.old.checker self.old.count self.old.is_too_long
@@ -107,8 +107,8 @@ impl<S: RowSource> StepCheck<S> {
         Ok(())
     }
 
-    /// Takes the last steps. What the rows say where the recording is whole, unless it is too long, and what they come
-    /// from.
+    /// Takes the last steps. Returns the answer about the rows for the whole recording, or that it is too long, and the
+    /// source of the rows.
     pub fn finish(
         self,
         alloc: Global,
@@ -149,7 +149,7 @@ impl<S: RowSource> StepCheck<S> {
         }
     }
 
-    /// What the rows come from, where nothing is to be said of them.
+    /// The source of the rows, where there is no answer about them.
     pub fn into_source(self) -> S
         ensures { (whole : S.Whole) (version : Version) → IsComparing S.gave S.is_over whole version self.checker
             → (rows : List Row) × S.gave whole result rows }

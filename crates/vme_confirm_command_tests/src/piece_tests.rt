@@ -6,7 +6,7 @@ use std::io::{self, Error, ErrorKind, Read};
 use vme_stream::{Bytes, Io};
 use vme_trace::Source;
 
-/// A reader that gives so many bytes a read, is interrupted before each, and ends or fails behind the last.
+/// A reader that gives at most `piece` bytes a read, is interrupted before each, and ends or fails after the last.
 #[derive(Drop)]
 struct Pieces<'a> {
     left: &'a [u8],
@@ -31,7 +31,7 @@ impl Read for Pieces<'_> {
     }
 }
 
-/// A source of a text, so many bytes a read.
+/// A source of a text, at most `piece` bytes a read.
 fn in_pieces(text: &str, piece: usize) -> Io<Pieces<'_>> {
     Io::new(Pieces {
         left: text.as_bytes(),
@@ -41,7 +41,7 @@ fn in_pieces(text: &str, piece: usize) -> Io<Pieces<'_>> {
     })
 }
 
-/// A source of the bytes up to a place, so many a read, that fails there.
+/// A source of the bytes up to `place`, at most `piece` a read, that fails there.
 fn torn_at(text: &str, place: usize, piece: usize) -> Io<Pieces<'_>> {
     Io::new(Pieces {
         left: text.as_bytes().get(..place).unwrap_or_default(),
@@ -51,7 +51,7 @@ fn torn_at(text: &str, place: usize, piece: usize) -> Io<Pieces<'_>> {
     })
 }
 
-/// A reader of a header and so many line feeds.
+/// A reader of a header and `left` line feeds.
 #[derive(Drop)]
 struct HeaderAndFeeds {
     header: &'static [u8],
@@ -73,7 +73,7 @@ impl Read for HeaderAndFeeds {
     }
 }
 
-/// Whether this is written and told of these inputs.
+/// Whether the comparison of these inputs gives this.
 fn confirms<D: Source + Drop, L: Source + Drop>(
     alloc: Global,
     mut dump: D,
@@ -83,7 +83,8 @@ fn confirms<D: Source + Drop, L: Source + Drop>(
     confirms_from(alloc, BINDING, &mut dump, listing, 0, 1000, wanted)
 }
 
-/// Whether the listing is confirmed where dump and listing come so many bytes a read.
+/// Whether the listing is confirmed where a read gives at most `of_dump` bytes of the dump and `of_listing` of the
+/// listing.
 fn confirms_in_pieces(alloc: Global, of_dump: usize, of_listing: usize) -> bool {
     confirms(
         alloc,
@@ -101,7 +102,7 @@ fn pieces_of_any_length(rt: HostRuntime) {
     }
 }
 
-/// Whether it is told that the dump can't be read behind this place.
+/// Whether it is reported that the dump can't be read, if a read fails at `place`.
 fn tells_torn_dump(alloc: Global, place: usize) -> bool {
     confirms(
         alloc,
@@ -118,7 +119,7 @@ fn torn_dumps(rt: HostRuntime) {
     }
 }
 
-/// Whether it is told that the listing can't be read behind this place.
+/// Whether it is reported that the listing can't be read, if a read fails at `place`.
 fn tells_torn_listing(alloc: Global, place: usize) -> bool {
     confirms(
         alloc,

@@ -108,7 +108,7 @@ impl Sink for Page {
     }
 }
 
-/// A reader of which each read fails.
+/// A reader whose reads all fail.
 #[derive(Drop)]
 struct Broken;
 
@@ -118,10 +118,10 @@ impl Read for Broken {
     }
 }
 
-/// What is written and told of a comparison, and its status.
+/// What a comparison writes to `out` and to `err`, and its status.
 pub(crate) type WantedConfirmation<'a> = (&'a str, &'a str, u8);
 
-/// Whether this was written and told, with this status.
+/// Whether this was written, with this status.
 fn has_told(out: &Page, err: &Page, status: u8, wanted: WantedConfirmation<'_>) -> bool {
     let (text, told, ended) = wanted;
     out.bytes.as_slice() == text.as_bytes()
@@ -129,7 +129,7 @@ fn has_told(out: &Page, err: &Page, status: u8, wanted: WantedConfirmation<'_>) 
         && status == ended
 }
 
-/// Whether this is written, to a page with so much room, and told of the comparison of a listing with that of a dump.
+/// Whether the comparison of a listing with that of a dump gives this, on a page with `room` bytes.
 pub(crate) fn confirms_from<D: Source, L: Source + Drop>(
     alloc: Global,
     binding: &[u8],
@@ -153,7 +153,7 @@ pub(crate) fn confirms_from<D: Source, L: Source + Drop>(
     has_told(&out, &err, status, wanted)
 }
 
-/// Whether this is written and told of a listing and a dump.
+/// Whether the comparison of a listing with that of a dump gives this.
 fn confirms<L: Source + Drop>(
     alloc: Global,
     binding: &[u8],
@@ -166,7 +166,7 @@ fn confirms<L: Source + Drop>(
     confirms_from(alloc, binding, &mut dump, listing, skew, 1000, wanted)
 }
 
-/// Whether this is written and told of the dump and its listing, in which one text stands in place of another.
+/// Whether the comparison of the dump and its listing, with `new` in place of `old` in the listing, gives this.
 fn confirms_other_listing(
     alloc: Global,
     old: &str,
@@ -178,7 +178,7 @@ fn confirms_other_listing(
     Some(confirms(alloc, BINDING, DUMP, listing, 0, wanted))
 }
 
-/// Whether this is written and told of a listing and the dump, in which one text stands in place of another.
+/// Whether the comparison of the dump, with `new` in place of `old`, and a listing gives this.
 fn confirms_other_dump(
     alloc: Global,
     old: &str,
@@ -191,7 +191,7 @@ fn confirms_other_dump(
     Some(confirms(alloc, BINDING, dump.as_str(), listing, 0, wanted))
 }
 
-/// What stands in the listing in place of what, what is written of it, and the status.
+/// A text in the listing, the text that replaces it, what is written, and the status.
 static CONFIRMATIONS: [(&str, &str, &str, u8); 9] = [
     ("listing 3", "listing 3", "confirmed\n", 0),
     ("listing 3", "listing 2", "confirmed\n", 0),
@@ -233,7 +233,7 @@ fn confirmations(rt: HostRuntime) {
     }
 }
 
-/// What stands in the dump in place of what, and its listing.
+/// A text in the dump, the text that replaces it, and the listing of that dump.
 static OTHER_DUMPS: [(&str, &str, &str); 3] = [
     (
         "#0 1p 1q 1r 1s 1t 1u\n#10 0p\n#20 0q\n#30 0s\n#40 1p 1q\n#50 1s\n",
@@ -262,7 +262,7 @@ fn other_verdicts(rt: HostRuntime) {
     }
 }
 
-/// What stands in the listing in place of what, and the fault that is told.
+/// A text in the listing, the text that replaces it, and the message about the fault.
 static LISTING_FAULTS: [(&str, &str, &str); 6] = [
     (LISTING, "", "vmecheck: listing header\n"),
     ("listing 3", "listing 4", "vmecheck: listing header\n"),
@@ -289,7 +289,7 @@ fn listing_faults(rt: HostRuntime) {
     }
 }
 
-/// Bindings and dumps, and what is told of each beside a listing that can't be read.
+/// Bindings and dumps, and the message about each, where the listing can't be read.
 static TOLD_BEFORE: [(&[u8], &str, &str); 4] = [
     (b"slots 22", "", "vmecheck: binding line 1: SlotsFirst\n"),
     (BINDING, "", "vmecheck: dump line 1: NoEndDefinitions\n"),
@@ -317,7 +317,7 @@ fn a_fault_of_a_body_is_told_before_the_listing(rt: HostRuntime) {
     assert!(rt; confirms_other_dump(alloc, "#50 1s", "#50 1!", LISTING, wanted) == Some(true));
 }
 
-/// Dumps with no path of the binding, listings, and what is told.
+/// Dumps with no path of the binding, listings, and the message.
 static UNBOUND_DUMPS: [(&str, &str, &str); 3] = [
     (UNBOUND, "", "vmecheck: listing header\n"),
     (UNBOUND, LISTING, "vmecheck: binding line 2: NoSuchPath\n"),
@@ -366,7 +366,7 @@ fn want_of_memory_is_told(rt: HostRuntime) {
     assert!(rt; has_told(&out, &err, ended, wanted));
 }
 
-/// A dump whose answer is told before its strobe.
+/// A dump in which the answer is recorded before the strobe.
 const LATE_STROBE: &str = "$timescale 1 ns $end
 $scope module bus $end
 $var wire 1 p AS $end
@@ -385,7 +385,7 @@ $enddefinitions $end
 #50 1s
 ";
 
-/// Its listing by a skew under 3.
+/// Its listing with a skew below 3.
 const BROKEN: &str = "vmecheck listing 3
 start 1
 tenure 1 open end -
@@ -393,7 +393,7 @@ cycle 2 S 3D FFFFFE end -
 verdict broken H4 3 DTACK
 ";
 
-/// By 3: both fall at one instant.
+/// Its listing with a skew of 3: both fall at one instant.
 const SETTLED: &str = "vmecheck listing 3
 start 1
 tenure 1 open end -
@@ -402,21 +402,21 @@ transfer 3 of 2 read DTACK 3 close 4
 verdict conforming
 ";
 
-/// By 12: AS too falls at the first instant.
+/// Its listing with a skew of 12: AS too falls at the first instant.
 const LATE: &str = "vmecheck listing 3
 start 3
 tenure 3 open end -
 verdict conforming
 ";
 
-/// By more than the recording is long: it has one instant.
+/// Its listing with a skew that is longer than the recording: there is one instant.
 const ONE: &str = "vmecheck listing 3
 start 1
 tenure 1 open end -
 verdict conforming
 ";
 
-/// Skews, a listing, what is written of it by each, and the status.
+/// Skews, a listing, what is written of it with each, and the status.
 static SKEWS: [(u64, &str, &str, u8); 8] = [
     (0, BROKEN, "confirmed\n", 0),
     (2, BROKEN, "confirmed\n", 0),
@@ -440,7 +440,7 @@ fn a_listing_is_confirmed_by_its_skew(rt: HostRuntime) {
     }
 }
 
-/// The binding with the system reset, which is bound by a line more.
+/// The binding, with one more line, which binds the system reset.
 const RESET_BINDING: &[u8] = b"slots 1
 AS = bus.AS
 DS0 = bus.DS0

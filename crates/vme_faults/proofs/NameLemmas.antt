@@ -15,7 +15,7 @@ find-holds : (p : RefusalKind → Bool) (ks : List RefusalKind) (k : RefusalKind
 find-holds p [] k e = absurd (cc)
 find-holds p (q ∷ ks) k e = find-step p q k (find p ks) (p q) refl e (find-holds p ks k)
 
--- so of what is found it is the name
+-- the kind that is found by `name` has that name
 pub named_by : (o : Option RefusalKind) (name : List ℕ) → o ≡ find (is_kind_name name) all_kinds
     → IfSome o (λ k. kind_name k ≡ name)
 named_by None name e = tt

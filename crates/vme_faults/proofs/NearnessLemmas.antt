@@ -1,4 +1,4 @@
--- What the letters and the variables at a place add to how near paths are.
+-- How the letters at one place change a common prefix, and how the variable at one index begins the distances.
 use Rattle.std.proofs.Common.{◌≡◌, ◌∙◌, ap, ℕ, ◌+◌, ◌<◌, ◌≤◌, inl, inr, List, [], ◌∷◌, Bool, cond, true, false}
 use Rattle.std.proofs.Common.{length, drop, get_or, refl}
 use Rattle.std.proofs.lemmas.Bool.{cases_lt}
@@ -17,7 +17,8 @@ front-cons : (x : ℕ) (xs : List ℕ) (y : ℕ) (ys : List ℕ)
 unfolding common_prefix
 front-cons x xs y ys = refl
 
--- the letters at a place of both
+-- the common prefix from `i` on is one longer than that from `i + 1` on if the letters at `i` are the same, and else
+-- empty
 front-more : (xs ys : List ℕ) (i : ℕ) (same : Bool) → i < length xs → i < length ys
     → eq_ignore_ascii_case (get_or xs i 0) (get_or ys i 0) ≡ same
     → common_prefix (drop i xs) (drop i ys) ≡ cond same (common_prefix (drop (i + 1) xs) (drop (i + 1) ys) + 1) 0
@@ -26,13 +27,13 @@ front-more xs ys i same h k e =
     (front-cons (get_or xs i 0) (drop (i + 1) xs) (get_or ys i 0) (drop (i + 1) ys)
     ∙ ap (λ (b : Bool). cond b (common_prefix (drop (i + 1) xs) (drop (i + 1) ys) + 1) 0) e)
 
--- the same letter
+-- if the letters at `i` are the same, the common prefix from there on is one longer than that from `i + 1` on
 pub front-same : (xs ys : List ℕ) (i : ℕ) → i < length xs → i < length ys
     → eq_ignore_ascii_case (get_or xs i 0) (get_or ys i 0) ≡ true
     → common_prefix (drop i xs) (drop i ys) ≡ common_prefix (drop (i + 1) xs) (drop (i + 1) ys) + 1
 front-same xs ys i h k e = front-more xs ys i true h k e
 
--- another one
+-- if the letters at `i` differ, the common prefix from there on is empty
 pub front-other : (xs ys : List ℕ) (i : ℕ) → i < length xs → i < length ys
     → eq_ignore_ascii_case (get_or xs i 0) (get_or ys i 0) ≡ false
     → common_prefix (drop i xs) (drop i ys) ≡ 0
@@ -45,14 +46,14 @@ front-first-ends xs ys i h = rw (drop_all i xs h) refl
 front-second-ends : (xs ys : List ℕ) (i : ℕ) → length ys ≤ i → common_prefix (drop i xs) (drop i ys) ≡ 0
 front-second-ends xs ys i h = rw (drop_all i ys h) (front-nil (drop i xs))
 
--- a place that isn't one of both
+-- if `i` isn't a place in both, the common prefix from there on is empty
 pub front-ends : (xs ys : List ℕ) (i : ℕ) → (i < length xs → length ys ≤ i)
     → common_prefix (drop i xs) (drop i ys) ≡ 0
 front-ends xs ys i past =
     elim (cases_lt i (length xs))
     [ inl h ↦ front-second-ends xs ys i (past h) | inr h ↦ front-first-ends xs ys i h ]
 
--- the variable at a place
+-- the distances from the variable `i` on begin with that of this variable
 pub distances-more : (path : List ℕ) (variables : List Variable) (i : ℕ) (d : Variable) → i < length variables
     → distances path (drop i variables) i
     ≡ record { distance = path_distance path (get_or variables i d).path; place = i }
@@ -60,7 +61,7 @@ pub distances-more : (path : List ℕ) (variables : List Variable) (i : ℕ) (d 
 unfolding distances
 distances-more path variables i d h = rw (drop_more variables i d h) refl
 
--- the place behind them
+-- after the last variable there are no distances
 pub distances-end : (path : List ℕ) (variables : List Variable) (i : ℕ) → length variables ≤ i
     → distances path (drop i variables) i ≡ []
 unfolding distances

@@ -43,8 +43,8 @@ big_mark = 254 ∷ 255 ∷ []
 abbrev pub is_space : ℕ → Bool
 is_space b = b == 32 || b == 9 || b == 10 || b == 13
 
--- a text from its first word on that stands on no line that begins with #, where this says whether the text begins on
--- such a line
+-- the text from its first word on that isn't in a remark, i.e. a line that begins with #; `within` says that the text
+-- begins in a remark
 unfoldable pub behind_remarks : Bool → List ℕ → List ℕ
 behind_remarks within [] = []
 behind_remarks true (b ∷ text) = behind_remarks (not (b == 10)) text
@@ -53,11 +53,11 @@ behind_remarks false (b ∷ text) =
     else if b == 35 then behind_remarks true text
     else b ∷ text
 
--- a binding's first word is that of its first line
+-- the first word of a binding that isn't in a remark begins with `slots`, as its first line does
 unfoldable pub is_binding : List ℕ → Bool
 is_binding bytes = begins_with (codes "slots") (behind_remarks false bytes)
 
--- a dump's first word begins with a dollar sign
+-- the first word of a dump that isn't in a remark begins with a dollar sign
 unfoldable pub is_dump : List ℕ → Bool
 is_dump bytes = begins_with (codes "$") (behind_remarks false bytes)
 
@@ -74,7 +74,7 @@ unfoldable pub is_little_utf16 : List ℕ → Bool
 is_little_utf16 (low ∷ high ∷ rest) = is_text low && high == 0
 is_little_utf16 bytes = false
 
--- a text that begins with no mark
+-- the kind of a file that begins with no magic number, no byte order mark and no header of a listing
 unfoldable pub unmarked : List ℕ → Option FileKind
 unmarked bytes =
     if is_big_utf16 bytes then Some file.BigUtf16
@@ -112,7 +112,7 @@ file_name file.Listing = codes "a listing of vmecheck"
 file_name file.Binding = codes "a binding"
 file_name file.Dump = codes "a dump"
 
--- what helps where it stands in the place of another
+-- what helps where it is given in place of another
 abbrev pub file_help : FileKind → List ℕ
 file_help file.Empty = codes "look whether what was to write it did"
 file_help file.Fst = codes "`fst2vcd bus.fst > bus.vcd`, which comes with GTKWave, makes a plain dump of it"

@@ -1,4 +1,4 @@
--- How near the paths of variables are to one that is sought.
+-- How far the paths of variables are from one that is sought.
 use Rattle.std.specs.Prelude.{◌≡◌, ℕ, ◌+◌, ◌-◌, min, max, List, [], ◌∷◌, length, reverse, take, if◌then◌else◌}
 use Rattle.std.specs.Char.{eq_ignore_ascii_case}
 use Rattle.std.specs.List.Sorted.{IsPermutation, IsSorted}
@@ -7,32 +7,32 @@ use Rattle.std.specs.declared.cmp.Ordering.{Ordering}
 use Rattle.vcd_read.specs.declared.dump.Variable.{Variable}
 use Rattle.vme_faults.specs.declared.nearness.NearVariable.{NearVariable}
 
--- with how many letters both begin, whatever their case
+-- the number of letters that both begin with, whatever their case
 unfoldable pub common_prefix : List ℕ → List ℕ → ℕ
 common_prefix [] ys = 0
 common_prefix (x ∷ xs) [] = 0
 common_prefix (x ∷ xs) (y ∷ ys) = if eq_ignore_ascii_case x y then common_prefix xs ys + 1 else 0
 
--- with how many both end
+-- the number of letters that both end with
 abbrev pub common_suffix : List ℕ → List ℕ → ℕ
 common_suffix xs ys = common_prefix (reverse xs) (reverse ys)
 
--- how many letters of the longer one lie between what both begin with and what both end with
+-- the number of letters of the longer one between what both begin with and what both end with
 abbrev pub path_distance : List ℕ → List ℕ → ℕ
 path_distance xs ys =
     max (length xs) (length ys) - min (common_prefix xs ys + common_suffix xs ys) (min (length xs) (length ys))
 
--- how far the path of each variable is from one, the first one standing at a place
+-- how far the path of each variable is from `path`; the first variable has the index `place`
 unfoldable pub distances : List ℕ → List Variable → ℕ → List NearVariable
 distances path [] place = []
 distances path (v ∷ variables) place =
     record { distance = path_distance path v.path; place = place } ∷ distances path variables (place + 1)
 
--- the nearer one comes first, and of those as near the one that stands first
+-- the nearer one comes first, and of two at the same distance the one with the lower index
 abbrev pub near_cmp : NearVariable → NearVariable → Ordering
 near_cmp a b = ordering_then (nat_cmp a.distance b.distance) (nat_cmp a.place b.place)
 
--- these are the first ones, so many or all, where the variables stand in the order of how near their paths are
+-- `found` are the first `count` variables, or all if there are fewer, in the order of `near_cmp`
 pub record AreNearest (path : List ℕ) (variables : List Variable) (count : ℕ) (found : List NearVariable) : Type 0 where
   pub ordered : List NearVariable
   pub are_all : IsPermutation (distances path variables 0) ordered

@@ -1,14 +1,14 @@
--- What is told of each kind of fault or refusal.
+-- The page of each kind of fault or refusal.
 use Rattle.std.specs.Prelude.{ℕ, List, [], ◌∷◌, ◌++◌, Option, None, Some, codes, flat_map}
 use Rattle.vme_faults.specs.RefusalKinds.{all_kinds, kind_name}
 use Rattle.vme_faults.specs.declared.refusal_kind.RefusalKind.{RefusalKind}
 use Rattle.vme_faults.specs.declared.refusal_kind.RefusalKind.TheVariants as kind
 
--- where a text goes on in the next line
+-- the line feed and the indent with which a text continues in the next line
 abbrev pub turn : List ℕ
 turn = 10 ∷ 32 ∷ 32 ∷ 32 ∷ 32 ∷ []
 
--- what it means
+-- what a kind means
 abbrev pub means_of : RefusalKind → List ℕ
 means_of kind.BadToken = codes "a token of the dump may not stand where it stands"
 means_of kind.UnfinishedSection = codes "a section, a change or a bracket that the dump ends in"
@@ -182,7 +182,7 @@ remedy_of kind.TooLong =
 remedy_of kind.TooManyBlocks = codes "leave `--block` out, or make it 65536"
 remedy_of kind.OutOfMemory = codes "give more of it, or take `audit`, which keeps neither a dump nor its steps"
 
--- a name, and behind a colon what it is
+-- a name, a colon and its value
 abbrev pub row : List ℕ → List ℕ → List ℕ
 row name value = name ++ codes ": " ++ value ++ 10 ∷ []
 
@@ -192,11 +192,11 @@ rows name means expected causes remedy =
     row name means ++ row (codes "  expected") expected ++ row (codes "  usually") causes
     ++ row (codes "  remedy") remedy
 
--- what is told of a kind
+-- the page of a kind
 unfoldable pub page_text : RefusalKind → List ℕ
 page_text k = rows (kind_name k) (means_of k) (expected_of k) (causes_of k) (remedy_of k)
 
--- what is told of one kind, or of each
+-- the page of one kind, or those of all
 abbrev pub pages_of : Option RefusalKind → List ℕ
 pages_of (Some k) = page_text k
 pages_of None = flat_map page_text all_kinds

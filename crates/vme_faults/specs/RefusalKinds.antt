@@ -4,7 +4,7 @@ use Rattle.std.specs.Str.{bytes_eq}
 use Rattle.vme_faults.specs.declared.refusal_kind.RefusalKind.{RefusalKind}
 use Rattle.vme_faults.specs.declared.refusal_kind.RefusalKind.TheVariants as kind
 
--- every kind, in the order in which they are told
+-- every kind, in the order in which they are written
 abbrev pub all_kinds : List RefusalKind
 all_kinds =
     kind.BadToken ∷ kind.UnfinishedSection ∷ kind.BadVar ∷ kind.ScopeUnderflow ∷ kind.NoEndDefinitions ∷
@@ -13,7 +13,7 @@ all_kinds =
     kind.AmbiguousPath ∷ kind.WrongWidth ∷ kind.TooManySteps ∷ kind.BadHeader ∷ kind.BadRow ∷ kind.Unsorted ∷
     kind.CannotOpen ∷ kind.CannotRead ∷ kind.TooLong ∷ kind.TooManyBlocks ∷ kind.OutOfMemory ∷ []
 
--- its name, as a refusal tells it
+-- the name of a kind, as a refusal has it
 abbrev pub kind_name : RefusalKind → List ℕ
 kind_name kind.BadToken = codes "BadToken"
 kind_name kind.UnfinishedSection = codes "UnfinishedSection"

@@ -1,4 +1,4 @@
--- Of which kind a refusal is.
+-- The kind of a refusal.
 use Rattle.vcd_read.specs.declared.fault.FaultKind.{FaultKind}
 use Rattle.vcd_read.specs.declared.fault.FaultKind.TheVariants as vcd
 use Rattle.vme_bind.specs.declared.fault.BindFaultKind.{BindFaultKind}
@@ -10,7 +10,7 @@ use Rattle.vme_stream.specs.declared.refusal.Refusal.TheVariants as refusal
 use Rattle.vme_faults.specs.declared.refusal_kind.RefusalKind.{RefusalKind}
 use Rattle.vme_faults.specs.declared.refusal_kind.RefusalKind.TheVariants as kind
 
--- a fault of a dump
+-- the kind of a fault of a dump
 abbrev pub dump_kind : FaultKind → RefusalKind
 dump_kind vcd.BadToken = kind.BadToken
 dump_kind vcd.UnfinishedSection = kind.UnfinishedSection
@@ -24,7 +24,7 @@ dump_kind vcd.TimeBackwards = kind.TimeBackwards
 dump_kind vcd.NumberTooLarge = kind.NumberTooLarge
 dump_kind vcd.Memory = kind.OutOfMemory
 
--- a fault of a binding
+-- the kind of a fault of a binding
 abbrev pub binding_kind : BindFaultKind → RefusalKind
 binding_kind bind.BadLine = kind.BadLine
 binding_kind bind.SlotsFirst = kind.SlotsFirst
@@ -37,14 +37,14 @@ binding_kind bind.AmbiguousPath = kind.AmbiguousPath
 binding_kind bind.WrongWidth = kind.WrongWidth
 binding_kind bind.TooManySteps = kind.TooManySteps
 
--- a fault of a listing
+-- the kind of a fault of a listing
 abbrev pub listing_kind : ListFault → RefusalKind
 listing_kind list.BadHeader = kind.BadHeader
 listing_kind (list.BadRow row) = kind.BadRow
 listing_kind (list.Unsorted row) = kind.Unsorted
 listing_kind list.Memory = kind.OutOfMemory
 
--- a refusal
+-- the kind of a refusal
 abbrev pub kind_of : Refusal → RefusalKind
 kind_of (refusal.CannotOpen input) = kind.CannotOpen
 kind_of (refusal.CannotRead input) = kind.CannotRead

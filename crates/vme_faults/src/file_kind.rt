@@ -19,15 +19,15 @@ pub enum FileKind {
     Zstd,
     /// Compressed by bzip2.
     Bzip2,
-    /// A text behind the byte order mark of UTF-8.
+    /// A text that begins with the byte order mark of UTF-8.
     MarkedUtf8,
-    /// A text in UTF-16 behind a byte order mark.
+    /// A text in UTF-16 that begins with a byte order mark.
     MarkedUtf16,
     /// A text in UTF-16, the low byte first, without a mark.
     LittleUtf16,
     /// A text in UTF-16, the high byte first, without a mark.
     BigUtf16,
-    /// What `vmecheck list` writes.
+    /// A listing, as `vmecheck list` writes it.
     Listing,
     /// A binding.
     Binding,
@@ -36,7 +36,7 @@ pub enum FileKind {
 }
 
 impl FileKind {
-    /// The kind of file that these bytes are, if they show one.
+    /// The kind of file that these bytes are, if they show it.
     #[tactic(auto, unfolding(crate::specs::Files::file_kind))]
     pub fn of(bytes: &[u8]) -> Option<FileKind>
         ensures { result ≡ file_kind bytes.now }
@@ -85,7 +85,7 @@ impl FileKind {
         }
     }
 
-    /// What helps where such a file stands in the place of another.
+    /// What helps where such a file is given in place of another.
     pub fn help(self) -> &'static str
         ensures { result.now ≡ file_help self }
     {
@@ -109,7 +109,7 @@ impl FileKind {
     }
 }
 
-/// The kind of a text that begins with no mark.
+/// The kind of a file that begins with no magic number, no byte order mark and no header of a listing.
 #[tactic(auto, unfolding(crate::specs::Files::unmarked))]
 fn unmarked(bytes: &[u8]) -> Option<FileKind>
     ensures { result ≡ unmarked bytes.now }
@@ -127,7 +127,7 @@ fn unmarked(bytes: &[u8]) -> Option<FileKind>
     }
 }
 
-/// Whether the bytes begin with these.
+/// Whether `bytes` begin with `magic`.
 #[tactic(auto, unfolding(crate::specs::Files::begins_with))]
 fn begins_with(bytes: &[u8], magic: &[u8]) -> bool
     ensures { result ≡ begins_with magic.now bytes.now }
@@ -135,7 +135,7 @@ fn begins_with(bytes: &[u8], magic: &[u8]) -> bool
     bytes.starts_with(magic)
 }
 
-/// Whether the first of two bytes is 0, and the second one of a text.
+/// Whether the first byte is 0, and the second one of a text.
 #[tactic(auto, unfolding(crate::specs::Files::is_big_utf16))]
 fn is_big_utf16(bytes: &[u8]) -> bool
     ensures { result ≡ is_big_utf16 bytes.now }
@@ -146,7 +146,7 @@ fn is_big_utf16(bytes: &[u8]) -> bool
     }
 }
 
-/// Whether the second of two bytes is 0, and the first one of a text.
+/// Whether the second byte is 0, and the first one of a text.
 #[tactic(auto, unfolding(crate::specs::Files::is_little_utf16))]
 fn is_little_utf16(bytes: &[u8]) -> bool
     ensures { result ≡ is_little_utf16 bytes.now }
@@ -164,7 +164,7 @@ fn is_text(byte: u8) -> bool
     9 <= byte && byte <= 126
 }
 
-/// Whether the first word begins with a dollar sign.
+/// Whether the first word that isn't in a remark begins with a dollar sign.
 #[tactic(auto, unfolding(crate::specs::Files::is_dump))]
 fn is_dump(bytes: &[u8]) -> bool
     ensures { result ≡ is_dump bytes.now }
@@ -172,7 +172,7 @@ fn is_dump(bytes: &[u8]) -> bool
     begins_with(behind_remarks(bytes), b"$")
 }
 
-/// Whether the first word is `slots`, or begins so.
+/// Whether the first word that isn't in a remark begins with `slots`.
 #[tactic(auto, unfolding(crate::specs::Files::is_binding))]
 fn is_binding(bytes: &[u8]) -> bool
     ensures { result ≡ is_binding bytes.now }
@@ -180,7 +180,7 @@ fn is_binding(bytes: &[u8]) -> bool
     begins_with(behind_remarks(bytes), b"slots")
 }
 
-/// A text from its first word on that stands on no line that begins with #.
+/// The text from its first word on that isn't in a remark, i.e. a line that begins with `#`.
 #[tactic(auto, unfolding(crate::specs::Files::behind_remarks))]
 fn behind_remarks(text: &[u8]) -> &[u8]
     ensures { result.now ≡ behind_remarks false text.now }

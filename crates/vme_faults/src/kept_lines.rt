@@ -5,22 +5,22 @@ use memchr::memchr;
 use std::alloc::{AllocError, Global};
 use vcd_read::line_feeds;
 
-/// A line of a dump. Of the one that is still read no bytes are kept here.
+/// A line of a dump. It has no bytes here before it is read to its end.
 #[derive(Drop)]
 struct KeptLine {
     number: u64,
     bytes: Vec<u8>,
 }
 
-/// The lines that a fault may name which is met later, and the line of the fault.
+/// The lines that a later fault may name, and the line of the fault.
 #[derive(Drop)]
 pub struct KeptLines {
-    /// The number of the line that the next piece begins on, and what stands before it there.
+    /// `next` is the number of the line on which the next piece begins, `current` what that line has before it.
     next: u64,
     current: Vec<u8>,
     /// The line of the last token.
     last: Option<KeptLine>,
-    /// That of a dump section that is open, and of a comment.
+    /// The line of the dump section that is open, and that of the comment that is open.
     dump_section: Option<KeptLine>,
     comment: Option<KeptLine>,
     faulty: Vec<u8>,
@@ -42,7 +42,7 @@ impl KeptLines {
         }
     }
 
-    /// Passes over a piece without a fault, which ends behind a space. The only error is want of memory.
+    /// Takes a piece without a fault, which ends after a space. The only error is want of memory.
     pub fn pass(&mut self, alloc: Global, piece: &[u8]) -> Result<(), AllocError> {
         self.end_current(alloc, piece)?;
         self.pass_dump_sections(alloc, piece)?;
@@ -59,8 +59,8 @@ impl KeptLines {
         Ok(())
     }
 
-    /// Keeps the line of a fault that is met in these bytes, which follow those that were passed over, or at their end.
-    /// The only error is want of memory.
+    /// Keeps the line `number`, that of a fault which is met in `bytes` or at their end. They follow the pieces that
+    /// were passed. The only error is want of memory.
     pub fn stop(&mut self, number: u64, bytes: &[u8]) -> Result<(), AllocError> {
         self.faulty.clear();
         match number.checked_sub(self.next) {
@@ -80,7 +80,7 @@ impl KeptLines {
         }
     }
 
-    /// The same of a line that is so many further than the one that the bytes begin on.
+    /// Keeps the line of a fault, which is `further` lines after the one that `bytes` begin on.
     fn stop_in(&mut self, further: u64, bytes: &[u8]) -> Result<(), AllocError> {
         let mut rest = bytes;
         for _ in 0..further {
@@ -97,7 +97,7 @@ impl KeptLines {
         self.go_on(rest)
     }
 
-    /// Goes on in the line of the fault. The only error is want of memory.
+    /// Adds the rest of the fault's line, as far as `bytes` have it. The only error is want of memory.
     pub fn go_on(&mut self, bytes: &[u8]) -> Result<(), AllocError> {
         if self.is_ended {
             return Ok(());
@@ -116,7 +116,7 @@ impl KeptLines {
         }
     }
 
-    /// The line of a place in a piece. Of one that doesn't end in it no bytes are kept.
+    /// The line that has the place `at` of `piece`. If the line doesn't end in `piece`, its bytes aren't kept.
     fn line_of(&self, alloc: Global, piece: &[u8], at: usize) -> Result<KeptLine, AllocError> {
         let start = line_start(piece, at);
         let (line, is_ended) = up_to_feed(piece.get(start..).unwrap_or(b""));
@@ -134,7 +134,7 @@ impl KeptLines {
         })
     }
 
-    /// Keeps the bytes of the lines that end in a piece.
+    /// If the current line ends in `piece`, keeps its bytes where it is the line of the last token, section or comment.
     fn end_current(&mut self, alloc: Global, piece: &[u8]) -> Result<(), AllocError> {
         let (_, is_ended) = up_to_feed(piece);
         if !is_ended {
@@ -152,7 +152,7 @@ impl KeptLines {
         Ok(())
     }
 
-    /// Keeps the lines of the dump section and of the comment that are open behind a piece.
+    /// Keeps the lines of the dump section and of the comment that are open after a piece.
     fn pass_dump_sections(&mut self, alloc: Global, piece: &[u8]) -> Result<(), AllocError> {
         let mut from: usize = 0;
         for _ in 0..piece.len() {
@@ -171,7 +171,7 @@ impl KeptLines {
         Ok(())
     }
 
-    /// Opens or closes a dump section or a comment by a word of a piece.
+    /// Opens or closes a dump section or a comment, if `word`, at the place `at` of `piece`, does so.
     fn pass_word(
         &mut self,
         alloc: Global,
@@ -194,7 +194,7 @@ impl KeptLines {
     }
 }
 
-/// Whether a line is kept, and is of this number.
+/// Whether a line is kept, and has this number.
 fn is_of(kept: &Option<KeptLine>, number: u64) -> bool {
     match kept {
         Some(line) => line.number == number,

@@ -1,7 +1,7 @@
 //! What the refusals of inputs mean, for people: what each kind of them means, what was expected
-//! there, what usually causes it, and the remedy; what kind of file stands in the place of a dump
-//! or of a binding; which paths of a dump are nearest to one that it lacks; and the lines of a dump
-//! that a refusal may name.
+//! there, what usually causes it, and the remedy; what kind of file is given in place of a dump or of
+//! a binding; which paths of a dump are nearest to one that it lacks; and the lines of a dump that a
+//! refusal may name.
 //!
 //! # Parts
 //!
@@ -12,8 +12,8 @@
 //! - `file_kind`: [`FileKind::of`] says by its first bytes what kind of file some bytes are, and
 //!   which program makes a plain dump of it.
 //! - `nearness`: [`nearest`], the variables whose paths are nearest to one.
-//! - `kept_lines`: [`KeptLines`], which passes over the pieces of a dump, and keeps the line of a
-//!   fault; `line_words`: which bytes are spaces, and the words of a line.
+//! - `kept_lines`: [`KeptLines`], which takes the pieces of a dump, and keeps the line of a fault;
+//!   `line_words`: which bytes are spaces, and the words of a line.
 //!
 //! # What is proved
 //!
@@ -22,8 +22,8 @@
 //! - A kind has the name of `specs/RefusalKinds`, and a name finds the kind that has it (`found`).
 //! - The kind of a refusal is exactly that of `specs/Refusals`.
 //! - A kind of file is exactly that of `specs/Files`, by the bytes that the formats begin with.
-//! - The nearest variables are exactly those that come first, where all stand in the order of how
-//!   far their paths are from the one that is sought, and those as far as they are declared.
+//! - The nearest variables are exactly the first ones, where all are sorted by the distance of
+//!   their paths from the one that is sought, and those at the same distance as they are declared.
 //!
 //! # What isn't proved
 //!
@@ -34,10 +34,10 @@
 //!
 //! # Limits
 //!
-//! A kind of file is known by its first bytes alone: what stands after them isn't looked at. Kept are
-//! the line that is read, the line of the last token, and those of a dump section and of a comment that
-//! are open; no fault that is met later is of another line. Memory is in proportion to the longest
-//! line. Start reading at `page`.
+//! A kind of file is known by its first bytes alone: what comes after them isn't looked at. The
+//! lines that are kept are the one that is read, the one of the last token, and those of a dump
+//! section and of a comment that are open; a fault that is met later is never of another line.
+//! Memory is in proportion to the longest line. Start reading at `page`.
 #![tactic(auto)]
 
 mod file_kind;

@@ -1,6 +1,6 @@
 //! The words of a dump.
 
-/// Whether no word goes on over a byte.
+/// Whether a byte is white space, which separates words.
 pub(crate) fn is_space(byte: u8) -> bool {
     matches!(byte, b' ' | b'\t' | b'\n' | b'\r')
 }
@@ -28,7 +28,7 @@ pub(crate) fn word_from(bytes: &[u8], at: usize) -> Option<&[u8]> {
     }
 }
 
-/// The place where the line of a place begins, among some bytes.
+/// The place at which the line begins that has the place `at`.
 pub(crate) fn line_start(bytes: &[u8], at: usize) -> usize {
     match bytes
         .get(..at)
@@ -41,7 +41,7 @@ pub(crate) fn line_start(bytes: &[u8], at: usize) -> usize {
     }
 }
 
-/// Some bytes up to the first line feed, and whether there is one.
+/// `bytes` up to the first line feed, and whether there is one.
 pub(crate) fn up_to_feed(bytes: &[u8]) -> (&[u8], bool) {
     match bytes.iter().position(|byte| *byte == b'\n') {
         Some(feed) => (bytes.get(..feed).unwrap_or(b""), true),

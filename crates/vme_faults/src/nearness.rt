@@ -1,4 +1,4 @@
-//! How near the paths of a dump's variables are to one that it lacks.
+//! How far the paths of a dump's variables are from one that it lacks.
 
 ghost use Rattle.std.specs.Prelude.{◌≡◌, IfOk};
 ghost use Rattle.vme_faults.specs.Nearness.{AreNearest, path_distance, common_suffix, common_prefix, distances};
@@ -6,22 +6,22 @@ ghost use Rattle.vme_faults.specs.Nearness.{AreNearest, path_distance, common_su
 use std::alloc::{AllocError, Global};
 use vcd_read::Variable;
 
-/// A variable, and how far its path is from one that is sought: the nearer one is less, and of those as near the one
-/// that is declared first.
+/// A variable, and how far its path is from the one that is sought. They are ordered by distance, and those at the same
+/// distance as they are declared.
 #[derive(Clone, Copy, Debug, PartialEq, Eq, PartialOrd, Ord)]
 pub struct NearVariable {
-    /// How far its path is from the other one.
+    /// How far its path is from the one that is sought.
     pub distance: usize,
-    /// Its place among all variables, from 0.
+    /// Its index among all variables, from 0.
     pub place: usize,
 }
 
-/// The variables whose paths are nearest to one, so many of them or all, the nearest first, and those as near in the
-/// order of their declaration.
+/// The `count` variables, or all if there are fewer, whose paths are nearest to `path`: the nearest first, and those at
+/// the same distance in the order of their declaration.
 ///
-/// The distance of two paths is how many letters of the longer one lie between what both begin with and what both
-/// end with, whatever the letters' case. So one letter that is wrong, lacking or too much counts 1, wherever it
-/// stands, and a scope its name and its dot. The only error is want of memory.
+/// The distance of two paths is the number of letters of the longer one between what both begin with and what both end
+/// with, whatever the letters' case. So one letter that is wrong, missing or too many counts 1, wherever it is, and a
+/// scope counts as many as its name and its dot have. The only error is want of memory.
 pub fn nearest(
     alloc: Global,
     path: &[u8],
@@ -36,7 +36,7 @@ pub fn nearest(
     Ok(found)
 }
 
-/// How far the path of each variable is from one.
+/// How far the path of each variable is from `path`.
 fn distances(
     alloc: Global,
     path: &[u8],
@@ -64,7 +64,7 @@ fn path_distance(one: &[u8], other: &[u8]) -> usize
     one.len().max(other.len()) - front.saturating_add(end).min(shorter)
 }
 
-/// With how many letters both begin.
+/// The number of letters that both begin with.
 fn common_prefix(one: &[u8], other: &[u8]) -> usize
     ensures { result ≡ common_prefix one.now other.now }
 {
@@ -77,7 +77,7 @@ fn common_prefix(one: &[u8], other: &[u8]) -> usize
     shorter
 }
 
-/// With how many letters both end.
+/// The number of letters that both end with.
 fn common_suffix(one: &[u8], other: &[u8]) -> usize
     ensures { result ≡ common_suffix one.now other.now }
 {

@@ -1,4 +1,4 @@
-//! What is told of each kind of fault or refusal, and how it is written.
+//! The page of each kind of fault or refusal, and how it is written.
 
 ghost use Rattle.std.specs.Prelude.{◌≡◌, ◌++◌, IfOk, OnOk, flat_map};
 ghost use Rattle.vme_faults.specs.Pages.{causes_of, expected_of, means_of, page_text, pages_of, remedy_of, row, rows};
@@ -7,7 +7,7 @@ use crate::refusal_kind::RefusalKind;
 use std::alloc::{AllocError, Global};
 use vme_text::Text;
 
-/// What is told of a kind.
+/// The page of a kind.
 #[derive(Clone, Copy, Debug)]
 pub struct Page {
     /// The kind.
@@ -309,7 +309,7 @@ impl Page {
 }
 
 /// Appends the page of a kind, four lines: its name and what it means, what was expected, what usually causes it, and
-/// the remedy. Without memory the text ends somewhere in them.
+/// the remedy. If memory runs out, the page is cut off.
 pub fn push_page(text: &mut Text, kind: RefusalKind) -> Result<(), AllocError>
     ensures { OnOk result (text.new ≡ text.old ++ page_text kind) }
 {
@@ -341,7 +341,7 @@ fn push_rows(
     push_row(text, b"  remedy", remedy)
 }
 
-/// A name, and behind a colon what it is.
+/// Appends a name, a colon and its value.
 fn push_row(text: &mut Text, name: &[u8], value: &[u8]) -> Result<(), AllocError>
     ensures { OnOk result (text.new ≡ text.old ++ row name.now value.now) }
 {
@@ -351,7 +351,7 @@ fn push_row(text: &mut Text, name: &[u8], value: &[u8]) -> Result<(), AllocError
     text.push(b"\n")
 }
 
-/// Appends the pages of some kinds.
+/// Appends the pages of these kinds.
 fn push_pages(text: &mut Text, kinds: &[RefusalKind]) -> Result<(), AllocError>
     ensures { OnOk result (text.new ≡ text.old ++ flat_map page_text kinds.now) }
 {

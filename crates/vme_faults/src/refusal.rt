@@ -1,4 +1,4 @@
-//! Of which kind a refusal is.
+//! The kind of a refusal.
 
 ghost use Rattle.std.specs.Prelude.{◌≡◌};
 ghost use Rattle.vme_faults.specs.Refusals.{binding_kind, dump_kind, kind_of, listing_kind};

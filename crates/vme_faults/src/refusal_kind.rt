@@ -6,11 +6,11 @@ ghost use Rattle.vme_faults.specs.RefusalKinds.{all_kinds, is_kind_name, kind_na
 /// A kind of refusal: of a dump, of a binding, of a listing, or of any input, in this order.
 #[derive(Clone, Copy, Debug, PartialEq, Eq)]
 pub enum RefusalKind {
-    /// A token of the dump may not stand where it stands.
+    /// A token of the dump isn't allowed where it is.
     BadToken,
     /// A section, a change or a bracket that the dump ends in.
     UnfinishedSection,
-    /// A declaration that is none.
+    /// A `$var` section that declares no variable.
     BadVar,
     /// An `$upscope` where no scope is open.
     ScopeUnderflow,
@@ -32,9 +32,9 @@ pub enum RefusalKind {
     BadLine,
     /// A name that no line of the backplane has, and no group.
     UnknownName,
-    /// A line of the backplane that is bound before.
+    /// A line of the backplane that is bound already.
     NamedTwice,
-    /// A line of the backplane that isn't bound, the least one.
+    /// The line of the backplane with the least number that isn't bound.
     Unbound,
     /// The dump has no variable of this path, or none with these bits.
     NoSuchPath,
@@ -46,17 +46,17 @@ pub enum RefusalKind {
     TooManySteps,
     /// The first line of the listing isn't that of a listing.
     BadHeader,
-    /// A row of the listing isn't written as a row is, or may not stand there.
+    /// A row of the listing isn't written as a row is, or isn't allowed where it is.
     BadRow,
-    /// A row of the listing isn't behind the one before it.
+    /// A row of the listing isn't after the preceding one in the order of rows.
     Unsorted,
     /// The file of an input can't be opened.
     CannotOpen,
-    /// The bytes of an input can't be had.
+    /// An input can't be read.
     CannotRead,
     /// An input has over 268,435,456 bytes.
     TooLong,
-    /// Over 4,096 blocks of the size that was asked.
+    /// Over 4,096 blocks of the size that was asked for.
     TooManyBlocks,
     /// There is no memory, or none is given.
     OutOfMemory,
@@ -97,7 +97,7 @@ impl RefusalKind {
         RefusalKind::OutOfMemory,
     ];
 
-    /// The name of the kind, as a refusal tells it.
+    /// The name of the kind, as a refusal has it.
     pub fn name(self) -> &'static str
         ensures { result.now ≡ kind_name self }
     {
@@ -132,7 +132,7 @@ impl RefusalKind {
         }
     }
 
-    /// The kind of a name, if there is one; kinds differ in their names.
+    /// The kind with this name, if there is one. Different kinds have different names.
     pub fn from_name(name: &[u8]) -> Option<RefusalKind>
         ensures kind { result ≡ kind_named name.now }
         ensures named { IfSome result (λ kind. kind_name kind ≡ name.now) }
@@ -142,7 +142,7 @@ impl RefusalKind {
     }
 }
 
-/// The first of some kinds that has a name.
+/// The first of these kinds with the name `name`.
 fn first_named(kinds: &[RefusalKind], name: &[u8]) -> Option<RefusalKind>
     ensures { result ≡ find (is_kind_name name.now) kinds.now }
 {

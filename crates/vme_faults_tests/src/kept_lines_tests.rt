@@ -24,7 +24,7 @@ fn part(from: usize, to: usize) -> &'static [u8] {
     DUMP.as_bytes().get(from..to).unwrap_or(b"")
 }
 
-/// Whether the dump may be cut at a place, behind a space.
+/// Whether the dump may be cut at a place, after a space.
 fn is_cut(at: usize) -> bool {
     match part(0, at).last() {
         Some(before) => matches!(*before, b' ' | b'\r' | b'\n'),
@@ -32,13 +32,13 @@ fn is_cut(at: usize) -> bool {
     }
 }
 
-/// Whether the line of a fault is that of this number.
+/// Whether the line of the fault is the one with this number.
 fn is_line(lines: &KeptLines, number: usize) -> bool {
     let line = LINES.get(number.saturating_sub(1)).copied().unwrap_or("");
     lines.faulty() == line.as_bytes()
 }
 
-/// Whether the line of this number is kept, where the dump comes in three parts, the last two of which follow a fault.
+/// Whether the line `number` is kept, if the dump comes in three parts: before a fault, with the fault, and the rest.
 fn is_kept(alloc: Global, first: usize, second: usize, number: usize) -> Result<bool, AllocError> {
     let mut lines = KeptLines::new(alloc);
     lines.pass(alloc, part(0, first))?;
@@ -47,7 +47,7 @@ fn is_kept(alloc: Global, first: usize, second: usize, number: usize) -> Result<
     Ok(is_line(&lines, number))
 }
 
-/// Whether it is, where two parts are passed over before the fault.
+/// Whether the line `number` is kept, if two parts come before the one with the fault.
 fn is_kept_of_two(
     alloc: Global,
     first: usize,
@@ -61,7 +61,7 @@ fn is_kept_of_two(
     Ok(is_line(&lines, number))
 }
 
-/// The number of the line that a place is on.
+/// The number of the line that has a place.
 fn line_at(at: usize) -> usize {
     let feeds = part(0, at).iter().filter(|byte| **byte == b'\n').count();
     feeds.saturating_add(1)
@@ -91,7 +91,7 @@ fn the_rest_of_a_line_follows(rt: HostRuntime) -> Result<(), Fail> {
     Ok(())
 }
 
-/// The place behind a part of the dump.
+/// The place after a part of the dump.
 fn behind(text: &str) -> usize {
     memchr::memmem::find(DUMP.as_bytes(), text.as_bytes())
         .unwrap_or(0)

@@ -7,7 +7,7 @@ use vme_faults::{FileKind, NearVariable, Page, RefusalKind, faults_text, nearest
 use vme_listing::ListFault;
 use vme_stream::Refusal;
 
-/// What is told of a kind.
+/// The page of the kind NoSuchPath.
 const OF_NO_SUCH_PATH: &str =
     "NoSuchPath: the dump has no variable of this path, or none with these bits
   expected: the scopes and the name of a variable, joined by dots, and bits that its index has

@@ -1,4 +1,4 @@
--- The items so far of a list that is mapped, and one more.
+-- A prefix of a list that is mapped, and one item more.
 use Rattle.std.proofs.Common.{◌≡◌, ℕ, ◌+◌, ◌<◌, List, [], ◌∷◌, ◌++◌, All, Contains, length, get_or, take, map}
 use Rattle.std.proofs.Common.{sym, ap, subst, ◌∙◌}
 use Rattle.std.specs.List.{AllZip}

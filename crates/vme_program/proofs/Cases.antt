@@ -1,4 +1,4 @@
--- What holds of a case that is known.
+-- Facts about an option, or a result, whose case is known.
 use Rattle.std.proofs.Common.{◌≡◌, ◌⊎◌, ℕ, inr, sym, subst}
 use Rattle.std.specs.Prelude.{Option, Some, None, MatchOption, Result, Ok, Err, IfOk}
 
@@ -6,7 +6,7 @@ pub match_some : {X : Type 0} (w : Option X) (x : X) (A : Type 0) (B : X → Typ
     → MatchOption w A B
 match_some {X} w x A B is holds = let P : Option X → Type 0 = λ v. MatchOption v A B in subst P (sym is) holds
 
--- of two questions the second is asked only where the first has no answer
+-- from `A`, and by the case of `o` `B` or `D`: `A` and `B` if `o` is `None`, and else `C` or `D`
 pub each_of_two : {X : Type 0} (o : Option X) (A B C D : Type 0) → A → MatchOption o B (λ x. D)
     → MatchOption o (A × B) (λ x. C ⊎ D)
 each_of_two None A B C D first second = (first, second)

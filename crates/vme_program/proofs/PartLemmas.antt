@@ -1,4 +1,4 @@
--- What is done with parts that were opened, by their names.
+-- If parts are opened by their names, and `Command` is done with them, `WithParts` holds.
 use Rattle.std.proofs.Common.{◌≡◌, ℕ, List, Option, inr, subst, sym}
 use Rattle.vme_trace.specs.Streams.{Reading, Writing}
 use Rattle.vme_program.specs.Parts.{AreOpened, PartsCommandRelation, WithParts}

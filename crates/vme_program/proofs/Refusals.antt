@@ -1,4 +1,4 @@
--- What is written of an input that can't be opened.
+-- The message about an input that can't be opened.
 use Rattle.std.proofs.Common.{◌≡◌, ℕ, refl}
 use Rattle.std.proofs.KnownBytes.{Appends-nil}
 use Rattle.vme_trace.specs.Streams.{Writing}

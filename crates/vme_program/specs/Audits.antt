@@ -28,12 +28,12 @@ use Rattle.vme_program.specs.declared.environment.WriteResult.TheVariants as wri
 
 -- ---- the words
 
--- where the words are wrong, there was memory
+-- a fault of the words isn't want of memory
 abbrev pub IsOfWordsIfAny : NoWords → Type 0
 IsOfWordsIfAny (Faulty fault) = IsOfWords fault
 IsOfWordsIfAny other = Unit {0}
 
--- the breaks that the words allow, each as it is written
+-- `allowances` are the breaks that the order allows, each by the text of its argument
 abbrev pub AreAllowed : AuditOrder → List Allowance → Type 0
 AreAllowed order allowances = map allowance_text allowances ≡ map string_bytes order.allowed.items
 
@@ -47,34 +47,34 @@ audit_options_of order allowances = record {
   is_quiet = order.is_quiet;
 }
 
--- the words that name the dumps
+-- the names of the dumps
 abbrev pub dump_words : AuditOrder → List (List ℕ)
 dump_words order = map string_bytes order.dumps.items
 
--- the name by which standard input is a dump
+-- the name of standard input, as a dump
 abbrev pub input_name : List ℕ
 input_name = codes "-"
 
--- where the system has standard input as a file
+-- the path of standard input, as a file
 abbrev pub input_path : List ℕ
 input_path = codes "/dev/stdin"
 
--- ---- what is said of a file
+-- ---- the message about a file
 
 -- the line that says what is wrong with the file of this name
 abbrev pub file_line : List ℕ → List ℕ → List ℕ
 file_line name why = codes "vmecheck: " ++ head_of name ++ why ++ codes "\n"
 
--- that line is tried, and this is the status; or there is no memory for it
+-- writing that line is tried, and the status is `first`; or memory ran out
 abbrev pub RefusesFile : List ℕ → List ℕ → ℕ → Writing × Writing → ℕ → Type 0
 RefusesFile name why first err status =
     (TriesToWrite err.0 err.1 (file_line name why) × (status ≡ first)) ⊎ TellsNoMemory err status
 
--- nothing is written to standard output, and for want of memory that is told
+-- nothing is written to standard output, and want of memory is reported
 abbrev pub EndsForMemory : Writing × Writing → Writing × Writing → ℕ → Type 0
 EndsForMemory out err status = (out.1 ≡ out.0) × TellsNoMemory err status
 
--- the status by how the writing of the file ended, where it would be this one
+-- the status by how the writing of test cases ended: `first` if all were written
 abbrev pub EndsCases : List ℕ → WriteResult → ℕ → Writing × Writing → ℕ → Type 0
 EndsCases path written.Whole first err status = (err.1 ≡ err.0) × (status ≡ first)
 EndsCases path other first err status = RefusesFile path (codes "cannot write") 5 err status
@@ -89,14 +89,14 @@ module _ {S R : Type 0} (outside : Environment S R) (s : S) where
       × (((name ≡ input_name) × outside.gives_input s named.dump)
       ⊎ ((name ≢ input_name) × outside.opens s name (Some named.dump)))
 
-  -- the first of these names that can't be opened
+  -- `name` is the first of these names that can't be opened
   abbrev pub IsFirstUnopened : List (List ℕ) → List ℕ → Type 0
   IsFirstUnopened names name =
       (n : ℕ) × (before : List NamedReading)
       × (slice_get names n ≡ Some name) × AllZip IsDumpOf (take n names) before
       × (name ≢ input_name) × outside.opens s name None
 
-  -- which file a dump is, if it can be told
+  -- which file a dump is, if that can be determined
   abbrev pub IsFileOf : NamedReading → Option FileId → Type 0
   IsFileOf named id =
       ((named.name ≡ input_name) × outside.is_at_path s input_path id)
@@ -104,23 +104,23 @@ module _ {S R : Type 0} (outside : Environment S R) (s : S) where
 
   -- ---- the file of test cases
 
-  -- a dump is another file than this
+  -- a dump is another file than `id`
   abbrev pub IsOther : FileId → NamedReading → Type 0
   IsOther id named = (other : Option FileId) × IsFileOf named other × (other ≢ Some id)
 
-  -- a path leads to the binding, which is this file, or to a dump
+  -- `path` leads to the binding, which is the file `binding`, or to a dump
   abbrev pub LeadsToInput : List ℕ → FileId → List NamedReading → Type 0
   LeadsToInput path binding dumps =
       (id : FileId) × outside.is_at_path s path (Some id)
       × ((id ≡ binding) ⊎ ((named : NamedReading) × Contains dumps named × IsFileOf named (Some id)))
 
-  -- or to none of them
+  -- `path` leads neither to the binding, which is the file `binding`, nor to a dump
   abbrev pub LeadsToNoInput : List ℕ → FileId → List NamedReading → Type 0
   LeadsToNoInput path binding dumps =
       (led : Option FileId) × outside.is_at_path s path led
       × IfSome led (λ id. (id ≢ binding) × All (IsOther id) dumps)
 
-  -- test cases are written into the file at a path, behind an audit with this status; for want of memory they aren't
+  -- after an audit with the status `first` test cases are written into the file at `path`, or aren't for want of memory
   abbrev pub SavesCases : List ℕ → ℕ → Writing × Writing → ℕ → Type 0
   SavesCases path first err status =
       ((text : List ℕ) × (ended : WriteResult)
@@ -136,7 +136,7 @@ module _ {S R : Type 0} (outside : Environment S R) (s : S) where
         RefusesBinding binding out err status
         ⊎ AuditsByBinding (audit_options_of order allowances) binding dumps out err status
 
-    -- the same, and behind an audit test cases are written
+    -- the binding is refused, or the dumps are audited by it and then test cases are written at `path`
     abbrev pub AuditsThenSaves : List ℕ → Reading × Reading → List NamedReading
         → Writing × Writing → Writing × Writing → ℕ → Type 0
     AuditsThenSaves path binding dumps out err status =
@@ -145,7 +145,8 @@ module _ {S R : Type 0} (outside : Environment S R) (s : S) where
         × AuditsByBinding (audit_options_of order allowances) binding dumps out (err.0, said) first
         × SavesCases path first (said, err.1) status)
 
-    -- unless they would be written over an input, or it can't be told which file the binding is: then nothing is read
+    -- the dumps are audited and test cases are written; but nothing is read if `path` leads to an input, or if it can't
+    -- be determined which file the binding is
     abbrev pub AuditsAndSaves : List ℕ → Reading × Reading → List NamedReading
         → Writing × Writing → Writing × Writing → ℕ → Type 0
     AuditsAndSaves path binding dumps out err status =
@@ -154,7 +155,7 @@ module _ {S R : Type 0} (outside : Environment S R) (s : S) where
         × ((LeadsToInput path id dumps × (out.1 ≡ out.0) × RefusesFile path (codes "is an input") 3 err status)
         ⊎ (LeadsToNoInput path id dumps × AuditsThenSaves path binding dumps out err status)))
 
-    -- the inputs were opened: test cases are written where a word says where
+    -- the inputs are open: they are audited, and test cases are written if the order names a file for them
     abbrev pub AuditsOpened : Reading × Reading → List NamedReading
         → Writing × Writing → Writing × Writing → ℕ → Type 0
     AuditsOpened binding dumps out err status =
@@ -162,7 +163,7 @@ module _ {S R : Type 0} (outside : Environment S R) (s : S) where
         (AuditsBy binding dumps out err status)
         (λ path. AuditsAndSaves path binding dumps out err status)
 
-    -- behind the binding each dump is opened; the first that can't be is told, and nothing is read
+    -- the binding is open: each dump is opened; the first that can't be opened is reported, and nothing is read
     abbrev pub AuditsNamed : Reading × Reading → Writing × Writing → Writing × Writing → ℕ → Type 0
     AuditsNamed binding out err status =
         EndsForMemory out err status
@@ -171,7 +172,7 @@ module _ {S R : Type 0} (outside : Environment S R) (s : S) where
         ⊎ ((dumps : List NamedReading) × AllZip IsDumpOf (dump_words order) dumps
         × AuditsOpened binding dumps out err status))
 
-  -- the binding is opened, and then the dumps
+  -- the binding is opened, and then the dumps; or memory ran out
   abbrev pub AuditsFiles : AuditOrder → Writing × Writing → Writing × Writing → ℕ → Type 0
   AuditsFiles order out err status =
       EndsForMemory out err status

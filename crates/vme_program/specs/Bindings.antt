@@ -1,4 +1,4 @@
--- What a binding is written for.
+-- The dump that a binding is written for.
 use Rattle.std.specs.Prelude.{◌≡◌, ℕ, List, Option, option_map, string_bytes}
 use Rattle.vme_trace.specs.Streams.{Reading, Writing}
 use Rattle.vme_stream.specs.declared.refusal.Input.TheVariants.{Dump}
@@ -11,12 +11,12 @@ use denote.Ref.{Bor}
 abbrev pub IsScopeOf : BindOrder → Option (Bor (List ℕ)) → Type 0
 IsScopeOf order scope = option_map (λ path. path.now) scope ≡ option_map string_bytes order.scope
 
--- a binding is written for a dump, of the slots that the order tells and of the scope that it names
+-- a binding is written for a dump, with the slots and the scope that the order gives
 abbrev pub BindsBy : BindOrder → Reading × Reading → Writing × Writing → Writing × Writing → ℕ → Type 0
 BindsBy order dump out err status =
     (scope : Option (Bor (List ℕ))) × IsScopeOf order scope × TellsBinding order.slots scope dump out err status
 
--- for the dump that the order names
+-- a binding is written for the dump that the order names
 abbrev pub BindsFile : (List ℕ → Option Reading → Type 0) → BindOrder → Writing × Writing → Writing × Writing → ℕ
     → Type 0
 BindsFile opens order = WithInput opens (string_bytes order.dump) Dump (BindsBy order)

@@ -20,14 +20,14 @@ use Rattle.vme_program.specs.Saves.{MayBeSaved, RefusesPlace, Saves}
 use Rattle.vme_program.specs.declared.save.InputIds.{InputIds}
 use Rattle.vme_program.specs.declared.environment.Environment.{Ghosts as Environment}
 
--- the words that say where the viewer's file and the picture are wanted, if they are
+-- the paths at which the viewer's file and the picture are wanted, if they are
 abbrev pub viewer_word : ExplainOrder → Option (List ℕ)
 viewer_word order = option_map string_bytes order.viewer
 
 abbrev pub picture_word : ExplainOrder → Option (List ℕ)
 picture_word order = option_map string_bytes order.picture
 
--- neither is wanted, or one is
+-- neither file is wanted; `AsksSomeFile`: at least one is
 abbrev pub AsksNoFile : ExplainOrder → Type 0
 AsksNoFile order = (viewer_word order ≡ None) × (picture_word order ≡ None)
 
@@ -35,13 +35,13 @@ abbrev pub AsksSomeFile : ExplainOrder → Type 0
 AsksSomeFile order = (is_some (viewer_word order) ≡ true) ⊎ (is_some (picture_word order) ≡ true)
 
 module _ {S R : Type 0} (outside : Environment S R) (s : S) where
-  -- whether two paths are one, or one file stands at both
+  -- `both` says whether two paths are equal, or one file is at both
   abbrev pub IsOnePlace : List ℕ → List ℕ → Bool → Type 0
   IsOnePlace one other both =
       (a b : PathEntry) × outside.has_entry s one a × outside.has_entry s other b
       × (both ≡ (bytes_eq one other || is_one_file a b))
 
-  -- where files are wanted at two paths, these are two places, or they are one
+  -- not both files are wanted, or they are wanted at two places; `AreShared`: both are wanted at one place
   abbrev pub AreApart : Option (List ℕ) → Option (List ℕ) → Type 0
   AreApart viewer picture =
       MatchOption viewer (Unit {0}) (λ one. MatchOption picture (Unit {0}) (λ other. IsOnePlace one other false))
@@ -55,13 +55,13 @@ module _ {S R : Type 0} (outside : Environment S R) (s : S) where
     abbrev pub IsAllowed : Option (List ℕ) → Type 0
     IsAllowed word = MatchOption word (Unit {0}) (λ path. MayBeSaved (outside.has_entry s) path inputs None)
 
-    -- one is wanted there, and may not be written
+    -- a file is wanted at this path, and may not be written there
     abbrev pub IsRefusedAt : Option (List ℕ) → Type 0
     IsRefusedAt word =
         (path : List ℕ) × (refusal : SaveRefusal) × (word ≡ Some path)
         × MayBeSaved (outside.has_entry s) path inputs (Some refusal)
 
-    -- these bytes are put at this path, if a file is wanted there
+    -- `bytes` are put at this path, if a file is wanted there
     abbrev pub SavesIfAsked : Option (List ℕ) → List ℕ → ℕ → Writing × Writing → ℕ → Type 0
     SavesIfAsked word bytes first err status =
         MatchOption word
@@ -69,14 +69,15 @@ module _ {S R : Type 0} (outside : Environment S R) (s : S) where
         (λ path. Saves (outside.has_entry s) (outside.replaces s) path inputs bytes first err status)
 
   module _ (order : ExplainOrder) where
-    -- each file that is wanted may be written, or one may not
+    -- each file that is wanted may be written; `OneIsRefused`: one that is wanted may not
     abbrev pub EachIsAllowed : InputIds → Type 0
     EachIsAllowed inputs = IsAllowed inputs (viewer_word order) × IsAllowed inputs (picture_word order)
 
     abbrev pub OneIsRefused : InputIds → Type 0
     OneIsRefused inputs = IsRefusedAt inputs (viewer_word order) ⊎ IsRefusedAt inputs (picture_word order)
 
-    -- and so may both beside each other, or they are wanted at one place
+    -- each file that is wanted may be written, and not both at one place; `IsRefused`: one may not, or both are at one
+    -- place
     abbrev pub AreAllowed : InputIds → Type 0
     AreAllowed inputs = EachIsAllowed inputs × AreApart (viewer_word order) (picture_word order)
 
@@ -90,7 +91,7 @@ module _ {S R : Type 0} (outside : Environment S R) (s : S) where
         × SavesIfAsked inputs (viewer_word order) viewer first (err.0, between) so_far
         × SavesIfAsked inputs (picture_word order) picture so_far (between, err.1) status
 
-    -- it is explained, and then the files are written, if there is an explanation
+    -- the recording is explained, and then the files are written, if there is an explanation
     abbrev pub ExplainsThenSaves : InputIds → Reading × Reading → Reading × Reading
         → Writing × Writing → Writing × Writing → ℕ → Type 0
     ExplainsThenSaves inputs binding dump out err status =
@@ -99,19 +100,19 @@ module _ {S R : Type 0} (outside : Environment S R) (s : S) where
         ⊎ ((viewer picture : List ℕ) × IsPicture picture
         × SavesFiles inputs viewer picture first (said, err.1) status))
 
-    -- unless one of the files may not be written: then nothing is
+    -- if one of the files may not be written, nothing is; else the recording is explained, and the files are written
     abbrev pub ExplainsUnlessRefused : InputIds → Reading × Reading → Reading × Reading
         → Writing × Writing → Writing × Writing → ℕ → Type 0
     ExplainsUnlessRefused inputs binding dump out err status =
         (IsRefused inputs × Writes out.0 out.1 [] × RefusesPlace err status)
         ⊎ (AreAllowed inputs × ExplainsThenSaves inputs binding dump out err status)
 
-    -- it can't be told which file an input is: that is told as one that can't be opened
+    -- it can't be determined which file an input is: the message is that it can't be opened
     abbrev pub IsNoFile : Input → Reading → Writing × Writing → Writing × Writing → ℕ → Type 0
     IsNoFile input told out err status =
         outside.reads_file s told None × Tells (refusal_answer (CannotOpen input)) out err status
 
-    -- the inputs are files, of the binding first
+    -- it is determined which file each input is, the binding first
     abbrev pub ExplainsAndSaves : Reading × Reading → Reading × Reading
         → Writing × Writing → Writing × Writing → ℕ → Type 0
     ExplainsAndSaves binding dump out err status =
@@ -121,7 +122,7 @@ module _ {S R : Type 0} (outside : Environment S R) (s : S) where
         ⊎ ((d : FileId) × outside.reads_file s dump.0 (Some d)
         × ExplainsUnlessRefused (record { binding = b; dump = d }) binding dump out err status)))
 
-    -- the files were opened: it is explained, and files are written where words name them
+    -- the inputs are open: the recording is explained, and files are written if the order names them
     abbrev pub ExplainsOpened : Reading × Reading → Reading × Reading
         → Writing × Writing → Writing × Writing → ℕ → Type 0
     ExplainsOpened binding dump out err status =

@@ -5,7 +5,7 @@ use Rattle.vme_commands.specs.Settled.{ChecksSettled}
 use Rattle.vme_commands.specs.declared.built_in.TheConstants.{BLOCK, BUILT_IN, READS_TERMINAL}
 use Rattle.vme_stream.specs.Outputs.{TriesToWrite}
 
--- on a terminal it is said that a dump is read there
+-- if standard input is a terminal, a message says that a dump is read there
 abbrev pub SaysFirst : Bool → Writing → Writing → Type 0
 SaysFirst true old new = TriesToWrite old new READS_TERMINAL.now
 SaysFirst false old new = new ≡ old

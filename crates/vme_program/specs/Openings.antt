@@ -15,23 +15,23 @@ CommandRelation = Reading × Reading → Writing × Writing → Writing × Writi
 
 -- opening the file of a name gives the state of what is read there, or nothing where that failed
 module _ (opens : List ℕ → Option Reading → Type 0) where
-  -- the file of this name is opened for an input, and this is done with it; or it can't be opened, that is written, and
-  -- nothing else is done
+  -- the file with this name is opened for an input, and `Command` is done with it; or it can't be opened, that is
+  -- written, and nothing else is done
   abbrev pub WithInput : List ℕ → Input → CommandRelation → Writing × Writing → Writing × Writing → ℕ → Type 0
   WithInput name input Command out err status =
       (opens name None × Tells (refusal_answer (CannotOpen input)) out err status)
       ⊎ ((states : Reading × Reading) × opens name (Some states.0) × Command states out err status)
 
-  -- this is the first file of a recording that can't be opened: the binding is tried before the dump, and there is no
-  -- listing
+  -- `input` is the first file of a recording that can't be opened: the binding is tried before the dump, and there is
+  -- no listing
   abbrev pub IsFirstUnopenedInput : RecordingFiles → Input → Type 0
   IsFirstUnopenedInput files Binding = opens (string_bytes files.binding) None
   IsFirstUnopenedInput files Dump =
       ((binding : Reading) × opens (string_bytes files.binding) (Some binding)) × opens (string_bytes files.dump) None
   IsFirstUnopenedInput files Listing = ⊥
 
-  -- the files of a recording are opened, and this is done with the binding and the dump; or it is written which is the
-  -- first that can't be opened, and nothing else is done
+  -- the files of a recording are opened, and `Command` is done with the binding and the dump; or it is written which is
+  -- the first that can't be opened, and nothing else is done
   abbrev pub WithRecording : RecordingFiles → (Reading × Reading → CommandRelation) → Writing × Writing
       → Writing × Writing → ℕ → Type 0
   WithRecording files Command out err status =

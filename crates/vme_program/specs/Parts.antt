@@ -16,13 +16,13 @@ use Rattle.vme_program.specs.Openings.{WithRecording}
 abbrev pub options_of : PartOrder → PartOptions
 options_of order = record { number = order.number; listing = order.listing }
 
--- the listing of the recording whose parts these inputs are is written, or its verdict
+-- the listing of the recording whose parts are these inputs is written, or the verdict on it
 abbrev pub TellsParts : Bool → Option ℕ → List (List ℕ) → List Reading × List Reading
     → Writing × Writing → Writing × Writing → ℕ → Type 0
 TellsParts true files names parts = ListsRecording names parts files
 TellsParts false files names parts = TellsRecording names parts files
 
--- the same relation for a command on parts: of their states before and after
+-- what a command does with parts that were opened: as `CommandRelation`, but of the states of all parts
 abbrev pub PartsCommandRelation : Type 1
 PartsCommandRelation = List Reading × List Reading → Writing × Writing → Writing × Writing → ℕ → Type 0
 
@@ -37,7 +37,8 @@ module _ (opens : List ℕ → Option Reading → Type 0) where
       (n : ℕ) × (before : List Reading)
       × (slice_get names n ≡ Some name) × AreOpened (take n names) before × opens name None
 
-  -- each is opened, and this is done with them; the first that can't be is told, and nothing is read
+  -- each part is opened, and `Command` is done with them; the first that can't be opened is reported, and nothing is
+  -- read
   abbrev pub WithParts : List (List ℕ) → PartsCommandRelation → Writing × Writing → Writing × Writing → ℕ → Type 0
   WithParts names Command out err status =
       EndsForMemory out err status
@@ -55,7 +56,7 @@ module _ (opens : List ℕ → Option Reading → Type 0) where
       let words = map string_bytes order.parts.items in
       WithParts words (WritesJoin words)
 
-  -- the recording is told of whose parts they are
+  -- the listing of the recording with these parts is written, or the verdict on it
   abbrev pub TellsOfFiles : TellOrder → Writing × Writing → Writing × Writing → ℕ → Type 0
   TellsOfFiles order =
       let words = map string_bytes order.parts.items in

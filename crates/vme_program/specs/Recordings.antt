@@ -30,7 +30,7 @@ module _ (opens : List ℕ → Option Reading → Type 0) where
   abbrev pub AnnotatesFiles : AnnotateOrder → Writing × Writing → Writing × Writing → ℕ → Type 0
   AnnotatesFiles order = WithRecording opens order.recording (λ binding dump. Annotates order.skew binding dump)
 
-  -- behind the binding and the dump the listing is opened
+  -- after the binding and the dump the listing is opened
   abbrev pub ConfirmsListing : ConfirmOrder → Reading × Reading → Reading × Reading
       → Writing × Writing → Writing × Writing → ℕ → Type 0
   ConfirmsListing order binding dump = WithInput opens (string_bytes order.listing) Listing

@@ -11,21 +11,21 @@ use Rattle.vme_program.specs.declared.save.InputIds.{InputIds}
 use Rattle.vme_program.specs.declared.environment.WriteResult.{WriteResult}
 use Rattle.vme_program.specs.declared.environment.WriteResult.TheVariants as written
 
--- nothing is written for want of memory, and that is told
+-- nothing is written for want of memory, and that is reported
 abbrev pub TellsNoMemory : Writing × Writing → ℕ → Type 0
 TellsNoMemory err status = TriesToWrite err.0 err.1 (line_of (refusal_text Memory)) × (status ≡ 4)
 
--- what stands at the path may not be written over: a text says it
+-- what is at the path may not be overwritten, and a text says so; or memory ran out
 abbrev pub RefusesPlace : Writing × Writing → ℕ → Type 0
 RefusesPlace err status =
     ((text : List ℕ) × TriesToWrite err.0 err.1 text × (status ≡ 3)) ⊎ TellsNoMemory err status
 
--- by what stands at the path a file may be written there, or this is why it may not
+-- `refusal` is why no file may be written at the path, by what is there, or `None` if one may
 abbrev pub MayBeSaved : (List ℕ → PathEntry → Type 0) → List ℕ → InputIds → Option SaveRefusal → Type 0
 MayBeSaved has_entry path inputs refusal =
     (p : PathEntry) × has_entry path p × (refusal ≡ save_refusal p inputs.binding inputs.dump)
 
--- the status by how the writing of a file ended, where it would be this one
+-- the status by how the writing of a file ended: `first` if all was written
 abbrev pub EndsWriting : WriteResult → ℕ → Writing × Writing → ℕ → Type 0
 EndsWriting written.Whole first err status = (err.1 ≡ err.0) × (status ≡ first)
 EndsWriting written.Failed first err status =
@@ -34,7 +34,7 @@ EndsWriting written.Memory first err status = TellsNoMemory err status
 
 module _ (has_entry : List ℕ → PathEntry → Type 0) (replaces : List ℕ → List ℕ → WriteResult → Type 0) (path : List ℕ)
     (inputs : InputIds) where
-  -- these bytes are put at the path, unless what stands there may not be written over
+  -- `bytes` are put at the path, unless what is there may not be overwritten
   abbrev pub Saves : List ℕ → ℕ → Writing × Writing → ℕ → Type 0
   Saves bytes first err status =
       ((refusal : SaveRefusal) × MayBeSaved has_entry path inputs (Some refusal) × RefusesPlace err status)

@@ -1,4 +1,4 @@
--- What the commands tell that write a text.
+-- What the commands do that write a text.
 use Rattle.std.specs.Prelude.{◌≡◌, ℕ, List, Option, None, Result, MatchOption, IsSomeAnd, option_map, string_bytes}
 use Rattle.vme_trace.specs.Names.{rule_named}
 use Rattle.vme_trace.specs.Streams.{Reading, Writing}
@@ -14,14 +14,14 @@ use Rattle.vme_words.specs.declared.order.RulesOrder.{RulesOrder}
 use Rattle.vme_words.specs.declared.order.VariablesOrder.{VariablesOrder}
 use Rattle.vme_program.specs.Openings.{WithInput}
 
--- the variables of the dump that an order names are told
+-- the variables of the dump that an order names are written
 abbrev pub TellsFile : (List ℕ → Option Reading → Type 0) → VariablesOrder → Writing × Writing → Writing × Writing → ℕ
     → Type 0
 TellsFile opens order = WithInput opens (string_bytes order.dump) Dump TellsVariables
 
 -- ---- rules
 
--- the word that names a rule
+-- the name of a rule in an order, if it has one
 abbrev pub rule_word : RulesOrder → Option (List ℕ)
 rule_word order = option_map string_bytes order.rule
 
@@ -29,17 +29,17 @@ rule_word order = option_map string_bytes order.rule
 abbrev pub IsRuleOf : RulesOrder → Option Rule → Type 0
 IsRuleOf order rule = MatchOption (rule_word order) (rule ≡ None) (λ name. rule_named name ≡ rule)
 
--- it names none that there is
+-- the order names a rule that doesn't exist
 abbrev pub NamesNoRule : RulesOrder → Type 0
 NamesNoRule order = IsSomeAnd (rule_word order) (λ name. rule_named name ≡ None)
 
--- what rules ask is told
+-- what the rules require is written
 abbrev pub TellsRules : Writing × Writing → Writing × Writing → ℕ → Type 0
 TellsRules out err status = (made : Result (List ℕ) Refusal) × IsText made × Ends (text_answer_by 0 made) out err status
 
 -- ---- kinds of refusals
 
--- the word that names a kind of refusal
+-- the name of a kind of refusal in an order, if it has one
 abbrev pub kind_word : FaultsOrder → Option (List ℕ)
 kind_word order = option_map string_bytes order.kind
 
@@ -47,11 +47,11 @@ kind_word order = option_map string_bytes order.kind
 abbrev pub IsKindOf : FaultsOrder → Option RefusalKind → Type 0
 IsKindOf order kind = MatchOption (kind_word order) (kind ≡ None) (λ name. kind_named name ≡ kind)
 
--- it names none that there is
+-- the order names a kind that doesn't exist
 abbrev pub NamesNoKind : FaultsOrder → Type 0
 NamesNoKind order = IsSomeAnd (kind_word order) (λ name. kind_named name ≡ None)
 
--- the page of the kind that an order names is told, or that of each
+-- the page of the kind that an order names is written, or that of each kind
 abbrev pub TellsFaults : FaultsOrder → Writing × Writing → Writing × Writing → ℕ → Type 0
 TellsFaults order out err status = (only : Option RefusalKind) × (made : Result (List ℕ) Refusal)
     × IsKindOf order only × ArePages only made × Ends (text_answer_by 0 made) out err status

@@ -30,12 +30,12 @@ use vme_words::{AuditOrder, OrderFault, Task, task_fault};
 /// The name by which standard input is a dump.
 const STANDARD_INPUT: &str = "-";
 
-/// Why words don't say how to audit.
+/// Why the words, i.e. the arguments, don't say how to audit.
 #[derive(Drop)]
 enum NoWords {
     /// They are wrong.
     Faulty(OrderFault),
-    /// There is no memory.
+    /// Memory ran out.
     Memory,
 }
 
@@ -50,9 +50,9 @@ impl From<AllocError> for NoWords {
 /// Why there are no dumps to audit.
 #[derive(Drop)]
 enum NoDumps<'a> {
-    /// The one of this name can't be opened.
+    /// The dump with this name can't be opened.
     Unopened(&'a str),
-    /// There is no memory.
+    /// Memory ran out.
     Memory,
 }
 
@@ -90,7 +90,8 @@ pub fn audit_files<S: Environment, O: Sink, E: Sink>(
     }
 }
 
-/// The breaks that an order allows; or what is wrong with the words. Standard input is one dump at most.
+/// The allowances of an order, for breaks, i.e. violations of a rule; or what is wrong with the words. Standard input
+/// may be one dump at most.
 fn allowances_in(alloc: Global, order: &AuditOrder) -> Result<Vec<Allowance>, NoWords>
     ensures allowed { IfOk result (λ allowances. AreAllowed order.now allowances.items) }
     ensures of_words { IfErr result IsOfWordsIfAny }
@@ -113,14 +114,14 @@ fn wrong_words(alloc: Global, message: &str) -> NoWords
     NoWords::Faulty(task_fault(alloc, Task::Audit, message))
 }
 
-/// The words that name the dumps.
+/// The names of the dumps.
 fn dump_names(order: &AuditOrder) -> &[String]
     ensures { map string_bytes result.now ≡ dump_words order.now }
 {
     order.dumps.as_slice()
 }
 
-/// Audits those files.
+/// Opens the binding and the dumps of an order, and audits the dumps.
 #[inline(never)]
 fn audit_binding<S: Environment, O: Sink, E: Sink>(
     alloc: Global,
@@ -148,7 +149,7 @@ fn audit_binding<S: Environment, O: Sink, E: Sink>(
     }
 }
 
-/// The same, by a binding that was opened.
+/// Opens the dumps of an order, and audits them by a binding that is open.
 #[inline(never)]
 fn audit_named<S: Environment, O: Sink, E: Sink>(
     alloc: Global,
@@ -179,7 +180,7 @@ fn audit_named<S: Environment, O: Sink, E: Sink>(
     }
 }
 
-/// The dumps by their names, opened in this order.
+/// Opens the dumps with these names, in this order.
 fn open_dumps<'a, S: Environment>(
     alloc: Global,
     environment: &S,
@@ -202,7 +203,7 @@ fn open_dumps<'a, S: Environment>(
     Ok(dumps)
 }
 
-/// A dump by its name, opened.
+/// Opens the dump with this name: standard input, or a file.
 fn open_dump<'a, S: Environment>(environment: &S, name: &'a str) -> Option<NamedDump<'a, S::Reader>>
     ensures { MatchOption result
         ((name.now ≢ input_name) × S.opens environment.now name.now None)
@@ -218,7 +219,7 @@ fn open_dump<'a, S: Environment>(environment: &S, name: &'a str) -> Option<Named
     }
 }
 
-/// What reads it.
+/// Opens the reader of the dump with this name.
 fn open_reader<S: Environment>(environment: &S, name: &str) -> Option<S::Reader>
     ensures { MatchOption result
         ((name.now ≢ input_name) × S.opens environment.now name.now None)
@@ -287,7 +288,7 @@ fn options_of<'a>(order: &AuditOrder, allowances: &'a [Allowance]) -> AuditOptio
     }
 }
 
-/// The same, where test cases are wanted at a path: they are written over no input.
+/// Audits inputs that are open, and writes test cases at `path`. If `path` leads to an input, it only says so.
 #[inline(never)]
 fn audit_and_save<S: Environment, O: Sink, E: Sink>(
     alloc: Global,
@@ -325,7 +326,7 @@ fn audit_and_save<S: Environment, O: Sink, E: Sink>(
     }
 }
 
-/// Whether a path leads to the binding, which is this file, or to a dump.
+/// Whether `path` leads to the binding, which is the file `binding`, or to a dump.
 fn leads_to_input<S: Environment>(
     environment: &S,
     path: &str,
@@ -343,7 +344,7 @@ fn leads_to_input<S: Environment>(
     }
 }
 
-/// Whether a dump is this file.
+/// Whether one of the dumps is the file `id`.
 fn is_a_dump<S: Environment>(
     environment: &S,
     id: FileId,
@@ -363,7 +364,7 @@ fn is_a_dump<S: Environment>(
     false
 }
 
-/// Which file a dump is, if it can be told.
+/// Which file a dump is, if that can be determined.
 fn id_of_dump<S: Environment>(environment: &S, named: &NamedDump<'_, S::Reader>) -> Option<FileId>
     ensures { IsFileOf S.Environment environment.now
         (record { name = named.now.name.now; dump = S.Reader.reading named.now.dump }) result }
@@ -375,7 +376,7 @@ fn id_of_dump<S: Environment>(environment: &S, named: &NamedDump<'_, S::Reader>)
     }
 }
 
-/// Audits those inputs, and then writes test cases at a path.
+/// Audits inputs that are open, and then writes test cases at `path`.
 #[inline(never)]
 fn audit_then_save<S: Environment, O: Sink, E: Sink>(
     alloc: Global,
@@ -403,7 +404,7 @@ fn audit_then_save<S: Environment, O: Sink, E: Sink>(
     }
 }
 
-/// Writes the file of test cases. The answer is this exit status, or another where it isn't written.
+/// Writes the file of test cases. Returns `status`, or another exit status where the file isn't written.
 #[inline(never)]
 fn save_cases<S: Environment, E: Sink>(
     alloc: Global,
@@ -428,7 +429,7 @@ fn save_cases<S: Environment, E: Sink>(
     }
 }
 
-/// Says that test cases aren't written, if they aren't. The answer is this exit status, or another where they aren't.
+/// Reports it if test cases aren't written. Returns `status`, or another exit status where they aren't written.
 fn end_cases<E: Sink>(
     alloc: Global,
     path: &str,
@@ -444,7 +445,7 @@ fn end_cases<E: Sink>(
     }
 }
 
-/// Says what is wrong with a file. The answer is this exit status, or that of want of memory.
+/// Reports what is wrong with a file. Returns `status`, or the exit status of want of memory.
 pub(crate) fn refuse_file<E: Sink>(
     alloc: Global,
     name: &str,
@@ -463,7 +464,7 @@ pub(crate) fn refuse_file<E: Sink>(
     }
 }
 
-/// The line that says it.
+/// The line that says what is wrong with a file.
 fn file_text(alloc: Global, name: &str, why: &[u8]) -> Result<Text, AllocError>
     ensures { IfOk result (λ text. text ≡ file_line name.now why.now) }
 {

@@ -10,8 +10,8 @@ use vme_text_commands::bind::bind;
 use vme_trace::Sink;
 use vme_words::BindOrder;
 
-/// Writes a binding for the dump that an order names, of the slots and in the scope that it tells. The answer is the
-/// exit status.
+/// Writes a binding for the dump that an order names, with the slots and the scope that it gives. Returns the exit
+/// status.
 #[inline(never)]
 pub fn bind_file<S: Environment, O: Sink, E: Sink>(
     alloc: Global,

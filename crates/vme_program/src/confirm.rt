@@ -37,7 +37,7 @@ pub fn confirm_files<S: Environment, O: Sink, E: Sink>(
     }
 }
 
-/// The same, by a binding and a dump that were opened.
+/// Opens the listing that an order names, and compares it, by a binding and a dump that are open.
 #[inline(never)]
 fn confirm_listing<S: Environment, B: Source, D: Source, O: Sink, E: Sink>(
     alloc: Global,

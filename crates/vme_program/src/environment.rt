@@ -26,7 +26,7 @@ pub enum WriteResult {
 /// Each ghost member relates the arguments of a call to its result. A `Reading` is the state of a reader: the bytes
 /// that it still gives, and how its reads end.
 pub trait Environment {
-    /// What reads a file, or standard input.
+    /// The reader of a file, or of standard input.
     type Reader: Source + Drop;
 
     /// Opening the file of this name gave a reader in this state, or failed.
@@ -44,7 +44,7 @@ pub trait Environment {
     /// The file at this path has this identity; None where there is none.
     ghost is_at_path: { Self → List ℕ → Option FileId → Type 0 };
 
-    /// This is at the path.
+    /// This is what is at the path.
     ghost has_entry: { Self → List ℕ → PathEntry → Type 0 };
 
     /// A file of these bytes has replaced what was at this path, or the writing ended otherwise.
@@ -57,7 +57,7 @@ pub trait Environment {
     fn open_file(&self, name: &str) -> Option<Self::Reader>
         ensures { opens self.now name.now (option_map Self.Reader.reading result) };
 
-    /// Standard input.
+    /// The reader of standard input.
     fn input(&self) -> Self::Reader
         ensures { gives_input self.now (Self.Reader.reading result) };
 

@@ -17,9 +17,8 @@ use vme_text_commands::explain::{ExplainedFiles, InputNames, explain};
 use vme_trace::{Sink, Source};
 use vme_words::ExplainOrder;
 
-/// Says why and where the recording of the files that an order names is judged as it is, and writes the waveform
-/// viewer's file and the picture, if they are wanted. Where one of these may not be written, nothing is. The answer is
-/// the exit status.
+/// Judges the recording of the files that an order names, says why and where, and writes the waveform viewer's file and
+/// the picture, if they are wanted. If one of these may not be written, nothing is. Returns the exit status.
 #[inline(never)]
 pub fn explain_files<S: Environment, O: Sink, E: Sink>(
     alloc: Global,
@@ -45,7 +44,7 @@ pub fn explain_files<S: Environment, O: Sink, E: Sink>(
     }
 }
 
-/// The same, by a binding and a dump that were opened.
+/// Explains the recording of a binding and a dump that are open, and writes the files that are wanted.
 #[inline(never)]
 fn explain_opened<S: Environment, O: Sink, E: Sink>(
     alloc: Global,
@@ -85,7 +84,7 @@ fn asks_no_file(order: &ExplainOrder) -> bool
     viewer_path(order).is_none() && picture_path(order).is_none()
 }
 
-/// The same, where files are wanted.
+/// Explains the recording, and writes the files that are wanted, of which there is at least one.
 #[inline(never)]
 fn explain_and_save<S: Environment, O: Sink, E: Sink>(
     alloc: Global,
@@ -114,7 +113,8 @@ fn explain_and_save<S: Environment, O: Sink, E: Sink>(
     explain_unless_refused(alloc, environment, order, inputs, binding, dump, out, err)
 }
 
-/// The same, where it is known which files the inputs are.
+/// Explains the recording of the input files `inputs`, and writes the files that are wanted, unless one may not be
+/// written.
 #[inline(never)]
 fn explain_unless_refused<S: Environment, B: Source, D: Source, O: Sink, E: Sink>(
     alloc: Global,
@@ -143,8 +143,8 @@ struct RefusedPlace<'a> {
     refusal: SaveRefusal,
 }
 
-/// The first of the places where files are wanted at which none may be written, or at which both are wanted, if there
-/// is one.
+/// The first place at which a file is wanted and may not be written, or else the one at which both are wanted, if there
+/// is such a place.
 fn refused_place<'a, S: Environment>(
     environment: &S,
     order: &'a ExplainOrder,
@@ -159,7 +159,7 @@ fn refused_place<'a, S: Environment>(
     }
 }
 
-/// The first of the places where files are wanted at which none may be written, if there is one.
+/// The first place at which a file is wanted and may not be written, if there is one.
 fn refused_by_itself<'a, S: Environment>(
     environment: &S,
     order: &'a ExplainOrder,
@@ -174,7 +174,7 @@ fn refused_by_itself<'a, S: Environment>(
     }
 }
 
-/// The place at this path, if another file is wanted there too.
+/// The place of the picture, if the viewer's file is wanted there too.
 fn shared_place<'a, S: Environment>(
     environment: &S,
     viewer: Option<&str>,
@@ -192,7 +192,7 @@ fn shared_place<'a, S: Environment>(
     }
 }
 
-/// The same, where the other file is wanted at this path.
+/// The place of the picture, if the viewer's file, which is wanted at `viewer`, is wanted there too.
 fn shared_with<'a, S: Environment>(
     environment: &S,
     viewer: &str,
@@ -209,7 +209,7 @@ fn shared_with<'a, S: Environment>(
     }
 }
 
-/// The second of two places, if they are one.
+/// The place at `picture`, if the path `viewer` leads there too.
 fn shared_by<'a, S: Environment>(
     environment: &S,
     viewer: &str,
@@ -228,7 +228,7 @@ fn shared_by<'a, S: Environment>(
     }
 }
 
-/// Whether two paths are one, or one file stands at both.
+/// Whether two paths are equal, or one file is at both.
 fn is_one_place<S: Environment>(environment: &S, one: &str, other: &str) -> bool
     ensures { IsOnePlace S.Environment environment.now one.now other.now result }
 {
@@ -238,7 +238,7 @@ fn is_one_place<S: Environment>(environment: &S, one: &str, other: &str) -> bool
     is_one_path || is_one_file(&first, &second)
 }
 
-/// The place at this path, if a file is wanted there and may not be written.
+/// The place at the path `wanted`, if there is such a path and no file may be written there.
 fn refused_at<'a, S: Environment>(
     environment: &S,
     wanted: Option<&'a str>,
@@ -254,7 +254,7 @@ fn refused_at<'a, S: Environment>(
     }
 }
 
-/// This place, if a file may not be written there.
+/// The place at `path`, if no file may be written there.
 fn refusal_of<'a, S: Environment>(
     environment: &S,
     path: &'a str,
@@ -269,7 +269,7 @@ fn refusal_of<'a, S: Environment>(
     }
 }
 
-/// The same, where each file that is wanted may be written.
+/// Explains the recording, and then writes the files that are wanted, each of which may be written.
 #[inline(never)]
 fn explain_then_save<S: Environment, B: Source, D: Source, O: Sink, E: Sink>(
     alloc: Global,
@@ -300,7 +300,7 @@ fn explain_then_save<S: Environment, B: Source, D: Source, O: Sink, E: Sink>(
     }
 }
 
-/// Writes the files that are wanted. The answer is this exit status, or another where one isn't written.
+/// Writes the files that are wanted. Returns `status`, or another exit status where one isn't written.
 #[inline(never)]
 fn save_files<S: Environment, E: Sink>(
     alloc: Global,
@@ -336,7 +336,7 @@ fn save_files<S: Environment, E: Sink>(
     )
 }
 
-/// Writes a file, where it is wanted. The answer is this exit status, or another where it isn't written.
+/// Writes a file, if it is wanted. Returns `status`, or another exit status where it isn't written.
 #[inline(never)]
 fn save_wanted<S: Environment, E: Sink>(
     alloc: Global,
@@ -376,7 +376,7 @@ fn picture_path(order: &ExplainOrder) -> Option<&str>
     }
 }
 
-/// What the files of the inputs that are explained are named.
+/// The names of the input files.
 fn input_names(order: &ExplainOrder) -> InputNames<'_> {
     InputNames {
         binding: order.recording.binding.as_bytes(),

@@ -10,8 +10,8 @@ use vme_text_commands::tell_faults;
 use vme_trace::Sink;
 use vme_words::{FaultsOrder, OrderFault, Task, task_fault};
 
-/// Says what the kind of refusal means that an order names, or each of them where it names none. The answer is the
-/// exit status, or that there is no such kind.
+/// Says what the kind of refusal that an order names means, or each kind, if it names none. Returns the exit status, or
+/// that there is no such kind.
 #[inline(never)]
 pub fn faults_named<O: Sink, E: Sink>(
     alloc: Global,

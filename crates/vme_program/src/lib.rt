@@ -8,8 +8,9 @@
 //!   standard input. Standard output and standard error are sinks that the caller brings.
 //! - `opening`: the binding and the dump that an order names, or a message that one can't be opened.
 //! - `check`, `list`, `confirm`, `annotate`, `explain`, `bind`, `variables`, `rules`, `faults`,
-//!   `audit`: one command each, which takes its own variant of the order, over the files that this
-//!   names. `parts`: the commands `part`, `join` and `tell`. `input`: a dump on standard input.
+//!   `audit`: one command each, which takes its own variant of the order, i.e. the parsed arguments,
+//!   over the files that this names. `parts`: the commands `part`, `join` and `tell`. `input`: a dump
+//!   on standard input.
 //! - `save`: the waveform viewer's file and the picture, which are written over no input and over
 //!   nothing that the program didn't write.
 //!
@@ -22,7 +23,7 @@
 //! - The binding is opened, then the dump, then the listing (`WithRecording`, `WithInput`). A message
 //!   names the first that can't be opened, with status 3, and nothing else is written.
 //! - With `--gtkw` or `--svg` nothing is written where one of these files may not be written, by
-//!   what stands there; else the explanation is that without them, and each file is put at its path
+//!   what is there; else the explanation is that without them, and each file is put at its path
 //!   or the status says that it isn't (`ExplainsAndSaves`). What is put for `--svg` is a picture:
 //!   well nested markup in which every name is escaped.
 //! - In an audit the binding is opened, and then each dump in order; a message names the first that

@@ -34,8 +34,8 @@ pub fn list_files<R: Threads + Sync, S: Environment, O: Sink, E: Sink>(
     }
 }
 
-/// The same, of files that were opened, with the times of the instants. What this takes of the stack isn't taken where
-/// no times are asked for.
+/// Lists the recording of files that are open, with the times of the instants. Its stack is used only where times are
+/// asked for.
 #[inline(never)]
 fn write_timed_rows<B: Source, D: Source, O: Sink, E: Sink>(
     alloc: Global,
@@ -52,7 +52,7 @@ fn write_timed_rows<B: Source, D: Source, O: Sink, E: Sink>(
     list_times(alloc, binding, dump, options.block, options.skew, out, err)
 }
 
-/// The same, of files that were opened: with the times of the instants, where the order asks for them.
+/// Lists the recording of files that are open, with the times of the instants if the order asks for them.
 #[inline(never)]
 fn write_rows<R: Threads + Sync, B: Source, D: Source, O: Sink, E: Sink>(
     rt: &R,

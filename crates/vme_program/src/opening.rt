@@ -1,4 +1,4 @@
-//! The files that an order names, opened, and what is said of one that can't be.
+//! The files that an order names, opened, and the message about one that can't be.
 
 ghost use Rattle.std.specs.Prelude.{◌≡◌, IfErr, IfOk, Some, string_bytes};
 ghost use Rattle.vme_stream.specs.Texts.{line_of, refusal_status, refusal_text};

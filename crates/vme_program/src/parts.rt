@@ -1,4 +1,4 @@
-//! The commands on parts: `part`, `join` and `tell`.
+//! The commands on parts, i.e. results of judging files of a recording: `part`, `join` and `tell`.
 
 ghost use Rattle.std.specs.Prelude.{◌≡◌, Err, IfOk, IfSome, map, option_map, string_bytes};
 ghost use Rattle.vme_program.specs.Parts.{AreOpened, IsFirstUnopenedPart, JoinsFiles, TellsOfFiles, TellsParts};
@@ -19,9 +19,9 @@ use vme_words::{JoinOrder, PartOrder, TellOrder};
 /// Why parts aren't opened.
 #[derive(Drop)]
 enum NoParts<'a> {
-    /// The one of this name can't be opened.
+    /// The part with this name can't be opened.
     Unopened(&'a str),
-    /// There is no memory.
+    /// Memory ran out.
     Memory,
 }
 
@@ -58,7 +58,7 @@ pub fn part_file<S: Environment, O: Sink, E: Sink>(
     }
 }
 
-/// The parts by their names, opened in this order.
+/// Opens the parts with these names, in this order.
 fn open_parts<'a, S: Environment>(
     alloc: Global,
     environment: &S,
@@ -81,7 +81,7 @@ fn open_parts<'a, S: Environment>(
     Ok(parts)
 }
 
-/// A part by its name, opened.
+/// Opens the part with this name.
 fn open_part<'a, S: Environment>(environment: &S, name: &'a str) -> Option<NamedPart<'a, S::Reader>>
     ensures named { IfSome result (λ named. named.name.now ≡ name.now) }
     ensures opened { S.opens environment.now name.now (option_map (λ named. S.Reader.reading named.part) result) }
@@ -95,7 +95,8 @@ fn open_part<'a, S: Environment>(environment: &S, name: &'a str) -> Option<Named
     }
 }
 
-/// Writes one part of those that an order names: each is opened before one is read. The answer is the exit status.
+/// Joins the parts that an order names into one, and writes it. Each is opened before one is read. Returns the exit
+/// status.
 #[inline(never)]
 pub fn join_files<S: Environment, O: Sink, E: Sink>(
     alloc: Global,
@@ -114,8 +115,8 @@ pub fn join_files<S: Environment, O: Sink, E: Sink>(
     }
 }
 
-/// Tells the verdict of the recording whose parts an order names, or writes its listing: each part is opened before one
-/// is read. The answer is the exit status.
+/// Writes the verdict on the recording whose parts an order names, or its listing. Each part is opened before one is
+/// read. Returns the exit status.
 #[inline(never)]
 pub fn tell_files<S: Environment, O: Sink, E: Sink>(
     alloc: Global,
@@ -134,7 +135,7 @@ pub fn tell_files<S: Environment, O: Sink, E: Sink>(
     }
 }
 
-/// The same, of parts that were opened.
+/// Writes the verdict on the recording of parts that are open, or its listing.
 #[inline(never)]
 fn tell_opened<P: Source, O: Sink, E: Sink>(
     alloc: Global,

@@ -9,8 +9,8 @@ use vme_text_commands::tell_rules;
 use vme_trace::{Rule, Sink};
 use vme_words::{OrderFault, RulesOrder, Task, task_fault};
 
-/// Says what the rule asks that an order names, or each of them where it names none. The answer is the exit status, or
-/// that there is no such rule.
+/// Says what the rule that an order names requires, or each rule, if it names none. Returns the exit status, or that
+/// there is no such rule.
 #[inline(never)]
 pub fn rules_named<O: Sink, E: Sink>(
     alloc: Global,

@@ -1,4 +1,5 @@
-//! The file of the waveform viewer: over no input, and over nothing that the program didn't write itself.
+//! Writes the waveform viewer's file and the picture: over no input, and over nothing that the program didn't write
+//! itself.
 
 ghost use Rattle.vme_program.specs.Saves.{EndsWriting, MayBeSaved, RefusesPlace, Saves};
 ghost use Rattle.vme_stream.specs.Outputs.{TriesToWrite};
@@ -10,7 +11,7 @@ use vme_explain::{FileId, SaveRefusal, save_refusal, save_refusal_text};
 use vme_stream::{Refusal, cannot_write_line, complain, write_all};
 use vme_trace::Sink;
 
-/// The files of the inputs.
+/// Which files the inputs are.
 #[derive(Clone, Copy, Debug, PartialEq, Eq)]
 pub struct InputIds {
     /// That of the binding.
@@ -30,7 +31,8 @@ pub(crate) fn refusal_at<S: Environment>(
     save_refusal(&environment.entry_at(path), inputs.binding, inputs.dump)
 }
 
-/// Writes a file at a path, if it may. The answer is this exit status, or another where the file isn't written.
+/// Writes a file at a path, if one may be written there. Returns `status`, or another exit status where the file isn't
+/// written.
 #[inline(never)]
 pub(crate) fn save<S: Environment, E: Sink>(
     alloc: Global,
@@ -50,7 +52,7 @@ pub(crate) fn save<S: Environment, E: Sink>(
     }
 }
 
-/// Says that a file isn't written, if it isn't. The answer is this exit status, or another where it isn't.
+/// Reports it if a file isn't written. Returns `status`, or another exit status where it isn't written.
 fn end_writing<E: Sink>(written: WriteResult, status: u8, err: &mut E) -> u8
     ensures { EndsWriting written status (E.writing err.old, E.writing err.new) result }
 {
@@ -82,7 +84,7 @@ pub(crate) fn refuse_place<E: Sink>(
     }
 }
 
-/// Writes a text. Where that fails, nothing else is done.
+/// Writes a text. A failure is ignored.
 pub(crate) fn say<E: Sink>(text: &[u8], err: &mut E)
     ensures { TriesToWrite (E.writing err.old) (E.writing err.new) text.now }
 {

@@ -23,7 +23,7 @@ const LISTING: &str =
     "vmecheck listing 3\nstart 1\ntenure 1 open end -\ncycle 2 S 3D FFFFFE end 5\n\
 transfer 3 of 2 read DTACK 4 close 5\nverdict conforming\n";
 
-/// What the annotated dump begins with.
+/// How the annotated dump begins.
 const ANNOTATED: &str = "$timescale 1 ns $end\n$scope module bus $end\n\
 $var wire 1 p AS $end\n$var wire 1 q DS0 $end\n$var wire 1 r DS1 $end\n\
 $var wire 1 s DTACK $end\n$var wire 1 t BERR $end\n$var wire 1 u IACK $end\n\
@@ -155,7 +155,7 @@ impl Sink for Page {
     }
 }
 
-/// The words of a line, the program's name first.
+/// The words, i.e. the arguments, in a line, the program's name first.
 fn words_of(alloc: Global, line: &str) -> Result<Vec<String>, AllocError> {
     let mut words = Vec::new(alloc);
     for word in line.split(' ') {
@@ -414,7 +414,7 @@ fn what_is_refused(rt: HostRuntime) -> Result<(), Fail> {
     Ok(())
 }
 
-/// What the words of a line write on standard output, where there is this part, and the status.
+/// What the words of a line write on standard output, and the status, with `part` as the file of the part.
 fn written<R: Abort + AllocGlobal + Threads + Sync>(
     rt: &R,
     line: &str,
@@ -440,7 +440,8 @@ fn written<R: Abort + AllocGlobal + Threads + Sync>(
     }
 }
 
-/// Whether the words of a line write this, where there is this part, and with this status; `None` where they are wrong.
+/// Whether the words of a line write `wanted` and have the status `ended`, which is `None` if they are wrong, with
+/// `part` as the file of the part.
 fn writes<R: Abort + AllocGlobal + Threads + Sync>(
     rt: &R,
     line: &str,

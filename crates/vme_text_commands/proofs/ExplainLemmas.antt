@@ -1,4 +1,4 @@
--- A verdict with what is told of it is that of a check.
+-- The verdict of an explanation is that of a check.
 use Rattle.std.proofs.Common.{◌≡◌, ◌+◌, ◌*◌, ◌/◌, ◌%◌, ◌<◌, ◌≤◌, ℕ, Bool, true, false, List, length, refl}
 use Rattle.std.proofs.Common.{sym, subst, ap}
 use Rattle.std.proofs.Common.{◌∙◌, arith}
@@ -38,7 +38,7 @@ unfolding settled_judgement settled_read
 judged-bound skew b d bound is = ap (λ (r : Result Trace Refusal). settled_or skew r >>= verdict_in_blocks 16384)
     (capture_read-bound b d bound is)
 
--- a refusal tells of no verdict
+-- a refusal that is given instead of a verdict may be given instead of an explanation
 pub untold : (r : Refusal) (said : Result Verdict Refusal) → AnswerGives (λ (v : Verdict). v) (Err r) said
     → AnswerGives (λ (e : Explained). e.verdict) (Err r) said
 untold Memory said gives = gives
@@ -63,7 +63,7 @@ unfolding capture_of recording_of
 short_of bound contents = short_in (bound_groups_in contents.variables bound.assignments)
     (λ wires. recording bound.slots wires contents.instants (length contents.instants))
 
--- it is the one that is captured, where it isn't too long
+-- the captured recording is the one that the binding makes, if that isn't too long
 pub captured-short : (bound : BoundLines) (dump : Result Contents Refusal) → capture_by bound dump
     ≡ (recording_by bound dump >>= or_too_long)
 captured-short bound (Ok contents) = short_of bound contents
@@ -83,7 +83,7 @@ over-captured t long = rw (is_over (length t.steps) long) refl
     is_over : (n : ℕ) → capture_limit < n → nat_lt capture_limit n ≡ true
     is_over n long = grind (arith, nat_tests)
 
--- ---- in how many blocks it is cut
+-- ---- the number of blocks
 
 few_blocks : (n : ℕ) → n ≤ 67108864 → nat_lt 4096 (max 1 (n / 16384 + min 1 (n % 16384))) ≡ false
 few_blocks n short = by_bounds (n / 16384 + min 1 (n % 16384)) (div_ceil_times n 16384 (omega arith)).1
@@ -144,7 +144,7 @@ account-unsettled skew r read gives =
     account-refused r (settled_or skew (read >>= or_too_long))
     (settled-refused skew (read >>= or_too_long) r (passes_through r read or_too_long gives))
 
--- of what settles
+-- the account of the deskewed recording `made` is the one that `explain` gives, if the recording `t` isn't too long
 pub account-settled : (skew : ℕ) (t made : Trace) (a : Result Account Refusal)
     → nat_lt capture_limit (length t.steps) ≡ false → made ≡ settled skew t → GivesAccount a (or_too_long made)
     → GivesAccount a (settled_or skew (or_too_long t))
@@ -153,7 +153,7 @@ account-settled skew t made a within is gives =
     let short = settled-short skew t made within is in
     subst (GivesAccount a) (fits-captured made short ∙ sym fits) gives
 
--- what is told of it
+-- an explanation by an account has the verdict on the captured recording
 pub told-by : (told : Result Explained Refusal) (a : Account) (captured : Result Trace Refusal)
     → GivesAccount (Ok a) captured
     → ((t : Trace) → IsAccountOf a t → AnswerGives (λ (e : Explained). e.verdict) told (Ok (verdict t)))

@@ -1,4 +1,4 @@
--- What a command writes of a dump that is refused, and what a binding that is written for one is.
+-- What a command writes about a dump that is refused, and facts about a binding that is written for a dump.
 use Rattle.std.proofs.Common.{◌≡◌, ℕ, List, sym, ap, true, ◌∙◌}
 use Rattle.std.specs.Prelude.{Option, Some, None, IfSome, Result, Ok, Err}
 use Rattle.vcd_read.specs.Contents.{Contents}
@@ -60,7 +60,7 @@ binds_dump dump text slots scope made slots_are scope_is = record {
   scope_is = scope_told dump scope scope_is;
 }
 
--- ---- of what was surveyed
+-- ---- facts about a survey
 
 scope_surveyed : (dump : List ℕ) (scope : Option (Bor (List ℕ))) (survey : Survey) → IsSurveyOf survey dump
     → IfSome scope (λ path. has_scope path.now survey.variables ≡ true) → IfSome scope (λ path. HasScope path.now dump)

@@ -1,4 +1,4 @@
--- A verdict with what is told of it.
+-- A verdict with its explanation.
 use Rattle.std.specs.Prelude.{◌≡◌, ℕ, ◌++◌, List, Option, Result, Ok, Err}
 use Rattle.vcd_read.specs.Contents.{Contents}
 use Rattle.vcd_read.specs.Header.{◌>>=◌}
@@ -18,7 +18,7 @@ use Rattle.vme_skew.specs.Settled.{settled_or}
 use Rattle.vme_text_commands.specs.Refused.{MayHaveMore, refusal_with}
 use Rattle.vme_text_commands.specs.TextAnswers.{text_answer}
 
--- the verdict on the recording that a binding makes of what reading the dump gave, settled by a skew
+-- the verdict on the recording that a binding makes of what reading the dump gave, deskewed by `skew`
 abbrev pub judged_by : ℕ → BoundLines → Result Contents Refusal → Result Verdict Refusal
 judged_by skew bound dump = do
   t ← settled_or skew (capture_by bound dump)
@@ -28,7 +28,7 @@ judged_by skew bound dump = do
 abbrev pub BeginsWithLine : Explained → Type 0
 BeginsWithLine told = (rest : List ℕ) × (told.text ≡ line_of (verdict_text told.verdict) ++ rest)
 
--- and beside it there is a picture
+-- the text begins with the line of the verdict, and there is a picture
 abbrev pub IsExplainedWhole : Explained → Type 0
 IsExplainedWhole told = BeginsWithLine told × IsPicture told.files.picture
 
@@ -40,9 +40,9 @@ abbrev pub explained_answer_by : List ℕ → Result Explained Refusal → Comma
 explained_answer_by more (Ok told) = text_answer (verdict_status told.verdict) told.text
 explained_answer_by more (Err refusal) = refusal_with more refusal
 
--- The binding and the dump are read, or can't be; the verdict is that of a check by the skew, unless there was no
--- memory; what is told begins with its line, and has its status, unless a write of it fails. Behind the line of a
--- refusal stands more.
+-- The binding and the dump are read, or can't be. The verdict is that of a check with the skew, unless memory runs out.
+-- The explanation begins with the verdict's line, and has its status, unless a write of it fails. After the line of a
+-- refusal `more` is written.
 abbrev pub Explains : ℕ → Reading × Reading → Reading × Reading → Writing × Writing → Writing × Writing → ℕ → Type 0
 Explains skew binding dump out err status =
     (binding_bytes dump_bytes : Option (List ℕ)) × (told : Result Explained Refusal) × (more : List ℕ)

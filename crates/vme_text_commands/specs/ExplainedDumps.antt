@@ -21,10 +21,10 @@ GivesAccount (Ok account) captured =
 GivesAccount (Err refusal) captured =
     AnswerGives (λ (v : Verdict). v) (Err refusal) (captured >>= verdict_in_blocks 16384)
 
--- what was read, if it isn't too long for a recording
+-- the recording that was read, if it isn't too long
 abbrev pub short_read : Result Trace Refusal → Result Trace Refusal
 short_read read = read >>= or_too_long
 
--- the verdict on what is captured
+-- the verdict on the captured recording
 abbrev pub judged_whole : Result Trace Refusal → Result Verdict Refusal
 judged_whole captured = captured >>= verdict_in_blocks 16384

@@ -23,42 +23,42 @@ use denote.Ref.{Bor}
 abbrev pub text_answer : ℕ → List ℕ → CommandAnswer
 text_answer status text = record { out = text; error = []; status = status }
 
--- a text is written with this status, or why there is none
+-- a text is written with the status `status`, or why there is none
 abbrev pub text_answer_by : ℕ → Result (List ℕ) Refusal → CommandAnswer
 text_answer_by status (Ok text) = text_answer status text
 text_answer_by status (Err refusal) = refusal_answer refusal
 
--- the same, with more behind the line of a refusal
+-- a text is written with the status 0, or why there is none, with `more` after the line of the refusal
 abbrev pub text_answer_with : List ℕ → Result (List ℕ) Refusal → CommandAnswer
 text_answer_with more (Ok text) = text_answer 0 text
 text_answer_with more (Err refusal) = refusal_with more refusal
 
--- there is a text, unless there was no memory
+-- there is a text, unless memory ran out
 abbrev pub IsText : Result (List ℕ) Refusal → Type 0
 IsText (Ok text) = Unit {0}
 IsText (Err refusal) = refusal ≡ Memory
 
--- these are the pages of a kind, or of each, unless there was no memory
+-- the text is the page of a kind, or those of all kinds, unless memory ran out
 abbrev pub ArePages : Option RefusalKind → Result (List ℕ) Refusal → Type 0
 ArePages only (Ok text) = text ≡ pages_of only
 ArePages only (Err refusal) = refusal ≡ Memory
 
--- there is a text of what was read of a dump, or else why there is no dump, unless there was no memory
+-- there is a text if the dump was read; else the refusal is the dump's, or `Memory`
 abbrev pub IsTextOf : Result Contents Refusal → Result (List ℕ) Refusal → Type 0
 IsTextOf read (Ok text) = (contents : Contents) × (read ≡ Ok contents)
 IsTextOf read (Err Memory) = Unit {0}
 IsTextOf read (Err refusal) = read ≡ Err refusal
 
--- no variable of the dump stands in the scope that is asked
+-- no variable of the dump is in the scope that is asked for
 abbrev pub no_scope_text : List ℕ
 no_scope_text =
     codes "vmecheck: no variable of the dump stands in that scope: `vmecheck variables` lists their paths"
 
--- the text of a binding is written, and what is said of it, with status 7 where a check by it judges nothing
+-- a binding is written, and the line about it, with status 7 if a check by the binding judges nothing
 abbrev pub found_answer : FoundBinding → CommandAnswer
 found_answer found = record { out = found.text; error = found.told; status = if found.is_bus then 0 else 7 }
 
--- why there is no binding, with more behind the line of a refusal
+-- why there is no binding, with `more` after the line of a refusal
 abbrev pub missing_text : List ℕ → NoBinding → List ℕ
 missing_text more (Refused refusal) = line_of (refusal_text refusal) ++ more
 missing_text more NoSuchScope = line_of no_scope_text
@@ -67,13 +67,13 @@ abbrev pub missing_status : NoBinding → ℕ
 missing_status (Refused refusal) = refusal_status refusal
 missing_status NoSuchScope = 3
 
--- a binding is told, or why there is none
+-- a binding is written, or why there is none
 abbrev pub binding_answer : List ℕ → Result FoundBinding NoBinding → CommandAnswer
 binding_answer more (Ok found) = found_answer found
 binding_answer more (Err missing) =
     record { out = []; error = missing_text more missing; status = missing_status missing }
 
--- what is told behind the line of a refusal
+-- `more`, which is written after the line of a refusal
 abbrev pub IsMoreOfMissing : NoBinding → List ℕ → Type 0
 IsMoreOfMissing (Refused refusal) more = IsMore refusal more
 IsMoreOfMissing NoSuchScope more = Unit {0}
@@ -81,13 +81,13 @@ IsMoreOfMissing NoSuchScope more = Unit {0}
 abbrev pub TellsMore : Result FoundBinding NoBinding → List ℕ → Type 0
 TellsMore made more = IfErr made (λ missing. IsMoreOfMissing missing more)
 
--- the dump that was read has the scope, or lacks it
+-- the dump was read, and `there` says whether it has a variable in the scope `path` or in one within it
 abbrev pub ScopeIs : Bool → Result Contents Refusal → List ℕ → Type 0
 ScopeIs there read path = (contents : Contents) × (read ≡ Ok contents)
     × (has_scope path contents.variables ≡ there)
 
--- The text is a binding by the format, so that it binds each line of the backplane once, of so many slots, where they
--- are told, and it makes a recording of the dump that was read, which has the scope that is asked.
+-- The text is a binding by the format, so it binds each line of the backplane once. It is of `slots` slots, if they are
+-- given. It makes a recording of the dump that was read, and the dump has the scope that is asked for.
 pub record BindsDump (read : Result Contents Refusal) (slots : Option ℕ) (scope : Option (Bor (List ℕ)))
     (text : List ℕ) : Type 0 where
   pub bound : BoundLines
@@ -97,7 +97,7 @@ pub record BindsDump (read : Result Contents Refusal) (slots : Option ℕ) (scop
   pub slots_are : IfSome slots (λ n. bound.slots ≡ n)
   pub scope_is : IfSome scope (λ path. ScopeIs true read path.now)
 
--- There is such a binding. Else this is why there is no dump, or the dump lacks the scope, unless there was no memory.
+-- There is such a binding; or the refusal is the dump's, or `Memory`; or the dump lacks the scope.
 abbrev pub IsBindingFor : Result Contents Refusal → Option ℕ → Option (Bor (List ℕ)) → Result FoundBinding NoBinding
     → Type 0
 IsBindingFor read slots scope (Ok found) = BindsDump read slots scope found.text
@@ -106,8 +106,7 @@ IsBindingFor read slots scope (Err (Refused refusal)) = read ≡ Err refusal
 IsBindingFor read slots None (Err NoSuchScope) = ⊥
 IsBindingFor read slots (Some path) (Err NoSuchScope) = ScopeIs false read path.now
 
--- The dump is read, or can't be; there is a binding for it, or there is none; and that is told, unless a write of it
--- fails.
+-- The dump is read, or can't be. There is a binding for it, or there is none: that is written, unless a write fails.
 abbrev pub TellsBinding : Option ℕ → Option (Bor (List ℕ)) → Reading × Reading → Writing × Writing
     → Writing × Writing → ℕ → Type 0
 TellsBinding slots scope dump out err status =
@@ -117,7 +116,7 @@ TellsBinding slots scope dump out err status =
     × TellsMore made more
     × Ends (binding_answer more made) out err status
 
--- the variables of a dump are told, or why it can't be read
+-- the variables of a dump are written, or why it can't be read
 abbrev pub TellsVariables : Reading × Reading → Writing × Writing → Writing × Writing → ℕ → Type 0
 TellsVariables dump out err status =
     (bytes : Option (List ℕ)) × (made : Result (List ℕ) Refusal) × (more : List ℕ)

@@ -34,13 +34,13 @@ const PIECE: usize = 262_144;
 /// Why there is no binding for a dump.
 #[derive(Clone, Copy, Debug, PartialEq, Eq)]
 pub enum NoBinding {
-    /// The dump is refused, or there is no memory.
+    /// The dump is refused, or memory ran out.
     Refused(Refusal),
-    /// No variable of the dump stands in the scope that is asked, nor in one within it.
+    /// No variable of the dump is in the scope that is asked for, or in one within it.
     NoSuchScope,
 }
 
-/// The line that tells that a dump lacks the scope that is asked.
+/// The line that says that a dump lacks the scope that is asked for.
 fn no_scope_line() -> Message
     ensures { result ≡ line_of no_scope_text }
 {
@@ -50,12 +50,13 @@ fn no_scope_line() -> Message
         .with_line_feed()
 }
 
-/// Writes to `out` a binding for a dump, of so many slots, 1 to 21, or of those that the daisy chains show, in the
-/// scope of a path, or in the best one, and to `err` one line that says what was bound; or to `err` why the dump can't
-/// be read, as `check` says it, and behind it what the dump, of this name, shows there and what the refusal means, or
-/// that it lacks the scope. The answer is the exit status: 0; 7 where AS, a strobe or DTACK wasn't found, or AS never
-/// moves, so that a check by the binding judges nothing, and the line says why; 3 where the dump is refused or lacks
-/// the scope, 4 for want of memory, 5 where the binding can't be written.
+/// Writes a binding for the dump to `out`, and to `err` one line that says what was bound. The binding has `slots`
+/// slots, 1 to 21, or as many as the daisy chains show. It binds the lines in the scope with the path `scope`, or in
+/// the best one. If the dump can't be read, writes to `err` why, as `check` does, and then what the dump, named `name`,
+/// has there and what the refusal means. If the dump lacks the scope, writes that to `err`. Returns the exit status: 0;
+/// 7 where AS, a strobe or DTACK wasn't found, or AS never moves, so that a check by the binding judges nothing, and
+/// the line says why; 3 where the dump is refused or lacks the scope, 4 for want of memory, 5 where the binding can't
+/// be written.
 ///
 /// What it writes is a binding by the format, and it makes a recording of the dump without a fault. A failure of `err`
 /// is ignored.
@@ -77,7 +78,7 @@ pub fn bind<D: Source, O: Sink, E: Sink>(
     tell_binding(alloc, &made, &shown, out, err)
 }
 
-/// Writes a binding to `out` and what is said of it to `err`, or to `err` why there is none, with what the dump shows.
+/// Writes a binding to `out` and the line about it to `err`, or to `err` why there is none, with the excerpt `shown`.
 fn tell_binding<O: Sink, E: Sink>(
     alloc: Global,
     made: &Result<FoundBinding, NoBinding>,
@@ -94,7 +95,7 @@ fn tell_binding<O: Sink, E: Sink>(
     }
 }
 
-/// Writes to `err` why there is no binding, with what the dump shows. The answer is the exit status.
+/// Writes to `err` why there is no binding, with the excerpt `shown` of the dump. Returns the exit status.
 fn tell_missing<E: Sink>(alloc: Global, missing: &NoBinding, shown: &Text, err: &mut E) -> u8
     ensures { (more : List ℕ) × IsMoreOfMissing missing.now more
         × TriesToWrite (E.writing err.old) (E.writing err.new) (missing_text more missing.now)
@@ -112,7 +113,7 @@ fn tell_missing<E: Sink>(alloc: Global, missing: &NoBinding, shown: &Text, err: 
     }
 }
 
-/// Writes a binding to `out`, and what is said of it to `err`.
+/// Writes a binding to `out`, and the line about it to `err`.
 fn tell_found<O: Sink, E: Sink>(found: &FoundBinding, out: &mut O, err: &mut E) -> u8
     ensures { Ends (found_answer found.now)
         (O.writing out.old, O.writing out.new) (E.writing err.old, E.writing err.new) result }
@@ -163,7 +164,7 @@ fn binding_for<D: Source>(
     }
 }
 
-/// The same of a dump that was read, whose last bytes these are.
+/// A binding for a dump that was read up to its last bytes, `rest`.
 fn binding_of_input(
     alloc: Global,
     input: SurveyedInput,
@@ -204,7 +205,7 @@ fn refused(
     NoBinding::Refused(refusal)
 }
 
-/// A binding by what was surveyed of a dump.
+/// A binding from the survey of a dump.
 fn binding_by(
     alloc: Global,
     surveyed: &SurveyedDump,

@@ -34,7 +34,7 @@ use vme_summary::NoVerdict;
 use vme_text::Text;
 use vme_trace::{Sink, Source, Verdict};
 
-/// What the files of the inputs are named.
+/// The names of the input files.
 #[derive(Clone, Copy)]
 pub struct InputNames<'a> {
     /// The binding.
@@ -43,18 +43,18 @@ pub struct InputNames<'a> {
     pub dump: &'a [u8],
 }
 
-/// A verdict, and what is told of it.
+/// A verdict with its explanation.
 #[derive(Drop)]
 pub struct Explained {
     /// The verdict.
     pub verdict: Verdict,
-    /// Its line, and behind it why.
+    /// The line of the verdict, and then why.
     pub text: Text,
-    /// What is written into files, where they are wanted.
+    /// The contents of the files that may be written.
     pub files: ExplainedFiles,
 }
 
-/// What is written into files beside an explanation.
+/// The contents of the files that may be written beside an explanation.
 #[derive(Drop)]
 pub struct ExplainedFiles {
     /// A save file for the waveform viewer, for a dump of the name that was given.
@@ -63,10 +63,10 @@ pub struct ExplainedFiles {
     pub picture: Text,
 }
 
-/// Writes to `out` the line of the verdict on the recording that a binding makes of a dump, settled by a skew, as
-/// `check` does, and behind it why; or to `err` why there is none, as `check` does, and behind it what the inputs show
-/// there and what the refusal means. The status is that of `check`. The save file is for a dump of this name; there are
-/// no files where no verdict is written.
+/// Judges the recording that the binding makes of the dump, settled, i.e. deskewed, by `skew`. Writes to `out` the line
+/// of the verdict, as `check` does, and then why. If there is no verdict, writes to `err` why, as `check` does, and
+/// then what the inputs have there and what the refusal means. The status is that of `check`. The save file is for a
+/// dump with the given name. There are no files where no verdict is written.
 pub fn explain<B: Source, D: Source, O: Sink, E: Sink>(
     alloc: Global,
     binding: &mut B,
@@ -86,8 +86,8 @@ pub fn explain<B: Source, D: Source, O: Sink, E: Sink>(
     tell_explained(alloc, told, &shown, out, err)
 }
 
-/// Writes what is told of a verdict to `out`, or to `err` why there is none, with what the inputs show. The answer is
-/// the exit status, and the files.
+/// Writes the explanation to `out`, or to `err` why there is no verdict, with the excerpt `shown` of the inputs.
+/// Returns the exit status, and the contents of the files.
 fn tell_explained<O: Sink, E: Sink>(
     alloc: Global,
     made: Result<Explained, Refusal>,
@@ -116,8 +116,8 @@ fn tell_explained<O: Sink, E: Sink>(
     }
 }
 
-/// The verdict on the recording that a binding makes of a dump, settled by a skew, and what is told of it: the binding
-/// is read first. Where there is none, what the inputs show is appended.
+/// The verdict on the recording that the binding makes of the dump, deskewed by `skew`, with its explanation. The
+/// binding is read first. If there is no verdict, an excerpt of the refused input is appended to `shown`.
 fn explained_from<B: Source, D: Source>(
     alloc: Global,
     binding: &mut B,
@@ -138,7 +138,7 @@ fn explained_from<B: Source, D: Source>(
     }
 }
 
-/// The same, of the text of a binding.
+/// `explained_from`, for the text `binding` of the binding.
 fn explained_bound<D: Source>(
     alloc: Global,
     binding: &[u8],
@@ -167,7 +167,7 @@ fn explained_bound<D: Source>(
     }
 }
 
-/// The same, by a binding and its text.
+/// `explained_from`, for a binding and its text.
 fn explained_by<D: Source>(
     alloc: Global,
     binding: &[u8],
@@ -189,7 +189,8 @@ fn explained_by<D: Source>(
     explained_account(alloc, binding, account, &kept, names.dump)
 }
 
-/// Appends what the inputs show where they are refused. Without memory the text ends somewhere in it.
+/// Appends excerpts of the inputs where they are refused, and what the dump has instead. If memory runs out, the text
+/// is cut off.
 fn show_inputs(
     shown: &mut Text,
     alloc: Global,
@@ -218,8 +219,8 @@ fn show_inputs(
     }
 }
 
-/// The account of the recording that a binding makes of a dump, settled by a skew, or the first reason that there is
-/// none; and what is kept of the dump.
+/// The account of the recording that the binding makes of the dump, deskewed by `skew`, or the first reason that there
+/// is none; and what is kept of the dump.
 fn account_of_dump<D: Source>(
     alloc: Global,
     bound: &Binding,
@@ -237,7 +238,7 @@ fn account_of_dump<D: Source>(
     }
 }
 
-/// The same without a skew.
+/// `account_of_dump` without a skew.
 fn unsettled_account<D: Source>(
     alloc: Global,
     bound: &Binding,
@@ -252,7 +253,7 @@ fn unsettled_account<D: Source>(
     (account_of(taken), kept)
 }
 
-/// The same by a skew that types name.
+/// `account_of_dump`, where the type `K` stands for `skew`.
 fn settled_account<K: GhostSkew, D: Source>(
     alloc: Global,
     bound: &Binding,
@@ -282,7 +283,7 @@ fn account_of(taken: Result<AccountVisitor, Refusal>) -> Result<Account, Refusal
     account_in(visitor)
 }
 
-/// The account of a recording whose steps came.
+/// The account of a recording whose steps were all taken by `visitor`.
 fn account_in(visitor: AccountVisitor) -> Result<Account, Refusal>
     ensures { malformed_step visitor ≡ None → GivesAccount result (or_too_long visitor) }
 {
@@ -294,7 +295,7 @@ fn account_in(visitor: AccountVisitor) -> Result<Account, Refusal>
     }
 }
 
-/// The same of one that settles.
+/// The account of a recording that is deskewed as its steps were taken, or the reason that they weren't.
 fn account_by_skew<K: GhostSkew>(
     alloc: Global,
     taken: Result<SettlingVisitor<K, AccountVisitor>, Refusal>,
@@ -307,7 +308,8 @@ fn account_by_skew<K: GhostSkew>(
     settled_account_in(alloc, settling)
 }
 
-/// The account of a recording whose last group ends. The limit holds on the steps before they settle.
+/// The account of a deskewed recording, whose last group of steps ends here. The limit on steps counts those before
+/// deskewing.
 fn settled_account_in<K: GhostSkew>(
     alloc: Global,
     settling: SettlingVisitor<K, AccountVisitor>,
@@ -323,7 +325,7 @@ fn settled_account_in<K: GhostSkew>(
     }
 }
 
-/// What is told of a recording by its account, or why there is none.
+/// The explanation of a recording by its account, or why there is none.
 fn explained_account(
     alloc: Global,
     binding: &[u8],
@@ -342,7 +344,7 @@ fn explained_account(
     }
 }
 
-/// What is told of a verdict. The only error is want of memory.
+/// The explanation of a verdict. The only error is want of memory.
 fn told_of(
     alloc: Global,
     binding: &[u8],
@@ -375,7 +377,7 @@ fn told_of(
     })
 }
 
-/// The line of a verdict, and behind it why.
+/// The line of a verdict, and then why.
 fn whole_text(alloc: Global, verdict: &Verdict, subject: &Subject<'_>) -> Result<Text, AllocError>
     ensures { IfOk result (λ text. (rest : List ℕ) × (text ≡ line_of (verdict_text verdict.now) ++ rest)) }
 {

@@ -31,7 +31,7 @@ pub(crate) struct KeptDump {
     pub time_unit: u64,
     /// Its time scale, as `10ns`, or nothing.
     pub time_scale: Text,
-    /// What is shown of it, where it has a fault.
+    /// What is needed to show its fault, where it has one.
     pub context: Option<FaultContext>,
 }
 
@@ -57,7 +57,8 @@ impl KeptDump {
         })
     }
 
-    /// The same where the dump ends with these bytes, and its definitions may end in them.
+    /// What is kept of a dump that ends with the bytes `rest`: `kept`, or, without it, what the definitions in `rest`
+    /// give.
     fn by_end(alloc: Global, kept: Option<KeptDump>, rest: &[u8]) -> Result<KeptDump, AllocError> {
         match kept {
             Some(kept) => Ok(kept),
@@ -65,7 +66,7 @@ impl KeptDump {
         }
     }
 
-    /// The same where the dump, which ends with these bytes, has no recording.
+    /// What is kept of a dump that ends with the bytes `rest`, and has no recording because of `fault`.
     fn with_fault(self, context: FaultContext, fault: &CaptureFault, rest: &[u8]) -> KeptDump {
         let mut kept = self;
         let mut context = context;
@@ -88,7 +89,7 @@ fn variables_of(alloc: Global, bytes: &[u8]) -> Result<Variables, AllocError> {
     }
 }
 
-/// What is kept of a dump once some bytes of it were taken: its definitions are among the first.
+/// What is kept of a dump after the bytes `taken`. The first bytes that are taken have all its definitions.
 fn kept_after(
     alloc: Global,
     kept: Option<KeptDump>,
@@ -101,7 +102,7 @@ fn kept_after(
     }
 }
 
-/// A dump whose recording by a binding is taken as it is read, and what is kept of it for what is said beside.
+/// A dump whose recording by a binding is taken as it is read, and what is kept of it for the explanation.
 #[derive(Drop)]
 pub(crate) struct ExplainedInput<'b, F: StepVisitor> {
     reader: DumpReader<'b, F>,
@@ -121,7 +122,7 @@ impl<'b, F: StepVisitor> ExplainedInput<'b, F> {
         }
     }
 
-    /// Takes some of the first of these bytes, and says how many.
+    /// Takes a prefix of `bytes`, and returns its length.
     pub fn take(
         self,
         alloc: Global,
@@ -163,8 +164,8 @@ impl<F: StepVisitor> ByteConsumer for ExplainedInput<'_, F> {
     ghost ahead = { λ u. dump_ahead u.reader };
 }
 
-/// What took the recording that a binding makes of a dump, which is read piece by piece, or the first reason that there
-/// is none; and what is kept of the dump.
+/// The visitor `taker`, after it took the recording that the binding makes of the dump, or the first reason that there
+/// is none; and what is kept of the dump. The dump is read piece by piece.
 pub(crate) fn taken_dump<F: StepVisitor, D: Source>(
     alloc: Global,
     bound: &Binding,
@@ -192,7 +193,7 @@ pub(crate) fn taken_dump<F: StepVisitor, D: Source>(
     }
 }
 
-/// The same of a dump that was read, whose last bytes these are.
+/// `taken_dump` for a dump that was read up to its last bytes, `rest`.
 fn taken_input<F: StepVisitor>(
     alloc: Global,
     input: ExplainedInput<'_, F>,

@@ -1,10 +1,10 @@
-//! What is kept of a dump that is read piece by piece, for what is shown of it where it is refused.
+//! What is kept of a dump that is read piece by piece, to show where it is refused.
 
 use std::alloc::{AllocError, Global};
 use vcd_read::VcdFault;
 use vme_faults::{FileKind, KeptLines};
 
-/// What is kept of a dump for its fault: the line, and the kind of file.
+/// What is kept of a dump to show its fault: the line, and the kind of file.
 #[derive(Drop)]
 pub(crate) struct FaultContext {
     lines: KeptLines,
@@ -23,8 +23,7 @@ impl FaultContext {
         }
     }
 
-    /// Passes over some bytes that were taken, with the first fault so far, if there is one. The only error is want of
-    /// memory.
+    /// Records that `bytes` were taken, with the first fault so far, if there is one. The only error is want of memory.
     pub fn pass(
         &mut self,
         alloc: Global,
@@ -43,8 +42,8 @@ impl FaultContext {
         }
     }
 
-    /// Stops at the first fault of the dump, in these bytes or at their end; or goes on in its line. The only error is
-    /// want of memory.
+    /// Records the first fault of the dump, which is in `bytes` or at their end. If a fault is recorded already, adds
+    /// the rest of its line. The only error is want of memory.
     pub fn stop(&mut self, fault: VcdFault, bytes: &[u8]) -> Result<(), AllocError> {
         self.detect_kind(bytes);
         if self.is_stopped {
@@ -54,7 +53,7 @@ impl FaultContext {
         self.lines.stop(fault.line, bytes)
     }
 
-    /// Looks at the first bytes.
+    /// Determines the kind of file from the first bytes.
     fn detect_kind(&mut self, bytes: &[u8]) {
         if self.kind.is_none() {
             self.kind = Some(FileKind::of(bytes));

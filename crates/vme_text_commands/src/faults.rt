@@ -12,8 +12,8 @@ use vme_stream::Refusal;
 use vme_text::Text;
 use vme_trace::Sink;
 
-/// Writes the page of a kind of refusal, or that of each, with what it means, what was expected, what usually causes it
-/// and the remedy. The answer is the exit status: 0, 4 for want of memory, or 5 where the text can't be written.
+/// Writes the page of a kind of refusal, or that of each: what it means, what was expected, what usually causes it and
+/// the remedy. Returns the exit status: 0, 4 for want of memory, or 5 where the text can't be written.
 pub fn tell_faults<O: Sink, E: Sink>(
     alloc: Global,
     only: Option<RefusalKind>,

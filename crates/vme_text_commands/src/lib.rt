@@ -7,7 +7,7 @@
 //! - `bind`: [`bind::bind`] writes a binding for a dump; `surveyed_input`: a dump that it surveys as
 //!   it is read.
 //! - `variables`, `rules`, `faults`: [`tell_variables`] writes the variables of a dump,
-//!   [`tell_rules`] what the rules ask, and [`tell_faults`] what the refusals of inputs mean.
+//!   [`tell_rules`] what the rules require, and [`tell_faults`] what the refusals of inputs mean.
 //! - `refused`, `suggestions`: what follows the line of a refusal: the input's line, its kind by its
 //!   first bytes, and the paths and widths that the dump has instead; `fault_context`: what is kept
 //!   of a dump for that.

@@ -1,5 +1,5 @@
-//! What is told behind the line of a refusal: the line of the input that it names, with the token marked, what kind of
-//! file the input is where another was expected, and the page of the refusal's kind.
+//! What is written after the line of a refusal: the line of the input that it names, with the token marked, what kind
+//! of file the input is where another was expected, and the page of the refusal's kind.
 
 ghost use Rattle.std.specs.Prelude.{◌++◌, IfOk, List, ℕ};
 ghost use Rattle.vme_stream.specs.Texts.{line_of, refusal_text};
@@ -17,10 +17,10 @@ use vme_stream::{Refusal, complain, refusal_line};
 use vme_text::{Text, push_escaped};
 use vme_trace::Sink;
 
-/// How many columns a line has, at most.
+/// How many columns a line of an excerpt has, at most.
 const COLUMNS: usize = 100;
 
-/// How many columns of a line of an input are shown before the token that is marked, and how many of that.
+/// How many columns of an input's line are shown before the marked token, and how many of that token, at most.
 const SIDE: usize = 40;
 
 /// An input: the name of its file, and its bytes.
@@ -36,15 +36,15 @@ impl<'a> NamedInput<'a> {
     }
 }
 
-/// Where a token stands in a line: its first byte, and the one behind it.
+/// Where a token is in a line: the place of its first byte, and the place after its last.
 #[derive(Clone, Copy)]
 struct WordRange {
     start: usize,
     end: usize,
 }
 
-/// Writes the line of a refusal, and behind it this, which the inputs show, and the page of its kind. Without memory
-/// the line stands alone.
+/// Writes the line of a refusal, then the excerpt `shown` of the inputs, and the page of the refusal's kind. If memory
+/// runs out, it writes the line alone.
 pub(crate) fn complain_with<E: Sink>(alloc: Global, err: &mut E, refusal: &Refusal, shown: &Text)
     ensures { (more : List ℕ) × IsMore refusal.now more
         × TriesToWrite (E.writing err.old) (E.writing err.new) (line_of (refusal_text refusal.now) ++ more) }
@@ -55,7 +55,7 @@ pub(crate) fn complain_with<E: Sink>(alloc: Global, err: &mut E, refusal: &Refus
     }
 }
 
-/// The line of a refusal, what the inputs show, and the page of its kind.
+/// The line of a refusal, the excerpt `shown` of the inputs, and the page of its kind.
 fn refused_text(alloc: Global, refusal: &Refusal, shown: &Text) -> Result<Text, AllocError>
     ensures { IfOk result (IsRefusedText refusal.now) }
 {
@@ -66,7 +66,7 @@ fn refused_text(alloc: Global, refusal: &Refusal, shown: &Text) -> Result<Text, 
     Ok(text)
 }
 
-/// Appends what a dump shows where it is refused. Without memory the text ends somewhere in it.
+/// Appends an excerpt of a dump where it is refused. If memory runs out, the excerpt is cut off.
 pub(crate) fn show_dump(shown: &mut Text, alloc: Global, refusal: &Refusal, dump: NamedInput<'_>) {
     if let Refusal::BadDump(fault) = refusal {
         let line = line_at(dump.bytes, fault.line);
@@ -81,7 +81,7 @@ pub(crate) fn show_dump(shown: &mut Text, alloc: Global, refusal: &Refusal, dump
     }
 }
 
-/// The same of a dump that was read piece by piece.
+/// Appends an excerpt of a dump that was read piece by piece, where it is refused.
 pub(crate) fn show_fault_context(
     shown: &mut Text,
     alloc: Global,
@@ -94,7 +94,7 @@ pub(crate) fn show_fault_context(
     }
 }
 
-/// Appends what a binding shows where it is refused. Without memory the text ends somewhere in it.
+/// Appends an excerpt of a binding where it is refused. If memory runs out, the excerpt is cut off.
 pub(crate) fn show_binding(
     shown: &mut Text,
     alloc: Global,
@@ -114,7 +114,7 @@ pub(crate) fn show_binding(
     }
 }
 
-/// Appends what a dump has in the place of what a binding asks of it. Without memory the text ends somewhere in it.
+/// Appends what a dump has instead of what a binding asks for. If memory runs out, the text is cut off.
 pub(crate) fn show_suggestions(
     shown: &mut Text,
     alloc: Global,
@@ -185,7 +185,7 @@ fn push_place(shown: &mut Text, alloc: Global, name: &[u8], number: u64) -> Resu
     shown.push(b":\n")
 }
 
-/// Appends what a file is, and what helps.
+/// Appends what kind of file an input is, and what helps.
 fn push_file(
     shown: &mut Text,
     alloc: Global,
@@ -200,7 +200,7 @@ fn push_file(
     shown.push(b"\n")
 }
 
-/// Appends what a token of a dump shows, if it shows more than its kind of fault.
+/// Appends a hint, if a token of a dump shows more than its kind of fault.
 fn push_hint(shown: &mut Text, token: &[u8]) -> Result<(), AllocError> {
     let hint: &'static str = match token {
         b"$date" | b"$version" | b"$scope" | b"$timescale" | b"$var" | b"$upscope" => {
@@ -216,7 +216,7 @@ fn push_hint(shown: &mut Text, token: &[u8]) -> Result<(), AllocError> {
     shown.push(hint.as_bytes())
 }
 
-/// What is said of a letter of nine states.
+/// The hint for a letter of the nine states of std_logic.
 const NINE_STATES: &str = "\
 a letter of nine states, of which a dump has four: record with `ghdl -r bench --vcd=bus.vcd\n\
 --vcd-4states`, or signals that `to_X01Z` converted\n";
@@ -233,7 +233,7 @@ fn is_blank(byte: u8) -> bool {
     matches!(byte, b' ' | b'\t' | b'\r')
 }
 
-/// The line of a text of this number, from 1, without its line feed.
+/// The line with this number in a text, from 1, without its line feed.
 fn line_at(bytes: &[u8], number: u64) -> &[u8] {
     let mut at: u64 = 1;
     for line in bytes.split(|byte| *byte == b'\n') {
@@ -248,7 +248,7 @@ fn line_at(bytes: &[u8], number: u64) -> &[u8] {
     b""
 }
 
-/// The first word of a line from a place on; where there is none, the place behind the line.
+/// The first word of a line from the place `from` on. If there is none, the empty range at the end of the line.
 fn next_word(line: &[u8], from: usize) -> WordRange {
     let rest = line.get(from..).unwrap_or(b"");
     let blanks = place_in(rest, false);
@@ -260,7 +260,8 @@ fn next_word(line: &[u8], from: usize) -> WordRange {
     }
 }
 
-/// The place of the first byte that is a blank, or that isn't one, or the place behind them all.
+/// The place of the first byte that is a blank, if `of_blank`, or else of the first that isn't; the length, if there is
+/// none.
 fn place_in(bytes: &[u8], of_blank: bool) -> usize {
     match bytes.iter().position(|byte| is_blank(*byte) == of_blank) {
         Some(at) => at,
@@ -268,7 +269,7 @@ fn place_in(bytes: &[u8], of_blank: bool) -> usize {
     }
 }
 
-/// The word at a place in a line, from 0, or its last one.
+/// The word with the index `place` in a line, from 0, or the last one.
 fn word_at(line: &[u8], place: u8) -> WordRange {
     let mut span = next_word(line, 0);
     for _ in 0..place {
@@ -280,7 +281,8 @@ fn word_at(line: &[u8], place: u8) -> WordRange {
     span
 }
 
-/// The word of a line of a binding that is too many, or another than an equals sign, or else the last one.
+/// The word of a binding's line that is at fault: the second, unless it is an equals sign, else the fourth or the last
+/// one.
 fn bad_word_in(line: &[u8]) -> WordRange {
     let second = word_at(line, 1);
     if token_of(line, second) != b"=".as_slice() {
@@ -290,7 +292,7 @@ fn bad_word_in(line: &[u8]) -> WordRange {
     }
 }
 
-/// The first token of a line of a dump that no body has, or else the first one.
+/// The first token of a dump's line that no body may have, or else the first one.
 fn bad_token_in(line: &[u8]) -> WordRange {
     let first = next_word(line, 0);
     let mut span = first;
@@ -309,7 +311,7 @@ fn bad_token_in(line: &[u8]) -> WordRange {
     first
 }
 
-/// Whether a token may stand in the body of a dump, as what it begins with shows.
+/// Whether a token may be in the body of a dump, judged by how it begins.
 fn may_stand(token: &[u8]) -> bool {
     match token {
         [b'#', digits @ ..] => !digits.is_empty()
@@ -338,7 +340,7 @@ fn columns(byte: u8) -> usize {
     if 0x20 <= byte && byte <= 0x7E { 1 } else { 4 }
 }
 
-/// How many of the first bytes are shown in so many columns.
+/// How many of the first bytes fit into `room` columns.
 fn fitting(bytes: &[u8], room: usize) -> usize {
     let mut used: usize = 0;
     for (at, byte) in bytes.iter().enumerate() {
@@ -350,7 +352,7 @@ fn fitting(bytes: &[u8], room: usize) -> usize {
     bytes.len()
 }
 
-/// From which byte on the last ones are shown in so many columns.
+/// The place from which on the last bytes fit into `room` columns.
 fn fitting_end(bytes: &[u8], room: usize) -> usize {
     let mut used: usize = 0;
     for (at, byte) in bytes.iter().rev().enumerate() {
@@ -362,7 +364,7 @@ fn fitting_end(bytes: &[u8], room: usize) -> usize {
     0
 }
 
-/// Appends a line of an input, with a token of it marked below, in the columns that there are.
+/// Appends a line of an input, cut to the columns that there are, with a token of it marked below.
 fn push_marked(
     shown: &mut Text,
     alloc: Global,

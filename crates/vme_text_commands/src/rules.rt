@@ -1,4 +1,4 @@
-//! What the rules ask.
+//! What the rules require.
 
 ghost use Rattle.std.specs.Prelude.{ℕ, List, Result};
 ghost use Rattle.vme_stream.specs.Ends.{Ends};
@@ -12,8 +12,9 @@ use vme_stream::Refusal;
 use vme_text::Text;
 use vme_trace::{Rule, Sink};
 
-/// Writes what a rule asks, or each of them, with the line that a break names, the section of the standard and the
-/// usual causes. The answer is the exit status: 0, 4 for want of memory, or 5 where the text can't be written.
+/// Writes what a rule requires, or each of them, with the line that a break (a violation) names, the section of the
+/// standard and the usual causes. Returns the exit status: 0, 4 for want of memory, or 5 where the text can't be
+/// written.
 pub fn tell_rules<O: Sink, E: Sink>(
     alloc: Global,
     only: Option<Rule>,

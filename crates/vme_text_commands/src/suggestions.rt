@@ -1,12 +1,12 @@
-//! What a dump has in the place of what a binding asks of it: the paths that are nearest to one that it lacks, and the
-//! bits of a vector that fit some lines.
+//! What a dump has instead of what a binding asks for: the paths that are nearest to one that it lacks, and the bits of
+//! a vector that fit some lines.
 
 use std::alloc::{AllocError, Global};
 use vcd_read::Variable;
 use vme_faults::nearest;
 use vme_text::{Text, push_escaped};
 
-/// How many paths are told, at most.
+/// How many paths are shown, at most.
 const MOST: usize = 3;
 
 /// The line of a binding whose source isn't found, or doesn't fit.
@@ -128,7 +128,7 @@ fn path_in(source: &[u8]) -> &[u8] {
     }
 }
 
-/// The numbers of the first and of the last line of a group; those of a line that is none are equal.
+/// The numbers of the first and the last line of a group. They are equal where the name is that of a single line.
 fn numbers_of(name: &[u8], slots: u8) -> (u32, u32) {
     let slots = u32::from(slots);
     match name {

@@ -11,7 +11,7 @@ use std::alloc::{AllocError, Global};
 use vcd_read::ByteConsumer;
 use vme_declarations::DumpSurvey;
 
-/// A dump that is surveyed, and what is kept of it for what is shown where it is refused.
+/// A dump that is surveyed, and what is kept of it to show where it is refused.
 #[derive(Drop)]
 pub(crate) struct SurveyedInput {
     pub survey: DumpSurvey,
@@ -29,7 +29,7 @@ impl SurveyedInput {
         }
     }
 
-    /// Takes some of the first of these bytes, and says how many.
+    /// Takes a prefix of `bytes`, and returns its length.
     pub fn take(self, alloc: Global, bytes: &[u8]) -> Result<(SurveyedInput, usize), AllocError>
         ensures within { IfOk result (λ made. made.1 ≤ length bytes.now) }
         ensures taken { IfOk result (λ made. ContinuesAs (survey_ahead self.survey) (survey_ahead made.0.survey)

@@ -9,8 +9,8 @@ use vme_stream::{Refusal, cannot_write_line, complain, refusal_line, write_all};
 use vme_text::Text;
 use vme_trace::Sink;
 
-/// Writes a text to `out`, and answers this status; or to `err` why there is none, and the refusal's status. Where the
-/// text can't be written, the status is 5.
+/// Writes a text to `out`, and returns `status`; or writes to `err` why there is none, and returns the refusal's
+/// status. Where the text can't be written, the status is 5.
 pub fn tell_text<O: Sink, E: Sink>(
     made: &Result<Text, Refusal>,
     status: u8,
@@ -29,14 +29,14 @@ pub fn tell_text<O: Sink, E: Sink>(
     }
 }
 
-/// Writes what is said beside an answer. Where that fails, nothing else is done.
+/// Writes a text beside an answer. A failure is ignored.
 pub fn say<W: Sink>(sink: &mut W, text: &[u8])
     ensures { TriesToWrite (W.writing sink.old) (W.writing sink.new) text.now }
 {
     let _ = write_all(sink, text);
 }
 
-/// Writes some bytes to `out`, and answers this status. Where they can't be written, the status is 5.
+/// Writes `bytes` to `out`, and returns `status`. Where they can't be written, the status is 5.
 pub fn tell_bytes<O: Sink, E: Sink>(bytes: &[u8], status: u8, out: &mut O, err: &mut E) -> u8
     ensures { Ends (text_answer status bytes.now)
         (O.writing out.old, O.writing out.new) (E.writing err.old, E.writing err.new) result }

@@ -17,9 +17,9 @@ use vme_text::Text;
 use vme_trace::{Sink, Source};
 use vme_variables::variables_text;
 
-/// Writes the variables of a dump to `out`, or to `err` why it can't be read, as `check` says it, and behind it what
-/// the dump, of this name, shows there and what the refusal means. The answer is the exit status: 0, 3 where the dump
-/// is refused, 4 for want of memory, 5 where the text can't be written.
+/// Writes the variables of the dump to `out`. If it can't be read, writes to `err` why, as `check` does, and then what
+/// the dump, named `name`, has there and what the refusal means. Returns the exit status: 0, 3 where the dump is
+/// refused, 4 for want of memory, 5 where the text can't be written.
 pub fn tell_variables<D: Source, O: Sink, E: Sink>(
     alloc: Global,
     dump: &mut D,
@@ -35,7 +35,7 @@ pub fn tell_variables<D: Source, O: Sink, E: Sink>(
     tell_or_complain(alloc, &made, &shown, out, err)
 }
 
-/// Writes a text to `out`, or to `err` why there is none, with what the input shows.
+/// Writes a text to `out`, or to `err` why there is none, with the excerpt `shown` of the input.
 fn tell_or_complain<O: Sink, E: Sink>(
     alloc: Global,
     made: &Result<Text, Refusal>,

@@ -24,7 +24,7 @@ use Rattle.vme_words.specs.declared.order_fault.OrderFault.TheVariants.{Usage, M
 use Rattle.vme_words.specs.declared.order.Order.{Order}
 use Rattle.vme_words.specs.declared.order.Task.{Task}
 
--- the number that a getter reads of an option is the number of its text
+-- if a getter reads the number `n` of the option `id`, then `n` is the number of its text
 pub number_read : (E : Type 0) (G : List ℕ → Result ℕ E → Type 0) (m : ArgMatches) (id : Text) (n : ℕ) (r : Option ℕ)
     → (one_text (found_of m) id ≡ None → r ≡ None) → ((t : List ℕ) → one_text (found_of m) id ≡ Some t → ReadsOne G t r)
     → ((t : List ℕ) (v : ℕ) → G t (Ok v) → v ≡ number_of t) → r ≡ Some n → number_in id (rows_of (found_of m)) ≡ Some n
@@ -40,7 +40,7 @@ number_read E G m id n r none value reads is = go (one_text (found_of m) id) ref
         ap (λ (o : Option (List ℕ)). option_map number_of o) (sym (one_text-rows (found_of m) id) ∙ e)
         ∙ ap (λ (k : ℕ). Some k) (sym number)
 
--- and where the option has one, the getter reads it
+-- if the option `id` has a number from `least` to `greatest`, below 2^32, the getter reads one in that range
 pub number_there : (E : Type 0) (G : List ℕ → Result ℕ E → Type 0) (m : ArgMatches) (id : Text) (least greatest : ℕ)
     (r : Option ℕ)
     → HasNumber id least greatest (rows_of (found_of m)) → greatest < 2 ^ 32
@@ -51,7 +51,7 @@ number_there E G m id least greatest r has small value only =
     signed_reads E G 32 least greatest has.text r (value (without_minus has.text) (one_text-rows (found_of m) id
     ∙ has.read)) only small has.says
 
--- a text that is a number of 64 bits from the least on is read as one
+-- a text that is a number of 64 bits from `least` on is read as such a number
 unsigned_reads : (E : Type 0) (G : List ℕ → Result ℕ E → Type 0) (least : ℕ) (t : List ℕ) (r : Option ℕ)
     → ReadsOne G t r → ((u : List ℕ) (x : Result ℕ E) → G u x → ParsesUnsigned 64 10 u x)
     → IsUnsignedIn least greatest_number t → (n : ℕ) × (r ≡ Some n) × (least ≤ n)
@@ -60,7 +60,7 @@ unsigned_reads E G least t (Some n) read only says =
     (n, refl, rw parsed.1 says.2)
 unsigned_reads E G least t None read only says = absurd (only t (Err read.0) read.1 (says.0, says.1))
 
--- and where an option has one, the getter reads it
+-- if the option `id` has a number of 64 bits from `least` on, the getter reads one in that range
 pub unsigned_there : (E : Type 0) (G : List ℕ → Result ℕ E → Type 0) (m : ArgMatches) (id : Text) (least : ℕ)
     (r : Option ℕ) → HasUnsigned id least (rows_of (found_of m))
     → ((t : List ℕ) → one_text (found_of m) id ≡ Some t → ReadsOne G t r)
@@ -68,7 +68,7 @@ pub unsigned_there : (E : Type 0) (G : List ℕ → Result ℕ E → Type 0) (m 
 unsigned_there E G m id least r has value only =
     unsigned_reads E G least has.text r (value has.text (one_text-rows (found_of m) id ∙ has.read)) only has.says
 
--- an option that isn't there has no number
+-- an option that isn't given has no number
 pub no_number : (id : Text) (rows : List Row) → first_of id rows ≡ None → number_in id rows ≡ None
 no_number id rows none = go (find (λ r. bytes_eq r.id id) rows) refl
   where
@@ -79,7 +79,7 @@ no_number id rows none = go (find (λ r. bytes_eq r.id id) rows) refl
     go None e = rw e refl
     go (Some r) e = rw e (text (slice_get r.values 0) r.reading (rw e at none))
 
--- where a word isn't there, the getter reads none, and where it reads none, there is none
+-- if the argument `id` isn't given, the getter reads no value; `none_given` is the converse
 pub not_given : (m : ArgMatches) (id : Text) (r : Option (Bor (List ℕ))) → option_map (λ (s : Bor (List ℕ)). s.now) r
     ≡ first_value (found_of m) id → first_of id (rows_of (found_of m)) ≡ None → is_some r ≡ false
 not_given m id None gives none = refl
@@ -101,6 +101,7 @@ error_in other no_memory = other
 is_told : (a b : Error) → Usage a ≡ Usage b → a ≡ b
 is_told a b is = ap (error_in a) is
 
+-- a fault that comes of an error of the parse of `words` is a fault of `words`
 comes_of_words : (words : List Text) (error : Error) (fault : OrderFault) → ComesOf error fault
     → HasKind (fault_of vmecheck_app words) error → IsFaultOf words fault
 comes_of_words words error (Usage told) comes (inl none) =
@@ -113,7 +114,7 @@ comes_of_words words error (Usage told) comes (inr among) =
     subst (λ (e : Error). IsAmong (kind_of e) (fault_of vmecheck_app words)) (sym same) among
 comes_of_words words error no_memory comes has = tt
 
--- `?` passes an error of the parse of these words up as a fault of them
+-- if `r` is a fault that `?` made of an error of the parse of `words`, it is a fault of `words`
 pub passed_up : {T : Type 0} (r : Result T OrderFault) (error : Error) (words : List Text)
     → IsErrAnd r (λ fault. ComesOf error fault)
     → HasKind (fault_of vmecheck_app words) error → IfErr r (IsFaultOf words)
@@ -127,7 +128,8 @@ maps : {A B C : Type 0} (f : A → B) (g : B → C) (o : Option A) → option_ma
 maps f g None = refl
 maps f g (Some a) = refl
 
--- the task by the name of the subcommand that was met, whose rows have what the order needs
+-- if the subcommand of `m` is named `name`, `task` is the only task of that name, and `m` has all that an order needs,
+-- then `rows`, those of the subcommand, have all that the order of `task` needs
 pub order_met : (m : ArgMatches) (name : Text) (rows : List Row) (task : Task) → subcommand_name_of m ≡ Some name
     → option_map (λ (p : Text × List Row). p.1) (subcommand_rows_of m) ≡ Some rows
     → ((t : Task) → name ≡ task_name t → task ≡ t) → HasOrder (subcommand_rows_of m) → HasAll task rows
@@ -139,7 +141,7 @@ order_met m name rows task named its only has =
     (sym its ∙ ap (option_map (λ (p : Text × List Row). p.1)) has.command) in
     rw (only has.task called, same) has.has
 
--- matches that say an order are that of its task
+-- if `rows` have the values of `order`, then `order` is that of its task's name with `rows`
 pub is_order : (order : Order) (rows : List Row) → Says order rows
     → IsOrder order (Some (task_name (task_of order), rows))
 is_order order rows says = record { rows = rows; command = refl; says = says }

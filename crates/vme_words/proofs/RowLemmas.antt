@@ -46,12 +46,13 @@ both_free (k ∷ ks) b e = cc
 
 -- ---- rows
 
--- a row with a text, whose texts pass and are read as the argument says
+-- row `r` of the argument `a` has a text, and its texts pass `a`'s parser and are read as `a` says
 pub record IsGood (a : Rule) (r : Row) : Type 0 where
   pub some : 0 < length r.values
   pub passes : values_pass a r.values ≡ true
   pub reading : r.reading ≡ reading_by a
 
+-- row `r` is good for the argument in `c` with its id, if there is one
 abbrev pub Good : List Rule → Row → Type 0
 Good c r = (a : Rule) → arg_by_id c r.id ≡ Some a → IsGood a r
 
@@ -63,6 +64,7 @@ good_append : (c : List Rule) (xs ys : List Row) → AllGood c xs → AllGood c 
 good_append c [] ys h g = g
 good_append c (x ∷ xs) ys h g = (h.0, good_append c xs ys h.1 g)
 
+-- `at_row` leaves good rows, if `change` makes good rows of the row with `id`, and `missing` are good
 good_at : (c : List Rule) (id : Text) (change : Row → List Row) (missing rows : List Row)
     → ((r : Row) → bytes_eq r.id id ≡ true → Good c r → AllGood c (change r)) → AllGood c missing → AllGood c rows
     → AllGood c (at_row id change missing rows)
@@ -128,7 +130,7 @@ good_with c a s values rows own some passes h =
 
 -- ---- the arguments of a command
 
--- an argument that takes a text at least, is a flag that stands for one, or asks for a text
+-- an argument `a` with this action takes at least one text, is a flag with a text for its use, or asks for help
 abbrev pub Acts : ArgAction → Rule → Type 0
 Acts action.Set a = (unwrap_or_range a.range).start_inclusive ≡ 1
 Acts action.Append a = (unwrap_or_range a.range).start_inclusive ≡ 1
@@ -136,7 +138,7 @@ Acts action.SetTrue a = is_empty a.missing ≡ false
 Acts action.Help a = Unit {0}
 Acts _ a = ⊥
 
--- the argument is the one of its id, takes a text or asks for help, and its defaults pass
+-- `a` is the argument in `c` with its id, its action is as `Acts` says, and its default values pass its parser
 pub record Known (c : List Rule) (a : Rule) : Type 0 where
   pub own : arg_by_id c a.id ≡ Some a
   pub acts : Acts (action_of a) a
@@ -154,7 +156,7 @@ found_known c (x ∷ xs) p a known e = go (p x) e (λ f. found_known c xs p a kn
     go true e rest = subst (Known c) (same_rule x a e) known.0
     go false e rest = rest e
 
--- ---- one use
+-- ---- one use of an argument
 
 free_passes : (i : Bool) (p : ValueParser) (vs : List Text) → values_kinds i p vs ≡ [] → list_all (accepts i p) vs
     ≡ true
@@ -179,6 +181,7 @@ missing_some a [] [] is e = cc
 missing_some a [] (v ∷ vs) is e = rw is (omega arith)
 missing_some a (v ∷ vs) missing is e = omega arith
 
+-- one use of an argument without a fault leaves good rows
 acted : (c : List Rule) (again : Bool) (x : ArgAction) (a : Rule) (values : List Text) (rows : List Row) → Acts x a
     → arg_by_id c a.id ≡ Some a
     → range_kinds (unwrap_or_range a.range).start_inclusive (most_values a) (length values) ≡ []
@@ -312,7 +315,7 @@ module _ (c : List Rule) (again : Bool) (known : EachKnown c c) where
       go (Some flags) f = after_good waiting word (bundle c flags h).0 (bundle c flags h).1
           (bundle_good (length flags) flags h.skip plain (record h { skip = 0 }) f g)
 
--- ---- the walk
+-- ---- clap's walk over the words
 
 module _ (s : Shape) (known : EachKnown s.rules s.rules) where
   other_good : (o : Option Text) (waiting : Waiting) (position : ℕ) (word : Text) (h : Held) → other_fault s o word h
@@ -396,7 +399,7 @@ defaults_good c [] rows known g = g
 defaults_good c (a ∷ rest) rows known g = defaults_good c rest (with_default rows a) known.1
     (default_good c a rows known.0 g)
 
--- the rows of a subcommand whose words have no fault are good, and those that are required were given
+-- if the words of the subcommand `s` have no fault, its rows are good, and its required arguments are given
 pub level_good : (s : Shape) (words : List Text) → EachKnown s.rules s.rules → level_fault s [] nothing_held words false
     [] ≡ []
     → AllGood s.rules (rows_after s.rules [] words) × (check_fault s (rows_after s.rules [] words) false ≡ [])
@@ -461,7 +464,7 @@ none_has (r ∷ rs) id e = go (bytes_eq r.id id) refl (λ f. none_has rs id f)
     go true is rest = let bad = rw is at e in cc
     go false is rest = rw is (rest (rw is at e))
 
--- an argument with a parser that has a row has a text that passes it
+-- if an argument with the parser `p` has a row, it has a text that passes `p`
 pub row_says : (c : List Rule) (rows : List Row) (a : Rule) (p : ValueParser) → AllGood c rows → arg_by_id c a.id
     ≡ Some a → a.parser ≡ Some p → has_row a.id rows ≡ true
     → (text : Text) × (one_of a.id rows ≡ Some (read_as (reading_of p) text)) × Accepts a.ignore_case p text
@@ -474,7 +477,7 @@ row_says c rows a p g own parser has = go (find (λ r. bytes_eq r.id a.id) rows)
         let n = row_passes a r p r.values refl (row_good c rows a r g own e) parser in
         (n.0, rw e n.1, n.2)
 
--- an argument with a parser wasn't given, or has a text that passes it
+-- an argument with the parser `p` isn't given, or has a text that passes `p`
 pub row_may_say : (c : List Rule) (rows : List Row) (a : Rule) (p : ValueParser) → AllGood c rows → arg_by_id c a.id
     ≡ Some a → a.parser ≡ Some p → (first_of a.id rows ≡ None)
     ⊎ ((text : Text) × (one_of a.id rows ≡ Some (read_as (reading_of p) text)) × Accepts a.ignore_case p text)
@@ -526,7 +529,7 @@ pub defaults_keep : (id : Text) (xs : List Rule) (rows : List Row) → has_row i
 defaults_keep id [] rows has = has
 defaults_keep id (a ∷ rest) rows has = defaults_keep id rest (with_default rows a) (default_keeps id rows a has)
 
--- an argument with a default has a row
+-- once the defaults are added, an argument with a default value has a row
 pub default_adds : (rows : List Row) (a : Rule) (v : Text) (vs : List Text) → a.defaults ≡ v ∷ vs
     → has_row a.id (with_default rows a) ≡ true
 default_adds rows a v vs is = go (has_row a.id rows) refl
@@ -609,7 +612,7 @@ module _ (s : Shape) (names : Names) (helps : s.disable_help_subcommand ≡ fals
       let met = word_met s.rules names w.is_trailing w.waiting w.position word w.held in
       step_stops met.1 word w met.0 (met_steps w.is_trailing w.waiting w.position word w.held (e refl)) m
 
-  -- a walk without a fault stops at no call for help
+  -- a walk without a fault that hasn't stopped at the subcommand `help` doesn't stop there
   pub walk_stops : (words : List Text) (w : Walk) → walk_fault s names w words ≡ [] → NamesNoHelp w.stopped
       → NamesNoHelp (fold (walked s.rules names) w words).stopped
   unfolding walked walk_fault

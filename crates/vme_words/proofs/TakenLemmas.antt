@@ -28,7 +28,7 @@ use Rattle.vme_words.specs.declared.order.Task.TheVariants.{Join, List as Listin
 use Rattle.vme_words.proofs.RowLemmas.{EachKnown, NamesNoHelp, both_free, default_adds, defaults_keep, given_text}
 use Rattle.vme_words.proofs.RowLemmas.{level_good, row_may_say, row_says, walk_stops}
 
--- ---- what the program's command comes to
+-- ---- the program's command as clap builds it: the shape of each subcommand
 
 abbrev above : Shape
 above = with_leaf_noted (marked_built vmecheck_app.top)
@@ -588,7 +588,7 @@ tell_has words e =
 
 -- ---- the words
 
--- words of the subcommand without a fault give an order, or it is the call for help
+-- words without a fault, after the subcommand `s`, give an order, unless `s` is `help`
 abbrev Makes : Shape → Type 0
 Makes s = (words : List Text) → level_fault s [] nothing_held words false [] ≡ [] → HasOrder (Some (rows_at s words)) ⊎
     (label_of s ≡ (codes "help", []))
@@ -633,13 +633,14 @@ entered_order a (Some p) makes named e has = go (find (λ s. answers_to p.0 (lab
               found.1))
         ]
 
--- where a subcommand is wanted, one was entered
+-- if a subcommand is required (`wants`) and there is no fault, one was entered (`has`)
 one_entered : (has helps wants needs : Bool) → wants ≡ true → check_kinds (not has && helps) (not has && wants) needs
     ≡ [] → has ≡ true
 one_entered true helps wants needs is e = refl
 one_entered false true wants needs is e = cc
 one_entered false false wants needs is e = let bad = rw is at e in cc
 
+-- words in which `a`, which requires a subcommand, finds no fault have an order, if those of each of its subcommands do
 order_of_app : (a : App) (words : List Text) → EachMakes a.subs → a.top.disable_help_subcommand ≡ false
     → a.top.subcommand_required ≡ true
     → built_fault a nothing_held words ≡ [] → HasOrder (entered a (stop_after a.top.rules (names_of a) words))
@@ -753,7 +754,7 @@ tell_makes words e = inl (record {
 help_makes : Makes (built_leaf help_shape)
 help_makes words e = inr refl
 
--- the words that clap takes by the program's command have an order
+-- words in which clap finds no fault by the program's command have all that an order needs
 pub words_have_order : (words : List Text) → fault_of vmecheck_app words ≡ []
     → HasOrder (subcommand_of vmecheck_app words)
 words_have_order words e = order_of_app (built vmecheck_app) (drop 1 words) (

@@ -1,4 +1,4 @@
--- The command line of the program: its subcommands and their options, as the parser is told them.
+-- The command line of the program: its subcommands and their options, as they are declared to the parser, clap.
 use Rattle.std.specs.Prelude.{◌≡◌, ℕ, pos, true, false, List, ◌∷◌, [], Some, codes, Result, IfOk}
 use Rattle.clap.specs.Lexer.{usize_max}
 use Rattle.clap.specs.Words.{App, Rule, Text, app_of, new_app, new_rule, with_rule, with_subcommand}
@@ -8,7 +8,7 @@ use Rattle.clap.specs.declared.builder.command.Command.TheViews.{out-Command}
 use Rattle.clap.specs.declared.builder.value_parser.ValueParser.TheVariants.{Signed, Unsigned}
 use Rattle.vme_words.specs.declared.limits.TheConstants.{MOST_SLOTS, MOST_STEPS, MOST_WORKERS}
 
--- `--NAME N`, N a number from the least to the greatest, with what it has by default
+-- `--NAME N`, N a number from `least` to `greatest`, with the default values `defaults`
 abbrev pub number_rule : Text → ℕ → ℕ → List Text → Rule
 number_rule name least greatest defaults = record (new_rule name) {
   long = Some name;
@@ -28,7 +28,7 @@ workers_rule = number_rule (codes "workers") 1 MOST_WORKERS (codes "4" ∷ [])
 abbrev pub slots_rule : Rule
 slots_rule = number_rule (codes "slots") 1 MOST_SLOTS []
 
--- the greatest number of 32 bits
+-- the greatest number of a file, of 32 bits
 abbrev pub greatest_file_number : ℕ
 greatest_file_number = 4294967295
 
@@ -36,11 +36,11 @@ greatest_file_number = 4294967295
 abbrev pub file_number_rule : Rule
 file_number_rule = number_rule (codes "number") 0 greatest_file_number (codes "0" ∷ [])
 
--- a file that has to be named
+-- a file argument that has to be given
 abbrev pub file_rule : Text → Rule
 file_rule name = record (new_rule name) { required = true }
 
--- files, at least one of which has to be named
+-- a file argument that has to be given and takes any number of files from one on
 abbrev pub files_rule : Text → Rule
 files_rule name = record (file_rule name) {
   range = Some (record { start_inclusive = 1; end_inclusive = usize_max });
@@ -50,7 +50,7 @@ files_rule name = record (file_rule name) {
 abbrev pub greatest_number : ℕ
 greatest_number = 18446744073709551615
 
--- `--NAME N`, N any number of 64 bits from the least on, with what it has by default
+-- `--NAME N`, N a number of 64 bits from `least` on, with the default values `defaults`
 abbrev pub unsigned_rule : Text → ℕ → List Text → Rule
 unsigned_rule name least defaults = record (new_rule name) {
   long = Some name;
@@ -58,11 +58,11 @@ unsigned_rule name least defaults = record (new_rule name) {
   defaults = defaults;
 }
 
--- `--skew T`, T any number of 64 bits, 0 by default
+-- `--skew T`, T a number of 64 bits, 0 by default
 abbrev pub skew_rule : Rule
 skew_rule = unsigned_rule (codes "skew") 0 (codes "0" ∷ [])
 
--- `--transfers N`, N any number of 64 bits, 1 by default
+-- `--transfers N`, N a number of 64 bits, 1 by default
 abbrev pub transfers_rule : Rule
 transfers_rule = unsigned_rule (codes "transfers") 0 (codes "1" ∷ [])
 
@@ -87,7 +87,7 @@ recording_app name =
     (file_rule (codes "BINDING")))
     (file_rule (codes "DUMP"))
 
--- `list [--times]` with the same
+-- `list [--times] [--block N] [--workers N] [--skew T] BINDING DUMP`
 abbrev pub list_app : App
 list_app = with_rule (recording_app (codes "list")) (flag_rule (codes "times"))
 
@@ -101,7 +101,7 @@ confirm_app =
 abbrev pub word_rule : Text → Rule
 word_rule name = record (new_rule name) { long = Some name }
 
--- `--allow WORD`, which may be there several times
+-- `--allow WORD`, which may be given several times
 abbrev pub allow_rule : Rule
 allow_rule = record (word_rule (codes "allow")) { action = Some Append }
 
@@ -179,19 +179,19 @@ tell_app =
     with_rule (with_rule (with_rule (new_app (codes "tell")) (flag_rule (codes "list"))) file_count_rule)
     (files_rule (codes "PART"))
 
--- the program, with its subcommands up to `audit`
+-- the program, with its subcommands from `check` to `audit`
 abbrev pub app_through_audit : App
 app_through_audit =
     let check = recording_app (codes "check") in
     let two = with_subcommand (with_subcommand (new_app (codes "vmecheck")) check.top) list_app.top in
     with_subcommand (with_subcommand two confirm_app.top) audit_app.top
 
--- the program, with its subcommands up to `variables`
+-- the program, with its subcommands from `check` to `variables`
 abbrev pub app_through_variables : App
 app_through_variables =
     with_subcommand (with_subcommand (with_subcommand app_through_audit rules_app.top) faults_app.top) variables_app.top
 
--- the program, with a subcommand for each task, one of which has to be there, and a version
+-- the program, with a subcommand for each task, one of which has to be given, and a version
 abbrev pub vmecheck_app : App
 vmecheck_app =
     let a = with_subcommand (with_subcommand app_through_variables bind_app.top) explain_app.top in
@@ -199,6 +199,6 @@ vmecheck_app =
     let a = with_subcommand (with_subcommand a join_app.top) tell_app.top in
     record a { top = record a.top { subcommand_required = true; has_version = true } }
 
--- what is made, unless there was no memory, is read so, and has no option that holds for its subcommands too
+-- the command that is made, unless memory ran out, is `app`, and has no option that also holds for its subcommands
 abbrev pub Makes : {E : Type 0} → App → Result Command E → Type 0
 Makes app made = IfOk made (λ command. (app_of command ≡ app) × ((out-Command command).has_globals ≡ false))

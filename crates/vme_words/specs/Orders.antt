@@ -1,4 +1,4 @@
--- The order that the matches of the words are.
+-- The command that the parsed arguments stand for: an order, read from clap's matches, the `rows`.
 use Rattle.std.specs.Prelude.{◌≡◌, ◌⊎◌, ℕ, pos, Bool, true, false, List, [], map, codes, Option, None, Some, is_some}
 use Rattle.std.specs.Prelude.{option_map, string_bytes, unwrap_or}
 use Rattle.std.specs.Option.{option_map_or}
@@ -28,27 +28,27 @@ use Rattle.vme_words.specs.declared.order.Task.TheVariants as tasks
 use Rattle.vme_words.specs.declared.order.TellOrder.{TellOrder}
 use Rattle.vme_words.specs.declared.order.VariablesOrder.{VariablesOrder}
 
--- ---- what stands in the matches
+-- ---- the values in the matches
 
--- the number that a text says, which may begin with a plus sign
+-- the number that a text stands for, which may begin with a plus sign
 abbrev pub number_of : Text → ℕ
 number_of text = digits_value 10 (without_leading_plus text)
 
--- the number of an option, if it is there
+-- the number of an option, if it is given
 abbrev pub number_in : Text → List Row → Option ℕ
 number_in name rows = option_map number_of (one_of name rows)
 
--- the texts of an option or of files, those of each use behind those before it
+-- all values of an option or of a file argument, in the order of their occurrences
 abbrev pub texts_in : Text → List Row → List Text
 texts_in name rows = unwrap_or (all_of name rows) []
 
--- the flag is there
+-- the flag is given
 abbrev pub has_flag : Text → List Row → Bool
 has_flag name rows = option_map_or (λ text. bytes_eq text (codes "true")) (first_of name rows) false
 
--- ---- the tasks
+-- ---- the tasks, i.e. the subcommands
 
--- the word of a task
+-- the name of a task in the command line
 abbrev pub task_name : Task → Text
 task_name tasks.Check = codes "check"
 task_name tasks.List = codes "list"
@@ -80,9 +80,9 @@ task_of (to.Part order) = tasks.Part
 task_of (to.Join order) = tasks.Join
 task_of (to.Tell order) = tasks.Tell
 
--- ---- what the matches of a subcommand say, by its order
+-- ---- an order agrees with the matches of its subcommand: they have its values (src/order.rt says what each field is)
 
--- the binding and the dump
+-- the names of the binding and the dump
 pub record SaysFiles (files : RecordingFiles) (rows : List Row) : Type 0 where
   pub binding : Some (string_bytes files.binding) ≡ first_of (codes "BINDING") rows
   pub dump : Some (string_bytes files.dump) ≡ first_of (codes "DUMP") rows
@@ -169,28 +169,28 @@ Says (to.Part order) rows = SaysPart order rows
 Says (to.Join order) rows = SaysJoin order rows
 Says (to.Tell order) rows = SaysTell order rows
 
--- the subcommand that was met, with its matches, is this order
+-- `met` is the subcommand of this order, with matches that have its values
 pub record IsOrder (order : Order) (met : Option (Text × List Row)) : Type 0 where
   pub rows : List Row
   pub command : met ≡ Some (task_name (task_of order), rows)
   pub says : Says order rows
 
--- ---- which matches have what an order needs
+-- ---- the matches have what an order needs
 
--- the option has a text that says a number from the least to the greatest, and is read without a minus sign, as clap
--- reads such numbers
+-- The option's value is a number from `least` to `greatest`. clap's signed parser gives it without a minus sign (of
+-- `-0`).
 pub record HasNumber (name : Text) (least greatest : ℕ) (rows : List Row) : Type 0 where
   pub text : Text
   pub read : one_of name rows ≡ Some (without_minus text)
   pub says : IsSignedIn (pos least) (pos greatest) text
 
--- the option has a text that says a number of 64 bits from the least on
+-- the option's value is a number of 64 bits from `least` on
 pub record HasUnsigned (name : Text) (least : ℕ) (rows : List Row) : Type 0 where
   pub text : Text
   pub read : one_of name rows ≡ Some text
   pub says : IsUnsignedIn least greatest_number text
 
--- the option isn't there, or has such a text
+-- the option isn't given, or its value is a number from `least` to `greatest`
 abbrev pub MayHaveNumber : Text → ℕ → ℕ → List Row → Type 0
 MayHaveNumber name least greatest rows = (first_of name rows ≡ None) ⊎ HasNumber name least greatest rows
 
@@ -203,11 +203,11 @@ HasWorkers rows = HasNumber (codes "workers") 1 MOST_WORKERS rows
 abbrev pub HasSkew : List Row → Type 0
 HasSkew rows = HasUnsigned (codes "skew") 0 rows
 
--- the file is named
+-- the argument is given
 abbrev pub HasName : Text → List Row → Type 0
 HasName name rows = is_some (first_of name rows) ≡ true
 
--- the binding and the dump are named
+-- the binding and the dump are given
 pub record HasNames (rows : List Row) : Type 0 where
   pub binding : HasName (codes "BINDING") rows
   pub dump : HasName (codes "DUMP") rows
@@ -226,7 +226,7 @@ pub record HasConfirmation (rows : List Row) : Type 0 where
   pub names : HasNames rows
   pub listing : HasName (codes "LISTING") rows
 
--- a skew, the binding and the dump
+-- a skew is given, and the binding and the dump
 pub record HasSkewAndNames (rows : List Row) : Type 0 where
   pub skew : HasSkew rows
   pub names : HasNames rows
@@ -261,7 +261,7 @@ HasAll tasks.Part rows = HasPart rows
 HasAll tasks.Join rows = Unit {0}
 HasAll tasks.Tell rows = MayHaveUnsigned (codes "files") 1 rows
 
--- a task was met, and its matches have all that its order needs
+-- a task is given, and its matches have all that its order needs
 pub record HasOrder (met : Option (Text × List Row)) : Type 0 where
   pub task : Task
   pub rows : List Row

@@ -14,17 +14,17 @@ use crate::limits::{MOST_SLOTS, MOST_STEPS, MOST_WORKERS};
 use clap::{Arg, ArgAction, Command, value_parser};
 use std::alloc::{AllocError, Global};
 
-/// The version of the program, and the commit that it was built from: `release` puts that in the place of these forty
-/// letters.
+/// The version of the program, and the commit that it was built from. `release` writes the commit in place of the forty
+/// characters in the parentheses.
 pub const VERSION: &str = "0.1.0, commit (built from a working tree, not a release)";
 
-/// What stands at the top of the program's help.
+/// The text at the top of the program's help.
 const ABOUT: &str = "\
 Judges the recording of a VMEbus backplane, a four-state value change dump, and names the first edge
 at which a board broke the protocol. Without arguments it judges the dump on standard input, with a
 built-in binding.";
 
-/// What stands at the end of the program's help.
+/// The text at the end of the program's help.
 const EXAMPLES: &str = "\
 Examples:
   vmecheck bind bus.vcd > bus.bind      a binding for a dump, for you to check
@@ -64,7 +64,7 @@ pub fn vmecheck_command<'a>(alloc: Global) -> Result<Command<'a>, AllocError>
     Ok(command.subcommand_required(true).version(VERSION))
 }
 
-/// The program, with its subcommands up to `variables`.
+/// The program, with its subcommands from `check` to `variables`.
 fn commands_through_variables<'a>(alloc: Global) -> Result<Command<'a>, AllocError>
     ensures { Makes app_through_variables result }
 {
@@ -73,7 +73,7 @@ fn commands_through_variables<'a>(alloc: Global) -> Result<Command<'a>, AllocErr
     with_task(command, variables_command(alloc))
 }
 
-/// The program, with its subcommands up to `audit`.
+/// The program, with its subcommands from `check` to `audit`.
 fn commands_through_audit<'a>(alloc: Global) -> Result<Command<'a>, AllocError>
     ensures { Makes app_through_audit result }
 {
@@ -84,14 +84,14 @@ fn commands_through_audit<'a>(alloc: Global) -> Result<Command<'a>, AllocError>
     with_task(command, audit_command(alloc))
 }
 
-/// A command of this name, and what is said of it.
+/// A command with the name `name` and the description `about`.
 fn new_command<'a>(alloc: Global, name: &'a str, about: &'a str) -> Result<Command<'a>, AllocError>
     ensures { Makes (new_app name.entry.now) result }
 {
     Ok(Command::new(alloc, name).about(about))
 }
 
-/// A command with one more subcommand.
+/// `command` with one more subcommand, `task`.
 fn with_task<'a>(
     command: Result<Command<'a>, AllocError>,
     task: Result<Command<'a>, AllocError>,
@@ -102,7 +102,7 @@ fn with_task<'a>(
     command?.subcommand(task?)
 }
 
-/// A command with one more option or file.
+/// `command` with one more option or file argument, `arg`.
 fn with_arg<'a>(
     command: Result<Command<'a>, AllocError>,
     arg: Arg<'a>,
@@ -120,7 +120,7 @@ pub(crate) fn check_command<'a>(alloc: Global) -> Result<Command<'a>, AllocError
     recording_command(alloc, "check", "Judges a recording, and writes the verdict")
 }
 
-/// The command that lists what a recording has.
+/// The command that lists the tenures, cycles and transfers of a recording, and its verdict.
 pub(crate) fn list_command<'a>(alloc: Global) -> Result<Command<'a>, AllocError>
     ensures { Makes list_app result }
 {
@@ -132,7 +132,7 @@ pub(crate) fn list_command<'a>(alloc: Global) -> Result<Command<'a>, AllocError>
     with_arg(command, times_flag(alloc))
 }
 
-/// A command on the recording that a binding makes of a dump.
+/// A command with the options of judging, a binding and a dump.
 fn recording_command<'a>(
     alloc: Global,
     name: &'a str,
@@ -148,7 +148,7 @@ fn recording_command<'a>(
     with_arg(command, dump_file(alloc))
 }
 
-/// The command on a listing of the recording that a binding makes of a dump.
+/// The command that says whether a listing is that of a recording.
 pub(crate) fn confirm_command<'a>(alloc: Global) -> Result<Command<'a>, AllocError>
     ensures { Makes confirm_app result }
 {
@@ -163,7 +163,7 @@ pub(crate) fn confirm_command<'a>(alloc: Global) -> Result<Command<'a>, AllocErr
     with_arg(command, file(alloc, "LISTING", "The file of the listing"))
 }
 
-/// The command that tells each break of recordings, and what they cover.
+/// The command that reports each break of recordings, and what they cover.
 pub(crate) fn audit_command<'a>(alloc: Global) -> Result<Command<'a>, AllocError>
     ensures { Makes audit_app result }
 {
@@ -183,7 +183,7 @@ pub(crate) fn audit_command<'a>(alloc: Global) -> Result<Command<'a>, AllocError
     with_arg(command, dump_files(alloc))
 }
 
-/// The command that says what the rules ask.
+/// The command that says what the rules require.
 pub(crate) fn rules_command<'a>(alloc: Global) -> Result<Command<'a>, AllocError>
     ensures { Makes rules_app result }
 {
@@ -195,7 +195,7 @@ pub(crate) fn rules_command<'a>(alloc: Global) -> Result<Command<'a>, AllocError
         .arg(rule)
 }
 
-/// The command that says what the faults of inputs mean.
+/// The command that says what the refusals of inputs mean.
 pub(crate) fn faults_command<'a>(alloc: Global) -> Result<Command<'a>, AllocError>
     ensures { Makes faults_app result }
 {
@@ -207,7 +207,7 @@ pub(crate) fn faults_command<'a>(alloc: Global) -> Result<Command<'a>, AllocErro
         .arg(kind)
 }
 
-/// The command that writes the variables of a dump.
+/// The command that lists the variables of a dump, and how often each changes.
 pub(crate) fn variables_command<'a>(alloc: Global) -> Result<Command<'a>, AllocError>
     ensures { Makes variables_app result }
 {
@@ -230,7 +230,7 @@ pub(crate) fn bind_command<'a>(alloc: Global) -> Result<Command<'a>, AllocError>
     with_arg(command, dump_file(alloc))
 }
 
-/// The command that says why and where a recording is judged as it is.
+/// The command that judges a recording, and says why and where.
 pub(crate) fn explain_command<'a>(alloc: Global) -> Result<Command<'a>, AllocError>
     ensures { Makes explain_app result }
 {
@@ -260,7 +260,7 @@ pub(crate) fn annotate_command<'a>(alloc: Global) -> Result<Command<'a>, AllocEr
     with_arg(command, dump_file(alloc))
 }
 
-/// The command that writes the part of a file of a recording.
+/// The command that judges one file of a recording, and writes its part.
 pub(crate) fn part_command<'a>(alloc: Global) -> Result<Command<'a>, AllocError>
     ensures { Makes part_app result }
 {
@@ -275,7 +275,7 @@ pub(crate) fn part_command<'a>(alloc: Global) -> Result<Command<'a>, AllocError>
     with_arg(command, dump_file(alloc))
 }
 
-/// The command that writes one part of several.
+/// The command that joins several parts into one.
 pub(crate) fn join_command<'a>(alloc: Global) -> Result<Command<'a>, AllocError>
     ensures { Makes join_app result }
 {
@@ -283,7 +283,7 @@ pub(crate) fn join_command<'a>(alloc: Global) -> Result<Command<'a>, AllocError>
     with_arg(command, part_files(alloc))
 }
 
-/// The command that tells the verdict of a whole recording by its parts.
+/// The command that reports the verdict of a whole recording from its parts, or writes its listing.
 pub(crate) fn tell_command<'a>(alloc: Global) -> Result<Command<'a>, AllocError>
     ensures { Makes tell_app result }
 {

@@ -1,20 +1,20 @@
-//! What the arguments of the command line ask for.
+//! The command line: its arguments, the *words*, are parsed into an *order*, a parsed command.
 //!
 //! # Parts
 //!
 //! - `command`: the command of the program, with a subcommand for each task, in `clap`'s terms.
 //! - `words`: [`words::order`] reads the arguments by `clap`'s rules of that command.
-//! - `order`: an [`Order`] has a variant for each task, with what that task is told and no more: its
-//!   numbers, flags, and the names of files.
-//! - `limits`: the greatest numbers that it may tell.
+//! - `order`: an [`Order`] has a variant for each *task*, i.e. subcommand. It holds the arguments of
+//!   that subcommand and no more: its numbers, flags, and the names of files.
+//! - `limits`: the greatest numbers that the arguments may have.
 //! - `order_fault`: why arguments are no order.
 //!
 //! # What is proved
 //!
 //! [`words::order`]: an [`Order`] is what `clap`'s meaning of the command gives the arguments
-//! (`ok`). It comes exactly where `clap`'s rules find no fault in them, unless memory runs out
-//! (`taken`, `faulty`). Invalid arguments are answered with a kind of fault that those rules give
-//! (`err`).
+//! (`ok`). There is one exactly where `clap`'s rules find no fault in the arguments, unless memory
+//! runs out (`taken`, `faulty`). For invalid arguments the result is a kind of fault that those rules
+//! give (`err`).
 //!
 //! # What isn't proved
 //!

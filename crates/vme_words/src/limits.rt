@@ -1,4 +1,4 @@
-//! The limits of the numbers that a command line tells.
+//! The limits of the numbers in a command line.
 
 /// The most steps that a block has.
 pub const MOST_STEPS: u32 = 65_536;

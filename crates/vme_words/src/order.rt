@@ -1,10 +1,10 @@
-//! What a command line asks for.
+//! The parsed command line: an order, i.e. a subcommand with its arguments.
 
 ghost use Rattle.std.specs.Prelude.{◌≤◌, IfSome};
 ghost use Rattle.std.proofs.Props.{props};
 ghost use Rattle.vme_words.specs.declared.limits.TheConstants.{MOST_SLOTS, MOST_STEPS, MOST_WORKERS};
 
-/// A command of the program, by itself.
+/// A subcommand of the program, without its arguments.
 #[derive(Clone, Copy, Debug, PartialEq, Eq)]
 pub enum Task {
     /// Judge a recording, and write the verdict.
@@ -13,11 +13,11 @@ pub enum Task {
     List,
     /// Compare a listing with that of a recording.
     Confirm,
-    /// Tell each break of recordings, and what they cover.
+    /// Report each break of the recordings, i.e. each violation of a rule, and what they cover.
     Audit,
-    /// Say what the rules ask.
+    /// Say what the rules require.
     Rules,
-    /// Say what the faults of inputs mean.
+    /// Say what the refusals of inputs mean.
     Faults,
     /// Write the variables of a dump.
     Variables,
@@ -27,15 +27,15 @@ pub enum Task {
     Explain,
     /// Write a dump again, annotated with the listing of its recording.
     Annotate,
-    /// Judge a file of a recording, and write its part.
+    /// Judge one file of a recording, and write the result, its part.
     Part,
     /// Write one part of several.
     Join,
-    /// Tell the verdict of a whole recording by its parts, or write its listing.
+    /// Report the verdict of a whole recording from its parts, or write its listing.
     Tell,
 }
 
-/// What the words of the command line ask for: a command, with what it is told.
+/// A parsed command line: a subcommand with its arguments.
 #[derive(Debug, Drop)]
 pub enum Order {
     /// Judge a recording, and write the verdict.
@@ -44,11 +44,11 @@ pub enum Order {
     List(ListOrder),
     /// Compare a listing with that of a recording.
     Confirm(ConfirmOrder),
-    /// Tell each break of recordings, and what they cover.
+    /// Report each break of the recordings, and what they cover.
     Audit(AuditOrder),
-    /// Say what the rules ask.
+    /// Say what the rules require.
     Rules(RulesOrder),
-    /// Say what the faults of inputs mean.
+    /// Say what the refusals of inputs mean.
     Faults(FaultsOrder),
     /// Write the variables of a dump.
     Variables(VariablesOrder),
@@ -58,18 +58,18 @@ pub enum Order {
     Explain(ExplainOrder),
     /// Write a dump again, annotated with the listing of its recording.
     Annotate(AnnotateOrder),
-    /// Judge a file of a recording, and write its part.
+    /// Judge one file of a recording, and write its part.
     Part(PartOrder),
     /// Write one part of several.
     Join(JoinOrder),
-    /// Tell the verdict of a whole recording by its parts, or write its listing.
+    /// Report the verdict of a whole recording from its parts, or write its listing.
     Tell(TellOrder),
 }
 
 /// The files of a recording, by their names.
 #[derive(Debug, Drop)]
 pub struct RecordingFiles {
-    /// The file that binds the lines of the backplane.
+    /// The file of the binding, which binds the lines of the backplane to variables of the dump or to fixed levels.
     pub binding: String,
     /// The value change dump.
     pub dump: String,
@@ -82,13 +82,13 @@ pub struct JudgeOptions {
     pub block: u32,
     /// How many workers read and judge the dump, 1 to 64.
     pub workers: u32,
-    /// How far apart probes may tell one moment of the bus, in time units of the dump.
+    /// How far apart probes may show one moment of the bus, in time units of the dump.
     pub skew: u64,
     ghost block_in_range: { (1 ≤ block) × (block ≤ MOST_STEPS) },
     ghost workers_in_range: { (1 ≤ workers) × (workers ≤ MOST_WORKERS) },
 }
 
-/// What `check` is told.
+/// The arguments of `check`.
 #[derive(Debug, Drop)]
 pub struct CheckOrder {
     /// How the recording is judged.
@@ -97,7 +97,7 @@ pub struct CheckOrder {
     pub recording: RecordingFiles,
 }
 
-/// What `list` is told.
+/// The arguments of `list`.
 #[derive(Debug, Drop)]
 pub struct ListOrder {
     /// How the recording is judged.
@@ -108,10 +108,10 @@ pub struct ListOrder {
     pub recording: RecordingFiles,
 }
 
-/// What `confirm` is told.
+/// The arguments of `confirm`.
 #[derive(Debug, Drop)]
 pub struct ConfirmOrder {
-    /// How far apart probes may tell one moment of the bus, in time units of the dump.
+    /// How far apart probes may show one moment of the bus, in time units of the dump.
     pub skew: u64,
     /// The files of the recording.
     pub recording: RecordingFiles,
@@ -119,24 +119,24 @@ pub struct ConfirmOrder {
     pub listing: String,
 }
 
-/// What `audit` is told.
+/// The arguments of `audit`.
 #[derive(Debug, Drop)]
 pub struct AuditOrder {
-    /// How many transfers have to be answered.
+    /// How many transfers have to be answered for a recording to count as covered.
     pub transfers: u64,
     /// The breaks that are allowed, each as it is written: a rule, or a rule and a line.
     pub allowed: Vec<String>,
-    /// The break behind which no more of a dump is read, if one is told: those that aren't allowed count, from 1 on.
+    /// After how many breaks that aren't allowed the reading of a dump stops, from 1 on, if `--stop` is given.
     pub stop: Option<u64>,
-    /// How far apart probes may tell one moment of the bus, in time units of a dump.
+    /// How far apart probes may show one moment of the bus, in time units of a dump.
     pub skew: u64,
     /// How many workers read and judge a dump, 1 to 64.
     pub workers: u32,
-    /// Whether no counts are told.
+    /// Whether the counts are left out.
     pub is_quiet: bool,
-    /// The file of test cases to write, if one is wanted.
+    /// The JUnit file of test cases to write, if one is named.
     pub junit: Option<String>,
-    /// The file that binds the lines of the backplane.
+    /// The file of the binding.
     pub binding: String,
     /// The value change dumps, by their names.
     pub dumps: Vec<String>,
@@ -144,31 +144,31 @@ pub struct AuditOrder {
     ghost workers_in_range: { (1 ≤ workers) × (workers ≤ MOST_WORKERS) },
 }
 
-/// What `rules` is told.
+/// The arguments of `rules`.
 #[derive(Debug, Drop)]
 pub struct RulesOrder {
     /// The rule, if one is named.
     pub rule: Option<String>,
 }
 
-/// What `faults` is told.
+/// The arguments of `faults`.
 #[derive(Debug, Drop)]
 pub struct FaultsOrder {
     /// The kind of refusal, if one is named.
     pub kind: Option<String>,
 }
 
-/// What `variables` is told.
+/// The arguments of `variables`.
 #[derive(Debug, Drop)]
 pub struct VariablesOrder {
     /// The value change dump.
     pub dump: String,
 }
 
-/// What `bind` is told.
+/// The arguments of `bind`.
 #[derive(Debug, Drop)]
 pub struct BindOrder {
-    /// How many slots the backplane has, 1 to 21, if it is told.
+    /// How many slots the backplane has, 1 to 21, if `--slots` is given.
     pub slots: Option<u8>,
     /// The scope whose lines are bound, as its names joined by dots, if one is named.
     pub scope: Option<String>,
@@ -177,53 +177,53 @@ pub struct BindOrder {
     ghost slots_in_range: { IfSome slots (λ n. (1 ≤ n) × (n ≤ MOST_SLOTS)) } by { Prim.hlevel props },
 }
 
-/// What `explain` is told.
+/// The arguments of `explain`.
 #[derive(Debug, Drop)]
 pub struct ExplainOrder {
-    /// The file for the waveform viewer, if one is wanted.
+    /// The file to write for the waveform viewer, if one is named.
     pub viewer: Option<String>,
-    /// The file of the picture, if one is wanted.
+    /// The file of the picture to write, if one is named.
     pub picture: Option<String>,
-    /// How far apart probes may tell one moment of the bus, in time units of the dump.
+    /// How far apart probes may show one moment of the bus, in time units of the dump.
     pub skew: u64,
     /// The files of the recording.
     pub recording: RecordingFiles,
 }
 
-/// What `annotate` is told.
+/// The arguments of `annotate`.
 #[derive(Debug, Drop)]
 pub struct AnnotateOrder {
-    /// How far apart probes may tell one moment of the bus, in time units of the dump.
+    /// How far apart probes may show one moment of the bus, in time units of the dump.
     pub skew: u64,
     /// The files of the recording.
     pub recording: RecordingFiles,
 }
 
-/// What `part` is told.
+/// The arguments of `part`.
 #[derive(Debug, Drop)]
 pub struct PartOrder {
     /// Which file of the recording the dump is.
     pub number: u32,
-    /// Whether marks are kept for a listing.
+    /// Whether the marks that a listing is made of are kept: events of the bus, with their instants.
     pub listing: bool,
     /// The binding, and the dump that is a file of the recording.
     pub recording: RecordingFiles,
 }
 
-/// What `join` is told.
+/// The arguments of `join`.
 #[derive(Debug, Drop)]
 pub struct JoinOrder {
-    /// The files of the parts.
+    /// The files of the parts, by their names.
     pub parts: Vec<String>,
 }
 
-/// What `tell` is told.
+/// The arguments of `tell`.
 #[derive(Debug, Drop)]
 pub struct TellOrder {
     /// Whether the listing is written in place of the verdict.
     pub listing: bool,
-    /// How many files the recording has, if that is told.
+    /// How many files the recording has, if `--files` is given.
     pub file_count: Option<u64>,
-    /// The files of the parts.
+    /// The files of the parts, by their names.
     pub parts: Vec<String>,
 }

@@ -1,4 +1,4 @@
-//! Why a command line asks for nothing.
+//! Why a command line is no order.
 
 ghost use Rattle.std.specs.Prelude.{◌≡◌};
 ghost use Rattle.vme_words.specs.declared.order_fault.OrderFault.TheVariants.{Memory};
@@ -7,12 +7,12 @@ ghost use Rattle.vme_words.specs.OrderFaults.{ComesOf};
 use clap::error::ErrorKind;
 use std::alloc::AllocError;
 
-/// Why the words are no order.
+/// Why the words, i.e. the arguments, are no order.
 #[derive(Debug, Drop)]
 pub enum OrderFault {
     /// The command line is wrong, or asks for help: the text says which.
     Usage(clap::Error),
-    /// There is no memory.
+    /// Memory ran out.
     Memory,
 }
 

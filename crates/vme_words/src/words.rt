@@ -1,4 +1,4 @@
-//! How the words of the command line are read.
+//! Parsing of the words, i.e. the arguments of the command line.
 
 ghost use Rattle.std.specs.Prelude.{◌≡◌, ◌≤◌, [], codes, IfErr, IfOk, IfSome, Some, is_some, map, option_map};
 ghost use Rattle.std.specs.Prelude.{string_bytes, true};
@@ -30,9 +30,9 @@ use std::alloc::{AllocError, Global};
 
 /// Reads the words of the command line, the program's name first.
 ///
-/// An order is what clap's meaning of the program's command gives the words, and comes only where clap's rules find no
-/// fault in them. Wrong words, and a call for help, are `Usage`, of a kind that those rules give the words, and want of
-/// memory is `Memory`: so words without a fault are an order unless memory runs out.
+/// An order is what clap's meaning of the program's command gives the words. There is one only where clap's rules find
+/// no fault in them. Invalid words and a call for help are `Usage`, of a kind that those rules give the words. Want of
+/// memory is `Memory`. So words without a fault are an order unless memory runs out.
 pub fn order(alloc: Global, words: &[String]) -> Result<Order, OrderFault>
     ensures ok { IfOk result (λ order. IsOrder order (subcommand_of vmecheck_app (map string_bytes words.now))) }
     ensures err { IfErr result IsOfWords }
@@ -46,7 +46,7 @@ pub fn order(alloc: Global, words: &[String]) -> Result<Order, OrderFault>
     }
 }
 
-/// The order that the matches are, if they are one.
+/// The order that `matches` stand for, if they have all that it needs.
 fn order_in(alloc: Global, matches: &ArgMatches<'_>) -> Result<Option<Order>, AllocError>
     ensures said { IfOk result (λ o. IfSome o (λ order. IsOrder order (subcommand_rows_of matches.now))) }
     ensures found { HasOrder (subcommand_rows_of matches.now) → IfOk result (λ o. is_some o ≡ true) }
@@ -60,7 +60,7 @@ fn order_in(alloc: Global, matches: &ArgMatches<'_>) -> Result<Option<Order>, Al
     }
 }
 
-/// The task of this name.
+/// The task with this name.
 fn task_named(name: &str) -> Option<Task>
     ensures named { IfSome result (λ task. name.now ≡ task_name task) }
     ensures found { (task : Task) → name.now ≡ task_name task → result ≡ Some task }
@@ -96,7 +96,7 @@ fn task_named(name: &str) -> Option<Task>
     }
 }
 
-/// The order to do a task that its matches are, if they are one.
+/// The order to do `task` with its matches `found`, if they have all that it needs.
 fn order_to(alloc: Global, task: Task, found: &ArgMatches<'_>) -> Result<Option<Order>, AllocError>
     ensures said { IfOk result (λ o. IfSome o (λ order. IsOrder order
         (Some (task_name task, rows_of (found_of found.now))))) }
@@ -119,7 +119,7 @@ fn order_to(alloc: Global, task: Task, found: &ArgMatches<'_>) -> Result<Option<
     }
 }
 
-/// The order that the matches of `check` are, if they are one.
+/// The order that the matches of `check` stand for, if they have all that it needs.
 #[tactic(auto, using(crate::proofs::OrderLemmas::is_order))]
 fn check_order(alloc: Global, found: &ArgMatches<'_>) -> Result<Option<Order>, AllocError>
     ensures said { IfOk result (λ o. IfSome o (λ order. IsOrder order
@@ -135,7 +135,7 @@ fn check_order(alloc: Global, found: &ArgMatches<'_>) -> Result<Option<Order>, A
     Ok(Some(Order::Check(CheckOrder { options, recording })))
 }
 
-/// The order that the matches of `list` are, if they are one.
+/// The order that the matches of `list` stand for, if they have all that it needs.
 #[tactic(auto, using(crate::proofs::OrderLemmas::is_order))]
 fn list_order(alloc: Global, found: &ArgMatches<'_>) -> Result<Option<Order>, AllocError>
     ensures said { IfOk result (λ o. IfSome o (λ order. IsOrder order
@@ -155,7 +155,7 @@ fn list_order(alloc: Global, found: &ArgMatches<'_>) -> Result<Option<Order>, Al
     })))
 }
 
-/// The order that the matches of `confirm` are, if they are one.
+/// The order that the matches of `confirm` stand for, if they have all that it needs.
 #[tactic(auto, using(crate::proofs::OrderLemmas::is_order))]
 fn confirm_order(alloc: Global, found: &ArgMatches<'_>) -> Result<Option<Order>, AllocError>
     ensures said { IfOk result (λ o. IfSome o (λ order. IsOrder order
@@ -178,7 +178,7 @@ fn confirm_order(alloc: Global, found: &ArgMatches<'_>) -> Result<Option<Order>,
     })))
 }
 
-/// The order that the matches of `audit` are, if they are one.
+/// The order that the matches of `audit` stand for, if they have all that it needs.
 #[tactic(auto, using(crate::proofs::OrderLemmas::is_order))]
 fn audit_order(alloc: Global, found: &ArgMatches<'_>) -> Result<Option<Order>, AllocError>
     ensures said { IfOk result (λ o. IfSome o (λ order. IsOrder order
@@ -216,7 +216,7 @@ fn audit_order(alloc: Global, found: &ArgMatches<'_>) -> Result<Option<Order>, A
     })))
 }
 
-/// The order that the matches of `rules` are.
+/// The order that the matches of `rules` stand for.
 #[tactic(auto, using(crate::proofs::OrderLemmas::is_order))]
 fn rules_order(alloc: Global, found: &ArgMatches<'_>) -> Result<Option<Order>, AllocError>
     ensures said { IfOk result (λ o. IfSome o (λ order. IsOrder order
@@ -227,7 +227,7 @@ fn rules_order(alloc: Global, found: &ArgMatches<'_>) -> Result<Option<Order>, A
     Ok(Some(Order::Rules(RulesOrder { rule })))
 }
 
-/// The order that the matches of `faults` are.
+/// The order that the matches of `faults` stand for.
 #[tactic(auto, using(crate::proofs::OrderLemmas::is_order))]
 fn faults_order(alloc: Global, found: &ArgMatches<'_>) -> Result<Option<Order>, AllocError>
     ensures said { IfOk result (λ o. IfSome o (λ order. IsOrder order
@@ -238,7 +238,7 @@ fn faults_order(alloc: Global, found: &ArgMatches<'_>) -> Result<Option<Order>, 
     Ok(Some(Order::Faults(FaultsOrder { kind })))
 }
 
-/// The order that the matches of `variables` are, if they are one.
+/// The order that the matches of `variables` stand for, if they name the dump.
 #[tactic(auto, using(crate::proofs::OrderLemmas::is_order))]
 fn variables_order(alloc: Global, found: &ArgMatches<'_>) -> Result<Option<Order>, AllocError>
     ensures said { IfOk result (λ o. IfSome o (λ order. IsOrder order
@@ -251,7 +251,7 @@ fn variables_order(alloc: Global, found: &ArgMatches<'_>) -> Result<Option<Order
     Ok(Some(Order::Variables(VariablesOrder { dump })))
 }
 
-/// The order that the matches of `bind` are, if they are one.
+/// The order that the matches of `bind` stand for, if they have all that it needs.
 #[tactic(auto, using(crate::proofs::OrderLemmas::is_order))]
 fn bind_order(alloc: Global, found: &ArgMatches<'_>) -> Result<Option<Order>, AllocError>
     ensures said { IfOk result (λ o. IfSome o (λ order. IsOrder order
@@ -268,7 +268,7 @@ fn bind_order(alloc: Global, found: &ArgMatches<'_>) -> Result<Option<Order>, Al
     Ok(Some(Order::Bind(BindOrder { slots, scope, dump })))
 }
 
-/// The order that the matches of `explain` are, if they are one.
+/// The order that the matches of `explain` stand for, if they have all that it needs.
 #[tactic(auto, using(crate::proofs::OrderLemmas::is_order))]
 fn explain_order(alloc: Global, found: &ArgMatches<'_>) -> Result<Option<Order>, AllocError>
     ensures said { IfOk result (λ o. IfSome o (λ order. IsOrder order
@@ -291,7 +291,7 @@ fn explain_order(alloc: Global, found: &ArgMatches<'_>) -> Result<Option<Order>,
     })))
 }
 
-/// The order that the matches of `annotate` are, if they are one.
+/// The order that the matches of `annotate` stand for, if they have all that it needs.
 #[tactic(auto, using(crate::proofs::OrderLemmas::is_order))]
 fn annotate_order(alloc: Global, found: &ArgMatches<'_>) -> Result<Option<Order>, AllocError>
     ensures said { IfOk result (λ o. IfSome o (λ order. IsOrder order
@@ -307,7 +307,7 @@ fn annotate_order(alloc: Global, found: &ArgMatches<'_>) -> Result<Option<Order>
     Ok(Some(Order::Annotate(AnnotateOrder { skew, recording })))
 }
 
-/// The order that the matches of `part` are, if they are one.
+/// The order that the matches of `part` stand for, if they have all that it needs.
 #[tactic(auto, using(crate::proofs::OrderLemmas::is_order))]
 fn part_order(alloc: Global, found: &ArgMatches<'_>) -> Result<Option<Order>, AllocError>
     ensures said { IfOk result (λ o. IfSome o (λ order. IsOrder order
@@ -327,7 +327,7 @@ fn part_order(alloc: Global, found: &ArgMatches<'_>) -> Result<Option<Order>, Al
     })))
 }
 
-/// The order that the matches of `join` are.
+/// The order that the matches of `join` stand for.
 #[tactic(auto, using(crate::proofs::OrderLemmas::is_order))]
 fn join_order(alloc: Global, found: &ArgMatches<'_>) -> Result<Option<Order>, AllocError>
     ensures said { IfOk result (λ o. IfSome o (λ order. IsOrder order
@@ -338,7 +338,7 @@ fn join_order(alloc: Global, found: &ArgMatches<'_>) -> Result<Option<Order>, Al
     Ok(Some(Order::Join(JoinOrder { parts })))
 }
 
-/// The order that the matches of `tell` are, if they are one.
+/// The order that the matches of `tell` stand for, if they have all that it needs.
 #[tactic(auto, using(crate::proofs::OrderLemmas::is_order))]
 fn tell_order(alloc: Global, found: &ArgMatches<'_>) -> Result<Option<Order>, AllocError>
     ensures said { IfOk result (λ o. IfSome o (λ order. IsOrder order
@@ -357,7 +357,7 @@ fn tell_order(alloc: Global, found: &ArgMatches<'_>) -> Result<Option<Order>, Al
     })))
 }
 
-/// How a recording is judged, if each of its numbers is one.
+/// The options `--block`, `--workers` and `--skew`, if each has a number within its bounds.
 fn judge_options(found: &ArgMatches<'_>) -> Option<JudgeOptions>
     ensures said { IfSome result (λ options. SaysOptions options (rows_of (found_of found.now))) }
     ensures found { HasOptions (rows_of (found_of found.now)) → is_some result ≡ true }
@@ -378,7 +378,7 @@ fn judge_options(found: &ArgMatches<'_>) -> Option<JudgeOptions>
     })
 }
 
-/// The files of a recording, if both have names.
+/// The names of the binding and the dump, if both are given.
 fn recording_files(
     alloc: Global,
     found: &ArgMatches<'_>,
@@ -395,7 +395,7 @@ fn recording_files(
     Ok(Some(RecordingFiles { binding, dump }))
 }
 
-/// The number of slots, if it isn't there or is one of a backplane.
+/// The number of `--slots`: `Some(None)` if the option isn't given, `None` if it has no number from 1 to `MOST_SLOTS`.
 fn slots_of(found: &ArgMatches<'_>) -> Option<Option<u8>>
     ensures value { IfSome result (λ slots. slots ≡ number_in (codes "slots") (rows_of (found_of found.now))) }
     ensures range { IfSome result (λ slots. IfSome slots (λ n. (1 ≤ n) × (n ≤ MOST_SLOTS))) }
@@ -410,7 +410,7 @@ fn slots_of(found: &ArgMatches<'_>) -> Option<Option<u8>>
     }
 }
 
-/// Whether a flag is there.
+/// Whether the flag `name` is given.
 fn has_flag(found: &ArgMatches<'_>, name: &str) -> bool
     ensures { result ≡ has_flag name.now (rows_of (found_of found.now)) }
 {
@@ -420,7 +420,7 @@ fn has_flag(found: &ArgMatches<'_>, name: &str) -> bool
     }
 }
 
-/// The texts that the words have for an option or for files.
+/// All values of the option or file argument `id`. There are none if it isn't given.
 fn texts_of(alloc: Global, found: &ArgMatches<'_>, id: &str) -> Result<Vec<String>, AllocError>
     ensures { IfOk result (λ all. map string_bytes all.items ≡ texts_in id.now (rows_of (found_of found.now))) }
 {
@@ -430,7 +430,7 @@ fn texts_of(alloc: Global, found: &ArgMatches<'_>, id: &str) -> Result<Vec<Strin
     }
 }
 
-/// These texts, in memory of their own.
+/// Copies of these texts.
 fn owned_texts(alloc: Global, texts: &[&str]) -> Result<Vec<String>, AllocError>
     ensures { IfOk result (λ all. map string_bytes all.items ≡ map (λ text. text.now) texts.now) }
 {
@@ -441,7 +441,7 @@ fn owned_texts(alloc: Global, texts: &[&str]) -> Result<Vec<String>, AllocError>
     Ok(all)
 }
 
-/// The number of an option, if it has one from the least to the greatest.
+/// The number of the option `name`, if it has one from `least` to `greatest`.
 fn number(found: &ArgMatches<'_>, name: &str, least: u32, greatest: u32) -> Option<u32>
     ensures value { IfSome result (λ n. number_in name.now (rows_of (found_of found.now)) ≡ Some n) }
     ensures range { IfSome result (λ n. (least ≤ n) × (n ≤ greatest)) }
@@ -453,7 +453,7 @@ fn number(found: &ArgMatches<'_>, name: &str, least: u32, greatest: u32) -> Opti
     }
 }
 
-/// The number of an option, if it has one from the least on.
+/// The number of the option `name`, if it has one from `least` on.
 fn unsigned(found: &ArgMatches<'_>, name: &str, least: u64) -> Option<u64>
     ensures value { IfSome result (λ n. number_in name.now (rows_of (found_of found.now)) ≡ Some n) }
     ensures range { IfSome result (λ n. least ≤ n) }
@@ -465,7 +465,7 @@ fn unsigned(found: &ArgMatches<'_>, name: &str, least: u64) -> Option<u64>
     }
 }
 
-/// The same of an option that need not be there.
+/// The number of the option `name`: `Some(None)` if it isn't given, `None` if it has no number from `least` on.
 fn unsigned_if_given(found: &ArgMatches<'_>, name: &str, least: u64) -> Option<Option<u64>>
     ensures value { IfSome result (λ o. o ≡ number_in name.now (rows_of (found_of found.now))) }
     ensures range { IfSome result (λ o. IfSome o (λ n. least ≤ n)) }
@@ -480,7 +480,7 @@ fn unsigned_if_given(found: &ArgMatches<'_>, name: &str, least: u64) -> Option<O
     }
 }
 
-/// The word of an option, if it has one.
+/// The first value of the option or file argument `name`, if it has one.
 fn word_of(alloc: Global, found: &ArgMatches<'_>, name: &str) -> Result<Option<String>, AllocError>
     ensures { IfOk result (λ word. option_map string_bytes word ≡ first_of name.now (rows_of (found_of found.now))) }
 {
@@ -490,7 +490,7 @@ fn word_of(alloc: Global, found: &ArgMatches<'_>, name: &str) -> Result<Option<S
     }
 }
 
-/// A fault of the words that the program finds itself.
+/// A fault of the words that the program finds itself, with the text `message`.
 pub fn usage_fault(alloc: Global, message: &str) -> OrderFault
     ensures of_words { IsOfWords result }
     ensures kind { HasUsageKind ErrorKind.InvalidSubcommand result }
@@ -498,7 +498,7 @@ pub fn usage_fault(alloc: Global, message: &str) -> OrderFault
     fault_under(vmecheck_command(alloc), message)
 }
 
-/// A fault of the words behind a task that the program finds itself: the usage of that task is told with it.
+/// A fault of the words after `task` that the program finds itself. The usage of that task is written with it.
 pub fn task_fault(alloc: Global, task: Task, message: &str) -> OrderFault
     ensures of_words { IsOfWords result }
     ensures kind { HasUsageKind ErrorKind.InvalidSubcommand result }
@@ -506,7 +506,7 @@ pub fn task_fault(alloc: Global, task: Task, message: &str) -> OrderFault
     fault_under(task_command(alloc, task), message)
 }
 
-/// A fault of the words of a command.
+/// A fault of the words of `command`, with the text `message`.
 fn fault_under(command: Result<Command<'_>, AllocError>, message: &str) -> OrderFault
     ensures of_words { IsOfWords result }
     ensures kind { HasUsageKind ErrorKind.InvalidSubcommand result }
@@ -527,7 +527,7 @@ fn usage_error(
     command.error(ErrorKind::InvalidSubcommand, message)
 }
 
-/// The command of a task, by its name behind that of the program.
+/// The command of `task`, which is called by the program's name and its own.
 fn task_command<'a>(alloc: Global, task: Task) -> Result<Command<'a>, AllocError> {
     command_of(alloc, task)?.bin_name(words_of(task))
 }
@@ -551,7 +551,7 @@ fn command_of<'a>(alloc: Global, task: Task) -> Result<Command<'a>, AllocError> 
     }
 }
 
-/// The words that ask for a task.
+/// The program's name and the task's, as in a call.
 fn words_of(task: Task) -> &'static str {
     match task {
         Task::Check => "vmecheck check",

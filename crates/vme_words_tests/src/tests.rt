@@ -3,7 +3,7 @@ use std::process::Abort;
 use vme_words::words::order;
 use vme_words::{AuditOrder, JudgeOptions, Order, OrderFault, RecordingFiles, Task, task_fault};
 
-/// The words of a line, the program's name first.
+/// The words, i.e. the arguments, in a line, the program's name first.
 fn words_of(alloc: Global, line: &str) -> Result<Vec<String>, AllocError> {
     let mut words = Vec::new(alloc);
     for word in line.split(' ') {
@@ -12,7 +12,7 @@ fn words_of(alloc: Global, line: &str) -> Result<Vec<String>, AllocError> {
     Ok(words)
 }
 
-/// What the arguments of a line order.
+/// The order that the arguments in a line give.
 fn order_of(alloc: Global, line: &str) -> Result<Order, OrderFault> {
     match words_of(alloc, line) {
         Ok(words) => order(alloc, words.as_slice()),
@@ -20,7 +20,7 @@ fn order_of(alloc: Global, line: &str) -> Result<Order, OrderFault> {
     }
 }
 
-/// The texts, each with a space behind it.
+/// The texts, each with a space after it.
 fn joined(alloc: Global, texts: &[String]) -> Result<String, AllocError> {
     let mut all = String::new(alloc);
     for text in texts {
@@ -43,12 +43,12 @@ fn files_line(alloc: Global, files: &RecordingFiles) -> Result<String, AllocErro
     format!(in alloc; "{} {}", files.binding.as_str(), files.dump.as_str())
 }
 
-/// How a recording is judged, in one line.
+/// The options of judging, in one line.
 fn options_line(alloc: Global, options: &JudgeOptions) -> Result<String, AllocError> {
     format!(in alloc; "{} {} {}", options.block, options.workers, options.skew)
 }
 
-/// What an audit is told, in one line.
+/// The order of an audit, in one line.
 fn audit_line(alloc: Global, order: &AuditOrder) -> Result<String, AllocError> {
     let allowed = joined(alloc, order.allowed.as_slice())?;
     let dumps = joined(alloc, order.dumps.as_slice())?;
@@ -143,7 +143,8 @@ fn line_of(alloc: Global, order: &Order) -> Result<String, AllocError> {
     }
 }
 
-/// Lines, and the order of each in one line: what is told comes in the order of the fields, but for the names of files.
+/// Command lines, and the order of each in one line: its arguments in the order of the fields, except for the names of
+/// files.
 static ORDERS: [(&str, &str); 37] = [
     (
         "vmecheck check --block 5 --workers 3 B V",
@@ -208,7 +209,7 @@ static ORDERS: [(&str, &str); 37] = [
     ),
 ];
 
-/// Whether the arguments of a line give this order.
+/// Whether the arguments in a line give this order.
 fn is_ordered(alloc: Global, line: &str, wanted: &str) -> bool {
     match order_of(alloc, line) {
         Ok(order) => match line_of(alloc, &order) {
@@ -297,7 +298,7 @@ static REFUSED: [(&str, bool); 67] = [
     ("vmecheck tell --help", true),
 ];
 
-/// Whether a line is no order, and what is said of it goes to standard error but for help that it asks for.
+/// Whether a line is no order, and the message about it goes to standard error, unless it asks for help.
 fn is_refused(alloc: Global, line: &str, is_help: bool) -> bool {
     match order_of(alloc, line) {
         Err(OrderFault::Usage(error)) => error.use_stderr() != is_help,
@@ -312,7 +313,7 @@ fn usage(rt: HostRuntime) {
     }
 }
 
-/// Whether a fault of a use is told with this text.
+/// Whether the message of a usage fault contains this text.
 fn tells(alloc: Global, fault: OrderFault, wanted: &str) -> bool {
     match fault {
         OrderFault::Usage(error) => match format!(in alloc; "{error}") {

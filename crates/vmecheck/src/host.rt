@@ -10,10 +10,10 @@ use vme_picture::is_picture;
 use vme_program::{Environment, WriteResult};
 use vme_stream::Io;
 
-/// How many bytes of a file tell whether the program wrote it.
+/// How many bytes of a file are looked at to see whether the program wrote it.
 const BEGIN: usize = 64;
 
-/// What bytes are read from.
+/// The source of bytes.
 #[derive(Drop)]
 pub(crate) enum Stream {
     /// A file.
@@ -43,7 +43,7 @@ impl<'a> Host<'a> {
     }
 }
 
-// What a file, standard input or a path gives is nothing that a contract can say.
+// No contract can say what a file, standard input or a path gives.
 impl Environment for Host<'_> {
     type Reader = Io<Stream>;
 
@@ -123,7 +123,7 @@ impl Environment for Host<'_> {
     }
 }
 
-/// Which file this tells of.
+/// The identity of the file with this metadata.
 fn id_of(found: io::Result<Metadata>) -> Option<FileId> {
     let found = found.ok()?;
     Some(FileId {

@@ -5,8 +5,8 @@
 //!
 //! # Parts
 //!
-//! - this file: the arguments of the command line, standard output and standard error, and what is
-//!   said of invalid arguments.
+//! - this file: the arguments of the command line, standard output and standard error, and the
+//!   messages about invalid arguments.
 //! - `host`: the files and standard input, as vme_program asks for them.
 //! - `save`: how a file is written beside another, and takes its place.
 //!
@@ -14,9 +14,9 @@
 //!
 //! - 0: conforming, confirmed, or written.
 //! - 1: a rule is broken, or a listing isn't the recording's.
-//! - 2: the recording can't be read on (U1 to U4), or the bus is never idle.
+//! - 2: the recording can't be read further (rules U1 to U4), or the bus is never idle.
 //! - 3: an input, the arguments, or the place of a file to write are refused.
-//! - 4: there is no memory.
+//! - 4: memory ran out.
 //! - 5: the answer can't be written.
 //! - 6: no rule is broken in an audit, and not enough is covered.
 //! - 7: `bind` found no bus that a check judges.
@@ -55,7 +55,7 @@ fn main(rt: HostRuntime) -> ExitCode {
     ExitCode::from(run(&rt, &rt))
 }
 
-/// What the words ask for; the answer is the exit status.
+/// Does what the words, i.e. the arguments, ask for. Returns the exit status.
 fn run<R: Threads + Sync>(rt: &HostRuntime, threads: &R) -> u8 {
     match answer(rt, threads) {
         Ok(status) => status,
@@ -63,7 +63,7 @@ fn run<R: Threads + Sync>(rt: &HostRuntime, threads: &R) -> u8 {
     }
 }
 
-/// The answer to the words, or what is wrong with them.
+/// Does what the words ask for. Returns the exit status, or what is wrong with the words.
 fn answer<R: Threads + Sync>(rt: &HostRuntime, threads: &R) -> Result<u8, OrderFault>
     ensures { IfErr result IsOfWords }
 {
@@ -93,7 +93,7 @@ fn words_of(rt: &HostRuntime) -> Result<Vec<String>, OrderFault>
     }
 }
 
-/// Says why the words are no order.
+/// Says why the words are no order, i.e. no command. Returns the exit status.
 fn refuse_words(rt: &HostRuntime, fault: &OrderFault) -> u8 {
     match fault {
         OrderFault::Memory => {
@@ -104,8 +104,8 @@ fn refuse_words(rt: &HostRuntime, fault: &OrderFault) -> u8 {
     }
 }
 
-/// Prints what is wrong with the words, or the help or the version that they ask for. The status is 3 for wrong words;
-/// else it is 0, or 5 where it can't be written.
+/// Prints what is wrong with the words, or the help or the version that they ask for. The status is 3 for invalid
+/// words; else it is 0, or 5 where the text can't be written.
 fn explain_words(rt: &HostRuntime, error: &clap::Error) -> u8
     ensures wrong { (kind_of error.now ≢ DisplayHelp) → (kind_of error.now ≢ DisplayVersion) → result ≡ 3 }
     ensures help { kind_of error.now ≡ DisplayHelp → (result ≡ 0) ⊎ (result ≡ 5) }

@@ -6,13 +6,13 @@ use std::io::{ErrorKind, Write};
 use std::path::PathBuf;
 use vme_program::WriteResult;
 
-/// How many names are tried for the file that is written beside.
+/// How many names are tried for the new file beside the old one.
 const MOST_NAMES: u32 = 100;
 
 /// Writes a file at a path: its bytes go into a new file beside it, which takes its place once all are written. Where
-/// that fails, what stood there stays.
+/// that fails, what was there stays.
 pub(crate) fn put(rt: &HostRuntime, alloc: Global, path: &str, bytes: &[u8]) -> WriteResult {
-    // what a link leads to is replaced, and not the link
+    // the file that a link leads to is replaced, and not the link
     let found: Option<PathBuf> = fs::canonicalize(rt, path).ok();
     let place = match &found {
         Some(place) => place.to_string_lossy(),
@@ -24,7 +24,7 @@ pub(crate) fn put(rt: &HostRuntime, alloc: Global, path: &str, bytes: &[u8]) -> 
     }
 }
 
-/// The same, where no link leads on. The only error is want of memory.
+/// Writes a file at the place `place`, which is no link. The only error is want of memory.
 fn put_at(
     rt: &HostRuntime,
     alloc: Global,
@@ -48,7 +48,7 @@ fn put_at(
     Ok(WriteResult::Failed)
 }
 
-/// Whether all bytes came to the device.
+/// Writes all bytes to the device, and returns whether that succeeded.
 fn is_whole(mut file: File, bytes: &[u8]) -> bool {
     file.write_all(bytes).is_ok() && file.sync_all().is_ok()
 }

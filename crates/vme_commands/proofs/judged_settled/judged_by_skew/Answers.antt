@@ -1,4 +1,4 @@
--- What was judged is the settled recording.
+-- What was judged is the deskewed recording.
 use Rattle.std.proofs.Common.{◌∙◌}
 use Rattle.std.proofs.lemmas.Result.{err_from_is_err_and}
 use Rattle.vme_stream.proofs.InputLemmas.{unread}

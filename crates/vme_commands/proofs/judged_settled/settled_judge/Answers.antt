@@ -1,4 +1,4 @@
--- The limit holds before a recording settles; what settled has no more steps.
+-- The limit on steps counts those before deskewing. A deskewed recording has no more steps than before.
 use Rattle.std.proofs.Common.{◌≡◌, ◌∙◌, false, true, length, sym}
 use Rattle.std.specs.Prelude.{nat_lt}
 use Rattle.vme_trace.specs.WellFormed.{capture_limit}

@@ -1,4 +1,4 @@
--- The steps of a piece are compared, or the body isn't read on.
+-- The steps of a piece are compared, or the body isn't read further.
 use Rattle.std.proofs.Common.{◌≡◌, ◌≤◌, ℕ, List, [], ◌++◌, Some, length, subst, sym, take}
 use Rattle.vcd_read.specs.declared.fault.VcdFault.{VcdFault}
 use Rattle.vme_trace.specs.Followed.{with_steps}

@@ -1,4 +1,4 @@
--- The listing is compared, or it is why it can't be.
+-- The listing is compared, or the result is why it can't be.
 use Rattle.std.proofs.Common.{List, Some}
 use Rattle.std.specs.Prelude.{Err}
 use Rattle.vme_trace.specs.Streams.{Reading}

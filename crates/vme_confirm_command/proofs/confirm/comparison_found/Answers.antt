@@ -1,4 +1,4 @@
--- The answer is told of a whole listing, or its fault is.
+-- The result is the answer to a whole listing, or the listing's fault.
 use Rattle.std.proofs.Common.{ap, subst, sym}
 use Rattle.std.specs.Prelude.{Result, Ok, Err}
 use Rattle.vme_stream.specs.Answers.{or_bad_binding}

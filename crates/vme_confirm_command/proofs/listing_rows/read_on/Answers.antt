@@ -1,4 +1,4 @@
--- The fault is told, unless the listing can't be had at all.
+-- The result is the fault, unless the listing can't be read or is too long.
 use Rattle.std.proofs.Common.{◌++◌, Some, subst}
 use Rattle.vme_dump_input.specs.BufferedInputs.{FailsAs, IsAllOf}
 use Rattle.vme_confirm_command.specs.RowsOfListing.{GaveRows}

@@ -1,4 +1,4 @@
--- The rows begin behind the header.
+-- The rows begin after the header.
 use Rattle.std.proofs.Common.{◌≤◌, ℕ, Bool, List, [], ◌++◌, drop, length, refl, subst, sym, arith}
 use Rattle.std.specs.Prelude.{Ok}
 use Rattle.vme_listing.specs.Reading.{HasNoListing, HasRead, IsFirstFault, IsFollowedBy, behind_rows}

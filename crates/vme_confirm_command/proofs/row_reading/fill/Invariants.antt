@@ -1,4 +1,4 @@
--- What was held is at the front of what is.
+-- The bytes that were held at first are a prefix of those that are held.
 use Rattle.std.proofs.Common.{◌≡◌, ℕ, ◌+◌, ◌^◌, ◌<◌, List, length}
 use Rattle.vme_trace.specs.Streams.{Reading}
 use Rattle.vme_dump_input.specs.BufferedInputs.{IsReadTo, reads_left}

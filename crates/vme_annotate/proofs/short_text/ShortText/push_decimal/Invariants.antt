@@ -1,4 +1,4 @@
--- The digits from the start on are those that the rest lacks.
+-- The digits from `start` on are the last ones of `number`, and `rest` has those before them.
 use Rattle.std.proofs.Common.{◌≡◌, ◌≤◌, ◌++◌, length, drop}
 use Rattle.std.specs.Prelude.{decimal}
 use Rattle.vme_annotate.proofs.short_text.ShortText.push_decimal.Given as goal

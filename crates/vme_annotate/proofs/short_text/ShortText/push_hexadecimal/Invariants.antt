@@ -1,4 +1,4 @@
--- The digits from the start on are those that the rest lacks.
+-- The glyphs from `start` on are the last digits of `number`, and `rest` has those before them.
 use Rattle.std.proofs.Common.{◌≡◌, ◌-◌, ◌≤◌, ◌++◌, length, drop}
 use Rattle.vme_listing.specs.RowText.{hexadecimal}
 use Rattle.vme_annotate.proofs.short_text.ShortText.push_hexadecimal.Given as goal

@@ -1,4 +1,4 @@
--- The rows begin behind the header, or there is a fault.
+-- The rows begin after the header, or there is a fault.
 use Rattle.std.proofs.Common.{[], ap, arith, subst, sym, ◌∙◌}
 use Rattle.vme_confirm_command.specs.Confirmations.{longest_listing}
 use Rattle.vme_dump_input.specs.BufferedInputs.{InputSoFar, IsReadTo}

@@ -1,4 +1,4 @@
--- What is left is read.
+-- The rest is read.
 use Rattle.std.proofs.Common.{[], ◌∷◌, ◌++◌, append_assoc, append-nil, refl, subst, sym, ◌∙◌}
 use Rattle.vme_confirm_command.specs.RowsOfListing.{GaveRows, IsOver}
 use Rattle.vme_confirm_command.proofs.ListingLemmas.{ends-behind, fault-gave, never-some, no-more, one-more, whole-ends}

@@ -1,4 +1,4 @@
--- More rows were given, or none where no more are.
+-- More rows were given, but none if no more were to come.
 use Rattle.std.proofs.Common.{◌≡◌, List, [], ◌++◌}
 use Rattle.vme_trace.specs.Streams.{Reading}
 use Rattle.vme_listing.specs.declared.row.Row.{Row}

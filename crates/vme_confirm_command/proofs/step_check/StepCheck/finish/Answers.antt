@@ -1,4 +1,4 @@
--- The last steps are counted, settled and compared, and the check ends.
+-- The last steps are counted, deskewed and compared, and the check ends.
 use Rattle.std.proofs.Common.{◌≡◌, ◌≤◌, ◌++◌, length, ap, subst, ◌∙◌, arith, length-append}
 use Rattle.vme_trace.specs.Followed.{with_steps}
 use Rattle.vme_trace.specs.Trace.{Trace}

@@ -1,4 +1,4 @@
--- The steps are counted, settled and compared.
+-- The steps are counted, deskewed and compared.
 use Rattle.std.proofs.Common.{◌≤◌, ◌++◌, length, ap, ◌∙◌, arith, length-append}
 use Rattle.vme_trace.specs.Followed.{with_steps}
 use Rattle.vme_trace.specs.WellFormed.{capture_limit}
